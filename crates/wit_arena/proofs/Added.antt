@@ -28,7 +28,7 @@ use Rattle.wit_arena.proofs.FreeNames.{free_of, free_keyed}
 use Rattle.wit_arena.proofs.Stating.{stated_placed}
 use Rattle.wit_arena.specs.Package.{interface_functions}
 use Rattle.wit_arena.specs.Whole.{Ordered, owner_at, taking_meeting, all_meetings, declarations}
-use Rattle.wit_arena.specs.Resolving.{Names, Cell, Required, cell, cells, Defines, decls_of}
+use Rattle.wit_arena.specs.Resolving.{Names, Cell, Required, cell, cells, Defines}
 use Rattle.wit_arena.specs.Resolved.{IsInterfaceOf, AddsDeclared, AddsInterfaces, AddsForeign, AreUsableUses}
 use Rattle.wit_syntax.proofs.Lists.{at_front, at_back, append-cancel}
 use Rattle.wit_syntax.proofs.Turns.{at_part}
@@ -85,8 +85,8 @@ abbrev pub decls : List PackageFile → List Item → List Item → Decls
 decls files is ws = declarations files (interface_list files is (inside_of ws)) (world_list files ws)
 
 -- the declarations of a scope that the package knows by an owner
-declared_by : (files : List PackageFile) (is ws : List Item) (s : Address) (o : TypeOwner) → owner_at (interface_list files is (inside_of ws)) (world_list files ws) s ≡ o → decls files is ws s ≡ decls_of o s (scope files s)
-declared_by files is ws s o known = ap (λ (x : TypeOwner). decls_of x s (scope files s)) known
+declared_by : (files : List PackageFile) (is ws : List Item) (s : Address) (o : TypeOwner) → owner_at (interface_list files is (inside_of ws)) (world_list files ws) s ≡ o → decls files is ws s ≡ (scope files s, o)
+declared_by files is ws s o known = ap (λ (x : TypeOwner). (scope files s, x)) known
 
 -- each adds one entry
 interface_grows : (ss : List Address) (old new : List TypeDef) (xs xs' : List Interface) (rs : List Required) (w : Item) → AddsDeclared ss old new xs xs' rs w → (x : Interface) × (xs' ≡ xs ++ x ∷ [])
@@ -106,23 +106,23 @@ module _ (files : List PackageFile) (is ws : List Item) where
     pub all_addresses : AreAddresses (interface_list files is (inside_of ws)) (world_list files ws)
     all_addresses = addresses_join (map visited (foreign_interfaces files)) (map visited (foreign_worlds files)) (map address (is ++ inside_of ws)) (map address ws) (visited_addresses files) (scope_addresses files is ws interfaces worlds is_items ws_items) (visited_foreign (foreign_interfaces files)) (visited_foreign (foreign_worlds files)) (address_own (is ++ inside_of ws)) (address_own ws)
 
-    pub interface_declared : (t : ℕ) (s : Address) → slice_get (interface_list files is (inside_of ws)) t ≡ Some s → decls files is ws s ≡ decls_of (owner.Interface t) s (scope files s)
+    pub interface_declared : (t : ℕ) (s : Address) → slice_get (interface_list files is (inside_of ws)) t ≡ Some s → decls files is ws s ≡ (scope files s, (owner.Interface t))
     interface_declared t s at = declared_by files is ws s (owner.Interface t) (interface_owner_at (interface_list files is (inside_of ws)) (world_list files ws) all_addresses t s at)
 
-    pub world_declared : (t : ℕ) (s : Address) → slice_get (world_list files ws) t ≡ Some s → decls files is ws s ≡ decls_of (owner.World t) s (scope files s)
+    pub world_declared : (t : ℕ) (s : Address) → slice_get (world_list files ws) t ≡ Some s → decls files is ws s ≡ (scope files s, (owner.World t))
     world_declared t s at = declared_by files is ws s (owner.World t) (world_owner_at (interface_list files is (inside_of ws)) (world_list files ws) all_addresses t s at)
 
     -- the items of the package stand behind those of others, those that are written in worlds behind the declared ones
     listed_item : (t : ℕ) (w : Item) → slice_get (is ++ inside_of ws) t ≡ Some w → slice_get (interface_list files is (inside_of ws)) (length (map visited (foreign_interfaces files)) + t) ≡ Some (address w)
     listed_item t w at = at_back (map visited (foreign_interfaces files)) (map address (is ++ inside_of ws)) t (address w) (slice_get-map address (is ++ inside_of ws) t ∙ ap (option_map address) at)
 
-    pub item_declared : (t : ℕ) (w : Item) → slice_get is t ≡ Some w → decls files is ws (address w) ≡ decls_of (InterfaceOwner files t) (address w) (scope files (address w))
+    pub item_declared : (t : ℕ) (w : Item) → slice_get is t ≡ Some w → decls files is ws (address w) ≡ (scope files (address w), (InterfaceOwner files t))
     item_declared t w at = interface_declared (length (map visited (foreign_interfaces files)) + t) (address w) (listed_item t w (at_front is (inside_of ws) t w at))
 
-    pub inline_declared : (k : ℕ) (i : Item) → slice_get (inside_of ws) k ≡ Some i → decls files is ws (address i) ≡ decls_of (InterfaceOwner files (length is + k)) (address i) (scope files (address i))
+    pub inline_declared : (k : ℕ) (i : Item) → slice_get (inside_of ws) k ≡ Some i → decls files is ws (address i) ≡ (scope files (address i), (InterfaceOwner files (length is + k)))
     inline_declared k i at = interface_declared (length (map visited (foreign_interfaces files)) + (length is + k)) (address i) (listed_item (length is + k) i (at_back is (inside_of ws) k i at))
 
-    pub world_item_declared : (t : ℕ) (w : Item) → slice_get ws t ≡ Some w → decls files is ws (address w) ≡ decls_of (WorldOwner files t) (address w) (scope files (address w))
+    pub world_item_declared : (t : ℕ) (w : Item) → slice_get ws t ≡ Some w → decls files is ws (address w) ≡ (scope files (address w), (WorldOwner files t))
     world_item_declared t w at = world_declared (length (map visited (foreign_worlds files)) + t) (address w) (at_back (map visited (foreign_worlds files)) (map address ws) t (address w) (slice_get-map address ws t ∙ ap (option_map address) at))
 
     module _ (uses : AreUsableUses files (all_items files)) (es : List TypeDef) (front : List Interface) (wfront : List World) (foreign : AddsForeign files es front wfront) where
@@ -186,7 +186,7 @@ module _ (files : List PackageFile) (is ws : List Item) where
             is_cell = λ listed. (
                 let names = free_of (interface_functions added) in
                 ap (λ (s : Address). record { address = s; types = added.types; functions = names }) (interface_address files is is_items (length us) w there sort)
-                ∙ ap (called_cell added.types names) (sym (a.says.called ∙ declared_called files is is_items (length us) w there))
+                ∙ ap (called_cell added.types names) (sym (a.says.0 ∙ declared_called files is is_items (length us) w there))
                 ∙ ap (λ (l : List (List ℕ)). called_cell added.types l added.name) (free_keyed Imported added.functions));
             makes = λ listed. record { functions = a.stand; stated = refl; paired = a.paired };
           }

@@ -1,5 +1,5 @@
 -- Functions added to the arena one after another, each from the types in its signature.
-use Rattle.std.proofs.Common.{◌≡◌, ℕ, zero, suc, ◌+◌, List, [], ◌∷◌, ◌++◌, length, map, Option, Some, None, inl, inr, refl, sym, ap, ◌∙◌, subst, arith, length-append}
+use Rattle.std.proofs.Common.{◌≡◌, ℕ, zero, suc, ◌+◌, List, [], ◌∷◌, ◌++◌, length, map, Some, inl, inr, refl, sym, ap, ◌∙◌, subst, arith, length-append}
 use Rattle.std.specs.Prelude.{slice_get}
 use Rattle.std.specs.List.{flat_map}
 use Rattle.std.specs.Option.{option_map, option_to_list}
@@ -15,7 +15,7 @@ use Rattle.wit_functions.specs.declared.function.Param.{Param}
 use Rattle.wit_syntax.specs.Shape.{Shape}
 use Rattle.wit_syntax.specs.Address.{Address}
 use Rattle.wit_syntax.specs.Function.{Role, Freestanding, Method, Static, Constructor, OnSide, SourceParam, SourceFunction, all_params, signature}
-use Rattle.wit_arena.specs.Functions.{IsKind, IsResult, IsFunction, AreFunctions}
+use Rattle.wit_arena.specs.Functions.{IsKind, IsFunction, AreFunctions}
 use Rattle.wit_arena.specs.Expr.{Exprs, one, joined, expr_of, exprs_of}
 use Rattle.wit_arena.specs.Expr as exprs
 use Rattle.wit_arena.specs.Meet.{Key, Meeting, keys, IsAt, AreAt, Meets, shape_meetings, all_function_meetings}
@@ -110,12 +110,6 @@ typed_back ks s xs ys ts us long h = record {
   each = λ k x t at there. h.each (length xs + k) x t (at_back xs ys k x at) (subst (λ (n : ℕ). slice_get (ts ++ us) (n + k) ≡ Some t) long (at_back ts us k t there));
 }
 
-result_of : (ks : List Key) (s : Address) (x : Option Shape) (t : Option Ty) → AreTyped ks s (option_to_list x) (option_to_list t) → IsResult ks s x t
-result_of ks s None None h = refl
-result_of ks s None (Some t) h = absurd (let wrong = h.count in let f : ⊥ = omega arith in f)
-result_of ks s (Some x) None h = absurd (let wrong = h.count in let f : ⊥ = omega arith in f)
-result_of ks s (Some x) (Some t) h = h.each 0 x t refl refl
-
 -- a function whose types stand at their places is the written one
 function_is : (ks : List Key) (s : Address) (env : Env) (fn : SourceFunction) (f : Function) → AreNames ks s env → SaysFunction env fn f → AreAt ks (exprs_of s (gathered (signature fn))) (function_types f) → IsFunction ks s fn f
 function_is ks s env fn f names says at =
@@ -132,13 +126,9 @@ function_is ks s env fn f names says at =
         count = says.count;
         each = λ k w p w_at p_at. (
             let it = says.params k w p w_at p_at in
-            record {
-              name = it.0;
-              span = it.1;
-              type = front.each k w.shape p.ty (slice_get-map (λ (q : SourceParam). q.shape) (all_params fn) k ∙ ap (option_map (λ (q : SourceParam). q.shape)) w_at) (slice_get-map (λ (q : Param). q.ty) f.params k ∙ ap (option_map (λ (q : Param). q.ty)) p_at);
-            });
+            (it.0, it.1, front.each k w.shape p.ty (slice_get-map (λ (q : SourceParam). q.shape) (all_params fn) k ∙ ap (option_map (λ (q : SourceParam). q.shape)) w_at) (slice_get-map (λ (q : Param). q.ty) f.params k ∙ ap (option_map (λ (q : Param). q.ty)) p_at)));
       };
-      result = result_of ks s fn.result f.result back;
+      result = record { count = back.count; each = back.each };
       span = says.span;
       notes = says.notes;
     }

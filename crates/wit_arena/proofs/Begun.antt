@@ -16,14 +16,15 @@ use Rattle.wit_syntax.specs.Trees.{scope}
 use Rattle.wit_syntax.proofs.Lists.{at_front, at_seam, at_either, map_at, flat_map_at}
 use Rattle.wit_syntax.proofs.Repeated.{differ_more}
 use Rattle.wit_arena.specs.Functions.{IsFunction, AreFunctions}
-use Rattle.wit_arena.specs.Meet.{Def, Meeting, keys, Decl, Decls, IsAmong, all_name_meetings}
-use Rattle.wit_arena.specs.Resolving.{Cell, env_of, AreNames, AreKnown, AreNew, IsDefined, Defines, decls_of}
+use Rattle.wit_arena.specs.Meet.{Def, Meeting, keys, Decls}
+use Rattle.wit_arena.specs.Resolving.{Cell, env_of, AreNames, AreKnown, AreNew, IsDefined, Defines}
 use Rattle.wit_arena.proofs.Defining.{name_met_in, known_kept}
 use Rattle.wit_arena.proofs.Doing.{DoneFunction, done_functions, scope_functions, AreDoneNames, IsDoing, AreWhole}
-use Rattle.wit_arena.proofs.Done.{turned_among}
 use Rattle.wit_arena.proofs.Meeting.{meets_append, meets_from, meets_grown}
 use Rattle.wit_arena.proofs.Signatures.{function_grown}
 use Rattle.wit_arena.proofs.Standing.{DoneScope, done_address, cell_of, IsTurn, IsNameOf, IsDone}
+use Rattle.wit_arena.proofs.Turns.{all_name_meetings}
+use Rattle.wit_arena.proofs.Done.{turned_owned}
 
 -- a function with the one that was made of it
 abbrev pub done_function : Address → SourceFunction → Function → DoneFunction
@@ -99,7 +100,7 @@ module _ (files : List PackageFile) (decls : Decls) (written : List Meeting) (cs
     required = w.required;
   }
 
-module _ (files : List PackageFile) (decls : Decls) (written : List Meeting) (cs : List DoneScope) (gs : List DoneFunction) (es es' : List TypeDef) (c : DoneScope) (d : IsDoing files decls written cs gs es) (fresh : (t : ℕ) (b : DoneScope) → slice_get cs t ≡ Some b → b.address ≡ c.address → ⊥) (own : decls c.address ≡ decls_of c.owner c.address (scope files c.address)) (turn : IsTurn (scope files c.address) c.names) (defines : Defines es es' (map cell_of cs) c.owner c.address [] c.types c.names) where
+module _ (files : List PackageFile) (decls : Decls) (written : List Meeting) (cs : List DoneScope) (gs : List DoneFunction) (es es' : List TypeDef) (c : DoneScope) (d : IsDoing files decls written cs gs es) (fresh : (t : ℕ) (b : DoneScope) → slice_get cs t ≡ Some b → b.address ≡ c.address → ⊥) (own : decls c.address ≡ (scope files c.address, c.owner)) (turn : IsTurn (scope files c.address) c.names) (defines : Defines es es' (map cell_of cs) c.owner c.address [] c.types c.names) where
   abbrev s : Address
   s = c.address
 
@@ -125,7 +126,7 @@ module _ (files : List PackageFile) (decls : Decls) (written : List Meeting) (cs
   }
 
   defined : IsDefined decls d.met es' s [] c.types c.names
-  defined = defines.from decls d.met (λ x h. subst (λ (l : List Decl). IsAmong l x) (sym own) (turned_among c.owner s (scope files s) c.names turn x h)) turn.differ anew others d.meeting nothing
+  defined = defines.from decls d.met (turned_owned decls c.owner s (scope files s) c.names own turn) turn.differ anew others d.meeting nothing
 
   kept : AreKnown (keys defined.now) s (map cell_of cs)
   kept = known_kept d.met defined.now s (map cell_of cs) c.names defined.meets others
@@ -155,7 +156,7 @@ module _ (files : List PackageFile) (decls : Decls) (written : List Meeting) (cs
     ];
     own = λ t b at. elim (at_either cs c t b at) [
       | inl old ↦ d.own t b old
-      | inr new ↦ subst (λ (x : DoneScope). decls x.address ≡ decls_of x.owner x.address (scope files x.address)) (sym new.1) own
+      | inr new ↦ subst (λ (x : DoneScope). decls x.address ≡ (scope files x.address, x.owner)) (sym new.1) own
     ];
     stand = λ t b at. elim (at_either cs c t b at) [
       | inl old ↦ kept.names t (cell_of b) (slice_get-map cell_of cs t ∙ ap (option_map cell_of) old)

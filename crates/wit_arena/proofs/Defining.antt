@@ -17,8 +17,8 @@ use Rattle.wit_arena.specs.Kind.{kind_of}
 use Rattle.wit_syntax.specs.Address.{Address}
 use Rattle.wit_syntax.specs.Source.{ScopeName, Used, Defined, local_name, about_name}
 use Rattle.wit_arena.specs.Expr.{Exprs, End, exprs_of, name_exprs}
-use Rattle.wit_arena.specs.Meet.{Key, Def, Meeting, keys, IsMet, Meets, Decl, Decls, IsAmong, decl_of, IsMeeting, shapes_meetings, parts_meetings, name_meetings, all_name_meetings}
-use Rattle.wit_arena.specs.Resolving.{all_met, Names, Cell, env_of, Env, AreNames, AreKnown, IsExtended, AreResolved, IsAdded, IsUsed, Defines, AreNew, decls_of, named}
+use Rattle.wit_arena.specs.Meet.{Key, Def, Meeting, keys, IsMet, Meets, Decls, IsMeeting, shapes_meetings, name_meetings}
+use Rattle.wit_arena.specs.Resolving.{all_met, Names, Cell, env_of, Env, AreNames, AreKnown, IsExtended, AreResolved, IsAdded, IsUsed, Defines, AreNew, named, AreOwned}
 use Rattle.wit_syntax.specs.Scope.{AreDistinct, local_names}
 use Rattle.wit_syntax.proofs.Repeated.{differ_at, differ_by}
 use Rattle.wit_syntax.proofs.Lists.{at_front, at_back, at_seam, at_either}
@@ -29,6 +29,7 @@ use Rattle.wit_syntax.specs.Shape.{body_of}
 use Rattle.wit_arena.proofs.Keys.{keys-shapes}
 use Rattle.wit_arena.proofs.Places.{key_grown}
 use Rattle.std.specs.Option.{unwrap_or}
+use Rattle.wit_arena.proofs.Turns.{parts_meetings, all_name_meetings}
 
 -- a name that was not met is free
 pub name_free : (ks : List Key) (s : Address) (env : Env) (name : List ℕ) → AreNames ks s env → (IsMet ks (Def s name) → ⊥) → env name ≡ None
@@ -64,6 +65,7 @@ defines_from old mid new cs o s names names' x kind es keys_of p form a = record
       let name = local_name x in
       let more = parts_meetings s x in
       let it : Meeting = record { key = Def s name; span = (about_name x).span; given = (about_name x).notes.stability } in
+      let own = among 0 x refl in
       let y = p decls ms m stand known in
       let kept = names_kept ms y.now more s (env_of names) es keys_of y.meets stand in
       let fresh : IsMet (keys y.now) (Def s name) → ⊥ = λ was. elim (meets_from more ms y.now y.meets was.0 (Def s name) was.1) [
@@ -76,7 +78,7 @@ defines_from old mid new cs o s names names' x kind es keys_of p form a = record
       record {
         now = y.now ++ it ∷ [];
         meets = subst (λ l. Meets ms l (y.now ++ it ∷ [])) (sym (append-nil (more ++ it ∷ []))) (meets_append more (it ∷ []) ms y.now (y.now ++ it ∷ []) y.meets (inr (fresh, refl)));
-        meeting = subst (IsMeeting decls (y.now ++ it ∷ [])) (sym a.last) (meeting_more it (named o name kind (about_name x).notes (about_name x).span) y.meeting fresh (record { decl = decl_of o s x; among = among (decl_of o s x) (0, refl); same = refl; name = refl; span = refl; owner = refl; form = form; parts = y.at; notes = record { docs = refl; stability = refl; external_id = refl } }) refl tt);
+        meeting = subst (IsMeeting decls (y.now ++ it ∷ [])) (sym a.last) (meeting_more it (named o name kind (about_name x).notes (about_name x).span) y.meeting fresh (own.0, x, own.1, refl, refl, refl, sym own.2, form, y.at, record { docs = refl; stability = refl; external_id = refl }) refl tt);
         stand = rw (a.inserted, keys-append y.now (it ∷ [])) (names_added (keys y.now) s names name (length mid) kept fresh count);
         listed = ap (map (λ p. p.0)) a.inserted ∙ names-insert_entry names name (length mid) free;
       });
@@ -147,9 +149,8 @@ defines_none es cs o s names = record { from = λ decls ms among distinct anew k
 pub defines_more : (old mid new : List TypeDef) (cs : List Cell) (o : TypeOwner) (s : Address) (a b c : Names) (xs ys : List ScopeName) → Defines old mid cs o s a b xs → Defines mid new cs o s b c ys → Defines old new cs o s a c (xs ++ ys)
 defines_more old mid new cs o s a b c xs ys p q = record {
   from = λ decls ms among distinct anew known m stand. (
-      let all : decls_of o s (xs ++ ys) ≡ decls_of o s xs ++ decls_of o s ys = map-append (decl_of o s) xs ys in
-      let left = λ (d : Decl) (h : IsAmong (decls_of o s xs) d). among d (subst (λ l. IsAmong l d) (sym all) (h.0, at_front (decls_of o s xs) (decls_of o s ys) h.0 d h.1)) in
-      let right = λ (d : Decl) (h : IsAmong (decls_of o s ys) d). among d (subst (λ l. IsAmong l d) (sym all) (length (decls_of o s xs) + h.0, at_back (decls_of o s xs) (decls_of o s ys) h.0 d h.1)) in
+      let left : AreOwned decls o s xs = λ i x at. among i x (at_front xs ys i x at) in
+      let right : AreOwned decls o s ys = λ i x at. among (length xs + i) x (at_back xs ys i x at) in
       let distinct_left : AreDistinct xs = differ_by local_name xs (λ i j d e ati atj same. differ_at local_name (xs ++ ys) distinct i j d e (at_front xs ys i d ati) (at_front xs ys j e atj) same) in
       let distinct_right : AreDistinct ys = differ_by local_name ys (λ i j d e ati atj same. (let both = differ_at local_name (xs ++ ys) distinct (length xs + i) (length xs + j) d e (at_back xs ys i d ati) (at_back xs ys j e atj) same in omega arith)) in
       let new_left : AreNew (keys ms) s xs = record { new = λ i d at. anew.new i d (at_front xs ys i d at) } in

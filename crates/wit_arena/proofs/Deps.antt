@@ -15,7 +15,7 @@ use Rattle.wit_syntax.specs.Address.{Address, ForeignNamed, same_package, packag
 use Rattle.wit_syntax.specs.Foreign.{ForeignVisit, visited, same_item, foreign_visits, foreign_items, foreign_interfaces, foreign_worlds, foreign_packages}
 use Rattle.wit_arena.specs.Package.{dep_items, same_entry, foreign_owner}
 use Rattle.wit_syntax.specs.Repeats.{AllDiffer}
-use Rattle.wit_arena.specs.Whole.{foreign_place, foreign_entry, dep_item, dep}
+use Rattle.wit_arena.specs.Whole.{foreign_place, foreign_entry, dep}
 use Rattle.wit_syntax.proofs.Lists.{map_at, flat_map_at, flat_map_has}
 use Rattle.wit_syntax.proofs.Addresses.{same_package-from, same_package-equal, same_address-from, same_address-equal}
 use Rattle.wit_syntax.proofs.Repeated.{differ_at}
@@ -24,6 +24,7 @@ use Rattle.wit_syntax.proofs.Firsts.{firsts_at, firsts_has}
 use Rattle.wit_arena.proofs.Interfaces.{prefix_len-only}
 use Rattle.wit_syntax.proofs.Found.{find_passes, find_some, find_at}
 use Rattle.wit_arena.proofs.Visits.{interfaces_differ, worlds_differ, interface_visit, world_visit}
+use Rattle.wit_arena.proofs.Turns.{dep_item}
 
 pub same_entry-itself : (a : AstItem) → same_entry a a ≡ true
 same_entry-itself (entry.Interface i) = eq-eqb i i refl

@@ -1,5 +1,5 @@
 -- Where each type stands at its place, its tree is the same at every depth.
-use Rattle.std.proofs.Common.{◌≡◌, ℕ, zero, suc, true, List, [], ◌∷◌, map, Option, Some, refl, sym, ap, ◌∙◌, subst, inl, inr, arith}
+use Rattle.std.proofs.Common.{◌≡◌, ℕ, zero, suc, true, List, [], ◌∷◌, map, Option, Some, refl, sym, ap, ◌∙◌, inl, inr, arith}
 use Rattle.std.specs.Prelude.{slice_get}
 use Rattle.std.specs.Option.{option_map_or, unwrap_or}
 use Rattle.std.specs.Str.{bytes_eq}
@@ -18,16 +18,14 @@ use Rattle.wit_type_tree.specs.declared.types.Primitive.{Primitive}
 use Rattle.wit_syntax.specs.Node.{Tree, Head, Leaf, Named, Unnamed, Nothing, node_map, primitive_type}
 use Rattle.wit_syntax.specs.Shape.{Shape, Shapes}
 use Rattle.wit_syntax.specs.Shape as shape
-use Rattle.wit_syntax.specs.Notes.{Notes, AreNotes}
+use Rattle.wit_syntax.specs.Notes.{AreNotes}
 use Rattle.wit_syntax.specs.Address.{Address}
 use Rattle.wit_syntax.specs.Source.{ScopeName, local_name, meaning, head, named_node, placed, about_name}
 use Rattle.wit_syntax.specs.Trees.{scope, source_tree}
-use Rattle.wit_arena.specs.Expr.{expr_of, exprs_of, name_exprs, Exprs}
-use Rattle.wit_arena.specs.Meet.{Key, Def, Whole, IsAt, AreAt, Decl, Decls, decl_of, IsKeyed}
+use Rattle.wit_arena.specs.Expr.{expr_of, exprs_of, name_exprs}
+use Rattle.wit_arena.specs.Meet.{Key, Def, Whole, IsAt, AreAt, Decls, IsKeyed}
 use Rattle.wit_arena.specs.Package.{package_tree, entry_head, entry_node, owner_of}
-use Rattle.wit_arena.specs.Resolving.{decls_of}
 use Rattle.wit_syntax.specs.Scope.{AreDistinct}
-use Rattle.wit_syntax.proofs.Lists.{map_at}
 use Rattle.wit_syntax.proofs.Repeated.{differ_at, differ_by}
 use Rattle.wit_syntax.proofs.Names.{name_cases, name_itself}
 use Rattle.wit_arena.proofs.Primitives.{primitive_node}
@@ -59,7 +57,7 @@ unnamed_of n form parts = Unnamed form parts
 pub record IsScope (files : List PackageFile) (decls : Decls) (p : UnresolvedPackage) (s : Address) : Type 0 where
   pub distinct : AreDistinct (scope files s)
   pub whose : TypeOwner
-  pub own : decls s ≡ decls_of whose s (scope files s)
+  pub own : decls s ≡ (scope files s, whose)
   pub called : owner_of p whose ≡ Some s
 
 module _ (files : List PackageFile) (decls : Decls) (ks : List Key) (p : UnresolvedPackage) (m : IsKeyed decls ks p.types) (scopes : (j : ℕ) (s : Address) (name : List ℕ) → slice_get ks j ≡ Some (Def s name) → IsScope files decls p s) where
@@ -87,32 +85,28 @@ module _ (files : List PackageFile) (decls : Decls) (ks : List Key) (p : Unresol
       let e = entry_of_key decls ks p.types m i (Def s name) there in
       let it = m.each i (Def s name) e.0 there e.1 in
       let here = scopes i s name there in
-      let k = it.among.0 in
-      let x = map_at (decl_of here.whose s) (scope files s) k it.decl (ap (λ (l : List Decl). slice_get l k) (sym here.own) ∙ it.among.1) in
-      let called : local_name x.0 ≡ name = ap (λ (y : Decl). y.name) x.2 ∙ it.same in
-      let span : e.0.span ≡ (about_name x.0).span = it.span ∙ sym (ap (λ (y : Decl). y.span) x.2) in
-      let own : owner_of p e.0.owner ≡ Some s = ap (owner_of p) (it.owner ∙ sym (ap (λ (y : Decl). y.owner) x.2)) ∙ here.called in
-      let form : (kind_of e.0.kind).form ≡ (about_name x.0).body.form = it.form ∙ sym (ap (λ (y : Decl). y.form) x.2) in
-      let parts : AreAt ks (name_exprs s x.0) (kind_of e.0.kind).parts = subst (λ (y : Exprs). AreAt ks y (kind_of e.0.kind).parts) (sym (ap (λ (y : Decl). y.parts) x.2)) (all_at_untaken i ks it.decl.parts (kind_of e.0.kind).parts it.parts) in
-      let inner = parts_agree n agree (unwrap_or (about_name x.0).from s) (about_name x.0).body.parts (kind_of e.0.kind).parts parts in
-      let found = meaning_found (scope files s) k x.0 name here.distinct x.1 called in
-      let told : AreNotes (about_name x.0).notes e.0.docs e.0.stability e.0.external_id = subst (λ (y : Notes). AreNotes y e.0.docs e.0.stability e.0.external_id) (sym (ap (λ (y : Decl). y.notes) x.2)) it.notes in
-      let heads = head_agrees s name x.0 e.0 called span own told in
+      let x = it.1 in
+      let at : slice_get (scope files s) it.0 ≡ Some x = ap (λ (d : List ScopeName × TypeOwner). slice_get d.0 it.0) (sym here.own) ∙ it.2 in
+      let own : owner_of p e.0.owner ≡ Some s = ap (owner_of p) (it.6 ∙ ap (λ (d : List ScopeName × TypeOwner). d.1) here.own) ∙ here.called in
+      let parts = all_at_untaken i ks (name_exprs s x) (kind_of e.0.kind).parts it.8 in
+      let inner = parts_agree n agree (unwrap_or (about_name x).from s) (about_name x).body.parts (kind_of e.0.kind).parts parts in
+      let found = meaning_found (scope files s) it.0 x name here.distinct at it.3 in
+      let heads = head_agrees s name x e.0 it.3 it.5 own it.9 in
       ap (λ (o : Option TypeDef). node_map (package_tree p n) (option_map_or (λ (e : TypeDef). entry_node p e.name e) o Nothing)) e.1
-      ∙ ap (λ (o : Option (List ℕ)). node_map (package_tree p n) (entry_node p o e.0)) it.name
+      ∙ ap (λ (o : Option (List ℕ)). node_map (package_tree p n) (entry_node p o e.0)) it.4
       ∙ ap (λ (y : Head). named_of n y (kind_of e.0.kind).form (map (package_tree p n) (kind_of e.0.kind).parts)) heads
-      ∙ ap (λ (y : Form). named_of n (head s x.0) y (map (package_tree p n) (kind_of e.0.kind).parts)) form
-      ∙ ap (λ (y : List (Tree n)). named_of n (head s x.0) (about_name x.0).body.form y) inner
+      ∙ ap (λ (y : Form). named_of n (head s x) y (map (package_tree p n) (kind_of e.0.kind).parts)) it.7
+      ∙ ap (λ (y : List (Tree n)). named_of n (head s x) (about_name x).body.form y) inner
       ∙ sym (ap (λ (o : Option ScopeName). node_map (source_tree files n) (named_node s o)) found)
 
   whole_agrees : (n : ℕ) → Agree n → (s : Address) (form : Form) (parts : Shapes) (i : ℕ) → slice_get ks i ≡ Some (Whole form (exprs_of s parts)) → package_tree p (suc n) (type.Id i) ≡ node_map (source_tree files n) (Unnamed form (placed s parts))
   whole_agrees n agree s form parts i there =
       let e = entry_of_key decls ks p.types m i (Whole form (exprs_of s parts)) there in
       let it = m.each i (Whole form (exprs_of s parts)) e.0 there e.1 in
-      let inner = parts_agree n agree s parts (kind_of e.0.kind).parts (all_at_untaken i ks (exprs_of s parts) (kind_of e.0.kind).parts it.parts) in
+      let inner = parts_agree n agree s parts (kind_of e.0.kind).parts (all_at_untaken i ks (exprs_of s parts) (kind_of e.0.kind).parts it.3) in
       ap (λ (o : Option TypeDef). node_map (package_tree p n) (option_map_or (λ (e : TypeDef). entry_node p e.name e) o Nothing)) e.1
-      ∙ ap (λ (o : Option (List ℕ)). node_map (package_tree p n) (entry_node p o e.0)) it.name
-      ∙ ap (λ (x : Form). unnamed_of n x (map (package_tree p n) (kind_of e.0.kind).parts)) it.form
+      ∙ ap (λ (o : Option (List ℕ)). node_map (package_tree p n) (entry_node p o e.0)) it.0
+      ∙ ap (λ (x : Form). unnamed_of n x (map (package_tree p n) (kind_of e.0.kind).parts)) it.2
       ∙ ap (λ (x : List (Tree n)). unnamed_of n form x) inner
 
   primitive_agrees : (n : ℕ) (x : Primitive) → package_tree p (suc n) (primitive_type x) ≡ Leaf (primitive_type x)

@@ -11,7 +11,7 @@ use Rattle.wit_syntax.specs.Scope.{local_names}
 use Rattle.wit_syntax.specs.Trees.{scope}
 use Rattle.wit_arena.specs.Functions.{IsFunction}
 use Rattle.wit_arena.specs.Meet.{Key, Def, Meeting, keys, Meets, Decls, IsMeeting}
-use Rattle.wit_arena.specs.Resolving.{env_of, AreNames, decls_of}
+use Rattle.wit_arena.specs.Resolving.{env_of, AreNames}
 use Rattle.wit_arena.specs.Whole.{functions_at, turn_handles, AreRequired}
 use Rattle.wit_arena.proofs.FreeNames.{AreStated}
 use Rattle.wit_arena.proofs.Standing.{DoneScope, done_address, turn_of, IsTurn, IsNameOf}
@@ -43,7 +43,7 @@ pub record IsDoing (files : List PackageFile) (decls : Decls) (written : List Me
   pub meets : Meets [] written met
   pub meeting : IsMeeting decls met es
   pub each : (t : ℕ) (c : DoneScope) → slice_get cs t ≡ Some c → AreDoneNames files c
-  pub own : (t : ℕ) (c : DoneScope) → slice_get cs t ≡ Some c → decls c.address ≡ decls_of c.owner c.address (scope files c.address)
+  pub own : (t : ℕ) (c : DoneScope) → slice_get cs t ≡ Some c → decls c.address ≡ (scope files c.address, c.owner)
   pub stand : (t : ℕ) (c : DoneScope) → slice_get cs t ≡ Some c → AreNames (keys met) c.address (env_of c.types)
   pub before : (j : ℕ) (s : Address) (name : List ℕ) → slice_get (keys met) j ≡ Some (Def s name) → IsNameOf cs s name
   pub unique : AllDiffer (map done_address cs)

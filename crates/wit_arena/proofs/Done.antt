@@ -10,12 +10,12 @@ use Rattle.wit_types.specs.declared.types.TypeOwner.{TypeOwner}
 use Rattle.wit_syntax.specs.Address.{Address}
 use Rattle.wit_syntax.specs.Source.{ScopeName, local_name}
 use Rattle.wit_syntax.specs.Trees.{scope}
-use Rattle.wit_arena.specs.Meet.{Key, Def, Meeting, keys, Decl, Decls, IsAmong, decl_of, Meets, all_name_meetings, all_function_meetings}
+use Rattle.wit_arena.specs.Meet.{Key, Def, Meeting, keys, Decls, Meets, all_function_meetings}
 use Rattle.wit_syntax.specs.Shape.{all_handles}
 use Rattle.wit_syntax.specs.Function.{SourceFunction, all_types}
 use Rattle.wit_arena.specs.Whole.{functions_at, turn_meetings, turn_handles, AreRequired}
 use Rattle.wit_syntax.specs.Repeats.{AllDiffer}
-use Rattle.wit_arena.specs.Resolving.{Cell, env_of, AreNames, AreKnown, AreNew, IsDefined, Defines, HasFunctions, AddsFunctions, AreEnded, decls_of}
+use Rattle.wit_arena.specs.Resolving.{Cell, env_of, AreNames, AreKnown, AreNew, IsDefined, Defines, HasFunctions, AddsFunctions, AreEnded, AreOwned}
 use Rattle.wit_syntax.proofs.Lists.{at_front, at_seam, at_either, map_at}
 use Rattle.wit_syntax.proofs.Repeated.{differ_more}
 use Rattle.wit_arena.proofs.Meeting.{Has, has_either, keys-append, meets_append, meets_from, meets_grown}
@@ -25,13 +25,11 @@ use Rattle.wit_arena.proofs.Ends.{IsDeclared}
 use Rattle.wit_arena.proofs.Required.{required_grown, ended_required}
 use Rattle.wit_arena.proofs.Defining.{name_met_in, known_kept}
 use Rattle.wit_arena.proofs.Standing.{DoneScope, done_address, turn_of, cell_of, IsTurn, IsDoneScope, IsNameOf, IsDone}
+use Rattle.wit_arena.proofs.Turns.{all_name_meetings}
 
 -- the names in turn are declared where those of the scope are
-pub turned_among : (o : TypeOwner) (s : Address) (xs ys : List ScopeName) → IsTurn xs ys → (d : Decl) → IsAmong (decls_of o s ys) d → IsAmong (decls_of o s xs) d
-turned_among o s xs ys turn d h =
-    let x = map_at (decl_of o s) ys h.0 d h.1 in
-    let p = turn.among h.0 x.0 x.1 in
-    (p.0, slice_get-map (decl_of o s) xs p.0 ∙ ap (option_map (decl_of o s)) p.1 ∙ ap Some x.2)
+pub turned_owned : (decls : Decls) (o : TypeOwner) (s : Address) (xs ys : List ScopeName) → decls s ≡ (xs, o) → IsTurn xs ys → AreOwned decls o s ys
+turned_owned decls o s xs ys own turn i x at = let p = turn.among i x at in (p.0, ap (λ (d : List ScopeName × TypeOwner). slice_get d.0 p.0) own ∙ p.1, ap (λ (d : List ScopeName × TypeOwner). d.1) own)
 
 module _ (files : List PackageFile) (decls : Decls) (written : List Meeting) (cs : List DoneScope) (es : List TypeDef) (d : IsDone files decls written cs es) (s : Address) (fresh : (t : ℕ) (c : DoneScope) → slice_get cs t ≡ Some c → c.address ≡ s → ⊥) where
   -- the names of what is done stand for their places, and those of another scope are not met
@@ -54,7 +52,7 @@ module _ (files : List PackageFile) (decls : Decls) (written : List Meeting) (cs
   }
 
 -- the scope of a name that was met is declared by files
-pub declared_scope : (files : List PackageFile) (decls : Decls) (cs : List DoneScope) (s : Address) (name : List ℕ) → ((t : ℕ) (c : DoneScope) → slice_get cs t ≡ Some c → IsDoneScope files c) → ((t : ℕ) (c : DoneScope) → slice_get cs t ≡ Some c → decls c.address ≡ decls_of c.owner c.address (scope files c.address)) → IsNameOf cs s name → IsDeclared files decls s
+pub declared_scope : (files : List PackageFile) (decls : Decls) (cs : List DoneScope) (s : Address) (name : List ℕ) → ((t : ℕ) (c : DoneScope) → slice_get cs t ≡ Some c → IsDoneScope files c) → ((t : ℕ) (c : DoneScope) → slice_get cs t ≡ Some c → decls c.address ≡ (scope files c.address, c.owner)) → IsNameOf cs s name → IsDeclared files decls s
 declared_scope files decls cs s name each own it = subst (λ (z : Address). IsDeclared files decls z) it.scope (record {
   distinct = (each it.place it.cell it.at).turn.distinct;
   whose = it.cell.owner;
@@ -63,7 +61,7 @@ declared_scope files decls cs s name each own it = subst (λ (z : Address). IsDe
 
 -- what the names of one scope more add, and then its functions, and what its handles require
 pub record AddsDone (files : List PackageFile) (decls : Decls) (cs : List DoneScope) (es es' : List TypeDef) (c : DoneScope) : Type 0 where
-  pub own : decls c.address ≡ decls_of c.owner c.address (scope files c.address)
+  pub own : decls c.address ≡ (scope files c.address, c.owner)
   pub turn : IsTurn (scope files c.address) c.names
   pub functions : c.functions ≡ functions_at files c.address
   pub stated : AreStated c.functions c.made c.stated
@@ -93,7 +91,7 @@ module _ (files : List PackageFile) (decls : Decls) (written : List Meeting) (cs
   others = known files decls written cs es d s fresh
 
   names_defined : IsDefined decls d.met a.middle s [] c.types c.names
-  names_defined = a.defines.from decls d.met (λ x h. subst (λ (l : List Decl). IsAmong l x) (sym a.own) (turned_among c.owner s (scope files s) c.names a.turn x h)) a.turn.differ (anew files decls written cs es d s fresh c.names) others d.meeting (nothing files decls written cs es d s fresh)
+  names_defined = a.defines.from decls d.met (turned_owned decls c.owner s (scope files s) c.names a.own a.turn) a.turn.differ (anew files decls written cs es d s fresh c.names) others d.meeting (nothing files decls written cs es d s fresh)
 
   functions_added : HasFunctions decls names_defined.now es' s c.functions c.made
   functions_added = a.adds.from decls names_defined.now names_defined.meeting names_defined.stand
@@ -122,7 +120,7 @@ module _ (files : List PackageFile) (decls : Decls) (written : List Meeting) (cs
     | inr new ↦ rw new.1 (record { turn = a.turn; listed = names_defined.listed; functions = a.functions; stated = a.stated })
   ]
 
-  own_done : (t : ℕ) (b : DoneScope) → slice_get all t ≡ Some b → decls b.address ≡ decls_of b.owner b.address (scope files b.address)
+  own_done : (t : ℕ) (b : DoneScope) → slice_get all t ≡ Some b → decls b.address ≡ (scope files b.address, b.owner)
   own_done t b at = elim (at_either cs c t b at) [
     | inl old ↦ d.own t b old
     | inr new ↦ rw new.1 a.own

@@ -30,12 +30,12 @@ use Rattle.wit_syntax.specs.Broken.{IsSetterAlone}
 use Rattle.wit_syntax.proofs.Lists.{at_front, at_back, at_either, at_split, map_at, flat_map_at, flat_map_has}
 use Rattle.wit_syntax.proofs.Turns.{at_part}
 use Rattle.wit_syntax.proofs.Kept.{behind_one}
-use Rattle.wit_arena.specs.Meet.{Meeting, keys, Meets, Decls, all_name_meetings}
+use Rattle.wit_arena.specs.Meet.{Meeting, keys, Meets, Decls}
 use Rattle.wit_arena.specs.Package.{IsWorld, import_types, world_types, world_functions}
 use Rattle.wit_arena.specs.Resolved.{WorldArenas}
 use Rattle.wit_arena.specs.Resolving.{Names, Cell, Required}
 use Rattle.wit_arena.specs.SideItems.{AreSideItems, settled}
-use Rattle.wit_arena.specs.Whole.{Ordered, OrderedWorld, own_item, Turned, item_of, addresses, turned, names_turn, side_turns, world_turns, all_turns, all_inside, turn_meetings, meetings, taking_meeting, all_meetings, turn_handles, AreRequired, type_imports, IsInclude, AreIncludes}
+use Rattle.wit_arena.specs.Whole.{Ordered, OrderedWorld, Turned, addresses, turned, side_turns, world_turns, all_turns, all_inside, turn_meetings, taking_meeting, all_meetings, turn_handles, AreRequired, type_imports, IsInclude, AreIncludes}
 use Rattle.wit_syntax.specs.Source as source
 use Rattle.wit_arena.proofs.Added.{WorldOwner, inside_of, interface_list, world_list, decls}
 use Rattle.wit_arena.proofs.Doing.{DoneFunction, IsDoing}
@@ -46,6 +46,7 @@ use Rattle.wit_arena.proofs.Laid.{AreLaid}
 use Rattle.wit_arena.proofs.Required.{in_scope}
 use Rattle.wit_arena.proofs.Standing.{DoneScope, IsNameOf, IsDone}
 use Rattle.wit_arena.proofs.Stating.{world_types-all}
+use Rattle.wit_arena.proofs.Turns.{item_of, own_item, names_turn, meetings, all_name_meetings}
 
 -- a world of the arena is the item, with its includes, where the worlds have these addresses
 pub record SaysWorld (worlds : List Address) (o : Ordered) (w : World) : Type 0 where
@@ -104,7 +105,7 @@ pub record AreWorldsDone (files : List PackageFile) (is ws : List Item) (wfront 
 
 -- an include that leads to one of some worlds leads to it among more of them
 pub include_wider : (some all : List Address) (top : List TopName) (written : Include) (i : WorldInclude) → ((t : ℕ) (a : Address) → slice_get some t ≡ Some a → slice_get all t ≡ Some a) → IsInclude some top written i → IsInclude all top written i
-include_wider some all top written i wider h = record { stability = h.stability; place = wider i.id (target_scope WorldNamed (leads top written.from)) h.place; names = h.names; span = h.span }
+include_wider some all top written i wider h = (h.0, wider i.id (target_scope WorldNamed (leads top written.from)) h.1, h.2, h.3)
 
 pub includes_wider : (some all : List Address) (item : Item) (is : List WorldInclude) → ((t : ℕ) (a : Address) → slice_get some t ≡ Some a → slice_get all t ≡ Some a) → AreIncludes some item is → AreIncludes all item is
 includes_wider some all item is wider h = record {

@@ -22,14 +22,13 @@ use Rattle.wit_syntax.specs.Shape.{Shape, Shapes, Prim, Word, More, one, written
 use Rattle.wit_syntax.specs.Address.{Address}
 use Rattle.wit_syntax.specs.Source.{ScopeName, Used, Defined, Taken, local_name, meaning, about_name}
 use Rattle.wit_syntax.specs.Trees.{scope}
-use Rattle.wit_arena.specs.Expr.{Exprs, exprs_of, name_exprs}
-use Rattle.wit_arena.specs.Meet.{Key, Def, AreAt, Decl, Decls, decl_of, IsKeyed}
+use Rattle.wit_arena.specs.Expr.{exprs_of, name_exprs}
+use Rattle.wit_arena.specs.Meet.{Key, Def, AreAt, Decls, IsKeyed}
 use Rattle.wit_arena.proofs.Parts.{HasPart}
-use Rattle.wit_arena.specs.Resolving.{decls_of}
 use Rattle.wit_syntax.specs.Scope.{AreDistinct}
 use Rattle.wit_syntax.specs.Ends.{End, AtResource, AtForeign, Elsewhere, named_end, shape_end, EndsAt}
 use Rattle.wit_arena.specs.EntryEnds.{EntryEnd, IsResource, IsUnknown, IsOther, part_end, kind_end, found_end, entry_end}
-use Rattle.wit_syntax.proofs.Lists.{at_front, at_within, map_at}
+use Rattle.wit_syntax.proofs.Lists.{at_front, at_within}
 use Rattle.wit_arena.proofs.Places.{all_at_untaken}
 use Rattle.wit_arena.proofs.Shape.{entry_of_key, backward}
 use Rattle.wit_arena.proofs.Depth.{meaning_found}
@@ -157,7 +156,7 @@ kind_by f g i _ parts e by h = h
 pub record IsDeclared (files : List PackageFile) (decls : Decls) (s : Address) : Type 0 where
   pub distinct : AreDistinct (scope files s)
   pub whose : TypeOwner
-  pub own : decls s ≡ decls_of whose s (scope files s)
+  pub own : decls s ≡ (scope files s, whose)
 
 module _ (files : List PackageFile) (decls : Decls) (ks : List Key) (es : List TypeDef) (m : IsKeyed decls ks es) (scopes : (j : ℕ) (s : Address) (name : List ℕ) → slice_get ks j ≡ Some (Def s name) → IsDeclared files decls s) where
   -- in so many steps, an entry tells where its name ends
@@ -221,15 +220,13 @@ module _ (files : List PackageFile) (decls : Decls) (ks : List Key) (es : List T
       let entry = entry_of_key decls ks es m i (Def s id.name.now) at in
       let it = m.each i (Def s id.name.now) entry.0 at entry.1 in
       let here = scopes i s id.name.now at in
-      let k = it.among.0 in
-      let x = map_at (decl_of here.whose s) (scope files s) k it.decl (ap (λ (l : List Decl). slice_get l k) (sym here.own) ∙ it.among.1) in
-      let called : local_name x.0 ≡ id.name.now = ap (λ (d : Decl). d.name) x.2 ∙ it.same in
-      let form : (kind_of entry.0.kind).form ≡ (about_name x.0).body.form = it.form ∙ sym (ap (λ (d : Decl). d.form) x.2) in
-      let parts : AreAt ks (name_exprs s x.0) (kind_of entry.0.kind).parts = subst (λ (y : Exprs). AreAt ks y (kind_of entry.0.kind).parts) (sym (ap (λ (d : Decl). d.parts) x.2)) (all_at_untaken i ks it.decl.parts (kind_of entry.0.kind).parts it.parts) in
-      let means : Means files s id x.0 = record { found = meaning_found (scope files s) k x.0 id.name.now here.distinct x.1 called } in
+      let x = it.1 in
+      let there : slice_get (scope files s) it.0 ≡ Some x = ap (λ (d : List ScopeName × TypeOwner). slice_get d.0 it.0) (sym here.own) ∙ it.2 in
+      let parts = all_at_untaken i ks (name_exprs s x) (kind_of entry.0.kind).parts it.8 in
+      let means : Means files s id x = record { found = meaning_found (scope files s) it.0 x id.name.now here.distinct there it.3 } in
       let before : kind_end (entry_end n (take i es)) i (kind_of entry.0.kind).form (kind_of entry.0.kind).parts ≡ Some e = ap (found_end (entry_end n (take i es)) i) (sym entry.1) ∙ is in
       let one : kind_end (entry_end n es) i (kind_of entry.0.kind).form (kind_of entry.0.kind).parts ≡ Some e = kind_by (entry_end n (take i es)) (entry_end n es) i (kind_of entry.0.kind).form (kind_of entry.0.kind).parts e (λ j has there. end_before n i j e (slice_get_within es i entry.0 entry.1) (backward decls ks es m i entry.0 (type.Id j) (record { is = entry.1 }) has) there) before in
-      end_formed n (end_source n) i s id x.0 (kind_of entry.0.kind).form (kind_of entry.0.kind).parts e means form called parts at one
+      end_formed n (end_source n) i s id x (kind_of entry.0.kind).form (kind_of entry.0.kind).parts e means it.7 it.3 parts at one
 
 -- an entry of a name ends where the name does, also once the arena has grown
 pub end_source-more : (files : List PackageFile) (decls : Decls) (ks : List Key) (es more : List TypeDef) (m : IsKeyed decls ks es) → ((j : ℕ) (s : Address) (name : List ℕ) → slice_get ks j ≡ Some (Def s name) → IsDeclared files decls s) → (n i : ℕ) (s : Address) (id : Id) (e : EntryEnd) → slice_get ks i ≡ Some (Def s id.name.now) → entry_end n (es ++ more) i ≡ Some e → EndIs files ks s id e

@@ -64,15 +64,15 @@ module _ (files : List PackageFile) (decls : Decls) (written : List Meeting) (cs
   ks = keys d.met
 
   whole_key : (j : ℕ) (k : Key) (e : TypeDef) → IsEntry decls (take j ks) k e → e.name ≡ None → (parts : Exprs) × (k ≡ Whole (kind_of e.kind).form parts)
-  whole_key j (Def s name) e it none = absurd (let named = it.name in let f : ⊥ = cc in f)
-  whole_key j (Whole form parts) e it none = (parts, ap (λ (f : Form). Whole f parts) (sym it.form))
+  whole_key j (Def s name) e it none = absurd (let named = it.4 in let f : ⊥ = cc in f)
+  whole_key j (Whole form parts) e it none = (parts, ap (λ (f : Form). Whole f parts) (sym it.2))
 
   named_key : (j : ℕ) (k : Key) (e : TypeDef) (name : List ℕ) → IsEntry decls (take j ks) k e → e.name ≡ Some name → (s : Address) × (k ≡ Def s name)
   named_key j (Def s called) e name it some =
-      let two : Some called ≡ Some name = sym it.name ∙ some in
+      let two : Some called ≡ Some name = sym it.4 ∙ some in
       let same : called ≡ name = cc in
       (s, ap (Def s) same)
-  named_key j (Whole form parts) e name it some = absurd (let none = it.name in let f : ⊥ = cc in f)
+  named_key j (Whole form parts) e name it some = absurd (let none = it.0 in let f : ⊥ = cc in f)
 
   was_met : (j : ℕ) (form : Form) (parts : Exprs) → slice_get ks j ≡ Some (Whole form parts) → Has (keys written) (Whole form parts)
   was_met j form parts at = elim (meets_from written [] d.met d.meets j (Whole form parts) at) [

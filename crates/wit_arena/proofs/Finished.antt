@@ -29,7 +29,7 @@ use Rattle.wit_types.specs.declared.types.TypeOwner.TheVariants as owner
 use Rattle.wit_syntax.specs.Broken.{is_world_at, IsBroken, Use, InterfaceIncluded, MissingName, Scope, Sides, Handle, Setter}
 use Rattle.wit_syntax.specs.Signature.{OfFunction, OfNothing}
 use Rattle.wit_syntax.specs.Repeats.{AllDiffer}
-use Rattle.wit_arena.specs.Whole.{Ordered, own_item, Turned, item_of}
+use Rattle.wit_arena.specs.Whole.{Ordered, Turned}
 use Rattle.wit_arena.specs.Resolving.{Names as Table, Cell, cell, cells, env_of, Required, IsIndex, IsFound, Unresolved, Unstated, OfFunction, WrongName, WrongItself, IsWrongScope, IsWorldIndex, IsNoWorld, IsLostInclude, IsLostLink}
 use Rattle.wit_arena.specs.Resolved.{worlds_at, WorldArenas, front_worlds, AddsWorlds, AddsForeign, AreUsableUses, IsWrongHandleNow, WrongStability, WrongScope, WrongSides, WrongWorldSides, UnpairedOnSide, WrongHandle, Unpaired, IsWrongInline, WrongInline, WrongWorldStability, WrongWorldScope, WrongWorldHandle, WrongWorldUse, LostLink, LostInclude, IsWrongAmong, IsWrongWorldAmong}
 use Rattle.wit_syntax.proofs.Lists.{at_back, at_seam, at_split, map_at}
@@ -56,6 +56,7 @@ use Rattle.wit_arena.proofs.Laid.{scope_at, ordered_at, entry_of_item}
 use Rattle.wit_arena.proofs.Added.{InterfacesDone, interfaces_done}
 use Rattle.wit_arena.proofs.DoneWorlds.{own_order, AreWorldsDone}
 use Rattle.wit_arena.proofs.Worlds.{worlds_done}
+use Rattle.wit_arena.proofs.Turns.{item_of, own_item}
 
 -- a name that the table of a scope lacks means nothing in it
 pub unstated : (files : List PackageFile) (c : DoneScope) (name : List ℕ) → IsDoneScope files c → env_of c.types name ≡ None → meaning (scope files c.address) name ≡ None
@@ -264,7 +265,7 @@ module _ (files : List PackageFile) (places : List ℕ) (order : IsOrder (item_r
           let o = map_at own_item e.ordered j.0 v (ap (λ (l : List Item). slice_get l j.0) e.all ∙ j.1) in
           let own_at : slice_get (map own_order e.ordered) j.0 ≡ Some o.0.own = slice_get-map own_order e.ordered j.0 ∙ ap (option_map own_order) o.1 in
           let x = entry_of_item e.laid j.0 o.0.own own_at in
-          let called : x.0.name ≡ name = (e.laid.says j.0 o.0.own x.0 own_at x.1).says.name ∙ ap item_name o.2 ∙ sym same in
+          let called : x.0.name ≡ name = (e.laid.says j.0 o.0.own x.0 own_at x.1).says.0 ∙ ap item_name o.2 ∙ sym same in
           let named = map (λ (y : World). WorldNamed y.name) e.own in
           let place = length others + j.0 in
           index.has place name (ap (λ (l : List Address). slice_get l place) (ap (worlds_at others) e.arena ∙ worlds_of_front e.own) ∙ at_back others named j.0 (WorldNamed name) (slice_get-map (λ (y : World). WorldNamed y.name) e.own j.0 ∙ ap (option_map (λ (y : World). WorldNamed y.name)) x.1 ∙ ap (λ (m : List ℕ). Some (WorldNamed m)) called))

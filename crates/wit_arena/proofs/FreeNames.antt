@@ -15,7 +15,7 @@ use Rattle.wit_functions.specs.declared.function.FunctionKind.{FunctionKind}
 use Rattle.wit_syntax.specs.Address.{Address}
 use Rattle.wit_syntax.specs.Source.{Item, Part, Defining, Using, Including, Doing, Crossing, parts}
 use Rattle.wit_syntax.specs.Function.{Role, Freestanding, Method, Static, Constructor, OnSide, SourceFunction, accessor, free_function, resource_function, definition_functions, part_functions, functions, role_names}
-use Rattle.wit_arena.specs.Functions.{freestanding_kind, method_kind, static_kind, IsKind, IsFunction, AreFunctions, freestanding_names}
+use Rattle.wit_arena.specs.Functions.{IsKind, IsFunction, AreFunctions, freestanding_names}
 use Rattle.wit_tree.specs.declared.tree.WorldSide.{WorldSide}
 use Rattle.wit_syntax.specs.Sides.{role_side, FunctionKey}
 use Rattle.wit_arena.specs.Package.{keyed}
@@ -23,6 +23,7 @@ use Rattle.wit_arena.specs.Meet.{Key}
 use Rattle.wit_syntax.proofs.Lists.{at_within, map_at, flat_map_at, flat_map_has}
 use Rattle.wit_syntax.proofs.Found.{at_contains, contains_at}
 use Rattle.wit_syntax.proofs.Externs.{extern_at}
+use Rattle.wit_arena.proofs.Turns.{freestanding_kind, method_kind, static_kind}
 
 -- of functions of the package, each under its side and name
 abbrev pub free_of : List (FunctionKey × Function) → List (List ℕ)

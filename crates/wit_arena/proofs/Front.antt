@@ -17,14 +17,14 @@ use Rattle.wit_syntax.specs.Shape.{all_handles}
 use Rattle.wit_syntax.specs.Function.{functions, name_types}
 use Rattle.wit_arena.specs.Functions.{AreFunctions}
 use Rattle.wit_syntax.specs.Address.{Address, ForeignNamed, same_address, package_of}
-use Rattle.wit_syntax.specs.Source.{Declared, TheInterface, TheWorld, TheInline, Item, all_items, item_at, Taken, local_name, Taking, takings, same_taking, first_takings, taken_names, about}
+use Rattle.wit_syntax.specs.Source.{Declared, TheInterface, TheWorld, TheInline, Item, all_items, item_at, Taken, local_name, Taking, takings, same_taking, first_takings, taken_names, about, ScopeName}
 use Rattle.wit_syntax.specs.Sides.{all_scopes}
 use Rattle.wit_syntax.specs.Trees.{scope}
 use Rattle.wit_syntax.specs.Foreign.{ForeignVisit, visited, foreign_interfaces, foreign_worlds}
-use Rattle.wit_arena.specs.Meet.{Key, Def, Meeting, keys, Decls, decl_of, IsEntry, IsNamedEntry, IsSettled, IsMeeting}
+use Rattle.wit_arena.specs.Meet.{Key, Def, Meeting, keys, Decls, IsEntry, IsMeeting}
 use Rattle.wit_syntax.specs.Repeats.{AllDiffer}
 use Rattle.wit_arena.specs.Whole.{owner_at, taking_meeting, functions_at, turn_handles, AreRequired, IsForeignInterface}
-use Rattle.wit_arena.specs.Resolving.{cell_at, cells, env_of, AreNames, decls_of}
+use Rattle.wit_arena.specs.Resolving.{cell_at, cells, env_of, AreNames}
 use Rattle.wit_arena.specs.Resolved.{foreign_type, AddsForeign, AreUsableUses}
 use Rattle.wit_syntax.proofs.Lists.{at_front, at_within, map_at, map_map}
 use Rattle.wit_syntax.proofs.Names.{lookup-place}
@@ -164,17 +164,21 @@ no_types_taken (t ∷ ts) = no_types_taken ts
 nothing_required : (files : List PackageFile) (ks : List Key) (s : Address) (ts : List Taking) → AreRequired files ks (turn_handles (record { address = s; names = map (λ (t : Taking). Taken t.attributes t.id) ts; functions = [] })) []
 nothing_required files ks s ts = subst (λ (types : List Written). AreRequired files ks (map (λ id. (s, id)) (all_handles (types ++ []))) []) (sym (no_types_taken ts)) (required_none files ks)
 
--- what is taken is named, so nothing has to be settled of it
-taken_settled : (ts : List Taking) (es : List TypeDef) (i : ℕ) (m : Meeting) (e : TypeDef) → slice_get (map taking_meeting ts) i ≡ Some m → slice_get es i ≡ Some e → IsSettled (take i es) m.given m.key e
-taken_settled ts es i m e at there = let t = map_at taking_meeting ts i m at in subst (λ (x : Meeting). IsSettled (take i es) x.given x.key e) t.2 tt
+-- what is taken is named
+taken_named : (files : List PackageFile) (ts : List Taking) (i : ℕ) (e : TypeDef) → slice_get (map (foreign_type files) ts) i ≡ Some e → e.name ≡ None → ⊥
+taken_named files ts i e there none =
+    let t = map_at (foreign_type files) ts i e there in
+    let named : Some t.0.id.name.now ≡ None = ap (λ (x : TypeDef). x.name) t.2 ∙ none in
+    let f : ⊥ = cc in
+    f
 
 -- the scope of an interface in front has its names in turn
 pub front_interface_done : (files : List PackageFile) (ks : List Key) (i : ℕ) (v : ForeignVisit) (x : Interface) → IsForeignInterface files ks v x → IsDoneScope files (interface_scope files i v x)
 front_interface_done files ks i v x is = record {
   turn = record { distinct = taken_distinct files (visited v); differ = taken_distinct files (visited v); among = λ k y yat. (k, yat); has = λ k y yat. (k, yat) };
-  listed = is.types.names;
+  listed = is.1.names;
   functions = sym (no_functions_at files (package_of v.of) v.id.name.now);
-  stated = rw is.functions nothing_stated;
+  stated = rw is.2 nothing_stated;
 }
 
 -- where uses lead to interfaces, nothing is taken from a world
@@ -225,12 +229,12 @@ module _ (files : List PackageFile) (uses : AreUsableUses files (all_items files
   pub taken_listed : (i : ℕ) (v : ForeignVisit) (x : Interface) → slice_get visits i ≡ Some v → slice_get front i ≡ Some x → (j : ℕ) (t : Taking) → slice_get ts j ≡ Some t → t.from ≡ visited v → IsSome (env_of x.types t.id.name.now)
   taken_listed i v x at there j t taken from =
       let k = taken_has files (visited v) j t taken from in
-      lookup-listed x.types k.0 t.id.name.now (ap (λ l. slice_get l k.0) (adds.interfaces.each i v x at there).types.names ∙ slice_get-map local_name (taken_names files (visited v)) k.0 ∙ ap (option_map local_name) k.1)
+      lookup-listed x.types k.0 t.id.name.now (ap (λ l. slice_get l k.0) (adds.interfaces.each i v x at there).1.names ∙ slice_get-map local_name (taken_names files (visited v)) k.0 ∙ ap (option_map local_name) k.1)
 
   -- the names of an interface in front stand for their places
   interface_stands : (i : ℕ) (v : ForeignVisit) (x : Interface) → slice_get visits i ≡ Some v → slice_get front i ≡ Some x → AreNames (keys met) (visited v) (env_of x.types)
   interface_stands i v x at there = record {
-    stands = λ name id found. (let k = lookup-place x.types name id found in (adds.interfaces.each i v x at there).types.places k.0 name id k.1);
+    stands = λ name id found. (let k = lookup-place x.types name id found in (adds.interfaces.each i v x at there).1.places k.0 name id k.1);
     has = λ j name key. (
         let t = taking_of j (Def (visited v) name) key in
         let from : t.0.from ≡ visited v = (let same = t.2 in cc) in
@@ -250,28 +254,18 @@ module _ (files : List PackageFile) (uses : AreUsableUses files (all_items files
   front_differ : AllDiffer (map done_address (front_scopes files front))
   front_differ = subst AllDiffer (sym (map-append done_address (interface_scopes files 0 visits front) (world_scopes 0 (foreign_worlds files)) ∙ ap (λ l. l ++ map done_address (world_scopes 0 (foreign_worlds files))) (map-interface_scopes files 0 visits front adds.interfaces.count) ∙ ap (λ l. map visited visits ++ l) (map-world_scopes 0 (foreign_worlds files)))) (differ_join (map visited visits) (map visited (foreign_worlds files)) (visited_addresses files).interfaces (visited_addresses files).worlds (visited_addresses files).apart)
 
-  module _ (decls : Decls) (interfaces_own : (i : ℕ) (v : ForeignVisit) → slice_get visits i ≡ Some v → decls (visited v) ≡ decls_of (owner.Interface i) (visited v) (scope files (visited v))) (worlds_own : (i : ℕ) (w : ForeignVisit) → slice_get (foreign_worlds files) i ≡ Some w → decls (visited w) ≡ decls_of (owner.World i) (visited w) (scope files (visited w))) where
+  module _ (decls : Decls) (interfaces_own : (i : ℕ) (v : ForeignVisit) → slice_get visits i ≡ Some v → decls (visited v) ≡ (scope files (visited v), (owner.Interface i))) (worlds_own : (i : ℕ) (w : ForeignVisit) → slice_get (foreign_worlds files) i ≡ Some w → decls (visited w) ≡ (scope files (visited w), (owner.World i))) where
     -- the entry of a name that is taken
-    taken_entry : (ks : List Key) (j : ℕ) (t : Taking) → slice_get ts j ≡ Some t → IsNamedEntry decls ks t.from t.id.name.now (foreign_type files t)
+    taken_entry : (ks : List Key) (j : ℕ) (t : Taking) → slice_get ts j ≡ Some t → IsEntry decls ks (Def t.from t.id.name.now) (foreign_type files t)
     taken_entry ks j t at =
         let s = t.from in
         let v = first_from files uses j t at in
         let o = owner.Interface v.0 in
         let k = taken_has files s j t at refl in
         let names : scope files s ≡ taken_names files s = ap (scope files) (sym v.3) ∙ ap (taken_names files) v.3 in
-        let declared : decls s ≡ decls_of o s (scope files s) = subst (λ z. decls z ≡ decls_of o z (scope files z)) v.3 (interfaces_own v.0 v.1 v.2) in
+        let declared : decls s ≡ (scope files s, o) = subst (λ z. decls z ≡ (scope files z, o)) v.3 (interfaces_own v.0 v.1 v.2) in
         let whose : front_owner s ≡ o = ap front_owner (sym v.3) ∙ interface_owner_at (map visited visits) (map visited (foreign_worlds files)) (visited_addresses files) v.0 (visited v.1) (slice_get-map visited visits v.0 ∙ ap (option_map visited) v.2) in
-        record {
-          decl = decl_of o s (Taken t.attributes t.id);
-          among = (k.0, ap (λ l. slice_get l k.0) declared ∙ slice_get-map (decl_of o s) (scope files s) k.0 ∙ ap (option_map (decl_of o s)) (ap (λ l. slice_get l k.0) names ∙ k.1));
-          same = refl;
-          name = refl;
-          span = refl;
-          owner = whose;
-          form = refl;
-          parts = tt;
-          notes = record { docs = refl; stability = refl; external_id = refl };
-        }
+        (k.0, Taken t.attributes t.id, ap (λ (d : List ScopeName × TypeOwner). slice_get d.0 k.0) declared ∙ ap (λ l. slice_get l k.0) names ∙ k.1, refl, refl, refl, whose ∙ sym (ap (λ (d : List ScopeName × TypeOwner). d.1) declared), refl, tt, record { docs = refl; stability = refl; external_id = refl })
 
     taken_meeting : IsMeeting decls met es
     taken_meeting = record {
@@ -283,10 +277,10 @@ module _ (files : List PackageFile) (uses : AreUsableUses files (all_items files
             let u = map_at (foreign_type files) ts j e (ap (λ l. slice_get l j) (sym adds.types) ∙ entry) in
             let both : Some t.0 ≡ Some u.0 = sym t.1 ∙ u.1 in
             let one : t.0 ≡ u.0 = cc in
-            subst (λ x. IsEntry decls (take j (keys met)) x e) t.2 (subst (λ x. IsNamedEntry decls (take j (keys met)) t.0.from t.0.id.name.now x) (ap (foreign_type files) one ∙ u.2) (taken_entry (take j (keys met)) j t.0 t.1)));
+            subst (λ x. IsEntry decls (take j (keys met)) x e) t.2 (subst (λ x. IsEntry decls (take j (keys met)) (Def t.0.from t.0.id.name.now) x) (ap (foreign_type files) one ∙ u.2) (taken_entry (take j (keys met)) j t.0 t.1)));
       };
       spans = ap (map (λ (e : TypeDef). e.span)) adds.types ∙ map_map (λ (e : TypeDef). e.span) (foreign_type files) ts ∙ sym (map_map (λ (m : Meeting). m.span) taking_meeting ts);
-      settled = taken_settled ts es;
+      settled = λ i m e at there none. absurd (taken_named files ts i e (ap (λ l. slice_get l i) (sym adds.types) ∙ there) none);
     }
 
     -- a name that was met is one of its scope
@@ -321,8 +315,8 @@ module _ (files : List PackageFile) (uses : AreUsableUses files (all_items files
         | FrontWorld i w w_at is ↦ subst (IsDoneScope files) (sym is) (front_world_done files uses i w w_at)
       ];
       own = λ t c at. elim (front_at files front adds.interfaces.count t c at) [
-        | FrontInterface i v x v_at x_at is ↦ subst (λ (b : DoneScope). decls b.address ≡ decls_of b.owner b.address (scope files b.address)) (sym is) (interfaces_own i v v_at)
-        | FrontWorld i w w_at is ↦ subst (λ (b : DoneScope). decls b.address ≡ decls_of b.owner b.address (scope files b.address)) (sym is) (worlds_own i w w_at)
+        | FrontInterface i v x v_at x_at is ↦ subst (λ (b : DoneScope). decls b.address ≡ (scope files b.address, b.owner)) (sym is) (interfaces_own i v v_at)
+        | FrontWorld i w w_at is ↦ subst (λ (b : DoneScope). decls b.address ≡ (scope files b.address, b.owner)) (sym is) (worlds_own i w w_at)
       ];
       stand = λ t c at. elim (front_at files front adds.interfaces.count t c at) [
         | FrontInterface i v x v_at x_at is ↦ subst (λ (b : DoneScope). AreNames (keys met) b.address (env_of b.types)) (sym is) (interface_stands i v x v_at x_at)

@@ -11,13 +11,13 @@ use Rattle.wit_syntax.proofs.JoinedItems.{ArePlain, AreTwins}
 use Rattle.wit_syntax.proofs.JoinedFiles.{AreAlike, alike_back, items_twins, joined_alike}
 use Rattle.wit_syntax.proofs.JoinedOrders.{order_onward}
 use Rattle.wit_syntax.proofs.JoinedTrees.{takings_alike}
-use Rattle.wit_arena.specs.Meet.{Meeting}
-use Rattle.wit_arena.specs.Whole.{Ordered, OrderedWorld, AreOrdered, item_of, own_item, Turned, all_turns, taking_meeting, meetings, all_meetings, AreFirstMeetings}
-use Rattle.wit_arena.specs.FirstMeetings.{AreFirst}
+use Rattle.wit_arena.specs.Meet.{Meeting, Meets}
+use Rattle.wit_arena.specs.Whole.{Ordered, OrderedWorld, AreOrdered, Turned, all_turns, taking_meeting, all_meetings, AreFirstMeetings}
 use Rattle.wit_arena.specs.Splitting.{HaveSameMeetings}
 use Rattle.wit_arena.proofs.JoinedOnce.{first_once}
 use Rattle.wit_arena.proofs.JoinedTurns.{twins_in_order, twin_interfaces, twin_worlds, reordered, Told, told, reordered_items, reordered_told}
 use Rattle.wit_arena.proofs.JoinedWorlds.{reworlded, told_world, reworlded_items, reworlded_told, reworlded_inside, turns_same, all_ordered, all_told}
+use Rattle.wit_arena.proofs.Turns.{item_of, own_item, meetings}
 
 -- the same scopes with the same orders, but for the names at the top of their files
 pub record AreTold (is js : List Ordered) (ws vs : List OrderedWorld) : Type 0 where
@@ -74,7 +74,7 @@ module _ (files others : List PackageFile) (a : AreAlike files others) where
         interfaces = it.interfaces;
         worlds = it.worlds;
         ordered = it.ordered;
-        first = subst (λ (ms : List Meeting). AreFirst ms met) (meetings_same h.interfaces it.interfaces h.worlds it.worlds it.same) h.first;
+        first = subst (λ (ms : List Meeting). Meets [] ms met) (meetings_same h.interfaces it.interfaces h.worlds it.worlds it.same) h.first;
       }
 
 pub joined_meetings : (files : List PackageFile) (one : PackageFile) → IsJoined files one → HaveSameMeetings files (one ∷ [])

@@ -8,12 +8,11 @@ use Rattle.wit_syntax.specs.Source.{Item, all_items, scope_names}
 use Rattle.wit_syntax.specs.Scope.{item_rows, interfaces_of, worlds_of, in_order, rows_of}
 use Rattle.wit_syntax.specs.Sides.{inline_items}
 use Rattle.wit_syntax.proofs.Lists.{at_front, at_back}
-use Rattle.wit_arena.specs.Meet.{Meeting}
-use Rattle.wit_arena.specs.Whole.{Ordered, OrderedWorld, AreOrdered, item_of, own_item, all_inside, all_turns, all_meetings, AreFirstMeetings}
-use Rattle.wit_arena.specs.FirstMeetings.{AreFirst}
+use Rattle.wit_arena.specs.Meet.{Meeting, Meets}
+use Rattle.wit_arena.specs.Whole.{Ordered, OrderedWorld, AreOrdered, all_inside, all_turns, all_meetings, AreFirstMeetings}
 use Rattle.wit_arena.proofs.JoinedWorlds.{HasInside}
 use Rattle.wit_arena.proofs.Meeting.{meets_one}
-use Rattle.wit_arena.proofs.FirstMeetings.{meets_of_first}
+use Rattle.wit_arena.proofs.Turns.{item_of, own_item}
 
 -- each of these scopes has the order of the table of its names
 abbrev HaveOrders : List Ordered → Type 0
@@ -91,4 +90,4 @@ first_once files met more a b =
     let ws = worlds_once files a.interfaces b.interfaces a.worlds b.worlds a.ordered b.ordered in
     let all = all_meetings files (all_turns b.interfaces b.worlds) in
     let same : all_meetings files (all_turns a.interfaces a.worlds) ≡ all = ap (λ (l : List Ordered). all_meetings files (all_turns l a.worlds)) is ∙ ap (λ (l : List OrderedWorld). all_meetings files (all_turns b.interfaces l)) ws in
-    meets_one all [] met more (meets_of_first all met (subst (λ (ms : List Meeting). AreFirst ms met) same a.first)) (meets_of_first all more b.first)
+    meets_one all [] met more (subst (λ (ms : List Meeting). Meets [] ms met) same a.first) b.first

@@ -1,6 +1,6 @@
 -- Files that declare the same name the same of other packages, require the same of them, and have the same declarations.
-use Rattle.std.proofs.Common.{◌≡◌, ℕ, not, List, [], take, Option, Some, None, ap, ◌∙◌, subst}
-use Rattle.std.specs.Prelude.{if◌then◌else◌, map}
+use Rattle.std.proofs.Common.{◌≡◌, ℕ, not, List, [], take, Option, Some, None, ap, ◌∙◌, subst, sym}
+use Rattle.std.specs.Prelude.{if◌then◌else◌, map, slice_get}
 use Rattle.std.specs.List.{filter}
 use Rattle.wit_values.specs.declared.span.Span.{Span}
 use Rattle.wit_type_tree.specs.declared.leaves.Id.{Id}
@@ -22,9 +22,10 @@ use Rattle.wit_syntax.proofs.JoinedFiles.{AreAlike, visits_same}
 use Rattle.wit_syntax.proofs.JoinedTrees.{takings_alike, scope_alike}
 use Rattle.wit_syntax.proofs.JoinedLegal.{ends_onward}
 use Rattle.wit_syntax.specs.Ends.{AtResource, AtForeign}
-use Rattle.wit_arena.specs.Meet.{Key, Decl, Decls, decl_of, IsAmong, Def, Whole, IsEntry, IsMeeting, Meeting, keys}
+use Rattle.wit_arena.specs.Meet.{Key, Decls, Def, Whole, IsEntry, IsMeeting, Meeting, keys}
 use Rattle.wit_arena.specs.OneByOne.{OneByOne}
 use Rattle.wit_arena.specs.Whole.{foreign_place, NamesOthers, HandleRequires, AreRequired, owner_at, declarations, IsForeignInterface, HasTypes}
+use Rattle.wit_types.specs.declared.types.TypeOwner.{TypeOwner}
 
 -- what is named of other packages, by the visits
 abbrev items_by : List ForeignVisit → List ForeignVisit
@@ -48,19 +49,12 @@ item_by vs v = (v.id.name.now, (entry_by vs v, map (λ u. stability_of u.attribu
 abbrev dep_by : List ForeignVisit → ForeignVisit → PackageName × List (List ℕ × (AstItem × List Stability))
 dep_by vs v = (package_of v.of, map (item_by vs) (filter (λ u. same_package (package_of u.of) (package_of v.of)) (items_by vs)))
 
+abbrev declared : List ScopeName → TypeOwner → List ScopeName × TypeOwner
+declared xs o = (xs, o)
+
 -- declarations that are the same of each scope make the same meeting
 entry_again : (d e : Decls) → ((s : Address) → d s ≡ e s) → (ks : List Key) (k : Key) (t : TypeDef) → IsEntry d ks k t → IsEntry e ks k t
-entry_again d e same ks (Def s name) t h = record {
-  decl = h.decl;
-  among = subst (λ (ds : List Decl). IsAmong ds h.decl) (same s) h.among;
-  same = h.same;
-  name = h.name;
-  span = h.span;
-  owner = h.owner;
-  form = h.form;
-  parts = h.parts;
-  notes = h.notes;
-}
+entry_again d e same ks (Def s name) t h = (h.0, h.1, ap (λ (d : List ScopeName × TypeOwner). slice_get d.0 h.0) (sym (same s)) ∙ h.2, h.3, h.4, h.5, h.6 ∙ ap (λ (d : List ScopeName × TypeOwner). d.1) (same s), h.7, h.8, h.9)
 entry_again d e same ks (Whole form parts) t h = h
 
 pub meeting_again : (d e : Decls) → ((s : Address) → d s ≡ e s) → (ms : List Meeting) (ts : List TypeDef) → IsMeeting d ms ts → IsMeeting e ms ts
@@ -72,11 +66,11 @@ meeting_again d e same ms ts h = record {
 
 module _ (files others : List PackageFile) (a : AreAlike files others) where
   pub others_onward : (p : UnresolvedPackage) → NamesOthers files p → NamesOthers others p
-  others_onward p h = record {
-    deps = h.deps ∙ ap (λ (vs : List ForeignVisit). map (dep_by vs) (packages_by vs)) (visits_same files others a);
-    spans = h.spans ∙ ap (λ (vs : List ForeignVisit). map (λ v. v.of.span) (packages_by vs)) (visits_same files others a);
-    unknown = h.unknown ∙ ap (λ (ts : List Taking). map (λ t. t.id.span) (firsts same_taking ts)) (takings_alike files others a);
-  }
+  others_onward p h = (
+    h.0 ∙ ap (λ (vs : List ForeignVisit). map (dep_by vs) (packages_by vs)) (visits_same files others a),
+    h.1 ∙ ap (λ (vs : List ForeignVisit). map (λ v. v.of.span) (packages_by vs)) (visits_same files others a),
+    h.2 ∙ ap (λ (ts : List Taking). map (λ t. t.id.span) (firsts same_taking ts)) (takings_alike files others a),
+  )
 
   pub foreign_interfaces_same : foreign_interfaces files ≡ foreign_interfaces others
   foreign_interfaces_same = ap interfaces_by (visits_same files others a)
@@ -85,22 +79,18 @@ module _ (files others : List PackageFile) (a : AreAlike files others) where
   foreign_worlds_same = ap worlds_by (visits_same files others a)
 
   foreign_alike : (ks : List Key) (v : ForeignVisit) (i : Interface) → IsForeignInterface files ks v i → IsForeignInterface others ks v i
-  foreign_alike ks v i h = record {
-    says = h.says;
-    types = subst (λ (xs : List ScopeName). HasTypes ks (record { address = visited v; names = xs; functions = [] }) i.types) (scope_alike files others a (visited v)) h.types;
-    functions = h.functions;
-  }
+  foreign_alike ks v i h = (h.0, subst (λ (xs : List ScopeName). HasTypes ks (record { address = visited v; names = xs; functions = [] }) i.types) (scope_alike files others a (visited v)) h.1, h.2)
 
   pub foreign_onward : (ks : List Key) (is : List Interface) → OneByOne (IsForeignInterface files ks) (foreign_interfaces files) is → OneByOne (IsForeignInterface others ks) (foreign_interfaces others) is
   foreign_onward ks is h = subst (λ (vs : List ForeignVisit). OneByOne (IsForeignInterface others ks) vs is) foreign_interfaces_same (record { count = h.count; each = λ t v i at there. foreign_alike ks v i (h.each t v i at there) })
 
   -- the declarations of scopes are the same, where the interfaces and the worlds have the same addresses
   pub declarations_same : (is js ws vs : List Address) → is ≡ js → ws ≡ vs → (s : Address) → declarations files is ws s ≡ declarations others js vs s
-  declarations_same is js ws vs same worlds s = ap (λ (xs : List ScopeName). map (decl_of (owner_at is ws s) s) xs) (scope_alike files others a s) ∙ ap (λ (l : List Address). map (decl_of (owner_at l ws s) s) (scope others s)) same ∙ ap (λ (l : List Address). map (decl_of (owner_at js l s) s) (scope others s)) worlds
+  declarations_same is js ws vs same worlds s = ap (λ (xs : List ScopeName). declared xs (owner_at is ws s)) (scope_alike files others a s) ∙ ap (λ (l : List Address). declared (scope others s) (owner_at l ws s)) same ∙ ap (λ (l : List Address). declared (scope others s) (owner_at js l s)) worlds
 
   -- names in handles end where they did
   pub required_onward : (ks : List Key) (hs : List (Address × Id)) (rs : List (ℕ × Span)) → AreRequired files ks hs rs → AreRequired others ks hs rs
-  required_onward ks hs rs h = record { each = h.each; count = h.count; says = λ k x r at there. onward x r (h.says k x r at there); all = h.all }
+  required_onward ks hs rs h = (h.0, record { count = h.1.count; each = λ k x r at there. onward x r (h.1.each k x r at there) }, h.2)
     where
       onward : (x : Address × Id) (r : Option (ℕ × Span)) → HandleRequires files ks x r → HandleRequires others ks x r
       onward x None own = ends_onward files others a x.0 x.1 AtResource own

@@ -20,18 +20,18 @@ use Rattle.wit_syntax.proofs.Lists.{map_map}
 use Rattle.wit_syntax.proofs.JoinedItems.{bare, ArePlain}
 use Rattle.wit_syntax.proofs.JoinedFiles.{AreAlike, alike_back, joined_alike}
 use Rattle.wit_syntax.proofs.JoinedHeaders.{HaveSameHeaders, headers_back, joined_headers}
-use Rattle.wit_arena.specs.Meet.{Key, keys, Meeting}
+use Rattle.wit_arena.specs.Meet.{Key, keys, Meeting, Meets}
 use Rattle.wit_arena.specs.Functions.{AreFunctions, placed_functions}
 use Rattle.wit_arena.specs.Package.{IsInterface, IsWorld, IsForeignWorld, world_types}
 use Rattle.wit_arena.specs.OneByOne.{OneByOne}
-use Rattle.wit_arena.specs.FirstMeetings.{AreFirst}
-use Rattle.wit_arena.specs.Whole.{Ordered, OrderedWorld, own_item, all_inside, Turned, all_turns, addresses, HasTypes, HasSides, turn_handles, interface_addresses, world_addresses, declarations, AreRequired, first_docs, IsPackage, IsResolvedInterface, IsResolvedWorld}
+use Rattle.wit_arena.specs.Whole.{Ordered, OrderedWorld, all_inside, Turned, all_turns, addresses, HasTypes, HasSides, turn_handles, interface_addresses, world_addresses, declarations, AreRequired, first_docs, IsPackage, IsResolvedInterface, IsResolvedWorld}
 use Rattle.wit_arena.specs.Splitting.{HaveSamePackages}
 use Rattle.wit_arena.proofs.JoinedTurns.{Told, told}
 use Rattle.wit_arena.proofs.JoinedWorlds.{ToldWorld, told_world, own_told, turned_of, turns_same, interfaces_told}
 use Rattle.wit_arena.proofs.JoinedMeetings.{HasOrdered, ordered_onward, meetings_same}
 use Rattle.wit_arena.proofs.JoinedSides.{sides_onward, includes_onward}
 use Rattle.wit_arena.proofs.JoinedOthers.{others_onward, foreign_interfaces_same, foreign_worlds_same, foreign_onward, declarations_same, meeting_again, required_onward}
+use Rattle.wit_arena.proofs.Turns.{own_item}
 
 abbrev told_address : Told → Address
 told_address x = (about x.0).address
@@ -110,7 +110,7 @@ module _ (files others : List PackageFile) (a : AreAlike files others) (hs : Hav
       let own = interface_addresses_same (is ++ all_inside ws) (js ++ all_inside vs) scopes in
       let worlds = world_addresses_same ws vs it.same.worlds in
       let turns : all_turns is ws ≡ all_turns js vs = turns_same is js ws vs it.same.interfaces it.same.worlds in
-      let placed_worlds = subst (λ (l : List Address). OneByOne (IsResolvedWorld ks l (world_addresses others vs)) ws h.own_worlds) own (subst (λ (l : List Address). OneByOne (IsResolvedWorld ks (interface_addresses files (is ++ all_inside ws)) l) ws h.own_worlds) worlds h.are_worlds) in
+      let placed_worlds = subst (λ (l : List Address). OneByOne (IsResolvedWorld ks l (world_addresses others vs)) ws h.worlds.1) own (subst (λ (l : List Address). OneByOne (IsResolvedWorld ks (interface_addresses files (is ++ all_inside ws)) l) ws h.worlds.1) worlds h.worlds.4) in
       record {
         header = h.header;
         last = sym hs.last ∙ h.last;
@@ -125,19 +125,11 @@ module _ (files others : List PackageFile) (a : AreAlike files others) (hs : Hav
           interfaces = js;
           worlds = vs;
           ordered = it.ordered;
-          first = subst (λ (ms : List Meeting). AreFirst ms h.met) (meetings_same files others a is js ws vs it.same) h.first.first;
+          first = subst (λ (ms : List Meeting). Meets [] ms h.met) (meetings_same files others a is js ws vs it.same) h.first.first;
         };
         meeting = meeting_again (declarations files (interface_addresses files (is ++ all_inside ws)) (world_addresses files ws)) (declarations others (interface_addresses others (js ++ all_inside vs)) (world_addresses others vs)) (declarations_same files others a (interface_addresses files (is ++ all_inside ws)) (interface_addresses others (js ++ all_inside vs)) (world_addresses files ws) (world_addresses others vs) own worlds) h.met p.types h.meeting;
-        foreign_front = h.foreign_front;
-        own_interfaces = h.own_interfaces;
-        interface_arena = h.interface_arena;
-        are_foreign_interfaces = foreign_onward files others a ks h.foreign_front h.are_foreign_interfaces;
-        are_interfaces = interfaces_onward ks (is ++ all_inside ws) (js ++ all_inside vs) h.own_interfaces scopes h.are_interfaces;
-        worlds_front = h.worlds_front;
-        own_worlds = h.own_worlds;
-        world_arena = h.world_arena;
-        are_foreign_worlds = subst (λ (l : List ForeignVisit). OneByOne IsForeignWorld l h.worlds_front) (foreign_worlds_same files others a) h.are_foreign_worlds;
-        are_worlds = worlds_onward ks (interface_addresses others (js ++ all_inside vs)) (world_addresses others vs) ws vs it.same.worlds it.left it.right h.own_worlds placed_worlds;
+        interfaces = (h.interfaces.0, h.interfaces.1, h.interfaces.2, foreign_onward files others a ks h.interfaces.0 h.interfaces.3, interfaces_onward ks (is ++ all_inside ws) (js ++ all_inside vs) h.interfaces.1 scopes h.interfaces.4);
+        worlds = (h.worlds.0, h.worlds.1, h.worlds.2, subst (λ (l : List ForeignVisit). OneByOne IsForeignWorld l h.worlds.0) (foreign_worlds_same files others a) h.worlds.3, worlds_onward ks (interface_addresses others (js ++ all_inside vs)) (world_addresses others vs) ws vs it.same.worlds it.left it.right h.worlds.1 placed_worlds);
         required = required_onward files others a ks (flat_map turn_handles (all_turns js vs)) p.required_resource_types (subst (λ (ts : List Turned). AreRequired files ks (flat_map turn_handles ts) p.required_resource_types) turns h.required);
       }
 

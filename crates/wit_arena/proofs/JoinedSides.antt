@@ -39,12 +39,8 @@ sides_retop ks interfaces inside o top w own other h =
     record {
       functions = h.functions;
       are = h.are;
-      imported = h.imported;
-      are_imported = side_items_again interfaces o.item.top top own other Imported (side_items o.item) h.functions inside h.imported h.are_imported;
-      imports = h.imports ∙ ap (λ (xs : List ScopeName). settled (includes o.item) (type_imports (in_turn xs o.order) (world_types w) ++ h.imported)) names;
-      exported = h.exported;
-      are_exported = side_items_again interfaces o.item.top top own other Exported (side_items o.item) h.functions inside h.exported h.are_exported;
-      exports = h.exports;
+      imports = (h.imports.0, side_items_again interfaces o.item.top top own other Imported (side_items o.item) h.functions inside h.imports.0 h.imports.1, h.imports.2 ∙ ap (λ (xs : List ScopeName). settled (includes o.item) (type_imports (in_turn xs o.order) (world_types w) ++ h.imports.0)) names);
+      exports = (h.exports.0, side_items_again interfaces o.item.top top own other Exported (side_items o.item) h.functions inside h.exports.0 h.exports.1, h.exports.2);
     }
 
 includes_retop : (worlds : List Address) (i : Item) (top : List TopName) (is : List WorldInclude) → AreThemselves i.top → AreThemselves top → AreIncludes worlds i is → AreIncludes worlds (retop top i) is
@@ -52,7 +48,7 @@ includes_retop worlds i top is own other h = record {
   count = h.count;
   each = λ k written n at there. (
       let it = h.each k written n at there in
-      record { stability = it.stability; place = it.place ∙ ap Some (included_same i.top top own other written.from); names = it.names; span = it.span });
+      (it.0, it.1 ∙ ap Some (included_same i.top top own other written.from), it.2, it.3));
 }
 
 -- so for scopes that are told alike

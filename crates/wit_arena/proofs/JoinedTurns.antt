@@ -11,7 +11,8 @@ use Rattle.wit_syntax.proofs.Kept.{behind_one, kept_at}
 use Rattle.wit_syntax.proofs.JoinedLists.{filter-map}
 use Rattle.wit_syntax.proofs.JoinedTargets.{AreThemselves}
 use Rattle.wit_syntax.proofs.JoinedItems.{bare, AreTwins, names_of_bare}
-use Rattle.wit_arena.specs.Whole.{Ordered, item_of}
+use Rattle.wit_arena.specs.Whole.{Ordered}
+use Rattle.wit_arena.proofs.Turns.{item_of}
 
 -- what stands in an order stands in the list
 abbrev StandsIn : List Item → Item → Type 0

@@ -11,8 +11,9 @@ use Rattle.wit_syntax.specs.Sides.{SideItem, SideFunction, SideLink, SideInline,
 use Rattle.wit_syntax.proofs.Lists.{map_map}
 use Rattle.wit_syntax.proofs.JoinedLists.{flat_map_by, map-flat_map, flat_map-map}
 use Rattle.wit_syntax.proofs.JoinedItems.{bare, AreTwins, inline_twins}
-use Rattle.wit_arena.specs.Whole.{Ordered, item_of, turned, Turned, OrderedWorld, own_item, names_turn, function_turn, side_turns, world_turns, all_turns, all_inside}
+use Rattle.wit_arena.specs.Whole.{Ordered, turned, Turned, OrderedWorld, side_turns, world_turns, all_turns, all_inside}
 use Rattle.wit_arena.proofs.JoinedTurns.{reordered, Told, told, told_same, twins_first, twins_behind, reordered_items, reordered_told}
+use Rattle.wit_arena.proofs.Turns.{item_of, own_item, names_turn, function_turn}
 
 -- what is written in each world is what stands there
 abbrev pub HasInside : List OrderedWorld → Type 0

@@ -24,9 +24,10 @@ use Rattle.wit_arena.specs.Meet.{Key}
 use Rattle.wit_arena.specs.OneByOne.{OneByOne}
 use Rattle.wit_arena.specs.Package.{world_interfaces, world_types, inline_owner}
 use Rattle.wit_arena.specs.SideItems.{AreSideItems}
-use Rattle.wit_arena.specs.Whole.{OrderedWorld, item_of, addresses, ordered_names, IsResolvedWorld}
+use Rattle.wit_arena.specs.Whole.{OrderedWorld, addresses, ordered_names, IsResolvedWorld}
 use Rattle.wit_arena.proofs.InlineOwners.{IsInlineEntry, world_entries, world_entry}
 use Rattle.wit_arena.proofs.Laid.{ordered_addresses}
+use Rattle.wit_arena.proofs.Turns.{item_of}
 
 -- it is written in a world at a place, and has no name
 pub record IsWrittenAt (w i : Item) : Type 0 where
@@ -58,7 +59,7 @@ module _ (ks : List Key) (interfaces worlds : List Address) (p : UnresolvedPacka
   of_world t o w at there j e e_at =
       let it = are.each t o w at there in
       let s = it.sides in
-      world_entries interfaces o.own.item w it.says.name (ordered_names o.own) (world_types w) (includes o.own.item) s.imported s.exported s.imports s.exports s.functions (on_side t o at Imported s.functions s.imported s.are_imported) (on_side t o at Exported s.functions s.exported s.are_exported) j e e_at
+      world_entries interfaces o.own.item w it.says.0 (ordered_names o.own) (world_types w) (includes o.own.item) s.imports.0 s.exports.0 s.imports.2 s.exports.2 s.functions (on_side t o at Imported s.functions s.imports.0 s.imports.1) (on_side t o at Exported s.functions s.exports.0 s.exports.1) j e e_at
 
   all_listed : (j : ℕ) (e : ℕ × Address) → slice_get listed j ≡ Some e → IsInlineEntry interfaces e
   all_listed j e at =
@@ -81,7 +82,7 @@ module _ (ks : List Key) (interfaces worlds : List Address) (p : UnresolvedPacka
       let is = are.each t o w.0 at w.1 in
       let s = is.sides in
       let spot = written_at o.own.item k i inside in
-      let it = world_entry interfaces o.own.item w.0 is.says.name (ordered_names o.own) (world_types w.0) (includes o.own.item) s.imported s.exported s.imports s.exports s.functions (on_side t o at Imported s.functions s.imported s.are_imported) (on_side t o at Exported s.functions s.exported s.are_exported) k i spot.side spot.place inside spot.stands in
+      let it = world_entry interfaces o.own.item w.0 is.says.0 (ordered_names o.own) (world_types w.0) (includes o.own.item) s.imports.0 s.exports.0 s.imports.2 s.exports.2 s.functions (on_side t o at Imported s.functions s.imports.0 s.imports.1) (on_side t o at Exported s.functions s.exports.0 s.exports.1) k i spot.side spot.place inside spot.stands in
       let there : slice_get p.worlds (length front + t) ≡ Some w.0 = ap (λ (l : List World). slice_get l (length front + t)) arena ∙ at_back front own t w.0 w.1 in
       let n = flat_map_has world_interfaces p.worlds (length front + t) it.0 w.0 (it.1, address i) there it.2 in
       (n.0, it.1, n.1, it.3)

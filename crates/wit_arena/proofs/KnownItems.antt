@@ -17,7 +17,7 @@ use Rattle.wit_syntax.specs.Source.{Item, ScopeName, address, all_items, is_worl
 use Rattle.wit_syntax.specs.Trees.{scope}
 use Rattle.wit_syntax.proofs.Legal.{functions_differ, functions_items}
 use Rattle.wit_syntax.proofs.Lists.{at_front, at_back, map_map}
-use Rattle.wit_arena.specs.Whole.{Ordered, OrderedWorld, AreOrdered, item_of, own_item, all_inside, functions_at, interface_addresses, ordered_names, world_addresses}
+use Rattle.wit_arena.specs.Whole.{Ordered, OrderedWorld, AreOrdered, all_inside, functions_at, interface_addresses, ordered_names, world_addresses}
 use Rattle.wit_arena.proofs.Added.{inside_of, interface_list, world_list, all_addresses}
 use Rattle.wit_arena.proofs.DoneWorlds.{own_order}
 use Rattle.wit_arena.proofs.Interfaces.{AreAddresses, AreItems, interfaces_sort, worlds_sort, items_kept, item_scopes, inline_scopes, scope_at}
@@ -25,6 +25,7 @@ use Rattle.wit_arena.proofs.Itemizing.{are_items}
 use Rattle.wit_arena.proofs.Laid.{ordered_addresses, in_turn_is}
 use Rattle.wit_arena.proofs.LegalScopes.{distinct_items, names_differ, scope_among}
 use Rattle.wit_arena.proofs.Standing.{IsTurn}
+use Rattle.wit_arena.proofs.Turns.{item_of, own_item}
 
 -- an item stands at its address, and has the order of the table of its names
 pub record IsItem (files : List PackageFile) (o : Ordered) : Type 0 where

@@ -22,7 +22,7 @@ use Rattle.wit_syntax.proofs.Legal.{functions_items}
 use Rattle.wit_syntax.proofs.Lists.{at_front, at_back, at_split, at_within, map_at, flat_map_at}
 use Rattle.wit_arena.specs.Meet.{Key, keys}
 use Rattle.wit_arena.specs.Package.{inline_owner, world_functions, world_interfaces, world_types}
-use Rattle.wit_arena.specs.Whole.{Ordered, OrderedWorld, addresses, all_inside, interface_addresses, item_of, ordered_names, world_addresses, IsPackage}
+use Rattle.wit_arena.specs.Whole.{Ordered, OrderedWorld, addresses, all_inside, interface_addresses, ordered_names, world_addresses, IsPackage}
 use Rattle.wit_arena.proofs.Deps.{foreign_interface-none}
 use Rattle.wit_arena.proofs.FreeNames.{AreStated}
 use Rattle.wit_arena.proofs.Front.{interface_scope, world_scope}
@@ -32,6 +32,7 @@ use Rattle.wit_arena.proofs.KnownItems.{addresses_are, are_interfaces, functions
 use Rattle.wit_arena.proofs.KnownScopes.{HasScope, named_world-label, no_interfaces_in, interface_owner, world_owner, world_names, world_states, own_interface, own_world, foreign_interface, foreign_world, resolved_interface}
 use Rattle.wit_arena.proofs.Laid.{laid_scope}
 use Rattle.wit_arena.proofs.Stating.{stated_settled}
+use Rattle.wit_arena.proofs.Turns.{item_of}
 
 module _ (files : List PackageFile) (legal : IsLegal files) (p : UnresolvedPackage) (h : IsPackage files p) where
   abbrev os : List Ordered
@@ -62,43 +63,43 @@ module _ (files : List PackageFile) (legal : IsLegal files) (p : UnresolvedPacka
   Has o s = HasScope files p ks interfaces worlds o s
 
   -- a declared interface goes by its name
-  declared : (t : ℕ) (o : Ordered) (i : Interface) → slice_get os t ≡ Some o → slice_get h.own_interfaces t ≡ Some i → slice_get interfaces (length ss + t) ≡ Some (address o.item) → Has (owner.Interface (length ss + t)) (address o.item)
+  declared : (t : ℕ) (o : Ordered) (i : Interface) → slice_get os t ≡ Some o → slice_get h.interfaces.1 t ≡ Some i → slice_get interfaces (length ss + t) ≡ Some (address o.item) → Has (owner.Interface (length ss + t)) (address o.item)
   declared t o i at there stands =
       let place = interface_place files legal os ws h.first.ordered t o at in
       let items = are_interfaces files legal os ws h.first.ordered in
       let own = (interfaces_sort all).each t o.item place in
       let whole = at_front os (all_inside ws) t o at in
-      let name = (h.are_interfaces.each t o i whole there).says.called ∙ declared_called files (interfaces_of all) items t o.item place in
+      let name = (h.interfaces.4.each t o i whole there).says.0 ∙ declared_called files (interfaces_of all) items t o.item place in
       let called = interface_owner p (length ss + t) i (Some (item_name o.item)) (own_interface files legal p h t i there) name ∙ ap (λ (s : Address). Some s) (sym (interface_address files (interfaces_of all) items t o.item place own)) in
       resolved_interface files legal p h t o i whole there stands (interface_item files legal os ws h.first.ordered t o at) own called
 
   -- nothing stands on the sides of a world of another package
-  none_in_front : (t : ℕ) (w : World) → slice_get h.worlds_front t ≡ Some w → world_interfaces w ≡ []
+  none_in_front : (t : ℕ) (w : World) → slice_get h.worlds.0 t ≡ Some w → world_interfaces w ≡ []
   none_in_front t w at =
-      let lt = slice_get_within h.worlds_front t w at in
-      let count = h.are_foreign_worlds.count in
+      let lt = slice_get_within h.worlds.0 t w at in
+      let count = h.worlds.3.count in
       let v = at_within (foreign_worlds files) t (omega (arith, lt, count)) in
-      let says = h.are_foreign_worlds.each t v.0 w v.1 at in
-      no_interfaces_in w says.imports says.exports
+      let says = h.worlds.3.each t v.0 w v.1 at in
+      no_interfaces_in w says.1 says.2
 
   -- one that is written in a world goes by its place there
-  written : (k : ℕ) (o : Ordered) (i : Interface) → slice_get (all_inside ws) k ≡ Some o → slice_get h.own_interfaces (length os + k) ≡ Some i → slice_get interfaces (length ss + (length os + k)) ≡ Some (address o.item) → Has (owner.Interface (length ss + (length os + k))) (address o.item)
+  written : (k : ℕ) (o : Ordered) (i : Interface) → slice_get (all_inside ws) k ≡ Some o → slice_get h.interfaces.1 (length os + k) ≡ Some i → slice_get interfaces (length ss + (length os + k)) ≡ Some (address o.item) → Has (owner.Interface (length ss + (length os + k))) (address o.item)
   written k o i at there stands =
       let place = length ss + (length os + k) in
       let w = flat_map_at (λ (w : OrderedWorld). w.inside) ws k o at in
       let inside : slice_get (inline_items w.1.own.item) w.3.0 ≡ Some o.item = ap (λ (l : List Item). slice_get l w.3.0) (sym (h.first.ordered.inside w.0 w.1 w.2)) ∙ slice_get-map item_of w.1.inside w.3.0 ∙ ap (option_map item_of) w.3.1 in
       let whole = at_back os (all_inside ws) k o at in
-      let name : i.name ≡ None = (h.are_interfaces.each (length os + k) o i whole there).says.called ∙ (written_at w.1.own.item w.3.0 o.item inside).unnamed in
-      let past = foreign_interface-none files p h.others.deps place (let long = length-map (foreign_interfaces files) visited in omega (arith, long)) in
+      let name : i.name ≡ None = (h.interfaces.4.each (length os + k) o i whole there).says.0 ∙ (written_at w.1.own.item w.3.0 o.item inside).unnamed in
+      let past = foreign_interface-none files p h.others.0 place (let long = length-map (foreign_interfaces files) visited in omega (arith, long)) in
       let differ = (addresses_are files legal os ws h.first.ordered).interfaces in
-      let known = inline_known ks interfaces worlds p h.worlds_front h.own_worlds h.world_arena none_in_front ws h.first.ordered.inside h.are_worlds differ w.0 w.1 w.3.0 o.item place w.2 inside stands in
+      let known = inline_known ks interfaces worlds p h.worlds.0 h.worlds.1 h.worlds.2 none_in_front ws h.first.ordered.inside h.worlds.4 differ w.0 w.1 w.3.0 o.item place w.2 inside stands in
       let called = interface_owner p place i None (own_interface files legal p h (length os + k) i there) name ∙ ap (λ (x : Option Address). option_or x (inline_owner p place)) past ∙ known in
       resolved_interface files legal p h (length os + k) o i whole there stands (inside_item files legal os ws h.first.ordered k o at) (inline_interface w.1.own.item w.3.0 o.item inside) called
 
-  own_has : (t : ℕ) (o : Ordered) (i : Interface) → slice_get (os ++ all_inside ws) t ≡ Some o → slice_get h.own_interfaces t ≡ Some i → slice_get interfaces (length ss + t) ≡ Some (address o.item) → Has (owner.Interface (length ss + t)) (address o.item)
+  own_has : (t : ℕ) (o : Ordered) (i : Interface) → slice_get (os ++ all_inside ws) t ≡ Some o → slice_get h.interfaces.1 t ≡ Some i → slice_get interfaces (length ss + t) ≡ Some (address o.item) → Has (owner.Interface (length ss + t)) (address o.item)
   own_has t o i at there stands = elim (at_split os (all_inside ws) t o at) [
     | inl own ↦ declared t o i own there stands
-    | inr inside ↦ subst (λ (n : ℕ). slice_get h.own_interfaces n ≡ Some i → slice_get interfaces (length ss + n) ≡ Some (address o.item) → Has (owner.Interface (length ss + n)) (address o.item)) (sym inside.1) (written inside.0 o i inside.2) there stands
+    | inr inside ↦ subst (λ (n : ℕ). slice_get h.interfaces.1 n ≡ Some i → slice_get interfaces (length ss + n) ≡ Some (address o.item) → Has (owner.Interface (length ss + n)) (address o.item)) (sym inside.1) (written inside.0 o i inside.2) there stands
   ]
 
   -- so each interface is known by its place
@@ -107,30 +108,30 @@ module _ (files : List PackageFile) (legal : IsLegal files) (p : UnresolvedPacka
     | inl front ↦ (
         let v = map_at visited (foreign_interfaces files) t s front in
         let lt = slice_get_within (foreign_interfaces files) t v.0 v.1 in
-        let count = h.are_foreign_interfaces.count in
-        let i = at_within h.foreign_front t (omega (arith, lt, count)) in
+        let count = h.interfaces.3.count in
+        let i = at_within h.interfaces.0 t (omega (arith, lt, count)) in
         record { scope = interface_scope files t v.0 i.0; address = v.2; owner = refl; known = foreign_interface files legal p h t v.0 i.0 v.1 i.1 (at ∙ ap (λ (a : Address). Some a) (sym v.2)) })
     | inr back ↦ (
         let o = map_at (λ (o : Ordered). address o.item) (os ++ all_inside ws) back.0 s back.2 in
         let lt = slice_get_within (os ++ all_inside ws) back.0 o.0 o.1 in
-        let count = h.are_interfaces.count in
-        let i = at_within h.own_interfaces back.0 (omega (arith, lt, count)) in
+        let count = h.interfaces.4.count in
+        let i = at_within h.interfaces.1 back.0 (omega (arith, lt, count)) in
         let stands = ap (slice_get interfaces) (sym back.1) ∙ at ∙ ap (λ (a : Address). Some a) (sym o.2) in
         subst (λ (n : ℕ). Has (owner.Interface n) s) (sym back.1) (subst (Has (owner.Interface (length ss + back.0))) o.2 (own_has back.0 o.0 i.0 o.1 i.1 stands)))
   ]
 
   -- and each world
-  resolved_world : (t : ℕ) (o : OrderedWorld) (w : World) → slice_get ws t ≡ Some o → slice_get h.own_worlds t ≡ Some w → slice_get worlds (length others + t) ≡ Some (address o.own.item) → Has (owner.World (length others + t)) (address o.own.item)
+  resolved_world : (t : ℕ) (o : OrderedWorld) (w : World) → slice_get ws t ≡ Some o → slice_get h.worlds.1 t ≡ Some w → slice_get worlds (length others + t) ≡ Some (address o.own.item) → Has (owner.World (length others + t)) (address o.own.item)
   resolved_world t o w at there stands =
       let place = length others + t in
       let item = o.own.item in
       let it = world_item files legal os ws h.first.ordered t o at in
-      let is = h.are_worlds.each t o w at there in
+      let is = h.worlds.4.each t o w at there in
       let s = is.sides in
       let here = own_world files legal p h t w there in
       let id = (about item.declared).id in
       let sort = (worlds_sort all).each t item (world_place files legal os ws h.first.ordered t o at) in
-      let stated = subst (λ (l : List SourceFunction). AreStated l s.functions (world_functions w)) (sym (functions_items item)) (stated_settled interfaces item.top (ordered_names o.own) (world_types w) (side_items item) s.functions (addresses o.inside) (includes item) s.imported s.exported w s.imports s.exports s.are_imported s.are_exported) in
+      let stated = subst (λ (l : List SourceFunction). AreStated l s.functions (world_functions w)) (sym (functions_items item)) (stated_settled interfaces item.top (ordered_names o.own) (world_types w) (side_items item) s.functions (addresses o.inside) (includes item) s.imports.0 s.exports.0 w s.imports.2 s.exports.2 s.imports.1 s.exports.1) in
       record {
         scope = laid_scope (owner.World place) o.own (world_types w) s.functions (world_functions w) [];
         address = refl;
@@ -141,7 +142,7 @@ module _ (files : List PackageFile) (legal : IsLegal files) (p : UnresolvedPacka
           types = is.types;
           made = s.are;
           apart = functions_apart files legal o.own it;
-          called = world_owner p place w id.name.now here is.says.name ∙ named_world-label p place id.name.now id.label ∙ ap (λ (a : Address). Some a) (sym (world_address item sort));
+          called = world_owner p place w id.name.now here is.says.0 ∙ named_world-label p place id.name.now id.label ∙ ap (λ (a : Address). Some a) (sym (world_address item sort));
           names = world_names p place w here;
           stated = world_states p place w here;
         };
@@ -152,14 +153,14 @@ module _ (files : List PackageFile) (legal : IsLegal files) (p : UnresolvedPacka
     | inl front ↦ (
         let v = map_at visited (foreign_worlds files) t s front in
         let lt = slice_get_within (foreign_worlds files) t v.0 v.1 in
-        let count = h.are_foreign_worlds.count in
-        let w = at_within h.worlds_front t (omega (arith, lt, count)) in
+        let count = h.worlds.3.count in
+        let w = at_within h.worlds.0 t (omega (arith, lt, count)) in
         record { scope = world_scope t v.0; address = v.2; owner = refl; known = foreign_world files legal p h t v.0 w.0 v.1 w.1 (at ∙ ap (λ (a : Address). Some a) (sym v.2)) })
     | inr back ↦ (
         let o = map_at (λ (w : OrderedWorld). address w.own.item) ws back.0 s back.2 in
         let lt = slice_get_within ws back.0 o.0 o.1 in
-        let count = h.are_worlds.count in
-        let w = at_within h.own_worlds back.0 (omega (arith, lt, count)) in
+        let count = h.worlds.4.count in
+        let w = at_within h.worlds.1 back.0 (omega (arith, lt, count)) in
         let stands = ap (slice_get worlds) (sym back.1) ∙ at ∙ ap (λ (a : Address). Some a) (sym o.2) in
         subst (λ (n : ℕ). Has (owner.World n) s) (sym back.1) (subst (Has (owner.World (length others + back.0))) o.2 (resolved_world back.0 o.0 w.0 o.1 w.1 stands)))
   ]

@@ -119,41 +119,41 @@ module _ (files : List PackageFile) (legal : IsLegal files) (p : UnresolvedPacka
   no_two = addresses_are files legal os ws h.first.ordered
 
   -- what stands in front of the arenas, and behind that
-  front_interface : (t : ℕ) (i : Interface) → slice_get h.foreign_front t ≡ Some i → slice_get p.interfaces t ≡ Some i
-  front_interface t i at = ap (λ (l : List Interface). slice_get l t) h.interface_arena ∙ at_front h.foreign_front h.own_interfaces t i at
+  front_interface : (t : ℕ) (i : Interface) → slice_get h.interfaces.0 t ≡ Some i → slice_get p.interfaces t ≡ Some i
+  front_interface t i at = ap (λ (l : List Interface). slice_get l t) h.interfaces.2 ∙ at_front h.interfaces.0 h.interfaces.1 t i at
 
-  front_world : (t : ℕ) (w : World) → slice_get h.worlds_front t ≡ Some w → slice_get p.worlds t ≡ Some w
-  front_world t w at = ap (λ (l : List World). slice_get l t) h.world_arena ∙ at_front h.worlds_front h.own_worlds t w at
+  front_world : (t : ℕ) (w : World) → slice_get h.worlds.0 t ≡ Some w → slice_get p.worlds t ≡ Some w
+  front_world t w at = ap (λ (l : List World). slice_get l t) h.worlds.2 ∙ at_front h.worlds.0 h.worlds.1 t w at
 
-  pub own_interface : (t : ℕ) (i : Interface) → slice_get h.own_interfaces t ≡ Some i → slice_get p.interfaces (length ss + t) ≡ Some i
+  pub own_interface : (t : ℕ) (i : Interface) → slice_get h.interfaces.1 t ≡ Some i → slice_get p.interfaces (length ss + t) ≡ Some i
   own_interface t i at =
-      let long : length ss ≡ length h.foreign_front = length-map (foreign_interfaces files) visited ∙ sym h.are_foreign_interfaces.count in
-      ap (λ (n : ℕ). slice_get p.interfaces (n + t)) long ∙ ap (λ (l : List Interface). slice_get l (length h.foreign_front + t)) h.interface_arena ∙ at_back h.foreign_front h.own_interfaces t i at
+      let long : length ss ≡ length h.interfaces.0 = length-map (foreign_interfaces files) visited ∙ sym h.interfaces.3.count in
+      ap (λ (n : ℕ). slice_get p.interfaces (n + t)) long ∙ ap (λ (l : List Interface). slice_get l (length h.interfaces.0 + t)) h.interfaces.2 ∙ at_back h.interfaces.0 h.interfaces.1 t i at
 
-  pub own_world : (t : ℕ) (w : World) → slice_get h.own_worlds t ≡ Some w → slice_get p.worlds (length others + t) ≡ Some w
+  pub own_world : (t : ℕ) (w : World) → slice_get h.worlds.1 t ≡ Some w → slice_get p.worlds (length others + t) ≡ Some w
   own_world t w at =
-      let long : length others ≡ length h.worlds_front = length-map (foreign_worlds files) visited ∙ sym h.are_foreign_worlds.count in
-      ap (λ (n : ℕ). slice_get p.worlds (n + t)) long ∙ ap (λ (l : List World). slice_get l (length h.worlds_front + t)) h.world_arena ∙ at_back h.worlds_front h.own_worlds t w at
+      let long : length others ≡ length h.worlds.0 = length-map (foreign_worlds files) visited ∙ sym h.worlds.3.count in
+      ap (λ (n : ℕ). slice_get p.worlds (n + t)) long ∙ ap (λ (l : List World). slice_get l (length h.worlds.0 + t)) h.worlds.2 ∙ at_back h.worlds.0 h.worlds.1 t w at
 
   -- the scope of an interface of another package, and of a world
-  pub foreign_interface : (t : ℕ) (v : ForeignVisit) (i : Interface) → slice_get (foreign_interfaces files) t ≡ Some v → slice_get h.foreign_front t ≡ Some i → slice_get interfaces t ≡ Some (visited v) → Known (interface_scope files t v i)
+  pub foreign_interface : (t : ℕ) (v : ForeignVisit) (i : Interface) → slice_get (foreign_interfaces files) t ≡ Some v → slice_get h.interfaces.0 t ≡ Some i → slice_get interfaces t ≡ Some (visited v) → Known (interface_scope files t v i)
   foreign_interface t v i at there stands =
-      let is = h.are_foreign_interfaces.each t v i at there in
+      let is = h.interfaces.3.each t v i at there in
       let here = front_interface t i there in
       record {
         done = front_interface_done files ks t v i is;
         whose = interface_owner_at interfaces worlds no_two t (visited v) stands;
-        types = is.types;
+        types = is.1;
         made = no_functions ks (visited v);
         apart = differ_none;
-        called = interface_owner p t i None here is.says.called ∙ ap (λ (x : Option Address). option_or x (inline_owner p t)) (foreign_interface_owner files p h.others.deps t v at);
+        called = interface_owner p t i None here is.0.0 ∙ ap (λ (x : Option Address). option_or x (inline_owner p t)) (foreign_interface_owner files p h.others.0 t v at);
         names = interface_names p t i here;
         stated = interface_states p t i here;
       }
 
-  pub foreign_world : (t : ℕ) (v : ForeignVisit) (w : World) → slice_get (foreign_worlds files) t ≡ Some v → slice_get h.worlds_front t ≡ Some w → slice_get worlds t ≡ Some (visited v) → Known (world_scope t v)
+  pub foreign_world : (t : ℕ) (v : ForeignVisit) (w : World) → slice_get (foreign_worlds files) t ≡ Some v → slice_get h.worlds.0 t ≡ Some w → slice_get worlds t ≡ Some (visited v) → Known (world_scope t v)
   foreign_world t v w at there stands =
-      let is = h.are_foreign_worlds.each t v w at there in
+      let is = h.worlds.3.each t v w at there in
       let here = front_world t w there in
       record {
         done = front_world_done files (uses_lead files legal) t v at;
@@ -161,15 +161,15 @@ module _ (files : List PackageFile) (legal : IsLegal files) (p : UnresolvedPacka
         types = record { names = refl; places = λ k name id k_at. absurd (let f : ⊥ = cc in f) };
         made = no_functions ks (visited v);
         apart = differ_none;
-        called = world_owner p t w [] here is.says.name ∙ foreign_world_owner files p h.others.deps t v at;
-        names = world_names p t w here ∙ ap (flat_map import_types) is.imports;
-        stated = world_states p t w here ∙ no_functions_in w is.imports is.exports;
+        called = world_owner p t w [] here is.0.0 ∙ foreign_world_owner files p h.others.0 t v at;
+        names = world_names p t w here ∙ ap (flat_map import_types) is.1;
+        stated = world_states p t w here ∙ no_functions_in w is.1 is.2;
       }
 
   -- the scope of an interface of the files, where the package calls it by its address
-  pub resolved_interface : (t : ℕ) (o : Ordered) (i : Interface) → slice_get (os ++ all_inside ws) t ≡ Some o → slice_get h.own_interfaces t ≡ Some i → slice_get interfaces (length ss + t) ≡ Some (address o.item) → IsItem files o → is_world o.item ≡ false → owner_of p (owner.Interface (length ss + t)) ≡ Some (address o.item) → Has (owner.Interface (length ss + t)) (address o.item)
+  pub resolved_interface : (t : ℕ) (o : Ordered) (i : Interface) → slice_get (os ++ all_inside ws) t ≡ Some o → slice_get h.interfaces.1 t ≡ Some i → slice_get interfaces (length ss + t) ≡ Some (address o.item) → IsItem files o → is_world o.item ≡ false → owner_of p (owner.Interface (length ss + t)) ≡ Some (address o.item) → Has (owner.Interface (length ss + t)) (address o.item)
   resolved_interface t o i at there stands it own called =
-      let is = h.are_interfaces.each t o i at there in
+      let is = h.interfaces.4.each t o i at there in
       let here = own_interface t i there in
       record {
         scope = laid_scope (owner.Interface (length ss + t)) o i.types is.functions.0 (interface_functions i) [];

@@ -20,11 +20,10 @@ use Rattle.wit_syntax.proofs.Names.{lookup-place}
 use Rattle.wit_arena.specs.Expr.{Exprs, expr_of, name_exprs}
 use Rattle.wit_arena.specs.Meet.{Key, Def, Whole, Meeting, keys, Meets, Decls}
 use Rattle.wit_arena.specs.Package.{names_of}
-use Rattle.wit_arena.specs.Resolving.{Names, AreNames, all_met, decls_of, env_of, met}
-use Rattle.wit_arena.specs.Whole.{Ordered, OrderedWorld, Turned, addresses, all_inside, all_meetings, all_turns, declarations, interface_addresses, meetings, owner_at, taking_meeting, turn_meetings, world_addresses, IsPackage}
+use Rattle.wit_arena.specs.Resolving.{Names, AreNames, all_met, env_of, met}
+use Rattle.wit_arena.specs.Whole.{Ordered, OrderedWorld, Turned, addresses, all_inside, all_meetings, all_turns, declarations, interface_addresses, owner_at, taking_meeting, turn_meetings, world_addresses, IsPackage}
 use Rattle.wit_arena.proofs.Defining.{name_met_in}
 use Rattle.wit_arena.proofs.Done.{met_in_turn}
-use Rattle.wit_arena.proofs.FirstMeetings.{meets_of_first}
 use Rattle.wit_arena.proofs.KnownScopes.{IsKnown}
 use Rattle.wit_arena.proofs.KnownTurns.{scopes, known_at, interface_cell, turn_part}
 use Rattle.wit_arena.proofs.LegalScopes.{uses_lead}
@@ -33,6 +32,7 @@ use Rattle.wit_arena.proofs.Standing.{DoneScope, IsNameOf, IsInSignatureOf, IsWh
 use Rattle.wit_arena.proofs.Takings.{taking_key, taking-from, taking-equal, taken_from, taken_has}
 use Rattle.wit_arena.proofs.Using.{lookup-listed}
 use Rattle.wit_arena.proofs.Wholes.{whole_in_names, whole_in_turn}
+use Rattle.wit_arena.proofs.Turns.{meetings}
 
 -- a name that is met in what is taken is taken
 taking_of : (ts : List Taking) (s : Address) (name : List ℕ) → Has (keys (map taking_meeting ts)) (Def s name) → (j : ℕ) × (t : Taking) × (slice_get ts j ≡ Some t) × (taking_key t ≡ Def s name)
@@ -84,7 +84,7 @@ module _ (files : List PackageFile) (legal : IsLegal files) (p : UnresolvedPacka
   known = known_at files legal p h
 
   pub meets : Meets [] written h.met
-  meets = meets_of_first written h.met h.first.first
+  meets = h.first.first
 
   -- what is written is taken, or stands in a scope
   written_either : (k : Key) → Has (keys written) k → Has (keys (map taking_meeting (takings files))) k ⊎ Has (keys (meetings (all_turns os ws))) k
@@ -171,7 +171,7 @@ module _ (files : List PackageFile) (legal : IsLegal files) (p : UnresolvedPacka
     meets = meets;
     meeting = h.meeting;
     each = λ t c at. (known t c at).done;
-    own = λ t c at. ap (λ (o : TypeOwner). decls_of o c.address (scope files c.address)) (known t c at).whose;
+    own = λ t c at. ap (λ (o : TypeOwner). (scope files c.address, o)) (known t c at).whose;
     stand = stand;
     before = before;
     made = λ t c at. (known t c at).made;

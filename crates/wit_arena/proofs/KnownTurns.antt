@@ -20,12 +20,13 @@ use Rattle.wit_syntax.proofs.Legal.{functions_items}
 use Rattle.wit_syntax.proofs.Lists.{at_front, at_back, map_at, flat_map_at, flat_map_has}
 use Rattle.wit_syntax.proofs.Turns.{at_part}
 use Rattle.wit_arena.specs.Meet.{Key, keys}
-use Rattle.wit_arena.specs.Whole.{Ordered, OrderedWorld, Turned, addresses, all_inside, all_turns, function_turn, functions_at, interface_addresses, names_turn, ordered_names, side_turns, turned, world_addresses, world_turns, IsPackage}
+use Rattle.wit_arena.specs.Whole.{Ordered, OrderedWorld, Turned, addresses, all_inside, all_turns, functions_at, interface_addresses, ordered_names, side_turns, turned, world_addresses, world_turns, IsPackage}
 use Rattle.wit_arena.proofs.Faithful.{IsOwnerOf}
 use Rattle.wit_arena.proofs.KnownItems.{IsItem, functions_are, inside_item, interface_item, turn_is, world_item}
 use Rattle.wit_arena.proofs.KnownOwners.{has_interface, has_world}
 use Rattle.wit_arena.proofs.KnownScopes.{IsKnown}
 use Rattle.wit_arena.proofs.Standing.{DoneScope}
+use Rattle.wit_arena.proofs.Turns.{names_turn, function_turn}
 
 -- an element for each of a list, so that this holds of the two and of their place
 pub record AreChosen {X Y : Type 0} (P : ℕ → X → Y → Type 0) (xs : List X) : Type 0 where

@@ -15,12 +15,12 @@ use Rattle.wit_syntax.specs.Trees.{scope}
 use Rattle.wit_syntax.specs.Repeats.{AllDiffer}
 use Rattle.wit_syntax.specs.Scope.{rows_of, in_turn, local_names, AreDistinct}
 use Rattle.wit_arena.specs.Meet.{Key, Meeting, Decls}
-use Rattle.wit_arena.specs.Whole.{Ordered, Turned, item_of, ordered_names, turned, turn_meetings, addresses, meetings, taking_meeting, all_meetings, turn_handles, AreRequired}
+use Rattle.wit_arena.specs.Whole.{Ordered, Turned, ordered_names, turned, turn_meetings, addresses, taking_meeting, all_meetings, turn_handles, AreRequired}
 use Rattle.wit_functions.specs.declared.function.Function.{Function}
 use Rattle.wit_syntax.specs.Function.{functions}
 use Rattle.wit_syntax.specs.Sides.{FunctionKey}
 use Rattle.std.specs.List.{flat_map}
-use Rattle.wit_arena.specs.Resolving.{Names, Cell, Required, Defines, decls_of}
+use Rattle.wit_arena.specs.Resolving.{Names, Cell, Required, Defines}
 use Rattle.wit_arena.specs.Resolved.{AddsBehind, AddsEach}
 use Rattle.wit_syntax.proofs.Lists.{at_either, at_seam, at_within, map_at, map_map}
 use Rattle.wit_syntax.proofs.Repeated.{differ_at}
@@ -30,6 +30,7 @@ use Rattle.wit_arena.proofs.Required.{required_none, required_append}
 use Rattle.wit_arena.proofs.Done.{AddsDone, done_more}
 use Rattle.wit_arena.proofs.FreeNames.{free_of, AreStated}
 use Rattle.wit_arena.proofs.Interfaces.{AreScopes, scope_of, functions_of}
+use Rattle.wit_arena.proofs.Turns.{item_of, meetings}
 
 -- The first of some items, in their orders, are these scopes, and these are their entries in an arena: `Owner` is whom the package
 -- knows by a place in it, `Says` is what holds of an entry, `entry_cell` is the scope that it is, and `Makes` is what it makes of the
@@ -225,7 +226,7 @@ module _ {X : Type 0} (Owner : ℕ → TypeOwner) (Says : Ordered → X → Type
     pub is_cell : map (λ p. p.0) types ≡ local_names (in_turn (scope_names w) order) → record { address = address w; types = types; functions = free_of stated } ≡ entry_cell added
     pub makes : map (λ p. p.0) types ≡ local_names (in_turn (scope_names w) order) → Makes (record { item = w; order = order }) (laid_scope (Owner (length xs)) (record { item = w; order = order }) types made stated rs) added
 
-  module _ (items : AreScopes files ws) (own : (t : ℕ) (w : Item) → slice_get ws t ≡ Some w → decls (address w) ≡ decls_of (Owner t) (address w) (scope files (address w))) (apart : (t : ℕ) (w : Item) → slice_get ws t ≡ Some w → (k : ℕ) (c : DoneScope) → slice_get first k ≡ Some c → c.address ≡ address w → ⊥) where
+  module _ (items : AreScopes files ws) (own : (t : ℕ) (w : Item) → slice_get ws t ≡ Some w → decls (address w) ≡ (scope files (address w), (Owner t))) (apart : (t : ℕ) (w : Item) → slice_get ws t ≡ Some w → (k : ℕ) (c : DoneScope) → slice_get first k ≡ Some c → c.address ≡ address w → ⊥) where
     -- one item more
     pub one_done : (us : List Item) (es es' : List TypeDef) (xs xs' : List X) (qs rs : List Required) (w : Item) → slice_get ws (length us) ≡ Some w → (d : Done us es xs qs) → IsNextDone us es es' xs xs' qs rs w d → Done (us ++ w ∷ []) es' xs' (qs ++ rs)
     one_done us es es' xs xs' qs rs w there d a =

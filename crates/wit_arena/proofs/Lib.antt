@@ -1,3 +1,4 @@
+pub mod Turns
 pub mod Primitives
 pub mod Places
 pub mod Meeting
@@ -63,7 +64,6 @@ pub mod Among
 pub mod Packaged
 pub mod Linked
 pub mod Resolved
-pub mod FirstMeetings
 pub mod LegalScopes
 pub mod KnownItems
 pub mod KnownInline

@@ -1,6 +1,6 @@
 -- The list of meetings, as it grows.
 use Rattle.std.proofs.Common.{◌≡◌, ℕ, ◌+◌, List, [], ◌∷◌, ◌++◌, length, take, Some, None, ◌⊎◌, inl, inr, refl, sym, ap, ◌∙◌, subst, arith, length-append}
-use Rattle.std.specs.Prelude.{slice_get}
+use Rattle.std.specs.Prelude.{slice_get, map}
 use Rattle.std.proofs.lemmas.List.{map-append, length-map}
 use Rattle.std.proofs.lemmas.Option.{slice_get_within}
 use Rattle.wit_types.specs.declared.types.TypeDef.{TypeDef}
@@ -10,7 +10,7 @@ use Rattle.wit_values.specs.declared.span.Span.{Span}
 use Rattle.wit_arena.specs.Kind.{kind_of}
 use Rattle.wit_syntax.specs.Address.{Address}
 use Rattle.wit_arena.specs.Expr.{Expr, Prim, Use, Of, Exprs, End, More}
-use Rattle.wit_arena.specs.Meet.{Key, Def, Whole, Meeting, keys, spans, IsMet, Meets, AreAt, Decls, IsEntry, IsKeyed, IsSettled, IsMeeting, settled}
+use Rattle.wit_arena.specs.Meet.{Key, Def, Whole, Meeting, keys, IsMet, Meets, AreAt, Decls, IsEntry, IsKeyed, IsMeeting, settled}
 use Rattle.wit_syntax.specs.Repeats.{AllDiffer}
 use Rattle.wit_arena.specs.Resolving.{met, all_met, Env, AreNames, IsInterned, unnamed}
 use Rattle.wit_syntax.proofs.Lists.{at_seam, at_either, take_front, take_seam, at_within}
@@ -110,18 +110,31 @@ keyed_more {decls} {ks} {es} k e m new it = record {
   ];
 }
 
+-- an unnamed type has the stability that it gets among these entries
+abbrev HasSettled : List TypeDef → Stability → TypeDef → Type 0
+HasSettled es given e = e.name ≡ None → e.stability ≡ settled es given e.kind
+
+-- so it is told by its key
+abbrev pub IsSettled : List TypeDef → Stability → Key → TypeDef → Type 0
+IsSettled es given (Def scope name) e = Unit {0}
+IsSettled es given (Whole form parts) e = e.stability ≡ settled es given e.kind
+
+settled_by : (decls : Decls) (ks : List Key) (es : List TypeDef) (given : Stability) (k : Key) (e : TypeDef) → IsEntry decls ks k e → IsSettled es given k e → HasSettled es given e
+settled_by decls ks es given (Def s name) e it is none = absurd (let named = it.4 in let f : ⊥ = cc in f)
+settled_by decls ks es given (Whole form parts) e it is none = is
+
 -- where each entry is settled, one more is among those before it
-settled_more : (ms : List Meeting) (es : List TypeDef) (m : Meeting) (e : TypeDef) → length es ≡ length ms → ((i : ℕ) (x : Meeting) (f : TypeDef) → slice_get ms i ≡ Some x → slice_get es i ≡ Some f → IsSettled (take i es) x.given x.key f) → IsSettled es m.given m.key e → (i : ℕ) (x : Meeting) (f : TypeDef) → slice_get (ms ++ m ∷ []) i ≡ Some x → slice_get (es ++ e ∷ []) i ≡ Some f → IsSettled (take i (es ++ e ∷ [])) x.given x.key f
+settled_more : (ms : List Meeting) (es : List TypeDef) (m : Meeting) (e : TypeDef) → length es ≡ length ms → ((i : ℕ) (x : Meeting) (f : TypeDef) → slice_get ms i ≡ Some x → slice_get es i ≡ Some f → HasSettled (take i es) x.given f) → HasSettled es m.given e → (i : ℕ) (x : Meeting) (f : TypeDef) → slice_get (ms ++ m ∷ []) i ≡ Some x → slice_get (es ++ e ∷ []) i ≡ Some f → HasSettled (take i (es ++ e ∷ [])) x.given f
 settled_more ms es m e count each it i x f met entry = elim (at_either ms m i x met) [
   | inl oldm ↦ (
       let lt = slice_get_within ms i x oldm in
       elim (at_either es e i f entry) [
-        | inl olde ↦ subst (λ front. IsSettled front x.given x.key f) (sym (take_front es (e ∷ []) i (omega arith))) (each i x f oldm olde)
+        | inl olde ↦ subst (λ front. HasSettled front x.given f) (sym (take_front es (e ∷ []) i (omega arith))) (each i x f oldm olde)
         | inr newe ↦ absurd (let at = newe.0 in let f : ⊥ = omega arith in f)
       ])
   | inr newm ↦ elim (at_either es e i f entry) [
     | inl olde ↦ absurd (let lt = slice_get_within es i f olde in let at = newm.0 in let f : ⊥ = omega arith in f)
-    | inr newe ↦ rw (newe.0, newm.1, newe.1) (subst (λ front. IsSettled front m.given m.key e) (sym (take_seam es (e ∷ []))) it)
+    | inr newe ↦ subst (λ (g : TypeDef). HasSettled (take i (es ++ e ∷ [])) x.given g) (sym newe.1) (subst (λ (y : Meeting). HasSettled (take i (es ++ e ∷ [])) y.given e) (sym newm.1) (subst (λ (n : ℕ). HasSettled (take n (es ++ e ∷ [])) m.given e) (sym newe.0) (subst (λ front. HasSettled front m.given e) (sym (take_seam es (e ∷ []))) it)))
   ]
 ]
 
@@ -129,8 +142,8 @@ settled_more ms es m e count each it i x f met entry = elim (at_either ms m i x 
 pub meeting_more : {decls : Decls} {ms : List Meeting} {es : List TypeDef} (m : Meeting) (e : TypeDef) → IsMeeting decls ms es → (IsMet (keys ms) m.key → ⊥) → IsEntry decls (keys ms) m.key e → e.span ≡ m.span → IsSettled es m.given m.key e → IsMeeting decls (ms ++ m ∷ []) (es ++ e ∷ [])
 meeting_more {decls} {ms} {es} m e meeting new it here settled = record {
   keyed = subst (λ ks. IsKeyed decls ks (es ++ e ∷ [])) (sym (keys-append ms (m ∷ []))) (keyed_more m.key e meeting.keyed new it);
-  spans = map-append (λ (e : TypeDef). e.span) es (e ∷ []) ∙ ap (λ ss. ss ++ e.span ∷ []) meeting.spans ∙ ap (λ s. spans ms ++ s ∷ []) here ∙ sym (map-append (λ (m : Meeting). m.span) ms (m ∷ []));
-  settled = settled_more ms es m e (meeting.keyed.count ∙ length-map ms (λ (m : Meeting). m.key)) meeting.settled settled;
+  spans = map-append (λ (e : TypeDef). e.span) es (e ∷ []) ∙ ap (λ ss. ss ++ e.span ∷ []) meeting.spans ∙ ap (λ s. map (λ (m : Meeting). m.span) ms ++ s ∷ []) here ∙ sym (map-append (λ (m : Meeting). m.span) ms (m ∷ []));
+  settled = settled_more ms es m e (meeting.keyed.count ∙ length-map ms (λ (m : Meeting). m.key)) meeting.settled (settled_by decls (keys ms) es m.given m.key e it settled);
 }
 
 -- the unnamed type of a form over parts
@@ -144,10 +157,10 @@ pub once_of : {decls : Decls} {ks : List Key} {es : List TypeDef} → IsKeyed de
 once_of m = m.once
 
 found_key : (decls : Decls) (n : ℕ) (ks : List Key) (k : Key) (parts : Exprs) (e : TypeDef) → IsEntry decls (take n ks) k e → e.name ≡ None → AreAt ks parts (kind_of e.kind).parts → k ≡ Whole (kind_of e.kind).form parts
-found_key decls n ks (Def s name) parts e h none at = absurd (let wrong = h.name in let f : ⊥ = cc in f)
+found_key decls n ks (Def s name) parts e h none at = absurd (let wrong = h.4 in let f : ⊥ = cc in f)
 found_key decls n ks (Whole form parts') parts e h none at =
-    let same = all_at_injective ks parts' parts (kind_of e.kind).parts (all_at_untaken n ks parts' (kind_of e.kind).parts h.parts) at in
-    ap (λ f. Whole f parts') (sym h.form) ∙ ap (Whole (kind_of e.kind).form) same
+    let same = all_at_injective ks parts' parts (kind_of e.kind).parts (all_at_untaken n ks parts' (kind_of e.kind).parts h.3) at in
+    ap (λ f. Whole f parts') (sym h.2) ∙ ap (Whole (kind_of e.kind).form) same
 
 -- this kind alone has its form and parts
 pub record IsOnly (what : TypeDefKind) : Type 0 where
@@ -175,12 +188,12 @@ meet_whole decls ms old new kind given span parts i only m at interned = elim in
       let lt = slice_get_within (keys ms) was.0 key was.1 in
       let e = at_within old was.0 (omega arith) in
       let it = keyed.each was.0 key e.0 was.1 e.1 in
-      let tys = all_at_functional (keys ms) (once_of keyed) parts (kind_of e.0.kind).parts (kind_of kind).parts (all_at_untaken was.0 (keys ms) parts (kind_of e.0.kind).parts it.parts) at in
-      added.2 was.0 e.0 (record { is = e.1 }) (record { name = it.name; kind = only.same e.0.kind it.form tys })) in
+      let tys = all_at_functional (keys ms) (once_of keyed) parts (kind_of e.0.kind).parts (kind_of kind).parts (all_at_untaken was.0 (keys ms) parts (kind_of e.0.kind).parts it.3) at in
+      added.2 was.0 e.0 (record { is = e.1 }) (record { name = it.0; kind = only.same e.0.kind it.2 tys })) in
       record {
         now = ms ++ record { key = key; span = span; given = given } ∷ [];
         meets = inr (fresh, refl);
-        meeting = subst (IsMeeting decls (ms ++ record { key = key; span = span; given = given } ∷ [])) (sym added.0) (meeting_more (record { key = key; span = span; given = given }) (unnamed kind (settled old given kind) span) m fresh (record { name = refl; owner = refl; form = refl; parts = at; docs = refl; external_id = refl }) refl refl);
+        meeting = subst (IsMeeting decls (ms ++ record { key = key; span = span; given = given } ∷ [])) (sym added.0) (meeting_more (record { key = key; span = span; given = given }) (unnamed kind (settled old given kind) span) m fresh (refl, refl, refl, at, refl, refl) refl refl);
         at = rw (added.1, keyed.count) (ap (λ l. slice_get l (length (keys ms))) (keys-append ms (record { key = key; span = span; given = given } ∷ [])) ∙ at_seam (keys ms) key);
       })
 ]

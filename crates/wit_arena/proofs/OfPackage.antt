@@ -19,12 +19,13 @@ use Rattle.wit_syntax.specs.Source.{address, first_takings}
 use Rattle.wit_syntax.proofs.Lists.{at_within}
 use Rattle.wit_arena.specs.Faithful.{IsFaithful, HasArena}
 use Rattle.wit_arena.specs.Package.{owner_of, named_interface, named_world}
-use Rattle.wit_arena.specs.Whole.{Ordered, OrderedWorld, addresses, all_inside, all_turns, interface_addresses, meetings, world_addresses, IsPackage}
+use Rattle.wit_arena.specs.Whole.{Ordered, OrderedWorld, addresses, all_inside, all_turns, interface_addresses, world_addresses, IsPackage}
 use Rattle.wit_arena.proofs.Faithful.{IsOwnerOf, AreOwners, name_at, type_at, faithful}
 use Rattle.wit_arena.proofs.KnownStanding.{decls, written, meets, wholes, stands}
 use Rattle.wit_arena.proofs.KnownTurns.{scopes, known_at, interface_cell, world_cell}
 use Rattle.wit_arena.proofs.Standing.{DoneScope}
 use Rattle.wit_arena.proofs.Unknowns.{takings_front}
+use Rattle.wit_arena.proofs.Turns.{meetings}
 
 module _ (files : List PackageFile) (legal : IsLegal files) (p : UnresolvedPackage) (h : IsPackage files p) where
   abbrev os : List Ordered
@@ -45,22 +46,22 @@ module _ (files : List PackageFile) (legal : IsLegal files) (p : UnresolvedPacka
   -- each interface of the arena has an address, and so has each world
   interface_count : length p.interfaces ≡ length interfaces
   interface_count =
-      let here = ap length h.interface_arena ∙ length-append h.foreign_front h.own_interfaces in
+      let here = ap length h.interfaces.2 ∙ length-append h.interfaces.0 h.interfaces.1 in
       let there = length-append (map visited (foreign_interfaces files)) (addresses (os ++ all_inside ws)) in
       let front = length-map (foreign_interfaces files) visited in
       let own = length-map (os ++ all_inside ws) (λ (o : Ordered). address o.item) in
-      let first = h.are_foreign_interfaces.count in
-      let rest = h.are_interfaces.count in
+      let first = h.interfaces.3.count in
+      let rest = h.interfaces.4.count in
       omega (arith, here, there, front, own, first, rest)
 
   world_count : length p.worlds ≡ length worlds
   world_count =
-      let here = ap length h.world_arena ∙ length-append h.worlds_front h.own_worlds in
+      let here = ap length h.worlds.2 ∙ length-append h.worlds.0 h.worlds.1 in
       let there = length-append (map visited (foreign_worlds files)) (map (λ (w : OrderedWorld). address w.own.item) ws) in
       let front = length-map (foreign_worlds files) visited in
       let own = length-map ws (λ (w : OrderedWorld). address w.own.item) in
-      let first = h.are_foreign_worlds.count in
-      let rest = h.are_worlds.count in
+      let first = h.worlds.3.count in
+      let rest = h.worlds.4.count in
       omega (arith, here, there, front, own, first, rest)
 
   one_address : (s t : Address) → Some s ≡ Some t → s ≡ t
@@ -114,7 +115,7 @@ module _ (files : List PackageFile) (legal : IsLegal files) (p : UnresolvedPacka
 
   -- and it is faithful to them
   faithful_to : IsFaithful files p
-  faithful_to = faithful files (decls files legal p h) (written files legal p h) cs p (stands files legal p h) owners (wholes files legal p h) apart (takings_front files (meetings (all_turns os ws)) h.met (meets files legal p h)) (ap length h.others.unknown ∙ length-map (first_takings files) (λ t. t.id.span))
+  faithful_to = faithful files (decls files legal p h) (written files legal p h) cs p (stands files legal p h) owners (wholes files legal p h) apart (takings_front files (meetings (all_turns os ws)) h.met (meets files legal p h)) (ap length h.others.2 ∙ length-map (first_takings files) (λ t. t.id.span))
 
 pub arena_of_package : (files : List PackageFile) (p : UnresolvedPackage) → IsLegal files → IsPackage files p → HasArena files p
 arena_of_package files p legal is = arena files legal p is

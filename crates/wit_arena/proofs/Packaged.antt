@@ -30,7 +30,7 @@ use Rattle.wit_syntax.specs.Scope.{includes, item_rows, rows_of, in_order, inter
 use Rattle.wit_syntax.specs.Broken.{headers, last_header}
 use Rattle.wit_arena.specs.Package.{world_types}
 use Rattle.wit_arena.specs.OneByOne.{OneByOne}
-use Rattle.wit_arena.specs.Whole.{Ordered, OrderedWorld, AreOrdered, own_item, Turned, item_of, ordered_names, turned, world_turns, all_turns, all_inside, turn_handles, AreRequired, all_meetings, type_imports, addresses, interface_addresses, world_addresses, declarations, HasTypes, AreIncludes, HasSides, foreign_turned, NamesOthers, first_docs, IsPackage, IsResolvedInterface, IsResolvedWorld, IsForeignInterface, AreFirstMeetings}
+use Rattle.wit_arena.specs.Whole.{Ordered, OrderedWorld, AreOrdered, Turned, ordered_names, turned, world_turns, all_turns, all_inside, turn_handles, AreRequired, all_meetings, type_imports, addresses, interface_addresses, world_addresses, declarations, HasTypes, AreIncludes, HasSides, NamesOthers, first_docs, IsPackage, IsResolvedInterface, IsResolvedWorld, IsForeignInterface, AreFirstMeetings}
 use Rattle.wit_arena.specs.Resolving.{Names, Required, cell}
 use Rattle.wit_arena.specs.Resolved.{WorldArenas, AddsForeign}
 use Rattle.wit_syntax.proofs.Lists.{at_front, at_back, map_map}
@@ -43,12 +43,8 @@ use Rattle.wit_arena.proofs.Inside.{IsInside, inside_at, inside_count}
 use Rattle.wit_arena.proofs.DoneWorlds.{world_cell, AreWorldsDone, own_order, scopes_of, all_within}
 use Rattle.wit_arena.proofs.Required.{both_parts, required_append}
 use Rattle.wit_arena.proofs.Stated.{has_types}
-use Rattle.wit_arena.proofs.FirstMeetings.{first_of_meets}
 use Rattle.wit_arena.proofs.Among.{types_of_cell, front_interface_at, world_scope_among, inside_scope_among, inside_entry}
-
--- an interface of another package over other keys
-foreign_interface_over : {files : List PackageFile} {ks more : List Key} (v : ForeignVisit) (i : Interface) → IsForeignInterface files ks v i → HasTypes more (foreign_turned files v) i.types → IsForeignInterface files more v i
-foreign_interface_over v i h types = record { says = h.says; types = types; functions = h.functions }
+use Rattle.wit_arena.proofs.Turns.{item_of, own_item, foreign_turned}
 
 module _ (files : List PackageFile) (is ws : List Item) (start middle : List TypeDef) (front xs : List Interface) (wfront : List World) (foreign : AddsForeign files start front wfront) (irs wrs : List Required) (p : UnresolvedPackage) (a : WorldArenas) (d : InterfacesDone files is ws front is middle xs irs) (e : AreWorldsDone files is ws wfront d.ordered (front_scopes files front ++ d.scopes) ws p.types a wrs) (interface_arena : p.interfaces ≡ (front ++ xs) ++ a.inside) (world_arena : p.worlds ≡ a.worlds) (others : NamesOthers files p) where
   abbrev ahead : List DoneScope
@@ -134,16 +130,12 @@ module _ (files : List PackageFile) (is ws : List Item) (start middle : List Typ
       record {
         functions = c.0.made;
         are = functions_made k.0 c.0 own k.1 c.2;
-        imported = makes.imported;
-        imports = makes.imports ∙ ap (λ (l : List ScopeName). settled (includes own.item) (type_imports l c.0.types ++ makes.imported)) names ∙ ap (λ (l : Names). settled (includes own.item) (type_imports (ordered_names own) l ++ makes.imported)) types;
-        exported = makes.exported;
-        exports = makes.exports;
-        are_imported = subst (λ (l : List Address). AreSideItems l own.item.top Imported (side_items own.item) c.0.made (addresses o.inside) makes.imported) same_interfaces (subst (λ (l : List Address). AreSideItems all_interfaces own.item.top Imported (side_items own.item) c.0.made l makes.imported) inside makes.are_imported);
-        are_exported = subst (λ (l : List Address). AreSideItems l own.item.top Exported (side_items own.item) c.0.made (addresses o.inside) makes.exported) same_interfaces (subst (λ (l : List Address). AreSideItems all_interfaces own.item.top Exported (side_items own.item) c.0.made l makes.exported) inside makes.are_exported);
+        imports = (makes.imported, subst (λ (l : List Address). AreSideItems l own.item.top Imported (side_items own.item) c.0.made (addresses o.inside) makes.imported) same_interfaces (subst (λ (l : List Address). AreSideItems all_interfaces own.item.top Imported (side_items own.item) c.0.made l makes.imported) inside makes.are_imported), makes.imports ∙ ap (λ (l : List ScopeName). settled (includes own.item) (type_imports l c.0.types ++ makes.imported)) names ∙ ap (λ (l : Names). settled (includes own.item) (type_imports (ordered_names own) l ++ makes.imported)) types);
+        exports = (makes.exported, subst (λ (l : List Address). AreSideItems l own.item.top Exported (side_items own.item) c.0.made (addresses o.inside) makes.exported) same_interfaces (subst (λ (l : List Address). AreSideItems all_interfaces own.item.top Exported (side_items own.item) c.0.made l makes.exported) inside makes.are_exported), makes.exports);
       }
 
   foreign_interface_is : (t : ℕ) (v : ForeignVisit) (i : Interface) → slice_get (foreign_interfaces files) t ≡ Some v → slice_get front t ≡ Some i → IsForeignInterface files met_keys v i
-  foreign_interface_is t v i at there = foreign_interface_over v i (foreign.interfaces.each t v i at there) (types_at t (interface_scope files t v i) (foreign_turned files v) i.types (front_interface_at files is ws middle p.types front xs wfront irs wrs a d e t v i at there) refl refl)
+  foreign_interface_is t v i at there = let h = foreign.interfaces.each t v i at there in (h.0, types_at t (interface_scope files t v i) (foreign_turned files v) i.types (front_interface_at files is ws middle p.types front xs wfront irs wrs a d e t v i at there) refl refl, h.2)
 
   -- an entry is that of a declared interface, or of one that is written in a world
   entry_either : (t : ℕ) (o : Ordered) (i : Interface) → slice_get (d.ordered ++ all_inside e.ordered) t ≡ Some o → slice_get (xs ++ a.inside) t ≡ Some i → ((slice_get d.ordered t ≡ Some o) × (slice_get xs t ≡ Some i)) ⊎ ((k : ℕ) × (c : DoneScope) × (slice_get (all_within e.scopes) k ≡ Some c) × IsInside ((length ss + length is) + k) o c i)
@@ -214,7 +206,7 @@ module _ (files : List PackageFile) (is ws : List Item) (start middle : List Typ
     interfaces = d.ordered;
     worlds = e.ordered;
     ordered = orders places order in_order_interfaces in_order_worlds;
-    first = first_of_meets written e.done.met e.done.meets;
+    first = e.done.meets;
   }
 
   pub package_of : p.required_resource_types ≡ irs ++ wrs → (header : Header) (places : List ℕ) → IsOrder (item_rows files) places → is ≡ interfaces_of (in_order (all_items files) places) → ws ≡ worlds_of (in_order (all_items files) places) → last_header files ≡ Some header → p.name.namespace ≡ header.namespace.name.now → p.name.name ≡ header.name.name.now → option_map release_parts p.name.version ≡ option_map parts_of header.version → p.name_span ≡ header.span → p.docs ≡ first_docs (headers files) → IsPackage files p
@@ -230,15 +222,7 @@ module _ (files : List PackageFile) (is ws : List Item) (start middle : List Typ
     met = e.done.met;
     first = first_met places order in_order_interfaces in_order_worlds;
     meeting = met_addresses;
-    foreign_front = front;
-    own_interfaces = xs ++ a.inside;
-    interface_arena = interface_arena ∙ append_assoc front xs a.inside;
-    are_foreign_interfaces = record { count = foreign.interfaces.count; each = foreign_interface_is };
-    are_interfaces = interfaces_are;
-    worlds_front = wfront;
-    own_worlds = ys;
-    world_arena = world_arena ∙ e.arena;
-    are_foreign_worlds = foreign.worlds;
-    are_worlds = worlds_are;
+    interfaces = (front, xs ++ a.inside, interface_arena ∙ append_assoc front xs a.inside, record { count = foreign.interfaces.count; each = foreign_interface_is }, interfaces_are);
+    worlds = (wfront, ys, world_arena ∙ e.arena, foreign.worlds, worlds_are);
     required = subst (AreRequired files met_keys (flat_map turn_handles (all_turns d.ordered e.ordered))) (sym requires) required_of;
   }

@@ -79,7 +79,7 @@ module _ (files : List PackageFile) (decls : Decls) (written : List Meeting) (cs
       let k = Whole form (exprs_of s parts) in
       let e = entry_of_key decls ks p.types d.meeting.keyed i k there in
       let it = d.meeting.keyed.each i k e.0 there e.1 in
-      subst (AreAt ks (exprs_of s parts)) (sym (type_parts p i e.0 e.1)) (all_at_untaken i ks (exprs_of s parts) (kind_of e.0.kind).parts it.parts)
+      subst (AreAt ks (exprs_of s parts)) (sym (type_parts p i e.0 e.1)) (all_at_untaken i ks (exprs_of s parts) (kind_of e.0.kind).parts it.3)
 
   whole_parts : (s : Address) (span : Span) (form : Form) (parts : Shapes) (t : Ty) → IsAt ks (expr_of s (shape.Of span form parts)) t → AreAt ks (exprs_of s parts) (node_parts (package_node p t))
   whole_parts s span form parts t h = subst (λ (u : Ty). AreAt ks (exprs_of s parts) (node_parts (package_node p u))) (sym h.1) (whole_has_parts s form parts h.0 h.2)

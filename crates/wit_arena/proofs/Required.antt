@@ -45,29 +45,31 @@ both_parts us vs xs ys count t a x at there = elim (at_split us vs t a at) [
 
 -- of no names nothing is required
 pub required_none : (files : List PackageFile) (ks : List Key) → AreRequired files ks [] []
-required_none files ks = record { each = []; count = refl; says = λ k h r at there. absurd (let f : ⊥ = cc in f); all = refl }
+required_none files ks = ([], record { count = refl; each = λ k h r at there. absurd (let f : ⊥ = cc in f) }, refl)
 
 -- what one name more requires stands in front
 pub required_more : (files : List PackageFile) (ks : List Key) (h : Address × Id) (r : Option Required) (hs : List (Address × Id)) (rs : List Required) → HandleRequires files ks h r → AreRequired files ks hs rs → AreRequired files ks (h ∷ hs) (cons_option r rs)
-required_more files ks h r hs rs own rest = record { each = r ∷ rest.each; count = ap suc rest.count; says = says; all = ap (cons_option r) rest.all }
+required_more files ks h r hs rs own rest = (r ∷ rest.0, record { count = ap suc rest.1.count; each = says }, ap (cons_option r) rest.2)
   where
-    says : (k : ℕ) (x : Address × Id) (q : Option Required) → slice_get (h ∷ hs) k ≡ Some x → slice_get (r ∷ rest.each) k ≡ Some q → HandleRequires files ks x q
+    says : (k : ℕ) (x : Address × Id) (q : Option Required) → slice_get (h ∷ hs) k ≡ Some x → slice_get (r ∷ rest.0) k ≡ Some q → HandleRequires files ks x q
     says zero x q at there =
         let name : h ≡ x = cc in
         let same : r ≡ q = cc in
         subst (λ (y : Address × Id). HandleRequires files ks y q) name (subst (HandleRequires files ks h) same own)
-    says (suc k) x q at there = rest.says k x q at there
+    says (suc k) x q at there = rest.1.each k x q at there
 
 pub required_append : (files : List PackageFile) (ks : List Key) (hs more : List (Address × Id)) (rs new : List Required) → AreRequired files ks hs rs → AreRequired files ks more new → AreRequired files ks (hs ++ more) (rs ++ new)
-required_append files ks hs more rs new h k = record {
-  each = h.each ++ k.each;
-  count = length-append h.each k.each ∙ ap (λ n. n + length k.each) h.count ∙ ap (λ n. length hs + n) k.count ∙ sym (length-append hs more);
-  says = λ i x r at there. elim (both_parts hs more h.each k.each h.count i x r at there) [
-    | inl front ↦ h.says i x r front.0 front.1
-    | inr behind ↦ k.says behind.0 x r behind.1 behind.2
-  ];
-  all = ap (λ (l : List Required). l ++ new) h.all ∙ ap (λ (l : List Required). filter_map (λ r. r) h.each ++ l) k.all ∙ sym (filter_map-append (λ (r : Option Required). r) h.each k.each);
-}
+required_append files ks hs more rs new h k = (
+  h.0 ++ k.0,
+  record {
+    count = length-append h.0 k.0 ∙ ap (λ n. n + length k.0) h.1.count ∙ ap (λ n. length hs + n) k.1.count ∙ sym (length-append hs more);
+    each = λ i x r at there. elim (both_parts hs more h.0 k.0 h.1.count i x r at there) [
+      | inl front ↦ h.1.each i x r front.0 front.1
+      | inr behind ↦ k.1.each behind.0 x r behind.1 behind.2
+    ];
+  },
+  ap (λ (l : List Required). l ++ new) h.2 ∙ ap (λ (l : List Required). filter_map (λ (r : Option Required). r) h.0 ++ l) k.2 ∙ sym (filter_map-append (λ (r : Option Required). r) h.0 k.0),
+)
 
 -- in a grown arena, and with more names, they are what they were
 pub ended_more : (env env' : Env) (es more : List TypeDef) (ids : List Id) (rs : List Required) → ((name : List ℕ) (i : ℕ) → env name ≡ Some i → env' name ≡ Some i) → AreEnded env es ids rs → AreEnded env' (es ++ more) ids rs
@@ -77,7 +79,7 @@ ended_more env env' es more (id ∷ ids) rs keep (place, steps, stands, inr far)
 
 -- where more was met, too
 pub required_grown : (files : List PackageFile) {a b : List Key} → Grown a b → (hs : List (Address × Id)) (rs : List Required) → AreRequired files a hs rs → AreRequired files b hs rs
-required_grown files {a} {b} g hs rs h = record { each = h.each; count = h.count; says = λ k x r at there. grown x r (h.says k x r at there); all = h.all }
+required_grown files {a} {b} g hs rs h = (h.0, record { count = h.1.count; each = λ k x r at there. grown x r (h.1.each k x r at there) }, h.2)
   where
     grown : (x : Address × Id) (r : Option Required) → HandleRequires files a x r → HandleRequires files b x r
     grown x None own = own

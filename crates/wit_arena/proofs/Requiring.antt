@@ -11,7 +11,7 @@ use Rattle.wit_syntax.specs.Source.{address}
 use Rattle.wit_syntax.specs.Trees.{scope}
 use Rattle.wit_syntax.proofs.Lists.{at_front, at_back, at_seam}
 use Rattle.wit_arena.specs.Meet.{Meeting, keys, Decls}
-use Rattle.wit_arena.specs.Resolving.{env_of, Required, cell, AreNames, decls_of}
+use Rattle.wit_arena.specs.Resolving.{env_of, Required, cell, AreNames}
 use Rattle.wit_arena.proofs.Added.{decls}
 use Rattle.wit_arena.proofs.Doing.{DoneFunction, AreDoneNames, IsDoing}
 use Rattle.wit_arena.proofs.Standing.{DoneScope, done_address, IsNameOf}
@@ -76,7 +76,7 @@ module _ (files : List PackageFile) (decls : Decls) (written : List Meeting) (fi
     ];
     own = λ t b at. elim (in_both (requiring c rs) c t b at) [
       | inl h ↦ d.own h.0 b h.1
-      | inr is ↦ subst (λ (x : DoneScope). decls x.address ≡ decls_of x.owner x.address (scope files x.address)) (sym is) (d.own (length first) c here_was)
+      | inr is ↦ subst (λ (x : DoneScope). decls x.address ≡ (scope files x.address, x.owner)) (sym is) (d.own (length first) c here_was)
     ];
     stand = λ t b at. elim (in_both (requiring c rs) c t b at) [
       | inl h ↦ d.stand h.0 b h.1

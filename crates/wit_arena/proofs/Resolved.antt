@@ -27,7 +27,7 @@ use Rattle.wit_syntax.specs.Fault.{Fault}
 use Rattle.wit_syntax.specs.Notes.{IsBrokenNotes}
 use Rattle.wit_syntax.specs.Broken.{is_world_at, IsBrokenNames, Headerless, Names, ItemStability, UseNotes, IncludeStability, Use, InterfaceIncluded, MissingName, Scope, Sides, Handle, Setter, IsSetterAlone, IsLegal, headers, last_header}
 use Rattle.wit_syntax.specs.Repeats.{AllDiffer}
-use Rattle.wit_arena.specs.Whole.{own_item, all_turns, all_meetings, AreIncludes, NamesOthers, first_docs, IsPackage}
+use Rattle.wit_arena.specs.Whole.{all_turns, all_meetings, AreIncludes, NamesOthers, first_docs, IsPackage}
 use Rattle.wit_arena.specs.Resolved.{WorldArenas, front_worlds, AddsInterfaces, AddsWorlds, AddsForeign, AreLegalScopes, AreLegalSides, AreUsableUses, AreUsableLinks, AreSoundScopes, IsBrokenItemStability, OwnStability, OfInclude, HaveLegalStability}
 use Rattle.wit_syntax.proofs.Lists.{at_within, flat_map_at, flat_map_has, map_at}
 use Rattle.wit_syntax.proofs.Turns.{at_part}
@@ -53,6 +53,7 @@ use Rattle.wit_arena.proofs.Worlds.{worlds_done}
 use Rattle.wit_arena.proofs.Finished.{are_interfaces, are_worlds, interface_at, world_at}
 use Rattle.wit_arena.proofs.LegalScopes.{distinct_items}
 use Rattle.wit_arena.proofs.Packaged.{package_of}
+use Rattle.wit_arena.proofs.Turns.{own_item}
 
 world_named : (a b : List ℕ) → WorldNamed a ≡ WorldNamed b → a ≡ b
 world_named a b h = cc
@@ -93,7 +94,7 @@ module _ (files : List PackageFile) (ws : List Item) (items : AreItems files ws)
       let count = says.count in
       let lt = slice_get_within (includes w) k.0 k.1 k.2 in
       let i = at_within is k.0 (omega arith) in
-      included_world i.0.id (leads w.top path) ((says.each k.0 k.1 i.0 k.2 i.1).place ∙ ap (λ (x : UsePath). Some (target_scope WorldNamed (leads w.top x))) (sym k.3))
+      included_world i.0.id (leads w.top path) ((says.each k.0 k.1 i.0 k.2 i.1).1 ∙ ap (λ (x : UsePath). Some (target_scope WorldNamed (leads w.top x))) (sym k.3))
 
 module _ (files : List PackageFile) (places : List ℕ) (order : IsOrder (item_rows files) places) (names : (f : Fault) → IsBrokenNames files f → ⊥) (uses : AreUsableUses files (all_items files)) (es middle new : List TypeDef) (front is : List Interface) (wfront : List World) (a : WorldArenas) (irs wrs : List Required) (foreign : AddsForeign files es front wfront) (added : AddsInterfaces (map visited (foreign_interfaces files)) es middle front is irs (interfaces_of (in_order (all_items files) places))) (more : AddsWorlds (map visited (foreign_interfaces files)) (map visited (foreign_worlds files)) is middle new (front_worlds wfront) a wrs (worlds_of (in_order (all_items files) places))) where
   abbrev differ : AllDiffer (map item_name (all_items files))

@@ -25,11 +25,11 @@ use Rattle.wit_syntax.proofs.Lists.{at_front, at_back, at_seam, at_either}
 use Rattle.wit_syntax.proofs.Sides.{functions_imported}
 use Rattle.wit_syntax.proofs.Turns.{at_part}
 use Rattle.wit_arena.specs.Functions.{IsFunction}
-use Rattle.wit_arena.specs.Meet.{Key, Def, Meeting, keys, Meets, Decls, all_name_meetings, all_function_meetings}
+use Rattle.wit_arena.specs.Meet.{Key, Def, Meeting, keys, Meets, Decls, all_function_meetings}
 use Rattle.wit_arena.specs.Package.{interface_functions}
-use Rattle.wit_arena.specs.Resolving.{env_of, Cell, Required, HasFunctions, AddsFunctions, AreEnded, decls_of}
+use Rattle.wit_arena.specs.Resolving.{env_of, Cell, Required, HasFunctions, AddsFunctions, AreEnded}
 use Rattle.wit_arena.specs.Resolved.{AddsInterface, AddsFunction, AddsSides}
-use Rattle.wit_arena.specs.Whole.{Ordered, Turned, item_of, turned, functions_at, function_turn, side_turns, turn_meetings, meetings, turn_handles, AreRequired}
+use Rattle.wit_arena.specs.Whole.{Ordered, Turned, turned, functions_at, side_turns, turn_meetings, turn_handles, AreRequired}
 use Rattle.wit_arena.proofs.Added.{defines_wider}
 use Rattle.wit_arena.proofs.Begun.{done_function, done_function_from, names_doing}
 use Rattle.wit_arena.proofs.Doing.{DoneFunction, done_functions, scope_functions, IsDoing}
@@ -42,6 +42,7 @@ use Rattle.wit_arena.proofs.Required.{in_scope, ended_required, required_none, r
 use Rattle.wit_arena.proofs.Signatures.{function_grown, names_beside, no_name_in_functions}
 use Rattle.wit_arena.proofs.Standing.{DoneScope, turn_of, cell_of, IsTurn}
 use Rattle.wit_arena.proofs.Stating.{stated_placed}
+use Rattle.wit_arena.proofs.Turns.{item_of, function_turn, meetings, all_name_meetings}
 
 module _ (files : List PackageFile) (decls : Decls) (written : List Meeting) (cs : List DoneScope) (gs : List DoneFunction) (es es' : List TypeDef) (d : IsDoing files decls written cs gs es) (t : ℕ) (c : DoneScope) (at_c : slice_get cs t ≡ Some c) (fns : List SourceFunction) (fs : List Function) (adds : AddsFunctions es es' c.address c.types fns fs) where
   abbrev s : Address
@@ -100,7 +101,7 @@ pub record IsFreshInside (files : List PackageFile) (decls : Decls) (cs : List D
   pub fresh : (t : ℕ) (c : DoneScope) → slice_get cs t ≡ Some c → c.address ≡ address i → ⊥
   pub has : scope files (address i) ≡ scope_names i
   pub does : functions_at files (address i) ≡ functions i
-  pub own : decls (address i) ≡ decls_of (owner.Interface place) (address i) (scope files (address i))
+  pub own : decls (address i) ≡ (scope files (address i), (owner.Interface place))
 
 -- what is required in what stands on sides: in the interfaces that are written there, in functions, and in all of it
 pub record AreTold (files : List PackageFile) (ks : List Key) (s : Address) (xs : List SideItem) (turns : List Turned) (scopes : List DoneScope) (own rs : List Required) : Type 0 where

@@ -42,7 +42,7 @@ module _ (decls : Decls) (ks : List Key) (es : List TypeDef) (m : IsKeyed decls 
         let key = Whole form (exprs_of s parts) in
         let e = entry_of_key decls ks es m at.0 key at.2 in
         let it = m.each at.0 key e.0 at.2 e.1 in
-        words_met parts (kind_of e.0.kind).parts (all_at_untaken at.0 ks (exprs_of s parts) (kind_of e.0.kind).parts it.parts) among
+        words_met parts (kind_of e.0.kind).parts (all_at_untaken at.0 ks (exprs_of s parts) (kind_of e.0.kind).parts it.3) among
 
     words_met : (xs : Shapes) (ts : List Ty) → AreAt ks (exprs_of s xs) ts → Contains (all_words xs) id → (j : ℕ) × (slice_get ks j ≡ Some (Def s id.name.now))
     words_met shape.End ts at among = absurd (none_in id among)

@@ -1,5 +1,5 @@
 -- What is met in functions, and the types of functions of the package.
-use Rattle.std.proofs.Common.{◌≡◌, ℕ, zero, suc, List, [], ◌∷◌, ◌++◌, length, map, Option, Some, None, inl, inr, refl, sym, ap, ◌∙◌, subst, length-append, arith}
+use Rattle.std.proofs.Common.{◌≡◌, ℕ, suc, List, [], ◌∷◌, ◌++◌, length, map, Some, inl, inr, refl, sym, ap, ◌∙◌, subst, length-append, arith}
 use Rattle.std.specs.Prelude.{slice_get}
 use Rattle.std.specs.List.{flat_map}
 use Rattle.std.specs.Option.{option_to_list}
@@ -15,7 +15,7 @@ use Rattle.wit_syntax.specs.Form.{Form}
 use Rattle.wit_syntax.specs.Shape.{Shape}
 use Rattle.wit_syntax.specs.Address.{Address}
 use Rattle.wit_syntax.specs.Function.{Role, Freestanding, Method, Static, Constructor, OnSide, SourceParam, SourceFunction, all_params, signature}
-use Rattle.wit_arena.specs.Functions.{IsKind, AreParams, IsResult, IsFunction, AreFunctions}
+use Rattle.wit_arena.specs.Functions.{IsKind, AreParams, IsFunction, AreFunctions}
 use Rattle.wit_arena.specs.Expr.{Exprs, expr_of, exprs_of}
 use Rattle.wit_arena.specs.Meet.{Key, Def, Whole, Meeting, keys, Meets, IsAt, shape_meetings, shapes_meetings, all_function_meetings}
 use Rattle.wit_arena.specs.Package.{function_types}
@@ -89,20 +89,15 @@ kind_grown g s (Static of form) k h = (h.0, h.1, key_grown g h.0 (Def s of.name.
 kind_grown g s (Constructor of) k h = (h.0, h.1, key_grown g h.0 (Def s of.name.now) h.2)
 kind_grown g s (OnSide side id form) k h = h
 
-result_grown : {a b : List Key} → Grown a b → (s : Address) (x : Option Shape) (t : Option Ty) → IsResult a s x t → IsResult b s x t
-result_grown g s None t h = h
-result_grown g s (Some x) None h = h
-result_grown g s (Some x) (Some t) h = at_grown g (expr_of s x) t h
-
 pub function_grown : {a b : List Key} → Grown a b → (s : Address) (fn : SourceFunction) (f : Function) → IsFunction a s fn f → IsFunction b s fn f
 function_grown g s fn f h = record {
   name = h.name;
   kind = kind_grown g s fn.role f.kind h.kind;
   params = record {
     count = h.params.count;
-    each = λ k w p at there. (let it = h.params.each k w p at there in record { name = it.name; span = it.span; type = at_grown g (expr_of s w.shape) p.ty it.type });
+    each = λ k w p at there. (let it = h.params.each k w p at there in (it.0, it.1, at_grown g (expr_of s w.shape) p.ty it.2));
   };
-  result = result_grown g s fn.result f.result h.result;
+  result = record { count = h.result.count; each = λ k x t at there. at_grown g (expr_of s x) t (h.result.each k x t at there) };
   span = h.span;
   notes = h.notes;
 }
@@ -141,27 +136,12 @@ params_typed ks s written ps h = record {
   each = λ k x t at there. (
       let w = map_at (λ (p : SourceParam). p.shape) written k x at in
       let p = map_at (λ (p : Param). p.ty) ps k t there in
-      subst (λ (y : Shape). IsAt ks (expr_of s y) t) w.2 (subst (IsAt ks (expr_of s w.0.shape)) p.2 (h.each k w.0 p.0 w.1 p.1).type));
+      subst (λ (y : Shape). IsAt ks (expr_of s y) t) w.2 (subst (IsAt ks (expr_of s w.0.shape)) p.2 (h.each k w.0 p.0 w.1 p.1).2));
 }
-
-typed_none : (ks : List Key) (s : Address) → AreTyped ks s [] []
-typed_none ks s = record { count = refl; each = λ k x t at there. absurd (let f : ⊥ = cc in f) }
-
-result_typed : (ks : List Key) (s : Address) (x : Option Shape) (t : Option Ty) → IsResult ks s x t → AreTyped ks s (option_to_list x) (option_to_list t)
-result_typed ks s None t h = rw h (typed_none ks s)
-result_typed ks s (Some x) None h = absurd h
-result_typed ks s (Some x) (Some t) h = record { count = refl; each = only }
-  where
-    only : (k : ℕ) (y : Shape) (u : Ty) → slice_get (x ∷ []) k ≡ Some y → slice_get (t ∷ []) k ≡ Some u → IsAt ks (expr_of s y) u
-    only zero y u at there =
-        let one : x ≡ y = cc in
-        let two : t ≡ u = cc in
-        subst (λ (z : Shape). IsAt ks (expr_of s z) u) one (subst (IsAt ks (expr_of s x)) two h)
-    only (suc k) y u at there = absurd (let f : ⊥ = cc in f)
 
 -- the types of a function of the package stand at the places of its signature
 pub function_typed : (ks : List Key) (s : Address) (fn : SourceFunction) (f : Function) → IsFunction ks s fn f → AreTyped ks s (signature fn) (function_types f)
-function_typed ks s fn f h = typed_append ks s (map (λ p. p.shape) (all_params fn)) (option_to_list fn.result) (map (λ (x : Param). x.ty) f.params) (option_to_list f.result) (params_typed ks s (all_params fn) f.params h.params) (result_typed ks s fn.result f.result h.result)
+function_typed ks s fn f h = typed_append ks s (map (λ p. p.shape) (all_params fn)) (option_to_list fn.result) (map (λ (x : Param). x.ty) f.params) (option_to_list f.result) (params_typed ks s (all_params fn) f.params h.params) (record { count = h.result.count; each = h.result.each })
 
 -- each shape has its type
 pub type_of : {ks : List Key} {s : Address} {xs : List Shape} {ts : List Ty} → AreTyped ks s xs ts → (k : ℕ) (x : Shape) → slice_get xs k ≡ Some x → (t : Ty) × (slice_get ts k ≡ Some t)

@@ -16,7 +16,7 @@ use Rattle.wit_syntax.specs.Function.{SourceFunction}
 use Rattle.wit_syntax.specs.Sides.{FunctionKey}
 use Rattle.wit_arena.specs.Functions.{AreFunctions}
 use Rattle.wit_arena.specs.Whole.{Turned, functions_at, turn_handles, AreRequired}
-use Rattle.wit_arena.specs.Resolving.{Names, Cell, Required, env_of, all_met, AreNames, decls_of}
+use Rattle.wit_arena.specs.Resolving.{Names, Cell, Required, env_of, all_met, AreNames}
 use Rattle.wit_syntax.specs.Scope.{AreDistinct, local_names}
 use Rattle.wit_arena.proofs.Meeting.{Has}
 use Rattle.wit_arena.proofs.FreeNames.{free_of, AreStated}
@@ -92,7 +92,7 @@ pub record IsDone (files : List PackageFile) (decls : Decls) (written : List Mee
   pub meets : Meets [] written met
   pub meeting : IsMeeting decls met es
   pub each : (t : ℕ) (c : DoneScope) → slice_get cs t ≡ Some c → IsDoneScope files c
-  pub own : (t : ℕ) (c : DoneScope) → slice_get cs t ≡ Some c → decls c.address ≡ decls_of c.owner c.address (scope files c.address)
+  pub own : (t : ℕ) (c : DoneScope) → slice_get cs t ≡ Some c → decls c.address ≡ (scope files c.address, c.owner)
   pub stand : (t : ℕ) (c : DoneScope) → slice_get cs t ≡ Some c → AreNames (keys met) c.address (env_of c.types)
   pub before : (j : ℕ) (s : Address) (name : List ℕ) → slice_get (keys met) j ≡ Some (Def s name) → IsNameOf cs s name
   pub unique : AllDiffer (map done_address cs)
@@ -105,7 +105,7 @@ pub record IsStanding (files : List PackageFile) (decls : Decls) (written : List
   pub meets : Meets [] written met
   pub meeting : IsMeeting decls met es
   pub each : (t : ℕ) (c : DoneScope) → slice_get cs t ≡ Some c → IsDoneScope files c
-  pub own : (t : ℕ) (c : DoneScope) → slice_get cs t ≡ Some c → decls c.address ≡ decls_of c.owner c.address (scope files c.address)
+  pub own : (t : ℕ) (c : DoneScope) → slice_get cs t ≡ Some c → decls c.address ≡ (scope files c.address, c.owner)
   pub stand : (t : ℕ) (c : DoneScope) → slice_get cs t ≡ Some c → AreNames (keys met) c.address (env_of c.types)
   pub before : (j : ℕ) (s : Address) (name : List ℕ) → slice_get (keys met) j ≡ Some (Def s name) → IsNameOf cs s name
   pub made : (t : ℕ) (c : DoneScope) → slice_get cs t ≡ Some c → AreFunctions (keys met) c.address c.functions c.made

@@ -15,8 +15,8 @@ use Rattle.wit_arena.specs.Kind.{kind_of}
 use Rattle.wit_syntax.specs.Address.{Address}
 use Rattle.wit_syntax.specs.Source.{Item, all_items, item_at, ScopeName, Used, local_name, scope_names, meaning}
 use Rattle.wit_syntax.specs.Trees.{scope}
-use Rattle.wit_arena.specs.Expr.{Use, Exprs, one, name_exprs}
-use Rattle.wit_arena.specs.Meet.{Key, Def, Meeting, keys, AreAt, Decl, Decls, decl_of}
+use Rattle.wit_arena.specs.Expr.{Use, one, name_exprs}
+use Rattle.wit_arena.specs.Meet.{Key, Def, Meeting, keys, AreAt, Decls}
 use Rattle.wit_arena.specs.Whole.{HasTypes}
 use Rattle.wit_syntax.proofs.Lists.{at_within, map_at}
 use Rattle.wit_syntax.proofs.Names.{lookup-at}
@@ -28,6 +28,7 @@ use Rattle.wit_arena.proofs.Interfaces.{scope_at}
 use Rattle.wit_arena.proofs.Shape.{entry_of_key}
 use Rattle.wit_arena.proofs.Depth.{meaning_found}
 use Rattle.wit_arena.proofs.Standing.{DoneScope, turn_of, IsStanding}
+use Rattle.wit_types.specs.declared.types.TypeOwner.{TypeOwner}
 
 -- where a name of a scope stands that is the only part
 used_key : (ks : List Key) (s : Address) (name : List ℕ) (ts : List Ty) → AreAt ks (one (Use s name)) ts → (j : ℕ) × (slice_get ks j ≡ Some (Def s name))
@@ -61,33 +62,22 @@ module _ (files : List PackageFile) (decls : Decls) (written : List Meeting) (cs
   pub entry_of : (id : ℕ) (s : Address) (name : List ℕ) → slice_get ks id ≡ Some (Def s name) → (e : TypeDef) × (slice_get es id ≡ Some e)
   entry_of id s name here = entry_of_key decls ks es d.meeting.keyed id (Def s name) here
 
-  -- it is that of a name of its scope
-  pub decl_at : (t : ℕ) (c : DoneScope) (id : ℕ) (name : List ℕ) (e : TypeDef) → slice_get cs t ≡ Some c → (here : slice_get ks id ≡ Some (Def c.address name)) → (there : slice_get es id ≡ Some e) → (k : ℕ) × (x : ScopeName) × (slice_get (scope files c.address) k ≡ Some x) × (decl_of c.owner c.address x ≡ (d.meeting.keyed.each id (Def c.address name) e here there).decl)
-  decl_at t c id name e at here there =
-      let it = d.meeting.keyed.each id (Def c.address name) e here there in
-      let k = it.among.0 in
-      let x = map_at (decl_of c.owner c.address) (scope files c.address) k it.decl (ap (λ (l : List Decl). slice_get l k) (sym (d.own t c at)) ∙ it.among.1) in
-      (k, x.0, x.1, x.2)
-
   -- it is its scope's
   pub owner_at_name : (t : ℕ) (c : DoneScope) (id : ℕ) (name : List ℕ) (e : TypeDef) → slice_get cs t ≡ Some c → slice_get ks id ≡ Some (Def c.address name) → slice_get es id ≡ Some e → e.owner ≡ c.owner
   owner_at_name t c id name e at here there =
       let it = d.meeting.keyed.each id (Def c.address name) e here there in
-      let x = decl_at t c id name e at here there in
-      it.owner ∙ sym (ap (λ (z : Decl). z.owner) x.3)
+      it.6 ∙ ap (λ (d : List ScopeName × TypeOwner). d.1) (d.own t c at)
 
   -- it has the parts of the name
   pub parts_at : (t : ℕ) (c : DoneScope) (k : ℕ) (x : ScopeName) (id : ℕ) (e : TypeDef) → slice_get cs t ≡ Some c → slice_get (scope files c.address) k ≡ Some x → slice_get ks id ≡ Some (Def c.address (local_name x)) → slice_get es id ≡ Some e → AreAt ks (name_exprs c.address x) (kind_of e.kind).parts
   parts_at t c k x id e at xat here there =
       let s = c.address in
       let it = d.meeting.keyed.each id (Def s (local_name x)) e here there in
-      let y = decl_at t c id (local_name x) e at here there in
-      let called : local_name y.1 ≡ local_name x = ap (λ (z : Decl). z.name) y.3 ∙ it.same in
-      let place = differ_at local_name (scope files s) (d.each t c at).turn.distinct y.0 k y.1 x y.2 xat called in
-      let one : Some y.1 ≡ Some x = sym y.2 ∙ ap (slice_get (scope files s)) place ∙ xat in
-      let same : y.1 ≡ x = cc in
-      let exprs : it.decl.parts ≡ name_exprs s x = sym (ap (λ (z : Decl). z.parts) y.3) ∙ ap (name_exprs s) same in
-      subst (λ (z : Exprs). AreAt ks z (kind_of e.kind).parts) exprs (all_at_untaken id ks it.decl.parts (kind_of e.kind).parts it.parts)
+      let there : slice_get (scope files s) it.0 ≡ Some it.1 = ap (λ (d : List ScopeName × TypeOwner). slice_get d.0 it.0) (sym (d.own t c at)) ∙ it.2 in
+      let place = differ_at local_name (scope files s) (d.each t c at).turn.distinct it.0 k it.1 x there xat it.3 in
+      let one : Some it.1 ≡ Some x = sym there ∙ ap (slice_get (scope files s)) place ∙ xat in
+      let same : it.1 ≡ x = cc in
+      subst (λ (z : ScopeName). AreAt ks (name_exprs s z) (kind_of e.kind).parts) same (all_at_untaken id ks (name_exprs s it.1) (kind_of e.kind).parts it.8)
 
   -- a function of a scope, and the one of the package that it is
   pub function_at : (t : ℕ) (c : DoneScope) (k : ℕ) (fn : SourceFunction) → slice_get cs t ≡ Some c → slice_get c.functions k ≡ Some fn → (f : Function) × (slice_get c.made k ≡ Some f) × IsFunction ks c.address fn f

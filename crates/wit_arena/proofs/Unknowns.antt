@@ -14,7 +14,7 @@ use Rattle.wit_syntax.specs.Address.{Address, InterfaceNamed, WorldNamed, Inline
 use Rattle.wit_syntax.specs.Source.{Item, item_at, ScopeName, Used, Defined, Taken, local_name, scope_names, Taking, takings, same_taking, first_takings, about_name}
 use Rattle.wit_syntax.specs.Trees.{scope}
 use Rattle.wit_syntax.specs.Sides.{all_scopes}
-use Rattle.wit_arena.specs.Meet.{Key, Def, Whole, Meeting, keys, Meets, Decl, Decls}
+use Rattle.wit_arena.specs.Meet.{Key, Def, Whole, Meeting, keys, Meets, Decls}
 use Rattle.wit_arena.specs.Whole.{taking_meeting}
 use Rattle.wit_arena.specs.Faithful.{IsAnonymousForm}
 use Rattle.wit_syntax.proofs.Lists.{at_within}
@@ -24,9 +24,9 @@ use Rattle.wit_syntax.proofs.Firsts.{firsts_at}
 use Rattle.wit_arena.proofs.Shape.{key_of}
 use Rattle.wit_arena.proofs.Forms.{body_known}
 use Rattle.wit_arena.proofs.Standing.{DoneScope, IsStanding}
-use Rattle.wit_arena.proofs.Stated.{decl_at}
 use Rattle.wit_arena.proofs.Itemizing.{own_names}
 use Rattle.wit_arena.proofs.Takings.{taking_key, keys-takings, takings_met, taken_at, taken_name_at}
+use Rattle.wit_types.specs.declared.types.TypeOwner.{TypeOwner}
 
 -- what is met behind a front
 meets_behind : (ks ls : List Meeting) (a b c : List Meeting) → Meets a ks b → Meets a (ks ++ ls) c → Meets b ls c
@@ -85,8 +85,7 @@ module _ (files : List PackageFile) (decls : Decls) (written : List Meeting) (cs
       let c = of.cell in
       let own : slice_get ks i ≡ Some (Def c.address name) = here ∙ ap (λ (z : Address). Some (Def z name)) (sym of.scope) in
       let it = d.meeting.keyed.each i (Def c.address name) e own there in
-      let x = decl_at files decls written cs es d of.place c i name e of.at own there in
-      (x.0, x.1, ap (λ (z : Address). slice_get (scope files z) x.0) (sym of.scope) ∙ x.2, it.form ∙ sym (ap (λ (z : Decl). z.form) x.3), ap (λ (z : Decl). z.name) x.3 ∙ it.same)
+      (it.0, it.1, ap (λ (z : Address). slice_get (scope files z) it.0) (sym of.scope) ∙ ap (λ (d : List ScopeName × TypeOwner). slice_get d.0 it.0) (sym (d.own of.place c of.at)) ∙ it.2, it.7, it.3)
 
   -- each name that is first taken stands at its place
   taken_key_at : (j : ℕ) (t : Taking) → slice_get ts j ≡ Some t → slice_get ks j ≡ Some (taking_key t)
@@ -116,7 +115,7 @@ module _ (files : List PackageFile) (decls : Decls) (written : List Meeting) (cs
         | inl foreign ↦ foreign_front i s name x.0 x.1 here foreign x.2 x.4
         | inr own ↦ absurd (let t = unknown_taken x.1 (sym x.3 ∙ unknown) in own_name files s x.0 t.0 t.1 own (x.2 ∙ ap Some t.2))
       ]
-  unknown_at i (Whole form parts) e here there unknown = absurd (subst IsAnonymousForm unknown (formed i e there (d.meeting.keyed.each i (Whole form parts) e here there).name))
+  unknown_at i (Whole form parts) e here there unknown = absurd (subst IsAnonymousForm unknown (formed i e there (d.meeting.keyed.each i (Whole form parts) e here there).0))
 
   -- so these are the front
   pub unknown_front : (i : ℕ) (e : TypeDef) → slice_get es i ≡ Some e → ((kind_of e.kind).form ≡ UnknownForm) ↔ (i < length ts)

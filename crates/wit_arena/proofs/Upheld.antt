@@ -24,7 +24,7 @@ use Rattle.wit_arena.specs.Meet.{Key, Meeting, keys, Decls}
 use Rattle.wit_syntax.specs.Fault.{Fault}
 use Rattle.wit_syntax.specs.Signature.{IsUnpairedSetter}
 use Rattle.wit_syntax.specs.Broken.{IsSetterAlone}
-use Rattle.wit_arena.specs.Whole.{Ordered, own_item, Turned, item_of, turned, all_turns, all_inside, all_meetings, turn_handles, HandleRequires, AreRequired}
+use Rattle.wit_arena.specs.Whole.{Ordered, Turned, turned, all_turns, all_inside, all_meetings, turn_handles, HandleRequires, AreRequired}
 use Rattle.wit_arena.specs.Resolving.{Required}
 use Rattle.wit_arena.specs.Resolved.{WorldArenas}
 use Rattle.wit_syntax.proofs.Lists.{at_front, at_back, at_within, map_at}
@@ -42,15 +42,16 @@ use Rattle.wit_arena.proofs.Added.{decls, inside_of, InterfacesDone}
 use Rattle.wit_arena.proofs.DoneWorlds.{scopes_of, all_within, own_order, AreWorldsDone, own_among, within_among}
 use Rattle.wit_arena.proofs.Stated.{stated_name}
 use Rattle.wit_arena.proofs.SignatureNames.{signature_meant}
+use Rattle.wit_arena.proofs.Turns.{item_of, own_item}
 
 -- what is required ends at resources or in other packages, and none of it elsewhere
 required_ends : (files : List PackageFile) (ks : List Key) (s : Address) (ids : List Id) (rs : List Required) (j : ℕ) (id : Id) → AreRequired files ks (map (in_scope s) ids) rs → slice_get ids j ≡ Some id → EndsAt files s id Elsewhere → ⊥
 required_ends files ks s ids rs j id h at wrong =
     let named : slice_get (map (in_scope s) ids) j ≡ Some (s, id) = slice_get-map (in_scope s) ids j ∙ ap (option_map (in_scope s)) at in
     let lt = slice_get_within (map (in_scope s) ids) j (s, id) named in
-    let as_many = h.count in
-    let r = at_within h.each j (omega (arith, lt, as_many)) in
-    ends_elsewhere r.0 (h.says j (s, id) r.0 named r.1)
+    let as_many = h.1.count in
+    let r = at_within h.0 j (omega (arith, lt, as_many)) in
+    ends_elsewhere r.0 (h.1.each j (s, id) r.0 named r.1)
   where
     ends_elsewhere : (r : Option Required) → HandleRequires files ks (s, id) r → ⊥
     ends_elsewhere None own = let two = ends_one files s id AtResource Elsewhere own wrong in let f : ⊥ = cc in f

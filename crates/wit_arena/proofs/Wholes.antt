@@ -6,11 +6,12 @@ use Rattle.wit_syntax.specs.Address.{Address}
 use Rattle.wit_syntax.specs.Source.{ScopeName, local_name}
 use Rattle.wit_syntax.specs.Function.{SourceFunction}
 use Rattle.wit_arena.specs.Expr.{Exprs, name_exprs}
-use Rattle.wit_arena.specs.Meet.{Key, Def, Whole, keys, name_meetings, parts_meetings, all_name_meetings, all_function_meetings}
+use Rattle.wit_arena.specs.Meet.{Key, Def, Whole, keys, name_meetings, all_function_meetings}
 use Rattle.wit_arena.specs.Resolving.{all_met}
 use Rattle.wit_arena.proofs.Meeting.{Has, has_either, keys-append}
 use Rattle.wit_arena.proofs.Defining.{name_keys, parts_keys}
 use Rattle.wit_arena.proofs.Signatures.{IsInFunctions, whole_in_functions}
+use Rattle.wit_arena.proofs.Turns.{parts_meetings, all_name_meetings}
 
 -- an unnamed type that is met in a name is met in its parts
 whole_in_name : (s : Address) (x : ScopeName) (form : Form) (parts : Exprs) → Has (keys (name_meetings s x)) (Whole form parts) → Has (all_met (name_exprs s x)) (Whole form parts)

@@ -24,10 +24,10 @@ use Rattle.wit_syntax.proofs.Turns.{at_part}
 use Rattle.wit_syntax.proofs.Repeated.{differ_at, differ_by}
 use Rattle.wit_syntax.proofs.Inline.{is_inside, inline_inside, inline_interface, inline_items_differ}
 use Rattle.wit_syntax.proofs.Scopes.{inside_one}
-use Rattle.wit_arena.specs.Meet.{Meeting, all_name_meetings}
+use Rattle.wit_arena.specs.Meet.{Meeting}
 use Rattle.wit_arena.specs.Resolved.{interfaces_at, worlds_at, WorldArenas, AddsScope, AddsSides, AddsForeign, AreUsableUses}
-use Rattle.wit_arena.specs.Resolving.{Names, Cell, Required, cells, Defines, decls_of}
-use Rattle.wit_arena.specs.Whole.{Ordered, own_item, Turned, item_of, addresses, all_turns, all_inside, all_meetings}
+use Rattle.wit_arena.specs.Resolving.{Names, Cell, Required, cells, Defines}
+use Rattle.wit_arena.specs.Whole.{Ordered, Turned, addresses, all_turns, all_inside, all_meetings}
 use Rattle.wit_syntax.specs.Source as source
 use Rattle.wit_arena.proofs.Added.{InterfacesDone, WorldOwner, inside_of, interface_list, world_list, decls, defines_wider, front_apart, cells_among, next_world, inline_declared, world_item_declared}
 use Rattle.wit_arena.proofs.Sided.{AreSided, IsFreshInside, are_sided}
@@ -40,6 +40,7 @@ use Rattle.wit_arena.proofs.Interfaces.{AreItems, AreOfSort, item_scopes, inline
 use Rattle.wit_arena.proofs.Laid.{laid_scope, laid_addresses, laid_place, ordered_at, ordered_addresses, none_is_next, in_turn_is}
 use Rattle.wit_arena.proofs.Standing.{DoneScope, cell_of, IsTurn}
 use Rattle.wit_arena.proofs.DoneWorlds.{scopes_of, all_within, own_order, AreWorldsDone, front_longer, flat_map_longer, scope_either}
+use Rattle.wit_arena.proofs.Turns.{item_of, own_item, all_name_meetings}
 
 module _ (files : List PackageFile) (is ws : List Item) (interfaces : AreOfSort false is) (worlds : AreOfSort true ws) (is_items : AreItems files is) (ws_items : AreItems files ws) (uses : AreUsableUses files (all_items files)) (es : List TypeDef) (front : List Interface) (wfront : List World) (foreign : AddsForeign files es front wfront) (middle : List TypeDef) (xs : List Interface) (irs : List Required) (d : InterfacesDone files is ws front is middle xs irs) where
   abbrev ss : List Address
@@ -261,7 +262,7 @@ module _ (files : List PackageFile) (is ws : List Item) (interfaces : AreOfSort 
             ];
             has = scope_of files (inside_of ws) (inline_scopes files ws ws_items) (length (inside_of us) + k) i there;
             does = functions_of files (inside_of ws) (inline_scopes files ws ws_items) (length (inside_of us) + k) i there;
-            own = inline_declared files is ws interfaces worlds is_items ws_items (length (inside_of us) + k) i there ∙ ap (λ (n : ℕ). decls_of (owner.Interface n) (address i) (scope files (address i))) spot;
+            own = inline_declared files is ws interfaces worlds is_items ws_items (length (inside_of us) + k) i there ∙ ap (λ (n : ℕ). (scope files (address i), (owner.Interface n))) spot;
           }
 
       -- and so is what stands on its sides, as far as it was added

@@ -21,12 +21,12 @@ use Rattle.wit_syntax.specs.Foreign.{visited, foreign_interfaces, foreign_worlds
 use Rattle.wit_syntax.specs.Scope.{in_turn, includes, local_names}
 use Rattle.wit_syntax.proofs.Lists.{at_front, at_back, at_seam, at_either, flat_map_has}
 use Rattle.wit_syntax.proofs.Legal.{functions_items}
-use Rattle.wit_arena.specs.Meet.{Meeting, keys, Meets, all_name_meetings}
+use Rattle.wit_arena.specs.Meet.{Meeting, keys, Meets}
 use Rattle.wit_arena.specs.Package.{import_types, world_functions}
 use Rattle.wit_arena.specs.SideItems.{settled}
 use Rattle.wit_arena.specs.Resolved.{interfaces_at, worlds_at, WorldArenas, front_worlds, AddsWorld, AddsWorlds, AddsForeign, AreUsableUses}
 use Rattle.wit_arena.specs.Resolving.{Names, env_of, Cell, Required, cells}
-use Rattle.wit_arena.specs.Whole.{Ordered, OrderedWorld, own_item, Turned, item_of, addresses, turned, side_turns, world_turns, all_turns, all_inside, meetings, all_meetings, turn_handles, AreRequired, functions_at}
+use Rattle.wit_arena.specs.Whole.{Ordered, OrderedWorld, Turned, addresses, turned, side_turns, world_turns, all_turns, all_inside, all_meetings, turn_handles, AreRequired, functions_at}
 use Rattle.wit_arena.proofs.Added.{InterfacesDone, WorldOwner, inside_of, interface_list, world_list, decls}
 use Rattle.wit_arena.proofs.Sided.{AreTold, AreSided}
 use Rattle.wit_arena.proofs.Begun.{done_of}
@@ -46,6 +46,7 @@ use Rattle.wit_arena.proofs.Stating.{stated_settled}
 use Rattle.wit_arena.proofs.DoneWorlds.{none_left, inline_count, SaysWorld, MakesWorld, world_cell, DoneWorld, own_scope, scopes_of, all_within, own_order, AreWorldsDone, includes_wider, named_world, own_types, all_handles-append, written_more, scopes_more, handles_more, one_of_three, doing_declared}
 use Rattle.wit_arena.proofs.Requiring.{requiring, doing_requiring}
 use Rattle.wit_arena.proofs.WorldSides.{place, next_place, long_inside, inside_split, world_added, interface_added, c, names_done, sides_done}
+use Rattle.wit_arena.proofs.Turns.{item_of, own_item, meetings, all_name_meetings}
 
 module _ (files : List PackageFile) (is ws : List Item) (interfaces : AreOfSort false is) (worlds : AreOfSort true ws) (is_items : AreItems files is) (ws_items : AreItems files ws) (uses : AreUsableUses files (all_items files)) (es : List TypeDef) (front : List Interface) (wfront : List World) (foreign : AddsForeign files es front wfront) (middle : List TypeDef) (xs : List Interface) (irs : List Required) (d : InterfacesDone files is ws front is middle xs irs) where
   abbrev ss : List Address
@@ -216,7 +217,7 @@ module _ (files : List PackageFile) (is ws : List Item) (interfaces : AreOfSort 
           let none = settled_none import_types (includes w) adds.imported (side_types all_addresses w.top Imported (side_items w) adds.functions inside_addresses adds.imported adds.are_imported) in
           let types = own_types turns_names adds.types (settled (includes w) adds.imported) adds.added listed (adds.imports ∙ settled_types (includes w) turns_names adds.types adds.imported) none in
           ap (λ (x : Address). record { address = x; types = adds.types; functions = free_of both }) (world_address w (worlds.each (length us) w next))
-          ∙ ap (named_world adds.types both) (sym adds.says.name)
+          ∙ ap (named_world adds.types both) (sym adds.says.0)
           ∙ ap (λ (x : Names). named_world x both adds.added.name) (sym types)
 
       makes : MakesWorld (interface_list files is (inside_of ws)) world.own closed adds.added

@@ -21,9 +21,9 @@ use Rattle.wit_syntax.specs.Function.{item_types}
 use Rattle.wit_syntax.specs.Scope.{in_turn, AreDistinct}
 use Rattle.wit_syntax.specs.Sides.{side_items, inline_items}
 use Rattle.wit_syntax.specs.Fault.{Fault}
-use Rattle.wit_arena.specs.Meet.{Def, Meeting, keys, Decl, Decls, IsAmong, decl_of, all_name_meetings}
-use Rattle.wit_arena.specs.Whole.{own_item, Turned, item_of, turned, all_meetings, all_turns}
-use Rattle.wit_arena.specs.Resolving.{Names, Cell, Required, env_of, cells, AreNames, AreKnown, IsDefined, decls_of}
+use Rattle.wit_arena.specs.Meet.{Def, Meeting, keys, Decls}
+use Rattle.wit_arena.specs.Whole.{Turned, turned, all_meetings, all_turns}
+use Rattle.wit_arena.specs.Resolving.{Names, Cell, Required, env_of, cells, AreNames, AreKnown, IsDefined, AreOwned}
 use Rattle.wit_arena.specs.Resolved.{WorldArenas, AddsScope, AddsSides, AddsForeign, AreUsableUses, IsWrongHandleNow}
 use Rattle.wit_syntax.proofs.Lists.{at_front, at_take, map_at}
 use Rattle.wit_syntax.proofs.Repeated.{differ_at, differ_by}
@@ -45,6 +45,7 @@ use Rattle.wit_arena.proofs.Sided.{AreSided, IsFreshInside}
 use Rattle.wit_arena.proofs.DoneWorlds.{scopes_of, own_order, AreWorldsDone}
 use Rattle.wit_arena.proofs.WorldSides.{world_fresh, fresh_inside, sides_done}
 use Rattle.wit_arena.proofs.WorldSides as done
+use Rattle.wit_arena.proofs.Turns.{item_of, own_item, all_name_meetings}
 
 -- these scopes are among those that are being resolved
 abbrev AreAmong : List Cell → List DoneScope → Type 0
@@ -56,7 +57,7 @@ among_more known cs more among t c at =
     (it.0, ap (λ (l : List Cell). slice_get l it.0) (map-append cell_of cs more) ∙ at_front (map cell_of cs) (map cell_of more) it.0 c it.1)
 
 -- An item whose scope comes next, while others are being resolved
-module _ (files : List PackageFile) (declares : Decls) (written : List Meeting) (cs : List DoneScope) (gs : List DoneFunction) (es : List TypeDef) (d : IsDoing files declares written cs gs es) (w : Item) (o : TypeOwner) (fresh : (t : ℕ) (c : DoneScope) → slice_get cs t ≡ Some c → c.address ≡ address w → ⊥) (own : declares (address w) ≡ decls_of o (address w) (scope files (address w))) (names_are : scope files (address w) ≡ scope_names w) where
+module _ (files : List PackageFile) (declares : Decls) (written : List Meeting) (cs : List DoneScope) (gs : List DoneFunction) (es : List TypeDef) (d : IsDoing files declares written cs gs es) (w : Item) (o : TypeOwner) (fresh : (t : ℕ) (c : DoneScope) → slice_get cs t ≡ Some c → c.address ≡ address w → ⊥) (own : declares (address w) ≡ (scope files (address w), o)) (names_are : scope files (address w) ≡ scope_names w) where
   abbrev s : Address
   s = address w
 
@@ -92,12 +93,10 @@ module _ (files : List PackageFile) (declares : Decls) (written : List Meeting) 
     some = take h.count turn
 
     -- those of its names that were resolved are declared in it
-    declared : (x : Decl) → IsAmong (decls_of o s some) x → IsAmong (declares s) x
-    declared x among =
-        let y = map_at (decl_of o s) some among.0 x among.1 in
-        let p = in_turn_among (scope_names w) h.order h.least among.0 y.0 (at_take turn h.count among.0 y.0 y.1).0 in
-        let is = ap (λ (l : List ScopeName). decls_of o s l) names_are in
-        (p.0, ap (λ (l : List Decl). slice_get l p.0) (own ∙ is) ∙ slice_get-map (decl_of o s) (scope_names w) p.0 ∙ ap (option_map (decl_of o s)) p.1 ∙ ap Some y.2)
+    declared : AreOwned declares o s some
+    declared i x at =
+        let p = in_turn_among (scope_names w) h.order h.least i x (at_take turn h.count i x at).0 in
+        (p.0, ap (λ (d : List ScopeName × TypeOwner). slice_get d.0 p.0) own ∙ ap (λ (l : List ScopeName). slice_get l p.0) names_are ∙ p.1, ap (λ (d : List ScopeName × TypeOwner). d.1) own)
 
     apart : AreDistinct some
     apart = differ_by local_name some (λ i j x y at_x at_y same. differ_at local_name turn (in_turn_distinct (scope_names w) h.order h.least h.distinct) i j x y (at_take turn h.count i x at_x).0 (at_take turn h.count j y at_y).0 same)
@@ -134,7 +133,7 @@ module _ (files : List PackageFile) (is ws : List Item) (interfaces : AreOfSort 
       handle_wrong files (decls files is ws) written cs (flat_map scope_functions cs) old (doing_of files (decls files is ws) written cs old d.done) w (owner.Interface (length (front ++ xs))) (λ t c c_at same. elim (at_part (front_scopes files front) d.scopes t c c_at) [
         | inl g ↦ front_apart files is ws interfaces worlds is_items ws_items uses es front wfront foreign w g.0 c g.1 same
         | inr g ↦ none_is_next d.laid (item_scopes files is is_items).unique w next g.0 c g.1 same
-      ]) (own ∙ ap (λ (o : TypeOwner). decls_of o (address w) (scope files (address w))) (sym whose)) (scope_of files is (item_scopes files is is_items) (length xs) w at) (cells fore (front ++ xs)) (cells_among files is ws interfaces worlds is_items ws_items uses es front wfront foreign xs d.scopes d.laid.types) f h
+      ]) (own ∙ ap (λ (o : TypeOwner). (scope files (address w), o)) (sym whose)) (scope_of files is (item_scopes files is is_items) (length xs) w at) (cells fore (front ++ xs)) (cells_among files is ws interfaces worlds is_items ws_items uses es front wfront foreign xs d.scopes d.laid.types) f h
 
   -- what comes next behind all interfaces and some worlds
   module _ (middle : List TypeDef) (xs : List Interface) (irs : List Required) (d : InterfacesDone files is ws front is middle xs irs) (us : List Item) (old : List TypeDef) (a : WorldArenas) (qs : List Required) (w : Item) (there : slice_get ws (length us) ≡ Some w) (e : AreWorldsDone files is ws wfront d.ordered (front_scopes files front ++ d.scopes) us old a qs) where
@@ -154,7 +153,7 @@ module _ (files : List PackageFile) (is ws : List Item) (interfaces : AreOfSort 
         let place : length e.own ≡ length us = e.laid.count ∙ length-map e.ordered own_order ∙ sym (length-map e.ordered own_item) ∙ ap length e.all in
         let own = world_item_declared files is ws interfaces worlds is_items ws_items (length e.own) w (ap (slice_get ws) place ∙ there) in
         let whose = ap (λ (l : List World). owner.World (length l)) e.arena ∙ next_world files is ws interfaces worlds is_items ws_items uses es front wfront foreign e.own in
-        handle_wrong files (decls files is ws) written before (flat_map scope_functions before) old (doing_of files (decls files is ws) written before old e.done) w (owner.World (length a.worlds)) (world_fresh files is ws interfaces worlds is_items ws_items uses es front wfront foreign middle xs irs d us old a qs e w there) (own ∙ ap (λ (o : TypeOwner). decls_of o (address w) (scope files (address w))) (sym whose)) (scope_of files ws (item_scopes files ws ws_items) (length us) w there) resolved known_before f h
+        handle_wrong files (decls files is ws) written before (flat_map scope_functions before) old (doing_of files (decls files is ws) written before old e.done) w (owner.World (length a.worlds)) (world_fresh files is ws interfaces worlds is_items ws_items uses es front wfront foreign middle xs irs d us old a qs e w there) (own ∙ ap (λ (o : TypeOwner). (scope files (address w), o)) (sym whose)) (scope_of files ws (item_scopes files ws ws_items) (length us) w there) resolved known_before f h
 
     -- and of an interface that is written in it, once its names and what stands in front on its sides were added
     module _ (inner_place count : ℕ) (inner : Item) (next : slice_get (inline_items w) count ≡ Some inner) (types : Names) (named mid : List TypeDef) (adds : AddsScope old named resolved (owner.World (length a.worlds)) (scope_names w) types) (now : List Interface) (made : List Function) (rs : List Required) (sides : AddsSides resolved (length (front ++ xs)) (address w) types named mid a.inside now made rs (take inner_place (side_items w)) (take count (inline_items w))) (reached : length now ≡ length a.inside + count) where
@@ -194,4 +193,4 @@ module _ (files : List PackageFile) (is ws : List Item) (interfaces : AreOfSort 
           handle_wrong files (decls files is ws) _ scopes _ mid sided.doing inner o (λ t b at same. elim (at_part (before ++ own_scope ∷ []) sided.scopes t b at) [
             | inl g ↦ can_be_next.fresh g.0 b g.1 same
             | inr g ↦ apart_inside g.0 b g.1 same
-          ]) (can_be_next.own ∙ ap (λ (n : ℕ). decls_of (owner.Interface n) (address inner) (scope files (address inner))) place) can_be_next.has resolved (among_more resolved (before ++ own_scope ∷ []) sided.scopes (among_more resolved before (own_scope ∷ []) known_before)) f h
+          ]) (can_be_next.own ∙ ap (λ (n : ℕ). (scope files (address inner), (owner.Interface n))) place) can_be_next.has resolved (among_more resolved (before ++ own_scope ∷ []) sided.scopes (among_more resolved before (own_scope ∷ []) known_before)) f h

@@ -11,7 +11,7 @@ use Rattle.wit_functions.specs.declared.function.Param.{Param}
 use Rattle.wit_syntax.specs.Shape.{Shape, Shapes, End, More}
 use Rattle.wit_syntax.specs.Address.{Address}
 use Rattle.wit_syntax.specs.Function.{Role, Freestanding, Method, Static, Constructor, OnSide, SourceParam, SourceFunction, all_params}
-use Rattle.wit_arena.specs.Functions.{freestanding_kind, method_kind, static_kind}
+use Rattle.wit_arena.specs.Functions.{kinds_of}
 use Rattle.wit_arena.specs.Expr.{exprs_of}
 use Rattle.wit_arena.specs.Meet.{shape_meetings}
 use Rattle.wit_arena.specs.Resolving.{Env, AreResolved}
@@ -28,11 +28,11 @@ AreShapes old new s env xs ts = AreResolved old new s env (flat_map (shape_meeti
 
 -- the kind of a function of a role, where the names of a scope stand for these places
 abbrev pub IsKindIn : Env → Role → FunctionKind → Type 0
-IsKindIn env (Freestanding id form) k = k ≡ freestanding_kind form
-IsKindIn env (Method of form) k = (r : ℕ) × (k ≡ method_kind form r) × (env of.name.now ≡ Some r)
-IsKindIn env (Static of form) k = (r : ℕ) × (k ≡ static_kind form r) × (env of.name.now ≡ Some r)
+IsKindIn env (Freestanding id form) k = k ≡ (kinds_of form).freestanding
+IsKindIn env (Method of form) k = (r : ℕ) × (k ≡ (kinds_of form).method r) × (env of.name.now ≡ Some r)
+IsKindIn env (Static of form) k = (r : ℕ) × (k ≡ (kinds_of form).static r) × (env of.name.now ≡ Some r)
 IsKindIn env (Constructor of) k = (r : ℕ) × (k ≡ kind.Constructor r) × (env of.name.now ≡ Some r)
-IsKindIn env (OnSide side id form) k = k ≡ freestanding_kind form
+IsKindIn env (OnSide side id form) k = k ≡ (kinds_of form).freestanding
 
 -- a parameter of the package is the written one apart from its type
 abbrev pub SaysParam : SourceParam → Param → Type 0

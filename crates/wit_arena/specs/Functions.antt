@@ -1,5 +1,5 @@
 -- What the functions of a package say: each is a written function, whose types stand at the places of their expressions.
-use Rattle.std.specs.Prelude.{if◌then◌else◌, ◌≡◌, ℕ, List, [], ◌∷◌, map, Option, Some, None, slice_get, codes}
+use Rattle.std.specs.Prelude.{if◌then◌else◌, ◌≡◌, ℕ, List, [], ◌∷◌, map, Some, slice_get, codes}
 use Rattle.std.specs.Option.{option_to_list}
 use Rattle.wit_names.specs.Front.{behind}
 use Rattle.wit_type_tree.specs.declared.types.FuncForm.{FuncForm}
@@ -25,54 +25,41 @@ use Rattle.wit_arena.specs.Meet.{Key, Def, IsAt}
 use Rattle.wit_syntax.specs.Notes.{AreNotes, notes, docs_of}
 use Rattle.wit_arena.specs.OneByOne.{OneByOne}
 
-abbrev pub freestanding_kind : FuncForm → FunctionKind
-freestanding_kind form.Plain = kind.Freestanding
-freestanding_kind form.Async = kind.AsyncFreestanding
-freestanding_kind form.Getter = kind.Getter
-freestanding_kind form.Setter = kind.Setter
+-- the kind of a function that is no resource's, and, over the place of its resource, that of a method and that of a static function
+pub record Kinds : Type 0 where
+  pub freestanding : FunctionKind
+  pub method : ℕ → FunctionKind
+  pub static : ℕ → FunctionKind
 
-abbrev pub method_kind : FuncForm → ℕ → FunctionKind
-method_kind form.Plain r = kind.Method r
-method_kind form.Async r = kind.AsyncMethod r
-method_kind form.Getter r = kind.MethodGetter r
-method_kind form.Setter r = kind.MethodSetter r
-
-abbrev pub static_kind : FuncForm → ℕ → FunctionKind
-static_kind form.Plain r = kind.Static r
-static_kind form.Async r = kind.AsyncStatic r
-static_kind form.Getter r = kind.StaticGetter r
-static_kind form.Setter r = kind.StaticSetter r
+-- the kinds of functions of a form
+abbrev pub kinds_of : FuncForm → Kinds
+kinds_of form.Plain = record { freestanding = kind.Freestanding; method = kind.Method; static = kind.Static }
+kinds_of form.Async = record { freestanding = kind.AsyncFreestanding; method = kind.AsyncMethod; static = kind.AsyncStatic }
+kinds_of form.Getter = record { freestanding = kind.Getter; method = kind.MethodGetter; static = kind.StaticGetter }
+kinds_of form.Setter = record { freestanding = kind.Setter; method = kind.MethodSetter; static = kind.StaticSetter }
 
 -- the kind of a function of a role, over the place of its resource
 abbrev pub IsKind : List Key → Address → Role → FunctionKind → Type 0
-IsKind ks s (Freestanding id form) k = k ≡ freestanding_kind form
-IsKind ks s (Method of form) k = (r : ℕ) × (k ≡ method_kind form r) × (slice_get ks r ≡ Some (Def s of.name.now))
-IsKind ks s (Static of form) k = (r : ℕ) × (k ≡ static_kind form r) × (slice_get ks r ≡ Some (Def s of.name.now))
+IsKind ks s (Freestanding id form) k = k ≡ (kinds_of form).freestanding
+IsKind ks s (Method of form) k = (r : ℕ) × (k ≡ (kinds_of form).method r) × (slice_get ks r ≡ Some (Def s of.name.now))
+IsKind ks s (Static of form) k = (r : ℕ) × (k ≡ (kinds_of form).static r) × (slice_get ks r ≡ Some (Def s of.name.now))
 IsKind ks s (Constructor of) k = (r : ℕ) × (k ≡ kind.Constructor r) × (slice_get ks r ≡ Some (Def s of.name.now))
-IsKind ks s (OnSide side id form) k = k ≡ freestanding_kind form
+IsKind ks s (OnSide side id form) k = k ≡ (kinds_of form).freestanding
 
 -- a parameter of the package is the written one
-pub record IsParam (ks : List Key) (s : Address) (written : SourceParam) (p : Param) : Type 0 where
-  pub name : p.name ≡ written.name
-  pub span : p.span ≡ written.span
-  pub type : IsAt ks (expr_of s written.shape) p.ty
+abbrev pub IsParam : List Key → Address → SourceParam → Param → Type 0
+IsParam ks s written p = (p.name ≡ written.name) × (p.span ≡ written.span) × IsAt ks (expr_of s written.shape) p.ty
 
 -- these are the written parameters, in order
 abbrev pub AreParams : List Key → Address → List SourceParam → List Param → Type 0
 AreParams ks s written ps = OneByOne (IsParam ks s) written ps
-
--- so is a result, or both are absent
-abbrev pub IsResult : List Key → Address → Option Shape → Option Ty → Type 0
-IsResult ks s None t = t ≡ None
-IsResult ks s (Some x) None = ⊥
-IsResult ks s (Some x) (Some t) = IsAt ks (expr_of s x) t
 
 -- a function of the package is the written one
 pub record IsFunction (ks : List Key) (s : Address) (written : SourceFunction) (f : Function) : Type 0 where
   pub name : f.name ≡ written.name
   pub kind : IsKind ks s written.role f.kind
   pub params : OneByOne (IsParam ks s) (all_params written) f.params
-  pub result : IsResult ks s written.result f.result
+  pub result : OneByOne (λ (x : Shape) (t : Ty). IsAt ks (expr_of s x) t) (option_to_list written.result) (option_to_list f.result)
   pub span : f.span ≡ written.span
   pub notes : AreNotes (notes (docs_of written.docs) written.attributes) f.docs f.stability f.external_id
 

@@ -6,7 +6,6 @@ pub mod Functions
 pub mod SideItems
 pub mod Package
 pub mod OneByOne
-pub mod FirstMeetings
 pub mod Whole
 pub mod Faithful
 pub mod Resolving

@@ -17,7 +17,7 @@ use Rattle.wit_syntax.specs.Node.{primitive_type}
 use Rattle.wit_syntax.specs.Repeats.{AllDiffer}
 use Rattle.wit_syntax.specs.Shape.{Shape, Shapes}
 use Rattle.wit_syntax.specs.Shape as shape
-use Rattle.wit_syntax.specs.Notes.{Notes, AreNotes, no_docs, first_known}
+use Rattle.wit_syntax.specs.Notes.{AreNotes, no_docs, first_known}
 use Rattle.wit_syntax.specs.Address.{Address}
 use Rattle.wit_syntax.specs.Source.{ScopeName, local_name, about_name}
 use Rattle.wit_syntax.specs.Function.{SourceFunction, signature}
@@ -37,9 +37,6 @@ pub record Meeting : Type 0 where
 abbrev pub keys : List Meeting → List Key
 keys ms = map (λ m. m.key) ms
 
-abbrev pub spans : List Meeting → List Span
-spans ms = map (λ m. m.span) ms
-
 -- what is met in a type: the parts of a form, and then the whole
 abbrev mutual
   pub shape_meetings : Address → Stability → Shape → List Meeting
@@ -51,16 +48,9 @@ abbrev mutual
   shapes_meetings s given shape.End = []
   shapes_meetings s given (shape.More x xs) = shape_meetings s given x ++ shapes_meetings s given xs
 
--- what is met in the parts of a name of a scope; the original of a used name was met before
-abbrev pub parts_meetings : Address → ScopeName → List Meeting
-parts_meetings s x = shapes_meetings (unwrap_or (about_name x).from s) (about_name x).notes.stability (about_name x).body.parts
-
--- what is met in a name of a scope: its parts, and then itself
+-- what is met in a name of a scope: its parts, and then itself; the original of a used name was met before
 abbrev pub name_meetings : Address → ScopeName → List Meeting
-name_meetings s x = parts_meetings s x ++ record { key = Def s (local_name x); span = (about_name x).span; given = (about_name x).notes.stability } ∷ []
-
-abbrev pub all_name_meetings : Address → List ScopeName → List Meeting
-all_name_meetings s xs = flat_map (name_meetings s) xs
+name_meetings s x = shapes_meetings (unwrap_or (about_name x).from s) (about_name x).notes.stability (about_name x).body.parts ++ record { key = Def s (local_name x); span = (about_name x).span; given = (about_name x).notes.stability } ∷ []
 
 -- what is met in functions: of each in its parameters, and then in its result; they stand in no definition
 abbrev pub all_function_meetings : Address → List SourceFunction → List Meeting
@@ -83,52 +73,18 @@ IsAt ks (Of form parts) ty = (i : ℕ) × (ty ≡ type.Id i) × (slice_get ks i 
 abbrev pub AreAt : List Key → Exprs → List Ty → Type 0
 AreAt ks End [] = Unit {0}
 AreAt ks (More e es) (t ∷ ts) = IsAt ks e t × AreAt ks es ts
-AreAt ks End (t ∷ ts) = ⊥
-AreAt ks (More e es) [] = ⊥
+AreAt _ _ _ = ⊥
 
--- a declaration of a scope: its name and where it stands, whose it is, what is told of it, its form and its parts
-pub record Decl : Type 0 where
-  pub name : List ℕ
-  pub span : Span
-  pub owner : TypeOwner
-  pub notes : Notes
-  pub form : Form
-  pub parts : Exprs
-
-abbrev pub decl_of : TypeOwner → Address → ScopeName → Decl
-decl_of o s x = record { name = local_name x; span = (about_name x).span; owner = o; notes = (about_name x).notes; form = (about_name x).body.form; parts = name_exprs s x }
-
-abbrev pub IsAmong : List Decl → Decl → Type 0
-IsAmong ds d = (k : ℕ) × (slice_get ds k ≡ Some d)
-
--- the declarations of each scope
+-- the names of each scope, and the owner that the package knows it by
 abbrev pub Decls : Type 0
-Decls = Address → List Decl
+Decls = Address → List ScopeName × TypeOwner
 
--- the entry of a name of a scope, over the places of parts that were met before
-pub record IsNamedEntry (decls : Decls) (ks : List Key) (s : Address) (called : List ℕ) (e : TypeDef) : Type 0 where
-  pub decl : Decl
-  pub among : IsAmong (decls s) decl
-  pub same : decl.name ≡ called
-  pub name : e.name ≡ Some called
-  pub span : e.span ≡ decl.span
-  pub owner : e.owner ≡ decl.owner
-  pub form : (kind_of e.kind).form ≡ decl.form
-  pub parts : AreAt ks decl.parts (kind_of e.kind).parts
-  pub notes : AreNotes decl.notes e.docs e.stability e.external_id
-
--- the entry of an unnamed type, over the places of parts that were met before
-pub record IsUnnamedEntry (ks : List Key) (shape : Form) (exprs : Exprs) (e : TypeDef) : Type 0 where
-  pub name : e.name ≡ None
-  pub owner : e.owner ≡ owner.None
-  pub form : (kind_of e.kind).form ≡ shape
-  pub parts : AreAt ks exprs (kind_of e.kind).parts
-  pub docs : e.docs ≡ no_docs
-  pub external_id : e.external_id ≡ None
-
+-- The entry of a key, over the places of parts that were met before: of a name of a scope, one with its name, span, owner, form and parts, and
+-- with what is told of it; of an unnamed type, one without name, owner, docs and external id, with its form and parts.
 abbrev pub IsEntry : Decls → List Key → Key → TypeDef → Type 0
-IsEntry decls ks (Def scope name) e = IsNamedEntry decls ks scope name e
-IsEntry decls ks (Whole form parts) e = IsUnnamedEntry ks form parts e
+IsEntry decls ks (Def s name) e = (k : ℕ) × (x : ScopeName) × (slice_get (decls s).0 k ≡ Some x) × (local_name x ≡ name) × (e.name ≡ Some name) × (e.span ≡ name_span x) × (e.owner ≡ (decls s).1)
+    × ((kind_of e.kind).form ≡ (about_name x).body.form) × AreAt ks (name_exprs s x) (kind_of e.kind).parts × AreNotes (about_name x).notes e.docs e.stability e.external_id
+IsEntry decls ks (Whole form parts) e = (e.name ≡ None) × (e.owner ≡ owner.None) × ((kind_of e.kind).form ≡ form) × AreAt ks parts (kind_of e.kind).parts × (e.docs ≡ no_docs) × (e.external_id ≡ None)
 
 -- the arena is what was met, each once, and each entry that of its key over what was met before
 pub record IsKeyed (decls : Decls) (ks : List Key) (es : List TypeDef) : Type 0 where
@@ -145,13 +101,8 @@ stability_at es ty = Unknown
 abbrev pub settled : List TypeDef → Stability → TypeDefKind → Stability
 settled es given kind = first_known (given ∷ map (stability_at es) (kind_of kind).parts)
 
--- an unnamed type has that stability, among the entries before it
-abbrev pub IsSettled : List TypeDef → Stability → Key → TypeDef → Type 0
-IsSettled es given (Def scope name) e = Unit {0}
-IsSettled es given (Whole form parts) e = e.stability ≡ settled es given e.kind
-
--- the arena is the list of first meetings
+-- the arena is the list of first meetings, and an unnamed type has that stability, among the entries before it
 pub record IsMeeting (decls : Decls) (ms : List Meeting) (es : List TypeDef) : Type 0 where
   pub keyed : IsKeyed decls (keys ms) es
-  pub spans : map (λ e. e.span) es ≡ spans ms
-  pub settled : (i : ℕ) (m : Meeting) (e : TypeDef) → slice_get ms i ≡ Some m → slice_get es i ≡ Some e → IsSettled (take i es) m.given m.key e
+  pub spans : map (λ e. e.span) es ≡ map (λ m. m.span) ms
+  pub settled : (i : ℕ) (m : Meeting) (e : TypeDef) → slice_get ms i ≡ Some m → slice_get es i ≡ Some e → e.name ≡ None → e.stability ≡ settled (take i es) m.given e.kind

@@ -155,25 +155,13 @@ IsBelow n (type.Id i) = i < n
 IsBelow n _ = Unit {0}
 
 -- an interface of the arena has this name, stands there, and has these notes, apart from its types and functions
-pub record IsInterface (name : Option (List ℕ)) (span : Span) (n : Notes) (i : Interface) : Type 0 where
-  pub called : i.name ≡ name
-  pub stands : i.span ≡ span
-  pub docs : i.docs ≡ n.docs
-  pub stability : i.stability ≡ n.stability
-  pub no_package : i.package ≡ None
-  pub no_source : i.clone_of ≡ None
+abbrev pub IsInterface : Option (List ℕ) → Span → Notes → Interface → Type 0
+IsInterface name span n i = (i.name ≡ name) × (i.span ≡ span) × (i.docs ≡ n.docs) × (i.stability ≡ n.stability) × (i.package ≡ None) × (i.clone_of ≡ None)
 
 -- a world of the arena is the declared one of a name and these notes, apart from its imports, exports and includes
-pub record IsWorld (called : List ℕ) (at : Span) (n : Notes) (w : World) : Type 0 where
-  pub name : w.name ≡ called
-  pub span : w.span ≡ at
-  pub docs : w.docs ≡ n.docs
-  pub stability : w.stability ≡ n.stability
-  pub no_package : w.package ≡ None
+abbrev pub IsWorld : List ℕ → Span → Notes → World → Type 0
+IsWorld name span n w = (w.name ≡ name) × (w.span ≡ span) × (w.docs ≡ n.docs) × (w.stability ≡ n.stability) × (w.package ≡ None)
 
 -- a world of another package, where a path first leads to it
-pub record IsForeignWorld (v : ForeignVisit) (w : World) : Type 0 where
-  pub says : IsWorld [] v.id.span no_notes w
-  pub imports : w.imports ≡ []
-  pub exports : w.exports ≡ []
-  pub includes : w.includes ≡ []
+abbrev pub IsForeignWorld : ForeignVisit → World → Type 0
+IsForeignWorld v w = IsWorld [] v.id.span no_notes w × (w.imports ≡ []) × (w.exports ≡ []) × (w.includes ≡ [])

@@ -31,7 +31,7 @@ use Rattle.wit_syntax.specs.Scope.{include_paths, AreDistinct, local_names}
 use Rattle.wit_syntax.specs.Shape.{shape_of, all_shapes, words, all_words, handles, all_handles, body_of}
 use Rattle.wit_syntax.specs.Notes.{Notes, notes, no_docs, IsBrokenNotes}
 use Rattle.wit_arena.specs.Expr.{Expr, Prim, Use, Of, Exprs, End, More}
-use Rattle.wit_arena.specs.Meet.{Key, Def, Whole, Meeting, keys, IsMet, Meets, AreAt, Decl, Decls, IsAmong, IsMeeting, all_name_meetings, all_function_meetings, decl_of, settled}
+use Rattle.wit_arena.specs.Meet.{Key, Def, Whole, Meeting, keys, IsMet, Meets, AreAt, Decls, IsMeeting, name_meetings, all_function_meetings, settled}
 use Rattle.wit_syntax.specs.Fault.{Fault, fault, missing_at, missing_type_at, item_word, name_word}
 use Rattle.wit_arena.specs.Package.{At}
 use Rattle.wit_syntax.specs.Bodies.{IsBrokenType, IsBrokenPart, IsBrokenBody}
@@ -107,8 +107,9 @@ pub record IsAdded (old new : List TypeDef) (o : TypeOwner) (names names' : Name
   pub last : new ≡ old ++ named o name kind n span ∷ []
   pub inserted : names' ≡ insert_entry (pointwise nat_eq) names name (length old)
 
-abbrev pub decls_of : TypeOwner → Address → List ScopeName → List Decl
-decls_of o s xs = map (decl_of o s) xs
+-- a scope has these among its names, and this owner
+abbrev pub AreOwned : Decls → TypeOwner → Address → List ScopeName → Type 0
+AreOwned decls o s xs = (i : ℕ) (x : ScopeName) → slice_get xs i ≡ Some x → (k : ℕ) × (slice_get (decls s).0 k ≡ Some x) × ((decls s).1 ≡ o)
 
 -- none of these was met in the scope
 pub record AreNew (ks : List Key) (s : Address) (xs : List ScopeName) : Type 0 where
@@ -146,14 +147,14 @@ pub record AreKnown (ks : List Key) (s : Address) (cs : List Cell) : Type 0 wher
 -- what was met, extended by what is met in names of a scope, and what the names then stand for
 pub record IsDefined (decls : Decls) (ms : List Meeting) (new : List TypeDef) (s : Address) (names names' : Names) (xs : List ScopeName) : Type 0 where
   pub now : List Meeting
-  pub meets : Meets ms (all_name_meetings s xs) now
+  pub meets : Meets ms (flat_map (name_meetings s) xs) now
   pub meeting : IsMeeting decls now new
   pub stand : AreNames (keys now) s (env_of names')
   pub listed : map (λ p. p.0) names' ≡ map (λ p. p.0) names ++ local_names xs
 
 -- From whatever was met, the new arena is that with what is met in the names; `cs` are the scopes that they may use.
 pub record Defines (old new : List TypeDef) (cs : List Cell) (o : TypeOwner) (s : Address) (names names' : Names) (xs : List ScopeName) : Type 0 where
-  pub from : (decls : Decls) (ms : List Meeting) → ((d : Decl) → IsAmong (decls_of o s xs) d → IsAmong (decls s) d) → AreDistinct xs → AreNew (keys ms) s xs → AreKnown (keys ms) s cs → IsMeeting decls ms old → AreNames (keys ms) s (env_of names) → IsDefined decls ms new s names names' xs
+  pub from : (decls : Decls) (ms : List Meeting) → AreOwned decls o s xs → AreDistinct xs → AreNew (keys ms) s xs → AreKnown (keys ms) s cs → IsMeeting decls ms old → AreNames (keys ms) s (env_of names) → IsDefined decls ms new s names names' xs
 
 -- a name stands for nothing yet
 pub record IsUnknown (env : Env) (ids : List Id) (f : Fault) : Type 0 where

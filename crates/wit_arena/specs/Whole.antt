@@ -42,18 +42,14 @@ use Rattle.wit_types.specs.declared.docs.Docs.{Docs}
 use Rattle.wit_syntax.specs.Notes.{docs_of, no_docs, stability_of, no_notes}
 use Rattle.wit_syntax.specs.Broken.{last_header, headers}
 use Rattle.wit_syntax.specs.Sides.{SideItem, SideFunction, SideLink, SideInline, side_items, inline_items, all_scopes}
-use Rattle.wit_arena.specs.Meet.{Key, Def, Meeting, keys, all_name_meetings, all_function_meetings, Decls, decl_of, IsMeeting}
-use Rattle.wit_arena.specs.OneByOne.{OneByOne}
-use Rattle.wit_arena.specs.FirstMeetings.{AreFirst}
+use Rattle.wit_arena.specs.Meet.{Key, Def, Meeting, keys, name_meetings, Meets, all_function_meetings, Decls, IsMeeting}
+use Rattle.wit_arena.specs.OneByOne.{OneByOne, BothParts}
 use Rattle.wit_arena.specs.Package.{IsInterface, IsWorld, IsForeignWorld, world_types}
 
 -- an item, with an order of its names
 pub record Ordered : Type 0 where
   pub item : Item
   pub order : List ℕ
-
-abbrev pub item_of : Ordered → Item
-item_of o = o.item
 
 -- the names of an item: the used ones, and then the definitions in its order
 abbrev pub ordered_names : Ordered → List ScopeName
@@ -73,27 +69,17 @@ pub record OrderedWorld : Type 0 where
   pub own : Ordered
   pub inside : List Ordered
 
-abbrev pub own_item : OrderedWorld → Item
-own_item w = w.own.item
-
--- the names of a scope, and a function of it, each by itself
-abbrev pub names_turn : Address → List ScopeName → Turned
-names_turn s xs = record { address = s; names = xs; functions = [] }
-
-abbrev pub function_turn : Address → SourceFunction → Turned
-function_turn s fn = record { address = s; names = []; functions = fn ∷ [] }
-
 -- what stands on the sides of a world, one after another: its functions, each by itself, and the interfaces that are written there, whole
 abbrev pub side_turns : Address → List SideItem → List Ordered → List Turned
 side_turns s [] os = []
-side_turns s (SideFunction fn ∷ xs) os = function_turn s fn ∷ side_turns s xs os
+side_turns s (SideFunction fn ∷ xs) os = record { address = s; names = []; functions = fn ∷ [] } ∷ side_turns s xs os
 side_turns s (SideLink link ∷ xs) os = side_turns s xs os
 side_turns s (SideInline x name items ∷ xs) [] = side_turns s xs []
 side_turns s (SideInline x name items ∷ xs) (o ∷ os) = turned o ∷ side_turns s xs os
 
 -- a world, as it is resolved: its names, and then what stands on its sides
 abbrev pub world_turns : OrderedWorld → List Turned
-world_turns w = names_turn (address w.own.item) (ordered_names w.own) ∷ side_turns (address w.own.item) (side_items w.own.item) w.inside
+world_turns w = record { address = address w.own.item; names = ordered_names w.own; functions = [] } ∷ side_turns (address w.own.item) (side_items w.own.item) w.inside
 
 -- interfaces and then worlds, as they are resolved
 abbrev pub all_turns : List Ordered → List OrderedWorld → List Turned
@@ -108,18 +94,14 @@ all_inside ws = flat_map (λ w. w.inside) ws
 pub record AreOrdered (files : List PackageFile) (interfaces : List Ordered) (worlds : List OrderedWorld) : Type 0 where
   pub places : List ℕ
   pub item_order : IsOrder (item_rows files) places
-  pub all_interfaces : map item_of interfaces ≡ interfaces_of (in_order (all_items files) places)
-  pub all_worlds : map own_item worlds ≡ worlds_of (in_order (all_items files) places)
-  pub inside : (t : ℕ) (w : OrderedWorld) → slice_get worlds t ≡ Some w → map item_of w.inside ≡ inline_items w.own.item
+  pub all_interfaces : map (λ o. o.item) interfaces ≡ interfaces_of (in_order (all_items files) places)
+  pub all_worlds : map (λ w. w.own.item) worlds ≡ worlds_of (in_order (all_items files) places)
+  pub inside : (t : ℕ) (w : OrderedWorld) → slice_get worlds t ≡ Some w → map (λ o. o.item) w.inside ≡ inline_items w.own.item
   pub least : (t : ℕ) (o : Ordered) → slice_get (interfaces ++ (map (λ w. w.own) worlds ++ all_inside worlds)) t ≡ Some o → IsOrder (rows_of (scope_names o.item)) o.order
 
 -- what is met in a scope: in its names, and then in its functions
 abbrev pub turn_meetings : Turned → List Meeting
-turn_meetings t = all_name_meetings t.address t.names ++ all_function_meetings t.address t.functions
-
--- what is met in scopes, in order
-abbrev pub meetings : List Turned → List Meeting
-meetings ts = flat_map turn_meetings ts
+turn_meetings t = flat_map (name_meetings t.address) t.names ++ all_function_meetings t.address t.functions
 
 -- the place of an address among these
 abbrev pub place_at : List Address → Address → Option ℕ
@@ -129,9 +111,9 @@ place_at ss s = position (λ a. same_address a s) ss
 abbrev pub owner_at : List Address → List Address → Address → TypeOwner
 owner_at is ws s = unwrap_or (option_or (option_map owner.Interface (place_at is s)) (option_map owner.World (place_at ws s))) owner.None
 
--- the declarations of each scope, where the interfaces have these addresses and the worlds those
+-- the names of each scope, and its owner, where the interfaces have these addresses and the worlds those
 abbrev pub declarations : List PackageFile → List Address → List Address → Decls
-declarations files is ws s = map (decl_of (owner_at is ws s) s) (scope files s)
+declarations files is ws s = (scope files s, owner_at is ws s)
 
 -- the addresses of items
 abbrev pub addresses : List Ordered → List Address
@@ -150,20 +132,16 @@ pub record IsResolvedInterface (ks : List Key) (o : Ordered) (i : Interface) : T
 
 -- names of a scope as imports: each is the type that it stands for, at its local name
 abbrev pub type_imports : List ScopeName → List (List ℕ × ℕ) → List (WorldKey × WorldItem)
-type_imports [] types = []
-type_imports (x ∷ xs) [] = []
 type_imports (x ∷ xs) (t ∷ types) = (key.Name (local_name x), Type_ t.1 (local_id x).span) ∷ type_imports xs types
+type_imports _ _ = []
 
 -- what an include renames
 abbrev pub renamed : Renaming → IncludeName
 renamed n = record { name = n.name.name.now; as_ = n.as_.name.now }
 
 -- an include, where the worlds have these addresses
-pub record IsInclude (worlds : List Address) (top : List TopName) (written : Include) (i : WorldInclude) : Type 0 where
-  pub stability : i.stability ≡ stability_of written.attributes.items
-  pub place : slice_get worlds i.id ≡ Some (target_scope WorldNamed (leads top written.from))
-  pub names : i.names ≡ map renamed written.names.items
-  pub span : i.span ≡ (path_id written.from).span
+abbrev pub IsInclude : List Address → List TopName → Include → WorldInclude → Type 0
+IsInclude worlds top x i = (i.stability ≡ stability_of x.attributes.items) × (slice_get worlds i.id ≡ Some (target_scope WorldNamed (leads top x.from))) × (i.names ≡ map renamed x.names.items) × (i.span ≡ (path_id x.from).span)
 
 -- these are the includes of an item, where the worlds have these addresses
 abbrev pub AreIncludes : List Address → Item → List WorldInclude → Type 0
@@ -174,12 +152,9 @@ AreIncludes worlds item is = OneByOne (IsInclude worlds item.top) (includes item
 pub record HasSides (ks : List Key) (interfaces inside : List Address) (o : Ordered) (w : World) : Type 0 where
   pub functions : List Function
   pub are : OneByOne (IsFunction ks (address o.item)) (item_functions o.item) functions
-  pub imported : List (WorldKey × WorldItem)
-  pub are_imported : AreSideItems interfaces o.item.top Imported (side_items o.item) functions inside imported
-  pub imports : w.imports ≡ settled (includes o.item) (type_imports (ordered_names o) (world_types w) ++ imported)
-  pub exported : List (WorldKey × WorldItem)
-  pub are_exported : AreSideItems interfaces o.item.top Exported (side_items o.item) functions inside exported
-  pub exports : w.exports ≡ settled (includes o.item) exported
+  pub imports : (on : List (WorldKey × WorldItem)) × AreSideItems interfaces o.item.top Imported (side_items o.item) functions inside on
+      × (w.imports ≡ settled (includes o.item) (type_imports (ordered_names o) (world_types w) ++ on))
+  pub exports : (on : List (WorldKey × WorldItem)) × AreSideItems interfaces o.item.top Exported (side_items o.item) functions inside on × (w.exports ≡ settled (includes o.item) on)
 
 -- A world of files, with its names in turn as its imports, and then the functions and interfaces that it imports, with those that it exports,
 -- and with its includes, where the interfaces and the worlds have these addresses.
@@ -200,11 +175,8 @@ HandleRequires files ks h None = EndsAt files h.0 h.1 AtResource
 HandleRequires files ks h (Some r) = (s : Address) × (name : List ℕ) × EndsAt files h.0 h.1 (AtForeign s name) × (slice_get ks r.0 ≡ Some (Def s name)) × (r.1 ≡ h.1.span)
 
 -- these are what the names in handles require, in order
-pub record AreRequired (files : List PackageFile) (ks : List Key) (hs : List (Address × Id)) (rs : List (ℕ × Span)) : Type 0 where
-  pub each : List (Option (ℕ × Span))
-  pub count : length each ≡ length hs
-  pub says : (k : ℕ) (h : Address × Id) (r : Option (ℕ × Span)) → slice_get hs k ≡ Some h → slice_get each k ≡ Some r → HandleRequires files ks h r
-  pub all : rs ≡ filter_map (λ r. r) each
+abbrev pub AreRequired : List PackageFile → List Key → List (Address × Id) → List (ℕ × Span) → Type 0
+AreRequired files ks hs rs = (each : List (Option (ℕ × Span))) × OneByOne (HandleRequires files ks) hs each × (rs ≡ filter_map (λ r. r) each)
 
 -- a name that is taken from another package, where it is used
 abbrev pub taking_meeting : Taking → Meeting
@@ -212,7 +184,7 @@ taking_meeting t = record { key = Def t.from t.id.name.now; span = t.id.span; gi
 
 -- what is met in files: first what they take from other packages, then what stands in these scopes
 abbrev pub all_meetings : List PackageFile → List Turned → List Meeting
-all_meetings files ts = map taking_meeting (takings files) ++ meetings ts
+all_meetings files ts = map taking_meeting (takings files) ++ flat_map turn_meetings ts
 
 -- the addresses of other packages' interfaces, and of these
 abbrev pub interface_addresses : List PackageFile → List Ordered → List Address
@@ -222,15 +194,9 @@ interface_addresses files os = map visited (foreign_interfaces files) ++ address
 abbrev pub world_addresses : List PackageFile → List OrderedWorld → List Address
 world_addresses files ws = map visited (foreign_worlds files) ++ map (λ w. address w.own.item) ws
 
--- an item of another package, with the names that are taken from it
-abbrev pub foreign_turned : List PackageFile → ForeignVisit → Turned
-foreign_turned files v = record { address = visited v; names = scope files (visited v); functions = [] }
-
 -- an interface of another package, where a path first leads to it, with the names that are taken from it
-pub record IsForeignInterface (files : List PackageFile) (ks : List Key) (v : ForeignVisit) (i : Interface) : Type 0 where
-  pub says : IsInterface None v.id.span no_notes i
-  pub types : HasTypes ks (foreign_turned files v) i.types
-  pub functions : i.functions ≡ []
+abbrev pub IsForeignInterface : List PackageFile → List Key → ForeignVisit → Interface → Type 0
+IsForeignInterface files ks v i = IsInterface None v.id.span no_notes i × HasTypes ks (record { address = visited v; names = scope files (visited v); functions = [] }) i.types × (i.functions ≡ [])
 
 -- how many of these stand before the first that is the item
 abbrev pub foreign_place : List ForeignVisit → ForeignVisit → ℕ
@@ -240,20 +206,14 @@ foreign_place vs v = prefix_len (λ u. not (same_item u v)) vs
 abbrev pub foreign_entry : List PackageFile → ForeignVisit → AstItem
 foreign_entry files v = if v.wants_world then entry.World (foreign_place (foreign_worlds files) v) else entry.Interface (foreign_place (foreign_interfaces files) v)
 
--- the item by its name, with its entry and the stability of each of its visits
-abbrev pub dep_item : List PackageFile → ForeignVisit → List ℕ × (AstItem × List Stability)
-dep_item files v = (v.id.name.now, (foreign_entry files v, map (λ u. stability_of u.attributes) (filter (λ u. same_address (visited u) (visited v)) (foreign_visits files))))
-
--- a package with its items
+-- a package with its items: each by its name, with its entry and the stability of each of its visits
 abbrev pub dep : List PackageFile → ForeignVisit → PackageName × List (List ℕ × (AstItem × List Stability))
-dep files v = (package_of v.of, map (dep_item files) (filter (λ u. same_package (package_of u.of) (package_of v.of)) (foreign_items files)))
+dep files v = (package_of v.of, map (λ i. (i.id.name.now, (foreign_entry files i, map (λ u. stability_of u.attributes) (filter (λ u. same_address (visited u) (visited i)) (foreign_visits files))))) (filter (λ u. same_package (package_of u.of) (package_of v.of)) (foreign_items files)))
 
 -- what the package names of others: each of them in the order of its first visit, with its items in the order of theirs, and the types
 -- that are taken from them in the order of their first uses
-pub record NamesOthers (files : List PackageFile) (p : UnresolvedPackage) : Type 0 where
-  pub deps : p.foreign_deps ≡ map (dep files) (foreign_packages files)
-  pub spans : p.foreign_dep_spans ≡ map (λ v. v.of.span) (foreign_packages files)
-  pub unknown : p.unknown_type_spans ≡ map (λ t. t.id.span) (first_takings files)
+abbrev pub NamesOthers : List PackageFile → UnresolvedPackage → Type 0
+NamesOthers files p = (p.foreign_deps ≡ map (dep files) (foreign_packages files)) × (p.foreign_dep_spans ≡ map (λ v. v.of.span) (foreign_packages files)) × (p.unknown_type_spans ≡ map (λ t. t.id.span) (first_takings files))
 
 -- the docs of the first of these headers that has some
 abbrev pub first_docs : List Header → Docs
@@ -265,7 +225,7 @@ pub record AreFirstMeetings (files : List PackageFile) (met : List Meeting) : Ty
   pub interfaces : List Ordered
   pub worlds : List OrderedWorld
   pub ordered : AreOrdered files interfaces worlds
-  pub first : AreFirst (all_meetings files (all_turns interfaces worlds)) met
+  pub first : Meets [] (all_meetings files (all_turns interfaces worlds)) met
 
 -- The package has the name and the version of the last header, and the docs of the one that has some. Its arenas begin with the items of other packages, in the order of
 -- their first visits; then they have the interfaces and the worlds in the least order in which each item comes after those that it
@@ -284,16 +244,8 @@ pub record IsPackage (files : List PackageFile) (p : UnresolvedPackage) : Type 0
   pub met : List Meeting
   pub first : AreFirstMeetings files met
   pub meeting : IsMeeting (declarations files (interface_addresses files (first.interfaces ++ all_inside first.worlds)) (world_addresses files first.worlds)) met p.types
-  pub foreign_front : List Interface
-  pub own_interfaces : List Interface
-  pub interface_arena : p.interfaces ≡ foreign_front ++ own_interfaces
-  pub are_foreign_interfaces : OneByOne (IsForeignInterface files (keys met)) (foreign_interfaces files) foreign_front
-  pub are_interfaces : OneByOne (IsResolvedInterface (keys met)) (first.interfaces ++ all_inside first.worlds) own_interfaces
-  pub worlds_front : List World
-  pub own_worlds : List World
-  pub world_arena : p.worlds ≡ worlds_front ++ own_worlds
-  pub are_foreign_worlds : OneByOne IsForeignWorld (foreign_worlds files) worlds_front
-  pub are_worlds : OneByOne (IsResolvedWorld (keys met) (interface_addresses files (first.interfaces ++ all_inside first.worlds)) (world_addresses files first.worlds)) first.worlds own_worlds
+  pub interfaces : BothParts (IsForeignInterface files (keys met)) (IsResolvedInterface (keys met)) (foreign_interfaces files) (first.interfaces ++ all_inside first.worlds) p.interfaces
+  pub worlds : BothParts IsForeignWorld (IsResolvedWorld (keys met) (interface_addresses files (first.interfaces ++ all_inside first.worlds)) (world_addresses files first.worlds)) (foreign_worlds files) first.worlds p.worlds
   -- the types of other packages that must be resources: those at which names in handles end, of all interfaces and then of all worlds
   pub required : AreRequired files (keys met) (flat_map turn_handles (all_turns first.interfaces first.worlds)) p.required_resource_types
 

@@ -29,7 +29,7 @@ use Rattle.wit_syntax.specs.Repeats.{firsts}
 use Rattle.wit_syntax.specs.Foreign.{ForeignVisit, visited, foreign_items, foreign_interfaces, foreign_worlds}
 use Rattle.wit_arena.specs.Meet.{Key, Def, keys}
 use Rattle.wit_arena.specs.Package.{IsForeignWorld}
-use Rattle.wit_arena.specs.Whole.{place_at, owner_at, taking_meeting, HasTypes, foreign_turned, IsForeignInterface}
+use Rattle.wit_arena.specs.Whole.{place_at, owner_at, taking_meeting, HasTypes, IsForeignInterface}
 use Rattle.wit_arena.specs.Resolving.{Names, named}
 use Rattle.wit_syntax.proofs.Lists.{map_at, map_map}
 use Rattle.wit_syntax.proofs.Names.{lookup-place}
@@ -43,6 +43,7 @@ use Rattle.wit_files.specs.Foreign.{foreign_behind}
 use Rattle.wit_front.specs.declared.foreign.ForeignArenas.{ForeignArenas}
 use Rattle.wit_front.specs.Front.{interface_with, with_types, bare_world, interfaces_among, worlds_among, addresses_among, entry_behind, entries_behind, taken_from, interface_behind, type_among, IsTaken, AreApart, IsFront}
 use Rattle.wit_front.proofs.Fronts.{interfaces-more, interfaces-same, worlds-more, worlds-same, entries-more, taken-more, names-taken_from, taken_from-at, taken_from-has, insert_entry-last, slice_set-map, entries_behind-among}
+use Rattle.wit_arena.proofs.Turns.{foreign_turned}
 
 module _ (vs : List ForeignVisit) (v : ForeignVisit) (a a' : ForeignArenas) (before : IsTaken vs [] [] a) (spans : a'.spans.items ≡ a.spans.items) where
   -- one world more
@@ -235,11 +236,11 @@ module _ (files : List PackageFile) (es : List TypeDef) (a : ForeignArenas) (don
       types = done.types;
       interfaces = record {
         count = ap length done.interfaces ∙ length-map (foreign_interfaces files) (interface_behind all);
-        each = λ t v i at_v at_i. subst (λ (x : Interface). IsForeignInterface files (keys (map taking_meeting all)) v x) (interface_is t v i at_v at_i) (record { says = record { called = refl; stands = refl; docs = refl; stability = refl; no_package = refl; no_source = refl }; types = has_types v; functions = refl });
+        each = λ t v i at_v at_i. subst (λ (x : Interface). IsForeignInterface files (keys (map taking_meeting all)) v x) (interface_is t v i at_v at_i) ((refl, refl, refl, refl, refl, refl), has_types v, refl);
       };
       worlds = record {
         count = ap length done.worlds ∙ length-map (foreign_worlds files) (λ (u : ForeignVisit). bare_world u.id.span);
-        each = λ t v w at_v at_w. subst (λ (x : World). IsForeignWorld v x) (world_is t v w at_v at_w) (record { says = record { name = refl; span = refl; docs = refl; stability = refl; no_package = refl }; imports = refl; exports = refl; includes = refl });
+        each = λ t v w at_v at_w. subst (λ (x : World). IsForeignWorld v x) (world_is t v w at_v at_w) ((refl, refl, refl, refl, refl), refl, refl, refl);
       };
     };
     visits = done.visits;

@@ -39,14 +39,14 @@ use Rattle.wit_syntax.specs.Node.{Head, Named, Tree}
 use Rattle.wit_syntax.specs.Notes.{no_docs}
 use Rattle.wit_syntax.specs.Scope.{item_rows, rows_of}
 use Rattle.wit_syntax.specs.Shape.{Word}
-use Rattle.wit_syntax.specs.Source.{Foreign, leads, path_scope, top_names, TheInterface, TheWorld, Item, Used, scope_names, takings}
+use Rattle.wit_syntax.specs.Source.{Foreign, leads, path_scope, top_names, TheInterface, TheWorld, Item, Used, scope_names, takings, Taken}
 use Rattle.wit_syntax.specs.Trees.{source_tree}
 use Rattle.wit_arena.specs.Meet.{Def, Meeting, Meets, IsMeeting}
 use Rattle.wit_arena.specs.Package.{owner_of, package_tree}
 use Rattle.wit_arena.specs.Whole.{Ordered, turned, all_meetings, interface_addresses, declarations, NamesOthers}
 use Rattle.wit_meaning_examples.proofs.Examples.{at, id, vec, no_comments, untold, header}
 use Rattle.wit_meaning_examples.proofs.SignatureExamples.{one_order}
-use Rattle.wit_meaning_examples.proofs.FirstMet.{meets_each, met_more, named_entry, none_met}
+use Rattle.wit_meaning_examples.proofs.FirstMet.{meets_each, none_met, met_named}
 
 module _ (ptr : Ptr) (alloc : Global) where
   -- a package in a path, and the c behind it
@@ -218,8 +218,8 @@ module _ (ptr : Ptr) (alloc : Global) where
 
     arena : IsMeeting (declarations files (other ∷ here ∷ []) []) met types
     arena =
-        let first : IsMeeting (declarations files (other ∷ here ∷ []) []) (t_met other ∷ []) (t_entry 0 kind.Unknown ∷ []) = met_more _ _ (none_met _) refl (named_entry _ _ _ 0 _ _ refl refl tt) refl tt in
-        met_more _ _ first refl (named_entry _ _ _ 0 _ _ refl refl ((0, refl, refl), tt)) refl tt
+        let first : IsMeeting (declarations files (other ∷ here ∷ []) []) (t_met other ∷ []) (t_entry 0 kind.Unknown ∷ []) = met_named other 0 (Taken [] t_used.name) kind.Unknown (none_met _) refl refl refl tt in
+        met_named here 0 (Used other [] t_used) (kind.Type_ (type.Id 0)) first refl refl refl ((0, refl, refl), tt)
 
     abbrev whole : UnresolvedPackage
     whole = record {
@@ -237,7 +237,7 @@ module _ (ptr : Ptr) (alloc : Global) where
     }
 
     named : NamesOthers files whole
-    named = record { deps = refl; spans = refl; unknown = refl }
+    named = (refl, refl, refl)
 
     owners : map (owner_of whole) (owner.Interface 0 ∷ owner.Interface 1 ∷ []) ≡ (Some other ∷ Some here ∷ [])
     owners = refl

@@ -50,8 +50,9 @@ use Rattle.wit_syntax.specs.Shape.{Word}
 use Rattle.wit_syntax.specs.Bodies.{folded, IsSecond, IsDuplicateName}
 use Rattle.wit_syntax.specs.Broken.{last_header, IsMissingEdge, IsCyclicEdge, IsBroken, Headerless, IsWrongTop, LostUse}
 use Rattle.wit_arena.specs.Package.{package_tree}
-use Rattle.wit_arena.specs.Whole.{turned, meetings}
+use Rattle.wit_arena.specs.Whole.{turned}
 use Rattle.wit_meaning_examples.proofs.SmallOrders.{two, three, two_order, three_order}
+use Rattle.wit_arena.proofs.Turns.{meetings}
 
 folded_names : map folded (codes "P-q1" ∷ codes "p-Q1" ∷ []) ≡ (codes "p-q1" ∷ codes "p-q1" ∷ [])
 folded_names = refl

@@ -12,11 +12,12 @@ use Rattle.wit_syntax.specs.Address.{Address, InterfaceNamed, WorldNamed, Inline
 use Rattle.wit_syntax.specs.Form.{Form, BorrowForm, ListForm, ResultForm}
 use Rattle.wit_syntax.proofs.Names.{name_itself}
 use Rattle.wit_syntax.proofs.Repeated.{differ_none}
-use Rattle.wit_arena.specs.Expr.{Exprs}
+use Rattle.wit_arena.specs.Expr.{Exprs, name_exprs}
 use Rattle.wit_arena.specs.Kind.{kind_of}
-use Rattle.wit_arena.specs.Meet.{Key, Def, Whole, Meeting, keys, IsMet, Meets, AreAt, Decl, Decls, IsNamedEntry, IsUnnamedEntry, IsEntry, IsSettled, IsMeeting}
+use Rattle.wit_arena.specs.Meet.{Key, Def, Whole, Meeting, keys, IsMet, Meets, AreAt, Decls, IsEntry, IsMeeting, settled}
 use Rattle.wit_arena.specs.Resolving.{named, unnamed}
-use Rattle.wit_arena.proofs.Meeting.{keys-append, meeting_more}
+use Rattle.wit_arena.proofs.Meeting.{keys-append, meeting_more, IsSettled}
+use Rattle.wit_syntax.specs.Source.{ScopeName, local_name, about_name}
 
 -- a mark of a scope, of a form, and of what is met: it tells some of it
 abbrev scope_mark : Address → List ℕ
@@ -80,10 +81,14 @@ none_met decls = record {
 pub met_more : {decls : Decls} {ms : List Meeting} {es : List TypeDef} (m : Meeting) (e : TypeDef) → IsMeeting decls ms es → is_new (key_mark m.key) (keys ms) ≡ true → IsEntry decls (keys ms) m.key e → e.span ≡ m.span → IsSettled es m.given m.key e → IsMeeting decls (ms ++ m ∷ []) (es ++ e ∷ [])
 met_more {decls} {ms} {es} m e before new it here settled = meeting_more m e before (fresh (keys ms) m.key new) it here settled
 
--- the entry of a declaration, over the places of its parts
-pub named_entry : (decls : Decls) (ks : List Key) (s : Address) (k : ℕ) (d : Decl) (kind : TypeDefKind) → slice_get (decls s) k ≡ Some d → (kind_of kind).form ≡ d.form → AreAt ks d.parts (kind_of kind).parts → IsNamedEntry decls ks s d.name (named d.owner d.name kind d.notes d.span)
-named_entry decls ks s k d kind at form parts = record { decl = d; among = (k, at); same = refl; name = refl; span = refl; owner = refl; form = form; parts = parts; notes = record { docs = refl; stability = refl; external_id = refl } }
+-- a name of a scope has the next entry, over the places of its parts
+pub met_named : {decls : Decls} {ms : List Meeting} {es : List TypeDef} (s : Address) (k : ℕ) (x : ScopeName) (kind : TypeDefKind) → IsMeeting decls ms es → is_new (key_mark (Def s (local_name x))) (keys ms) ≡ true → slice_get (decls s).0 k ≡ Some x → (kind_of kind).form ≡ (about_name x).body.form → AreAt (keys ms) (name_exprs s x) (kind_of kind).parts → IsMeeting decls (ms ++ record { key = Def s (local_name x); span = (about_name x).span; given = (about_name x).notes.stability } ∷ []) (es ++ named (decls s).1 (local_name x) kind (about_name x).notes (about_name x).span ∷ [])
+met_named {decls} {ms} {es} s k x kind before new at form parts =
+    let m : Meeting = record { key = Def s (local_name x); span = (about_name x).span; given = (about_name x).notes.stability } in
+    met_more m (named (decls s).1 (local_name x) kind (about_name x).notes (about_name x).span) before new (k, x, at, refl, refl, refl, refl, form, parts, record { docs = refl; stability = refl; external_id = refl }) refl tt
 
--- that of an unnamed type
-pub unnamed_entry : (ks : List Key) (form : Form) (parts : Exprs) (kind : TypeDefKind) (known : Stability) (span : Span) → (kind_of kind).form ≡ form → AreAt ks parts (kind_of kind).parts → IsUnnamedEntry ks form parts (unnamed kind known span)
-unnamed_entry ks form parts kind known span of are = record { name = refl; owner = refl; form = of; parts = are; docs = refl; external_id = refl }
+-- and so has an unnamed type
+pub met_unnamed : {decls : Decls} {ms : List Meeting} {es : List TypeDef} (form : Form) (parts : Exprs) (kind : TypeDefKind) (given : Stability) (span : Span) → IsMeeting decls ms es → is_new (key_mark (Whole form parts)) (keys ms) ≡ true → (kind_of kind).form ≡ form → AreAt (keys ms) parts (kind_of kind).parts → IsMeeting decls (ms ++ record { key = Whole form parts; span = span; given = given } ∷ []) (es ++ unnamed kind (settled es given kind) span ∷ [])
+met_unnamed {decls} {ms} {es} form parts kind given span before new of are =
+    let m : Meeting = record { key = Whole form parts; span = span; given = given } in
+    met_more m (unnamed kind (settled es given kind) span) before new (refl, refl, of, are, refl, refl) refl refl

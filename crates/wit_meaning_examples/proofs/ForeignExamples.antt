@@ -116,7 +116,7 @@ module _ (ptr : Ptr) (alloc : Global) where
   }
 
   named : NamesOthers files whole
-  named = record { deps = refl; spans = refl; unknown = refl }
+  named = (refl, refl, refl)
 
   -- what is taken is the first entry, and the interface without a name is c's
   first_type : map (foreign_type files) (takings files) ≡ (t_entry 0 kind.Unknown ∷ [])

@@ -41,16 +41,18 @@ use Rattle.wit_syntax.specs.Notes.{no_docs}
 use Rattle.wit_syntax.specs.Source.{top_names, TheInterface, Item, scope_names}
 use Rattle.wit_syntax.specs.Trees.{source_tree}
 use Rattle.wit_syntax.specs.Scope.{rows_of}
-use Rattle.wit_arena.specs.Expr.{Expr, Prim, Use, Of, End, More, one}
-use Rattle.wit_arena.specs.Meet.{Key, Def, Whole, Meeting}
-use Rattle.wit_syntax.specs.Shape.{Word, all_handles}
+use Rattle.wit_arena.specs.Expr.{Expr, Prim, Use, Of, End, More, one, expr_of}
+use Rattle.wit_arena.specs.Meet.{Key, Def, Whole, Meeting, IsAt}
+use Rattle.wit_syntax.specs.Shape.{Word, all_handles, Shape}
 use Rattle.wit_syntax.specs.Shape as shape
 use Rattle.wit_syntax.specs.Function.{Freestanding, Method, Static, Constructor, SourceParam, SourceFunction, resource_function, free_function, functions, item_types, signature, role_names}
 use Rattle.wit_arena.specs.Functions.{IsParam, AreParams, IsFunction, AreFunctions, placed_functions}
 use Rattle.wit_syntax.specs.Sides.{FunctionKey}
 use Rattle.wit_arena.specs.Package.{package_tree, functions_of, function_types}
-use Rattle.wit_arena.specs.Whole.{turned, meetings}
+use Rattle.wit_arena.specs.Whole.{turned}
 use Rattle.wit_meaning_examples.proofs.Examples.{at, id, vec, no_comments, untold, header}
+use Rattle.wit_arena.proofs.Turns.{meetings}
+use Rattle.wit_arena.specs.OneByOne.{OneByOne}
 
 -- what holds of two lists, place by place
 abbrev pub Pairs : {X Y : Type 0} → (X → Y → Type 0) → List X → List Y → Type 0
@@ -69,6 +71,10 @@ pairs P (z ∷ xs) (w ∷ ys) all (suc k) x y at there = pairs P xs ys all.1 k x
 
 pub params_are : (ks : List Key) (s : Address) (written : List SourceParam) (ps : List Param) → length ps ≡ length written → Pairs (IsParam ks s) written ps → AreParams ks s written ps
 params_are ks s written ps count all = record { count = count; each = pairs (IsParam ks s) written ps all }
+
+-- a result is the written one
+pub result_is : (ks : List Key) (s : Address) (x : Shape) (t : Ty) → IsAt ks (expr_of s x) t → OneByOne (λ (y : Shape) (u : Ty). IsAt ks (expr_of s y) u) (x ∷ []) (t ∷ [])
+result_is ks s x t is = record { count = refl; each = pairs (λ (y : Shape) (u : Ty). IsAt ks (expr_of s y) u) (x ∷ []) (t ∷ []) (is, tt) }
 
 -- package foo:foo; interface i { resource r { constructor(n: u32); m: async func(x: borrow<r>) -> future<u8>; s: static func() -> r; } f: func(a: map<string, list<u8, 4>>) -> option<stream>; }
 module _ (ptr : Ptr) (alloc : Global) where
@@ -228,16 +234,16 @@ module _ (ptr : Ptr) (alloc : Global) where
 
   -- each is the written one
   is_constructor : IsFunction ks in_i (resource_function r.name (resource.Constructor (no_comments ptr alloc) (untold ptr alloc) (at 44 55) (vec ptr alloc (n_u32 ∷ []) (lit< tt)) None)) made_constructor
-  is_constructor = record { name = refl; kind = (0, refl, refl); params = params_are ks in_i _ _ refl (record { name = refl; span = refl; type = refl }, tt); result = (0, refl, refl); span = refl; notes = record { docs = refl; stability = refl; external_id = refl } }
+  is_constructor = record { name = refl; kind = (0, refl, refl); params = params_are ks in_i _ _ refl ((refl, refl, refl), tt); result = result_is ks in_i _ _ (0, refl, refl); span = refl; notes = record { docs = refl; stability = refl; external_id = refl } }
 
   is_method : IsFunction ks in_i (resource_function r.name (resource.Method method_m)) made_method
-  is_method = record { name = refl; kind = (0, refl, refl); params = params_are ks in_i _ _ refl (record { name = refl; span = refl; type = (1, refl, refl) }, (record { name = refl; span = refl; type = (1, refl, refl) }, tt)); result = (2, refl, refl); span = refl; notes = record { docs = refl; stability = refl; external_id = refl } }
+  is_method = record { name = refl; kind = (0, refl, refl); params = params_are ks in_i _ _ refl ((refl, refl, (1, refl, refl)), ((refl, refl, (1, refl, refl)), tt)); result = result_is ks in_i _ _ (2, refl, refl); span = refl; notes = record { docs = refl; stability = refl; external_id = refl } }
 
   is_static : IsFunction ks in_i (resource_function r.name (resource.Static static_s)) made_static
-  is_static = record { name = refl; kind = (0, refl, refl); params = params_are ks in_i _ _ refl tt; result = (0, refl, refl); span = refl; notes = record { docs = refl; stability = refl; external_id = refl } }
+  is_static = record { name = refl; kind = (0, refl, refl); params = params_are ks in_i _ _ refl tt; result = result_is ks in_i _ _ (0, refl, refl); span = refl; notes = record { docs = refl; stability = refl; external_id = refl } }
 
   is_f : IsFunction ks in_i (free_function f) made_f
-  is_f = record { name = refl; kind = refl; params = params_are ks in_i _ _ refl (record { name = refl; span = refl; type = (4, refl, refl) }, tt); result = (6, refl, refl); span = refl; notes = record { docs = refl; stability = refl; external_id = refl } }
+  is_f = record { name = refl; kind = refl; params = params_are ks in_i _ _ refl ((refl, refl, (4, refl, refl)), tt); result = result_is ks in_i _ _ (6, refl, refl); span = refl; notes = record { docs = refl; stability = refl; external_id = refl } }
 
   are_functions : AreFunctions ks in_i (functions item) made
   are_functions = record { count = refl; each = pairs (IsFunction ks in_i) (functions item) made (is_constructor, (is_method, (is_static, (is_f, tt)))) }

@@ -34,11 +34,12 @@ use Rattle.wit_syntax.specs.Broken.{IsSecondDocs, IsWrongTop, AttributedUse}
 use Rattle.wit_arena.specs.Expr.{Prim, one}
 use Rattle.wit_syntax.specs.Fault.{fault}
 use Rattle.wit_syntax.specs.Form.{ListForm}
-use Rattle.wit_arena.specs.Meet.{Def, Whole, Meeting, name_meetings, settled, IsSettled}
+use Rattle.wit_arena.specs.Meet.{Def, Whole, Meeting, name_meetings, settled}
 use Rattle.wit_syntax.specs.Notes.{docs_of, no_docs, stability_of, AreNotes, first_known, IsBrokenStability, SinceTwice, SinceAndUnstable, DeprecatedAlone, IsBrokenNotes}
 use Rattle.wit_arena.specs.Resolving.{named, unnamed}
 use Rattle.wit_syntax.specs.Source.{Defined, about_name}
 use Rattle.wit_meaning_examples.proofs.Examples.{at, id, vec, no_comments}
+use Rattle.wit_arena.proofs.Meeting.{IsSettled}
 
 abbrev version : ℕ → Version
 version major = record { major = major; minor = 0; patch = 0; pre = record { identifier = None }; build = record { identifier = None } }

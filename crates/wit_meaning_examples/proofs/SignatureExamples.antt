@@ -46,11 +46,12 @@ use Rattle.wit_syntax.specs.Signature.{Called, OfFunction, MissingInSignature, D
 use Rattle.wit_tree.specs.declared.tree.WorldSide.TheVariants.{Imported}
 use Rattle.wit_syntax.specs.Sides.{side_items, all_scopes, side_called, FoldedTwice, items_on}
 use Rattle.wit_syntax.specs.Broken.{IsBrokenScope, MissingType, Function, IsBroken, Scope, Sides, MissingName, Setter}
-use Rattle.wit_arena.specs.Whole.{turned, meetings}
+use Rattle.wit_arena.specs.Whole.{turned}
 use Rattle.wit_syntax.proofs.Found.{contains_at, at_contains}
 use Rattle.wit_meaning_examples.proofs.Examples.{at, id, vec, no_comments, untold, header}
 use Rattle.std.specs.List.{flat_map}
 use Rattle.wit_syntax.proofs.Repeated.{called_key}
+use Rattle.wit_arena.proofs.Turns.{meetings}
 
 -- a scope of one name that needs none has one order
 abbrev pub alone : List ℕ → List Row

@@ -60,7 +60,7 @@ use Rattle.wit_syntax.specs.Docs.{joined}
 use Rattle.wit_syntax.specs.Scope.{in_order, item_rows, rows_of}
 use Rattle.wit_syntax.specs.Shape.{Shape, Word}
 use Rattle.wit_syntax.specs.Sides.{side_items}
-use Rattle.wit_syntax.specs.Source.{TheInterface, TheWorld, Item, all_items, Used, Defined, scope_names, takings, top_names, declared_notes}
+use Rattle.wit_syntax.specs.Source.{TheInterface, TheWorld, Item, all_items, Used, Defined, scope_names, takings, top_names, declared_notes, Taken}
 use Rattle.wit_syntax.specs.Trees.{source_tree}
 use Rattle.wit_arena.specs.Expr.{End, More, Of, Prim, Use, one}
 use Rattle.wit_arena.specs.Functions.{function_item}
@@ -72,7 +72,7 @@ use Rattle.wit_arena.specs.Whole.{Turned, all_meetings, all_turns, declarations,
 use Rattle.wit_meaning_examples.proofs.Examples.{at, id, vec, no_comments, untold}
 use Rattle.wit_meaning_examples.proofs.NotesExamples.{trimmed}
 use Rattle.wit_meaning_examples.proofs.SmallOrders.{straight, apart_order}
-use Rattle.wit_meaning_examples.proofs.FirstMet.{meets_each, met_more, named_entry, none_met, unnamed_entry}
+use Rattle.wit_meaning_examples.proofs.FirstMet.{meets_each, none_met, met_named, met_unnamed}
 
 abbrev version : Version
 version = record { major = 0; minor = 2; patch = 0; pre = record { identifier = None }; build = record { identifier = None } }
@@ -238,13 +238,13 @@ module _ (ptr : Ptr) (alloc : Global) where
 
   arena : so_far 7
   arena =
-      let one : so_far 1 = met_more _ _ (none_met _) refl (named_entry _ _ _ 0 _ _ refl refl tt) refl tt in
-      let two : so_far 2 = met_more _ _ one refl (named_entry _ _ _ 0 _ _ refl refl ((0, refl, refl), tt)) refl tt in
-      let three : so_far 3 = met_more _ _ two refl (named_entry _ _ _ 1 _ _ refl refl tt) refl tt in
-      let four : so_far 4 = met_more _ _ three refl (unnamed_entry _ _ _ _ _ _ refl ((2, refl, refl), tt)) refl refl in
-      let five : so_far 5 = met_more _ _ four refl (unnamed_entry _ _ _ _ _ _ refl (refl, tt)) refl refl in
-      let six : so_far 6 = met_more _ _ five refl (unnamed_entry _ _ _ _ _ _ refl ((4, refl, refl), ((1, refl, refl), tt))) refl refl in
-      met_more _ _ six refl (unnamed_entry _ _ _ _ _ _ refl tt) refl refl
+      let one : so_far 1 = met_named io_error 0 (Taken [] used_error.name) kind.Unknown (none_met _) refl refl refl tt in
+      let two : so_far 2 = met_named in_streams 0 (Used io_error [] used_error) (kind.Type_ (type.Id 0)) one refl refl refl ((0, refl, refl), tt) in
+      let three : so_far 3 = met_named in_streams 1 (Defined input) kind.Resource two refl refl refl tt in
+      let four : so_far 4 = met_unnamed BorrowForm (More (Use in_streams (codes "input")) End) (kind.Handle (Borrow 2)) Unknown (at 147 151) three refl refl ((2, refl, refl), tt) in
+      let five : so_far 5 = met_unnamed ListForm (More (Prim primitive.U8) End) (kind.List type.U8) Unknown (at 172 176) four refl refl (refl, tt) in
+      let six : so_far 6 = met_unnamed (ResultForm true true) (More (Of ListForm (More (Prim primitive.U8) End)) (More (Use in_streams (codes "error")) End)) (kind.Result (record { ok = Some (type.Id 4); err = Some (type.Id 1) })) Unknown (at 165 171) five refl refl ((4, refl, refl), ((1, refl, refl), tt)) in
+      met_unnamed (ResultForm false false) End (kind.Result (record { ok = None; err = None })) Unknown (at 248 254) six refl refl tt
 
   -- what is told of streams
   abbrev told : Notes
@@ -282,7 +282,7 @@ module _ (ptr : Ptr) (alloc : Global) where
   }
 
   others : NamesOthers files whole
-  others = record { deps = refl; spans = refl; unknown = refl }
+  others = (refl, refl, refl)
 
   owners : map (owner_of whole) (owner.Interface 0 ∷ owner.Interface 1 ∷ owner.World 0 ∷ []) ≡ (Some io_error ∷ Some in_streams ∷ Some in_w ∷ [])
   owners = refl

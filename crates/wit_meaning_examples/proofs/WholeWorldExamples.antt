@@ -8,6 +8,7 @@ use Rattle.wit_values.specs.declared.span.Span.{Span}
 use Rattle.wit_tree.specs.declared.tree.Extern.{Extern}
 use Rattle.wit_tree.specs.declared.tree.ExternKind.{ExternKind}
 use Rattle.wit_tree.specs.declared.tree.ExternKind.TheVariants as extern
+use Rattle.wit_type_tree.specs.declared.types.TypeDef.{TypeDef as Definition}
 use Rattle.wit_type_tree.specs.declared.types.Func.{Func}
 use Rattle.wit_type_tree.specs.declared.types.FuncForm.TheVariants as form
 use Rattle.wit_type_tree.specs.declared.leaves.Id.{Id}
@@ -53,7 +54,7 @@ use Rattle.wit_syntax.specs.Notes.{no_docs}
 use Rattle.wit_syntax.specs.Scope.{in_order, item_rows, rows_of, interfaces_of, worlds_of}
 use Rattle.wit_syntax.specs.Shape.{Shape, Word}
 use Rattle.wit_syntax.specs.Sides.{side_items, inline_items}
-use Rattle.wit_syntax.specs.Source.{TheInterface, TheWorld, TheInline, Item, all_items, Used, scope_names, top_names}
+use Rattle.wit_syntax.specs.Source.{TheInterface, TheWorld, TheInline, Item, all_items, Used, Defined, scope_names, top_names}
 use Rattle.wit_syntax.specs.Trees.{source_tree}
 use Rattle.wit_arena.specs.Functions.{function_item}
 use Rattle.wit_arena.specs.Meet.{Def, Meeting, Meets, IsMeeting}
@@ -64,7 +65,7 @@ use Rattle.wit_meaning_examples.proofs.Examples.{at, id, vec, no_comments, untol
 use Rattle.wit_meaning_examples.proofs.SideExamples.{no_rows}
 use Rattle.wit_meaning_examples.proofs.SignatureExamples.{one_order}
 use Rattle.wit_meaning_examples.proofs.SmallOrders.{middle_order, turned_end}
-use Rattle.wit_meaning_examples.proofs.FirstMet.{meets_each, met_more, named_entry, none_met}
+use Rattle.wit_meaning_examples.proofs.FirstMet.{meets_each, none_met, met_named}
 
 -- the scopes
 abbrev in_a : Address
@@ -90,8 +91,11 @@ module _ (ptr : Ptr) (alloc : Global) where
   abbrev x_at : Span → Id
   x_at span = id ptr alloc (codes "x") span refl
 
+  abbrev t : Definition
+  t = record { docs = no_comments ptr alloc; attributes = untold ptr alloc; name = t_at (at 36 37); body = Plain (written.Primitive (at 40 42) primitive.U8) }
+
   abbrev a : WrittenInterface
-  a = record { docs = no_comments ptr alloc; attributes = untold ptr alloc; name = a_at (at 27 28); items = vec ptr alloc (interface_item.TypeDef (record { docs = no_comments ptr alloc; attributes = untold ptr alloc; name = t_at (at 36 37); body = Plain (written.Primitive (at 40 42) primitive.U8) }) ∷ []) (lit< tt) }
+  a = record { docs = no_comments ptr alloc; attributes = untold ptr alloc; name = a_at (at 27 28); items = vec ptr alloc (interface_item.TypeDef t ∷ []) (lit< tt) }
 
   abbrev used : Span → UseName
   used span = record { name = t_at span; as_ = None }
@@ -224,9 +228,9 @@ module _ (ptr : Ptr) (alloc : Global) where
 
   arena : so_far 3
   arena =
-      let one : so_far 1 = met_more _ _ (none_met _) refl (named_entry _ _ _ 0 _ _ refl refl (refl, tt)) refl tt in
-      let two : so_far 2 = met_more _ _ one refl (named_entry _ _ _ 0 _ _ refl refl ((0, refl, refl), tt)) refl tt in
-      met_more _ _ two refl (named_entry _ _ _ 0 _ _ refl refl ((0, refl, refl), tt)) refl tt
+      let one : so_far 1 = met_named in_a 0 (Defined t) (kind.Type_ type.U8) (none_met _) refl refl refl (refl, tt) in
+      let two : so_far 2 = met_named in_w 0 (Used in_a [] (used (at 63 64))) (kind.Type_ (type.Id 0)) one refl refl refl ((0, refl, refl), tt) in
+      met_named in_b 0 (Used in_a [] (used (at 96 97))) (kind.Type_ (type.Id 0)) two refl refl refl ((0, refl, refl), tt)
 
   -- the functions, over these types
   abbrev made : List ℕ → List Param → Span → Function
@@ -259,7 +263,7 @@ module _ (ptr : Ptr) (alloc : Global) where
   included = record { stability = Unknown; id = 0; names = record { name = codes "x"; as_ = codes "y" } ∷ []; span = at 168 169 }
 
   w_includes_v : IsInclude world_places w_item.top include_v included
-  w_includes_v = record { stability = refl; place = refl; names = refl; span = refl }
+  w_includes_v = (refl, refl, refl, refl)
 
   abbrev world : List ℕ → List (WorldKey × WorldItem) → List (WorldKey × WorldItem) → List WorldInclude → Span → World
   world name imports exports includes span = record { name = name; imports = imports; exports = exports; «package» = None; docs = no_docs; stability = Unknown; includes = includes; span = span }

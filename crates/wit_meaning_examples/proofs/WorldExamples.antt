@@ -40,8 +40,9 @@ use Rattle.wit_arena.specs.Meet.{Def, Meeting}
 use Rattle.wit_syntax.specs.Scope.{in_order, item_rows, interfaces_of, worlds_of}
 use Rattle.wit_syntax.specs.Shape.{Word}
 use Rattle.wit_arena.specs.Package.{names_of, package_tree}
-use Rattle.wit_arena.specs.Whole.{Ordered, addresses, turned, ordered_names, meetings, type_imports, IsInclude}
+use Rattle.wit_arena.specs.Whole.{Ordered, addresses, turned, ordered_names, type_imports, IsInclude}
 use Rattle.wit_meaning_examples.proofs.Examples.{at, id, vec, no_comments, untold, header}
+use Rattle.wit_arena.proofs.Turns.{meetings}
 
 -- package foo:foo; interface x { type t = u8; } world v { include w; } world w { use x.{t}; type s = t; }
 module _ (ptr : Ptr) (alloc : Global) where
@@ -145,4 +146,4 @@ module _ (ptr : Ptr) (alloc : Global) where
 
   -- v includes the world at w's place
   v_includes_w : IsInclude (addresses (ordered_w ∷ record { item = v_item; order = [] } ∷ [])) v_item.top include_w included
-  v_includes_w = record { stability = refl; place = refl; names = refl; span = refl }
+  v_includes_w = (refl, refl, refl, refl)

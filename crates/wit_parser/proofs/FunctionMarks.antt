@@ -123,19 +123,19 @@ own_world ks interfaces worlds os ws are k w at =
     let inside = addresses o.0.inside in
     let has = (are.each k o.0 w o.1 at).sides in
     let fs = has.functions in
-    let whole = type_imports (ordered_names own) (world_types w) ++ has.imported in
-    let ins : flat_map item_functions whole ≡ map by_name (made_on Imported (functions i) fs) = imported (ordered_names own) (world_types w) has.imported ∙ there interfaces inside Imported i fs has.imported has.are_imported in
-    let outs : flat_map item_functions has.exported ≡ map by_name (made_on Exported (functions i) fs) = there interfaces inside Exported i fs has.exported has.are_exported in
+    let whole = type_imports (ordered_names own) (world_types w) ++ has.imports.0 in
+    let ins : flat_map item_functions whole ≡ map by_name (made_on Imported (functions i) fs) = imported (ordered_names own) (world_types w) has.imports.0 ∙ there interfaces inside Imported i fs has.imports.0 has.imports.1 in
+    let outs : flat_map item_functions has.exports.0 ≡ map by_name (made_on Exported (functions i) fs) = there interfaces inside Exported i fs has.exports.0 has.exports.1 in
     both_keyed (map (keyed Imported) (flat_map item_functions w.imports)) (map (keyed Exported) (flat_map item_functions w.exports))
-    (marked_keyed Imported (flat_map item_functions w.imports) (settled_marked (includes i) whole w.imports has.imports (subst AreMarked (sym ins) (side_marked Imported ks (address i) i fs has.are))))
-    (marked_keyed Exported (flat_map item_functions w.exports) (settled_marked (includes i) has.exported w.exports has.exports (subst AreMarked (sym outs) (side_marked Exported ks (address i) i fs has.are))))
+    (marked_keyed Imported (flat_map item_functions w.imports) (settled_marked (includes i) whole w.imports has.imports.2 (subst AreMarked (sym ins) (side_marked Imported ks (address i) i fs has.are))))
+    (marked_keyed Exported (flat_map item_functions w.exports) (settled_marked (includes i) has.exports.0 w.exports has.exports.2 (subst AreMarked (sym outs) (side_marked Exported ks (address i) i fs has.are))))
 
 foreign_interface : (files : List PackageFile) (ks : List Key) (vs : List ForeignVisit) (is : List Interface) → OneByOne (IsForeignInterface files ks) vs is → (k : ℕ) (i : Interface) → slice_get is k ≡ Some i → AreMarked i.functions
 foreign_interface files ks vs is are k i at =
     let within = slice_get_within is k i at in
     let count = are.count in
     let v = at_within vs k (omega arith) in
-    none_marked i.functions (are.each k v.0 i v.1 at).functions
+    none_marked i.functions (are.each k v.0 i v.1 at).2
 
 foreign_world : (vs : List ForeignVisit) (ws : List World) → OneByOne IsForeignWorld vs ws → (k : ℕ) (w : World) → slice_get ws k ≡ Some w → AreKeyed (world_functions w)
 foreign_world vs ws are k w at =
@@ -143,19 +143,19 @@ foreign_world vs ws are k w at =
     let count = are.count in
     let v = at_within vs k (omega arith) in
     let says = are.each k v.0 w v.1 at in
-    none_keyed (world_functions w) (ap (λ (l : List (List ℕ × Function)). map (keyed Imported) l ++ map (keyed Exported) (flat_map item_functions w.exports)) (ap (flat_map item_functions) says.imports) ∙ ap (λ (l : List (List ℕ × Function)). map (keyed Exported) l) (ap (flat_map item_functions) says.exports))
+    none_keyed (world_functions w) (ap (λ (l : List (List ℕ × Function)). map (keyed Imported) l ++ map (keyed Exported) (flat_map item_functions w.exports)) (ap (flat_map item_functions) says.1) ∙ ap (λ (l : List (List ℕ × Function)). map (keyed Exported) l) (ap (flat_map item_functions) says.2))
 
 module _ (files : List PackageFile) (p : UnresolvedPackage) (is : IsPackage files p) where
   interface_marked : (k : ℕ) (i : Interface) → slice_get p.interfaces k ≡ Some i → AreMarked i.functions
-  interface_marked k i at = elim (at_split is.foreign_front is.own_interfaces k i (ap (λ (l : List Interface). slice_get l k) (sym is.interface_arena) ∙ at)) [
-    | inl front ↦ foreign_interface files (keys is.met) (foreign_interfaces files) is.foreign_front is.are_foreign_interfaces k i front
-    | inr own ↦ own_interface (keys is.met) (is.first.interfaces ++ all_inside is.first.worlds) is.own_interfaces is.are_interfaces own.0 i own.2
+  interface_marked k i at = elim (at_split is.interfaces.0 is.interfaces.1 k i (ap (λ (l : List Interface). slice_get l k) (sym is.interfaces.2) ∙ at)) [
+    | inl front ↦ foreign_interface files (keys is.met) (foreign_interfaces files) is.interfaces.0 is.interfaces.3 k i front
+    | inr own ↦ own_interface (keys is.met) (is.first.interfaces ++ all_inside is.first.worlds) is.interfaces.1 is.interfaces.4 own.0 i own.2
   ]
 
   world_marked : (k : ℕ) (w : World) → slice_get p.worlds k ≡ Some w → AreKeyed (world_functions w)
-  world_marked k w at = elim (at_split is.worlds_front is.own_worlds k w (ap (λ (l : List World). slice_get l k) (sym is.world_arena) ∙ at)) [
-    | inl front ↦ foreign_world (foreign_worlds files) is.worlds_front is.are_foreign_worlds k w front
-    | inr own ↦ own_world (keys is.met) (interface_addresses files (is.first.interfaces ++ all_inside is.first.worlds)) (world_addresses files is.first.worlds) is.first.worlds is.own_worlds is.are_worlds own.0 w own.2
+  world_marked k w at = elim (at_split is.worlds.0 is.worlds.1 k w (ap (λ (l : List World). slice_get l k) (sym is.worlds.2) ∙ at)) [
+    | inl front ↦ foreign_world (foreign_worlds files) is.worlds.0 is.worlds.3 k w front
+    | inr own ↦ own_world (keys is.met) (interface_addresses files (is.first.interfaces ++ all_inside is.first.worlds)) (world_addresses files is.first.worlds) is.first.worlds is.worlds.1 is.worlds.4 own.0 w own.2
   ]
 
   -- what one of these has, if there is one

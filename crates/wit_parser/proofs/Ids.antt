@@ -24,12 +24,11 @@ use Rattle.wit_syntax.specs.Function.{functions}
 use Rattle.wit_syntax.specs.Scope.{includes}
 use Rattle.wit_syntax.specs.Sides.{side_items}
 use Rattle.wit_syntax.specs.Source.{Item, address, leads, target_scope}
-use Rattle.wit_syntax.specs.Trees.{scope}
 use Rattle.wit_arena.specs.Kind.{kind_of}
-use Rattle.wit_arena.specs.Meet.{Key, Def, Whole, keys, decl_of, IsEntry, IsKeyed}
+use Rattle.wit_arena.specs.Meet.{Key, Def, Whole, keys, IsEntry, IsKeyed}
 use Rattle.wit_arena.specs.Package.{world_types, IsForeignWorld}
 use Rattle.wit_arena.specs.OneByOne.{OneByOne}
-use Rattle.wit_arena.specs.Whole.{Ordered, OrderedWorld, turned, ordered_names, addresses, all_inside, all_turns, turn_handles, type_imports, place_at, owner_at, declarations, AreIncludes, IsPackage, interface_addresses, world_addresses, foreign_turned, foreign_entry, dep_item, dep, IsResolvedInterface, IsResolvedWorld, IsForeignInterface}
+use Rattle.wit_arena.specs.Whole.{Ordered, OrderedWorld, turned, ordered_names, addresses, all_inside, all_turns, turn_handles, type_imports, place_at, owner_at, declarations, AreIncludes, IsPackage, interface_addresses, world_addresses, foreign_entry, dep, IsResolvedInterface, IsResolvedWorld, IsForeignInterface}
 use Rattle.wit_syntax.proofs.Kept.{kept_at}
 use Rattle.wit_syntax.proofs.Lists.{at_split, at_within, map_at}
 use Rattle.wit_arena.proofs.Deps.{entry_of_interface, entry_of_world, item_sort}
@@ -39,6 +38,8 @@ use Rattle.wit_arena.proofs.Shape.{key_of}
 use Rattle.wit_parser.proofs.TypeIds.{parts_within, names_within, functions_within, required_within}
 use Rattle.wit_parser.proofs.SideIds.{none_within, both_within, settled_within, type_imports_within, side_within}
 use Rattle.wit_parser.specs.Ids.{IsOwnerWithin, IsTypeWithin, IsInterfaceWithin, IsWorldWithin, IsForeignWithin, AreIdsWithin}
+use Rattle.wit_arena.proofs.Turns.{foreign_turned, dep_item}
+use Rattle.wit_arena.specs.Expr.{name_exprs}
 
 -- what is found among addresses stands among them
 place_within : (ss : List Address) (s : Address) (k : ℕ) → place_at ss s ≡ Some k → k < length ss
@@ -58,14 +59,13 @@ module _ (p : UnresolvedPackage) (ks : List Key) (types : length p.types ≡ len
   -- an entry of the arena of types
   entry_within : (files : List PackageFile) (i : ℕ) (k : Key) (e : TypeDef) → IsEntry (declarations files is ws) (take i ks) k e → IsTypeWithin p e
   entry_within files i (Def s name) e it =
-      let x = map_at (decl_of (owner_at is ws s) s) (scope files s) it.among.0 it.decl it.among.1 in
       record {
-        parts = parts_within p ks types it.decl.parts (kind_of e.kind).parts (all_at_untaken i ks it.decl.parts (kind_of e.kind).parts it.parts);
-        owner = subst (IsOwnerWithin p) (ap (λ d. d.owner) x.2 ∙ sym it.owner) (owner_within s);
+        parts = parts_within p ks types (name_exprs s it.1) (kind_of e.kind).parts (all_at_untaken i ks (name_exprs s it.1) (kind_of e.kind).parts it.8);
+        owner = subst (IsOwnerWithin p) (sym it.6) (owner_within s);
       }
   entry_within files i (Whole form parts) e it = record {
-    parts = parts_within p ks types parts (kind_of e.kind).parts (all_at_untaken i ks parts (kind_of e.kind).parts it.parts);
-    owner = subst (IsOwnerWithin p) (sym it.owner) tt;
+    parts = parts_within p ks types parts (kind_of e.kind).parts (all_at_untaken i ks parts (kind_of e.kind).parts it.3);
+    owner = subst (IsOwnerWithin p) (sym it.1) tt;
   }
 
   entries_within : (files : List PackageFile) → IsKeyed (declarations files is ws) ks p.types → (i : ℕ) (e : TypeDef) → slice_get p.types i ≡ Some e → IsTypeWithin p e
@@ -84,8 +84,8 @@ module _ (p : UnresolvedPackage) (ks : List Key) (types : length p.types ≡ len
         functions = λ j name f there. (
             let from = function_from has.0 j name f (ap (λ (l : List (List ℕ × Function)). slice_get l j) (sym has.2) ∙ there) in
             functions_within p ks types (address o.0.item) (functions o.0.item) has.0 has.1 from.0 f from.1);
-        no_package = it.says.no_package;
-        no_source = it.says.no_source;
+        no_package = it.says.4;
+        no_source = it.says.5;
       }
 
   foreign_interface : (files : List PackageFile) (vs : List ForeignVisit) (front : List Interface) → OneByOne (IsForeignInterface files ks) vs front → (k : ℕ) (i : Interface) → slice_get front k ≡ Some i → IsInterfaceWithin p i
@@ -95,10 +95,10 @@ module _ (p : UnresolvedPackage) (ks : List Key) (types : length p.types ≡ len
       let v = at_within vs k (omega arith) in
       let says = are.each k v.0 i v.1 at in
       record {
-        types = names_within p ks types (foreign_turned files v.0) i.types says.types;
-        functions = λ j name f there. absurd (let none = says.functions in let f : ⊥ = cc in f);
-        no_package = says.says.no_package;
-        no_source = says.says.no_source;
+        types = names_within p ks types (foreign_turned files v.0) i.types says.1;
+        functions = λ j name f there. absurd (let none = says.2 in let f : ⊥ = cc in f);
+        no_package = says.0.4;
+        no_source = says.0.5;
       }
 
   -- the includes of a world
@@ -108,7 +108,7 @@ module _ (p : UnresolvedPackage) (ks : List Key) (types : length p.types ≡ len
       let count = are.count in
       let written = at_within (includes item) k (omega arith) in
       let is_one = are.each k written.0 i written.1 at in
-      let placed = slice_get_within ws i.id (target_scope WorldNamed (leads item.top written.0.from)) is_one.place in
+      let placed = slice_get_within ws i.id (target_scope WorldNamed (leads item.top written.0.from)) is_one.1 in
       omega (arith, placed, worlds)
 
   -- the worlds of the package, and those of other packages
@@ -123,10 +123,10 @@ module _ (p : UnresolvedPackage) (ks : List Key) (types : length p.types ≡ len
       let each = functions_within p ks types (address item) (functions item) has.functions has.are in
       let names = names_within p ks types (turned o.0.own) (world_types w) it.types in
       record {
-        imports = settled_within p (includes item) (type_imports (ordered_names o.0.own) (world_types w) ++ has.imported) w.imports has.imports (both_within p (type_imports (ordered_names o.0.own) (world_types w)) has.imported (type_imports_within p (ordered_names o.0.own) (world_types w) names) (side_within p is interfaces item.top Imported (side_items item) has.functions (addresses o.0.inside) has.imported each has.are_imported));
-        exports = settled_within p (includes item) has.exported w.exports has.exports (side_within p is interfaces item.top Exported (side_items item) has.functions (addresses o.0.inside) has.exported each has.are_exported);
+        imports = settled_within p (includes item) (type_imports (ordered_names o.0.own) (world_types w) ++ has.imports.0) w.imports has.imports.2 (both_within p (type_imports (ordered_names o.0.own) (world_types w)) has.imports.0 (type_imports_within p (ordered_names o.0.own) (world_types w) names) (side_within p is interfaces item.top Imported (side_items item) has.functions (addresses o.0.inside) has.imports.0 each has.imports.1));
+        exports = settled_within p (includes item) has.exports.0 w.exports has.exports.2 (side_within p is interfaces item.top Exported (side_items item) has.functions (addresses o.0.inside) has.exports.0 each has.exports.1);
         includes = include_within item w.includes it.includes;
-        no_package = it.says.no_package;
+        no_package = it.says.4;
       }
 
   foreign_world : (vs : List ForeignVisit) (front : List World) → OneByOne IsForeignWorld vs front → (k : ℕ) (w : World) → slice_get front k ≡ Some w → IsWorldWithin p w
@@ -136,10 +136,10 @@ module _ (p : UnresolvedPackage) (ks : List Key) (types : length p.types ≡ len
       let v = at_within vs k (omega arith) in
       let says = are.each k v.0 w v.1 at in
       record {
-        imports = none_within p w.imports says.imports;
-        exports = none_within p w.exports says.exports;
-        includes = λ j i there. absurd (let none = says.includes in let f : ⊥ = cc in f);
-        no_package = says.says.no_package;
+        imports = none_within p w.imports says.1;
+        exports = none_within p w.exports says.2;
+        includes = λ j i there. absurd (let none = says.3 in let f : ⊥ = cc in f);
+        no_package = says.0.4;
       }
 
 -- the items of other packages, where the arenas have as many
@@ -170,39 +170,39 @@ module _ (files : List PackageFile) (p : UnresolvedPackage) (is : IsPackage file
   types : length p.types ≡ length (keys is.met)
   types = is.meeting.keyed.count
 
-  interface_count : length p.interfaces ≡ length is.foreign_front + length is.own_interfaces
-  interface_count = ap length is.interface_arena ∙ length-append is.foreign_front is.own_interfaces
+  interface_count : length p.interfaces ≡ length is.interfaces.0 + length is.interfaces.1
+  interface_count = ap length is.interfaces.2 ∙ length-append is.interfaces.0 is.interfaces.1
 
-  world_count : length p.worlds ≡ length is.worlds_front + length is.own_worlds
-  world_count = ap length is.world_arena ∙ length-append is.worlds_front is.own_worlds
+  world_count : length p.worlds ≡ length is.worlds.0 + length is.worlds.1
+  world_count = ap length is.worlds.2 ∙ length-append is.worlds.0 is.worlds.1
 
   interfaces : length p.interfaces ≡ length interface_list
   interfaces =
       let all = length_joined visited (λ (o : Ordered). address o.item) (foreign_interfaces files) (is.first.interfaces ++ all_inside is.first.worlds) in
-      omega (arith, all, interface_count, is.are_foreign_interfaces.count, is.are_interfaces.count)
+      omega (arith, all, interface_count, is.interfaces.3.count, is.interfaces.4.count)
 
   worlds : length p.worlds ≡ length world_list
   worlds =
       let all = length_joined visited (λ (w : OrderedWorld). address w.own.item) (foreign_worlds files) is.first.worlds in
-      omega (arith, all, world_count, is.are_foreign_worlds.count, is.are_worlds.count)
+      omega (arith, all, world_count, is.worlds.3.count, is.worlds.4.count)
 
   interface_within : (k : ℕ) (i : Interface) → slice_get p.interfaces k ≡ Some i → IsInterfaceWithin p i
-  interface_within k i at = elim (at_split is.foreign_front is.own_interfaces k i (ap (λ (l : List Interface). slice_get l k) (sym is.interface_arena) ∙ at)) [
-    | inl front ↦ foreign_interface p (keys is.met) types interface_list world_list interfaces worlds files (foreign_interfaces files) is.foreign_front is.are_foreign_interfaces k i front
-    | inr own ↦ own_interface p (keys is.met) types interface_list world_list interfaces worlds (is.first.interfaces ++ all_inside is.first.worlds) is.own_interfaces is.are_interfaces own.0 i own.2
+  interface_within k i at = elim (at_split is.interfaces.0 is.interfaces.1 k i (ap (λ (l : List Interface). slice_get l k) (sym is.interfaces.2) ∙ at)) [
+    | inl front ↦ foreign_interface p (keys is.met) types interface_list world_list interfaces worlds files (foreign_interfaces files) is.interfaces.0 is.interfaces.3 k i front
+    | inr own ↦ own_interface p (keys is.met) types interface_list world_list interfaces worlds (is.first.interfaces ++ all_inside is.first.worlds) is.interfaces.1 is.interfaces.4 own.0 i own.2
   ]
 
   world_within : (k : ℕ) (w : World) → slice_get p.worlds k ≡ Some w → IsWorldWithin p w
-  world_within k w at = elim (at_split is.worlds_front is.own_worlds k w (ap (λ (l : List World). slice_get l k) (sym is.world_arena) ∙ at)) [
-    | inl front ↦ foreign_world p (keys is.met) types interface_list world_list interfaces worlds (foreign_worlds files) is.worlds_front is.are_foreign_worlds k w front
-    | inr own ↦ own_world p (keys is.met) types interface_list world_list interfaces worlds is.first.worlds is.own_worlds is.are_worlds own.0 w own.2
+  world_within k w at = elim (at_split is.worlds.0 is.worlds.1 k w (ap (λ (l : List World). slice_get l k) (sym is.worlds.2) ∙ at)) [
+    | inl front ↦ foreign_world p (keys is.met) types interface_list world_list interfaces worlds (foreign_worlds files) is.worlds.0 is.worlds.3 k w front
+    | inr own ↦ own_world p (keys is.met) types interface_list world_list interfaces worlds is.first.worlds is.worlds.1 is.worlds.4 own.0 w own.2
   ]
 
   foreign_within : (k : ℕ) (d : PackageName × List (List ℕ × (AstItem × List Stability))) → slice_get p.foreign_deps k ≡ Some d → (j : ℕ) (x : List ℕ × (AstItem × List Stability)) → slice_get d.1 j ≡ Some x → IsForeignWithin p x.1.0
   foreign_within k d at j x there =
-      let v = map_at (dep files) (foreign_packages files) k d (ap (λ l. slice_get l k) (sym is.others.deps) ∙ at) in
-      let is_front : length (foreign_interfaces files) ≤ length p.interfaces = omega (arith, interface_count, is.are_foreign_interfaces.count) in
-      let ws_front : length (foreign_worlds files) ≤ length p.worlds = omega (arith, world_count, is.are_foreign_worlds.count) in
+      let v = map_at (dep files) (foreign_packages files) k d (ap (λ l. slice_get l k) (sym is.others.0) ∙ at) in
+      let is_front : length (foreign_interfaces files) ≤ length p.interfaces = omega (arith, interface_count, is.interfaces.3.count) in
+      let ws_front : length (foreign_worlds files) ≤ length p.worlds = omega (arith, world_count, is.worlds.3.count) in
       dep_within files p is_front ws_front v.0 j x (ap (λ (y : PackageName × List (List ℕ × (AstItem × List Stability))). slice_get y.1 j) v.2 ∙ there)
 
   pub ids_within : AreIdsWithin p

@@ -1,5 +1,5 @@
 -- A written function stands for one function of a package, where no key is met twice.
-use Rattle.std.proofs.Common.{◌≡◌, ℕ, List, Option, Some, None, sym, ap, ◌∙◌}
+use Rattle.std.proofs.Common.{◌≡◌, ℕ, List, Option, Some, None, sym, ap, ◌∙◌, arith, refl}
 use Rattle.wit_values.specs.declared.span.Span.{Span}
 use Rattle.wit_types.specs.declared.docs.Docs.{Docs}
 use Rattle.wit_types.specs.declared.stability.Stability.{Stability}
@@ -12,12 +12,14 @@ use Rattle.wit_syntax.specs.Function.{Role, Freestanding, Method, Static, Constr
 use Rattle.wit_syntax.specs.Repeats.{AllDiffer}
 use Rattle.wit_syntax.specs.Shape.{Shape}
 use Rattle.wit_arena.specs.Expr.{expr_of}
-use Rattle.wit_arena.specs.Functions.{method_kind, static_kind, IsKind, IsParam, IsResult, IsFunction}
-use Rattle.wit_arena.specs.Meet.{Key, Def}
+use Rattle.wit_arena.specs.Functions.{IsKind, IsParam, IsFunction}
+use Rattle.wit_arena.specs.Meet.{Key, Def, IsAt}
 use Rattle.wit_arena.specs.OneByOne.{OneByOne}
 use Rattle.wit_arena.proofs.Places.{at_functional}
 use Rattle.wit_functions.specs.declared.function.FunctionKind.TheVariants as kind
 use Rattle.wit_parser.proofs.OneList.{one_by_one}
+use Rattle.wit_arena.proofs.Turns.{method_kind, static_kind}
+use Rattle.std.specs.Option.{option_to_list}
 
 abbrev param : List ℕ → Ty → Span → Param
 param name ty span = record { name = name; ty = ty; span = span }
@@ -41,17 +43,18 @@ module _ (ks : List Key) (differ : AllDiffer ks) (s : Address) where
 
   one_param : (w : SourceParam) (p q : Param) → IsParam ks s w p → IsParam ks s w q → p ≡ q
   one_param w p q a b =
-      let name : p.name ≡ q.name = a.name ∙ sym b.name in
-      let span : p.span ≡ q.span = a.span ∙ sym b.span in
-      let type : p.ty ≡ q.ty = at_functional ks differ (expr_of s w.shape) p.ty q.ty a.type b.type in
+      let name : p.name ≡ q.name = a.0 ∙ sym b.0 in
+      let span : p.span ≡ q.span = a.1 ∙ sym b.1 in
+      let type : p.ty ≡ q.ty = at_functional ks differ (expr_of s w.shape) p.ty q.ty a.2 b.2 in
       let same : param p.name p.ty p.span ≡ param q.name q.ty q.span = cc in
       same
 
-  one_result : (x : Option Shape) (t u : Option Ty) → IsResult ks s x t → IsResult ks s x u → t ≡ u
-  one_result None t u a b = a ∙ sym b
-  one_result (Some x) None u a b = absurd a
-  one_result (Some x) (Some t) None a b = absurd b
-  one_result (Some x) (Some t) (Some u) a b = ap Some (at_functional ks differ (expr_of s x) t u a b)
+  one_result : (x : Option Shape) (t u : Option Ty) → OneByOne (λ (y : Shape) (v : Ty). IsAt ks (expr_of s y) v) (option_to_list x) (option_to_list t) → OneByOne (λ (y : Shape) (v : Ty). IsAt ks (expr_of s y) v) (option_to_list x) (option_to_list u) → t ≡ u
+  one_result x None None a b = refl
+  one_result x None (Some u) a b = absurd (let one = a.count in let two = b.count in let f : ⊥ = omega (arith, one, two) in f)
+  one_result x (Some t) None a b = absurd (let one = a.count in let two = b.count in let f : ⊥ = omega (arith, one, two) in f)
+  one_result None (Some t) (Some u) a b = absurd (let one = a.count in let f : ⊥ = omega (arith, one) in f)
+  one_result (Some x) (Some t) (Some u) a b = ap Some (at_functional ks differ (expr_of s x) t u (a.each 0 x t refl refl) (b.each 0 x u refl refl))
 
   pub one_function : (w : SourceFunction) (f g : Function) → IsFunction ks s w f → IsFunction ks s w g → f ≡ g
   one_function w f g a b =

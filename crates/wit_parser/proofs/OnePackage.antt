@@ -1,9 +1,8 @@
 -- Legal files make one package.
-use Rattle.std.proofs.Common.{◌≡◌, ℕ, List, ◌++◌, Option, Some, None, refl, sym, ap, ◌∙◌, subst, arith}
+use Rattle.std.proofs.Common.{◌≡◌, ℕ, List, ◌++◌, Option, Some, None, refl, sym, ap, ◌∙◌, subst}
 use Rattle.std.specs.Prelude.{slice_get}
 use Rattle.std.specs.List.{filter_map, flat_map}
 use Rattle.std.specs.Option.{option_map}
-use Rattle.std.proofs.lemmas.Option.{slice_get_within}
 use Rattle.semver.specs.Identifiers.{parts_of}
 use Rattle.wit_values.specs.ReleaseText.{release_parts}
 use Rattle.wit_values.specs.declared.release.Release.{Release}
@@ -24,34 +23,30 @@ use Rattle.wit_syntax.specs.Broken.{IsLegal}
 use Rattle.wit_syntax.specs.Ends.{AtResource, AtForeign}
 use Rattle.wit_syntax.specs.Foreign.{foreign_interfaces, foreign_worlds}
 use Rattle.wit_syntax.specs.Repeats.{AllDiffer}
-use Rattle.wit_syntax.specs.Source.{local_name}
+use Rattle.wit_syntax.specs.Source.{local_name, ScopeName}
 use Rattle.wit_syntax.specs.Trees.{scope}
-use Rattle.wit_syntax.proofs.Lists.{at_within, map_at}
 use Rattle.wit_syntax.proofs.Repeated.{differ_at}
-use Rattle.wit_arena.specs.Meet.{Key, Def, Meeting, keys, Decl, decl_of, IsMeeting}
+use Rattle.wit_arena.specs.Meet.{Key, Def, Meeting, keys, IsMeeting}
 use Rattle.wit_arena.specs.OneByOne.{OneByOne}
 use Rattle.wit_arena.specs.Package.{IsForeignWorld}
-use Rattle.wit_arena.specs.Whole.{Ordered, OrderedWorld, all_inside, all_turns, owner_at, declarations, turn_handles, interface_addresses, world_addresses, HandleRequires, AreRequired, IsForeignInterface, IsResolvedInterface, IsResolvedWorld, IsPackage}
+use Rattle.wit_arena.specs.Whole.{Ordered, OrderedWorld, all_inside, all_turns, declarations, turn_handles, interface_addresses, world_addresses, HandleRequires, AreRequired, IsForeignInterface, IsResolvedInterface, IsResolvedWorld, IsPackage}
 use Rattle.wit_arena.proofs.Ends.{ends_one}
 use Rattle.wit_arena.proofs.JoinedOnce.{interfaces_once, worlds_once, first_once}
 use Rattle.wit_arena.proofs.KnownItems.{addresses_are}
 use Rattle.wit_arena.proofs.LegalScopes.{scope_differs}
 use Rattle.wit_parser.proofs.OneArena.{HaveOne, one_arena}
-use Rattle.wit_parser.proofs.OneList.{same_by_places, one_by_one}
+use Rattle.wit_parser.proofs.OneList.{one_by_one}
 use Rattle.wit_parser.proofs.OneWorld.{one_foreign_interface, one_foreign_world, one_interface, one_world}
 
--- of each name of a scope there is one declaration
+-- a scope has one name that is called so
 module _ (files : List PackageFile) (legal : IsLegal files) where
   have_one : (is ws : List Address) → HaveOne (declarations files is ws)
   have_one is ws = record { one = one }
     where
-      one : (s : Address) (i j : ℕ) (d e : Decl) → slice_get (declarations files is ws s) i ≡ Some d → slice_get (declarations files is ws s) j ≡ Some e → d.name ≡ e.name → d ≡ e
-      one s i j d e at_d at_e same =
-          let x = map_at (decl_of (owner_at is ws s) s) (scope files s) i d at_d in
-          let y = map_at (decl_of (owner_at is ws s) s) (scope files s) j e at_e in
-          let names : local_name x.0 ≡ local_name y.0 = ap (λ (z : Decl). z.name) x.2 ∙ same ∙ sym (ap (λ (z : Decl). z.name) y.2) in
-          let place : i ≡ j = differ_at local_name (scope files s) (scope_differs files legal s) i j x.0 y.0 x.1 y.1 names in
-          let both : Some d ≡ Some e = sym at_d ∙ ap (slice_get (declarations files is ws s)) place ∙ at_e in
+      one : (s : Address) (i j : ℕ) (x y : ScopeName) → slice_get (scope files s) i ≡ Some x → slice_get (scope files s) j ≡ Some y → local_name x ≡ local_name y → x ≡ y
+      one s i j x y at_x at_y same =
+          let place : i ≡ j = differ_at local_name (scope files s) (scope_differs files legal s) i j x y at_x at_y same in
+          let both : Some x ≡ Some y = sym at_x ∙ ap (slice_get (scope files s)) place ∙ at_y in
           cc
 
 -- a version is told by its parts
@@ -92,14 +87,7 @@ one_requires files ks differ h (Some (i, span)) (Some (j, other)) a b =
     cc
 
 one_required : (files : List PackageFile) (ks : List Key) → AllDiffer ks → (hs : List (Address × Id)) (rs qs : List (ℕ × Span)) → AreRequired files ks hs rs → AreRequired files ks hs qs → rs ≡ qs
-one_required files ks differ hs rs qs a b = a.all ∙ ap (filter_map (λ r. r)) (same_by_places a.each b.each (a.count ∙ sym b.count) agree) ∙ sym b.all
-  where
-    agree : (k : ℕ) (r q : Option (ℕ × Span)) → slice_get a.each k ≡ Some r → slice_get b.each k ≡ Some q → r ≡ q
-    agree k r q at_r at_q =
-        let lt = slice_get_within a.each k r at_r in
-        let count = a.count in
-        let h = at_within hs k (omega (arith, lt, count)) in
-        one_requires files ks differ h.0 r q (a.says k h.0 r h.1 at_r) (b.says k h.0 q h.1 at_q)
+one_required files ks differ hs rs qs a b = a.2 ∙ ap (filter_map (λ r. r)) (one_by_one (HandleRequires files ks) hs a.0 b.0 (one_requires files ks differ) a.1 b.1) ∙ sym b.2
 
 -- what holds over these meetings and scopes holds over the same ones
 onward : (P : List Meeting → List Ordered → List OrderedWorld → Type 0) (met more : List Meeting) (is js : List Ordered) (ws vs : List OrderedWorld) → met ≡ more → is ≡ js → ws ≡ vs → P met is ws → P more js vs
@@ -141,25 +129,25 @@ module _ (files : List PackageFile) (p q : UnresolvedPackage) (legal : IsLegal f
   types_once : p.types ≡ q.types
   types_once = one_arena (declarations files (interface_places is ws) (world_addresses files ws)) (have_one files legal (interface_places is ws) (world_addresses files ws)) met p.types q.types (as_of (λ m os vs. IsMeeting (declarations files (interface_places os vs) (world_addresses files vs)) m p.types) a.meeting) b.meeting
 
-  foreign_once : a.foreign_front ≡ b.foreign_front
-  foreign_once = one_by_one (IsForeignInterface files (keys met)) (foreign_interfaces files) a.foreign_front b.foreign_front (one_foreign_interface (keys met) differ files) (as_of (λ m os vs. OneByOne (IsForeignInterface files (keys m)) (foreign_interfaces files) a.foreign_front) a.are_foreign_interfaces) b.are_foreign_interfaces
+  foreign_once : a.interfaces.0 ≡ b.interfaces.0
+  foreign_once = one_by_one (IsForeignInterface files (keys met)) (foreign_interfaces files) a.interfaces.0 b.interfaces.0 (one_foreign_interface (keys met) differ files) (as_of (λ m os vs. OneByOne (IsForeignInterface files (keys m)) (foreign_interfaces files) a.interfaces.0) a.interfaces.3) b.interfaces.3
 
-  own_once : a.own_interfaces ≡ b.own_interfaces
-  own_once = one_by_one (IsResolvedInterface (keys met)) (is ++ all_inside ws) a.own_interfaces b.own_interfaces (one_interface (keys met) differ) (as_of (λ m os vs. OneByOne (IsResolvedInterface (keys m)) (os ++ all_inside vs) a.own_interfaces) a.are_interfaces) b.are_interfaces
+  own_once : a.interfaces.1 ≡ b.interfaces.1
+  own_once = one_by_one (IsResolvedInterface (keys met)) (is ++ all_inside ws) a.interfaces.1 b.interfaces.1 (one_interface (keys met) differ) (as_of (λ m os vs. OneByOne (IsResolvedInterface (keys m)) (os ++ all_inside vs) a.interfaces.1) a.interfaces.4) b.interfaces.4
 
   interfaces_are_one : p.interfaces ≡ q.interfaces
-  interfaces_are_one = a.interface_arena ∙ ap (λ l. l ++ a.own_interfaces) foreign_once ∙ ap (λ l. b.foreign_front ++ l) own_once ∙ sym b.interface_arena
+  interfaces_are_one = a.interfaces.2 ∙ ap (λ l. l ++ a.interfaces.1) foreign_once ∙ ap (λ l. b.interfaces.0 ++ l) own_once ∙ sym b.interfaces.2
 
-  front_once : a.worlds_front ≡ b.worlds_front
-  front_once = one_by_one IsForeignWorld (foreign_worlds files) a.worlds_front b.worlds_front one_foreign_world a.are_foreign_worlds b.are_foreign_worlds
+  front_once : a.worlds.0 ≡ b.worlds.0
+  front_once = one_by_one IsForeignWorld (foreign_worlds files) a.worlds.0 b.worlds.0 one_foreign_world a.worlds.3 b.worlds.3
 
-  own_worlds_once : a.own_worlds ≡ b.own_worlds
+  own_worlds_once : a.worlds.1 ≡ b.worlds.1
   own_worlds_once =
       let places = addresses_are files legal is ws b.first.ordered in
-      one_by_one (IsResolvedWorld (keys met) (interface_places is ws) (world_addresses files ws)) ws a.own_worlds b.own_worlds (one_world (keys met) differ (interface_places is ws) (world_addresses files ws) places.interfaces places.worlds) (as_of (λ m os vs. OneByOne (IsResolvedWorld (keys m) (interface_places os vs) (world_addresses files vs)) vs a.own_worlds) a.are_worlds) b.are_worlds
+      one_by_one (IsResolvedWorld (keys met) (interface_places is ws) (world_addresses files ws)) ws a.worlds.1 b.worlds.1 (one_world (keys met) differ (interface_places is ws) (world_addresses files ws) places.interfaces places.worlds) (as_of (λ m os vs. OneByOne (IsResolvedWorld (keys m) (interface_places os vs) (world_addresses files vs)) vs a.worlds.1) a.worlds.4) b.worlds.4
 
   worlds_are_one : p.worlds ≡ q.worlds
-  worlds_are_one = a.world_arena ∙ ap (λ l. l ++ a.own_worlds) front_once ∙ ap (λ l. b.worlds_front ++ l) own_worlds_once ∙ sym b.world_arena
+  worlds_are_one = a.worlds.2 ∙ ap (λ l. l ++ a.worlds.1) front_once ∙ ap (λ l. b.worlds.0 ++ l) own_worlds_once ∙ sym b.worlds.2
 
   required_once : p.required_resource_types ≡ q.required_resource_types
   required_once = one_required files (keys met) differ (flat_map turn_handles (all_turns is ws)) p.required_resource_types q.required_resource_types (as_of (λ m os vs. AreRequired files (keys m) (flat_map turn_handles (all_turns os vs)) p.required_resource_types) a.required) b.required
@@ -182,9 +170,9 @@ module _ (files : List PackageFile) (p q : UnresolvedPackage) (legal : IsLegal f
   pub one_package : p ≡ q
   one_package =
       same_package p q name_once worlds_are_one interfaces_are_one types_once
-      (a.others.deps ∙ sym b.others.deps)
+      (a.others.0 ∙ sym b.others.0)
       (a.docs ∙ sym b.docs)
       span_once
-      (a.others.unknown ∙ sym b.others.unknown)
-      (a.others.spans ∙ sym b.others.spans)
+      (a.others.2 ∙ sym b.others.2)
+      (a.others.1 ∙ sym b.others.1)
       required_once

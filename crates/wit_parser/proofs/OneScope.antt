@@ -59,10 +59,10 @@ include stability id names span = record { stability = stability; id = id; names
 
 one_include : (worlds : List Address) → AllDiffer worlds → (top : List TopName) (w : Include) (i j : WorldInclude) → IsInclude worlds top w i → IsInclude worlds top w j → i ≡ j
 one_include worlds differ top w i j a b =
-    let stability : i.stability ≡ j.stability = a.stability ∙ sym b.stability in
-    let place : i.id ≡ j.id = differ.differ i.id j.id _ a.place b.place in
-    let names : i.names ≡ j.names = a.names ∙ sym b.names in
-    let span : i.span ≡ j.span = a.span ∙ sym b.span in
+    let stability : i.stability ≡ j.stability = a.0 ∙ sym b.0 in
+    let place : i.id ≡ j.id = differ.differ i.id j.id _ a.1 b.1 in
+    let names : i.names ≡ j.names = a.2 ∙ sym b.2 in
+    let span : i.span ≡ j.span = a.3 ∙ sym b.3 in
     let same : include i.stability i.id i.names i.span ≡ include j.stability j.id j.names j.span = cc in
     same
 

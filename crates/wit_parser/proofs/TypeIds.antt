@@ -16,7 +16,7 @@ use Rattle.wit_model.specs.declared.unresolved.UnresolvedPackage.{UnresolvedPack
 use Rattle.wit_syntax.specs.Address.{Address}
 use Rattle.wit_syntax.specs.Function.{Role, Freestanding, Method, Static, Constructor, OnSide, SourceFunction, signature}
 use Rattle.wit_arena.specs.Expr.{Expr, Prim, Use, Of, Exprs, End, More, expr_of}
-use Rattle.wit_arena.specs.Functions.{freestanding_kind, method_kind, static_kind, IsKind, IsFunction, AreFunctions}
+use Rattle.wit_arena.specs.Functions.{IsKind, IsFunction, AreFunctions}
 use Rattle.wit_arena.specs.Meet.{Key, Def, Whole, IsAt, AreAt}
 use Rattle.wit_arena.specs.Package.{IsBelow, function_types}
 use Rattle.wit_arena.specs.Whole.{Turned, HasTypes, AreRequired}
@@ -24,6 +24,7 @@ use Rattle.wit_syntax.proofs.Lists.{at_within}
 use Rattle.wit_arena.proofs.Primitives.{primitive_below}
 use Rattle.wit_arena.proofs.Signatures.{function_typed}
 use Rattle.wit_parser.specs.Ids.{AreTypesWithin, AreNamesWithin, IsFunctionWithin}
+use Rattle.wit_arena.proofs.Turns.{freestanding_kind, method_kind, static_kind}
 
 -- the resource of a kind, by its form
 free_resource : (f : FuncForm) (id : ℕ) → resource_of (freestanding_kind f) ≡ Some id → ⊥
@@ -104,9 +105,9 @@ module _ (p : UnresolvedPackage) (ks : List Key) (count : length p.types ≡ len
   -- what handles require
   pub required_within : (files : List PackageFile) (hs : List (Address × Id)) (rs : List (ℕ × Span)) → AreRequired files ks hs rs → (k : ℕ) (r : ℕ × Span) → slice_get rs k ≡ Some r → r.0 < length p.types
   required_within files hs rs h k r at =
-      let it = kept_from h.each k r (ap (λ (l : List (ℕ × Span)). slice_get l k) (sym h.all) ∙ at) in
-      let lt = slice_get_within h.each it.0 (Some r) it.1 in
-      let as_many = h.count in
+      let it = kept_from h.0 k r (ap (λ (l : List (ℕ × Span)). slice_get l k) (sym h.2) ∙ at) in
+      let lt = slice_get_within h.0 it.0 (Some r) it.1 in
+      let as_many = h.1.count in
       let x = at_within hs it.0 (omega (arith, lt, as_many)) in
-      let far = h.says it.0 x.0 (Some r) x.1 it.1 in
+      let far = h.1.each it.0 x.0 (Some r) x.1 it.1 in
       key_within r.0 (Def far.0 far.1) far.3

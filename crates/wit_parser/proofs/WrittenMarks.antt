@@ -17,7 +17,7 @@ use Rattle.wit_functions.specs.declared.function.FunctionKind.{FunctionKind}
 use Rattle.wit_syntax.specs.Address.{Address}
 use Rattle.wit_syntax.specs.Source.{Item, Part, Defining, Using, Including, Doing, Crossing, parts}
 use Rattle.wit_syntax.specs.Function.{SourceFunction, accessor, dotted, free_function, resource_function, definition_functions, part_functions, functions, side_function}
-use Rattle.wit_arena.specs.Functions.{freestanding_kind, method_kind, static_kind, IsKind}
+use Rattle.wit_arena.specs.Functions.{IsKind}
 use Rattle.wit_arena.specs.Meet.{Key}
 use Rattle.wit_syntax.proofs.Lists.{map_at, flat_map_at}
 use Rattle.wit_type_tree.specs.declared.types.Func.{Func}
@@ -25,6 +25,7 @@ use Rattle.wit_type_tree.specs.declared.leaves.Docs.{Docs}
 use Rattle.wit_type_tree.specs.declared.leaves.Attribute.{Attribute}
 use Rattle.wit_tree.specs.declared.tree.WorldSide.{WorldSide}
 use Rattle.wit_syntax.proofs.Externs.{extern_at}
+use Rattle.wit_arena.proofs.Turns.{freestanding_kind, method_kind, static_kind}
 
 -- a mark in one of two texts is in both together
 mark_before : (mark : ℕ) (text more : List ℕ) → HasMark mark text → HasMark mark (text ++ more)

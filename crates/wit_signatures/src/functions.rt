@@ -12,7 +12,7 @@ ghost use Rattle.wit_syntax.specs.Fault.{Fault};
 ghost use Rattle.wit_syntax.specs.Bodies.{IsBrokenPart};
 ghost use Rattle.wit_syntax.specs.Broken.{Refused};
 ghost use Rattle.wit_syntax.specs.Function.{SourceParam, SourceFunction, all_params as the_params, self_param as the_self, written_param, written_types};
-ghost use Rattle.wit_arena.specs.Functions.{freestanding_kind, method_kind, static_kind};
+ghost use Rattle.wit_arena.specs.Functions.{kinds_of};
 ghost use Rattle.wit_syntax.specs.Signature.{IsBrokenFunction, IsDuplicateParam, IsGetterWithoutResult};
 ghost use Rattle.wit_arena.specs.Resolving.{env_of, AddsFunctions};
 ghost use Rattle.wit_arena.specs.Resolved.{IsNameless};
@@ -41,7 +41,7 @@ use wit_values::{Row, Text, TextTable};
 
 /// The kind of a function by itself.
 fn freestanding(form: FuncForm) -> FunctionKind
-    ensures { result ≡ freestanding_kind form }
+    ensures { result ≡ (kinds_of form).freestanding }
 {
     match form {
         FuncForm::Plain => FunctionKind::Freestanding,
@@ -53,7 +53,7 @@ fn freestanding(form: FuncForm) -> FunctionKind
 
 /// The kind of a method of the resource at a place.
 fn method(form: FuncForm, resource: TypeId) -> FunctionKind
-    ensures { result ≡ method_kind form resource }
+    ensures { result ≡ (kinds_of form).method resource }
 {
     match form {
         FuncForm::Plain => FunctionKind::Method(resource),
@@ -65,7 +65,7 @@ fn method(form: FuncForm, resource: TypeId) -> FunctionKind
 
 /// The kind of a static function of the resource at a place.
 fn static_function(form: FuncForm, resource: TypeId) -> FunctionKind
-    ensures { result ≡ static_kind form resource }
+    ensures { result ≡ (kinds_of form).static resource }
 {
     match form {
         FuncForm::Plain => FunctionKind::Static(resource),

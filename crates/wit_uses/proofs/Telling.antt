@@ -24,10 +24,10 @@ use Rattle.wit_items.specs.Told.{notes_behind, AreOf}
 
 -- an item is what is told of it
 pub interface_told : (name : Option (List ℕ)) (span : Span) (n : Notes) (held : ItemNotes) (i : Interface) → AreOf n held → IsInterface name span (notes_behind held) i → IsInterface name span n i
-interface_told name span n held i are says = record { called = says.called; stands = says.stands; docs = says.docs ∙ are.docs; stability = says.stability ∙ are.stability; no_package = says.no_package; no_source = says.no_source }
+interface_told name span n held i are says = (says.0, says.1, says.2 ∙ are.docs, says.3 ∙ are.stability, says.4, says.5)
 
 pub world_told : (name : List ℕ) (span : Span) (n : Notes) (held : ItemNotes) (w : World) → AreOf n held → IsWorld name span (notes_behind held) w → IsWorld name span n w
-world_told name span n held w are says = record { name = says.name; span = says.span; docs = says.docs ∙ are.docs; stability = says.stability ∙ are.stability; no_package = says.no_package }
+world_told name span n held w are says = (says.0, says.1, says.2 ∙ are.docs, says.3 ∙ are.stability, says.4)
 
 -- an interface includes nothing
 no_include : (xs : List InterfaceItem) (i : Include) → Contains (flat_map part_includes (map interface_part xs)) i → ⊥

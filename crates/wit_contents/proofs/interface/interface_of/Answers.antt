@@ -58,7 +58,7 @@ returns-clause-adds c =
       own = all;
       list = c.in_ok-add_required.ensures ∙ ap (λ (l : List Required). c.args.required.now.items ++ l) c.deref.ensures.value;
       holds = record {
-        says = interface_told (about item.declared).called (about item.declared).id.span (declared_notes item.declared) c.in_ok-head.head.notes _ c.in_ok-head.ensures.told (record { called = c.requires.called; stands = c.requires.stands; docs = refl; stability = refl; no_package = refl; no_source = refl });
+        says = interface_told (about item.declared).called (about item.declared).id.span (declared_notes item.declared) c.in_ok-head.head.notes _ c.in_ok-head.ensures.told (c.requires.called, c.requires.stands, refl, refl, refl, refl);
         middle = b.middle;
         adds = b.adds;
         functions = made.0;

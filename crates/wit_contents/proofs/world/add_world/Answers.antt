@@ -14,13 +14,7 @@ returns-clause-added c =
     record {
       added = _;
       last = c.in_ok-place.ensures.ok;
-      says = record {
-        name = name;
-        span = refl;
-        docs = ap (λ (p : WorldParts). p.notes.docs) parts;
-        stability = ap (λ (p : WorldParts). p.notes.stability) parts;
-        no_package = refl;
-      };
+      says = (name, refl, ap (λ (p : WorldParts). p.notes.docs) parts, ap (λ (p : WorldParts). p.notes.stability) parts, refl);
       imports = c.fitted.ensures ∙ ap (λ (p : WorldParts). p.sides.imports) parts;
       exports = c.fitted-2.ensures ∙ ap (λ (p : WorldParts). p.sides.exports) parts;
       includes = ap (λ (p : WorldParts). p.includes) parts;

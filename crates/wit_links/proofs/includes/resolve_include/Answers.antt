@@ -32,13 +32,12 @@ returns-clause-is c =
     let ws = c.args.worlds.now.arena in
     let by_name = c.args.worlds.now.by_name in
     let to : Target = leads (top_at c.args.files.now c.args.place) i.from in
-    let found = sym c.included_world.ensures ∙ c.in-Some.is in
-    record {
-      stability = rw c.deref-3.ensures.value at c.in_ok-stability.ensures;
-      place = world_found c.args.files.now by_name ws to c.in-Some.id c.requires.index c.requires.front found;
-      names = c.in_ok-names.ensures ∙ ap (map renamed) c.deref-2.ensures.value;
-      span = ap (λ (id : Id). id.span) c.path_id-path.ensures;
-    }
+    let found = sym c.included_world.ensures ∙ c.in-Some.is in (
+      rw c.deref-3.ensures.value at c.in_ok-stability.ensures,
+      world_found c.args.files.now by_name ws to c.in-Some.id c.requires.index c.requires.front found,
+      c.in_ok-names.ensures ∙ ap (map renamed) c.deref-2.ensures.value,
+      ap (λ (id : Id). id.span) c.path_id-path.ensures,
+    )
 
 pub returns-clause-stable : goal.returns-clause-stable
 returns-clause-stable c = rw c.deref.ensures.value at c.in_ok-check_stability.ensures.legal

@@ -17,7 +17,7 @@ returns-clause-made c =
     let made : MakeContents files of.arenas.types of.arenas.interfaces of.arenas.worlds of.foreign = rw c.in_ok-contents.ensures.both.0 c.in_ok-made.ensures.made in
     let e = c.new.ensures in
     let n = rw c.in_ok-contents.ensures.both.1 at c.package_heading.ensures in
-    let others : NamesOthers files p = record { deps = e.foreign_deps ∙ made.deps; spans = e.foreign_dep_spans ∙ made.spans; unknown = e.unknown_type_spans ∙ made.unknown } in
+    let others : NamesOthers files p = (e.foreign_deps ∙ made.deps, e.foreign_dep_spans ∙ made.spans, e.unknown_type_spans ∙ made.unknown) in
     record {
       legal = files_legal files _ _ _ _ made.added header c.requires.header;
       whole = files_package files _ _ _ _ made.added p e.types e.interfaces e.worlds others e.required_resource_types header c.requires.header

@@ -1,0 +1,60 @@
+-- Words for what the definitions of meetings, of turns and of kinds say in place.
+use Rattle.std.specs.Prelude.{ℕ, List, [], ◌∷◌, map}
+use Rattle.std.specs.List.{flat_map, filter}
+use Rattle.wit_types.specs.declared.stability.Stability.{Stability}
+use Rattle.wit_tree.specs.declared.tree.PackageFile.{PackageFile}
+use Rattle.wit_model.specs.declared.ast_item.AstItem.{AstItem}
+use Rattle.wit_syntax.specs.Address.{Address, same_address}
+use Rattle.wit_syntax.specs.Notes.{stability_of}
+use Rattle.wit_syntax.specs.Source.{Item, ScopeName, about_name}
+use Rattle.wit_syntax.specs.Trees.{scope}
+use Rattle.wit_syntax.specs.Foreign.{ForeignVisit, visited, foreign_visits}
+use Rattle.wit_syntax.specs.Function.{SourceFunction}
+use Rattle.wit_type_tree.specs.declared.types.FuncForm.{FuncForm}
+use Rattle.wit_functions.specs.declared.function.FunctionKind.{FunctionKind}
+use Rattle.wit_arena.specs.Functions.{kinds_of}
+use Rattle.wit_arena.specs.Meet.{Meeting, shapes_meetings, name_meetings}
+use Rattle.wit_arena.specs.Whole.{Ordered, OrderedWorld, Turned, turn_meetings, foreign_entry}
+use Rattle.std.specs.Option.{unwrap_or}
+
+abbrev pub item_of : Ordered → Item
+item_of o = o.item
+
+abbrev pub own_item : OrderedWorld → Item
+own_item w = w.own.item
+
+-- the names of a scope, and a function of it, each by itself
+abbrev pub names_turn : Address → List ScopeName → Turned
+names_turn s xs = record { address = s; names = xs; functions = [] }
+
+abbrev pub function_turn : Address → SourceFunction → Turned
+function_turn s fn = record { address = s; names = []; functions = fn ∷ [] }
+
+-- an item of another package, with the names that are taken from it
+abbrev pub foreign_turned : List PackageFile → ForeignVisit → Turned
+foreign_turned files v = names_turn (visited v) (scope files (visited v))
+
+-- what is met in the parts of a name of a scope
+abbrev pub parts_meetings : Address → ScopeName → List Meeting
+parts_meetings s x = shapes_meetings (unwrap_or (about_name x).from s) (about_name x).notes.stability (about_name x).body.parts
+
+-- what is met in names of a scope, and in scopes, in order
+abbrev pub all_name_meetings : Address → List ScopeName → List Meeting
+all_name_meetings s xs = flat_map (name_meetings s) xs
+
+abbrev pub meetings : List Turned → List Meeting
+meetings ts = flat_map turn_meetings ts
+
+-- an item of another package by its name, with its entry and the stability of each of its visits
+abbrev pub dep_item : List PackageFile → ForeignVisit → List ℕ × (AstItem × List Stability)
+dep_item files v = (v.id.name.now, (foreign_entry files v, map (λ u. stability_of u.attributes) (filter (λ u. same_address (visited u) (visited v)) (foreign_visits files))))
+
+-- the kinds of functions, each by its form
+abbrev pub freestanding_kind : FuncForm → FunctionKind
+freestanding_kind form = (kinds_of form).freestanding
+
+abbrev pub method_kind : FuncForm → ℕ → FunctionKind
+method_kind form r = (kinds_of form).method r
+
+abbrev pub static_kind : FuncForm → ℕ → FunctionKind
+static_kind form r = (kinds_of form).static r
