@@ -82,7 +82,7 @@ Decls = Address → List ScopeName × TypeOwner
 -- The entry of a key, over the places of parts that were met before: of a name of a scope, one with its name, span, owner, form and parts, and
 -- with what is told of it; of an unnamed type, one without name, owner, docs and external id, with its form and parts.
 abbrev pub IsEntry : Decls → List Key → Key → TypeDef → Type 0
-IsEntry decls ks (Def s name) e = (k : ℕ) × (x : ScopeName) × (slice_get (decls s).0 k ≡ Some x) × (local_name x ≡ name) × (e.name ≡ Some name) × (e.span ≡ name_span x) × (e.owner ≡ (decls s).1)
+IsEntry decls ks (Def s name) e = (k : ℕ) × (x : ScopeName) × (slice_get (decls s).0 k ≡ Some x) × (local_name x ≡ name) × (e.name ≡ Some name) × (e.span ≡ (about_name x).span) × (e.owner ≡ (decls s).1)
     × ((kind_of e.kind).form ≡ (about_name x).body.form) × AreAt ks (name_exprs s x) (kind_of e.kind).parts × AreNotes (about_name x).notes e.docs e.stability e.external_id
 IsEntry decls ks (Whole form parts) e = (e.name ≡ None) × (e.owner ≡ owner.None) × ((kind_of e.kind).form ≡ form) × AreAt ks parts (kind_of e.kind).parts × (e.docs ≡ no_docs) × (e.external_id ≡ None)
 
