@@ -10,7 +10,6 @@ use Rattle.wit_entries.proofs.Requiring.{grown_then}
 use Rattle.wit_items.specs.Items.{scope_item}
 use Rattle.wit_items.specs.Interfaces.{cells_of}
 use Rattle.wit_item_entries.specs.Body.{AddsBody, IsWrongBody}
-use Rattle.wit_uses.proofs.Telling.{interface_told}
 use Rattle.wit_item_entries.proofs.WrongNames.{wrong_interface}
 use Rattle.wit_contents.proofs.interface.interface_of.Goals as goal
 
