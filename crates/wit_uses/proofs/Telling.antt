@@ -1,5 +1,5 @@
 -- What is told of items, and that nothing is wrong with it.
-use Rattle.std.proofs.Common.{◌≡◌, ◌∷◌, ◌++◌, ℕ, List, [], Option, false, not, inl, inr, ap, ◌∙◌, subst, arith, Contains}
+use Rattle.std.proofs.Common.{◌≡◌, ◌∷◌, ◌++◌, ℕ, List, [], false, not, inl, inr, ap, ◌∙◌, subst, arith, Contains}
 use Rattle.std.specs.Prelude.{map}
 use Rattle.std.specs.List.{flat_map}
 use Rattle.std.proofs.lemmas.Bool.{cases_Bool}
@@ -8,14 +8,13 @@ use Rattle.wit_type_tree.specs.declared.leaves.Id.{Id}
 use Rattle.wit_tree.specs.declared.tree.Include.{Include}
 use Rattle.wit_tree.specs.declared.tree.InterfaceItem.{InterfaceItem}
 use Rattle.wit_tree.specs.declared.tree.InterfaceItem.TheVariants as interface_item
-use Rattle.wit_model.specs.declared.interface.Interface.{Interface}
 use Rattle.wit_model.specs.declared.world.World.{World}
 use Rattle.wit_syntax.specs.Fault.{Fault}
 use Rattle.wit_syntax.specs.Notes.{Notes, IsBrokenStability}
 use Rattle.wit_syntax.specs.Source.{Declared, TheInterface, TheWorld, TheInline, interface_part, Item, is_world, about}
 use Rattle.wit_syntax.specs.Scope.{part_includes, interfaces_of, worlds_of}
 use Rattle.wit_syntax.specs.Sides.{IsBrokenSides}
-use Rattle.wit_arena.specs.Package.{IsInterface, IsWorld}
+use Rattle.wit_arena.specs.Package.{IsWorld}
 use Rattle.wit_arena.specs.Resolved.{IsBrokenItemStability, OwnStability, OfInclude, HaveLegalStability, AreLegalSides}
 use Rattle.wit_syntax.proofs.Kept.{kept_has}
 use Rattle.wit_syntax.proofs.Lists.{at_either}
@@ -23,9 +22,6 @@ use Rattle.wit_items.specs.declared.notes.ItemNotes.{ItemNotes}
 use Rattle.wit_items.specs.Told.{notes_behind, AreOf}
 
 -- an item is what is told of it
-pub interface_told : (name : Option (List ℕ)) (span : Span) (n : Notes) (held : ItemNotes) (i : Interface) → AreOf n held → IsInterface name span (notes_behind held) i → IsInterface name span n i
-interface_told name span n held i are says = (says.0, says.1, says.2 ∙ are.docs, says.3 ∙ are.stability, says.4, says.5)
-
 pub world_told : (name : List ℕ) (span : Span) (n : Notes) (held : ItemNotes) (w : World) → AreOf n held → IsWorld name span (notes_behind held) w → IsWorld name span n w
 world_told name span n held w are says = (says.0, says.1, says.2 ∙ are.docs, says.3 ∙ are.stability, says.4)
 

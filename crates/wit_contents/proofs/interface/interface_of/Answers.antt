@@ -10,7 +10,6 @@ use Rattle.wit_entries.proofs.Requiring.{grown_then}
 use Rattle.wit_items.specs.Items.{scope_item}
 use Rattle.wit_items.specs.Interfaces.{cells_of}
 use Rattle.wit_item_entries.specs.Body.{AddsBody, IsWrongBody}
-use Rattle.wit_uses.proofs.Telling.{interface_told}
 use Rattle.wit_item_entries.proofs.WrongNames.{wrong_interface}
 use Rattle.wit_contents.proofs.interface.interface_of.Goals as goal
 
@@ -58,7 +57,7 @@ returns-clause-adds c =
       own = all;
       list = c.in_ok-add_required.ensures ∙ ap (λ (l : List Required). c.args.required.now.items ++ l) c.deref.ensures.value;
       holds = record {
-        says = interface_told (about item.declared).called (about item.declared).id.span (declared_notes item.declared) c.in_ok-head.head.notes _ c.in_ok-head.ensures.told (c.requires.called, c.requires.stands, refl, refl, refl, refl);
+        says = (c.requires.called, c.requires.stands, c.in_ok-head.ensures.told.docs, c.in_ok-head.ensures.told.stability, refl, refl);
         middle = b.middle;
         adds = b.adds;
         functions = made.0;
