@@ -8,6 +8,7 @@ pub mod Package
 pub mod OneByOne
 pub mod FirstMeetings
 pub mod Whole
+pub mod Made
 pub mod Faithful
 pub mod Resolving
 pub mod Resolved
