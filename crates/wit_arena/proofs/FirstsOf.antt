@@ -95,12 +95,12 @@ module _ (same : Key → Key → Bool) (tells : (a b : Key) → (same a b ≡ tr
   meets_all : (all : List Meeting) → Meets [] all (firsts same_meeting all)
   meets_all all = subst (Meets [] all) (filter_all (firsts same_meeting all)) (meets_firsts [] all)
 
-  pub firsts-are_first : (all : List Meeting) → AreFirst all (firsts same_meeting all)
+  pub firsts-are_first : (all : List Meeting) → AreFirst all (firsts (λ a b. same a.key b.key) all)
   firsts-are_first all = first_of_meets all (firsts same_meeting all) (meets_all all)
 
-  pub are_first-firsts : (all met : List Meeting) → AreFirst all met → met ≡ firsts same_meeting all
+  pub are_first-firsts : (all met : List Meeting) → AreFirst all met → met ≡ firsts (λ a b. same a.key b.key) all
   are_first-firsts all met first = meets_one all [] met (firsts same_meeting all) (meets_of_first all met first) (meets_all all)
 
   -- no key is met twice in them
-  pub firsts-differ : (all : List Meeting) → AllDiffer (keys (firsts same_meeting all))
+  pub firsts-differ : (all : List Meeting) → AllDiffer (keys (firsts (λ a b. same a.key b.key) all))
   firsts-differ all = firsts_differ same_meeting (λ (m : Meeting). m.key) (λ x y is. (tells x.key y.key).1 is) (λ x y is. (tells x.key y.key).0 is) all
