@@ -79,3 +79,7 @@ pub mod JoinedMeetings
 pub mod JoinedSides
 pub mod JoinedOthers
 pub mod JoinedPackage
+pub mod SameKeys
+pub mod FirstsOf
+pub mod Placing
+pub mod PlacingFunctions

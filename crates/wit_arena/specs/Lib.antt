@@ -7,6 +7,7 @@ pub mod SideItems
 pub mod Package
 pub mod OneByOne
 pub mod Whole
+pub mod Made
 pub mod Faithful
 pub mod Resolving
 pub mod Resolved
