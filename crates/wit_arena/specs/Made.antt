@@ -32,10 +32,10 @@ use Rattle.wit_graph.specs.Table.{IsOrder}
 use Rattle.wit_syntax.specs.Form.{Form}
 use Rattle.wit_syntax.specs.Repeats.{firsts}
 use Rattle.wit_syntax.specs.Crossing.{same_side}
-use Rattle.wit_syntax.specs.Address.{Address, package_of, same_address}
+use Rattle.wit_syntax.specs.Address.{Address, package_of, same_address, WorldNamed}
 use Rattle.wit_syntax.specs.Node.{primitive_type}
 use Rattle.wit_syntax.specs.Notes.{Notes, no_docs, no_notes, stability_of, first_known}
-use Rattle.wit_syntax.specs.Source.{path_id, path_scope, leads, TopName, Item, declared_name, item_id, item_notes, address, included_scope, ScopeName, all_items, scope_names, local_name, local_id, name_form, name_notes, Taking, first_takings}
+use Rattle.wit_syntax.specs.Source.{path_id, path_scope, leads, TopName, Item, address, ScopeName, all_items, scope_names, local_name, local_id, Taking, first_takings, about, declared_notes, target_scope, about_name}
 use Rattle.wit_syntax.specs.Trees.{scope}
 use Rattle.wit_syntax.specs.Foreign.{ForeignVisit, visited, foreign_interfaces, foreign_worlds, foreign_packages}
 use Rattle.wit_syntax.specs.Function.{Role, Freestanding, Method, Static, Constructor, OnSide, SourceParam, SourceFunction, functions, all_params, function_notes}
@@ -45,7 +45,7 @@ use Rattle.wit_syntax.specs.Broken.{last_header, headers}
 use Rattle.wit_arena.specs.Kind.{kind_of}
 use Rattle.wit_arena.specs.Expr.{Expr, Prim, Use, Of, Exprs, End, More, expr_of, name_exprs}
 use Rattle.wit_arena.specs.Meet.{Key, Def, Whole, Meeting, keys, stability_at}
-use Rattle.wit_arena.specs.Functions.{freestanding_kind, method_kind, static_kind}
+use Rattle.wit_arena.specs.Functions.{kinds_of}
 use Rattle.wit_arena.specs.SideItems.{link_item, inline_entry, settled}
 use Rattle.wit_arena.specs.Whole.{Turned, turn_handles, all_meetings, AreRequired, place_at, owner_at, dep, renamed, first_docs}
 
@@ -67,7 +67,7 @@ entry name owner n span kind = record { name = name; kind = kind; owner = owner;
 -- told of the name. That of an unnamed type has its form over those of its parts, and the first known of the stability that it is met with and of theirs.
 abbrev pub IsEntryOf : (Address → List ScopeName) → (Address → TypeOwner) → (Key → ℕ) → List TypeDef → Key → Span → Stability → TypeDef → Type 0
 IsEntryOf names owner_of id es (Def s name) span given e = (x : ScopeName) × (kind : TypeDefKind) × Contains (names s) x × (local_name x ≡ name)
-    × (kind_of kind ≡ record { form = name_form x; parts = types_of id (name_exprs s x) }) × (e ≡ entry (Some name) (owner_of s) (name_notes x) span kind)
+    × (kind_of kind ≡ record { form = (about_name x).body.form; parts = types_of id (name_exprs s x) }) × (e ≡ entry (Some name) (owner_of s) (about_name x).notes span kind)
 IsEntryOf names owner_of id es (Whole form parts) span given e = (kind : TypeDefKind) × (kind_of kind ≡ record { form = form; parts = types_of id parts })
     × (e ≡ entry None owner.None (record { docs = no_docs; stability = first_known (given ∷ map (stability_at es) (types_of id parts)); external_id = None }) span kind)
 
@@ -77,11 +77,11 @@ name_places id s xs = map (λ x. (local_name x, id (Def s (local_name x)))) xs
 
 -- the kind of a function of a role, where this tells the place of a resource
 abbrev pub role_kind : (Id → ℕ) → Role → FunctionKind
-role_kind place (Freestanding name form) = freestanding_kind form
-role_kind place (Method of form) = method_kind form (place of)
-role_kind place (Static of form) = static_kind form (place of)
+role_kind place (Freestanding name form) = (kinds_of form).freestanding
+role_kind place (Method of form) = (kinds_of form).method (place of)
+role_kind place (Static of form) = (kinds_of form).static (place of)
 role_kind place (Constructor of) = kind.Constructor (place of)
-role_kind place (OnSide side name form) = freestanding_kind form
+role_kind place (OnSide side name form) = (kinds_of form).freestanding
 
 -- a written function of a scope, over the types of the package
 abbrev pub function_in : (Key → ℕ) → Address → SourceFunction → Function
@@ -110,7 +110,7 @@ names_in_turn order i = in_turn (scope_names i) (order (address i))
 
 -- an interface of files, with its names in turn, and with its functions, each setter that is written before its getter directly behind it
 abbrev pub own_interface : (Key → ℕ) → (Address → List ℕ) → Item → Interface
-own_interface id order i = interface (declared_name i.declared) (name_places id (address i) (names_in_turn order i)) (placed Some (map (λ fn. (fn.name, function_in id (address i) fn)) (functions i))) (item_notes i) (item_id i).span
+own_interface id order i = interface (about i.declared).called (name_places id (address i) (names_in_turn order i)) (placed Some (map (λ fn. (fn.name, function_in id (address i) fn)) (functions i))) (declared_notes i.declared) (about i.declared).id.span
 
 -- the place of a scope among these
 abbrev pub scope_place : List Address → Address → ℕ
@@ -135,7 +135,7 @@ name_imports id s xs = map (λ x. (key.Name (local_name x), item.Type_ (id (Def 
 
 -- an include, where the worlds have these scopes
 abbrev pub include_in : List Address → List TopName → Include → WorldInclude
-include_in ss top n = record { stability = stability_of n.attributes.items; id = scope_place ss (included_scope (leads top n.from)); names = map renamed n.names.items; span = (path_id n.from).span }
+include_in ss top n = record { stability = stability_of n.attributes.items; id = scope_place ss (target_scope WorldNamed (leads top n.from)); names = map renamed n.names.items; span = (path_id n.from).span }
 
 -- a world of this name, with these imports, exports and includes, of which this is told, which stands there
 abbrev pub world : List ℕ → List (WorldKey × WorldItem) → List (WorldKey × WorldItem) → List WorldInclude → Notes → Span → World
@@ -151,9 +151,9 @@ world_entries id ss i = side_entries (function_in id (address i)) ss i.top (side
 
 -- a world of files, where the interfaces have these scopes and the worlds those: it imports its names in turn, and then what stands on that side
 abbrev pub own_world : (Key → ℕ) → (Address → List ℕ) → List Address → List Address → Item → World
-own_world id order ss ws i = world (item_id i).name.now
+own_world id order ss ws i = world (about i.declared).id.name.now
     (settled (includes i) (name_imports id (address i) (names_in_turn order i) ++ entries_on Imported (world_entries id ss i)))
-    (settled (includes i) (entries_on Exported (world_entries id ss i))) (map (include_in ws i.top) (includes i)) (item_notes i) (item_id i).span
+    (settled (includes i) (entries_on Exported (world_entries id ss i))) (map (include_in ws i.top) (includes i)) (declared_notes i.declared) (about i.declared).id.span
 
 -- an interface, as it is resolved: whole
 abbrev pub interface_turn : (Address → List ℕ) → Item → Turned
