@@ -5,9 +5,7 @@ use Rattle.std.proofs.lemmas.Bool.{and_parts, both_ways, cases_Bool, cond-true, 
 use Rattle.wit_syntax.specs.Repeats.{AllDiffer, firsts}
 use Rattle.wit_syntax.proofs.Firsts.{firsts_differ}
 use Rattle.wit_arena.specs.Meet.{Key, Meeting, keys, IsMet, Meets}
-use Rattle.wit_arena.specs.FirstMeetings.{AreFirst}
 use Rattle.wit_arena.proofs.Meeting.{meets_one}
-use Rattle.wit_arena.proofs.FirstMeetings.{first_of_meets, meets_of_first}
 
 -- what two tests keep, one behind the other, is what both keep
 filter_both : {X : Type 0} (p q r : X → Bool) → ((x : X) → r x ≡ (q x && p x)) → (xs : List X) → filter p (filter q xs) ≡ filter r xs
@@ -92,14 +90,11 @@ module _ (same : Key → Key → Bool) (tells : (a b : Key) → (same a b ≡ tr
         inl (old_tells ms x.key old, subst (Meets ms ks) is (meets_firsts ms ks)))
   ]
 
-  meets_all : (all : List Meeting) → Meets [] all (firsts same_meeting all)
-  meets_all all = subst (Meets [] all) (filter_all (firsts same_meeting all)) (meets_firsts [] all)
+  pub firsts-meets : (all : List Meeting) → Meets [] all (firsts (λ a b. same a.key b.key) all)
+  firsts-meets all = subst (Meets [] all) (filter_all (firsts same_meeting all)) (meets_firsts [] all)
 
-  pub firsts-are_first : (all : List Meeting) → AreFirst all (firsts (λ a b. same a.key b.key) all)
-  firsts-are_first all = first_of_meets all (firsts same_meeting all) (meets_all all)
-
-  pub are_first-firsts : (all met : List Meeting) → AreFirst all met → met ≡ firsts (λ a b. same a.key b.key) all
-  are_first-firsts all met first = meets_one all [] met (firsts same_meeting all) (meets_of_first all met first) (meets_all all)
+  pub meets-firsts : (all met : List Meeting) → Meets [] all met → met ≡ firsts (λ a b. same a.key b.key) all
+  meets-firsts all met meets = meets_one all [] met (firsts same_meeting all) meets (firsts-meets all)
 
   -- no key is met twice in them
   pub firsts-differ : (all : List Meeting) → AllDiffer (keys (firsts (λ a b. same a.key b.key) all))

@@ -1,7 +1,7 @@
 -- Where a function tells the place of each key, what stands for written functions and for names is told.
 use Rattle.std.proofs.Common.{◌≡◌, ℕ, suc, List, [], ◌∷◌, Option, Some, None, refl, sym, ap, ◌∙◌, arith}
 use Rattle.std.specs.Prelude.{slice_get, map}
-use Rattle.std.specs.Option.{option_map}
+use Rattle.std.specs.Option.{option_map, option_to_list}
 use Rattle.wit_values.specs.declared.span.Span.{Span}
 use Rattle.wit_types.specs.declared.docs.Docs.{Docs}
 use Rattle.wit_types.specs.declared.stability.Stability.{Stability}
@@ -16,9 +16,9 @@ use Rattle.wit_syntax.specs.Function.{Role, Freestanding, Method, Static, Constr
 use Rattle.wit_syntax.specs.Shape.{Shape}
 use Rattle.wit_syntax.specs.Source.{ScopeName, local_name}
 use Rattle.wit_arena.specs.Expr.{expr_of}
-use Rattle.wit_arena.specs.Functions.{method_kind, static_kind, IsKind, IsParam, IsResult, IsFunction}
+use Rattle.wit_arena.specs.Functions.{kinds_of, IsKind, IsParam, IsFunction}
 use Rattle.wit_arena.specs.Made.{type_of, role_kind, function_in, name_places}
-use Rattle.wit_arena.specs.Meet.{Key, Def}
+use Rattle.wit_arena.specs.Meet.{Key, Def, IsAt}
 use Rattle.wit_arena.specs.OneByOne.{OneByOne}
 use Rattle.wit_arena.specs.Whole.{Turned, HasTypes}
 use Rattle.wit_arena.proofs.Placing.{TellsPlaces, at-type_of}
@@ -42,8 +42,8 @@ function name kind params result docs stability span id = record { name = name; 
 module _ (id : Key → ℕ) (ks : List Key) (tells : TellsPlaces id ks) where
   kind-role : (s : Address) (role : Role) (k : FunctionKind) → IsKind ks s role k → k ≡ role_kind (λ (of : Id). id (Def s of.name.now)) role
   kind-role s (Freestanding of form) k h = h
-  kind-role s (Method of form) k h = h.1 ∙ ap (method_kind form) (sym (tells.at h.0 (Def s of.name.now) h.2))
-  kind-role s (Static of form) k h = h.1 ∙ ap (static_kind form) (sym (tells.at h.0 (Def s of.name.now) h.2))
+  kind-role s (Method of form) k h = h.1 ∙ ap (kinds_of form).method (sym (tells.at h.0 (Def s of.name.now) h.2))
+  kind-role s (Static of form) k h = h.1 ∙ ap (kinds_of form).static (sym (tells.at h.0 (Def s of.name.now) h.2))
   kind-role s (Constructor of) k h = h.1 ∙ ap kind.Constructor (sym (tells.at h.0 (Def s of.name.now) h.2))
   kind-role s (OnSide side of form) k h = h
 
@@ -52,16 +52,17 @@ module _ (id : Key → ℕ) (ks : List Key) (tells : TellsPlaces id ks) where
 
   param_told : (s : Address) (x : SourceParam) (p : Param) → IsParam ks s x p → p ≡ param_in s x
   param_told s x p h =
-      let name = h.name in
-      let type = at-type_of id ks tells (expr_of s x.shape) p.ty h.type in
-      let span = h.span in
+      let name = h.0 in
+      let type = at-type_of id ks tells (expr_of s x.shape) p.ty h.2 in
+      let span = h.1 in
       let same : param p.name p.ty p.span ≡ param_in s x = cc in
       same
 
-  result_told : (s : Address) (x : Option Shape) (t : Option Ty) → IsResult ks s x t → t ≡ option_map (λ y. type_of id (expr_of s y)) x
-  result_told s None t h = h
-  result_told s (Some x) None h = absurd h
-  result_told s (Some x) (Some t) h = ap Some (at-type_of id ks tells (expr_of s x) t h)
+  result_told : (s : Address) (x : Option Shape) (t : Option Ty) → OneByOne (λ (y : Shape) (u : Ty). IsAt ks (expr_of s y) u) (option_to_list x) (option_to_list t) → t ≡ option_map (λ y. type_of id (expr_of s y)) x
+  result_told s None None h = refl
+  result_told s None (Some t) h = absurd (let count = h.count in let f : ⊥ = omega (arith, count) in f)
+  result_told s (Some x) None h = absurd (let count = h.count in let f : ⊥ = omega (arith, count) in f)
+  result_told s (Some x) (Some t) h = ap Some (at-type_of id ks tells (expr_of s x) t (h.each 0 x t refl refl))
 
   pub function-in : (s : Address) (written : SourceFunction) (f : Function) → IsFunction ks s written f → f ≡ function_in id s written
   function-in s written f h =

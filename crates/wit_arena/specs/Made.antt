@@ -9,6 +9,8 @@ use Rattle.wit_tree.specs.declared.tree.Include.{Include}
 use Rattle.wit_tree.specs.declared.tree.WorldSide.{WorldSide}
 use Rattle.wit_tree.specs.declared.tree.WorldSide.TheVariants.{Imported, Exported}
 use Rattle.wit_type_tree.specs.declared.leaves.Id.{Id}
+use Rattle.wit_type_tree.specs.declared.attribute_kind.AttributeKind.TheVariants.{ExternalId}
+use Rattle.wit_type_tree.specs.Attributes.{told_text}
 use Rattle.wit_types.specs.declared.stability.Stability.{Stability}
 use Rattle.wit_types.specs.declared.types.TypeDef.{TypeDef}
 use Rattle.wit_types.specs.declared.types.TypeDefKind.{TypeDefKind}
@@ -34,11 +36,11 @@ use Rattle.wit_syntax.specs.Repeats.{firsts}
 use Rattle.wit_syntax.specs.Crossing.{same_side}
 use Rattle.wit_syntax.specs.Address.{Address, package_of, same_address, WorldNamed}
 use Rattle.wit_syntax.specs.Node.{primitive_type}
-use Rattle.wit_syntax.specs.Notes.{Notes, no_docs, no_notes, stability_of, first_known}
+use Rattle.wit_syntax.specs.Notes.{Notes, notes, docs_of, no_docs, no_notes, stability_of, first_known}
 use Rattle.wit_syntax.specs.Source.{path_id, path_scope, leads, TopName, Item, address, ScopeName, all_items, scope_names, local_name, local_id, Taking, first_takings, about, declared_notes, target_scope, about_name}
 use Rattle.wit_syntax.specs.Trees.{scope}
 use Rattle.wit_syntax.specs.Foreign.{ForeignVisit, visited, foreign_interfaces, foreign_worlds, foreign_packages}
-use Rattle.wit_syntax.specs.Function.{Role, Freestanding, Method, Static, Constructor, OnSide, SourceParam, SourceFunction, functions, all_params, function_notes}
+use Rattle.wit_syntax.specs.Function.{Role, Freestanding, Method, Static, Constructor, OnSide, SourceParam, SourceFunction, functions, all_params}
 use Rattle.wit_syntax.specs.Scope.{item_rows, interfaces_of, worlds_of, includes, rows_of, in_order, in_turn}
 use Rattle.wit_syntax.specs.Sides.{SideItem, SideFunction, SideLink, SideInline, role_side, side_items, inline_items, all_scopes}
 use Rattle.wit_syntax.specs.Broken.{last_header, headers}
@@ -91,9 +93,9 @@ function_in id s fn = record {
   span = fn.span;
   params = map (λ (x : SourceParam). record { name = x.name; ty = type_of id (expr_of s x.shape); span = x.span }) (all_params fn);
   result = option_map (λ x. type_of id (expr_of s x)) fn.result;
-  docs = (function_notes fn).docs;
-  stability = (function_notes fn).stability;
-  external_id = (function_notes fn).external_id;
+  docs = docs_of fn.docs;
+  stability = stability_of fn.attributes;
+  external_id = told_text ExternalId fn.attributes;
 }
 
 -- an interface of this name, if it has one, with these types and functions, of which this is told, which stands there
