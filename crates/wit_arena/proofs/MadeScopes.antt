@@ -1,0 +1,34 @@
+-- The scopes of a package differ, so each has one place.
+use Rattle.std.proofs.Common.{◌≡◌, ℕ, List, not, Option, Some, sym, ap, subst}
+use Rattle.std.specs.Prelude.{slice_get}
+use Rattle.std.specs.Option.{unwrap_or}
+use Rattle.wit_tree.specs.declared.tree.PackageFile.{PackageFile}
+use Rattle.wit_syntax.specs.Address.{Address}
+use Rattle.wit_syntax.specs.Broken.{Names, IsLegal}
+use Rattle.wit_syntax.specs.Repeats.{AllDiffer}
+use Rattle.wit_syntax.specs.Scope.{interfaces_of, worlds_of}
+use Rattle.wit_syntax.specs.Source.{Item, is_world}
+use Rattle.wit_arena.specs.Made.{AreInOrder, interface_scopes, world_scopes, scope_place}
+use Rattle.wit_arena.proofs.Added.{all_addresses}
+use Rattle.wit_arena.proofs.Interfaces.{AreAddresses, AreItems, interfaces_sort, worlds_sort, items_kept, place_at-found}
+use Rattle.wit_arena.proofs.Itemizing.{are_items}
+use Rattle.wit_arena.proofs.LegalScopes.{distinct_items}
+
+-- the place of a scope among such as differ
+pub scope_place-found : (ss : List Address) (s : Address) (i : ℕ) → AllDiffer ss → slice_get ss i ≡ Some s → scope_place ss s ≡ i
+scope_place-found ss s i differ at = ap (λ (o : Option ℕ). unwrap_or o 0) (place_at-found ss s i differ at)
+
+module _ (files : List PackageFile) (legal : IsLegal files) (items : List Item) (ordered : AreInOrder files items) where
+  -- each item is the first of its name, and no two have one
+  pub ordered_items : AreItems files items
+  ordered_items = subst (λ (is : List Item). AreItems files is) (sym ordered.2) (are_items files ordered.0 ordered.1 (distinct_items files (λ f broken. legal f (Names broken))))
+
+  -- no two scopes of interfaces and of worlds are one
+  pub scopes_apart : AreAddresses (interface_scopes files items) (world_scopes files items)
+  scopes_apart = all_addresses files (interfaces_of items) (worlds_of items) (interfaces_sort items) (worlds_sort items) (items_kept files (λ (i : Item). not (is_world i)) items ordered_items) (items_kept files is_world items ordered_items)
+
+  pub interface_scopes-differ : AllDiffer (interface_scopes files items)
+  interface_scopes-differ = scopes_apart.interfaces
+
+  pub world_scopes-differ : AllDiffer (world_scopes files items)
+  world_scopes-differ = scopes_apart.worlds
