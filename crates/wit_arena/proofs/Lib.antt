@@ -83,3 +83,6 @@ pub mod SameKeys
 pub mod FirstsOf
 pub mod Placing
 pub mod PlacingFunctions
+pub mod MadeInterfaces
+pub mod MadeSides
+pub mod MadeWorlds
