@@ -86,3 +86,4 @@ pub mod PlacingFunctions
 pub mod MadeInterfaces
 pub mod MadeSides
 pub mod MadeWorlds
+pub mod MadeArenas

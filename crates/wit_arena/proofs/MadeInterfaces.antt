@@ -1,6 +1,5 @@
 -- Where a function tells the place of each key, each interface of the package is told.
 use Rattle.std.proofs.Common.{◌≡◌, ℕ, List, [], Option, Some, None, ap, ◌∙◌}
-use Rattle.std.specs.Prelude.{map}
 use Rattle.wit_values.specs.declared.span.Span.{Span}
 use Rattle.wit_types.specs.declared.docs.Docs.{Docs}
 use Rattle.wit_types.specs.declared.stability.Stability.{Stability}
@@ -10,9 +9,9 @@ use Rattle.wit_functions.specs.Setters.{placed}
 use Rattle.wit_model.specs.declared.interface.Interface.{Interface}
 use Rattle.wit_syntax.specs.Address.{Address}
 use Rattle.wit_syntax.specs.Foreign.{ForeignVisit}
-use Rattle.wit_syntax.specs.Function.{SourceFunction, functions as item_functions}
+use Rattle.wit_syntax.specs.Function.{functions as item_functions}
 use Rattle.wit_syntax.specs.Notes.{Notes, no_notes}
-use Rattle.wit_syntax.specs.Source.{ScopeName, address, about, declared_notes}
+use Rattle.wit_syntax.specs.Source.{address, about, declared_notes}
 use Rattle.wit_syntax.proofs.Lists.{map_map}
 use Rattle.wit_arena.specs.Functions.{by_name, placed_functions}
 use Rattle.wit_arena.specs.Made.{function_in, interface, foreign_interface, name_places, names_in_turn, own_interface}

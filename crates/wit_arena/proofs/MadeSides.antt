@@ -1,5 +1,5 @@
 -- What stands on a side of a world is what the written ones make there.
-use Rattle.std.proofs.Common.{◌≡◌, ℕ, Bool, true, false, cond, List, [], ◌∷◌, Option, Some, None, refl, sym, ap, ◌∙◌}
+use Rattle.std.proofs.Common.{◌≡◌, ℕ, Bool, true, false, cond, List, [], ◌∷◌, Some, None, refl, sym, ap, ◌∙◌}
 use Rattle.std.specs.Prelude.{slice_get, map}
 use Rattle.std.specs.List.{cons_option, flat_map}
 use Rattle.wit_tree.specs.declared.tree.WorldSide.{WorldSide}

@@ -1,5 +1,5 @@
 -- Where a function tells the place of each key, and scopes stand where they are told to, each world of the package is told.
-use Rattle.std.proofs.Common.{◌≡◌, ℕ, List, [], ◌∷◌, ◌++◌, Option, None, refl, sym, ap, ◌∙◌, subst}
+use Rattle.std.proofs.Common.{◌≡◌, ℕ, List, [], ◌∷◌, ◌++◌, Option, refl, sym, ap, ◌∙◌, subst}
 use Rattle.std.specs.Prelude.{map}
 use Rattle.std.specs.List.{flat_map}
 use Rattle.wit_values.specs.declared.span.Span.{Span}
@@ -18,7 +18,7 @@ use Rattle.wit_model.specs.declared.world.WorldKey.{WorldKey}
 use Rattle.wit_model.specs.declared.world.WorldKey.TheVariants as key
 use Rattle.wit_syntax.specs.Address.{Address, WorldNamed}
 use Rattle.wit_syntax.specs.Foreign.{ForeignVisit}
-use Rattle.wit_syntax.specs.Function.{SourceFunction, functions as item_functions}
+use Rattle.wit_syntax.specs.Function.{functions as item_functions}
 use Rattle.wit_syntax.specs.Notes.{Notes, no_notes}
 use Rattle.wit_syntax.specs.Scope.{includes}
 use Rattle.wit_syntax.specs.Sides.{item_function, side_items, inline_items}
@@ -28,7 +28,7 @@ use Rattle.wit_arena.specs.Made.{function_in, name_places, names_in_turn, entrie
 use Rattle.wit_arena.specs.Meet.{Key, Def}
 use Rattle.wit_arena.specs.Package.{IsWorld, IsForeignWorld, world_types}
 use Rattle.wit_arena.specs.SideItems.{AreSideItems, settled}
-use Rattle.wit_arena.specs.Whole.{Ordered, OrderedWorld, addresses, ordered_names, turned, type_imports, IsInclude, HasSides, IsResolvedWorld}
+use Rattle.wit_arena.specs.Whole.{OrderedWorld, addresses, ordered_names, turned, type_imports, IsInclude, IsResolvedWorld}
 use Rattle.wit_arena.proofs.Laid.{ordered_addresses}
 use Rattle.wit_arena.proofs.MadeSides.{ArePlaced, side_items-told}
 use Rattle.wit_arena.proofs.Placing.{TellsPlaces}
@@ -94,10 +94,7 @@ module _ (id : Key → ℕ) (ks : List Key) (tells : TellsPlaces id ks) (ss : Li
         let named = ap (type_imports names) types ∙ type_imports-told id s names ∙ ap (name_imports id s) in_turn in
         let imported = side_told Imported i (addresses o.inside) h.sides.functions h.sides.imports.0 written made h.sides.imports.1 in
         let exported = side_told Exported i (addresses o.inside) h.sides.functions h.sides.exports.0 written made h.sides.exports.1 in
-        let imports =
-        h.sides.imports.2
-        ∙ ap (λ (l : Entries). settled (includes i) (l ++ h.sides.imports.0)) named
-        ∙ ap (λ (l : Entries). settled (includes i) (name_imports id s (names_in_turn order i) ++ l)) imported in
+        let imports = h.sides.imports.2 ∙ ap (λ (l : Entries). settled (includes i) (l ++ h.sides.imports.0)) named ∙ ap (λ (l : Entries). settled (includes i) (name_imports id s (names_in_turn order i) ++ l)) imported in
         let exports = h.sides.exports.2 ∙ ap (settled (includes i)) exported in
         let included = one_by_one-map (IsInclude ws i.top) (include_in ws i.top) (include_told ws worlds_placed i.top) (includes i) w.includes h.includes in
         let made_world = own_world id order ss ws i in
