@@ -86,3 +86,7 @@ pub mod PlacingFunctions
 pub mod MadeEntries
 pub mod MadeHeads
 pub mod MadeScopes
+pub mod MadeInterfaces
+pub mod MadeSides
+pub mod MadeWorlds
+pub mod MadeArenas
