@@ -71,12 +71,12 @@ module _ (files : List PackageFile) (legal : IsLegal files) where
     pub inside_are : map item_of (all_inside ws) ≡ inside_of (worlds_of all)
     inside_are = inside_items ws ordered.inside ∙ ap inside_of ordered.all_worlds
 
-    interfaces_are : interface_list files (interfaces_of all) (inside_of (worlds_of all)) ≡ interface_addresses files (os ++ all_inside ws)
+    pub interfaces_are : interface_list files (interfaces_of all) (inside_of (worlds_of all)) ≡ interface_addresses files (os ++ all_inside ws)
     interfaces_are =
         let items = map-append item_of os (all_inside ws) ∙ ap (λ l. l ++ map item_of (all_inside ws)) ordered.all_interfaces ∙ ap (λ l. interfaces_of all ++ l) inside_are in
         ap (λ l. map visited (foreign_interfaces files) ++ l) (ordered_addresses (os ++ all_inside ws) (interfaces_of all ++ inside_of (worlds_of all)) items)
 
-    worlds_are : world_list files (worlds_of all) ≡ world_addresses files ws
+    pub worlds_are : world_list files (worlds_of all) ≡ world_addresses files ws
     worlds_are = ap (λ l. map visited (foreign_worlds files) ++ l) (ap (map address) (sym ordered.all_worlds) ∙ map_map address own_item ws)
 
     -- no two addresses of interfaces and of worlds are one

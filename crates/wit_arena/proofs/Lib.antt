@@ -83,3 +83,5 @@ pub mod SameKeys
 pub mod FirstsOf
 pub mod Placing
 pub mod PlacingFunctions
+pub mod MadeOrders
+pub mod MadeTurns
