@@ -1,5 +1,5 @@
 -- What is resolved in turn, told by the items and the orders of their names.
-use Rattle.std.proofs.Common.{◌≡◌, ℕ, zero, suc, ◌+◌, List, [], ◌∷◌, ◌++◌, length, Some, refl, sym, ap, ◌∙◌}
+use Rattle.std.proofs.Common.{◌≡◌, ℕ, suc, ◌+◌, List, [], ◌∷◌, ◌++◌, length, Some, refl, ap, ◌∙◌}
 use Rattle.std.specs.Prelude.{slice_get, map}
 use Rattle.std.specs.List.{flat_map}
 use Rattle.std.specs.Option.{option_map}
@@ -8,7 +8,7 @@ use Rattle.wit_tree.specs.declared.tree.PackageFile.{PackageFile}
 use Rattle.wit_syntax.specs.Address.{Address}
 use Rattle.wit_syntax.specs.Broken.{IsLegal}
 use Rattle.wit_syntax.specs.Function.{SourceFunction, functions}
-use Rattle.wit_syntax.specs.Scope.{in_order, in_turn, interfaces_of, worlds_of}
+use Rattle.wit_syntax.specs.Scope.{in_order, in_turn, interfaces_of}
 use Rattle.wit_syntax.specs.Sides.{SideItem, SideFunction, SideLink, SideInline, inline_items, side_items}
 use Rattle.wit_syntax.specs.Source.{Item, ScopeName, address, all_items, scope_names}
 use Rattle.wit_syntax.proofs.Lists.{at_front, at_back, flat_map_has}
@@ -76,6 +76,13 @@ module _ (files : List PackageFile) (legal : IsLegal files) (os : List Ordered) 
 
   pub own_told : AreTold order (map own_order ws)
   own_told t o at = told_at (length (os ++ all_inside ws) + t) o (at_back (os ++ all_inside ws) (map own_order ws) t o at)
+
+  -- and so are their names in turn
+  pub interface_names : (t : ℕ) (o : Ordered) → slice_get (os ++ all_inside ws) t ≡ Some o → ordered_names o ≡ names_in_turn order o.item
+  interface_names t o at = names_told order o (interfaces_told t o at)
+
+  pub world_names : (t : ℕ) (w : OrderedWorld) → slice_get ws t ≡ Some w → ordered_names w.own ≡ names_in_turn order w.own.item
+  world_names t w at = names_told order w.own (own_told t w.own (slice_get-map own_order ws t ∙ ap (option_map own_order) at))
 
   pub told_world : (t : ℕ) (w : OrderedWorld) → slice_get ws t ≡ Some w → IsTold order w
   told_world t w at = record {
