@@ -90,3 +90,5 @@ pub mod MadeInterfaces
 pub mod MadeSides
 pub mod MadeWorlds
 pub mod MadeArenas
+pub mod MadeOrders
+pub mod MadeTurns
