@@ -92,3 +92,4 @@ pub mod MadeWorlds
 pub mod MadeArenas
 pub mod MadeOrders
 pub mod MadeTurns
+pub mod MadePackage
