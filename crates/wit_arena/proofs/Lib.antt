@@ -83,3 +83,8 @@ pub mod SameKeys
 pub mod FirstsOf
 pub mod Placing
 pub mod PlacingFunctions
+pub mod OneKind
+pub mod OneList
+pub mod OneMadeTurns
+pub mod OneMadeArena
+pub mod OneMade
