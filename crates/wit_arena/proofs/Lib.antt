@@ -86,5 +86,6 @@ pub mod PlacingFunctions
 pub mod OneKind
 pub mod OneList
 pub mod OneMadeTurns
+pub mod OneMadeOrders
 pub mod OneMadeArena
 pub mod OneMade
