@@ -93,3 +93,9 @@ pub mod MadeArenas
 pub mod MadeOrders
 pub mod MadeTurns
 pub mod MadePackage
+pub mod OneKind
+pub mod OneList
+pub mod OneMadeTurns
+pub mod OneMadeOrders
+pub mod OneMadeArena
+pub mod OneMade

@@ -1,0 +1,138 @@
+-- A type of the arena is told by its form and its parts.
+use Rattle.std.proofs.Common.{◌≡◌, ℕ, Bool, true, false, List, [], ◌∷◌, Option, Some, None, refl, sym, ap, ◌∙◌}
+use Rattle.std.specs.Prelude.{map}
+use Rattle.wit_values.specs.declared.span.Span.{Span}
+use Rattle.wit_types.specs.declared.docs.Docs.{Docs}
+use Rattle.wit_types.specs.declared.types.Case.{Case}
+use Rattle.wit_types.specs.declared.types.EnumCase.{EnumCase}
+use Rattle.wit_types.specs.declared.types.Field.{Field}
+use Rattle.wit_types.specs.declared.types.Flag.{Flag}
+use Rattle.wit_types.specs.declared.types.Handle.{Handle}
+use Rattle.wit_types.specs.declared.types.Handle.TheVariants.{Own, Borrow}
+use Rattle.wit_types.specs.declared.types.«Type».{«Type» as Ty}
+use Rattle.wit_types.specs.declared.types.«Type».TheVariants as type
+use Rattle.wit_types.specs.declared.types.TypeDefKind.{TypeDefKind}
+use Rattle.wit_types.specs.declared.types.TypeDefKind.TheVariants as kind
+use Rattle.wit_syntax.specs.Form.{Form, Member, RecordForm, ResourceForm, OwnForm, BorrowForm, FlagsForm, TupleForm, VariantForm, EnumForm, OptionForm, ResultForm, ListForm, MapForm, FixedLengthListForm, FutureForm, StreamForm, AliasForm, UnknownForm}
+use Rattle.wit_arena.specs.Kind.{kind_of, field_member, flag_member, case_member, enum_case_member, payloads}
+
+-- the first of some types, and the second
+abbrev first : List Ty → Ty
+first [] = type.Bool
+first (t ∷ ts) = t
+
+abbrev rest : List Ty → List Ty
+rest [] = []
+rest (t ∷ ts) = ts
+
+-- the first, where one is told
+abbrev told : Bool → List Ty → Option Ty
+told true ts = Some (first ts)
+told false ts = None
+
+abbrev place : Ty → ℕ
+place (type.Id i) = i
+place _ = 0
+
+abbrev field : Member → Ty → Field
+field m t = record { name = m.name; ty = t; docs = m.docs; span = m.span }
+
+abbrev fields : List Member → List Ty → List Field
+fields [] ts = []
+fields (m ∷ ms) ts = field m (first ts) ∷ fields ms (rest ts)
+
+abbrev flag : Member → Flag
+flag m = record { name = m.name; docs = m.docs; span = m.span }
+
+abbrev enum_case : Member → EnumCase
+enum_case m = record { name = m.name; docs = m.docs; span = m.span }
+
+abbrev case_of : Member → Option Ty → Case
+case_of m t = record { name = m.name; ty = t; docs = m.docs; span = m.span }
+
+abbrev cases : List (Member × Bool) → List Ty → List Case
+cases [] ts = []
+cases ((m, true) ∷ ms) ts = case_of m (Some (first ts)) ∷ cases ms (rest ts)
+cases ((m, false) ∷ ms) ts = case_of m None ∷ cases ms ts
+
+-- the types of a result, where these are told
+abbrev results : Bool → Bool → List Ty → TypeDefKind
+results true true ts = kind.Result (record { ok = Some (first ts); err = Some (first (rest ts)) })
+results true false ts = kind.Result (record { ok = Some (first ts); err = None })
+results false true ts = kind.Result (record { ok = None; err = Some (first ts) })
+results false false ts = kind.Result (record { ok = None; err = None })
+
+-- the type of a form and parts
+abbrev made : Form → List Ty → TypeDefKind
+made (RecordForm ms) ts = kind.Record (record { fields = fields ms ts })
+made ResourceForm ts = kind.Resource
+made OwnForm ts = kind.Handle (Own (place (first ts)))
+made BorrowForm ts = kind.Handle (Borrow (place (first ts)))
+made (FlagsForm ms) ts = kind.Flags (record { flags = map flag ms })
+made TupleForm ts = kind.Tuple (record { types = ts })
+made (VariantForm ms) ts = kind.Variant (record { cases = cases ms ts })
+made (EnumForm ms) ts = kind.Enum (record { cases = map enum_case ms })
+made OptionForm ts = kind.Option (first ts)
+made (ResultForm ok err) ts = results ok err ts
+made ListForm ts = kind.List (first ts)
+made MapForm ts = kind.Map (first ts) (first (rest ts))
+made (FixedLengthListForm n) ts = kind.FixedLengthList (first ts) n
+made (FutureForm held) ts = kind.Future (told held ts)
+made (StreamForm held) ts = kind.Stream (told held ts)
+made AliasForm ts = kind.Type_ (first ts)
+made UnknownForm ts = kind.Unknown
+
+fields_back : (fs : List Field) → fields (map field_member fs) (map (λ f. f.ty) fs) ≡ fs
+fields_back [] = refl
+fields_back (f ∷ fs) = ap (λ l. f ∷ l) (fields_back fs)
+
+flags_back : (fs : List Flag) → map flag (map flag_member fs) ≡ fs
+flags_back [] = refl
+flags_back (f ∷ fs) = ap (λ l. f ∷ l) (flags_back fs)
+
+enum_back : (cs : List EnumCase) → map enum_case (map enum_case_member cs) ≡ cs
+enum_back [] = refl
+enum_back (c ∷ cs) = ap (λ l. c ∷ l) (enum_back cs)
+
+abbrev with_type : List ℕ → Option Ty → Docs → Span → Case
+with_type name ty docs span = record { name = name; ty = ty; docs = docs; span = span }
+
+case_back : (name : List ℕ) (ty : Option Ty) (docs : Docs) (span : Span) (cs : List Case) → cases (map case_member cs) (payloads cs) ≡ cs → cases (map case_member (with_type name ty docs span ∷ cs)) (payloads (with_type name ty docs span ∷ cs)) ≡ with_type name ty docs span ∷ cs
+case_back name None docs span cs h = ap (λ l. with_type name None docs span ∷ l) h
+case_back name (Some t) docs span cs h = ap (λ l. with_type name (Some t) docs span ∷ l) h
+
+cases_back : (cs : List Case) → cases (map case_member cs) (payloads cs) ≡ cs
+cases_back [] = refl
+cases_back (c ∷ cs) = case_back c.name c.ty c.docs c.span cs (cases_back cs)
+
+result_back : (ok err : Option Ty) → made (kind_of (kind.Result (record { ok = ok; err = err }))).form (kind_of (kind.Result (record { ok = ok; err = err }))).parts ≡ kind.Result (record { ok = ok; err = err })
+result_back None None = refl
+result_back None (Some t) = refl
+result_back (Some t) None = refl
+result_back (Some t) (Some u) = refl
+
+-- a type is the one of its form and its parts
+back : (k : TypeDefKind) → made (kind_of k).form (kind_of k).parts ≡ k
+back (kind.Record r) = ap (λ l. kind.Record (record { fields = l })) (fields_back r.fields)
+back kind.Resource = refl
+back (kind.Handle (Own r)) = refl
+back (kind.Handle (Borrow r)) = refl
+back (kind.Flags f) = ap (λ l. kind.Flags (record { flags = l })) (flags_back f.flags)
+back (kind.Tuple t) = refl
+back (kind.Variant v) = ap (λ l. kind.Variant (record { cases = l })) (cases_back v.cases)
+back (kind.Enum e) = ap (λ l. kind.Enum (record { cases = l })) (enum_back e.cases)
+back (kind.Option t) = refl
+back (kind.Result r) = result_back r.ok r.err
+back (kind.List t) = refl
+back (kind.Map k v) = refl
+back (kind.FixedLengthList t n) = refl
+back (kind.Future None) = refl
+back (kind.Future (Some t)) = refl
+back (kind.Stream None) = refl
+back (kind.Stream (Some t)) = refl
+back (kind.Type_ t) = refl
+back kind.Unknown = refl
+
+-- so two of one form and the same parts are one
+pub one_kind : (k l : TypeDefKind) → (kind_of k).form ≡ (kind_of l).form → (kind_of k).parts ≡ (kind_of l).parts → k ≡ l
+one_kind k l form parts = sym (back k) ∙ ap (λ f. made f (kind_of k).parts) form ∙ ap (made (kind_of l).form) parts ∙ back l

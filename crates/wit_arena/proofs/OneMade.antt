@@ -1,0 +1,153 @@
+-- What files make is one package.
+use Rattle.std.proofs.Common.{◌≡◌, ◌↔◌, ℕ, Bool, true, false, List, ◌++◌, length, Option, Some, None, refl, sym, ap, ◌∙◌, subst}
+use Rattle.std.specs.Prelude.{map}
+use Rattle.std.specs.List.{filter_map, flat_map, position_or_len}
+use Rattle.std.proofs.Math.Path.{fun_ext}
+use Rattle.wit_values.specs.declared.span.Span.{Span}
+use Rattle.wit_type_tree.specs.declared.leaves.Id.{Id}
+use Rattle.wit_tree.specs.declared.tree.PackageFile.{PackageFile}
+use Rattle.wit_package_names.specs.declared.package_name.PackageName.{PackageName}
+use Rattle.wit_types.specs.declared.docs.Docs.{Docs}
+use Rattle.wit_types.specs.declared.stability.Stability.{Stability}
+use Rattle.wit_types.specs.declared.types.TypeDef.{TypeDef}
+use Rattle.wit_model.specs.declared.ast_item.AstItem.{AstItem}
+use Rattle.wit_model.specs.declared.interface.Interface.{Interface}
+use Rattle.wit_model.specs.declared.unresolved.UnresolvedPackage.{UnresolvedPackage}
+use Rattle.wit_model.specs.declared.world.World.{World}
+use Rattle.wit_syntax.specs.Address.{Address}
+use Rattle.wit_syntax.specs.Broken.{IsLegal}
+use Rattle.wit_syntax.specs.Ends.{AtResource, AtForeign}
+use Rattle.wit_syntax.specs.Foreign.{foreign_interfaces, foreign_worlds}
+use Rattle.wit_syntax.specs.Repeats.{AllDiffer, firsts}
+use Rattle.wit_syntax.specs.Scope.{worlds_of}
+use Rattle.wit_syntax.specs.Source.{Item}
+use Rattle.wit_syntax.specs.Trees.{scope}
+use Rattle.wit_arena.specs.Made.{foreign_interface, own_interface, foreign_world, own_world, item_turns, own_interfaces, interface_scopes, world_scopes, Makes}
+use Rattle.wit_arena.specs.Meet.{Key, Def, Meeting, keys}
+use Rattle.wit_arena.specs.Whole.{Turned, all_meetings, turn_handles, owner_at, HandleRequires, AreRequired}
+use Rattle.wit_arena.proofs.Ends.{ends_one}
+use Rattle.wit_arena.proofs.FirstsOf.{firsts-differ}
+use Rattle.wit_arena.proofs.LegalScopes.{scope_differs}
+use Rattle.wit_arena.proofs.OneList.{one_by_one}
+use Rattle.wit_arena.proofs.OneMadeArena.{AreEntries, one_arena}
+use Rattle.wit_arena.proofs.OneMadeOrders.{one_order_of_items, on_interfaces, on_worlds, on_inline, on_own}
+use Rattle.wit_arena.proofs.OneMadeTurns.{same_turns, same_interfaces, same_worlds}
+
+-- a name in a handle requires one thing
+one_requires : (files : List PackageFile) (ks : List Key) → AllDiffer ks → (h : Address × Id) (r q : Option (ℕ × Span)) → HandleRequires files ks h r → HandleRequires files ks h q → r ≡ q
+one_requires files ks differ h None None a b = refl
+one_requires files ks differ h None (Some q) a b = (let end : AtResource ≡ AtForeign b.0 b.1 = ends_one files h.0 h.1 AtResource (AtForeign b.0 b.1) a b.2 in absurd (let f : ⊥ = cc in f))
+one_requires files ks differ h (Some r) None a b = (let end : AtForeign a.0 a.1 ≡ AtResource = ends_one files h.0 h.1 (AtForeign a.0 a.1) AtResource a.2 b in absurd (let f : ⊥ = cc in f))
+one_requires files ks differ h (Some (i, span)) (Some (j, other)) a b =
+    let end : AtForeign a.0 a.1 ≡ AtForeign b.0 b.1 = ends_one files h.0 h.1 (AtForeign a.0 a.1) (AtForeign b.0 b.1) a.2 b.2 in
+    let scopes : a.0 ≡ b.0 = cc in
+    let names : a.1 ≡ b.1 = cc in
+    let place : i ≡ j = differ.differ i j (Def b.0 b.1) (a.3 ∙ ap (λ s. Some (Def s a.1)) scopes ∙ ap (λ n. Some (Def b.0 n)) names) b.3 in
+    let spans : span ≡ other = a.4 ∙ sym b.4 in
+    cc
+
+one_required : (files : List PackageFile) (ks : List Key) → AllDiffer ks → (hs : List (Address × Id)) (rs qs : List (ℕ × Span)) → AreRequired files ks hs rs → AreRequired files ks hs qs → rs ≡ qs
+one_required files ks differ hs rs qs a b = a.2 ∙ ap (filter_map (λ r. r)) (one_by_one (HandleRequires files ks) hs a.0 b.0 (one_requires files ks differ) a.1 b.1) ∙ sym b.2
+
+-- tests that tell the same are one
+one_test : (s t : Bool) → (s ≡ true → t ≡ true) → (t ≡ true → s ≡ true) → s ≡ t
+one_test true true onward back = refl
+one_test true false onward back = sym (onward refl)
+one_test false true onward back = back refl
+one_test false false onward back = refl
+
+one_same : (same other : Key → Key → Bool) → ((x y : Key) → (same x y ≡ true) ↔ (x ≡ y)) → ((x y : Key) → (other x y ≡ true) ↔ (x ≡ y)) → same ≡ other
+one_same same other tells told = fun_ext (λ x. fun_ext (λ y. one_test (same x y) (other x y) (λ is. (told x y).1 ((tells x y).0 is)) (λ is. (tells x y).1 ((told x y).0 is))))
+
+abbrev with_parts : PackageName → List World → List Interface → List TypeDef → List (PackageName × List (List ℕ × (AstItem × List Stability))) → Docs → Span → List Span → List Span → List (ℕ × Span) → UnresolvedPackage
+with_parts name worlds interfaces types deps docs span unknown dep_spans required = record { name = name; worlds = worlds; interfaces = interfaces; types = types; foreign_deps = deps; docs = docs; name_span = span; unknown_type_spans = unknown; foreign_dep_spans = dep_spans; required_resource_types = required }
+
+-- packages of equal parts are one
+same_package : (p q : UnresolvedPackage) → p.name ≡ q.name → p.worlds ≡ q.worlds → p.interfaces ≡ q.interfaces → p.types ≡ q.types → p.foreign_deps ≡ q.foreign_deps → p.docs ≡ q.docs → p.name_span ≡ q.name_span → p.unknown_type_spans ≡ q.unknown_type_spans → p.foreign_dep_spans ≡ q.foreign_dep_spans → p.required_resource_types ≡ q.required_resource_types → p ≡ q
+same_package p q name worlds interfaces types deps docs span unknown dep_spans required =
+    let same : with_parts p.name p.worlds p.interfaces p.types p.foreign_deps p.docs p.name_span p.unknown_type_spans p.foreign_dep_spans p.required_resource_types ≡ with_parts q.name q.worlds q.interfaces q.types q.foreign_deps q.docs q.name_span q.unknown_type_spans q.foreign_dep_spans q.required_resource_types = cc in
+    same
+
+-- what holds over some items, orders, meetings and places holds over the same ones
+onward : (P : List Item → List Meeting → (Key → ℕ) → Type 0) (is js : List Item) (met more : List Meeting) (id at : Key → ℕ) → is ≡ js → met ≡ more → id ≡ at → P is met id → P js more at
+onward P is js met more id at same_is same same_id h = subst (λ (f : Key → ℕ). P js more f) same_id (subst (λ (l : List Meeting). P js l id) same (subst (λ (l : List Item). P l met id) same_is h))
+
+module _ (files : List PackageFile) (p q : UnresolvedPackage) (legal : IsLegal files) (a : Makes files p) (b : Makes files q) where
+  items_once : a.items ≡ b.items
+  items_once = one_order_of_items files a.items b.items a.in_order b.in_order
+
+  turns_once : item_turns a.order a.items ≡ item_turns b.order b.items
+  turns_once =
+      ap (item_turns a.order) items_once
+      ∙ same_turns a.order b.order b.items
+      (on_interfaces files a.order b.order a.names_in_order b.names_in_order b.items b.in_order)
+      (on_worlds files a.order b.order a.names_in_order b.names_in_order b.items b.in_order)
+      (on_inline files a.order b.order a.names_in_order b.names_in_order b.items b.in_order)
+
+  same_once : a.same ≡ b.same
+  same_once = one_same a.same b.same a.tells b.tells
+
+  met_once : a.met ≡ b.met
+  met_once =
+      a.first
+      ∙ ap (λ (same : Key → Key → Bool). firsts (λ (x y : Meeting). same x.key y.key) (all_meetings files (item_turns a.order a.items))) same_once
+      ∙ ap (λ (ts : List Turned). firsts (λ (x y : Meeting). b.same x.key y.key) (all_meetings files ts)) turns_once
+      ∙ sym b.first
+
+  id_once : a.id ≡ b.id
+  id_once = fun_ext (λ k.
+      a.places k
+      ∙ ap (λ (same : Key → Key → Bool). position_or_len (λ (m : Meeting). same k m.key) a.met) same_once
+      ∙ ap (position_or_len (λ (m : Meeting). b.same k m.key)) met_once
+      ∙ sym (b.places k))
+
+  -- what holds over what is told of the one holds over what is told of the other
+  as_of : (P : List Item → List Meeting → (Key → ℕ) → Type 0) → P a.items a.met a.id → P b.items b.met b.id
+  as_of P h = onward P a.items b.items a.met b.met a.id b.id items_once met_once id_once h
+
+  differ : AllDiffer (keys b.met)
+  differ = subst (λ (ms : List Meeting). AllDiffer (keys ms)) (sym b.first) (firsts-differ b.same b.tells (all_meetings files (item_turns b.order b.items)))
+
+  types_once : p.types ≡ q.types
+  types_once =
+      one_arena (scope files) (scope_differs files legal) (owner_at (interface_scopes files b.items) (world_scopes files b.items)) b.id b.met p.types q.types
+      (a.count ∙ ap length met_once) b.count
+      (as_of (λ is met id. AreEntries (scope files) (scope_differs files legal) (owner_at (interface_scopes files is) (world_scopes files is)) id met p.types) a.types)
+      b.types
+
+  interfaces_once : p.interfaces ≡ q.interfaces
+  interfaces_once =
+      as_of (λ is met id. p.interfaces ≡ map (foreign_interface files id) (foreign_interfaces files) ++ map (own_interface id a.order) (own_interfaces is)) a.interfaces
+      ∙ ap (λ (l : List Interface). map (foreign_interface files b.id) (foreign_interfaces files) ++ l) (same_interfaces a.order b.order b.id (own_interfaces b.items) (on_own files a.order b.order a.names_in_order b.names_in_order b.items b.in_order))
+      ∙ sym b.interfaces
+
+  worlds_once : p.worlds ≡ q.worlds
+  worlds_once =
+      as_of (λ is met id. p.worlds ≡ map foreign_world (foreign_worlds files) ++ map (own_world id a.order (interface_scopes files is) (world_scopes files is)) (worlds_of is)) a.worlds
+      ∙ ap (λ (l : List World). map foreign_world (foreign_worlds files) ++ l) (same_worlds a.order b.order b.id (interface_scopes files b.items) (world_scopes files b.items) (worlds_of b.items) (on_worlds files a.order b.order a.names_in_order b.names_in_order b.items b.in_order))
+      ∙ sym b.worlds
+
+  required_once : p.required_resource_types ≡ q.required_resource_types
+  required_once =
+      one_required files (keys b.met) differ (flat_map turn_handles (item_turns b.order b.items)) p.required_resource_types q.required_resource_types
+      (subst (λ (ts : List Turned). AreRequired files (keys b.met) (flat_map turn_handles ts) p.required_resource_types) turns_once (subst (λ (ms : List Meeting). AreRequired files (keys ms) (flat_map turn_handles (item_turns a.order a.items)) p.required_resource_types) met_once a.required))
+      b.required
+
+  name_once : p.name ≡ q.name
+  name_once = (let both : Some p.name ≡ Some q.name = sym a.name ∙ b.name in cc)
+
+  span_once : p.name_span ≡ q.name_span
+  span_once = (let both : Some p.name_span ≡ Some q.name_span = sym a.name_span ∙ b.name_span in cc)
+
+  are_one : p ≡ q
+  are_one =
+      same_package p q name_once worlds_once interfaces_once types_once
+      (a.deps ∙ sym b.deps)
+      (a.docs ∙ sym b.docs)
+      span_once
+      (a.unknown ∙ sym b.unknown)
+      (a.dep_spans ∙ sym b.dep_spans)
+      required_once
+
+pub one_made : (files : List PackageFile) (p q : UnresolvedPackage) → IsLegal files → Makes files p → Makes files q → p ≡ q
+one_made files p q legal a b = are_one files p q legal a b
