@@ -1,19 +1,17 @@
 -- The scopes of a package differ, so each has one place.
-use Rattle.std.proofs.Common.{◌≡◌, ℕ, List, ◌++◌, not, Option, Some, sym, ap, subst}
+use Rattle.std.proofs.Common.{◌≡◌, ℕ, List, not, Option, Some, sym, ap, subst}
 use Rattle.std.specs.Prelude.{slice_get}
 use Rattle.std.specs.Option.{unwrap_or}
 use Rattle.wit_tree.specs.declared.tree.PackageFile.{PackageFile}
 use Rattle.wit_syntax.specs.Address.{Address}
 use Rattle.wit_syntax.specs.Broken.{Names, IsLegal}
 use Rattle.wit_syntax.specs.Repeats.{AllDiffer}
-use Rattle.wit_syntax.specs.Scope.{in_order, interfaces_of, worlds_of}
-use Rattle.wit_syntax.specs.Source.{Item, all_items, is_world}
+use Rattle.wit_syntax.specs.Scope.{interfaces_of, worlds_of}
+use Rattle.wit_syntax.specs.Source.{Item, is_world}
 use Rattle.wit_arena.specs.Made.{AreInOrder, interface_scopes, world_scopes, scope_place}
-use Rattle.wit_arena.specs.Whole.{Ordered, OrderedWorld, AreOrdered, all_inside, interface_addresses, world_addresses}
 use Rattle.wit_arena.proofs.Added.{all_addresses}
 use Rattle.wit_arena.proofs.Interfaces.{AreAddresses, AreItems, interfaces_sort, worlds_sort, items_kept, place_at-found}
 use Rattle.wit_arena.proofs.Itemizing.{are_items}
-use Rattle.wit_arena.proofs.KnownItems.{interfaces_are, worlds_are}
 use Rattle.wit_arena.proofs.LegalScopes.{distinct_items}
 
 -- the place of a scope among such as differ
@@ -34,11 +32,3 @@ module _ (files : List PackageFile) (legal : IsLegal files) (items : List Item) 
 
   pub world_scopes-differ : AllDiffer (world_scopes files items)
   world_scopes-differ = scopes_apart.worlds
-
--- the relations have the same scopes
-module _ (files : List PackageFile) (legal : IsLegal files) (os : List Ordered) (ws : List OrderedWorld) (ordered : AreOrdered files os ws) where
-  pub interface_scopes-are : interface_addresses files (os ++ all_inside ws) ≡ interface_scopes files (in_order (all_items files) ordered.places)
-  interface_scopes-are = sym (interfaces_are files legal os ws ordered)
-
-  pub world_scopes-are : world_addresses files ws ≡ world_scopes files (in_order (all_items files) ordered.places)
-  world_scopes-are = sym (worlds_are files legal os ws ordered)

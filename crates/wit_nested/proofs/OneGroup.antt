@@ -5,7 +5,7 @@ use Rattle.wit_tree.specs.declared.tree.NestedPackage.{NestedPackage}
 use Rattle.wit_tree.specs.declared.tree.PackageFile.{PackageFile}
 use Rattle.wit_model.specs.declared.unresolved.UnresolvedPackage.{UnresolvedPackage}
 use Rattle.wit_arena.specs.Faithful.{IsMadeOf}
-use Rattle.wit_parser.proofs.OnePackage.{one_package}
+use Rattle.wit_arena.proofs.OneMade.{one_package}
 use Rattle.wit_nested.specs.Nested.{file_of, IsMadeByNested}
 
 pub one_main : (files : List PackageFile) (p q : UnresolvedPackage) → IsMadeOf files p → IsMadeOf files q → p ≡ q

@@ -4,10 +4,3 @@ mod FunctionMarks
 mod TypeIds
 mod SideIds
 mod Ids
-mod OneList
-mod OneKind
-mod OneFunction
-mod OneArena
-mod OneScope
-mod OneWorld
-pub mod OnePackage

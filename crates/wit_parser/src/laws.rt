@@ -6,6 +6,7 @@ ghost use Rattle.wit_syntax.specs.Broken.{IsLegal};
 ghost use Rattle.wit_types.specs.Types.{IsBackward};
 ghost use Rattle.wit_arena.specs.Faithful.{IsFaithful, HasArena};
 ghost use Rattle.wit_arena.specs.Splitting.{HaveSameMeetings, HaveSamePackages};
+ghost use Rattle.wit_arena.specs.Made.{Makes};
 ghost use Rattle.wit_arena.specs.Whole.{IsPackage};
 ghost use Rattle.wit_parser.specs.Ids.{AreIdsWithin};
 ghost use Rattle.wit_parser.specs.Marks.{HaveMarks};
@@ -30,10 +31,11 @@ pub fn ids_point_backward(package: &UnresolvedPackage)
     ensures { (files : List TheFile) → IsLegal files → IsPackage files «package».now → IsBackward «package».now.types }
 {}
 
-/// What else `Resolver::resolve` says of a package follows from its being the one that legal files make:
-/// its arena of types is what is first met in the files, and each written type has one at its position,
-/// with the tree that lexical scope gives it.
+/// What else `Resolver::resolve` says of a package follows from its being the one that legal files make,
+/// as its parts tell it one by one: it is that one as a value; its arena of types is what is first met in
+/// the files; and each written type has one at its position, with the tree that lexical scope gives it.
 pub fn packages_are_faithful(package: &UnresolvedPackage)
+    ensures made { (files : List TheFile) → IsLegal files → IsPackage files «package».now → Makes files «package».now }
     ensures arena { (files : List TheFile) → IsLegal files → IsPackage files «package».now → HasArena files «package».now }
     ensures faithful { (files : List TheFile) → IsLegal files → IsPackage files «package».now → IsFaithful files «package».now }
 {}
@@ -51,7 +53,8 @@ pub fn splitting()
 {}
 
 /// Legal files make one package: two that they make are equal in all that a package holds, and so in
-/// the orders of its maps.
+/// the orders of its maps. So are two that are told by their parts.
 pub fn one_package()
-    ensures { (files : List TheFile) (p q : ThePackage) → IsLegal files → IsPackage files p → IsPackage files q → p ≡ q }
+    ensures made { (files : List TheFile) (p q : ThePackage) → IsLegal files → Makes files p → Makes files q → p ≡ q }
+    ensures parts { (files : List TheFile) (p q : ThePackage) → IsLegal files → IsPackage files p → IsPackage files q → p ≡ q }
 {}

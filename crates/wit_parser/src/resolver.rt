@@ -8,6 +8,7 @@ ghost use Rattle.wit_syntax.specs.Broken.{IsMismatch, IsBroken, IsLegal, Refused
 ghost use Rattle.wit_items.specs.Headers.{header_at, have_docs as the_docs};
 ghost use Rattle.wit_type_tree.specs.Refusal.{IsWantOfMemory};
 ghost use Rattle.wit_parser.specs.Stray.{IsNesting, IsStray};
+ghost use Rattle.wit_arena.specs.Made.{Makes};
 ghost use Rattle.wit_arena.specs.Whole.{first_docs, IsPackage};
 ghost use Rattle.wit_arena.specs.Faithful.{IsFaithful, HasArena, IsMadeOf};
 
@@ -238,6 +239,7 @@ impl<'a> Resolver<'a> {
     /// - 45: a growth was refused.
     pub fn resolve(self, alloc: Global) -> ParseResult<UnresolvedPackage>
         ensures legal { OnOk result (IsLegal self.entry.files.items) }
+        ensures made { IfOk result (Makes self.entry.files.items) }
         ensures package { IfOk result (IsPackage self.entry.files.items) }
         ensures arena { IfOk result (HasArena self.entry.files.items) }
         ensures faithful { IfOk result (IsFaithful self.entry.files.items) }

@@ -1,7 +1,7 @@
 use Rattle.wit_syntax.proofs.Joined.{joined_split}
 use Rattle.wit_arena.proofs.JoinedMeetings.{joined_meetings}
 use Rattle.wit_arena.proofs.JoinedPackage.{joined_packages}
-use Rattle.wit_parser.proofs.OnePackage.{one_package}
+use Rattle.wit_arena.proofs.OneMade.{one_package}
 use Rattle.wit_parser.proofs.laws.splitting.Goals as goal
 
 pub returns-clause-same : goal.returns-clause-same

@@ -1,12 +1,19 @@
 use Rattle.std.proofs.lemmas.Result.{IfOk-weaker}
 use Rattle.wit_arena.specs.Whole.{IsPackage}
 use Rattle.wit_arena.specs.Faithful.{IsFaithful, HasArena, IsMadeOf}
+use Rattle.wit_arena.specs.Made.{Makes}
+use Rattle.wit_arena.proofs.MadePackage.{made_of_package}
 use Rattle.wit_arena.proofs.OfPackage.{arena_of_package, faithful_of_package}
 use Rattle.wit_contents.proofs.Files.{made_legal}
 use Rattle.wit_parser.proofs.resolver.Resolver.resolve.Goals as goal
 
 pub returns-clause-legal : goal.returns-clause-legal
 returns-clause-legal c = made_legal c.args.self.files.items c.resolve_pushed.result c.resolve_pushed.ensures.made
+
+pub returns-clause-made : goal.returns-clause-made
+returns-clause-made c =
+    let files = c.args.self.files.items in
+    IfOk-weaker c.resolve_pushed.result (IsMadeOf files) (Makes files) (λ p made. made_of_package files p made.legal made.whole) c.resolve_pushed.ensures.made
 
 pub returns-clause-package : goal.returns-clause-package
 returns-clause-package c =
