@@ -27,7 +27,7 @@ use Rattle.wit_tree.specs.declared.tree.PackageFile.{PackageFile}
 use Rattle.wit_syntax.specs.Address.{Address, same_version, same_address}
 use Rattle.wit_syntax.specs.Source.{Part, interface_part, world_part, at_side}
 use Rattle.wit_syntax.specs.Crossing.{same_side, extern_paths, item_uses, inline_uses}
-use Rattle.wit_syntax.specs.Foreign.{ForeignVisit, visited, path_visits, part_visits as the_part_visits, declaration_visits, file_visits, same_item, part_visits, extern_visits}
+use Rattle.wit_syntax.specs.Foreign.{ForeignVisit, visited, path_visits, part_visits as the_part_visits, declaration_visits, file_visits, same_item, extern_visits}
 use Rattle.wit_syntax.specs.Repeats.{firsts}
 use Rattle.wit_syntax.proofs.Lists.{map_at}
 use Rattle.wit_syntax.proofs.Addresses.{same_address-from, same_address-equal}
