@@ -31,11 +31,16 @@ pub fn ids_point_backward(package: &UnresolvedPackage)
     ensures { (files : List TheFile) → IsLegal files → IsPackage files «package».now → IsBackward «package».now.types }
 {}
 
-/// What else `Resolver::resolve` says of a package follows from its being the one that legal files make,
-/// as its parts tell it one by one: it is that one as a value; its arena of types is what is first met in
-/// the files; and each written type has one at its position, with the tree that lexical scope gives it.
-pub fn packages_are_faithful(package: &UnresolvedPackage)
+/// What legal files make, as a value, is what its parts tell one by one, and the other way round.
+pub fn value_and_parts(package: &UnresolvedPackage)
     ensures made { (files : List TheFile) → IsLegal files → IsPackage files «package».now → Makes files «package».now }
+    ensures parts { (files : List TheFile) → IsLegal files → Makes files «package».now → IsPackage files «package».now }
+{}
+
+/// What else `Resolver::resolve` says of a package follows from its being the one that legal files make:
+/// its arena of types is what is first met in the files, and each written type has one at its position,
+/// with the tree that lexical scope gives it.
+pub fn packages_are_faithful(package: &UnresolvedPackage)
     ensures arena { (files : List TheFile) → IsLegal files → IsPackage files «package».now → HasArena files «package».now }
     ensures faithful { (files : List TheFile) → IsLegal files → IsPackage files «package».now → IsFaithful files «package».now }
 {}

@@ -1,9 +1,5 @@
-use Rattle.wit_arena.proofs.MadePackage.{made_of_package}
 use Rattle.wit_arena.proofs.OfPackage.{arena_of_package, faithful_of_package}
 use Rattle.wit_parser.proofs.laws.packages_are_faithful.Goals as goal
-
-pub returns-clause-made : goal.returns-clause-made
-returns-clause-made c files = made_of_package files c.args.«package».now
 
 pub returns-clause-arena : goal.returns-clause-arena
 returns-clause-arena c files = arena_of_package files c.args.«package».now

@@ -1,0 +1,22 @@
+-- The name of a package, as its parts say it.
+use Rattle.std.proofs.Common.{◌≡◌, ℕ, List, Option, Some, None, refl, sym, ap, ◌∙◌}
+use Rattle.std.specs.Option.{option_map}
+use Rattle.semver.specs.Identifiers.{parts_of}
+use Rattle.semver.specs.declared.Version.{Version}
+use Rattle.wit_values.specs.ReleaseText.{release_parts}
+use Rattle.wit_tree.specs.declared.tree.PackageName.{PackageName as Header}
+use Rattle.wit_package_names.specs.declared.package_name.PackageName.{PackageName}
+use Rattle.wit_syntax.specs.Address.{package_of, release_of}
+
+-- a header is there, where it names a package
+pub header_there : (o : Option Header) (n : PackageName) → option_map package_of o ≡ Some n → (h : Header) × (o ≡ Some h) × (package_of h ≡ n)
+header_there None n named = absurd (let f : ⊥ = cc in f)
+header_there (Some h) n named = (let same : package_of h ≡ n = cc in (h, refl, same))
+
+-- the parts of a version are those of the written one
+version_parts : (v : Option Version) → option_map release_parts (option_map release_of v) ≡ option_map parts_of v
+version_parts None = refl
+version_parts (Some v) = refl
+
+pub name_parts : (h : Header) (n : PackageName) → package_of h ≡ n → (n.namespace ≡ h.namespace.name.now) × (n.name ≡ h.name.name.now) × (option_map release_parts n.version ≡ option_map parts_of h.version)
+name_parts h n same = (ap (λ (x : PackageName). x.namespace) (sym same), ap (λ (x : PackageName). x.name) (sym same), ap (λ (x : PackageName). option_map release_parts x.version) (sym same) ∙ version_parts h.version)

@@ -1,0 +1,16 @@
+-- The package that legal files make is the package of the files.
+use Rattle.std.proofs.Common.{List}
+use Rattle.wit_tree.specs.declared.tree.PackageFile.{PackageFile}
+use Rattle.wit_model.specs.declared.unresolved.UnresolvedPackage.{UnresolvedPackage}
+use Rattle.wit_syntax.specs.Broken.{IsLegal}
+use Rattle.wit_arena.specs.Made.{Makes}
+use Rattle.wit_arena.specs.Whole.{IsPackage}
+use Rattle.wit_parser.proofs.PartsPackage.{package_of_places}
+use Rattle.wit_parser.proofs.PartsScopes.{inside_placed, links_placed, includes_placed}
+
+pub package_of_made : (files : List PackageFile) (p : UnresolvedPackage) → IsLegal files → Makes files p → IsPackage files p
+package_of_made files p legal m = package_of_places files p legal m (λ n w at. record {
+  links = links_placed files legal m.items m.in_order n w at;
+  inside = inside_placed files legal m.items m.in_order n w at;
+  included = includes_placed files legal m.items m.in_order n w at;
+})

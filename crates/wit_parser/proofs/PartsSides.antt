@@ -1,0 +1,60 @@
+-- What is told of a side of a world stands there, where each interface that is named there has a place.
+use Rattle.std.proofs.Common.{◌≡◌, ℕ, suc, Bool, true, false, cond, List, [], ◌∷◌, length, Some, None, refl, sym, ap, ◌∙◌, arith}
+use Rattle.std.specs.Prelude.{slice_get, map}
+use Rattle.std.specs.List.{cons_option, flat_map}
+use Rattle.wit_tree.specs.declared.tree.Include.{Include}
+use Rattle.wit_tree.specs.declared.tree.WorldSide.{WorldSide}
+use Rattle.wit_functions.specs.declared.function.Function.{Function}
+use Rattle.wit_model.specs.declared.world.WorldKey.{WorldKey}
+use Rattle.wit_model.specs.declared.world.WorldKey.TheVariants as key
+use Rattle.wit_model.specs.declared.world.WorldItem.{WorldItem}
+use Rattle.wit_model.specs.declared.world.WorldItem.TheVariants as item
+use Rattle.wit_syntax.specs.Address.{Address, WorldNamed}
+use Rattle.wit_syntax.specs.Crossing.{same_side}
+use Rattle.wit_syntax.specs.Function.{SourceFunction}
+use Rattle.wit_syntax.specs.Sides.{role_side, SideItem, SideFunction, SideLink, SideInline, Link, item_function, item_inline, item_link}
+use Rattle.wit_syntax.specs.Source.{Item, TopName, address, path_scope, leads, target_scope}
+use Rattle.wit_arena.specs.Made.{scope_place, side_entries, entries_on, include_in}
+use Rattle.wit_arena.specs.OneByOne.{OneByOne}
+use Rattle.wit_arena.specs.SideItems.{AreSideItems, put_on, link_item, inline_entry}
+use Rattle.wit_arena.specs.Whole.{IsInclude}
+use Rattle.wit_parser.proofs.PartsPlaces.{one_by_one-mapped}
+
+abbrev Entry : Type 0
+Entry = WorldKey × WorldItem
+
+-- what is kept of what is told with its side is put on that side
+kept_put : (side own : WorldSide) (x : Entry) (xs : List Entry) → cons_option (cond (same_side side own) (Some x) None) xs ≡ put_on side own x xs
+kept_put side own x xs = kept (same_side side own)
+  where
+    kept : (b : Bool) → cons_option (cond b (Some x) None) xs ≡ cond b (x ∷ xs) xs
+    kept true = refl
+    kept false = refl
+
+-- a scope stands where it is told to
+abbrev pub HasPlace : List Address → Address → Type 0
+HasPlace ss s = slice_get ss (scope_place ss s) ≡ Some s
+
+module _ (ss : List Address) (function : SourceFunction → Function) (named : (fn : SourceFunction) → (function fn).name ≡ fn.name) (top : List TopName) (side : WorldSide) where
+  pub side_entries-are : (written : List SideItem) (is : List Item) → length (flat_map item_inline written) ≡ length is → ((k : ℕ) (link : Link) → slice_get (flat_map item_link written) k ≡ Some link → HasPlace ss (path_scope top link.path)) → ((k : ℕ) (i : Item) → slice_get is k ≡ Some i → HasPlace ss (address i))
+      → AreSideItems ss top side written (map function (flat_map item_function written)) (map address is) (entries_on side (side_entries function ss top written is))
+  side_entries-are [] is count links inside = refl
+  side_entries-are (SideFunction fn ∷ written) is count links inside =
+      let rest = entries_on side (side_entries function ss top written is) in (
+        rest,
+        kept_put side (role_side fn.role) (key.Name fn.name, item.Function (function fn)) rest ∙ ap (λ (n : List ℕ). put_on side (role_side fn.role) (key.Name n, item.Function (function fn)) rest) (sym (named fn)),
+        side_entries-are written is count links inside,
+      )
+  side_entries-are (SideLink link ∷ written) is count links inside =
+      let rest = entries_on side (side_entries function ss top written is) in
+      let place = scope_place ss (path_scope top link.path) in
+      (place, rest, links 0 link refl, kept_put side link.side (link_item link place) rest, side_entries-are written is count (λ k. links (suc k)) inside)
+  side_entries-are (SideInline x name items ∷ written) [] count links inside = absurd (let f : ⊥ = omega (arith, count) in f)
+  side_entries-are (SideInline x name items ∷ written) (i ∷ is) count links inside =
+      let rest = entries_on side (side_entries function ss top written is) in
+      let place = scope_place ss (address i) in
+      (place, rest, inside 0 i refl, kept_put side x.side (inline_entry x name place) rest, side_entries-are written is (omega (arith, count)) links (λ k. inside (suc k)))
+
+-- includes that are told are the written ones, where each world that they name has a place
+pub includes_in-are : (ws : List Address) (top : List TopName) (xs : List Include) → ((k : ℕ) (x : Include) → slice_get xs k ≡ Some x → HasPlace ws (target_scope WorldNamed (leads top x.from))) → OneByOne (IsInclude ws top) xs (map (include_in ws top) xs)
+includes_in-are ws top xs placed = one_by_one-mapped (IsInclude ws top) (include_in ws top) xs (λ k x at. (refl, placed k x at, refl, refl))
