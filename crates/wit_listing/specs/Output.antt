@@ -1,8 +1,15 @@
 -- What a writer holds after a text was written.
 use Rattle.std.specs.Prelude.{◌≡◌, ℕ, ◌<◌, List, Option, Result, Ok, Err, length, take}
 use Rattle.std.specs.Io.KnownBytes.{Appends, Keeps}
+use Rattle.std.specs.declared.io.ErrorKind.{ErrorKind}
+use Rattle.std.specs.declared.io.ErrorKind.TheVariants as kind
 use Rattle.wit_listing.specs.declared.fault.RunFault.{RunFault}
 use Rattle.wit_listing.specs.declared.fault.RunFault.TheVariants.{Output, Memory}
+
+-- the kind of the error that stands for a fault
+abbrev pub fault_kind : RunFault → ErrorKind
+fault_kind Output = kind.Other
+fault_kind Memory = kind.OutOfMemory
 
 -- a beginning of the text went out, and not the whole
 abbrev pub IsCutShort : Option (List ℕ) → Option (List ℕ) → List ℕ → Type 0

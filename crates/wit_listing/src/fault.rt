@@ -24,6 +24,12 @@ impl From<AllocError> for RunFault {
 }
 
 impl From<RunFault> for io::Error {
+    ghost use Rattle.std.specs.Prelude.{◌≡◌};
+    ghost use Rattle.std.specs.IoError.{error_kind};
+    ghost use Rattle.wit_listing.specs.Output.{fault_kind};
+
+    ghost from_gives = { λ fault error. error_kind error ≡ fault_kind fault };
+
     fn from(fault: RunFault) -> io::Error {
         match fault {
             RunFault::Output => io::Error::from(io::ErrorKind::Other),
