@@ -1,14 +1,14 @@
 //! A refusal of sources in plain values.
-ghost use Rattle.std.specs.Prelude.{◌≡◌, ℕ, Some, IfNone, IfOk, IfSome, slice_get};
+ghost use Rattle.std.specs.Prelude.{◌≡◌, IfNone, IfOk, IfSome};
 ghost use Rattle.wit_lex.specs.declared.source.Source.{Source};
-ghost use Rattle.wit_lex.specs.Sources.{LiesIn};
 ghost use Rattle.wit_ffi.specs.Plain.{IsHolding, IsPlain, IsPlaced, fields_of, no_refusal};
 
 use crate::refusal::Refusal;
 use std::alloc::{AllocError, Global};
 use wit_lex::Source;
+use wit_lex::source_map::source_with;
 use wit_type_tree::ParseError;
-use wit_values::{Span, Text};
+use wit_values::Text;
 
 /// A refusal: its number, whether it has a place, the path and the range of that, and its words.
 #[derive(Drop)]
@@ -47,19 +47,6 @@ pub(crate) fn fields_of(plain: &Plain) -> Refusal
         path_len: plain.path.as_str().len(),
         message_len: plain.message.as_str().len(),
     }
-}
-
-/// The source in which a span lies.
-fn source_with(sources: &[Source], span: Span) -> Option<&Source>
-    ensures found { IfSome result (λ source. (i : ℕ) × (slice_get sources.now i ≡ Some source.now) × LiesIn source.now span) }
-    ensures none { IfNone result ((i : ℕ) (s : Source) → slice_get sources.now i ≡ Some s → LiesIn s span → ⊥) }
-{
-    for source in sources {
-        if let Some(_place) = source.locate(span) {
-            return Some(source);
-        }
-    }
-    None
 }
 
 /// The source in which a refusal has its place.

@@ -1,8 +1,12 @@
--- Where a line ends, and where the next `/` stands, by a search.
-use Rattle.std.proofs.Common.{◌≡◌, ℕ, ◌+◌, ◌-◌, ◌<◌, ◌≤◌, true, List, length, take, drop, ap, ◌∙◌, sym, arith, eqb-true, refl, length-take-le, length-drop, get_or-take, get_or-drop, slice_index}
+-- Where a line begins and ends, and where the next `/` is, by a search.
+use Rattle.std.proofs.Common.{◌≡◌, ◌⊎◌, inl, inr, ℕ, ◌+◌, ◌-◌, ◌<◌, ◌≤◌, true, List, length, take, drop, ap, subst, ◌∙◌, sym, arith, eqb-true, refl, length-take-le, length-drop, get_or-take, get_or-drop, slice_index}
+use Rattle.std.specs.Prelude.{IsUtf8}
+use Rattle.std.specs.Str.{IsCharBoundary}
+use Rattle.std.proofs.lemmas.Str.{IsCharBoundary-after_ascii, IsCharBoundary-start}
 use Rattle.memchr.specs.Find.{Nowhere, NoneBefore, Passes, is_byte}
 use Rattle.wit_type_tree.specs.Comments.{IsPair, IsLine}
 use Rattle.wit_lex.specs.Blanks.{IsNextSlash, IsNoSlash}
+use Rattle.wit_lex.specs.Places.{IsLineEnd, IsLineStart}
 
 -- what stands from a place on, as it is searched
 abbrev rest : List ℕ → ℕ → List ℕ
@@ -61,3 +65,34 @@ pub no_slash : (text : List ℕ) (from : ℕ) → from ≤ length text → Nowhe
 no_slash text from order none =
     let long = length-rest text from in
     λ i low high. no_byte text 47 from (length text - from) refl (omega arith) (rw long at none) i low (omega arith)
+
+pub end_found : (text : List ℕ) (at count : ℕ) → at ≤ length text → NoneBefore (Passes (is_byte 10) (rest text at)) 0 (length (rest text at)) count × Passes (is_byte 10) (rest text at) count → IsLineEnd text at (at + count)
+end_found text at count order found =
+    let long = length-rest text at in
+    let within : at + count < length text = omega (arith, found.0.high, long) in
+    record {
+      order = omega arith;
+      within = omega arith;
+      ends = λ lt. sym (rest_at text at count within) ∙ eqb-true (slice_index (rest text at) count) 10 found.1;
+      inside = no_byte text 10 at count refl (omega arith) found.0.before;
+    }
+
+pub end_last : (text : List ℕ) (at : ℕ) → at ≤ length text → Nowhere (Passes (is_byte 10) (rest text at)) 0 (length (rest text at)) → IsLineEnd text at (length text)
+end_last text at order none =
+    let long = length-rest text at in
+    record {
+      order = order;
+      within = omega arith;
+      ends = λ lt. absurd (omega arith);
+      inside = λ i low high. no_byte text 10 at (length text - at) refl (omega arith) (rw long at none) i low (omega arith);
+    }
+
+boundary_by : (text : List ℕ) (start : ℕ) → IsUtf8 text → start ≤ length text → (start ≡ 0) ⊎ ((0 < start) × (slice_index text (start - 1) ≡ 10)) → IsCharBoundary text start
+boundary_by text start utf8 within (inl zero) = subst (IsCharBoundary text) (sym zero) (IsCharBoundary-start text utf8)
+boundary_by text start utf8 within (inr line) =
+    let same : start - 1 + 1 ≡ start = omega (arith, line.0) in
+    subst (IsCharBoundary text) same (IsCharBoundary-after_ascii text (start - 1) utf8 (omega (arith, line.0)) (rw line.1 (omega arith)))
+
+-- where a line begins, a character does
+pub start_boundary : (text bytes : List ℕ) (at start : ℕ) → IsUtf8 text → bytes ≡ text → at ≤ length text → IsLineStart bytes at start → IsCharBoundary text start
+start_boundary text bytes at start utf8 same within line = boundary_by text start utf8 (omega (arith, line.order, within)) (subst (λ b. (start ≡ 0) ⊎ ((0 < start) × (slice_index b (start - 1) ≡ 10))) same line.begins)

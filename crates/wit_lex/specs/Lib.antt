@@ -5,3 +5,4 @@ pub mod Starts
 pub mod Tokens
 pub mod Versions
 pub mod Words
+pub mod Places

@@ -5,6 +5,7 @@ pub mod blank;
 pub mod docs;
 pub mod fault;
 pub mod kind;
+pub mod place;
 pub mod scan;
 pub mod source;
 pub mod source_map;
@@ -14,5 +15,6 @@ pub mod version_end;
 pub mod word;
 
 pub use fault::{ReadError, ReadFault, ReadResult};
+pub use place::Place;
 pub use source::Source;
 pub use source_map::{SourceMap, is_same_map};

@@ -1,6 +1,7 @@
 //! A source.
 ghost use Rattle.std.specs.Prelude.{◌≡◌, ◌+◌, ◌<◌, ◌^◌, length, string_bytes, IfSome, IfNone};
 
+use crate::place::{Place, column_behind, line_end, line_number, line_start};
 use std::alloc::AllocError;
 use wit_values::Span;
 
@@ -17,6 +18,7 @@ pub struct Source {
 }
 
 impl Source {
+    ghost use Rattle.wit_lex.specs.Places.{IsPlace};
     ghost use Rattle.wit_lex.specs.Sources.{IsLocated, LiesIn};
 
     /// The path, and the span's slice where both ends lie in this source, its end included, on
@@ -35,6 +37,26 @@ impl Source {
             return None;
         }
         Some((self.path.as_str(), &text[from..to]))
+    }
+
+    /// Where the span begins, if both of its ends lie in this source, as [`Source::locate`] has it.
+    pub fn place(&self, span: Span) -> Option<Place<'_>>
+        ensures found { IfSome result (IsPlace self.now span) }
+        ensures none { IfNone result (LiesIn self.now span → ⊥) }
+    {
+        let Some((path, _)) = self.locate(span) else {
+            return None;
+        };
+        let text = self.contents.as_str();
+        let at = (span.start - self.offset) as usize;
+        let start = line_start(text.as_bytes(), at);
+        let end = line_end(text.as_bytes(), at);
+        Some(Place {
+            path,
+            line: line_number(text.as_bytes(), start),
+            column: column_behind(&text[start..at]),
+            text: &text[start..end],
+        })
     }
 }
 

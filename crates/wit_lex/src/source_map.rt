@@ -1,7 +1,10 @@
 //! The sources of a package, one behind the other.
 ghost use Rattle.std.specs.Prelude.{◌≡◌, ◌+◌, ◌<◌, ◌≤◌, ◌++◌, ◌∷◌, [], ℕ, length, slice_get, OnOk, OnErr, IfErr, IfSome, IfNone, Some, IsTrue, ◌↔◌};
+ghost use Rattle.wit_lex.specs.declared.source.Source.{Source};
+ghost use Rattle.wit_lex.specs.Places.{IsPlace};
 ghost use Rattle.wit_lex.specs.Sources.{IsLocated, IsTooLarge, LiesIn, space, told};
 
+use crate::place::Place;
 use crate::source::Source;
 use std::alloc::{AllocError, Global};
 use wit_type_tree::{ParseError, ParseErrorKind, ParseResult};
@@ -19,6 +22,7 @@ pub struct SourceMap {
 }
 
 impl SourceMap {
+    ghost use Rattle.wit_lex.specs.Places.{IsPlace};
     ghost use Rattle.wit_lex.specs.Sources.{IsSource, IsLocated, LiesIn, IsTooLarge};
 
     /// No source.
@@ -70,7 +74,22 @@ impl SourceMap {
         ensures found { IfSome result (λ found. (i : ℕ) × (s : _) × (slice_get self.now.sources.items i ≡ Some s) × IsLocated s span found.0.now found.1.now) }
         ensures none { IfNone result ((i : ℕ) (s : _) → slice_get self.now.sources.items i ≡ Some s → LiesIn s span → ⊥) }
     {
-        locate_in(self.sources.as_slice(), span)
+        let Some(source) = source_with(self.sources.as_slice(), span) else {
+            return None;
+        };
+        source.locate(span)
+    }
+
+    /// Where the span begins in the source in which both of its ends lie: path, line and column, and what
+    /// the line says. A refusal is shown by it as compilers show theirs.
+    pub fn place(&self, span: Span) -> Option<Place<'_>>
+        ensures found { IfSome result (λ found. (i : ℕ) × (s : _) × (slice_get self.now.sources.items i ≡ Some s) × IsPlace s span found) }
+        ensures none { IfNone result ((i : ℕ) (s : _) → slice_get self.now.sources.items i ≡ Some s → LiesIn s span → ⊥) }
+    {
+        let Some(source) = source_with(self.sources.as_slice(), span) else {
+            return None;
+        };
+        source.place(span)
     }
 }
 
@@ -85,13 +104,14 @@ impl Clone for SourceMap {
     }
 }
 
-fn locate_in(sources: &[Source], span: Span) -> Option<(&str, &str)>
-    ensures found { IfSome result (λ found. (i : ℕ) × (s : _) × (slice_get sources.now i ≡ Some s) × IsLocated s span found.0.now found.1.now) }
-    ensures none { IfNone result ((i : ℕ) (s : _) → slice_get sources.now i ≡ Some s → LiesIn s span → ⊥) }
+/// The source in which both ends of a span lie, its end included, on character borders.
+pub fn source_with(sources: &[Source], span: Span) -> Option<&Source>
+    ensures found { IfSome result (λ source. (i : ℕ) × (slice_get sources.now i ≡ Some source.now) × LiesIn source.now span) }
+    ensures none { IfNone result ((i : ℕ) (s : Source) → slice_get sources.now i ≡ Some s → LiesIn s span → ⊥) }
 {
     for source in sources {
-        if let Some(found) = source.locate(span) {
-            return Some(found);
+        if let Some(_place) = source.locate(span) {
+            return Some(source);
         }
     }
     None

@@ -64,6 +64,60 @@ fn locates_spans(rt: HostRuntime) -> Result<(), Fail> {
     Ok(())
 }
 
+/// Spans of two sources, and the line, the column and the text of the line in which each begins.
+const SHOWN: &str = "\
+0 7 a.wit:1:1 |package a:b;|
+8 11 a.wit:1:9 |package a:b;|
+12 12 a.wit:1:13 |package a:b;|
+13 13 a.wit:2:1 ||
+14 14 a.wit:3:1 |// é ü {|
+22 23 a.wit:3:7 |// é ü {|
+24 24 a.wit:3:9 |// é ü {|
+25 25 a.wit:4:1 ||
+26 30 b.wit:1:1 |last|
+30 30 b.wit:1:5 |last|
+31 31 none
+18 19 none";
+
+/// Two sources, the first of which has four lines, the second and the last of them empty.
+fn two_sources(rt: &impl Abort, alloc: Global) -> SourceMap {
+    let mut map = SourceMap::new(alloc);
+    let pushed = map.push(alloc, "a.wit", "package a:b;\n\n// é ü {\n").is_ok()
+        && map.push(alloc, "b.wit", "last").is_ok();
+    assert!(rt; pushed);
+    map
+}
+
+fn check_shown(
+    rt: &impl Abort,
+    alloc: Global,
+    map: &SourceMap,
+    line: &str,
+) -> Result<(), AllocError> {
+    let mut parts = line.splitn(3, ' ');
+    let start = number(parts.next());
+    let end = number(parts.next());
+    let found = match map.place(Span { start, end }) {
+        Some(place) => {
+            let (path, at, column, text) = (place.path, place.line, place.column, place.text);
+            format!(in alloc; "{path}:{at}:{column} |{text}|")?
+        }
+        None => String::from_str(alloc, "none")?,
+    };
+    assert_eq!(rt; found.as_str(), parts.next().unwrap_or(""), "at {line}");
+    Ok(())
+}
+
+#[test]
+fn shows_lines_and_columns(rt: HostRuntime) -> Result<(), Fail> {
+    let alloc = rt.alloc();
+    let map = two_sources(&rt, alloc);
+    for line in SHOWN.split('\n') {
+        check_shown(&rt, alloc, &map, line)?;
+    }
+    Ok(())
+}
+
 #[test]
 fn copies_sources(rt: HostRuntime) -> Result<(), Fail> {
     let alloc = rt.alloc();

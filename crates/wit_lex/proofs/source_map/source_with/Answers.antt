@@ -3,13 +3,17 @@ use Rattle.std.specs.Prelude.{slice_get}
 use Rattle.std.proofs.lemmas.Option.{slice_get-get_or, slice_get_within}
 use Rattle.wit_lex.specs.declared.source.Source.{Source}
 use Rattle.wit_lex.specs.Sources.{LiesIn}
-use Rattle.wit_lex.proofs.source_map.locate_in.Goals as goal
+use Rattle.wit_lex.proofs.source_map.source_with.Goals as goal
 
 pub returns-in-Some-clause-found : goal.returns-in-Some-clause-found
 returns-in-Some-clause-found c =
     let item = c.source-item.result in
     let within : c.loop-source.source-index < length c.args.sources.now = omega arith in
-    (c.loop-source.source-index, item, slice_get-get_or c.args.sources.now c.loop-source.source-index item within ∙ ap Some (sym c.source-item.is), c.in-Some.ensures.found)
+    let located = c.in-Some.ensures.found in (
+      c.loop-source.source-index,
+      slice_get-get_or c.args.sources.now c.loop-source.source-index item within ∙ ap Some (sym c.source-item.is),
+      record { first = located.first; order = located.order; low = located.low; high = located.high },
+    )
 
 pub loop-source-preserved : goal.loop-source-preserved
 loop-source-preserved c =
