@@ -2,3 +2,4 @@ mod Comments
 pub mod Maps
 mod LineEnds
 mod Versions
+pub mod Lexing

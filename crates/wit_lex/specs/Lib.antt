@@ -6,3 +6,4 @@ pub mod Tokens
 pub mod Versions
 pub mod Words
 pub mod Places
+pub mod Lexis

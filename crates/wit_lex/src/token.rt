@@ -1,8 +1,9 @@
 //! Tokens.
-ghost use Rattle.std.specs.Prelude.{◌≡◌, ◌<◌, ◌≤◌, ◌-◌, [], length, slice_index, IfOk, IfErr, OnOk, OnErr};
+ghost use Rattle.std.specs.Prelude.{◌≡◌, ◌<◌, ◌≤◌, ◌-◌, [], length, slice_index, Ok, Err, IfOk, IfErr, MatchResult, OnOk, OnErr};
 ghost use Rattle.wit_lex.specs.declared.kind.Kind.TheVariants.{End};
 ghost use Rattle.wit_lex.specs.Blanks.{IsFirst};
 ghost use Rattle.wit_lex.specs.Faults.{IsNoToken, IsUnread, IsWithin};
+ghost use Rattle.wit_lex.specs.Lexis.{first_token, lexeme};
 ghost use Rattle.wit_lex.specs.Starts.{IsEnd, IsNoStart};
 ghost use Rattle.wit_lex.specs.Tokens.{IsFound, IsToken};
 
@@ -117,6 +118,8 @@ impl<'a> Token<'a> {
         ensures kept { OnErr result (self.new ≡ self.old) }
         ensures refused { IfErr result (IsWithin source.now) }
         ensures unread { IfErr result (IsUnread source.now from) }
+        ensures lexed { OnOk result (first_token source.now from ≡ Ok (lexeme self.new)) }
+        ensures unlexed { IfErr result (λ e. first_token source.now from ≡ Err e) }
     {
         let bytes = source.as_bytes();
         let start = match skip_blanks(bytes, from) {
@@ -141,6 +144,7 @@ pub fn next_token<'a>(source: &'a str, from: usize) -> ReadResult<Token<'a>>
     ensures first { IfOk result (λ t. IsFirst source.now from t.start) }
     ensures refused { IfErr result (IsWithin source.now) }
     ensures unread { IfErr result (IsUnread source.now from) }
+    ensures lexed { MatchResult result (λ t. first_token source.now from ≡ Ok (lexeme t)) (λ e. first_token source.now from ≡ Err e) }
 {
     let mut token = end_at(from);
     token.advance(source, from)?;
