@@ -22,7 +22,7 @@ use Rattle.wit_lex.specs.declared.word.Word.{Word}
 use Rattle.wit_lex.specs.declared.word.Word.TheVariants as word
 use Rattle.wit_lex.specs.Lexis.{Mode, between, in_line, in_block, skipped, run_end, Lexeme, words, word_among, word_kind, sign_kind, lexeme, no_token, arrow_or_escaped, word_token, token_here, token_after, first_token}
 
-more : (source : List ℕ) (at : ℕ) → at < length source → drop at source ≡ slice_index source at ∷ drop (at + 1) source
+pub more : (source : List ℕ) (at : ℕ) → at < length source → drop at source ≡ slice_index source at ∷ drop (at + 1) source
 more source at lt = drop_more source at 0 lt
 
 pair_rest : (source : List ℕ) (at one two : ℕ) → IsPair source at one two → drop at source ≡ one ∷ two ∷ drop (at + 2) source
@@ -33,7 +33,7 @@ pair_rest source at one two p =
     ∙ ap (λ r. one ∷ r) (more source (at + 1) (omega arith) ∙ ap (λ c. c ∷ drop (at + 1 + 1) source) p.second ∙ ap (λ i. two ∷ drop i source) place)
 
 -- the byte that stands at a place
-next_byte : (source : List ℕ) (at d : ℕ) (r : List ℕ) → drop at source ≡ d ∷ r → (at < length source) × (slice_index source at ≡ d)
+pub next_byte : (source : List ℕ) (at d : ℕ) (r : List ℕ) → drop at source ≡ d ∷ r → (at < length source) × (slice_index source at ≡ d)
 next_byte source at d r e = elim (cases_lt at (length source)) [
   | inl lt ↦ (lt, ap (λ l. slice_index l 0) (sym (more source at lt) ∙ e))
   | inr ge ↦ (let none : 0 ≡ length (d ∷ r) = ap length (sym (drop_all at source ge) ∙ e) in absurd (omega arith))
@@ -217,7 +217,7 @@ run_on test source at end (suc n) e within inside last =
     ap (run_end test at) (more source at (omega arith)) ∙ run_step test at (slice_index source at) (drop (at + 1) source) (inside at (omega arith) (omega arith))
     ∙ run_on test source (at + 1) end n (omega arith) within (λ i low high. inside i (omega arith) high) last
 
-run_is : (test : ℕ → Bool) (source : List ℕ) (at end : ℕ) → IsRun test source at end → run_end test at (drop at source) ≡ end
+pub run_is : (test : ℕ → Bool) (source : List ℕ) (at end : ℕ) → IsRun test source at end → run_end test at (drop at source) ≡ end
 run_is test source at end r = let order = r.order in run_on test source at end (end - at) (omega arith) r.within r.inside r.stop
 
 -- a place where some byte stands is within the source

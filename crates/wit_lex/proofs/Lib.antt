@@ -3,3 +3,4 @@ pub mod Maps
 mod LineEnds
 mod Versions
 pub mod Lexing
+pub mod VersionLexing

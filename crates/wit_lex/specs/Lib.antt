@@ -7,3 +7,4 @@ pub mod Versions
 pub mod Words
 pub mod Places
 pub mod Lexis
+pub mod VersionLexis

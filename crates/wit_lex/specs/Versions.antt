@@ -1,5 +1,5 @@
 -- Where a version ends, and what `semver` reads in a text.
-use Rattle.std.specs.Prelude.{◌≡◌, ℕ, ◌+◌, ◌<◌, ◌⊎◌, true, false, List, Option, Some, None, Ok, Err, length, slice_index}
+use Rattle.std.specs.Prelude.{◌≡◌, ℕ, ◌+◌, ◌<◌, ◌≤◌, ◌⊎◌, true, false, List, Option, Some, None, Ok, Err, length, slice_index}
 use Rattle.std.specs.Char.{is_ascii_digit}
 use Rattle.semver.specs.declared.Version.{Version}
 use Rattle.semver.specs.declared.error.Error.{Error}
@@ -49,6 +49,7 @@ pub record IsLongest (source : List ℕ) (from end : ℕ) : Type 0 where
 
 -- a mark and what goes on behind it, or nothing where there is no such mark, or nothing behind it
 pub record IsMarked (mark : ℕ) (source : List ℕ) (from end : ℕ) : Type 0 where
+  pub order : from ≤ end
   pub some : from < end → (slice_index source from ≡ mark) × (from + 1 < end) × IsLongest source (from + 1) end
   pub none : end ≡ from → from < length source → slice_index source from ≡ mark → IsLongest source (from + 1) (from + 1)
 

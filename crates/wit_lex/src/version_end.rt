@@ -2,6 +2,7 @@
 ghost use Rattle.std.specs.Prelude.{◌≡◌, ◌+◌, ◌-◌, ◌<◌, ◌≤◌, false, length, slice_index, IfOk, IfErr};
 ghost use Rattle.std.specs.Char.{is_ascii_digit};
 ghost use Rattle.wit_lex.specs.Starts.{IsRun};
+ghost use Rattle.wit_lex.specs.VersionLexis.{version_to};
 ghost use Rattle.wit_lex.specs.Versions.{IsDotNumber, IsLongest, IsMarked, IsNoDotNumber, IsNoNumbers, IsNumbers, IsVersionEnd};
 
 use crate::scan::{digits_end, is_word_byte};
@@ -112,6 +113,7 @@ pub fn version_end(bytes: &[u8], from: usize) -> Result<usize, usize>
     ensures found { IfOk result (IsVersionEnd bytes.now from) }
     ensures none { IfErr result (λ at. (from ≤ at) × (at ≤ length bytes.now)) }
     ensures missing { IfErr result (IsNoNumbers bytes.now from) }
+    ensures lexed { result ≡ version_to bytes.now from }
 {
     let numbers = numbers_end(bytes, from)?;
     let pre = marked_end(bytes, numbers, b'-');
