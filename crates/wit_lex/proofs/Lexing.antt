@@ -8,7 +8,7 @@ use Rattle.std.proofs.lemmas.List.{drop_more, drop_all, get_or_past, length-drop
 use Rattle.std.proofs.lemmas.Slice.Eq.{bytes_eq-Decides}
 use Rattle.wit_type_tree.specs.Comments.{IsComment, Line, Block, IsLine, IsNested, Opened, Deeper, Closed, Inside, IsPair, IsStop, is_blank}
 use Rattle.wit_lex.specs.Blanks.{IsFirst, IsSkipped, Here, PastBlank, PastComment, IsEndless}
-use Rattle.wit_lex.specs.Faults.{IsUnread}
+use Rattle.wit_lex.specs.Faults.{IsUnended, IsUnread}
 use Rattle.wit_lex.specs.Starts.{IsEscaped, IsRun, IsStrange, is_letter, is_in_word, is_sign, width_of}
 use Rattle.wit_lex.specs.Tokens.{IsFound, IsToken}
 use Rattle.wit_lex.specs.Words.{IsPlain, word_text}
@@ -20,143 +20,78 @@ use Rattle.wit_lex.specs.declared.kind.Kind.TheVariants as kind
 use Rattle.wit_lex.specs.declared.token.Token.{Token}
 use Rattle.wit_lex.specs.declared.word.Word.{Word}
 use Rattle.wit_lex.specs.declared.word.Word.TheVariants as word
-use Rattle.wit_lex.specs.Lexis.{Mode, between, in_line, in_block, skipped, run_end, Lexeme, words, word_among, word_kind, sign_kind, lexeme, no_token, arrow_or_escaped, word_token, token_here, token_after, first_token}
+use Rattle.wit_lex.proofs.Walking.{IsWalk, blank_passed, comment_passed, left, more, nested_on, next_byte, no_pair, pair_rest}
+use Rattle.wit_lex.specs.Lexis.{Mode, between, in_line, in_block, skipped, run_end, Lexeme, words, word_among, word_kind, sign_kind, lexeme, no_token, arrow_or_escaped, word_token, token_here, token_after, first_token, Stops}
 
-pub more : (source : List ℕ) (at : ℕ) → at < length source → drop at source ≡ slice_index source at ∷ drop (at + 1) source
-more source at lt = drop_more source at 0 lt
-
-pair_rest : (source : List ℕ) (at one two : ℕ) → IsPair source at one two → drop at source ≡ one ∷ two ∷ drop (at + 2) source
-pair_rest source at one two p =
-    let room = p.within in
-    let place : at + 1 + 1 ≡ at + 2 = omega arith in
-    more source at (omega arith) ∙ ap (λ c. c ∷ drop (at + 1) source) p.first
-    ∙ ap (λ r. one ∷ r) (more source (at + 1) (omega arith) ∙ ap (λ c. c ∷ drop (at + 1 + 1) source) p.second ∙ ap (λ i. two ∷ drop i source) place)
-
--- the byte that stands at a place
-pub next_byte : (source : List ℕ) (at d : ℕ) (r : List ℕ) → drop at source ≡ d ∷ r → (at < length source) × (slice_index source at ≡ d)
-next_byte source at d r e = elim (cases_lt at (length source)) [
-  | inl lt ↦ (lt, ap (λ l. slice_index l 0) (sym (more source at lt) ∙ e))
-  | inr ge ↦ (let none : 0 ≡ length (d ∷ r) = ap length (sym (drop_all at source ge) ∙ e) in absurd (omega arith))
-]
-
-no_pair : (source : List ℕ) (at one two d : ℕ) (r : List ℕ) → (IsPair source at one two → ⊥) → drop (at + 1) source ≡ d ∷ r → (slice_index source at == one && d == two) ≡ false
-no_pair source at one two d r none e =
-    let next = next_byte source (at + 1) d r e in
-    let room = next.0 in
-    false_from_ne_true _ (λ h. (
-    let both = and_parts _ _ h in
-    none (record { within = omega arith; first = eqb-true (slice_index source at) one both.0; second = next.1 ∙ eqb-true d two both.1 })))
-
-blank_on : (at c : ℕ) (rest : List ℕ) → is_blank c ≡ true → skipped between at (c ∷ rest) ≡ skipped between (at + 1) rest
+walk_blank : (at c : ℕ) (rest : List ℕ) → is_blank c ≡ true → skipped between at (c ∷ rest) ≡ skipped between (at + 1) rest
 unfolding skipped
-blank_on at c [] b = rw b refl
-blank_on at c (d ∷ rest) b = rw b refl
+walk_blank at c [] b = rw b refl
+walk_blank at c (d ∷ rest) b = rw b refl
 
-line_opened : (at : ℕ) (rest : List ℕ) → skipped between at (47 ∷ 47 ∷ rest) ≡ skipped in_line (at + 1 + 1) rest
+walk_line : (at : ℕ) (rest : List ℕ) → skipped between at (47 ∷ 47 ∷ rest) ≡ skipped (in_line at) (at + 1 + 1) rest
 unfolding skipped
-line_opened at rest = refl
+walk_line at rest = refl
 
-line_step : (at c : ℕ) (rest : List ℕ) → (c ≡ 10 → ⊥) → skipped in_line at (c ∷ rest) ≡ skipped in_line (at + 1) rest
+walk_on_line : (start at c : ℕ) (rest : List ℕ) → (c ≡ 10 → ⊥) → skipped (in_line start) at (c ∷ rest) ≡ skipped (in_line start) (at + 1) rest
 unfolding skipped
-line_step at c rest n = rw (ne_eqb c 10 n) refl
+walk_on_line start at c rest n = rw (ne_eqb c 10 n) refl
 
-line_ended : (at : ℕ) (rest : List ℕ) → skipped in_line at (10 ∷ rest) ≡ skipped between at (10 ∷ rest)
+walk_line_end : (start at : ℕ) (rest : List ℕ) → skipped (in_line start) at (10 ∷ rest) ≡ skipped between at (10 ∷ rest)
 unfolding skipped
-line_ended at [] = refl
-line_ended at (d ∷ rest) = refl
+walk_line_end start at [] = refl
+walk_line_end start at (d ∷ rest) = refl
 
-source_ended : (at : ℕ) → skipped in_line at [] ≡ skipped between at []
+walk_last_line : (start at : ℕ) → skipped (in_line start) at [] ≡ skipped between at []
 unfolding skipped
-source_ended at = refl
+walk_last_line start at = refl
 
-line_end : (source : List ℕ) (end : ℕ) → (end < length source → slice_index source end ≡ 10) → skipped in_line end (drop end source) ≡ skipped between end (drop end source)
-line_end source end last = elim (cases_lt end (length source)) [
-  | inl lt ↦ (
-      let rest : drop end source ≡ 10 ∷ drop (end + 1) source = more source end lt ∙ ap (λ c. c ∷ drop (end + 1) source) (last lt) in
-      rw rest (line_ended end (drop (end + 1) source)))
-  | inr ge ↦ rw (drop_all end source ge) (source_ended end)
-]
-
-line_on : (source : List ℕ) (at end n : ℕ) → at + n ≡ end → end ≤ length source → ((i : ℕ) → at ≤ i → i < end → slice_index source i ≡ 10 → ⊥) → (end < length source → slice_index source end ≡ 10) →
-    skipped in_line at (drop at source) ≡ skipped between end (drop end source)
-line_on source at end zero e within inside last =
-    let same : end ≡ at = omega arith in
-    subst (λ i. skipped in_line i (drop i source) ≡ skipped between end (drop end source)) same (line_end source end last)
-line_on source at end (suc n) e within inside last =
-    ap (skipped in_line at) (more source at (omega arith)) ∙ line_step at (slice_index source at) (drop (at + 1) source) (inside at (omega arith) (omega arith))
-    ∙ line_on source (at + 1) end n (omega arith) within (λ i low high. inside i (omega arith) high) last
-
-line_skipped : (source : List ℕ) (at end : ℕ) → IsLine source at end → skipped between at (drop at source) ≡ skipped between end (drop end source)
-line_skipped source at end l =
-    let order = l.order in
-    let place : at + 1 + 1 ≡ at + 2 = omega arith in
-    ap (skipped between at) (pair_rest source at 47 47 l.front) ∙ line_opened at (drop (at + 2) source) ∙ ap (λ i. skipped in_line i (drop (at + 2) source)) place
-    ∙ line_on source (at + 2) end (end - (at + 2)) (omega arith) l.within l.inside l.last
-
--- so many comments are open
-state : ℕ → ℕ → Mode
-state start zero = between
-state start (suc n) = in_block start n
-
-opened : (at : ℕ) (rest : List ℕ) → skipped between at (47 ∷ 42 ∷ rest) ≡ skipped (state at 1) (at + 2) rest
-unfolding skipped state
-opened at rest = refl
-
-deeper_on : (start n place : ℕ) (rest : List ℕ) → skipped (in_block start n) place (47 ∷ 42 ∷ rest) ≡ skipped (in_block start (suc n)) (place + 2) rest
+walk_block : (at : ℕ) (rest : List ℕ) → skipped between at (47 ∷ 42 ∷ rest) ≡ skipped (in_block at 0) (at + 2) rest
 unfolding skipped
-deeper_on start zero place rest = refl
-deeper_on start (suc n) place rest = refl
+walk_block at rest = refl
 
-closed_on : (start n place : ℕ) (rest : List ℕ) → skipped (in_block start n) place (42 ∷ 47 ∷ rest) ≡ skipped (state start n) (place + 2) rest
-unfolding skipped state
-closed_on start zero place rest = refl
-closed_on start (suc n) place rest = refl
-
-inside_on : (start n place c : ℕ) (rest : List ℕ) → ((d : ℕ) (r : List ℕ) → rest ≡ d ∷ r → ((c == 42 && d == 47) ≡ false) × ((c == 47 && d == 42) ≡ false)) →
-    skipped (in_block start n) place (c ∷ rest) ≡ skipped (in_block start n) (place + 1) rest
+walk_deeper : (start n at : ℕ) (rest : List ℕ) → skipped (in_block start n) at (47 ∷ 42 ∷ rest) ≡ skipped (in_block start (suc n)) (at + 2) rest
 unfolding skipped
-inside_on start zero place c [] h = refl
-inside_on start (suc n) place c [] h = refl
-inside_on start zero place c (d ∷ r) h = let none = h d r refl in rw (none.0, none.1) refl
-inside_on start (suc n) place c (d ∷ r) h = let none = h d r refl in rw (none.0, none.1) refl
+walk_deeper start zero at rest = refl
+walk_deeper start (suc n) at rest = refl
 
-deeper_at : (source : List ℕ) (start depth place : ℕ) → 0 < depth → IsPair source place 47 42 → skipped (state start depth) place (drop place source) ≡ skipped (state start (depth + 1)) (place + 2) (drop (place + 2) source)
-unfolding state
-deeper_at source start zero place some p = absurd (omega arith)
-deeper_at source start (suc n) place some p =
-    let next : suc (suc n) ≡ suc n + 1 = omega arith in
-    ap (skipped (in_block start n) place) (pair_rest source place 47 42 p) ∙ deeper_on start n place (drop (place + 2) source) ∙ ap (λ k. skipped (state start k) (place + 2) (drop (place + 2) source)) next
+walk_closed : (start n at : ℕ) (rest : List ℕ) → skipped (in_block start (suc n)) at (42 ∷ 47 ∷ rest) ≡ skipped (in_block start n) (at + 2) rest
+unfolding skipped
+walk_closed start n at rest = refl
 
-closed_at : (source : List ℕ) (start depth place : ℕ) → 0 < depth → IsPair source place 42 47 → skipped (state start depth) place (drop place source) ≡ skipped (state start (depth - 1)) (place + 2) (drop (place + 2) source)
-unfolding state
-closed_at source start zero place some p = absurd (omega arith)
-closed_at source start (suc n) place some p =
-    let next : n ≡ suc n - 1 = omega arith in
-    ap (skipped (in_block start n) place) (pair_rest source place 42 47 p) ∙ closed_on start n place (drop (place + 2) source) ∙ ap (λ k. skipped (state start k) (place + 2) (drop (place + 2) source)) next
+walk_block_end : (start at : ℕ) (rest : List ℕ) → skipped (in_block start 0) at (42 ∷ 47 ∷ rest) ≡ skipped between (at + 2) rest
+unfolding skipped
+walk_block_end start at rest = refl
 
-inside_at : (source : List ℕ) (start depth place : ℕ) → 0 < depth → place < length source → (IsPair source place 47 42 → ⊥) → (IsPair source place 42 47 → ⊥) →
-    skipped (state start depth) place (drop place source) ≡ skipped (state start depth) (place + 1) (drop (place + 1) source)
-unfolding state
-inside_at source start zero place some lt none close = absurd (omega arith)
-inside_at source start (suc n) place some lt none close =
-    ap (skipped (in_block start n) place) (more source place lt)
-    ∙ inside_on start n place (slice_index source place) (drop (place + 1) source) (λ d r e. (no_pair source place 42 47 d r close e, no_pair source place 47 42 d r none e))
+walk_inside : (start n at c : ℕ) (rest : List ℕ) → ((d : ℕ) (r : List ℕ) → rest ≡ d ∷ r → ((c == 42 && d == 47) ≡ false) × ((c == 47 && d == 42) ≡ false)) →
+    skipped (in_block start n) at (c ∷ rest) ≡ skipped (in_block start n) (at + 1) rest
+unfolding skipped
+walk_inside start zero at c [] h = refl
+walk_inside start (suc n) at c [] h = refl
+walk_inside start zero at c (d ∷ r) h = let none = h d r refl in rw (none.0, none.1) refl
+walk_inside start (suc n) at c (d ∷ r) h = let none = h d r refl in rw (none.0, none.1) refl
 
-nested_on : (source : List ℕ) (at depth place : ℕ) → IsNested source at depth place → skipped between at (drop at source) ≡ skipped (state at depth) place (drop place source)
-nested_on source at _ _ (Opened p) = ap (skipped between at) (pair_rest source at 47 42 p) ∙ opened at (drop (at + 2) source)
-nested_on source at _ _ (Deeper depth place h some p) = nested_on source at depth place h ∙ deeper_at source at depth place some p
-nested_on source at _ _ (Closed depth place h some p) = nested_on source at depth place h ∙ closed_at source at depth place some p
-nested_on source at _ _ (Inside depth place h some lt none close) = nested_on source at depth place h ∙ inside_at source at depth place some lt none close
+-- nothing is gathered
+abbrev keep : ℕ → ℕ → Result ℕ ℕ → Result ℕ ℕ
+keep start end r = r
 
-comment_skipped : (source : List ℕ) (at end : ℕ) → IsComment source at end → skipped between at (drop at source) ≡ skipped between end (drop end source)
-unfolding state
-comment_skipped source at end (Line l) = line_skipped source at end l
-comment_skipped source at end (Block n) = nested_on source at 0 end n
+skips : IsWalk skipped keep
+skips = record {
+  blank = walk_blank;
+  line = walk_line;
+  on_line = walk_on_line;
+  line_end = walk_line_end;
+  last_line = walk_last_line;
+  block = walk_block;
+  deeper = walk_deeper;
+  closed = walk_closed;
+  block_end = walk_block_end;
+  inside = walk_inside;
+}
 
-skipped_by : (source : List ℕ) (from at : ℕ) → IsSkipped source from at → skipped between from (drop from source) ≡ skipped between at (drop at source)
+pub skipped_by : (source : List ℕ) (from at : ℕ) → IsSkipped source from at → skipped between from (drop from source) ≡ skipped between at (drop at source)
 skipped_by source from _ Here = refl
-skipped_by source from _ (PastBlank at h lt blank) = skipped_by source from at h ∙ ap (skipped between at) (more source at lt) ∙ blank_on at (slice_index source at) (drop (at + 1) source) blank
-skipped_by source from _ (PastComment at end h c) = skipped_by source from at h ∙ comment_skipped source at end c
+skipped_by source from _ (PastBlank at h lt blank) = skipped_by source from at h ∙ blank_passed skipped keep skips source at lt blank
+skipped_by source from _ (PastComment at end h c) = skipped_by source from at h ∙ comment_passed skipped keep skips source at end c
 
 stop_on : (at c : ℕ) (rest : List ℕ) → is_blank c ≡ false → ((d : ℕ) (r : List ℕ) → rest ≡ d ∷ r → ((c == 47 && d == 47) ≡ false) × ((c == 47 && d == 42) ≡ false)) → skipped between at (c ∷ rest) ≡ Ok at
 unfolding skipped
@@ -167,7 +102,7 @@ end_on : (at : ℕ) → skipped between at [] ≡ Ok at
 unfolding skipped
 end_on at = refl
 
-stopped : (source : List ℕ) (at : ℕ) → IsStop source at → skipped between at (drop at source) ≡ Ok at
+pub stopped : (source : List ℕ) (at : ℕ) → IsStop source at → skipped between at (drop at source) ≡ Ok at
 stopped source at s = elim (cases_lt at (length source)) [
   | inl lt ↦ ap (skipped between at) (more source at lt)
       ∙ stop_on at (slice_index source at) (drop (at + 1) source) (false_from_ne_true _ (s.blank lt)) (λ d r e. (no_pair source at 47 47 d r s.line e, no_pair source at 47 42 d r s.block e))
@@ -186,9 +121,9 @@ short : (source : List ℕ) (place : ℕ) → length source ≤ place + 1 → le
 short source place last = rw (length-drop place source) (omega arith)
 
 open_endless : (source : List ℕ) (at depth place : ℕ) → IsNested source at depth place → 0 < depth → length source ≤ place + 1 → skipped between at (drop at source) ≡ Err at
-unfolding state
+unfolding left
 open_endless source at zero place h some last = absurd (omega arith)
-open_endless source at (suc n) place h some last = nested_on source at (suc n) place h ∙ last_on at n place (drop place source) (short source place last)
+open_endless source at (suc n) place h some last = nested_on skipped keep skips source at (suc n) place h ∙ last_on at n place (drop place source) (short source place last)
 
 endless : (source : List ℕ) (at : ℕ) → IsEndless source at → skipped between at (drop at source) ≡ Err at
 endless source at e = open_endless source at e.depth e.place e.nested e.some e.last
@@ -388,3 +323,12 @@ next_unlexed source from (Fault fault.Nesting start end) u = absurd u
 next_unlexed source from (Fault fault.Version start end) u = absurd u
 next_unlexed source from (Fault fault.Number start end) u = absurd u
 next_unlexed source from OutOfMemory u = absurd u
+
+pub unended_lexed : (source : List ℕ) (from : ℕ) (e : ReadError) → IsUnended source from e → Stops (first_token source from) e
+unended_lexed source from (Fault fault.Comment start end) u = next_unlexed source from (Fault fault.Comment start end) u
+unended_lexed source from (Fault fault.Character start end) u = absurd u
+unended_lexed source from (Fault fault.Token start end) u = absurd u
+unended_lexed source from (Fault fault.Nesting start end) u = absurd u
+unended_lexed source from (Fault fault.Version start end) u = absurd u
+unended_lexed source from (Fault fault.Number start end) u = absurd u
+unended_lexed source from OutOfMemory u = tt

@@ -4,3 +4,5 @@ mod LineEnds
 mod Versions
 pub mod Lexing
 pub mod VersionLexing
+mod Walking
+mod DocsLexing

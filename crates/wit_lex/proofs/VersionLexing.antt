@@ -8,7 +8,8 @@ use Rattle.wit_lex.specs.Starts.{IsRun, is_in_word}
 use Rattle.wit_lex.specs.Versions.{IsDotNumber, IsNoDotNumber, IsNumbers, IsNoNumbers, NoMinor, NoPatch, IsDotted, Start, Byte, Dot, IsLongest, IsMarked, IsVersionEnd}
 use Rattle.wit_lex.specs.Lexis.{run_end}
 use Rattle.wit_lex.specs.VersionLexis.{number_from, dot_number_from, dot_number, dotted_end, marked_from, marked, with_marks, patch_number, version_to}
-use Rattle.wit_lex.proofs.Lexing.{more, next_byte, run_is}
+use Rattle.wit_lex.proofs.Lexing.{run_is}
+use Rattle.wit_lex.proofs.Walking.{more, next_byte}
 
 -- a place lies in the text where its byte is not that which stands for none
 in_text : (source : List ℕ) (at c : ℕ) → slice_index source at ≡ c → 0 < c → at < length source

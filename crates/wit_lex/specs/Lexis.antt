@@ -1,10 +1,10 @@
 -- The tokens of a text, as a function: the first token from a place on, or the fault that is found there.
-use Rattle.std.specs.Prelude.{ℕ, zero, suc, ◌+◌, ◌==◌, Bool, ◌&&◌, ◌||◌, List, [], ◌∷◌, drop, length, min, slice_index, slice_range, Option, Some, None, Result, Ok, Err, if◌then◌else◌}
+use Rattle.std.specs.Prelude.{◌≡◌, ℕ, zero, suc, ◌+◌, ◌==◌, Bool, ◌&&◌, ◌||◌, List, [], ◌∷◌, drop, length, min, slice_index, slice_range, Option, Some, None, Result, Ok, Err, if◌then◌else◌}
 use Rattle.std.specs.Char.{is_ascii_digit}
 use Rattle.std.specs.Str.{bytes_eq}
 use Rattle.wit_type_tree.specs.Comments.{is_blank}
 use Rattle.wit_lex.specs.declared.fault.ReadError.{ReadError}
-use Rattle.wit_lex.specs.declared.fault.ReadError.TheVariants.{Fault}
+use Rattle.wit_lex.specs.declared.fault.ReadError.TheVariants.{Fault, OutOfMemory}
 use Rattle.wit_lex.specs.declared.fault.ReadFault.TheVariants as fault
 use Rattle.wit_lex.specs.declared.kind.Kind.{Kind}
 use Rattle.wit_lex.specs.declared.kind.Kind.TheVariants as kind
@@ -14,11 +14,11 @@ use Rattle.wit_lex.specs.declared.word.Word.TheVariants as word
 use Rattle.wit_lex.specs.Starts.{is_letter, is_in_word, is_sign, width_of}
 use Rattle.wit_lex.specs.Words.{word_text}
 
--- where a place lies: between tokens, in a comment up to the end of its line, or in a block comment that begins at a place, and in that
--- many further ones inside it
+-- where a place lies: between tokens, in a comment up to the end of its line that begins at a place, or in a block comment that begins at
+-- one, and in that many further ones inside it
 pub data Mode : Type 0 where
   between : Mode
-  in_line : Mode
+  in_line : (start : ℕ) → Mode
   in_block : (start inner : ℕ) → Mode
 
 -- where the blanks and comments end that the text goes on with; else where the comment begins that has no end
@@ -27,11 +27,11 @@ skipped between at [] = Ok at
 skipped between at (c ∷ []) = if is_blank c then Ok (at + 1) else Ok at
 skipped between at (c ∷ d ∷ rest) =
     if is_blank c then skipped between (at + 1) (d ∷ rest)
-    else if c == 47 && d == 47 then skipped in_line (at + 1) (d ∷ rest)
+    else if c == 47 && d == 47 then skipped (in_line at) (at + 1) (d ∷ rest)
     else if c == 47 && d == 42 then skipped (in_block at 0) (at + 2) rest
     else Ok at
-skipped in_line at [] = Ok at
-skipped in_line at (c ∷ rest) = if c == 10 then skipped between (at + 1) rest else skipped in_line (at + 1) rest
+skipped (in_line start) at [] = Ok at
+skipped (in_line start) at (c ∷ rest) = if c == 10 then skipped between (at + 1) rest else skipped (in_line start) (at + 1) rest
 skipped (in_block start inner) at [] = Err start
 skipped (in_block start inner) at (c ∷ []) = Err start
 skipped (in_block start zero) at (c ∷ d ∷ rest) =
@@ -115,3 +115,8 @@ token_after source (Err at) = Err (Fault fault.Comment at (at + 2))
 -- the first token from a place on, or the fault that is found there
 unfoldable pub first_token : List ℕ → ℕ → Result Lexeme ReadError
 first_token source from = token_after source (skipped between from (drop from source))
+
+-- memory ran out, or it is this error that is found
+abbrev pub Stops : {A : Type 0} → Result A ReadError → ReadError → Type 0
+Stops r OutOfMemory = Unit {0}
+Stops r (Fault f start end) = r ≡ Err (Fault f start end)

@@ -8,3 +8,4 @@ pub mod Words
 pub mod Places
 pub mod Lexis
 pub mod VersionLexis
+pub mod DocsLexis

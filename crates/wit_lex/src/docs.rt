@@ -1,7 +1,9 @@
 //! Docs: comments that document what stands behind them.
 ghost use Rattle.std.specs.Prelude.{◌≡◌, ◌+◌, ◌<◌, ◌≤◌, ◌^◌, ◌++◌, ◌∷◌, [], length, IfOk, IfErr, OnOk, MatchBool};
 ghost use Rattle.wit_type_tree.specs.Comments.{IsDocs, IsStop, IsStretch, is_blank as is_blank_byte, stretched as stretched_span};
+ghost use Rattle.wit_lex.specs.DocsLexis.{AreDocsFrom};
 ghost use Rattle.wit_lex.specs.Faults.{IsUnended, IsWithin};
+ghost use Rattle.wit_lex.specs.Lexis.{Stops, first_token};
 
 use crate::blank::{Blank, blank_at, is_blank};
 use crate::fault::{ReadError, ReadFault, ReadResult, span_at};
@@ -61,6 +63,8 @@ pub fn docs_behind<'a>(
     ensures stop { IfOk result (λ found. IsStop source.now found.1) }
     ensures refused { IfErr result (IsWithin source.now) }
     ensures unended { IfErr result (IsUnended source.now from) }
+    ensures lexed { IfOk result (λ found. AreDocsFrom source.now offset from found.0 found.1) }
+    ensures unlexed { IfErr result (Stops (first_token source.now from)) }
 {
     let bytes = source.as_bytes();
     let len = bytes.len();

@@ -1,6 +1,8 @@
-use Rattle.std.proofs.Common.{sym, ◌∙◌, arith, refl}
+use Rattle.std.proofs.Common.{sym, ◌∙◌, arith, refl, rules}
 use Rattle.wit_type_tree.specs.Comments.{Start, Blank, Other}
 use Rattle.wit_lex.proofs.Comments.{docs_more, stretch_skipped}
+use Rattle.wit_lex.proofs.DocsLexing.{docs_lexed}
+use Rattle.wit_lex.proofs.Lexing.{next_unlexed}
 use Rattle.wit_lex.proofs.docs.docs_behind.Goals as goal
 
 pub loop-at-init : goal.loop-at-init
@@ -58,3 +60,15 @@ loop-at-preserved c =
 
 pub returns-in-Endless-clause-unended : goal.returns-in-Endless-clause-unended
 returns-in-Endless-clause-unended c = (stretch_skipped _ _ _ _ _ _ c.loop-at.invariant.2, rw c.as_bytes-bytes.ensures.value at c.in-Endless.ensures, refl)
+
+pub returns-in-Endless-clause-unlexed : goal.returns-in-Endless-clause-unlexed
+returns-in-Endless-clause-unlexed c = next_unlexed c.args.source.now c.args.from _ (stretch_skipped _ _ _ _ _ _ c.loop-at.invariant.2, rw c.as_bytes-bytes.ensures.value at c.in-Endless.ensures, refl)
+
+pub returns-then-first-ne47-clause-lexed : goal.returns-then-first-ne47-clause-lexed
+returns-then-first-ne47-clause-lexed c = docs_lexed c.args.source.now c.args.offset c.args.from c.loop-at.docs c.loop-at.at c.loop-at.invariant.2 (search rules)
+
+pub returns-in-Nothing-clause-lexed : goal.returns-in-Nothing-clause-lexed
+returns-in-Nothing-clause-lexed c = docs_lexed c.args.source.now c.args.offset c.args.from c.loop-at.docs c.loop-at.at c.loop-at.invariant.2 (search rules)
+
+pub returns-clause-lexed : goal.returns-clause-lexed
+returns-clause-lexed c = docs_lexed c.args.source.now c.args.offset c.args.from c.loop-at.docs c.loop-at.at c.loop-at.invariant.2 (search rules)
