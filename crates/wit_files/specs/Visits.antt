@@ -22,6 +22,7 @@ use Rattle.wit_tree.specs.declared.tree.WorldSide.TheVariants.{Imported, Exporte
 use Rattle.wit_tree.specs.declared.tree.AstItem.{AstItem}
 use Rattle.wit_tree.specs.declared.tree.AstItem.TheVariants.{Interface as InterfaceItem', World as WorldItem', Use as ToplevelItem}
 use Rattle.wit_tree.specs.declared.tree.DeclList.{DeclList}
+use Rattle.wit_tree.specs.declared.tree.PackageFile.{PackageFile}
 use Rattle.wit_syntax.specs.Crossing.{same_side}
 use Rattle.wit_files.specs.declared.visit.Wanted.{Wanted}
 use Rattle.wit_files.specs.declared.visit.Wanted.TheVariants as wanted
@@ -89,6 +90,10 @@ item_visits (ToplevelItem u) = record { owner = None; attributes = u.attributes.
 
 abbrev pub visits : DeclList → List Visit
 visits list = flat_map item_visits list.items.items
+
+-- the visits of files, in push order
+abbrev pub all_visits : List PackageFile → List Visit
+all_visits files = flat_map (λ (f : PackageFile). visits f.decl_list) files
 
 -- the visit that is held
 abbrev pub visit_behind : Held → Visit

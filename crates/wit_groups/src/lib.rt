@@ -2,6 +2,7 @@
 #![tactic(auto)]
 
 pub mod group;
+pub mod laws;
 
 pub use group::UnresolvedPackageGroup;
 pub use wit_nested::GroupResolver;

@@ -65,7 +65,7 @@ pub Decides-world : (a b : World) → Decides (world_test.it a b) (IsSameWorld a
 Decides-world a b = Decides-like _ (λ e. record { name = e.0; imports = e.1.0; exports = e.1.1.0; «package» = e.1.1.1.0; docs = e.1.1.1.1.0; stability = e.1.1.1.1.1.0; includes = e.1.1.1.1.1.1.0; span = e.1.1.1.1.1.1.1 }) (λ s. (s.name, (s.imports, (s.exports, (s.package, (s.docs, (s.stability, (s.includes, s.span)))))))) (Decides-and _ _ (Decides-text a.name b.name) (Decides-and _ _ (Decides-items a.imports b.imports) (Decides-and _ _ (Decides-items a.exports b.exports) (Decides-and _ _ (Decides-option Decides-id a.package b.package) (Decides-and _ _ (Decides-docs a.docs b.docs) (Decides-and _ _ (Decides-stability a.stability b.stability) (Decides-and _ _ (Decides-row Decides-include a.includes b.includes) (Decides-span a.span b.span))))))))
 
 -- where a test decides sameness of values, that of lists decides it one by one
-Decides-lists : {X : Type 0} {R : X → X → Type 0} {E : X → X → Bool} → ((a b : X) → Decides (E a b) (R a b)) → (xs ys : List X) → Decides (pointwise E xs ys) (AreSame R xs ys)
+pub Decides-lists : {X : Type 0} {R : X → X → Type 0} {E : X → X → Bool} → ((a b : X) → Decides (E a b) (R a b)) → (xs ys : List X) → Decides (pointwise E xs ys) (AreSame R xs ys)
 Decides-lists same [] [] = (λ e. tt, λ h. refl)
 Decides-lists same [] (y ∷ ys) = (λ e. cc, λ h. absurd h)
 Decides-lists same (x ∷ xs) [] = (λ e. cc, λ h. absurd h)

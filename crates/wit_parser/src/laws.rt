@@ -1,6 +1,7 @@
 //! What holds of all resolved packages, and of the files that make them.
 ghost use Rattle.std.specs.Prelude.{◌≡◌, List, [], ◌∷◌};
 ghost use Rattle.wit_tree.specs.declared.tree.PackageFile.{PackageFile as TheFile};
+ghost use Rattle.wit_files.specs.Visits.{all_visits};
 ghost use Rattle.wit_syntax.specs.Splitting.{IsJoined, IsSplit};
 ghost use Rattle.wit_syntax.specs.Broken.{IsLegal};
 ghost use Rattle.wit_types.specs.Types.{IsBackward};
@@ -46,11 +47,12 @@ pub fn packages_are_faithful(package: &UnresolvedPackage)
 {}
 
 /// Where files have no `use` at the top and exactly one header, it does not matter that they are
-/// split: the one file with that header and all their declarations, in order, has the same visits to
-/// other packages, is legal exactly if they are, and has the same scopes, trees and orders; what is
-/// first met in it is first met in them; and a package that it makes is one that they make, and where
-/// they are legal the only one.
+/// split: the one file with that header and all their declarations, in order, has the same visits, is
+/// legal exactly if they are, and has the same scopes, trees and orders; the first occurrences of types
+/// in it are those in them; and a package that it makes is one that they make, and where they are legal
+/// the only one.
 pub fn splitting()
+    ensures visits { (files : List TheFile) (one : TheFile) → IsJoined files one → all_visits files ≡ all_visits (one ∷ []) }
     ensures same { (files : List TheFile) (one : TheFile) → IsJoined files one → IsSplit files (one ∷ []) }
     ensures meetings { (files : List TheFile) (one : TheFile) → IsJoined files one → HaveSameMeetings files (one ∷ []) }
     ensures packages { (files : List TheFile) (one : TheFile) → IsJoined files one → HaveSamePackages files (one ∷ []) }

@@ -1,8 +1,18 @@
+use Rattle.std.proofs.Common.{◌∙◌, ap, sym}
+use Rattle.std.specs.List.{flat_map}
+use Rattle.std.proofs.lemmas.List.{append-nil}
+use Rattle.wit_files.specs.Visits.{item_visits, visits}
+use Rattle.wit_syntax.specs.Splitting.{file_declarations}
+use Rattle.wit_syntax.proofs.JoinedLists.{flat_map-flat_map}
 use Rattle.wit_syntax.proofs.Joined.{joined_split}
 use Rattle.wit_arena.proofs.JoinedMeetings.{joined_meetings}
 use Rattle.wit_arena.proofs.JoinedPackage.{joined_packages}
 use Rattle.wit_arena.proofs.OneMade.{one_package}
 use Rattle.wit_parser.proofs.laws.splitting.Goals as goal
+
+pub returns-clause-visits : goal.returns-clause-visits
+returns-clause-visits c files one joined =
+    sym (flat_map-flat_map item_visits file_declarations files) ∙ ap (flat_map item_visits) (sym joined.own_declarations) ∙ sym (append-nil (visits one.decl_list))
 
 pub returns-clause-same : goal.returns-clause-same
 returns-clause-same c = joined_split

@@ -1,0 +1,44 @@
+-- Groups with equal packages and equal sources are the same.
+use Rattle.std.proofs.Common.{◌≡◌, List, [], ◌∷◌, Option, Some, None, refl, subst, sym}
+use Rattle.wit_lex.specs.Sources.{told}
+use Rattle.wit_model.specs.declared.interface.Interface.{Interface}
+use Rattle.wit_model.specs.declared.unresolved.UnresolvedPackage.{UnresolvedPackage}
+use Rattle.wit_model.specs.declared.world.World.{World}
+use Rattle.wit_model.specs.Same.{AreBothSame, AreSame, IsSameInterface, IsSamePackage, IsSameWorld}
+use Rattle.wit_groups.specs.Same.{IsSameGroup}
+use Rattle.wit_groups.specs.declared.group.UnresolvedPackageGroup.{UnresolvedPackageGroup}
+
+all_same : {X : Type 0} {R : X → X → Type 0} → ((x : X) → R x x) → (xs : List X) → AreSame R xs xs
+all_same same [] = tt
+all_same same (x ∷ xs) = (same x, all_same same xs)
+
+both_same : {X : Type 0} {R : X → X → Type 0} → ((x : X) → R x x) → (o : Option X) → AreBothSame R o o
+both_same same None = tt
+both_same same (Some x) = same x
+
+interface_same : (i : Interface) → IsSameInterface i i
+interface_same i = record { name = refl; types = λ k. refl; functions = λ k. refl; docs = refl; stability = refl; «package» = refl; span = refl; clone_of = refl }
+
+world_same : (w : World) → IsSameWorld w w
+world_same w = record { name = refl; imports = λ k. refl; exports = λ k. refl; «package» = refl; docs = refl; stability = refl; includes = refl; span = refl }
+
+package_same : (p : UnresolvedPackage) → IsSamePackage p p
+package_same p = record {
+  name = refl;
+  worlds = all_same world_same p.worlds;
+  interfaces = all_same interface_same p.interfaces;
+  types = refl;
+  foreign_deps = λ k. both_same (λ items name. refl) _;
+  docs = refl;
+  name_span = refl;
+  unknown_type_spans = refl;
+  foreign_dep_spans = refl;
+  required_resource_types = refl;
+}
+
+pub group_same : (a b : UnresolvedPackageGroup) → a.main ≡ b.main → a.nested ≡ b.nested → told a.source_map.sources.items ≡ told b.source_map.sources.items → IsSameGroup a b
+group_same a b main nested sources = record {
+  main = subst (IsSamePackage a.main) main (package_same a.main);
+  nested = subst (AreSame IsSamePackage a.nested) nested (all_same package_same a.nested);
+  sources = sources;
+}
