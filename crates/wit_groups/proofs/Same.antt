@@ -4,17 +4,17 @@ use Rattle.wit_lex.specs.Sources.{told}
 use Rattle.wit_model.specs.declared.interface.Interface.{Interface}
 use Rattle.wit_model.specs.declared.unresolved.UnresolvedPackage.{UnresolvedPackage}
 use Rattle.wit_model.specs.declared.world.World.{World}
-use Rattle.wit_model.specs.Same.{AreBothSame, AreSame, IsSameInterface, IsSamePackage, IsSameWorld}
+use Rattle.wit_model.specs.Same.{AreBothSame, AreSame, HoldSamePairs, IsSameInterface, IsSamePackage, IsSameWorld, is_same_name}
 use Rattle.wit_groups.specs.Same.{IsSameGroup}
 use Rattle.wit_groups.specs.declared.group.UnresolvedPackageGroup.{UnresolvedPackageGroup}
 
-all_same : {X : Type 0} {R : X → X → Type 0} → ((x : X) → R x x) → (xs : List X) → AreSame R xs xs
-all_same same [] = tt
-all_same same (x ∷ xs) = (same x, all_same same xs)
+all_same : {X : Type 0} (R : X → X → Type 0) → ((x : X) → R x x) → (xs : List X) → AreSame R xs xs
+all_same R same [] = tt
+all_same R same (x ∷ xs) = (same x, all_same R same xs)
 
-both_same : {X : Type 0} {R : X → X → Type 0} → ((x : X) → R x x) → (o : Option X) → AreBothSame R o o
-both_same same None = tt
-both_same same (Some x) = same x
+both_same : {X : Type 0} (R : X → X → Type 0) → ((x : X) → R x x) → (o : Option X) → AreBothSame R o o
+both_same R same None = tt
+both_same R same (Some x) = same x
 
 interface_same : (i : Interface) → IsSameInterface i i
 interface_same i = record { name = refl; types = λ k. refl; functions = λ k. refl; docs = refl; stability = refl; «package» = refl; span = refl; clone_of = refl }
@@ -25,10 +25,10 @@ world_same w = record { name = refl; imports = λ k. refl; exports = λ k. refl;
 package_same : (p : UnresolvedPackage) → IsSamePackage p p
 package_same p = record {
   name = refl;
-  worlds = all_same world_same p.worlds;
-  interfaces = all_same interface_same p.interfaces;
+  worlds = all_same IsSameWorld world_same p.worlds;
+  interfaces = all_same IsSameInterface interface_same p.interfaces;
   types = refl;
-  foreign_deps = λ k. both_same (λ items name. refl) _;
+  foreign_deps = λ k. both_same (HoldSamePairs is_same_name) (λ items name. refl) _;
   docs = refl;
   name_span = refl;
   unknown_type_spans = refl;
@@ -39,6 +39,6 @@ package_same p = record {
 pub group_same : (a b : UnresolvedPackageGroup) → a.main ≡ b.main → a.nested ≡ b.nested → told a.source_map.sources.items ≡ told b.source_map.sources.items → IsSameGroup a b
 group_same a b main nested sources = record {
   main = subst (IsSamePackage a.main) main (package_same a.main);
-  nested = subst (AreSame IsSamePackage a.nested) nested (all_same package_same a.nested);
+  nested = subst (AreSame IsSamePackage a.nested) nested (all_same IsSamePackage package_same a.nested);
   sources = sources;
 }
