@@ -12,7 +12,7 @@ use wit_lex::word::Word;
 use wit_reader::front::Front;
 use wit_reader::reader::Reader;
 use wit_tree::tree::{Func, Id, NamedFunc, ResourceFunc, TypeBody};
-use wit_values::push;
+use wit_values::{fitted, push};
 
 /// The function of a resource, with this name.
 fn resource_func<'a>(
@@ -102,7 +102,7 @@ fn read_resource_funcs<'a>(reader: &mut Reader<'a>) -> ReadResult<Vec<ResourceFu
         push(&mut funcs, func)?;
     }
     reader.bump()?;
-    Ok(funcs)
+    Ok(fitted(funcs))
 }
 
 /// Reads `;`, or functions in braces.

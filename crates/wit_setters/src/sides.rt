@@ -1,14 +1,12 @@
 //! Setters of a side of a world that stand before their getters, put directly behind them.
-ghost use Rattle.std.specs.Prelude.{◌≡◌, ℕ, Some, IfOk, OnOk, map, slice_get};
+ghost use Rattle.std.specs.Prelude.{◌≡◌, ℕ, Some, IfOk, map, slice_get};
 ghost use Rattle.std.specs.List.{list_any};
-ghost use Rattle.indexmap.specs.IndexMap.{insert_entry};
 ghost use Rattle.wit_functions.specs.Setters.{placed};
 ghost use Rattle.wit_model.specs.Worlds.{function_of};
 ghost use Rattle.wit_functions.specs.declared.function.Function.{Function};
 ghost use Rattle.wit_model.specs.declared.world.WorldItem.{WorldItem as TheItem};
 ghost use Rattle.wit_model.specs.declared.world.WorldKey.{WorldKey as TheKey};
 ghost use Rattle.wit_model.specs.declared.world.WorldKey.TheVariants.{Name};
-ghost use Rattle.wit_model.specs.contracts.world.WorldKeyPartialEq.TheImpl.{eq-value as key_test};
 ghost use Rattle.wit_syntax.specs.Repeats.{AllDiffer};
 ghost use Rattle.wit_functions.specs.Told.{is_setter as is_a_setter};
 
@@ -39,33 +37,6 @@ fn have_setter(side: &Table<WorldKey, WorldItem>) -> bool
     false
 }
 
-/// Puts an entry into a table.
-fn add(
-    table: &mut Table<WorldKey, WorldItem>,
-    entry: (WorldKey, WorldItem),
-) -> Result<(), AllocError>
-    ensures { OnOk result (table.new ≡ insert_entry key_test.it table.old entry.0 entry.1) }
-{
-    let (key, item) = entry;
-    table.put(key, item)?;
-    Ok(())
-}
-
-/// Entries, moved into a table in their order.
-fn table_of(
-    alloc: Global,
-    entries: Vec<(WorldKey, WorldItem)>,
-) -> Result<Table<WorldKey, WorldItem>, AllocError>
-    requires { AllDiffer (map (λ e. e.0) entries.items) }
-    ensures { IfOk result (λ table. table ≡ entries.items) }
-{
-    let mut table = Table::new(alloc);
-    for entry in entries {
-        add(&mut table, entry)?;
-    }
-    Ok(table)
-}
-
 /// A side of a world, where each setter that stands before its getter stands directly behind it
 /// instead. All else keeps its order. A function stands at its name.
 pub fn place_setters(
@@ -81,6 +52,6 @@ pub fn place_setters(
     }
     let entries = side.into_entries();
     let placed = behind_getters(alloc, entries)?;
-    let table = table_of(alloc, placed)?;
+    let table = Table::from_entries(alloc, placed)?;
     Ok(table)
 }

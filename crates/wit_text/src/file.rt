@@ -17,7 +17,7 @@ use wit_lex::word::Word;
 use wit_reader::reader::Reader;
 use wit_tree::ParseResult;
 use wit_tree::tree::{AstItem, DeclList, NestedPackage, PackageFile, PackageName, SourceFile};
-use wit_values::push;
+use wit_values::{fitted, push};
 
 /// Reads what stands at `package` where a file begins with that: a header, or a nested package.
 fn read_beginning<'a>(
@@ -66,7 +66,7 @@ fn read_declarations<'a>(
             }
         }
     }
-    Ok(items)
+    Ok(fitted(items))
 }
 
 /// Reads up to the end of the source.

@@ -262,6 +262,21 @@ pub(crate) fn empty_index<K: Eq + Hash + Ord + Drop>(
     Ok(Some(index))
 }
 
+/// An index of entries, or none where they are few.
+pub(crate) fn index_for<K: Eq + Hash + Ord + Clone + Drop, V>(
+    alloc: Global,
+    entries: &[(K, V)],
+) -> Result<Option<Box<Index<K>>>, AllocError>
+    requires { AreApart K.eq (keys_of entries.now) }
+    ensures { IfOk result (IsKept K.eq K.cmp K.hash_input (keys_of entries.now)) }
+{
+    if entries.len() <= FEW {
+        return Ok(None);
+    }
+    let index = index_of(alloc, entries)?;
+    Ok(Some(Box::new(alloc, index)?))
+}
+
 /// The place of a key among entries with an index, or without one; or else the place behind the last
 /// entry is noted for it. Where there is no index with room for it, one is made if there are more than
 /// a few entries.

@@ -9,8 +9,9 @@ ghost use Rattle.std.specs.HashMap.Eq.{hash_map_eq_symm, hash_map_eq_trans, hash
 ghost use Rattle.std.specs.Cmp.{equiv, partial_equiv_from_equiv};
 ghost use Rattle.indexmap.specs.Layout.{hash_map, set_value_at};
 ghost use Rattle.indexmap.specs.IndexMap.{insert_entry};
+ghost use Rattle.wit_values.specs.Indexed.{AreApart};
 
-use crate::index::{Index, empty_index, place_in, place_or_note};
+use crate::index::{Index, empty_index, index_for, place_in, place_or_note};
 use crate::sought::Sought;
 use std::alloc::{AllocError, AllocFailed, Global};
 use std::fmt;
@@ -75,6 +76,18 @@ impl<K: Eq + Hash + Ord, V> Table<K, V> {
             entries: Vec::with_capacity(alloc, entries)?,
             index: empty_index(alloc, entries)?,
         })
+    }
+
+    /// The map of these entries, in their order; no two of them have equal keys.
+    pub fn from_entries(alloc: Global, entries: Vec<(K, V)>) -> Result<Table<K, V>, AllocError>
+    where
+        K: Clone + Drop,
+        V: Drop,
+        requires { AreApart K.eq (keys_of entries.items) }
+        ensures { IfOk result (λ table. table ≡ entries.items) }
+    {
+        let index = index_for(alloc, &entries)?;
+        Ok(Table { entries, index })
     }
 
     /// How many entries there are.

@@ -6,4 +6,4 @@ pub funcs-preserved : goal.funcs-preserved
 funcs-preserved c = more resource_func_marks c.funcs.funcs.items c.push.new.items.items _ c.in_ok-push.ensures c.funcs.invariant c.in_ok-func.ensures.read
 
 pub returns-clause-read : goal.returns-clause-read
-returns-clause-read c = close c.funcs.invariant c.in_ok-bump.ensures.read
+returns-clause-read c = rw c.fitted.ensures (close c.funcs.invariant c.in_ok-bump.ensures.read)

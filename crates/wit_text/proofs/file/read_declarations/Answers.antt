@@ -20,3 +20,6 @@ items-preserved c =
       record { read = λ reader begun. more_on nested_marks c.items.nested.items c.push-in-Package.new.items.items _ c.in_ok-push-in-Package.ensures (c.items.invariant.1.read reader begun) read },
       record { read = λ reader begun. more_on inner_marks c.items.nested.items c.push-in-Package.new.items.items _ c.in_ok-push-in-Package.ensures (c.items.invariant.2.read reader begun) inner },
     )
+
+pub returns-clause-read : goal.returns-clause-read
+returns-clause-read c = rw c.fitted.ensures c.items.invariant.0
