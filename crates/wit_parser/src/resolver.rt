@@ -199,11 +199,16 @@ impl<'a> Resolver<'a> {
     /// and the worlds each keep that order. Each has the names that it uses and then its
     /// definitions, in the least order in which each comes after those that it names; those of a
     /// world are imports. Behind them it has its functions, in source order, but that in an
-    /// interface a setter that is written before its getter stands directly behind it.
+    /// interface, and on each side of a world that includes nothing, a setter that is written before
+    /// its getter stands directly behind it; a world with an include keeps all its setters in place,
+    /// since a getter may come with what it includes.
+    ///
     /// Among the functions on a side, in source order, a world has the interfaces that it imports or
-    /// exports there: each under the interface itself, or under the name that it has in the world. Those
-    /// that are written there stand behind all declared ones, as they are met. The arena of types has what
-    /// is met in the interfaces and then in the worlds, each once, in the order of its first meeting. What the files hold in which order beyond that changes nothing.
+    /// exports there: each under the interface itself, or under the name that it has in the world.
+    /// Inline interfaces stand behind all declared ones, in the order of the worlds and of their
+    /// items. The arena of types has what occurs in the interfaces and then in the worlds, each once,
+    /// in the order of first occurrence. What the files hold in which order beyond that changes
+    /// nothing.
     ///
     /// # Errors
     ///
@@ -219,7 +224,8 @@ impl<'a> Resolver<'a> {
     ///   an interface.
     /// - 12, 13: a used name is none of the interface that it comes from; it is that of a function.
     /// - 14, 17: a name stands twice in an interface or a world, to the letter or once case is folded.
-    /// - 18: a setter of an interface has no getter.
+    /// - 18: a setter of an interface, or on a side of a world that includes nothing, has no getter
+    ///   there.
     /// - 15, 16: a name in a definition is none of its scope; definitions name one another in
     ///   a cycle.
     /// - 19, 20, 22 to 24: a record, flags, a tuple, a variant or an enum is empty.
