@@ -16,7 +16,7 @@ use Rattle.wit_model.specs.declared.world.World.{World}
 use Rattle.wit_graph.specs.Table.{IsOrder}
 use Rattle.wit_syntax.specs.Fault.{Fault, fault, missing_at, name_word}
 use Rattle.wit_syntax.specs.Address.{Address, InterfaceNamed, WorldNamed, is_foreign}
-use Rattle.wit_syntax.specs.Source.{address, Target, Local, Foreign, leads, Item, ScopeName, Used, all_items, item_name, is_world, item_named, item_at, scope_names, meaning, taking, takings, same_taking}
+use Rattle.wit_syntax.specs.Source.{address, Target, Local, Foreign, leads, Item, ScopeName, Used, all_items, item_name, is_world, item_named, scope_names, meaning, taking, takings, same_taking}
 use Rattle.wit_syntax.specs.Trees.{scope}
 use Rattle.wit_syntax.specs.Foreign.{visited, foreign_interfaces, foreign_worlds}
 use Rattle.wit_syntax.specs.Scope.{in_order, item_rows, interfaces_of, worlds_of, include_paths}
@@ -26,26 +26,26 @@ use Rattle.wit_syntax.specs.Function.{SourceFunction, functions}
 use Rattle.wit_arena.specs.Functions.{AreFunctions}
 use Rattle.std.specs.List.{filter}
 use Rattle.wit_types.specs.declared.types.TypeOwner.TheVariants as owner
-use Rattle.wit_syntax.specs.Broken.{is_world_at, IsBroken, Use, InterfaceIncluded, MissingName, Scope, Sides, Handle, Setter}
+use Rattle.wit_syntax.specs.Broken.{is_world_at, IsBroken, Use, InterfaceIncluded, MissingName, Scope, Sides, LinkedTwice, Handle, Setter}
 use Rattle.wit_syntax.specs.Signature.{OfFunction, OfNothing}
 use Rattle.wit_syntax.specs.Repeats.{AllDiffer}
 use Rattle.wit_arena.specs.Whole.{Ordered, Turned}
 use Rattle.wit_arena.specs.Resolving.{Names as Table, Cell, cell, cells, env_of, Required, IsIndex, IsFound, Unresolved, Unstated, OfFunction, WrongName, WrongItself, IsWrongScope, IsWorldIndex, IsNoWorld, IsLostInclude, IsLostLink}
-use Rattle.wit_arena.specs.Resolved.{worlds_at, WorldArenas, front_worlds, AddsWorlds, AddsForeign, AreUsableUses, IsWrongHandleNow, WrongStability, WrongScope, WrongSides, WrongWorldSides, UnpairedOnSide, WrongHandle, Unpaired, IsWrongInline, WrongInline, WrongWorldStability, WrongWorldScope, WrongWorldHandle, WrongWorldUse, LostLink, LostInclude, IsWrongAmong, IsWrongWorldAmong}
+use Rattle.wit_arena.specs.Resolved.{worlds_at, WorldArenas, front_worlds, AddsWorlds, AddsForeign, AreUsableUses, IsWrongHandleNow, WrongStability, WrongScope, WrongSides, WrongWorldSides, WrongLinks, UnpairedOnSide, WrongHandle, Unpaired, IsWrongInline, WrongInline, WrongWorldStability, WrongWorldScope, WrongWorldHandle, WrongWorldUse, LostLink, LostInclude, IsWrongAmong, IsWrongWorldAmong}
 use Rattle.wit_syntax.proofs.Lists.{at_back, at_seam, at_split, map_at}
 use Rattle.wit_syntax.proofs.Firsts.{firsts_has}
 use Rattle.wit_syntax.proofs.Found.{at_contains, contains_at, find_at, find_passes}
 use Rattle.wit_syntax.proofs.Names.{name_equal}
 use Rattle.wit_syntax.proofs.Inline.{inline_interface}
 use Rattle.wit_syntax.proofs.Setters.{alone_among}
-use Rattle.wit_syntax.proofs.Scopes.{all_declared, addresses_differ, item_at_its, scopes_declared, scopes_inline}
+use Rattle.wit_syntax.proofs.Scopes.{scopes_declared, scopes_inline}
 use Rattle.wit_arena.proofs.Indexing.{cells-append, front_cell, worlds_at-append}
 use Rattle.wit_arena.proofs.Standing.{DoneScope, cell_of, IsDoneScope}
 use Rattle.wit_arena.proofs.Meant.{lacks_nothing}
 use Rattle.wit_syntax.proofs.Kept.{kept_has, kept_next}
 use Rattle.wit_arena.proofs.FreeNames.{free_of, AreStated, free_stated, stated_free, free_names}
 use Rattle.wit_arena.proofs.Stability.{stability_broken, inline_stability}
-use Rattle.wit_arena.proofs.WrongHandles.{interface_handle, world_handle, inline_handle}
+use Rattle.wit_arena.proofs.WrongHandles.{IsWronglyHandled, interface_handle, world_handle, inline_handle}
 use Rattle.wit_arena.proofs.Interfaces.{AreItems, AreOfSort, item_scopes, scope_of, interface_address, items_kept, interfaces_sort, worlds_sort}
 use Rattle.wit_arena.proofs.Itemizing.{item_index, are_items}
 use Rattle.wit_arena.proofs.Visits.{visited_foreign}
@@ -172,16 +172,11 @@ module _ (files : List PackageFile) (places : List ℕ) (order : IsOrder (item_r
           let g : ⊥ = cc in
           g
 
-      -- an interface is the declared item at its address
-      declared_at : (j : ℕ) (v : Item) → slice_get interfaces j ≡ Some v → item_at all (address v) ≡ Some v
-      declared_at j v at =
-          let p = find_at (λ (i : Item). bytes_eq (item_name i) (item_name v)) all v (are_interfaces.found j v at) in
-          item_at_its all p.0 v (addresses_differ all (all_declared files) differ) p.1
-
       -- an interface of the package that lacks a name, as an item
       record IsTarget (from : Address) (name : List ℕ) (functions : List (List ℕ)) : Type 0 where
         item : Item
-        declared : item_at all from ≡ Some item
+        here : from ≡ address item
+        first : item_named all (item_name item) ≡ Some item
         missing : meaning (scope_names item) name ≡ None
         free : Contains (free_names item) name → Contains functions name
         stated : Contains functions name → Contains (free_names item) name
@@ -205,7 +200,8 @@ module _ (files : List PackageFile) (places : List ℕ) (order : IsOrder (item_r
           let stands : free_of c.0.stated ≡ target.functions = ap (λ (x : Cell). x.functions) c.2 in
           record {
             item = v;
-            declared = ap (item_at all) (sym here) ∙ declared_at j v there;
+            here = sym here;
+            first = are_interfaces.found j v there;
             missing = ap (λ (xs : List ScopeName). meaning xs name) names ∙ unstated files c.0 name done lacks;
             free = λ h. subst (λ (l : List (List ℕ)). Contains l name) stands (free_stated ks c.0.address v c.0.made c.0.stated are says name h);
             stated = λ h. stated_free ks c.0.address v c.0.made c.0.stated are says name (subst (λ (l : List (List ℕ)). Contains l name) (sym stands) h);
@@ -215,12 +211,12 @@ module _ (files : List PackageFile) (places : List ℕ) (order : IsOrder (item_r
       missing_own : (w : Item) → Contains (all_scopes files) w → (from : Address) (attributes : List Attribute) (n : UseName) → Contains (scope_names w) (Used from attributes n) → (j : ℕ) (target : Cell) → slice_get (map cell own) j ≡ Some target → target.address ≡ from → env_of target.types n.name.name.now ≡ None → (Contains target.functions n.name.name.now → ⊥) → (f : Fault) → f ≡ missing_at 12 name_word n.name → IsBroken files f
       missing_own w here_w from attributes n among j target at called none other f says =
           let t = target_of from n.name.name.now j target at called none in
-          MissingName w here_w from attributes n among t.item t.declared t.missing (OfNothing (λ h. other (t.free h)) says)
+          MissingName w here_w from attributes n among t.item t.here t.first t.missing (OfNothing (λ h. other (t.free h)) says)
 
       function_own : (w : Item) → Contains (all_scopes files) w → (from : Address) (attributes : List Attribute) (n : UseName) → Contains (scope_names w) (Used from attributes n) → (j : ℕ) (target : Cell) → slice_get (map cell own) j ≡ Some target → target.address ≡ from → env_of target.types n.name.name.now ≡ None → Contains target.functions n.name.name.now → (f : Fault) → f ≡ fault 13 n.name.span → IsBroken files f
       function_own w here_w from attributes n among j target at called none function f says =
           let t = target_of from n.name.name.now j target at called none in
-          MissingName w here_w from attributes n among t.item t.declared t.missing (OfFunction (t.stated function) says)
+          MissingName w here_w from attributes n among t.item t.here t.first t.missing (OfFunction (t.stated function) says)
 
       -- a name that is used was resolved in an interface of the package, or is taken from another one
       none_lacks : (from : Address) (n : UseName) (target : Cell) (found : IsFound (cells ss (front ++ own)) from target) → env_of target.types n.name.name.now ≡ None → IsResolvedUse vs from ⊎ IsForeignUse files from n → (j : ℕ) × (slice_get (map cell own) j ≡ Some target)
@@ -287,6 +283,9 @@ module _ (files : List PackageFile) (places : List ℕ) (order : IsOrder (item_r
       lost_include : (f : Fault) → IsLostInclude files by_name w f → IsBroken files f
       lost_include f lost = InterfaceIncluded w (contains_at all p w at) lost.path lost.among (lost_leads lost.path lost.among (leads w.top lost.path) refl lost.lost) lost.is
 
+  handled : (w : Item) → Contains (all_scopes files) w → (f : Fault) → IsWronglyHandled files w f → IsBroken files f
+  handled w here f wrong = Handle w here wrong.0 wrong.1
+
   module _ (uses : AreUsableUses files all) where
     -- what is wrong with an interface, once those before it in the order were resolved, is wrong with the files
     pub broken_among : (f : Fault) → IsWrongAmong files all places f → IsBroken files f
@@ -310,7 +309,7 @@ module _ (files : List PackageFile) (places : List ℕ) (order : IsOrder (item_r
           | WrongStability wrong ↦ stability_broken files w declared f wrong
           | WrongScope wrong ↦ wrong_scope uses h.es h.front h.ws h.foreign vs h.mid d.0 h.rs d.2 h.by_name (subst (λ (l : List Interface). IsIndex (cells fore l) h.by_name) d.1 h.index) w here earlier f (subst (λ (l : List Interface). IsWrongScope (cells fore l) h.by_name (scope_names w) (functions w) f) d.1 wrong)
           | WrongSides wrong ↦ Sides w here wrong
-          | WrongHandle wrong ↦ Handle w here (interface_handle files interfaces worlds (interfaces_sort (in_order all places)) (worlds_sort (in_order all places)) are_interfaces are_worlds uses h.es h.front h.ws h.foreign vs h.mid d.0 h.rs w next d.2 f (subst (λ (l : List Interface). IsWrongHandleNow h.mid (cells fore l) (owner.Interface (length l)) w f) d.1 wrong))
+          | WrongHandle wrong ↦ handled w here f (interface_handle files interfaces worlds (interfaces_sort (in_order all places)) (worlds_sort (in_order all places)) are_interfaces are_worlds uses h.es h.front h.ws h.foreign vs h.mid d.0 h.rs w next d.2 f (subst (λ (l : List Interface). IsWrongHandleNow h.mid (cells fore l) (owner.Interface (length l)) w f) d.1 wrong))
           | Unpaired alone ↦ Setter w here (alone_among w h.sort f alone)
         ]
 
@@ -344,7 +343,7 @@ module _ (files : List PackageFile) (places : List ℕ) (order : IsOrder (item_r
             | WrongStability wrong ↦ Sides w (scopes_declared files w declared) (inline_stability w h.done inner h.next f wrong)
             | WrongScope wrong ↦ wrong_scope uses es front wfront foreign interfaces middle xs irs d by_name index inner here (used_among inner here) f wrong
             | WrongSides wrong ↦ Sides inner here wrong
-            | WrongHandle wrong ↦ Handle inner here (inline_handle files interfaces worlds is_sort ws_sort are_interfaces are_worlds uses es front wfront foreign middle xs irs d us mid a wrs w next e h.place h.done inner h.next h.types h.middle h.mid h.adds h.now h.functions h.rs h.sides h.reached f wrong)
+            | WrongHandle wrong ↦ handled inner here f (inline_handle files interfaces worlds is_sort ws_sort are_interfaces are_worlds uses es front wfront foreign middle xs irs d us mid a wrs w next e h.place h.done inner h.next h.types h.middle h.mid h.adds h.now h.functions h.rs h.sides h.reached f wrong)
             | Unpaired alone ↦ Setter inner here (alone_among inner sort f alone)
           ]
 
@@ -372,7 +371,8 @@ module _ (files : List PackageFile) (places : List ℕ) (order : IsOrder (item_r
           | WrongWorldScope wrong ↦ wrong_scope uses h.es h.front h.worlds_front h.foreign interfaces h.middle d.0 h.rs d.2 h.by_name index w here (used_among w here) f (subst (λ (l : List Interface). IsWrongScope (cells fore l) h.by_name (scope_names w) (functions w) f) d.1 wrong)
           | WrongWorldSides wrong ↦ Sides w here wrong
           | UnpairedOnSide alone ↦ Setter w here alone
-          | WrongWorldHandle wrong ↦ Handle w here (world_handle files interfaces worlds is_sort ws_sort are_interfaces are_worlds uses h.es h.front h.worlds_front h.foreign h.middle d.0 h.rs d.2 vs h.mid h.before h.worlds_rs w next e f (subst (λ (l : List Interface). IsWrongHandleNow h.mid (cells fore l) (owner.World (length h.before.worlds)) w f) d.1 wrong))
+          | WrongLinks wrong ↦ LinkedTwice w declared wrong
+          | WrongWorldHandle wrong ↦ handled w here f (world_handle files interfaces worlds is_sort ws_sort are_interfaces are_worlds uses h.es h.front h.worlds_front h.foreign h.middle d.0 h.rs d.2 vs h.mid h.before h.worlds_rs w next e f (subst (λ (l : List Interface). IsWrongHandleNow h.mid (cells fore l) (owner.World (length h.before.worlds)) w f) d.1 wrong))
           | WrongWorldUse wrong ↦ Use w declared wrong
           | LostLink lost ↦ absurd (none_lost uses h.es h.front h.worlds_front h.foreign interfaces h.middle d.0 h.rs d.2 h.by_name index interface_at w f lost)
           | LostInclude lost ↦ lost_include uses h.es h.front h.worlds_front h.foreign k p w h.next.next h.next.at h.sort d.2.ordered (front_scopes files h.front ++ d.2.scopes) h.mid h.before h.worlds_rs e h.worlds_by_name h.worlds_index f lost

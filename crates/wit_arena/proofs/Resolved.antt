@@ -17,7 +17,7 @@ use Rattle.wit_types.specs.declared.types.TypeDef.{TypeDef}
 use Rattle.wit_model.specs.declared.unresolved.UnresolvedPackage.{UnresolvedPackage}
 use Rattle.wit_graph.specs.Table.{IsOrder}
 use Rattle.wit_syntax.specs.Address.{Address, WorldNamed, ForeignNamed}
-use Rattle.wit_syntax.specs.Source.{address, Target, Local, Foreign, leads, item_named, is_world, Item, all_items, item_name, target_scope}
+use Rattle.wit_syntax.specs.Source.{address, Target, Local, Foreign, leads, item_named, item_at, is_world, Item, all_items, item_name, target_scope}
 use Rattle.wit_syntax.specs.Foreign.{visited, foreign_interfaces, foreign_worlds, foreign_at, ForeignVisit}
 use Rattle.wit_syntax.specs.Scope.{in_order, uses as uses_of, include_paths, includes, item_rows, interfaces_of, worlds_of}
 use Rattle.std.specs.List.{flat_map}
@@ -25,17 +25,19 @@ use Rattle.wit_arena.specs.Meet.{Meeting}
 use Rattle.wit_arena.specs.Resolving.{Required}
 use Rattle.wit_syntax.specs.Fault.{Fault}
 use Rattle.wit_syntax.specs.Notes.{IsBrokenNotes}
-use Rattle.wit_syntax.specs.Broken.{is_world_at, IsBrokenNames, Headerless, Names, ItemStability, UseNotes, IncludeStability, Use, InterfaceIncluded, MissingName, Scope, Sides, Handle, Setter, IsSetterAlone, IsLegal, headers, last_header}
+use Rattle.wit_syntax.specs.Broken.{is_world_at, IsBrokenNames, Headerless, Names, ItemStability, UseNotes, IncludeStability, Use, InterfaceIncluded, MissingName, Scope, Sides, LinkedTwice, Handle, Setter, IsLinkedTwice, IsSetterAlone, IsLegal, headers, last_header}
 use Rattle.wit_syntax.specs.Repeats.{AllDiffer}
 use Rattle.wit_arena.specs.Whole.{all_turns, all_meetings, AreIncludes, NamesOthers, first_docs, IsPackage}
 use Rattle.wit_arena.specs.Resolved.{WorldArenas, front_worlds, AddsInterfaces, AddsWorlds, AddsForeign, AreLegalScopes, AreLegalSides, AreUsableUses, AreUsableLinks, AreSoundScopes, IsBrokenItemStability, OwnStability, OfInclude, HaveLegalStability}
 use Rattle.wit_syntax.proofs.Lists.{at_within, flat_map_at, flat_map_has, map_at}
 use Rattle.wit_syntax.proofs.Turns.{at_part}
 use Rattle.wit_syntax.proofs.Setters.{among_alone}
-use Rattle.wit_syntax.specs.Sides.{Link, links, inline_items, with_inline, all_scopes}
+use Rattle.wit_syntax.specs.Sides.{Link, SideItem, SideLink, item_link, item_side, links, side_items, inline_items, with_inline, all_scopes}
+use Rattle.wit_syntax.specs.Crossing.{same_side}
+use Rattle.wit_syntax.proofs.Kept.{kept_at}
 use Rattle.wit_syntax.proofs.Sides.{links_none}
 use Rattle.wit_syntax.proofs.Inline.{inline_items_none, inline_interface}
-use Rattle.wit_syntax.proofs.Scopes.{scopes_either}
+use Rattle.wit_syntax.proofs.Scopes.{all_declared, first_named, scopes_either}
 use Rattle.wit_arena.proofs.Standing.{DoneScope}
 use Rattle.wit_arena.proofs.Front.{front_scopes}
 use Rattle.wit_syntax.proofs.Found.{at_contains, contains_at}
@@ -214,8 +216,20 @@ module _ (files : List PackageFile) (places : List ℕ) (order : IsOrder (item_r
   -- the paths of an item lead to interfaces where those by which worlds import and export do: an interface has none
   link_usable : AreUsableLinks files ws_items → (w : Item) → Contains (all_items files) w → (link : Link) → Contains (links w) link → is_world_at files (leads w.top link.path) ≡ Some false
   link_usable usable w among link linked = elim (cases_Bool (is_world w)) [
-    | inl world ↦ (let t = world_at files places order differ w world among in usable.usable t.0 w link t.1 linked)
+    | inl world ↦ (let t = world_at files places order differ w world among in (usable.each t.0 w t.1).usable link linked)
     | inr other ↦ absurd (let it = at_contains [] link (subst (λ (l : List Link). Contains l link) (links_none w other) linked) in let wrong = it.1 in let f : ⊥ = cc in f)
+  ]
+
+  -- none has two on a side that are one: an interface has none
+  links_apart : AreUsableLinks files ws_items → (w : Item) → Contains (all_items files) w → (f : Fault) → IsLinkedTwice files w f → ⊥
+  links_apart usable w among f h = elim (cases_Bool (is_world w)) [
+    | inl world ↦ (let t = world_at files places order differ w world among in (usable.each t.0 w t.1).apart f h)
+    | inr other ↦ absurd (
+        let p = kept_at (λ (x : SideItem). same_side h.0 (item_side x)) (side_items w) h.1 (SideLink h.3) h.5 in
+        let it = flat_map_has item_link (side_items w) p.0 0 (SideLink h.3) h.3 p.1 refl in
+        let wrong : slice_get [] it.0 ≡ Some h.3 = subst (λ (l : List Link). slice_get l it.0 ≡ Some h.3) (links_none w other) it.1 in
+        let g : ⊥ = cc in
+        g)
   ]
 
   -- scopes that are sound by themselves are legal: each name in a signature means something
@@ -240,8 +254,9 @@ module _ (files : List PackageFile) (places : List ℕ) (order : IsOrder (item_r
   files_legal scopes sides usable stability notes header last f (IncludeStability i among n included h) = stability_told stability i among f (OfInclude n included h)
   files_legal scopes sides usable stability notes header last f (Use i among h) = no_broken_use files i (λ u used. uses.usable i u among used) (λ link linked. link_usable usable i among link linked) f h
   files_legal scopes sides usable stability notes header last f (InterfaceIncluded i among path included other told) = includes_stated i among path included other
-  files_legal scopes sides usable stability notes header last f (MissingName i among from attributes n used target declared missing told) = names_stated files (decls files is_items ws_items) written scopes_done new ws_done.done i (item_done i among) from attributes n target used declared missing
-  files_legal scopes sides usable stability notes header last f (Handle i among h) = handles_stated files (decls files is_items ws_items) written scopes_done new ws_done.done i (item_done i among) f h
+  files_legal scopes sides usable stability notes header last f (MissingName i among from attributes n used target here first missing told) = names_stated files (decls files is_items ws_items) written scopes_done new ws_done.done i (item_done i among) from attributes n target used (ap (item_at (all_items files)) here ∙ first_named (all_items files) target (all_declared files) differ first) missing
+  files_legal scopes sides usable stability notes header last f (LinkedTwice i among h) = links_apart usable i among f h
+  files_legal scopes sides usable stability notes header last f (Handle i among names h) = handles_stated files (decls files is_items ws_items) written scopes_done new ws_done.done i (item_done i among) f h
   files_legal scopes sides usable stability notes header last f (Setter i among h) = setter_paired i among f h
   files_legal scopes sides usable stability notes header last f (Sides i among h) = (let t = scope_index i among in sides.legal t.0 i f t.1 h)
   files_legal scopes sides usable stability notes header last f (Scope i among h) = (let t = scope_index i among in scopes.legal t.0 i f t.1 h)

@@ -56,6 +56,10 @@ among_more known cs more among t c at =
     let it = among t c at in
     (it.0, ap (λ (l : List Cell). slice_get l it.0) (map-append cell_of cs more) ∙ at_front (map cell_of cs) (map cell_of more) it.0 c it.1)
 
+-- the names of an item are those of its address, and a name in one of its handles ends at no resource
+abbrev pub IsWronglyHandled : List PackageFile → Item → Fault → Type 0
+IsWronglyHandled files w f = (scope files (address w) ≡ scope_names w) × IsNoResource files (address w) (item_types w) f
+
 -- An item whose scope comes next, while others are being resolved
 module _ (files : List PackageFile) (declares : Decls) (written : List Meeting) (cs : List DoneScope) (gs : List DoneFunction) (es : List TypeDef) (d : IsDoing files declares written cs gs es) (w : Item) (o : TypeOwner) (fresh : (t : ℕ) (c : DoneScope) → slice_get cs t ≡ Some c → c.address ≡ address w → ⊥) (own : declares (address w) ≡ (scope files (address w), o)) (names_are : scope files (address w) ≡ scope_names w) where
   abbrev s : Address
@@ -113,15 +117,15 @@ module _ (files : List PackageFile) (declares : Decls) (written : List Meeting) 
           subst (λ (z : Address). IsDeclared files declares z) (sym same) (record { distinct = subst AreDistinct (sym names_are) h.distinct; whose = o; own = own }))
     ]
 
-    pub handle_wrong : IsNoResource files (address w) (item_types w) f
-    handle_wrong = defined_broken-more files declares d.met h.mid h.more s [] h.names some defined met_declared (item_types w) f h.wrong
+    pub handle_wrong : IsWronglyHandled files w f
+    handle_wrong = (names_are, defined_broken-more files declares d.met h.mid h.more s [] h.names some defined met_declared (item_types w) f h.wrong)
 
 module _ (files : List PackageFile) (is ws : List Item) (interfaces : AreOfSort false is) (worlds : AreOfSort true ws) (is_items : AreItems files is) (ws_items : AreItems files ws) (uses : AreUsableUses files (all_items files)) (es : List TypeDef) (front : List Interface) (wfront : List World) (foreign : AddsForeign files es front wfront) where
   abbrev fore : List Address
   fore = map visited (foreign_interfaces files)
 
   -- of an interface that comes next
-  pub interface_handle : (us : List Item) (old : List TypeDef) (xs : List Interface) (rs : List Required) (w : Item) → slice_get is (length us) ≡ Some w → (d : InterfacesDone files is ws front us old xs rs) → (f : Fault) → IsWrongHandleNow old (cells fore (front ++ xs)) (owner.Interface (length (front ++ xs))) w f → IsNoResource files (address w) (item_types w) f
+  pub interface_handle : (us : List Item) (old : List TypeDef) (xs : List Interface) (rs : List Required) (w : Item) → slice_get is (length us) ≡ Some w → (d : InterfacesDone files is ws front us old xs rs) → (f : Fault) → IsWrongHandleNow old (cells fore (front ++ xs)) (owner.Interface (length (front ++ xs))) w f → IsWronglyHandled files w f
   interface_handle us old xs rs w there d f h =
       let cs = front_scopes files front ++ d.scopes in
       let long : length us ≡ length d.ordered = sym (ap length d.all) ∙ length-map d.ordered item_of in
@@ -147,7 +151,7 @@ module _ (files : List PackageFile) (is ws : List Item) (interfaces : AreOfSort 
     known_before = among_more resolved (front_scopes files front ++ d.scopes) (flat_map scopes_of e.scopes) (cells_among files is ws interfaces worlds is_items ws_items uses es front wfront foreign xs d.scopes d.laid.types)
 
     -- of a world
-    pub world_handle : (f : Fault) → IsWrongHandleNow old resolved (owner.World (length a.worlds)) w f → IsNoResource files (address w) (item_types w) f
+    pub world_handle : (f : Fault) → IsWrongHandleNow old resolved (owner.World (length a.worlds)) w f → IsWronglyHandled files w f
     world_handle f h =
         let written = all_meetings files (all_turns d.ordered e.ordered) in
         let place : length e.own ≡ length us = e.laid.count ∙ length-map e.ordered own_order ∙ sym (length-map e.ordered own_item) ∙ ap length e.all in
@@ -185,7 +189,7 @@ module _ (files : List PackageFile) (is ws : List Item) (interfaces : AreOfSort 
           let less = early.1 in
           omega (arith, place, less)
 
-      pub inline_handle : (f : Fault) → IsWrongHandleNow mid resolved (owner.Interface (length (front ++ xs) + length now)) inner f → IsNoResource files (address inner) (item_types inner) f
+      pub inline_handle : (f : Fault) → IsWrongHandleNow mid resolved (owner.Interface (length (front ++ xs) + length now)) inner f → IsWronglyHandled files inner f
       inline_handle f h =
           let o = owner.Interface (length (front ++ xs) + length now) in
           let scopes = (before ++ own_scope ∷ []) ++ sided.scopes in

@@ -29,7 +29,7 @@ use Rattle.wit_syntax.specs.Signature.{IsUnpairedSetter}
 use Rattle.wit_tree.specs.declared.tree.WorldSide.TheVariants.{Imported, Exported}
 use Rattle.wit_arena.specs.Functions.{placed_functions}
 use Rattle.wit_arena.specs.SideItems.{AreSideItems, settled}
-use Rattle.wit_syntax.specs.Broken.{is_world_at, IsBrokenScope, IsBrokenUse, IsSetterAlone}
+use Rattle.wit_syntax.specs.Broken.{is_world_at, IsBrokenScope, IsBrokenUse, IsLinkedTwice, IsSetterAlone}
 use Rattle.wit_syntax.specs.Sides.{Link, links, SideItem, SideFunction, SideLink, SideInline, side_items, inline_items, IsBrokenSides}
 use Rattle.wit_arena.specs.Whole.{owner_at, taking_meeting, IsForeignInterface, type_imports, AreIncludes}
 use Rattle.wit_arena.specs.Resolving.{Names, env_of, Cell, cells, named, Defines, AddsFunctions, Required, IsWrongHandle, AreEnded, IsIndex, IsWorldIndex, IsLostInclude, IsLostLink, IsWrongScope}
@@ -157,9 +157,14 @@ pub record AreLegalSides (items : List Item) : Type 0 where
 pub record AreUsableUses (files : List PackageFile) (items : List Item) : Type 0 where
   pub usable : (item : Item) (u : Use) → Contains items item → Contains (uses item) u → is_world_at files (leads item.top u.from) ≡ Some false
 
--- the paths by which these items import and export interfaces lead to interfaces
+-- the paths by which an item imports and exports interfaces lead to interfaces, no two on a side without a name of their own to one
+pub record HasUsableLinks (files : List PackageFile) (item : Item) : Type 0 where
+  pub usable : (link : Link) → Contains (links item) link → is_world_at files (leads item.top link.path) ≡ Some false
+  pub apart : (f : Fault) → IsLinkedTwice files item f → ⊥
+
+-- so do those of each of these
 pub record AreUsableLinks (files : List PackageFile) (items : List Item) : Type 0 where
-  pub usable : (i : ℕ) (item : Item) (link : Link) → slice_get items i ≡ Some item → Contains (links item) link → is_world_at files (leads item.top link.path) ≡ Some false
+  pub each : (i : ℕ) (item : Item) → slice_get items i ≡ Some item → HasUsableLinks files item
 
 -- a name in a signature of a scope with these names and functions means nothing
 pub record IsNameless (xs : List ScopeName) (fns : List SourceFunction) : Type 0 where
@@ -245,6 +250,7 @@ pub data IsWrongWorld (files : List PackageFile) (old : List TypeDef) (cs : List
   WrongWorldScope : IsWrongScope cs by_name (scope_names item) (item_functions item) f → IsWrongWorld files old cs count inside by_name worlds_by_name o item f
   WrongWorldHandle : IsWrongHandleNow old cs o item f → IsWrongWorld files old cs count inside by_name worlds_by_name o item f
   WrongWorldSides : IsBrokenSides item f → IsWrongWorld files old cs count inside by_name worlds_by_name o item f
+  WrongLinks : IsLinkedTwice files item f → IsWrongWorld files old cs count inside by_name worlds_by_name o item f
   UnpairedOnSide : IsSetterAlone item f → IsWrongWorld files old cs count inside by_name worlds_by_name o item f
   WrongWorldUse : IsBrokenUse files item f → IsWrongWorld files old cs count inside by_name worlds_by_name o item f
   LostLink : IsLostLink files by_name item f → IsWrongWorld files old cs count inside by_name worlds_by_name o item f

@@ -8,6 +8,7 @@ use Rattle.wit_tree.specs.declared.tree.ExternKind.{ExternKind}
 use Rattle.wit_tree.specs.declared.tree.ExternKind.TheVariants as extern
 use Rattle.wit_tree.specs.declared.tree.PackageFile.{PackageFile}
 use Rattle.wit_tree.specs.declared.tree.Use.{Use}
+use Rattle.wit_tree.specs.declared.tree.WorldSide.{WorldSide}
 use Rattle.wit_types.specs.declared.types.TypeDef.{TypeDef}
 use Rattle.wit_types.specs.declared.types.TypeOwner.{TypeOwner}
 use Rattle.wit_model.specs.declared.interface.Interface.{Interface}
@@ -16,21 +17,23 @@ use Rattle.wit_syntax.specs.Broken.{is_world_at, MissingUse, WorldUsed}
 use Rattle.wit_syntax.specs.Crossing.{extern_paths, inline_uses}
 use Rattle.wit_syntax.specs.Fault.{Fault}
 use Rattle.wit_syntax.specs.Function.{SourceFunction}
+use Rattle.wit_syntax.specs.Repeats.{AllDiffer}
 use Rattle.wit_syntax.specs.Scope.{use_path, use_paths}
 use Rattle.wit_syntax.specs.Sides.{Link, SideItem, SideFunction, SideLink, extern_items, item_link, links, part_items, side_items, IsBrokenSides}
 use Rattle.wit_syntax.specs.Source.{Item, Part, TopName, Defining, Using, Including, Doing, Crossing, leads, parts}
 use Rattle.wit_syntax.proofs.Found.{at_contains, contains_at}
 use Rattle.wit_syntax.proofs.Lists.{at_back, at_either, flat_map_at, flat_map_has, map_at}
 use Rattle.wit_arena.specs.Resolving.{Cell, Names}
-use Rattle.wit_arena.specs.Resolved.{AreLegalSides, AreUsableLinks, IsWrongWorld, WrongWorldUse, LostLink}
-use Rattle.wit_externs.specs.Held.{externs_behind, extern_behind, link_behind}
-use Rattle.wit_externs.specs.Links.{AreRightLinks}
+use Rattle.wit_arena.specs.Resolved.{AreLegalSides, AreUsableLinks, HasUsableLinks, IsWrongWorld, WrongLinks, WrongWorldUse, LostLink}
+use Rattle.wit_externs.specs.Held.{externs_behind, extern_behind, held_on, link_behind}
+use Rattle.wit_externs.specs.Links.{bare_places, AreRightLinks, AreLinksPlaced}
 use Rattle.wit_externs.specs.declared.held.Led.{Led}
 use Rattle.wit_externs.specs.declared.held.Led.TheVariants as led
 use Rattle.wit_externs.specs.declared.held.HeldLink.{HeldLink}
 use Rattle.wit_externs.specs.declared.held.HeldExtern.{HeldExtern}
 use Rattle.wit_externs.specs.declared.held.HeldExtern.TheVariants as held
-use Rattle.wit_item_entries.specs.Body.{IsLinkLost, LostAtWorld, LostAtNothing}
+use Rattle.wit_item_entries.specs.Body.{IsWrongPath, LeadsToWorld, LeadsToNothing, LeadsAgain}
+use Rattle.wit_uses.proofs.Linked.{linked_twice, none_linked}
 use Rattle.wit_world_sides.specs.Links.{AreLed, IsLed, IsLostAt}
 
 -- a function among parts is no link
@@ -82,12 +85,12 @@ held_at i hs l same among =
     let k = at_contains hs (held.Link l) among in
     (k.0, ap (λ (xs : List SideItem). slice_get xs k.0) same ∙ slice_get-map extern_behind hs k.0 ∙ ap (option_map extern_behind) k.1)
 
--- a path that leads to no interface breaks a rule, or is lost
-pub lost_link : (files : List PackageFile) (front : List Address) (old : List TypeDef) (cs : List Cell) (count : ℕ) (inside : List Interface) (by_name worlds : Names) (o : TypeOwner) (i : Item) (hs : List HeldExtern) (f : Fault) → side_items i ≡ externs_behind hs → AreLed files front by_name i.top hs → IsLinkLost hs f → IsWrongWorld files old cs count inside by_name worlds o i f
-lost_link files front old cs count inside by_name worlds o i hs f same are (LostAtWorld l among lead is) =
+-- a path that leads to no interface, or to that of an earlier one, breaks a rule, or is lost
+pub wrong_path : (files : List PackageFile) (front interfaces : List Address) (old : List TypeDef) (cs : List Cell) (count : ℕ) (inside : List Interface) (by_name worlds : Names) (o : TypeOwner) (i : Item) (hs : List HeldExtern) (f : Fault) → side_items i ≡ externs_behind hs → AreLed files front by_name i.top hs → AreLinksPlaced interfaces i.top hs → IsWrongPath hs f → IsWrongWorld files old cs count inside by_name worlds o i f
+wrong_path files front interfaces old cs count inside by_name worlds o i hs f same are placed (LeadsToWorld l among lead is) =
     let at = held_at i hs l same among in
     WrongWorldUse (WorldUsed l.path.now (link_path i at.0 (link_behind l) at.1) (subst (λ (d : Led). IsLed files front by_name i.top l.path.now d) lead (are.each l among)) is)
-lost_link files front old cs count inside by_name worlds o i hs f same are (LostAtNothing l id among lead is) =
+wrong_path files front interfaces old cs count inside by_name worlds o i hs f same are placed (LeadsToNothing l id among lead is) =
     let at = held_at i hs l same among in
     let lost : IsLostAt files by_name i.top l.path.now id = subst (λ (d : Led). IsLed files front by_name i.top l.path.now d) lead (are.each l among) in
     elim lost.1 [
@@ -96,6 +99,7 @@ lost_link files front old cs count inside by_name worlds o i hs f same are (Lost
           let p = flat_map_has item_link (side_items i) at.0 0 (SideLink (link_behind l)) (link_behind l) at.1 refl in
           LostLink (record { link = link_behind l; id = id; among = contains_at (links i) p.0 (link_behind l) p.1; local = lost.0; usable = unresolved.0; lost = unresolved.1; is = is }))
     ]
+wrong_path files front interfaces old cs count inside by_name worlds o i hs f same are placed (LeadsAgain h) = WrongLinks (linked_twice files interfaces i hs same placed (λ l id among lead. (subst (λ (d : Led). IsLed files front by_name i.top l.path.now d) lead (are.each l among)).0) f h)
 
 -- a link of an item is one that is held
 link_held : (h : HeldExtern) (j : ℕ) (link : Link) → slice_get (item_link (extern_behind h)) j ≡ Some link → (l : HeldLink) × (h ≡ held.Link l) × (link_behind l ≡ link)
@@ -109,7 +113,7 @@ led_usable : (files : List PackageFile) (front : List Address) (by_name : Names)
 led_usable files front by_name top hs k l are right at = (subst (λ (d : Led). IsLed files front by_name top l.path.now d) (right.each k l at).leads (are.each l (contains_at hs k (held.Link l) at))).0
 
 -- where they are right, they lead to interfaces
-pub links_lead : (files : List PackageFile) (front : List Address) (by_name : Names) (i : Item) (hs : List HeldExtern) → side_items i ≡ externs_behind hs → AreLed files front by_name i.top hs → AreRightLinks hs → (link : Link) → Contains (links i) link → is_world_at files (leads i.top link.path) ≡ Some false
+links_lead : (files : List PackageFile) (front : List Address) (by_name : Names) (i : Item) (hs : List HeldExtern) → side_items i ≡ externs_behind hs → AreLed files front by_name i.top hs → AreRightLinks hs → (link : Link) → Contains (links i) link → is_world_at files (leads i.top link.path) ≡ Some false
 links_lead files front by_name i hs same are right link among =
     let k = at_contains (links i) link among in
     let p = flat_map_at item_link (side_items i) k.0 link k.1 in
@@ -117,6 +121,13 @@ links_lead files front by_name i hs same are right link among =
     let l = link_held h.0 p.3.0 link (ap (λ (x : SideItem). slice_get (item_link x) p.3.0) h.2 ∙ p.3.1) in
     let at : slice_get hs p.0 ≡ Some (held.Link l.0) = h.1 ∙ ap Some l.1 in
     subst (λ (m : Link). is_world_at files (leads i.top m.path) ≡ Some false) l.2 (led_usable files front by_name i.top hs p.0 l.0 are right at)
+
+-- and where their places differ on each side, no two lead to one
+pub links_usable : (files : List PackageFile) (front interfaces : List Address) (by_name : Names) (i : Item) (hs : List HeldExtern) → side_items i ≡ externs_behind hs → AreLed files front by_name i.top hs → AreLinksPlaced interfaces i.top hs → AreRightLinks hs → ((side : WorldSide) → AllDiffer (bare_places (held_on side hs))) → HasUsableLinks files i
+links_usable files front interfaces by_name i hs same are placed right apart = record {
+  usable = links_lead files front by_name i hs same are right;
+  apart = none_linked files interfaces i hs same placed right apart;
+}
 
 -- one world more
 pub sides_more : (ws : List Item) (w : Item) → AreLegalSides ws → ((f : Fault) → IsBrokenSides w f → ⊥) → AreLegalSides (ws ++ w ∷ [])
@@ -127,10 +138,10 @@ sides_more ws w legal one = record {
   ];
 }
 
-pub links_more : (files : List PackageFile) (ws : List Item) (w : Item) → AreUsableLinks files ws → ((link : Link) → Contains (links w) link → is_world_at files (leads w.top link.path) ≡ Some false) → AreUsableLinks files (ws ++ w ∷ [])
+pub links_more : (files : List PackageFile) (ws : List Item) (w : Item) → AreUsableLinks files ws → HasUsableLinks files w → AreUsableLinks files (ws ++ w ∷ [])
 links_more files ws w usable one = record {
-  usable = λ i v link at among. elim (at_either ws w i v at) [
-    | inl old ↦ usable.usable i v link old among
-    | inr new ↦ subst (λ (x : Item). is_world_at files (leads x.top link.path) ≡ Some false) (sym new.1) (one link (subst (λ (x : Item). Contains (links x) link) new.1 among))
+  each = λ i v at. elim (at_either ws w i v at) [
+    | inl old ↦ usable.each i v old
+    | inr new ↦ subst (HasUsableLinks files) (sym new.1) one
   ];
 }

@@ -1,18 +1,18 @@
 //! Declared worlds.
-ghost use Rattle.std.specs.Prelude.{◌≡◌, ◌<◌, ◌≤◌, ◌+◌, ◌++◌, ◌∷◌, [], List, All, Contains, Some, false, true, length, IfOk, IfErr, OnOk, map};
+ghost use Rattle.std.specs.Prelude.{◌≡◌, ◌<◌, ◌≤◌, ◌+◌, ◌++◌, ◌∷◌, [], List, All, true, length, IfOk, IfErr, OnOk, map};
 ghost use Rattle.wit_type_tree.specs.Refusal.{IsWantOfMemory};
 ghost use Rattle.wit_syntax.specs.Address.{Address};
-ghost use Rattle.wit_syntax.specs.Source.{address, is_world, leads, scope_names as the_names, about, declared_notes};
+ghost use Rattle.wit_syntax.specs.Source.{address, is_world, scope_names as the_names, about, declared_notes};
 ghost use Rattle.wit_syntax.specs.Function.{SourceFunction};
 ghost use Rattle.wit_syntax.specs.Notes.{IsBrokenStability};
 ghost use Rattle.wit_syntax.specs.Scope.{in_order, part_includes, worlds_of};
 ghost use Rattle.wit_syntax.specs.Fault.{Fault};
-ghost use Rattle.wit_syntax.specs.Sides.{Link, links, inline_items, with_inline};
-ghost use Rattle.wit_syntax.specs.Broken.{is_world_at, IsBrokenScope, Refused};
+ghost use Rattle.wit_syntax.specs.Sides.{inline_items, with_inline};
+ghost use Rattle.wit_syntax.specs.Broken.{IsBrokenScope, Refused};
 ghost use Rattle.wit_types.specs.declared.types.TypeDef.{TypeDef as TheType};
 ghost use Rattle.wit_types.specs.declared.types.TypeOwner.TheVariants.{World as WorldOwner};
 ghost use Rattle.wit_arena.specs.Resolving.{IsIndex, IsWorldIndex, names_in};
-ghost use Rattle.wit_arena.specs.Resolved.{worlds_at, AddsWorld, AddsWorlds, AreLegalSides, AreSoundScopes, AreUsableLinks, IsBrokenItemStability, HaveLegalStability, IsWrongWorld, front_worlds};
+ghost use Rattle.wit_arena.specs.Resolved.{worlds_at, AddsWorld, AddsWorlds, AreLegalSides, AreSoundScopes, AreUsableLinks, HasUsableLinks, IsBrokenItemStability, HaveLegalStability, IsWrongWorld, front_worlds};
 ghost use Rattle.wit_items.specs.declared.notes.ItemNotes.{ItemNotes as TheNotes};
 ghost use Rattle.wit_item_names.specs.Items.{AreEntriesOf};
 ghost use Rattle.wit_items.specs.Items.{declared_behind, item_behind, names_behind, IsFiled, AreFiled, others_of};
@@ -159,7 +159,7 @@ fn world_content<'f, 'a>(
     ensures stable { OnOk result (AreStable (flat_map part_includes (about (declared_behind item.now.declared)).parts)) }
     ensures sound { OnOk result (((fns : List SourceFunction) (f : Fault) → IsBrokenScope (the_names (item_behind item.now)) fns f → IsOfFunctions (the_names (item_behind item.now)) fns f) → AreSoundScopes (with_inline (item_behind item.now))) }
     ensures sided { OnOk result (AreLegalSides (with_inline (item_behind item.now))) }
-    ensures linked { OnOk result ((link : Link) → Contains (links (item_behind item.now)) link → is_world_at files.now (leads (item_behind item.now).top link.path) ≡ Some false) }
+    ensures linked { OnOk result (HasUsableLinks files.now (item_behind item.now)) }
     ensures refused { IfErr result (λ e. (before : List TheType) → AddsTurn before types.old (cells_of interfaces.now) (WorldOwner (length worlds.now.arena)) (the_names (item_behind item.now)) names.old.types names.old.turn.items names.old.required.items → Refused (IsWrongWorld files.now before (cells_of interfaces.now) (length interfaces.now.arena) inside.old interfaces.now.by_name worlds.now.by_name (WorldOwner (length worlds.now.arena)) (item_behind item.now)) e) }
 {
     let includes = declared_includes(alloc, &item.declared, files, worlds, item.place)?;
@@ -212,7 +212,7 @@ fn world_parts<'f, 'a>(
     ensures stable { OnOk result ((f : Fault) → IsBrokenItemStability (item_behind item.now) f → ⊥) }
     ensures sound { OnOk result (AreSoundScopes (with_inline (item_behind item.now))) }
     ensures sided { OnOk result (AreLegalSides (with_inline (item_behind item.now))) }
-    ensures linked { OnOk result ((link : Link) → Contains (links (item_behind item.now)) link → is_world_at files.now (leads (item_behind item.now).top link.path) ≡ Some false) }
+    ensures linked { OnOk result (HasUsableLinks files.now (item_behind item.now)) }
     ensures refused { IfErr result (Refused (IsWrongWorld files.now types.old (cells_of interfaces.now) (length interfaces.now.arena) inside.old interfaces.now.by_name worlds.now.by_name (WorldOwner (length worlds.now.arena)) (item_behind item.now))) }
 {
     let owner = TypeOwner::World(worlds.arena.next_id());
@@ -259,7 +259,7 @@ fn resolve_world<'f, 'a>(
     ensures stable { OnOk result ((f : Fault) → IsBrokenItemStability (item_behind item.now) f → ⊥) }
     ensures sound { OnOk result (AreSoundScopes (with_inline (item_behind item.now))) }
     ensures sided { OnOk result (AreLegalSides (with_inline (item_behind item.now))) }
-    ensures linked { OnOk result ((link : Link) → Contains (links (item_behind item.now)) link → is_world_at files.now (leads (item_behind item.now).top link.path) ≡ Some false) }
+    ensures linked { OnOk result (HasUsableLinks files.now (item_behind item.now)) }
     ensures refused { IfErr result (Refused (IsWrongWorld files.now types.old (cells_of interfaces.now) (length interfaces.now.arena) inside.old interfaces.now.by_name worlds.old.by_name (WorldOwner (length worlds.old.arena)) (item_behind item.now))) }
 {
     let parts = world_parts(alloc, item, types, files, interfaces, inside, worlds)?;

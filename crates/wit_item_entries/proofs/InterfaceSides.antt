@@ -10,9 +10,8 @@ use Rattle.wit_syntax.specs.Fault.{Fault}
 use Rattle.wit_syntax.specs.Source.{Declared, TheInterface, TheWorld, TheInline, Item, ScopeName, is_world, scope_names, about}
 use Rattle.wit_syntax.specs.Notes.{IsBrokenNotes}
 use Rattle.wit_syntax.specs.Function.{SourceFunction, functions, part_functions}
-use Rattle.wit_syntax.specs.Sides.{Link, SideItem, SideFunction, SideLink, item_side, items_on, on_side, role_side, side_items, IsLinkedTwice, IsBrokenSides, FoldedTwice, CrossedTwice, LinkedTwice, InterfaceNotes, interface_attributes}
+use Rattle.wit_syntax.specs.Sides.{SideItem, SideFunction, items_on, on_side, role_side, side_items, IsBrokenSides, FoldedTwice, CrossedTwice, InterfaceNotes, interface_attributes}
 use Rattle.wit_syntax.proofs.Found.{at_contains}
-use Rattle.wit_syntax.proofs.Kept.{kept_at}
 use Rattle.wit_syntax.proofs.Legal.{no_fold, no_crossed}
 use Rattle.wit_syntax.proofs.Lists.{map_at}
 use Rattle.wit_syntax.proofs.Sides.{interface_imported, side_items_functions}
@@ -43,15 +42,7 @@ declared_interface item d names own sort = ap (λ (x : Declared). (about x).is_w
 pub declared_functions : (item : Item) (d : Declared) (names : List HeldName) (all ws : List HeldFunction) → IsHeldBy item d names → ws ≡ all → map function_behind all ≡ flat_map part_functions (about d).parts → map function_behind ws ≡ functions item
 declared_functions item d names all ws own same are = ap (map function_behind) same ∙ are ∙ ap (λ (x : Declared). flat_map part_functions (about x).parts) (sym own.declared)
 
--- among functions there is no path of an interface
-no_path : (fns : List SourceFunction) (k : ℕ) (link : Link) → slice_get (map SideFunction fns) k ≡ Some (SideLink link) → ⊥
-no_path fns k link at =
-    let it = map_at SideFunction fns k (SideLink link) at in
-    let wrong : SideFunction it.0 ≡ SideLink link = it.2 in
-    let f : ⊥ = cc in
-    f
-
--- and none has the attributes of an interface
+-- no function has the attributes of an interface
 none_noted : (fns : List SourceFunction) (x : SideItem) → Contains (map SideFunction fns) x → (f : Fault) → IsBrokenNotes (interface_attributes x) f → ⊥
 none_noted fns x among f h =
     let it = at_contains (map SideFunction fns) x among in
@@ -74,11 +65,6 @@ module _ (item : Item) (sort : is_world item ≡ false) where
   pub names_imported : (ids : List Id) → all_on Imported ids (map SideFunction (functions item)) ≡ map name_of_id ids ++ map name_of_function (functions item)
   names_imported ids = ap (λ (l : List Name). map name_of_id ids ++ l) (names_functions (functions item) ∙ ap (map name_of_function) (all_imported item sort))
 
-  not_linked : (f : Fault) → IsLinkedTwice item.top (side_items item) f → ⊥
-  not_linked f h =
-      let it = kept_at (λ (x : SideItem). same_side h.0 (item_side x)) (side_items item) h.1 (SideLink h.3) h.5 in
-      no_path (functions item) it.0 h.3 (ap (λ (l : List SideItem). slice_get l it.0) (sym (side_items_functions item sort)) ∙ it.1)
-
   -- where what is taken on each side differs, nothing is wrong with the sides
   pub sides_sound : (ids : List Id) → IsTurn (scope_names item) ids → DifferOnSides ids (side_items item) → (f : Fault) → IsBrokenSides item f → ⊥
   sides_sound ids t differ f broken = by broken
@@ -89,5 +75,4 @@ module _ (item : Item) (sort : is_world item ≡ false) where
       by : IsBrokenSides item f → ⊥
       by (FoldedTwice h) = no_fold xs (side_items item) t.order f t.least (λ side. differ_called side xs (side_items item) t.order ids t.are (differ side)) h
       by (CrossedTwice h) = no_crossed xs (side_items item) t.order f t.least (λ side. differ_called side xs (side_items item) t.order ids t.are (differ side)) h
-      by (LinkedTwice h) = not_linked f h
       by (InterfaceNotes x among h) = none_noted (functions item) x (subst (λ (l : List SideItem). Contains l x) (side_items_functions item sort) among) f h

@@ -33,7 +33,7 @@ use Rattle.wit_rules.specs.Signatures.{IsWrongFunctionAmong}
 use Rattle.wit_signatures.specs.Taken.{name_of_function, name_of_id, name_of_made, name_key}
 use Rattle.wit_externs.specs.Held.{externs_behind}
 use Rattle.wit_externs.specs.Clash.{DifferOnSides, all_on}
-use Rattle.wit_externs.specs.Links.{AreLinksPlaced, IsWrongLink, WrongNotes as NotedWrong, AtWorld, AtNothing, IsWrongAmong, Clashes, LinkedAgain, WrongLink, WrongInside}
+use Rattle.wit_externs.specs.Links.{IsWrongLink, WrongNotes as NotedWrong, AtWorld, AtNothing, IsWrongAmong, Clashes, LinkedAgain, WrongLink, WrongInside}
 use Rattle.wit_externs.specs.declared.held.HeldLink.{HeldLink}
 use Rattle.wit_externs.specs.declared.held.HeldExtern.{HeldExtern}
 use Rattle.wit_externs.specs.declared.held.HeldExtern.TheVariants as held
@@ -43,11 +43,11 @@ use Rattle.wit_item_entries.specs.Between.{AddsTurn}
 use Rattle.wit_uses.specs.Behind.{IsTurn}
 use Rattle.wit_item_entries.specs.Behind.{IsWrongFunctions, BrokenFunction, BrokenNames, CrossedNames, HandleOfOther}
 use Rattle.wit_uses.specs.Body.{IsStandingBy}
-use Rattle.wit_item_entries.specs.Body.{AddsBody, IsWrongBody, WrongNames, WrongHandles, WrongSides, IsLinkLost, LostAtWorld, LostAtNothing}
+use Rattle.wit_item_entries.specs.Body.{AddsBody, IsWrongBody, WrongNames, WrongHandles, WrongSides, IsWrongPath, LeadsToWorld, LeadsToNothing, LeadsAgain}
 use Rattle.wit_item_entries.proofs.Handled.{handle_wider}
 use Rattle.wit_uses.proofs.Behind.{differ_called}
 use Rattle.wit_item_entries.proofs.Behind.{clash_broken, function_handle, turn_texts}
-use Rattle.wit_uses.proofs.ItemSides.{wrong_folded, wrong_crossed, wrong_linked, wrong_noted, wrong_inside}
+use Rattle.wit_uses.proofs.ItemSides.{wrong_folded, wrong_crossed, wrong_noted, wrong_inside}
 
 -- the names of a scope that was added, in turn
 pub turn_added : (old mid : List TypeDef) (cs : List Cell) (o : TypeOwner) (xs : List ScopeName) (types : Names) (ids : List Id) (rs : List Required) → AddsTurn old mid cs o xs types ids rs → IsTurn xs ids
@@ -129,21 +129,21 @@ wrong_function old mid new cs by_name o item types ids required f n g h = elim h
   | inr handle ↦ WrongHandles (wrong_handle_behind old mid new cs o item types ids required f n g (function_handle (env_of types) new (functions item) h.place h.fn f h.at handle))
 ]
 
--- what is wrong with a link by itself is wrong with the item, or its path leads to no interface
-wrong_link : (old : List TypeDef) (cs : List Cell) (by_name : Names) (o : TypeOwner) (item : Item) (names : List HeldName) (hs : List HeldExtern) (l : HeldLink) (f : Fault) → IsStandingBy item names hs → Contains hs (held.Link l) → IsWrongLink l f → IsWrongBody old cs by_name o item f ⊎ IsLinkLost hs f
+-- what is wrong with a link by itself is wrong with the item, or with its path
+wrong_link : (old : List TypeDef) (cs : List Cell) (by_name : Names) (o : TypeOwner) (item : Item) (names : List HeldName) (hs : List HeldExtern) (l : HeldLink) (f : Fault) → IsStandingBy item names hs → Contains hs (held.Link l) → IsWrongLink l f → IsWrongBody old cs by_name o item f ⊎ IsWrongPath hs f
 wrong_link old cs by_name o item names hs l f own among (NotedWrong h) = inl (WrongSides (wrong_noted item names hs l f own among h))
-wrong_link old cs by_name o item names hs l f own among (AtWorld leads is) = inr (LostAtWorld l among leads is)
-wrong_link old cs by_name o item names hs l f own among (AtNothing id leads is) = inr (LostAtNothing l id among leads is)
+wrong_link old cs by_name o item names hs l f own among (AtWorld leads is) = inr (LeadsToWorld l among leads is)
+wrong_link old cs by_name o item names hs l f own among (AtNothing id leads is) = inr (LeadsToNothing l id among leads is)
 
--- what is wrong with what an item has on its sides is wrong with it, but for a path that leads to no interface
-pub wrong_among : (old : List TypeDef) (cs : List Cell) (by_name : Names) (o : TypeOwner) (item : Item) (names : List HeldName) (hs : List HeldExtern) (interfaces : List Address) (ids : List Id) (before : WorldSide → List Name) (f : Fault) → IsStandingBy item names hs → AreLinksPlaced interfaces item.top hs → IsTurn (scope_names item) ids → ((side : WorldSide) → before side ≡ names_on side (map name_of_id ids)) → IsWrongAmong before hs f → IsWrongBody old cs by_name o item f ⊎ IsLinkLost hs f
-wrong_among old cs by_name o item names hs interfaces ids before f own placed t are (Clashes h) = elim (clash_broken (scope_names item) (externs_behind hs) ids before f t are h) [
+-- what is wrong with what an item has on its sides is wrong with it, or with a path of a link
+pub wrong_among : (old : List TypeDef) (cs : List Cell) (by_name : Names) (o : TypeOwner) (item : Item) (names : List HeldName) (hs : List HeldExtern) (ids : List Id) (before : WorldSide → List Name) (f : Fault) → IsStandingBy item names hs → IsTurn (scope_names item) ids → ((side : WorldSide) → before side ≡ names_on side (map name_of_id ids)) → IsWrongAmong before hs f → IsWrongBody old cs by_name o item f ⊎ IsWrongPath hs f
+wrong_among old cs by_name o item names hs ids before f own t are (Clashes h) = elim (clash_broken (scope_names item) (externs_behind hs) ids before f t are h) [
   | inl folded ↦ inl (WrongSides (wrong_folded item names hs f own folded))
   | inr crossed ↦ inl (WrongSides (wrong_crossed item names hs f own crossed))
 ]
-wrong_among old cs by_name o item names hs interfaces ids before f own placed t are (LinkedAgain h) = inl (WrongSides (wrong_linked item names hs interfaces f own placed h))
-wrong_among old cs by_name o item names hs interfaces ids before f own placed t are (WrongLink l among h) = wrong_link old cs by_name o item names hs l f own among h
-wrong_among old cs by_name o item names hs interfaces ids before f own placed t are (WrongInside i among h) = inl (WrongSides (wrong_inside item names hs i f own among h))
+wrong_among old cs by_name o item names hs ids before f own t are (LinkedAgain h) = inr (LeadsAgain h)
+wrong_among old cs by_name o item names hs ids before f own t are (WrongLink l among h) = wrong_link old cs by_name o item names hs l f own among h
+wrong_among old cs by_name o item names hs ids before f own t are (WrongInside i among h) = inl (WrongSides (wrong_inside item names hs i f own among h))
 
 -- the names of functions that stand where imports do differ where nothing else stands there, and the keys of what is taken do
 pub made_differ : (old new : List TypeDef) (cs : List Cell) (o : TypeOwner) (item : Item) (types : Names) (ids : List Id) (fs : List Function) (rs : List Required) → on_side Imported (functions item) ≡ functions item → side_items item ≡ map SideFunction (functions item) → AddsBody old new cs o item types ids fs rs → AllDiffer (map made_name fs)

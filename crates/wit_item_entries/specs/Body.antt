@@ -14,6 +14,7 @@ use Rattle.wit_arena.specs.Resolving.{Names, Cell, Required, IsWrongScope}
 use Rattle.wit_arena.specs.Resolved.{AddsScope, AddsBehind, IsWrongHandleNow}
 use Rattle.wit_signatures.specs.Taken.{name_of_function, name_of_made}
 use Rattle.wit_externs.specs.Clash.{DifferOnSides}
+use Rattle.wit_externs.specs.Links.{IsLinkedAgain}
 use Rattle.wit_externs.specs.declared.held.Led.TheVariants as led
 use Rattle.wit_externs.specs.declared.held.HeldLink.{HeldLink}
 use Rattle.wit_externs.specs.declared.held.HeldExtern.{HeldExtern}
@@ -41,7 +42,8 @@ pub data IsWrongBody (old : List TypeDef) (cs : List Cell) (by_name : Names) (o 
   WrongHandles : IsWrongHandleNow old cs o item f → IsWrongBody old cs by_name o item f
   WrongSides : IsBrokenSides item f → IsWrongBody old cs by_name o item f
 
--- the path of one of these links leads to a world, or to nothing
-pub data IsLinkLost (hs : List HeldExtern) (f : Fault) : Type 0 where
-  LostAtWorld : (l : HeldLink) → Contains hs (held.Link l) → l.led ≡ led.World → f ≡ fault 10 (path_id l.path.now).span → IsLinkLost hs f
-  LostAtNothing : (l : HeldLink) (id : Id) → Contains hs (held.Link l) → l.led ≡ led.Nothing id → f ≡ missing_at 7 item_word id → IsLinkLost hs f
+-- the path of one of these links leads to a world, to nothing, or where that of an earlier one does
+pub data IsWrongPath (hs : List HeldExtern) (f : Fault) : Type 0 where
+  LeadsToWorld : (l : HeldLink) → Contains hs (held.Link l) → l.led ≡ led.World → f ≡ fault 10 (path_id l.path.now).span → IsWrongPath hs f
+  LeadsToNothing : (l : HeldLink) (id : Id) → Contains hs (held.Link l) → l.led ≡ led.Nothing id → f ≡ missing_at 7 item_word id → IsWrongPath hs f
+  LeadsAgain : IsLinkedAgain hs f → IsWrongPath hs f

@@ -1,6 +1,7 @@
 -- A file breaks no rule where a path has the name of its own package: that the path leads to an item of another package, and not to the interface around it.
 use Rattle.std.proofs.Common.{◌≡◌, ℕ, zero, suc, List, [], ◌∷◌, map, Some, inl, sym, ap, ◌∙◌, subst}
 use Rattle.std.specs.Prelude.{codes, slice_get, Contains}
+use Rattle.std.specs.Str.{bytes_eq}
 use Rattle.std.specs.declared.alloc.Global.{Global}
 use denote.RawPtr.{Ptr}
 use Rattle.wit_tree.specs.declared.tree.AstItem.TheVariants as ast
@@ -11,7 +12,7 @@ use Rattle.wit_tree.specs.declared.tree.UsePath.{UsePath}
 use Rattle.wit_tree.specs.declared.tree.WorldSide.{WorldSide}
 use Rattle.wit_tree.specs.declared.tree.WorldSide.TheVariants.{Imported, Exported}
 use Rattle.wit_syntax.specs.Address.{Address}
-use Rattle.wit_syntax.specs.Broken.{DuplicateItem, DuplicateTopName, MissingItem, CyclicItem, IsBrokenNames, Items, ForeignStability, is_world_at, IsBrokenUse, MissingUse, WorldUsed, IsBrokenScope, DefinedTwice, MissingType, CyclicType, Notes, Body, Function, Headerless, Names, ItemStability, UseNotes, IncludeStability, Use, InterfaceIncluded, MissingName, Scope, Sides, Handle, Setter, IsLegal, TopUse, AttributedUse, LostUse}
+use Rattle.wit_syntax.specs.Broken.{DuplicateItem, DuplicateTopName, MissingItem, CyclicItem, IsBrokenNames, Items, ForeignStability, is_world_at, IsBrokenUse, MissingUse, WorldUsed, IsBrokenScope, DefinedTwice, MissingType, CyclicType, Notes, Body, Function, Headerless, Names, ItemStability, UseNotes, IncludeStability, Use, InterfaceIncluded, MissingName, LinkedTwice, IsLinkedTwice, Scope, Sides, Handle, Setter, IsLegal, TopUse, AttributedUse, LostUse}
 use Rattle.wit_syntax.specs.Fault.{Fault, missing_at, missing_type_at, item_word, type_word}
 use Rattle.wit_syntax.specs.Foreign.{ForeignVisit}
 use Rattle.wit_syntax.specs.Function.{functions, item_types}
@@ -19,9 +20,9 @@ use Rattle.wit_syntax.specs.Notes.{IsBrokenStability, IsBrokenNotes}
 use Rattle.wit_syntax.specs.Repeats.{AllDiffer}
 use Rattle.wit_syntax.specs.Scope.{include_paths, includes, item_rows, rows_of, uses}
 use Rattle.wit_syntax.specs.Shape.{all_handles}
-use Rattle.wit_syntax.specs.Sides.{all_scopes, on_side, side_items, IsBrokenSides, FoldedTwice, CrossedTwice, LinkedTwice, side_called, items_on, InterfaceNotes}
-use Rattle.wit_syntax.specs.Source.{Item, ScopeName, Used, Defined, Taken, leads, all_items, item_at, item_name, local_name, scope_names, top_names, top_text, about}
-use Rattle.wit_syntax.proofs.Found.{at_contains}
+use Rattle.wit_syntax.specs.Sides.{all_scopes, on_side, side_items, IsBrokenSides, FoldedTwice, CrossedTwice, side_called, items_on, InterfaceNotes}
+use Rattle.wit_syntax.specs.Source.{Item, ScopeName, Used, Defined, Taken, leads, address, all_items, item_name, local_name, scope_names, top_names, top_text, about}
+use Rattle.wit_syntax.proofs.Found.{at_contains, find_among}
 use Rattle.wit_syntax.proofs.Legal.{no_missing_edge, no_cyclic_edge, no_fold, no_crossed}
 use Rattle.wit_syntax.proofs.Repeated.{differ_none, no_repeat, called_key}
 use Rattle.wit_meaning_examples.proofs.SideExamples.{none_among, one_differs}
@@ -94,12 +95,12 @@ module _ (ptr : Ptr) (alloc : Global) where
       f
 
   -- its only name is used from there
-  from_other : (from : Address) (attributes : _) (n : _) → Contains names (Used from attributes n) → (target : Item) → item_at (all_items files) from ≡ Some target → ⊥
-  from_other from attributes n among target declared =
+  from_other : (from : Address) (attributes : _) (n : _) → Contains names (Used from attributes n) → (target : Item) → from ≡ address target → Contains (all_items files) target → ⊥
+  from_other from attributes n among target own stands =
       let same = one_among (Used (other ptr alloc) [] (t_used ptr alloc)) (Used from attributes n) among in
       let one : other ptr alloc ∷ [] ≡ from ∷ [] = ap from_of same in
       let here : other ptr alloc ≡ from = cc in
-      let there = ap (item_at (all_items files)) here ∙ declared in
+      let there : other ptr alloc ≡ address item = here ∙ own ∙ ap address (sym (one_item target stands)) in
       let f : ⊥ = cc in
       f
 
@@ -125,8 +126,13 @@ module _ (ptr : Ptr) (alloc : Global) where
   sides_pass : (f : Fault) → IsBrokenSides item f → ⊥
   sides_pass f (FoldedTwice h) = no_fold names (side_items item) (0 ∷ []) f (one_order (codes "t")) keys h
   sides_pass f (CrossedTwice h) = no_crossed names (side_items item) (0 ∷ []) f (one_order (codes "t")) keys h
-  sides_pass f (LinkedTwice h) = let there = h.5 in let f : ⊥ = cc in f
   sides_pass f (InterfaceNotes x among h) = none_among x among
+
+  not_linked : (i : Item) → item ≡ i → (f : Fault) → IsLinkedTwice files i f → ⊥
+  not_linked i same f h = by (subst (λ (x : Item). IsLinkedTwice files x f) (sym same) h)
+    where
+      by : IsLinkedTwice files item f → ⊥
+      by h = let there = h.5 in let f : ⊥ = cc in f
 
   one_scope : (i : Item) → Contains (all_scopes files) i → item ≡ i
   one_scope i among = one_among item i among
@@ -141,8 +147,9 @@ module _ (ptr : Ptr) (alloc : Global) where
   legal f (IncludeStability i among n included h) = none_among n (subst (λ (x : Item). Contains (includes x) n) (sym (one_item i among)) included)
   legal f (Use i among h) = use_passes f (subst (λ (x : Item). IsBrokenUse files x f) (sym (one_item i among)) h)
   legal f (InterfaceIncluded i among path included leads_there told) = none_among path (subst (λ (x : Item). Contains (include_paths x) path) (sym (one_item i among)) included)
-  legal f (MissingName i among from attributes n used target declared missing told) = from_other from attributes n (subst (λ (x : Item). Contains (scope_names x) (Used from attributes n)) (sym (one_scope i among)) used) target declared
+  legal f (MissingName i among from attributes n used target own first missing told) = from_other from attributes n (subst (λ (x : Item). Contains (scope_names x) (Used from attributes n)) (sym (one_scope i among)) used) target own (find_among (λ (x : Item). bytes_eq (item_name x) (item_name target)) (all_items files) target first)
   legal f (Scope i among h) = scope_passes f (subst (λ (x : Item). IsBrokenScope (scope_names x) (functions x) f) (sym (one_scope i among)) h)
   legal f (Sides i among h) = sides_pass f (subst (λ (x : Item). IsBrokenSides x f) (sym (one_scope i among)) h)
-  legal f (Handle i among h) = none_among h.0 (subst (λ (x : Item). Contains (all_handles (item_types x)) h.0) (sym (one_scope i among)) h.1)
+  legal f (LinkedTwice i among h) = not_linked i (one_item i among) f h
+  legal f (Handle i among here h) = none_among h.0 (subst (λ (x : Item). Contains (all_handles (item_types x)) h.0) (sym (one_scope i among)) h.1)
   legal f (Setter i among h) = none_among h.2.0 (subst (λ (x : Item). Contains (on_side h.1 (functions x)) h.2.0) (sym (one_scope i among)) h.2.1)

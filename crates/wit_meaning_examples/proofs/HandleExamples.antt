@@ -243,4 +243,4 @@ module _ (ptr : Ptr) (alloc : Global) where
     lent_ends = (2, refl)
 
     lent_refused : IsBroken (file_of lender ∷ []) (fault 27 (at 62 63))
-    lent_refused = Handle (item_of lender) (0, lit< tt, refl) (t_id (at 62 63), (0, lit< tt, refl), lent_ends, refl)
+    lent_refused = Handle (item_of lender) (0, lit< tt, refl) refl (t_id (at 62 63), (0, lit< tt, refl), lent_ends, refl)

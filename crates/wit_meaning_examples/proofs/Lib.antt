@@ -17,3 +17,4 @@ pub mod AcceptedExamples
 pub mod UsualExamples
 pub mod WholeWorldExamples
 pub mod SplitExamples
+pub mod FirstNamedExamples

@@ -24,8 +24,8 @@ use Rattle.wit_syntax.specs.Fault.{Fault, fault}
 use Rattle.wit_syntax.specs.Notes.{IsBrokenNotes}
 use Rattle.wit_syntax.specs.Repeats.{AllDiffer}
 use Rattle.wit_syntax.specs.Source.{top_names, TheWorld, Item, path_scope}
-use Rattle.wit_syntax.specs.Sides.{SideItem, SideLink, Link, side_items, items_on, side_called, IsBrokenSides, FoldedTwice, CrossedTwice, LinkedTwice, InterfaceNotes, interface_attributes}
-use Rattle.wit_syntax.specs.Broken.{IsBroken, Sides}
+use Rattle.wit_syntax.specs.Sides.{SideItem, SideLink, Link, side_items, items_on, side_called, IsBrokenSides, FoldedTwice, CrossedTwice, InterfaceNotes, interface_attributes}
+use Rattle.wit_syntax.specs.Broken.{IsBroken, IsLinkedTwice, LinkedTwice}
 use Rattle.wit_syntax.proofs.Found.{at_contains}
 use Rattle.wit_syntax.proofs.Legal.{no_fold, no_crossed}
 use Rattle.wit_syntax.proofs.Repeated.{differ_none, called_key}
@@ -91,7 +91,7 @@ module _ (ptr : Ptr) (alloc : Global) where
 
     -- so it is imported twice
     twice_refused : IsBroken (file ∷ []) (fault 43 (at 71 72))
-    twice_refused = Sides item (1, lit< tt, refl) (LinkedTwice (Imported, 1, link Imported None (i_at (at 61 62)), link Imported None (j_at (at 71 72)), (0, lit< tt, refl), refl, refl, refl, refl, refl))
+    twice_refused = LinkedTwice item (1, lit< tt, refl) (Imported, 1, link Imported None (i_at (at 61 62)), link Imported None (j_at (at 71 72)), (0, lit< tt, refl), refl, refl, refl, refl, refl, refl)
 
   -- world w { import i; import a: i; import b: i; export i; }
   module _ where
@@ -137,7 +137,9 @@ module _ (ptr : Ptr) (alloc : Global) where
     sides_pass : (f : Fault) → IsBrokenSides several_item f → ⊥
     sides_pass f (FoldedTwice h) = no_fold [] items [] f no_rows keys h
     sides_pass f (CrossedTwice h) = no_crossed [] items [] f no_rows keys h
-    sides_pass f (LinkedTwice h) = bare_alone h.0 h.1 h.2 h.3 h.4 h.5 h.7
     sides_pass f (InterfaceNotes x among h) =
         let it = at_contains items x among in
         unbroken_notes f (subst (λ (l : List Attribute). IsBrokenNotes l f) (untold_link it.0 x it.1) h)
+
+    links_pass : (f : Fault) → IsLinkedTwice (several_file ∷ []) several_item f → ⊥
+    links_pass f h = bare_alone h.0 h.1 h.2 h.3 h.4 h.5 h.7

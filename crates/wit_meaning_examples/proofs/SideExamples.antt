@@ -31,7 +31,7 @@ use Rattle.wit_syntax.specs.Repeats.{AllDiffer}
 use Rattle.wit_syntax.specs.Source.{top_names, TheWorld, Item, Defined, scope_names}
 use Rattle.wit_syntax.specs.Function.{SourceFunction, side_function, functions, role_names}
 use Rattle.wit_syntax.specs.Signature.{IsBrokenFunction, BrokenNotes, BrokenTypes, MissingInSignature, GetterGiven, SetterGiven, DuplicateParam, GetterWithoutResult, SetterWithResult, ConstructorWithoutResult, ConstructorOfOther}
-use Rattle.wit_syntax.specs.Sides.{SideItem, SideFunction, SideLink, Link, side_items, items_on, side_called, IsFoldedTwice, IsCrossedTwice, IsBrokenSides, FoldedTwice, CrossedTwice, LinkedTwice, InterfaceNotes, interface_attributes}
+use Rattle.wit_syntax.specs.Sides.{SideItem, SideFunction, SideLink, Link, side_items, items_on, side_called, IsFoldedTwice, IsCrossedTwice, IsBrokenSides, FoldedTwice, CrossedTwice, InterfaceNotes, interface_attributes}
 use Rattle.wit_syntax.specs.Broken.{IsBrokenScope, DefinedTwice, MissingType, CyclicType, Notes, Body, Function, IsBroken, Sides}
 use Rattle.wit_syntax.proofs.Found.{at_contains}
 use Rattle.wit_syntax.proofs.Legal.{no_fold, no_crossed}
@@ -161,12 +161,6 @@ module _ (ptr : Ptr) (alloc : Global) where
     keys_of Imported = one_differs (codes "f")
     keys_of Exported = one_differs (codes "f")
 
-    no_link : (side : WorldSide) (place : ℕ) (link : Link) → slice_get (items_on side items) place ≡ Some (SideLink link) → ⊥
-    no_link Imported zero link there = let g : ⊥ = cc in g
-    no_link Imported (suc place) link there = let g : ⊥ = cc in g
-    no_link Exported zero link there = let g : ⊥ = cc in g
-    no_link Exported (suc place) link there = let g : ⊥ = cc in g
-
     untold_items : (k : ℕ) (x : SideItem) → slice_get items k ≡ Some x → interface_attributes x ≡ []
     untold_items zero x there = attributes_of (SideFunction (plain Imported (at 34 35) (at 37 41))) x there refl
     untold_items (suc zero) x there = attributes_of (SideFunction (plain Exported (at 52 53) (at 55 59))) x there refl
@@ -175,7 +169,6 @@ module _ (ptr : Ptr) (alloc : Global) where
     sides_pass : (f : Fault) → IsBrokenSides (item_of passing) f → ⊥
     sides_pass f (FoldedTwice h) = no_fold [] items [] f no_rows keys_of h
     sides_pass f (CrossedTwice h) = no_crossed [] items [] f no_rows keys_of h
-    sides_pass f (LinkedTwice h) = no_link h.0 h.1 h.3 h.5
     sides_pass f (InterfaceNotes x among h) = (let it = at_contains items x among in unbroken_notes f (subst (λ (l : List Attribute). IsBrokenNotes l f) (untold_items it.0 x it.1) h))
 
     -- a function without parameters and result breaks no rule of functions

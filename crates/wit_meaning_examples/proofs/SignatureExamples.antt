@@ -339,4 +339,4 @@ module _ (ptr : Ptr) (alloc : Global) where
     item_in_both i = record { top = top_names both; declared = TheInterface i }
 
     used_refused : IsBroken (both ∷ []) (fault 13 (at 65 66))
-    used_refused = MissingName (item_in_both b) (1, lit< tt, refl) (InterfaceNamed (codes "a")) [] used_f (0, lit< tt, refl) (item_in_both a) refl refl (OfFunction (0, lit< tt, refl) refl)
+    used_refused = MissingName (item_in_both b) (1, lit< tt, refl) (InterfaceNamed (codes "a")) [] used_f (0, lit< tt, refl) (item_in_both a) refl refl refl (OfFunction (0, lit< tt, refl) refl)

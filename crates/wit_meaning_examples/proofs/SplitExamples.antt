@@ -24,7 +24,7 @@ use Rattle.wit_tree.specs.declared.tree.WorldSide.{WorldSide}
 use Rattle.wit_tree.specs.declared.tree.WorldSide.TheVariants.{Imported, Exported}
 use Rattle.wit_syntax.specs.Address.{Address, ForeignNamed}
 use Rattle.wit_syntax.specs.Bodies.{IsBrokenBody, IsBrokenType, Itself, Inside}
-use Rattle.wit_syntax.specs.Broken.{headers, DuplicateItem, DuplicateTopName, MissingItem, CyclicItem, IsBrokenNames, Items, ForeignStability, is_world_at, IsBrokenUse, MissingUse, WorldUsed, IsBrokenScope, DefinedTwice, MissingType, CyclicType, Notes, Body, Function, IsBroken, Headerless, Names, ItemStability, UseNotes, IncludeStability, Use, InterfaceIncluded, MissingName, Scope, Sides, Handle, Setter, IsLegal, TopUse, AttributedUse, LostUse}
+use Rattle.wit_syntax.specs.Broken.{headers, DuplicateItem, DuplicateTopName, MissingItem, CyclicItem, IsBrokenNames, Items, ForeignStability, is_world_at, IsBrokenUse, MissingUse, WorldUsed, IsBrokenScope, DefinedTwice, MissingType, CyclicType, Notes, Body, Function, IsBroken, Headerless, Names, ItemStability, UseNotes, IncludeStability, Use, InterfaceIncluded, MissingName, LinkedTwice, IsLinkedTwice, Scope, Sides, Handle, Setter, IsLegal, TopUse, AttributedUse, LostUse}
 use Rattle.wit_syntax.specs.Fault.{Fault, fault, missing_at, missing_type_at, item_word, type_word}
 use Rattle.wit_syntax.specs.Foreign.{ForeignVisit}
 use Rattle.wit_syntax.specs.Function.{functions, item_types}
@@ -32,10 +32,10 @@ use Rattle.wit_syntax.specs.Notes.{IsBrokenStability, IsBrokenNotes}
 use Rattle.wit_syntax.specs.Repeats.{AllDiffer}
 use Rattle.wit_syntax.specs.Scope.{include_paths, includes, item_rows, rows_of, uses}
 use Rattle.wit_syntax.specs.Shape.{all_handles}
-use Rattle.wit_syntax.specs.Sides.{all_scopes, on_side, side_items, IsBrokenSides, FoldedTwice, CrossedTwice, LinkedTwice, side_called, items_on, InterfaceNotes}
-use Rattle.wit_syntax.specs.Source.{Item, ScopeName, Used, Defined, TheInterface, leads, all_items, item_at, item_name, local_name, scope_names, top_names, top_text, about}
+use Rattle.wit_syntax.specs.Sides.{all_scopes, on_side, side_items, IsBrokenSides, FoldedTwice, CrossedTwice, side_called, items_on, InterfaceNotes}
+use Rattle.wit_syntax.specs.Source.{Item, ScopeName, Used, Defined, TheInterface, leads, address, all_items, item_name, local_name, scope_names, top_names, top_text, about}
 use Rattle.wit_syntax.specs.Splitting.{declarations, file_declarations}
-use Rattle.wit_syntax.proofs.Found.{at_contains}
+use Rattle.wit_syntax.proofs.Found.{at_contains, find_among}
 use Rattle.wit_syntax.proofs.Legal.{no_missing_edge, no_cyclic_edge, no_fold, no_crossed}
 use Rattle.wit_syntax.proofs.Repeated.{differ_none, no_repeat, called_key}
 use Rattle.wit_syntax.proofs.Unnoted.{unbroken_notes}
@@ -164,14 +164,12 @@ module _ (ptr : Ptr) (alloc : Global) where
   no_use f (WorldUsed path among world is) = none_among path among
 
   -- what i uses is of no item of these files, and x uses nothing
-  from_other : (n : ScopeName) → Contains (scope_names i_item) n → (from : Address) (attributes : List Attribute) (u : UseName) → n ≡ Used from attributes u → (target : Item) → item_at (all_items files) from ≡ Some target → ⊥
-  from_other n among from attributes u is target declared =
+  from_other : (n : ScopeName) → Contains (scope_names i_item) n → (from : Address) (attributes : List Attribute) (u : UseName) → n ≡ Used from attributes u → (target : Item) → from ≡ address target → Contains (all_items files) target → ⊥
+  from_other n among from attributes u is target own stands =
       let same : Used c_of_ab [] used_t ≡ Used from attributes u = one_among (Used c_of_ab [] used_t) n among ∙ is in
       let one : c_of_ab ∷ [] ≡ from ∷ [] = ap from_of same in
       let here : c_of_ab ≡ from = cc in
-      let there = ap (item_at (all_items files)) here ∙ declared in
-      let f : ⊥ = cc in
-      f
+      each_of (λ (w : Item). c_of_ab ≡ address w → ⊥) x_item i_item target (λ there. (let f : ⊥ = cc in f)) (λ there. (let f : ⊥ = cc in f)) stands (here ∙ own)
 
   nothing_used : (from : Address) (attributes : List Attribute) (u : UseName) → Contains (scope_names x_item) (Used from attributes u) → ⊥
   nothing_used from attributes u among =
@@ -180,8 +178,8 @@ module _ (ptr : Ptr) (alloc : Global) where
       f
 
   -- no used name is one of an item of these files
-  used_elsewhere : (w : Item) → Contains (all_scopes files) w → (from : Address) (attributes : List Attribute) (u : UseName) → Contains (scope_names w) (Used from attributes u) → (target : Item) → item_at (all_items files) from ≡ Some target → ⊥
-  used_elsewhere w among = each_of (λ (w : Item). (from : Address) (attributes : List Attribute) (u : UseName) → Contains (scope_names w) (Used from attributes u) → (target : Item) → item_at (all_items files) from ≡ Some target → ⊥) x_item i_item w (λ from attributes u has target declared. nothing_used from attributes u has) (λ from attributes u has target declared. from_other (Used from attributes u) has from attributes u refl target declared) among
+  used_elsewhere : (w : Item) → Contains (all_scopes files) w → (from : Address) (attributes : List Attribute) (u : UseName) → Contains (scope_names w) (Used from attributes u) → (target : Item) → from ≡ address target → Contains (all_items files) target → ⊥
+  used_elsewhere w among = each_of (λ (w : Item). (from : Address) (attributes : List Attribute) (u : UseName) → Contains (scope_names w) (Used from attributes u) → (target : Item) → from ≡ address target → Contains (all_items files) target → ⊥) x_item i_item w (λ from attributes u has target own stands. nothing_used from attributes u has) (λ from attributes u has target own stands. from_other (Used from attributes u) has from attributes u refl target own stands) among
 
   no_definition : (d : TypeDef) → Contains (scope_names i_item) (Defined d) → ⊥
   no_definition d among =
@@ -232,13 +230,11 @@ module _ (ptr : Ptr) (alloc : Global) where
   x_sides : (f : Fault) → IsBrokenSides x_item f → ⊥
   x_sides f (FoldedTwice h) = no_fold (scope_names x_item) (side_items x_item) (0 ∷ []) f (one_order (codes "t")) x_keys h
   x_sides f (CrossedTwice h) = no_crossed (scope_names x_item) (side_items x_item) (0 ∷ []) f (one_order (codes "t")) x_keys h
-  x_sides f (LinkedTwice h) = let there = h.5 in let f : ⊥ = cc in f
   x_sides f (InterfaceNotes x among h) = none_among x among
 
   i_sides : (f : Fault) → IsBrokenSides i_item f → ⊥
   i_sides f (FoldedTwice h) = no_fold (scope_names i_item) (side_items i_item) (0 ∷ []) f (one_order (codes "t")) i_keys h
   i_sides f (CrossedTwice h) = no_crossed (scope_names i_item) (side_items i_item) (0 ∷ []) f (one_order (codes "t")) i_keys h
-  i_sides f (LinkedTwice h) = let there = h.5 in let f : ⊥ = cc in f
   i_sides f (InterfaceNotes x among h) = none_among x among
 
   -- what is so of both is so of each item of these files
@@ -256,10 +252,11 @@ module _ (ptr : Ptr) (alloc : Global) where
   legal f (IncludeStability w among n included h) = each_item (λ (w : Item). Contains (includes w) n → ⊥) (none_among n) (none_among n) w among included
   legal f (Use w among h) = each_item (λ (w : Item). IsBrokenUse files w f → ⊥) (no_use f) (use_passes f) w among h
   legal f (InterfaceIncluded w among path included leads_there told) = each_item (λ (w : Item). Contains (include_paths w) path → ⊥) (none_among path) (none_among path) w among included
-  legal f (MissingName w among from attributes n used target declared missing told) = used_elsewhere w among from attributes n used target declared
+  legal f (MissingName w among from attributes n used target own first missing told) = used_elsewhere w among from attributes n used target own (find_among (λ (x : Item). bytes_eq (item_name x) (item_name target)) (all_items files) target first)
   legal f (Scope w among h) = each_item (λ (w : Item). IsBrokenScope (scope_names w) (functions w) f → ⊥) (x_passes f) (i_passes f) w among h
   legal f (Sides w among h) = each_item (λ (w : Item). IsBrokenSides w f → ⊥) (x_sides f) (i_sides f) w among h
-  legal f (Handle w among h) = each_item (λ (w : Item). Contains (all_handles (item_types w)) h.0 → ⊥) (none_among h.0) (none_among h.0) w among h.1
+  legal f (LinkedTwice w among h) = each_item (λ (w : Item). IsLinkedTwice files w f → ⊥) (λ h. (let there = h.5 in let g : ⊥ = cc in g)) (λ h. (let there = h.5 in let g : ⊥ = cc in g)) w among h
+  legal f (Handle w among names h) = each_item (λ (w : Item). Contains (all_handles (item_types w)) h.0 → ⊥) (none_among h.0) (none_among h.0) w among h.1
   legal f (Setter w among h) = each_item (λ (w : Item). Contains (on_side h.1 (functions w)) h.2.0 → ⊥) (none_among h.2.0) (none_among h.2.0) w among h.2.1
 
   -- so a law of files that are joined is false if it allows a `use` at the top

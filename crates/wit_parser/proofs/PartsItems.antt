@@ -32,7 +32,7 @@ use Rattle.wit_syntax.proofs.Legal.{functions_items}
 use Rattle.wit_syntax.proofs.Lists.{at_within, flat_map_at, flat_map_has}
 use Rattle.wit_syntax.proofs.Names.{name_equal}
 use Rattle.wit_syntax.proofs.Orders.{in_order_at}
-use Rattle.wit_syntax.proofs.Scopes.{addresses_differ, all_declared, item_at_its, scope_item_at}
+use Rattle.wit_syntax.proofs.Scopes.{all_declared, scope_item_at}
 use Rattle.wit_arena.specs.Expr.{name_exprs}
 use Rattle.wit_arena.specs.Made.{AreNamesInOrder, interface_turn, item_turns, turns_of_world, turns_on_sides}
 use Rattle.wit_arena.specs.Meet.{Key, Def, Meeting, keys, name_meetings, all_function_meetings}
@@ -110,11 +110,11 @@ module _ (files : List PackageFile) (legal : IsLegal files) (order : Address →
       let name = n.name.name.now in
       let here = scope_among files legal (address o.item) o.item it.found in
       let there : address v ≡ from = own_interface_address v (all_declared files q v at) sort ∙ sym is in
-      let stands : item_at all from ≡ Some v = ap (item_at all) (sym there) ∙ item_at_its all q v (addresses_differ all (all_declared files) differ) at in
+      let first = named_found all q v differ at in
       let called = flat_map (λ (fn : SourceFunction). role_names fn.role) (functions v) in
       by_meaning there (meaning (scope_names v) name) refl (λ none. (
-      let free : Contains called name → ⊥ = λ h. legal (fault 13 n.name.span) (MissingName o.item here from attributes n among v stands none (OfFunction h refl)) in
-      legal (missing_at 12 name_word n.name) (MissingName o.item here from attributes n among v stands none (OfNothing free refl))))
+      let free : Contains called name → ⊥ = λ h. legal (fault 13 n.name.span) (MissingName o.item here from attributes n among v (sym there) first none (OfFunction h refl)) in
+      legal (missing_at 12 name_word n.name) (MissingName o.item here from attributes n among v (sym there) first none (OfNothing free refl))))
     where
       by_meaning : address v ≡ from → (m : Option ScopeName) → meaning (scope_names v) n.name.name.now ≡ m → (m ≡ None → ⊥) → (p : ℕ) × (x : ScopeName) × (slice_get (scope_names v) p ≡ Some x) × (Def (address v) (local_name x) ≡ Def from n.name.name.now)
       by_meaning there None is none = absurd (none refl)

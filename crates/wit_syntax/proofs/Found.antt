@@ -22,6 +22,9 @@ find_at p (y ∷ xs) x h = elim (cases_Bool (p y)) [
   | inr miss ↦ (let it = find_at p xs x (rw miss at h) in (suc it.0, it.1))
 ]
 
+pub find_among : {X : Type 0} (test : X → Bool) (xs : List X) (x : X) → find test xs ≡ Some x → Contains xs x
+find_among test xs x found = (let it = find_at test xs x found in contains_at xs it.0 x it.1)
+
 -- what is found passes
 pub find_passes : {X : Type 0} (p : X → Bool) (xs : List X) (x : X) → find p xs ≡ Some x → p x ≡ true
 find_passes p [] x h = absurd (let f : ⊥ = cc in f)

@@ -13,9 +13,9 @@ use Rattle.wit_syntax.specs.Form.{Form, AliasForm}
 use Rattle.wit_syntax.specs.Shape.{Shape, Shapes, Word, More}
 use Rattle.wit_syntax.specs.Source.{TopName, Item, address, all_items, ScopeName, scope_names, parts, local_name, meaning, about_name, Used}
 use Rattle.wit_syntax.specs.Trees.{scope}
-use Rattle.wit_syntax.specs.Sides.{SideItem, side_items, IsFoldedTwice, IsCrossedTwice, IsLinkedTwice, IsBrokenSides, FoldedTwice, CrossedTwice, LinkedTwice, all_scopes, InterfaceNotes}
+use Rattle.wit_syntax.specs.Sides.{SideItem, side_items, IsFoldedTwice, IsCrossedTwice, IsBrokenSides, FoldedTwice, CrossedTwice, all_scopes, InterfaceNotes}
 use Rattle.wit_syntax.specs.Broken
-use Rattle.wit_syntax.specs.Broken.{last_header, IsBrokenScope, IsBrokenItems, IsBrokenNames, IsBroken, IsLegal}
+use Rattle.wit_syntax.specs.Broken.{last_header, IsBrokenScope, IsBrokenItems, IsBrokenNames, IsLinkedTwice, IsBroken, IsLegal}
 use Rattle.wit_syntax.proofs.Headers.{no_header}
 use Rattle.wit_syntax.proofs.JoinedTargets.{AreThemselves, used_same}
 use Rattle.wit_syntax.proofs.JoinedItems.{retop, names_same, twin_among}
@@ -27,10 +27,6 @@ use Rattle.wit_syntax.proofs.JoinedUses.{world_led, use_onward, lacking_onward}
 use Rattle.wit_syntax.proofs.Ends.{meant_end}
 
 -- what is wrong on the sides of an item is wrong on those of its twin
-module _ (a b : List TopName) (own : AreThemselves a) (other : AreThemselves b) where
-  linked_onward : (items : List SideItem) (f : Fault) → IsLinkedTwice a items f → IsLinkedTwice b items f
-  linked_onward items f h = (h.0, h.1, h.2, h.3, h.4, h.5, h.6, h.7, sym (used_same a b own other h.2.path) ∙ h.8 ∙ used_same a b own other h.3.path, h.9)
-
 module _ (i : Item) (top : List TopName) (own : AreThemselves i.top) (other : AreThemselves top) where
   twin_names : scope_names i ≡ scope_names (retop top i)
   twin_names = names_same i.top top own other (parts i)
@@ -38,7 +34,6 @@ module _ (i : Item) (top : List TopName) (own : AreThemselves i.top) (other : Ar
   sides_onward : (f : Fault) → IsBrokenSides i f → IsBrokenSides (retop top i) f
   sides_onward f (FoldedTwice h) = FoldedTwice (subst (λ (xs : List ScopeName). IsFoldedTwice xs (side_items i) f) twin_names h)
   sides_onward f (CrossedTwice h) = CrossedTwice (subst (λ (xs : List ScopeName). IsCrossedTwice xs (side_items i) f) twin_names h)
-  sides_onward f (LinkedTwice h) = LinkedTwice (linked_onward i.top top own other (side_items i) f h)
   sides_onward f (InterfaceNotes x among broken) = InterfaceNotes x among broken
 
   scope_onward : (f : Fault) → IsBrokenScope (scope_names i) (functions i) f → IsBrokenScope (scope_names (retop top i)) (functions (retop top i)) f
@@ -67,6 +62,9 @@ module _ (files others : List PackageFile) (a : AreAlike files others) where
 
   handle_onward : (i : Item) (top : List TopName) → AreThemselves i.top → AreThemselves top → (f : Fault) → IsNoResource files (address i) (item_types i) f → IsNoResource others (address (retop top i)) (item_types (retop top i)) f
   handle_onward i top own other f h = subst (λ (xs : List ScopeName). IsNoResource others (address i) (all_types xs (functions i)) f) (twin_names i top own other) (no_resource_onward (address i) (all_types (scope_names i) (functions i)) f h)
+
+  linked_onward : (i : Item) (top : List TopName) → AreThemselves i.top → AreThemselves top → (f : Fault) → IsLinkedTwice files i f → IsLinkedTwice others (retop top i) f
+  linked_onward i top own other f h = (h.0, h.1, h.2, h.3, h.4, h.5, h.6, h.7, sym (used_same i.top top own other h.2.path) ∙ h.8 ∙ used_same i.top top own other h.3.path, sym (world_led files others a i top own other h.3.path) ∙ h.9, h.10)
 
   items_onward : (f : Fault) → IsBrokenItems files f → (g : Fault) × IsBrokenItems others g
   items_onward f (Broken.DuplicateItem h) = (f, Broken.DuplicateItem (repeated_onward (all_items files) (all_items others) f (items_twins files others a) h))
@@ -104,20 +102,23 @@ module _ (files others : List PackageFile) (a : AreAlike files others) where
   broken_onward f (Broken.InterfaceIncluded i is path among other told) =
       let t = twin_among (all_items files) (all_items others) (items_twins files others a) i is in
       (f, Broken.InterfaceIncluded (retop t.top i) t.among path among (sym (world_led files others a i t.top t.own t.other path) ∙ other) told)
-  broken_onward f (Broken.MissingName i is from attributes n among target declared missing told) =
+  broken_onward f (Broken.MissingName i is from attributes n among target here declared missing told) =
       let t = twin_among (all_scopes files) (all_scopes others) (scopes_twins files others a) i is in
       let used = subst (λ (xs : List ScopeName). Contains xs (Used from attributes n)) (twin_names i t.top t.own t.other) among in
-      let it = lacking_onward files others a from target n.name.name.now declared missing in
-      (f, Broken.MissingName (retop t.top i) t.among from attributes n used (retop it.0 target) it.1 it.2 told)
+      let it = lacking_onward files others a target n.name.name.now declared missing in
+      (f, Broken.MissingName (retop t.top i) t.among from attributes n used (retop it.0 target) here it.1 it.2 told)
   broken_onward f (Broken.Scope i is h) =
       let t = twin_among (all_scopes files) (all_scopes others) (scopes_twins files others a) i is in
       (f, Broken.Scope (retop t.top i) t.among (scope_onward i t.top t.own t.other f h))
   broken_onward f (Broken.Sides i is h) =
       let t = twin_among (all_scopes files) (all_scopes others) (scopes_twins files others a) i is in
       (f, Broken.Sides (retop t.top i) t.among (sides_onward i t.top t.own t.other f h))
-  broken_onward f (Broken.Handle i is h) =
+  broken_onward f (Broken.LinkedTwice i is h) =
+      let t = twin_among (all_items files) (all_items others) (items_twins files others a) i is in
+      (f, Broken.LinkedTwice (retop t.top i) t.among (linked_onward i t.top t.own t.other f h))
+  broken_onward f (Broken.Handle i is names h) =
       let t = twin_among (all_scopes files) (all_scopes others) (scopes_twins files others a) i is in
-      (f, Broken.Handle (retop t.top i) t.among (handle_onward i t.top t.own t.other f h))
+      (f, Broken.Handle (retop t.top i) t.among (sym (scope_alike files others a (address i)) ∙ names ∙ twin_names i t.top t.own t.other) (handle_onward i t.top t.own t.other f h))
   broken_onward f (Broken.Setter i is h) =
       let t = twin_among (all_scopes files) (all_scopes others) (scopes_twins files others a) i is in
       (f, Broken.Setter (retop t.top i) t.among h)

@@ -6,18 +6,19 @@ use Rattle.wit_type_tree.specs.declared.leaves.Id.{Id}
 use Rattle.wit_tree.specs.declared.tree.UsePath.{UsePath}
 use Rattle.wit_tree.specs.declared.tree.PackageFile.{PackageFile}
 use Rattle.wit_package_names.specs.declared.package_name.PackageName.{PackageName}
-use Rattle.wit_syntax.specs.Address.{Address, ForeignNamed, same_address}
+use Rattle.wit_syntax.specs.Address.{ForeignNamed, same_address}
 use Rattle.wit_syntax.specs.Fault.{Fault, missing_at, item_word}
 use Rattle.wit_syntax.specs.Foreign.{ForeignVisit, visited, same_item, foreign_visits}
 use Rattle.wit_syntax.specs.Repeats.{firsts}
-use Rattle.wit_syntax.specs.Source.{TopName, Target, Local, Foreign, leads, Declared, Item, is_world, address, parts, all_items, item_named, item_at, ScopeName, scope_names, meaning, about}
+use Rattle.wit_syntax.specs.Source.{TopName, Target, Local, Foreign, leads, Declared, Item, is_world, item_name, parts, all_items, item_named, ScopeName, scope_names, meaning, about}
 use Rattle.wit_syntax.specs.Broken.{is_world_at, IsBrokenUse, MissingUse, WorldUsed}
 use Rattle.wit_syntax.specs.Splitting.{declared_of}
+use Rattle.std.specs.Str.{bytes_eq}
 use Rattle.wit_syntax.proofs.Found.{find_at}
 use Rattle.wit_syntax.proofs.JoinedTargets.{AreThemselves, IsSameTarget, leads_same, local_from}
 use Rattle.wit_syntax.proofs.JoinedItems.{retop, AreTwins, names_same}
 use Rattle.wit_syntax.proofs.JoinedFiles.{AreAlike, items_twins, visits_same}
-use Rattle.wit_syntax.proofs.JoinedTrees.{named_same, at_same}
+use Rattle.wit_syntax.proofs.JoinedTrees.{named_same}
 
 -- what an option holds by what is declared
 none_declared : (o : Option Item) → option_map declared_of o ≡ None → o ≡ None
@@ -36,12 +37,12 @@ module _ (is js : List Item) (t : AreTwins is js) where
   unnamed_onward : (name : List ℕ) → item_named is name ≡ None → item_named js name ≡ None
   unnamed_onward name none = none_declared (item_named js name) (sym (named_same is js t name) ∙ ap (option_map declared_of) none)
 
-  -- what stands first at an address has its twin there
-  twin_at_address : (s : Address) (i : Item) → item_at is s ≡ Some i → (top : List TopName) × AreThemselves i.top × AreThemselves top × (item_at js s ≡ Some (retop top i))
-  twin_at_address s i at =
-      let one = find_at (λ (v : Item). same_address (address v) s) is i at in
-      let j = some_declared (item_at js s) i.declared (sym (at_same is js t s) ∙ ap (option_map declared_of) at) in
-      let two = find_at (λ (v : Item). same_address (address v) s) js j.0 j.1 in
+  -- the first item of a name has its twin under that name
+  twin_named : (name : List ℕ) (i : Item) → item_named is name ≡ Some i → (top : List TopName) × AreThemselves i.top × AreThemselves top × (item_named js name ≡ Some (retop top i))
+  twin_named name i at =
+      let one = find_at (λ (v : Item). bytes_eq (item_name v) name) is i at in
+      let j = some_declared (item_named js name) i.declared (sym (named_same is js t name) ∙ ap (option_map declared_of) at) in
+      let two = find_at (λ (v : Item). bytes_eq (item_name v) name) js j.0 j.1 in
       (j.0.top, t.left one.0 i one.1, t.right two.0 j.0 two.1, j.1 ∙ ap (λ (d : Declared). Some (record { top = j.0.top; declared = d })) j.2)
 
   world_onward : (name : List ℕ) → option_map is_world (item_named is name) ≡ option_map is_world (item_named js name)
@@ -71,8 +72,8 @@ module _ (files others : List PackageFile) (a : AreAlike files others) where
     use_onward f (WorldUsed path among world is) = (f, WorldUsed path among (sym (world_led path) ∙ world) is)
 
   -- the interface from which a name is used, and that lacks it
-  pub lacking_onward : (from : Address) (target : Item) (name : List ℕ) → item_at (all_items files) from ≡ Some target → meaning (scope_names target) name ≡ None → (top : List TopName) × (item_at (all_items others) from ≡ Some (retop top target)) × (meaning (scope_names (retop top target)) name ≡ None)
-  lacking_onward from target name declared missing =
-      let it = twin_at_address (all_items files) (all_items others) (items_twins files others a) from target declared in
+  pub lacking_onward : (target : Item) (name : List ℕ) → item_named (all_items files) (item_name target) ≡ Some target → meaning (scope_names target) name ≡ None → (top : List TopName) × (item_named (all_items others) (item_name target) ≡ Some (retop top target)) × (meaning (scope_names (retop top target)) name ≡ None)
+  lacking_onward target name declared missing =
+      let it = twin_named (all_items files) (all_items others) (items_twins files others a) (item_name target) target declared in
       let names : scope_names target ≡ scope_names (retop it.0 target) = names_same target.top it.0 it.1 it.2 (parts target) in
       (it.0, it.3, sym (ap (λ (ys : List ScopeName). meaning ys name) names) ∙ missing)

@@ -87,6 +87,12 @@ item_at_its is t i d at =
     let place : there.0 ≡ t = differ_at address is d there.0 t it.0 i there.1 at (same_address-equal (address it.0) (address i) (find_passes test is it.0 it.1)) in
     it.1 ∙ sym there.1 ∙ ap (slice_get is) place ∙ at
 
+-- where the names of items differ, the first of a name stands at its address
+pub first_named : (ws : List Item) (w : Item) → AreDeclared ws → AllDiffer (map item_name ws) → item_named ws (item_name w) ≡ Some w → item_at ws (address w) ≡ Some w
+first_named ws w own d found =
+    let p = find_at (λ (i : Item). bytes_eq (item_name i) (item_name w)) ws w found in
+    item_at_its ws p.0 w (addresses_differ ws own d) p.1
+
 find_front : {X : Type 0} (test : X → Bool) (xs ys : List X) (x : X) → find test xs ≡ Some x → find test (xs ++ ys) ≡ Some x
 find_front test [] ys x h = absurd (let f : ⊥ = cc in f)
 find_front test (y ∷ xs) ys x h = elim (cases_Bool (test y)) [

@@ -1,5 +1,5 @@
 -- The rules, and what it is that breaks each.
-use Rattle.std.specs.Prelude.{◌≡◌, ◌≢◌, ℕ, ◌⊎◌, Bool, true, false, List, [], ◌∷◌, ◌++◌, Option, Some, None, Contains, slice_get}
+use Rattle.std.specs.Prelude.{◌≡◌, ◌≢◌, ℕ, ◌⊎◌, Bool, true, false, List, [], ◌∷◌, ◌++◌, Option, Some, None, take, Contains, slice_get}
 use Rattle.std.specs.List.{filter_map, flat_map}
 use Rattle.std.specs.Option.{option_map, option_or}
 use Rattle.semver.specs.Identifiers.{parts_of}
@@ -24,12 +24,13 @@ use Rattle.wit_syntax.specs.Notes.{IsBrokenStability, IsBrokenNotes}
 use Rattle.wit_syntax.specs.Bodies.{IsSecond, IsBrokenBody}
 use Rattle.wit_syntax.specs.Fault.{Fault, fault_of, fault, missing_at, missing_type_at, cyclic_at, item_word, type_word, name_word}
 use Rattle.wit_syntax.specs.Address.{Address, ForeignNamed}
-use Rattle.wit_syntax.specs.Source.{path_id, Target, Local, Foreign, leads, TopName, top_names, top_text, Item, item_name, is_world, all_items, item_named, item_at, ScopeName, Used, Defined, local_id, local_name, scope_names, meaning, address, about}
+use Rattle.wit_syntax.specs.Source.{path_id, path_scope, Target, Local, Foreign, leads, TopName, top_names, top_text, Item, item_name, is_world, all_items, item_named, ScopeName, Used, Defined, local_id, local_name, scope_names, meaning, address, about}
 use Rattle.wit_syntax.specs.Foreign.{ForeignVisit, foreign_visits, foreign_at}
 use Rattle.wit_syntax.specs.Function.{SourceFunction, functions, item_types, role_names}
-use Rattle.wit_syntax.specs.Sides.{on_side, all_scopes, IsBrokenSides}
+use Rattle.wit_syntax.specs.Sides.{on_side, all_scopes, Link, SideLink, side_items, items_on, IsBrokenSides}
 use Rattle.wit_syntax.specs.Signature.{IsNoType, IsBrokenFunction, IsUnpairedSetter}
 use Rattle.wit_syntax.specs.Ends.{IsNoResource}
+use Rattle.wit_syntax.specs.Trees.{scope}
 use Rattle.wit_syntax.specs.Scope.{use_paths, include_paths, uses, includes, item_rows, rows_of, used, defined}
 
 -- the header of the last file that has one
@@ -131,6 +132,11 @@ pub data IsBrokenUse (files : List PackageFile) (i : Item) (f : Fault) : Type 0 
 abbrev pub IsSetterAlone : Item → Fault → Type 0
 IsSetterAlone i f = (includes i ≡ []) × (side : WorldSide) × IsUnpairedSetter (on_side side (functions i)) f
 
+-- an earlier interface on a side of an item is the same one, where both have no name of their own
+abbrev pub IsLinkedTwice : List PackageFile → Item → Fault → Type 0
+IsLinkedTwice files i f = (side : WorldSide) × (place : ℕ) × (earlier later : Link) × Contains (take place (items_on side (side_items i))) (SideLink earlier) × (slice_get (items_on side (side_items i)) place ≡ Some (SideLink later))
+    × (earlier.name ≡ None) × (later.name ≡ None) × (path_scope i.top earlier.path ≡ path_scope i.top later.path) × (is_world_at files (leads i.top later.path) ≡ Some false) × (f ≡ fault 43 (path_id later.path).span)
+
 -- what is wrong with files
 pub data IsBroken (files : List PackageFile) (f : Fault) : Type 0 where
   -- no file has a header
@@ -142,12 +148,14 @@ pub data IsBroken (files : List PackageFile) (f : Fault) : Type 0 where
   Use : (i : Item) → Contains (all_items files) i → IsBrokenUse files i f → IsBroken files f
   -- the path of an include leads to an interface
   InterfaceIncluded : (i : Item) → Contains (all_items files) i → (path : UsePath) → Contains (include_paths i) path → is_world_at files (leads i.top path) ≡ Some false → f ≡ fault 11 (path_id path).span → IsBroken files f
-  -- a used name is none of the interface that it comes from
-  MissingName : (i : Item) → Contains (all_scopes files) i → (from : Address) (notes : List Attribute) (n : UseName) → Contains (scope_names i) (Used from notes n) → (target : Item) → item_at (all_items files) from ≡ Some target
+  -- a used name is none of the interface that it comes from, which is the first item of its name
+  MissingName : (i : Item) → Contains (all_scopes files) i → (from : Address) (notes : List Attribute) (n : UseName) → Contains (scope_names i) (Used from notes n) → (target : Item) → from ≡ address target → item_named (all_items files) (item_name target) ≡ Some target
       → meaning (scope_names target) n.name.name.now ≡ None → IsNoType (Contains (flat_map (λ fn. role_names fn.role) (functions target)) n.name.name.now) (fault 13 n.name.span) (missing_at 12 name_word n.name) f → IsBroken files f
   Scope : (i : Item) → Contains (all_scopes files) i → IsBrokenScope (scope_names i) (functions i) f → IsBroken files f
   Sides : (i : Item) → Contains (all_scopes files) i → IsBrokenSides i f → IsBroken files f
-  Handle : (i : Item) → Contains (all_scopes files) i → IsNoResource files (address i) (item_types i) f → IsBroken files f
+  LinkedTwice : (i : Item) → Contains (all_items files) i → IsLinkedTwice files i f → IsBroken files f
+  -- of an item whose names are those of its address, a name in a handle ends at no resource
+  Handle : (i : Item) → Contains (all_scopes files) i → scope files (address i) ≡ scope_names i → IsNoResource files (address i) (item_types i) f → IsBroken files f
   Setter : (i : Item) → Contains (all_scopes files) i → IsSetterAlone i f → IsBroken files f
 
 -- no rule is broken

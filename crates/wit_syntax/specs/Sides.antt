@@ -19,7 +19,7 @@ use Rattle.wit_syntax.specs.Crossing.{same_side}
 use Rattle.wit_syntax.specs.Fault.{Fault, fault}
 use Rattle.wit_syntax.specs.Notes.{IsBrokenNotes}
 use Rattle.wit_syntax.specs.Bodies.{IsSecond}
-use Rattle.wit_syntax.specs.Source.{TopName, path_id, path_scope, TheInline, Part, Defining, Doing, Crossing, Item, item_name, parts, all_items, ScopeName, scope_names}
+use Rattle.wit_syntax.specs.Source.{TheInline, Part, Defining, Doing, Crossing, Item, item_name, parts, all_items, ScopeName, scope_names}
 use Rattle.wit_syntax.specs.Scope.{rows_of, in_turn}
 use Rattle.wit_syntax.specs.Function.{Role, OnSide, SourceFunction, definition_functions, free_function, side_function}
 use Rattle.wit_syntax.specs.Signature.{Called, name_called}
@@ -159,11 +159,6 @@ abbrev pub IsCrossedTwice : List ScopeName → List SideItem → Fault → Type 
 IsCrossedTwice xs items f = (side : WorldSide) × (order : List ℕ) × IsOrder (rows_of xs) order × (place : ℕ) × (later : SideItem) × (slice_get (items_on side items) place ≡ Some later) × IsCrossing later × (called : Called)
     × (item_called later ≡ called ∷ []) × (earlier : Called) × Contains (side_called side xs (take place (items_on side items)) order) earlier × (earlier.name ≡ called.name) × (f ≡ fault 44 called.span)
 
--- an earlier one on a side is the same interface, where both have no name of their own
-abbrev pub IsLinkedTwice : List TopName → List SideItem → Fault → Type 0
-IsLinkedTwice top items f = (side : WorldSide) × (place : ℕ) × (earlier later : Link) × Contains (take place (items_on side items)) (SideLink earlier) × (slice_get (items_on side items) place ≡ Some (SideLink later))
-    × (earlier.name ≡ None) × (later.name ≡ None) × (path_scope top earlier.path ≡ path_scope top later.path) × (f ≡ fault 43 (path_id later.path).span)
-
 -- the attributes in front of an interface, by its path or written there; those of a function are told with it
 abbrev pub interface_attributes : SideItem → List Attribute
 interface_attributes (SideFunction fn) = []
@@ -174,5 +169,4 @@ interface_attributes (SideInline x name items) = x.attributes.items
 pub data IsBrokenSides (i : Item) (f : Fault) : Type 0 where
   FoldedTwice : IsFoldedTwice (scope_names i) (side_items i) f → IsBrokenSides i f
   CrossedTwice : IsCrossedTwice (scope_names i) (side_items i) f → IsBrokenSides i f
-  LinkedTwice : IsLinkedTwice i.top (side_items i) f → IsBrokenSides i f
   InterfaceNotes : (x : SideItem) → Contains (side_items i) x → IsBrokenNotes (interface_attributes x) f → IsBrokenSides i f

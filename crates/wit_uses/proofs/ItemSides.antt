@@ -5,23 +5,20 @@ use Rattle.std.specs.List.{flat_map}
 use Rattle.std.specs.Option.{option_map}
 use Rattle.std.proofs.lemmas.Option.{slice_get-map}
 use Rattle.wit_type_tree.specs.declared.leaves.Id.{Id}
-use Rattle.wit_tree.specs.declared.tree.WorldSide.{WorldSide}
-use Rattle.wit_syntax.specs.Address.{Address}
 use Rattle.wit_syntax.specs.Fault.{Fault}
 use Rattle.wit_syntax.specs.Notes.{IsBrokenNotes}
-use Rattle.wit_syntax.specs.Repeats.{AllDiffer}
 use Rattle.wit_syntax.specs.Source.{Item, ScopeName, scope_names}
 use Rattle.wit_syntax.specs.Function.{functions}
-use Rattle.wit_syntax.specs.Sides.{Link, SideItem, item_function, IsFoldedTwice, IsCrossedTwice, IsLinkedTwice, IsBrokenSides, FoldedTwice, CrossedTwice, LinkedTwice, InterfaceNotes, interface_attributes, side_items}
+use Rattle.wit_syntax.specs.Sides.{Link, SideItem, item_function, IsFoldedTwice, IsCrossedTwice, IsBrokenSides, FoldedTwice, CrossedTwice, InterfaceNotes, interface_attributes, side_items}
 use Rattle.wit_syntax.proofs.Legal.{no_fold, no_crossed, functions_items}
 use Rattle.wit_syntax.proofs.Lists.{map_at}
 use Rattle.wit_syntax.proofs.Found.{at_contains, contains_at}
 use Rattle.wit_syntax.proofs.Unnoted.{unbroken_notes}
 use Rattle.wit_rules.specs.declared.held.HeldFunction.{HeldFunction}
 use Rattle.wit_rules.specs.Held.{function_behind}
-use Rattle.wit_externs.specs.Held.{extern_behind, externs_behind, held_on}
+use Rattle.wit_externs.specs.Held.{extern_behind, externs_behind}
 use Rattle.wit_externs.specs.Clash.{DifferOnSides}
-use Rattle.wit_externs.specs.Links.{bare_places, AreRightLinks, AreNotedInside, AreLinksPlaced, IsLinkedAgain}
+use Rattle.wit_externs.specs.Links.{AreRightLinks, AreNotedInside}
 use Rattle.wit_externs.specs.declared.held.HeldLink.{HeldLink}
 use Rattle.wit_externs.specs.declared.held.HeldInline.{HeldInline}
 use Rattle.wit_externs.specs.declared.held.HeldExtern.{HeldExtern}
@@ -30,7 +27,6 @@ use Rattle.wit_scopes.specs.Held.{Held as HeldName}
 use Rattle.wit_uses.specs.Behind.{IsTurn}
 use Rattle.wit_uses.specs.Body.{IsStandingBy}
 use Rattle.wit_uses.proofs.Behind.{differ_called}
-use Rattle.wit_uses.proofs.Linked.{linked_twice, none_linked}
 
 -- the functions among what stands there are those of the item
 pub held_functions : (item : Item) (names : List HeldName) (hs : List HeldExtern) (ws : List HeldFunction) → IsStandingBy item names hs → map function_behind ws ≡ flat_map item_function (externs_behind hs) → map function_behind ws ≡ functions item
@@ -55,9 +51,9 @@ extern_held item names hs e own among =
     let stands = slice_get-map extern_behind hs it.0 ∙ ap (option_map extern_behind) it.1 in
     subst (λ (xs : List SideItem). Contains xs (extern_behind e)) (sym own.sides) (contains_at (externs_behind hs) it.0 (extern_behind e) stands)
 
--- where what is taken on each side differs, bare links lead to different places, all links are right, and attributes break no rule, nothing is wrong with the sides
-pub sides_legal : (item : Item) (names : List HeldName) (hs : List HeldExtern) (ids : List Id) (interfaces : List Address) → IsStandingBy item names hs → IsTurn (scope_names item) ids → DifferOnSides ids (externs_behind hs) → AreRightLinks hs → AreNotedInside hs → ((side : WorldSide) → AllDiffer (bare_places (held_on side hs))) → AreLinksPlaced interfaces item.top hs → (f : Fault) → IsBrokenSides item f → ⊥
-sides_legal item names hs ids interfaces own t differ right noted apart placed f broken = by broken
+-- where what is taken on each side differs, and attributes break no rule, nothing is wrong with the sides
+pub sides_legal : (item : Item) (names : List HeldName) (hs : List HeldExtern) (ids : List Id) → IsStandingBy item names hs → IsTurn (scope_names item) ids → DifferOnSides ids (externs_behind hs) → AreRightLinks hs → AreNotedInside hs → (f : Fault) → IsBrokenSides item f → ⊥
+sides_legal item names hs ids own t differ right noted f broken = by broken
   where
     xs : List ScopeName
     xs = scope_names item
@@ -65,18 +61,14 @@ sides_legal item names hs ids interfaces own t differ right noted apart placed f
     by : IsBrokenSides item f → ⊥
     by (FoldedTwice h) = no_fold xs (externs_behind hs) t.order f t.least (λ side. differ_called side xs (externs_behind hs) t.order ids t.are (differ side)) (subst (λ (items : List SideItem). IsFoldedTwice xs items f) own.sides h)
     by (CrossedTwice h) = no_crossed xs (externs_behind hs) t.order f t.least (λ side. differ_called side xs (externs_behind hs) t.order ids t.are (differ side)) (subst (λ (items : List SideItem). IsCrossedTwice xs items f) own.sides h)
-    by (LinkedTwice h) = none_linked interfaces item.top hs placed right apart f (subst (λ (items : List SideItem). IsLinkedTwice item.top items f) own.sides h)
     by (InterfaceNotes x among h) = none_noted item names hs x own right noted among f h
 
--- a name that stands twice on a side, or a link, is wrong with the sides of the item
+-- a name that stands twice on a side is wrong with the sides of the item
 pub wrong_folded : (item : Item) (names : List HeldName) (hs : List HeldExtern) (f : Fault) → IsStandingBy item names hs → IsFoldedTwice (scope_names item) (externs_behind hs) f → IsBrokenSides item f
 wrong_folded item names hs f own h = FoldedTwice (subst (λ (items : List SideItem). IsFoldedTwice (scope_names item) items f) (sym own.sides) h)
 
 pub wrong_crossed : (item : Item) (names : List HeldName) (hs : List HeldExtern) (f : Fault) → IsStandingBy item names hs → IsCrossedTwice (scope_names item) (externs_behind hs) f → IsBrokenSides item f
 wrong_crossed item names hs f own h = CrossedTwice (subst (λ (items : List SideItem). IsCrossedTwice (scope_names item) items f) (sym own.sides) h)
-
-pub wrong_linked : (item : Item) (names : List HeldName) (hs : List HeldExtern) (interfaces : List Address) (f : Fault) → IsStandingBy item names hs → AreLinksPlaced interfaces item.top hs → IsLinkedAgain hs f → IsBrokenSides item f
-wrong_linked item names hs interfaces f own placed h = LinkedTwice (subst (λ (items : List SideItem). IsLinkedTwice item.top items f) (sym own.sides) (linked_twice interfaces item.top hs placed f h))
 
 -- so are attributes of a link that break a rule
 pub wrong_noted : (item : Item) (names : List HeldName) (hs : List HeldExtern) (l : HeldLink) (f : Fault) → IsStandingBy item names hs → Contains hs (held.Link l) → IsBrokenNotes l.attributes.now f → IsBrokenSides item f

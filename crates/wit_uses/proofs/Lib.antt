@@ -3,5 +3,5 @@ mod Cells
 pub mod Telling
 pub mod Emitting
 pub mod Behind
-mod Linked
+pub mod Linked
 pub mod ItemSides

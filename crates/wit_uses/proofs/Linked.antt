@@ -1,18 +1,20 @@
 -- Interfaces by their paths: two on a side are one place of the arena just where their paths lead to one scope.
-use Rattle.std.proofs.Common.{◌≡◌, ℕ, zero, suc, ◌+◌, ◌<◌, List, [], ◌∷◌, ◌++◌, length, take, Option, Some, None, inl, inr, refl, sym, ap, ◌∙◌, subst, arith, Contains}
+use Rattle.std.proofs.Common.{◌≡◌, ℕ, zero, suc, ◌+◌, ◌<◌, List, [], ◌∷◌, ◌++◌, length, take, Option, Some, None, inl, inr, refl, sym, ap, ◌∙◌, subst, arith, false, Contains}
 use Rattle.std.specs.Prelude.{slice_get}
 use Rattle.std.specs.List.{flat_map, take-map}
 use Rattle.std.specs.Option.{option_map, option_map_or}
 use Rattle.std.proofs.lemmas.Bool.{cases_Bool, cond-true, cond-false}
 use Rattle.std.proofs.lemmas.Option.{slice_get-map, slice_get_within}
 use Rattle.wit_type_tree.specs.declared.leaves.Id.{Id}
+use Rattle.wit_tree.specs.declared.tree.PackageFile.{PackageFile}
 use Rattle.wit_tree.specs.declared.tree.WorldSide.{WorldSide}
 use Rattle.wit_syntax.specs.Address.{Address}
 use Rattle.wit_syntax.specs.Fault.{Fault}
 use Rattle.wit_syntax.specs.Repeats.{AllDiffer}
 use Rattle.wit_syntax.specs.Crossing.{same_side}
-use Rattle.wit_syntax.specs.Source.{TopName, path_scope}
-use Rattle.wit_syntax.specs.Sides.{Link, SideItem, SideLink, item_side, items_on, IsLinkedTwice}
+use Rattle.wit_syntax.specs.Source.{Item, leads, path_scope}
+use Rattle.wit_syntax.specs.Sides.{Link, SideItem, SideLink, item_side, items_on, side_items}
+use Rattle.wit_syntax.specs.Broken.{is_world_at, IsLinkedTwice}
 use Rattle.wit_syntax.proofs.Lists.{at_front, at_back, at_take, flat_map_at, flat_map_has, map_at}
 use Rattle.wit_syntax.proofs.Found.{at_contains, contains_at}
 use Rattle.wit_syntax.proofs.Kept.{kept_at}
@@ -87,10 +89,13 @@ on_held side hs k h at =
     let it = kept_at (λ (x : HeldExtern). same_side side (item_side (extern_behind x))) hs k h at in
     (it.0, it.1)
 
-module _ (interfaces : List Address) (top : List TopName) (hs : List HeldExtern) (placed : AreLinksPlaced interfaces top hs) where
+module _ (files : List PackageFile) (interfaces : List Address) (item : Item) (hs : List HeldExtern) (own : side_items item ≡ externs_behind hs) (placed : AreLinksPlaced interfaces item.top hs) where
+  on_side : (side : WorldSide) → items_on side (side_items item) ≡ externs_behind (held_on side hs)
+  on_side side = ap (items_on side) own ∙ held_items side hs
+
   -- where the place of a link is that of an earlier one, their paths lead to one scope
-  pub linked_twice : (f : Fault) → IsLinkedAgain hs f → IsLinkedTwice top (externs_behind hs) f
-  linked_twice f h =
+  pub linked_twice : ((l : HeldLink) (id : ℕ) → Contains hs (held.Link l) → l.led ≡ led.Interface id → is_world_at files (leads item.top l.path.now) ≡ Some false) → (f : Fault) → IsLinkedAgain hs f → IsLinkedTwice files item f
+  linked_twice usable f h =
       let here = held_on h.side hs in
       let front = take h.place here in
       let it = at_contains (bare_places front) h.id h.among in
@@ -102,26 +107,27 @@ module _ (interfaces : List Address) (top : List TopName) (hs : List HeldExtern)
       let now = on_held h.side hs h.place (held.Link h.link) h.at in
       let one = placed.called there.0 l h.id there.1 own.3 in
       let other = placed.called now.0 h.link h.id now.1 h.leads in
-      let same : path_scope top l.path.now ≡ path_scope top h.link.path.now = cc in
+      let same : path_scope item.top l.path.now ≡ path_scope item.top h.link.path.now = cc in
       let stands : slice_get (externs_behind front) from.0 ≡ Some (SideLink (link_behind l)) = slice_get-map extern_behind front from.0 ∙ ap (option_map extern_behind) early in
-      let items : take h.place (items_on h.side (externs_behind hs)) ≡ externs_behind front = ap (take h.place) (held_items h.side hs) ∙ take-map extern_behind h.place here in (
+      let items : take h.place (items_on h.side (side_items item)) ≡ externs_behind front = ap (take h.place) (on_side h.side) ∙ take-map extern_behind h.place here in (
         h.side,
         h.place,
         link_behind l,
         link_behind h.link,
         subst (λ (xs : List SideItem). Contains xs (SideLink (link_behind l))) (sym items) (contains_at (externs_behind front) from.0 (SideLink (link_behind l)) stands),
-        ap (λ (xs : List SideItem). slice_get xs h.place) (held_items h.side hs) ∙ slice_get-map extern_behind here h.place ∙ ap (option_map extern_behind) h.at,
+        ap (λ (xs : List SideItem). slice_get xs h.place) (on_side h.side) ∙ slice_get-map extern_behind here h.place ∙ ap (option_map extern_behind) h.at,
         own.2,
         h.bare,
         same,
+        usable h.link h.id (contains_at hs now.0 (held.Link h.link) now.1) h.leads,
         h.is,
       )
 
   -- where the places of bare links differ on a side, no two paths lead to one scope
-  pub none_linked : AreRightLinks hs → ((side : WorldSide) → AllDiffer (bare_places (held_on side hs))) → (f : Fault) → IsLinkedTwice top (externs_behind hs) f → ⊥
+  pub none_linked : AreRightLinks hs → ((side : WorldSide) → AllDiffer (bare_places (held_on side hs))) → (f : Fault) → IsLinkedTwice files item f → ⊥
   none_linked right apart f h =
       let here = held_on h.0 hs in
-      let items : items_on h.0 (externs_behind hs) ≡ externs_behind here = held_items h.0 hs in
+      let items = on_side h.0 in
       let from = at_contains (take h.1 (externs_behind here)) (SideLink h.2) (subst (λ (l : List SideItem). Contains (take h.1 l) (SideLink h.2)) items h.4) in
       let early = at_take (externs_behind here) h.1 from.0 (SideLink h.2) from.1 in
       let first = map_at extern_behind here from.0 (SideLink h.2) early.0 in
@@ -134,7 +140,7 @@ module _ (interfaces : List Address) (top : List TopName) (hs : List HeldExtern)
       let in_b = on_held h.0 hs h.1 (held.Link b.0) at_b in
       let right_a = right.each in_a.0 a.0 in_a.1 in
       let right_b = right.each in_b.0 b.0 in_b.1 in
-      let scopes : path_scope top a.0.path.now ≡ path_scope top b.0.path.now = ap (λ (l : Link). path_scope top l.path) a.2 ∙ h.8 ∙ sym (ap (λ (l : Link). path_scope top l.path) b.2) in
+      let scopes : path_scope item.top a.0.path.now ≡ path_scope item.top b.0.path.now = ap (λ (l : Link). path_scope item.top l.path) a.2 ∙ h.8 ∙ sym (ap (λ (l : Link). path_scope item.top l.path) b.2) in
       let same : right_a.place ≡ right_b.place =
       placed.stands in_a.0 a.0 right_a.place in_a.1 right_a.leads ∙ ap placed.place scopes ∙ sym (placed.stands in_b.0 b.0 right_b.place in_b.1 right_b.leads)
       in

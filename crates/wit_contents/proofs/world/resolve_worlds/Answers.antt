@@ -39,7 +39,7 @@ loop-place-init c = rw (c.make_room.ensures.inside, c.make_room.ensures.worlds) 
   sound = record { sound = λ k u f at broken. absurd (let wrong : ⊥ = cc in wrong) };
   stable = record { legal = λ k u f at broken. absurd (let wrong : ⊥ = cc in wrong) };
   sided = record { legal = λ k u f at broken. absurd (let wrong : ⊥ = cc in wrong) };
-  linked = record { usable = λ k u link at among. absurd (let wrong : ⊥ = cc in wrong) };
+  linked = record { each = λ k u at. absurd (let wrong : ⊥ = cc in wrong) };
 })
 
 pub resolve_world-requires-clause-sort : goal.resolve_world-requires-clause-sort

@@ -25,7 +25,7 @@ use Rattle.wit_item_entries.proofs.ScopeFunctions.{scope_sound}
 use Rattle.wit_world_sides.specs.Links.{AreLed}
 use Rattle.wit_contents.specs.Standing.{IsWrongStanding}
 use Rattle.wit_links.proofs.Leading.{addresses_count, front_enough, links_placed, links_within}
-use Rattle.wit_contents.proofs.Linking.{links_lead}
+use Rattle.wit_contents.proofs.Linking.{links_usable}
 use Rattle.wit_contents.proofs.Parts.{parts_are, sides_all, sounds_all}
 use Rattle.wit_contents.proofs.WrongStanding.{wrong_standing}
 use Rattle.wit_contents.proofs.world.world_content.Goals as goal
@@ -163,22 +163,18 @@ returns-clause-sided c =
     let hs = c.deref_mut-lent.result.now in
     let xs = c.args.item.now.names.items in
     let own : IsStandingBy item xs hs = record { names = sym c.requires.named; sides = sym (ap externs_behind c.deref_mut-lent.ensures.value ∙ c.in_ok-externs.ensures.behind) } in
-    let front = front_of c.args.interfaces.now.foreign.now in
-    let is = c.args.interfaces.now.arena in
-    let by_name = c.args.interfaces.now.by_name in
     let e = c.in_ok-standing.ensures in
-    let files = c.args.files.now in
-    let top = (item_behind c.args.item.now).top in
-    let led : AreLed files front by_name top hs = rw c.deref_mut-lent.ensures.value (rw (ap names_at_top c.requires.filed.file) at c.in_ok-externs.ensures.led) in
-    let placed = links_placed files front is by_name top hs (front_enough c.args.interfaces.now.foreign.now is c.requires.front) c.requires.index led in
-    sides_all item (inline_items item) (sides_legal item xs hs names.turn.items (interfaces_at front is) own c.requires.turn e.differ e.right e.noted e.apart placed) e.sided
+    sides_all item (inline_items item) (sides_legal item xs hs names.turn.items own c.requires.turn e.differ e.right e.noted) e.sided
 
 pub returns-clause-linked : goal.returns-clause-linked
 returns-clause-linked c =
     let front = front_of c.args.interfaces.now.foreign.now in
+    let is = c.args.interfaces.now.arena in
     let by_name = c.args.interfaces.now.by_name in
     let hs = c.deref_mut-lent.result.now in
     let files = c.args.files.now in
     let top = (item_behind c.args.item.now).top in
     let led : AreLed files front by_name top hs = rw c.deref_mut-lent.ensures.value (rw (ap names_at_top c.requires.filed.file) at c.in_ok-externs.ensures.led) in
-    links_lead files front by_name (item_behind c.args.item.now) hs (sym (ap externs_behind c.deref_mut-lent.ensures.value ∙ c.in_ok-externs.ensures.behind)) led c.in_ok-standing.ensures.right
+    let placed = links_placed files front is by_name top hs (front_enough c.args.interfaces.now.foreign.now is c.requires.front) c.requires.index led in
+    let e = c.in_ok-standing.ensures in
+    links_usable files front (interfaces_at front is) by_name (item_behind c.args.item.now) hs (sym (ap externs_behind c.deref_mut-lent.ensures.value ∙ c.in_ok-externs.ensures.behind)) led placed e.right e.apart
