@@ -7,7 +7,10 @@ A class is an object of its fields, unless its `_form` says otherwise:
     tag    an object with one member: its first field is the name, its second the value
     word   nothing, as the class has no field
 
-A field with a default is left out where it has it. In a union of classes, each stands behind its `_tag`; a word stands alone.
+    flat   an object of its fields, the first of which has the `_tag` as its name
+
+A field with a default is left out where it has it. In a union of classes, each stands behind its `_tag`, but for words, which
+stand alone, and flat ones.
 """
 
 import dataclasses
@@ -30,6 +33,10 @@ def _fields(of: type) -> list[tuple[str, str, Any, Any]]:
 def _classes(union: Any) -> dict[str, type]:
     """The classes of a union, by their tags."""
     return {of._tag: of for of in get_args(union) if hasattr(of, "_tag")}
+
+
+def _form(of: Any) -> str:
+    return getattr(of, "_form", "object")
 
 
 def _is_union(hint: Any) -> bool:
@@ -59,13 +66,14 @@ def _read_union(hint: Any, value: Any) -> Any:
         return read(get_args(hint)[0], value)
     if isinstance(value, str):
         return _read_class(classes[value], None) if value in classes else None
-    ((tag, inner),) = value.items()
-    return read(classes[tag], inner) if inner is not None else _read_class(classes[tag], None)
+    tag, inner = next(iter(value.items()))
+    of = classes[tag]
+    return _read_class(of, value if _form(of) == "flat" else inner)
 
 
 def _read_class(of: type, value: Any) -> Any:
     fields = _fields(of)
-    match getattr(of, "_form", "object"):
+    match _form(of):
         case "array":
             return of(*(read(hint, item) for (_, _, hint, _), item in zip(fields, value, strict=True)))
         case "value":
@@ -98,12 +106,14 @@ def _write_union(hint: Any, value: Any) -> Any:
         return None if value is None else write(get_args(hint)[0], value)
     if value is None:
         return "unknown"
-    return value._tag if getattr(value, "_form", "") == "word" else {value._tag: _write_class(value)}
+    if _form(value) == "word":
+        return value._tag
+    return _write_class(value) if _form(value) == "flat" else {value._tag: _write_class(value)}
 
 
 def _write_class(value: Any) -> Any:
     fields = [(member, write(hint, getattr(value, name)), getattr(value, name) == default) for name, member, hint, default in _fields(type(value))]
-    match getattr(value, "_form", "object"):
+    match _form(value):
         case "array":
             return [json for _, json, _ in fields]
         case "value":

@@ -304,11 +304,12 @@ class WorldInterface:
 
 @dataclass
 class WorldType:
-    """A type that a world defines or uses."""
+    """A type that a world defines or uses, and where its name in the world is; of `use i.{t as s}`, where `s` is."""
 
     _tag: ClassVar = "type"
-    _form: ClassVar = "value"
-    id: TypeId
+    _form: ClassVar = "flat"
+    type: TypeId
+    span: Span
 
 
 WorldItem = WorldInterface | Function | WorldType

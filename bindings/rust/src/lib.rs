@@ -110,17 +110,17 @@ fn json_of((status, bytes): (u8, Vec<u8>)) -> Result<String, Refusal> {
     }
 }
 
-/// A text is not the JSON of a group.
+/// A text that is not the JSON of a group.
 #[derive(Clone, Copy, Debug, PartialEq, Eq, Hash)]
-pub struct NoGroup;
+pub struct InvalidJson;
 
-impl fmt::Display for NoGroup {
+impl fmt::Display for InvalidJson {
     fn fmt(&self, f: &mut fmt::Formatter<'_>) -> fmt::Result {
         f.write_str("not the JSON of a group of packages")
     }
 }
 
-impl Error for NoGroup {}
+impl Error for InvalidJson {}
 
 impl Group {
     /// The group of a JSON text, which has no spaces between values.
@@ -128,8 +128,8 @@ impl Group {
     /// # Errors
     ///
     /// It is not the JSON of a group. Members that the schema does not have are passed over.
-    pub fn from_json(text: &str) -> Result<Group, NoGroup> {
-        json::Json::parse(text).and_then(|json| schema::Schema::read(&json)).ok_or(NoGroup)
+    pub fn from_json(text: &str) -> Result<Group, InvalidJson> {
+        json::Json::parse(text).and_then(|json| schema::Schema::read(&json)).ok_or(InvalidJson)
     }
 
     /// The group as JSON: of a group that the library made, the very text that the library wrote.

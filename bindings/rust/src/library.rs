@@ -74,9 +74,11 @@ fn of_text(call: Call, text: &[u8], factor: usize) -> (u8, Vec<u8>) {
     })
 }
 
-/// The capacity of a first buffer. One of zeros costs little where it is not written.
+/// The capacity of a first buffer, which is seldom too small. Its zeros cost little where they are not written;
+/// for a long text it is less, so that it can be had.
 fn capacity(len: usize, factor: usize) -> usize {
-    len.saturating_mul(factor).saturating_add(1024)
+    let most = len.saturating_mul(8).saturating_add(1 << 24);
+    len.saturating_mul(factor).min(most).saturating_add(1024)
 }
 
 /// The status, and the listing or the line of the refusal.

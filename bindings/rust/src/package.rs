@@ -149,6 +149,8 @@ pub struct WorldInterface {
 pub struct WorldType {
     /// The type.
     pub id: TypeId,
+    /// Where its name in the world is; of `use i.{t as s}`, where `s` is.
+    pub span: Span,
 }
 
 /// A world that another one includes.

@@ -60,6 +60,7 @@ objects! {
         includes: "includes", span: "span",
     }
     WorldInterface { id: "id", stability? "stability", external_id? "external_id", docs? "docs", span: "span" }
+    WorldType { id: "type", span: "span" }
     Include { stability? "stability", id: "id", names: "names", span: "span" }
     IncludeName { name: "name", as_: "as" }
     Interface {
@@ -287,10 +288,12 @@ impl Schema for ItemId {
 
 impl Schema for WorldItem {
     fn read(json: &Json) -> Option<WorldItem> {
+        if json.get("type").is_some() {
+            return Schema::read(json).map(WorldItem::Type);
+        }
         match json.only()? {
             ("interface", item) => Schema::read(item).map(WorldItem::Interface),
             ("function", item) => Schema::read(item).map(WorldItem::Function),
-            ("type", item) => Schema::read(item).map(WorldItem::Type),
             _ => None,
         }
     }
@@ -299,18 +302,8 @@ impl Schema for WorldItem {
         match self {
             WorldItem::Interface(item) => Json::tagged("interface", item.write()),
             WorldItem::Function(item) => Json::tagged("function", item.write()),
-            WorldItem::Type(item) => Json::tagged("type", item.write()),
+            WorldItem::Type(item) => item.write(),
         }
-    }
-}
-
-impl Schema for WorldType {
-    fn read(json: &Json) -> Option<WorldType> {
-        TypeId::read(json).map(|id| WorldType { id })
-    }
-
-    fn write(&self) -> Json {
-        self.id.write()
     }
 }
 

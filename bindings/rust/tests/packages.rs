@@ -127,6 +127,24 @@ fn worlds_and_other_packages() {
 }
 
 #[test]
+fn types_of_worlds_have_places() {
+    let text = "package a:b; interface i { type t = u8; } world w { use i.{t as s}; type r = s; }";
+    let group = group_of(text);
+    let package = group.main();
+    let world = package.worlds.values().next().expect("a world");
+    let place = |span| &text[group.locate(span).expect("a place").1];
+    let written: Vec<_> = world
+        .imports
+        .values()
+        .map(|item| match item {
+            WorldItem::Type(ty) => (place(ty.span), place(package.types[ty.id].span)),
+            other => panic!("{other:?}"),
+        })
+        .collect();
+    assert_eq!(written, [("s", "t"), ("r", "r")]);
+}
+
+#[test]
 fn a_refusal_is_read_from_its_json() {
     let sources = Sources::from_iter([("a.wit", "package a:b;"), ("b \"q\".wit", "interface i { type t = u; }")]);
     let refusal = package(&sources).expect_err("refused");
@@ -172,7 +190,7 @@ fn other_json_is_no_group() {
     let json = resolve_json("package a:b;").expect("legal");
     assert!(Group::from_json(&json).is_ok());
     for wrong in ["", "{}", "null", "[", "{\"sources\":[],\"packages\":1}", &format!("{json} "), &json[1..], &"[".repeat(100_000)] {
-        assert_eq!(Group::from_json(wrong), Err(NoGroup), "{wrong:.40}");
+        assert_eq!(Group::from_json(wrong), Err(InvalidJson), "{wrong:.40}");
     }
     let more = json.replacen("{\"sources\"", "{\"later\":[{\"a\":0}],\"sources\"", 1);
     assert_eq!(Group::from_json(&more).expect("a group").to_json(), json);
