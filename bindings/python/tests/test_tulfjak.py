@@ -8,6 +8,8 @@ import re
 import subprocess
 import sys
 import unittest
+from collections.abc import Callable
+from typing import Any
 
 import tulfjak
 from tulfjak import Group, Refusal, data
@@ -30,15 +32,16 @@ def rows() -> list[tuple[str, str, str]]:
             front, _, wanted = f"{row}\n".partition("\n=>\n")
             head, _, sources = front.partition("\n")
             name, _, view = head.partition(" ")
-            meant = unescape if name.endswith("\\") else str
+            if name.endswith("\\"):
+                sources, wanted = unescape(sources), unescape(wanted)
             if view in ("listing", "input"):
-                found.append((name, meant(sources), meant(wanted)))
+                found.append((name, sources, wanted))
     return found
 
 
-def refusal_of(call, *given) -> Refusal:
+def refusal_of(call: Callable[[Any], Any], given: Any) -> Refusal:
     try:
-        call(*given)
+        call(given)
     except Refusal as refusal:
         return refusal
     raise AssertionError("not refused")
@@ -65,7 +68,7 @@ class Rows(unittest.TestCase):
         self.assertEqual(done.stdout.decode(), lines + "\n")
 
     def test_no_object_has_a_key_twice(self) -> None:
-        def once(pairs: list) -> dict:
+        def once(pairs: list[tuple[str, Any]]) -> dict[str, Any]:
             self.assertEqual(len(dict(pairs)), len(pairs))
             return dict(pairs)
 
@@ -96,7 +99,9 @@ class Sources(unittest.TestCase):
         self.assertEqual(color.owner, data.ItemId("interface", 0))
         function = interface.functions["f"]
         self.assertEqual(function.kind, data.FunctionKind("freestanding"))
-        self.assertEqual(group.main.types[function.params[0].type].kind, data.Handle("borrow", interface.types["r"]))
+        to = function.params[0].type
+        assert isinstance(to, int)
+        self.assertEqual(group.main.types[to].kind, data.Handle("borrow", interface.types["r"]))
         place = group.locate(function.span)
         assert place is not None
         self.assertEqual((place[0].path, text[place[1] : place[2]]), ("a.wit", "f"))
@@ -122,7 +127,7 @@ class Sources(unittest.TestCase):
         path, name = "p" * 1000, "n" * 2000
         refusal = refusal_of(tulfjak.check, f"=== {path}\npackage a:b; interface i {{ type t = {name}; }}")
         self.assertEqual((refusal.path, refusal.message), (path, f"type `{name}` does not exist"))
-        self.assertIsNone(tulfjak.check("package a:b;"))
+        tulfjak.check("package a:b;")
 
     def test_other_json_is_no_group(self) -> None:
         for wrong in ("", "{}", "1", "[]", '{"sources":[],"packages":1}', '{"sources":[],"packages":[{}]}'):

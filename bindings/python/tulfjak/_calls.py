@@ -32,8 +32,8 @@ class _Fields(ctypes.Structure):
 def _load() -> ctypes.CDLL:
     here = pathlib.Path(__file__).resolve().parent
     beside = (here / "libwit_ffi.so", here.parent.parent / "out" / "libwit_ffi.so")
-    path = os.environ.get("TULFJAK_LIBRARY") or next((path for path in beside if path.exists()), beside[0])
-    library = ctypes.CDLL(os.fspath(path))
+    found = next((path for path in beside if path.exists()), beside[0])
+    library = ctypes.CDLL(os.environ.get("TULFJAK_LIBRARY") or os.fspath(found))
     for call in (library.wit_ffi_answer, library.wit_ffi_package):
         call.argtypes = (*_TEXT, *_TEXT, _LEN)
         call.restype = ctypes.c_uint8

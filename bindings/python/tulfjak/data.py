@@ -4,7 +4,7 @@ import json
 from dataclasses import dataclass
 from typing import ClassVar, Literal, NewType
 
-from tulfjak._schema import Docs, read, write
+from tulfjak._schema import Docs, reader, writer
 
 WorldId = NewType("WorldId", int)
 """A place in the worlds of a package."""
@@ -422,11 +422,11 @@ class Group:
         not the JSON of a group."""
         value = json.loads(text)
         try:
-            group: Group = read(Group, value)
+            group: Group = reader(Group)(value)
         except (AttributeError, KeyError, TypeError) as error:
             raise ValueError("not the JSON of a group of packages") from error
         return group
 
     def to_json(self) -> str:
         """The group as JSON: of a group that the library made, the very text that the library wrote."""
-        return json.dumps(write(Group, self), ensure_ascii=False, separators=(",", ":"))
+        return json.dumps(writer(Group)(self), ensure_ascii=False, separators=(",", ":"))
