@@ -124,6 +124,14 @@ def run(command, text):
     return done.returncode, done.stdout.decode()
 
 
+def first_difference(wanted, told, at):
+    """Where two values first differ, with both, if they do."""
+    if type(wanted) is not type(told) or not isinstance(wanted, (list, tuple)) or len(wanted) != len(told):
+        return None if wanted == told else f"{at}: {str(told)[:80]}, not {str(wanted)[:80]}"
+    inside = (first_difference(*pair, f"{at}.{pair[0] if isinstance(pair[0], str) else n}") for n, pair in enumerate(zip(wanted, told)))
+    return next((found for found in inside if found), None)
+
+
 def differs(program, oracle, text):
     """What differs, if something does, and whether there are packages."""
     (status, wrote), (wanted, debug) = run(program, text), run(oracle, text)
@@ -133,8 +141,7 @@ def differs(program, oracle, text):
         return None, False
     packages = [Debug(part).value() for part in re.split(r"^(?=UnresolvedPackage \{)", debug, flags=re.M)[1:]]
     told = dict(json.loads(wrote, object_pairs_hook=Pairs))["packages"]
-    return next((f"package {n}" for n, pair in enumerate(zip(packages, told)) if pair[0] != pair[1]), None) or (
-        None if len(packages) == len(told) else "how many packages"), True
+    return first_difference(packages, told, "packages"), True
 
 
 def main():

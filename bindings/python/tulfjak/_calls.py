@@ -5,6 +5,7 @@ import json
 import os
 import pathlib
 from collections.abc import Callable, Iterable, Mapping
+from typing import NoReturn
 
 from tulfjak._refusal import Refusal
 from tulfjak.data import Group
@@ -12,6 +13,7 @@ from tulfjak.data import Group
 Sources = Mapping[str, str] | Iterable[tuple[str, str]]
 
 _MADE, _REFUSED = 0, 1
+_OUT_OF_MEMORY = 45
 _TEXT = (ctypes.c_char_p, ctypes.c_size_t)
 _LEN = ctypes.POINTER(ctypes.c_size_t)
 
@@ -64,11 +66,17 @@ def _of_text(call: Callable[..., int], text: str, factor: int) -> tuple[int, str
     return _written(factor * len(source) + 1024, lambda *buffer: call(source, len(source), *buffer))
 
 
+def _refuse(rule: int, path: str | None, start: int, end: int, message: str) -> NoReturn:
+    if rule == _OUT_OF_MEMORY:
+        raise MemoryError
+    raise Refusal(rule, path, start, end, message)
+
+
 def _made(status: int, written: str) -> str:
     """What is written of packages."""
     if status == _REFUSED:
         error = json.loads(written)["error"]
-        raise Refusal(error["rule"], error.get("path"), error.get("start", 0), error.get("end", 0), error["message"])
+        _refuse(error["rule"], error.get("path"), error.get("start", 0), error.get("end", 0), error["message"])
     if status != _MADE:
         raise MemoryError
     return written
@@ -104,7 +112,7 @@ def check(text: str) -> None:
         path_len, message_len = max(path_len, fields.path_len), max(message_len, fields.message_len)
     if status == _REFUSED:
         where = ctypes.string_at(path, fields.path_len).decode() if fields.placed else None
-        raise Refusal(fields.rule, where, fields.start, fields.end, ctypes.string_at(message, fields.message_len).decode())
+        _refuse(fields.rule, where, fields.start, fields.end, ctypes.string_at(message, fields.message_len).decode())
     if status != _MADE:
         raise MemoryError
 

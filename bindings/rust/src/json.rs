@@ -1,4 +1,4 @@
-//! JSON, as far as the library writes it: no fraction, no negative number, no `true` and no `false`.
+//! JSON, with such numbers as the library writes: no fraction, no exponent and no sign.
 
 use std::fmt::{self, Write};
 
@@ -6,6 +6,7 @@ use std::fmt::{self, Write};
 #[derive(Clone, Debug, PartialEq, Eq)]
 pub enum Json {
     Null,
+    Bool(bool),
     Number(u64),
     String(String),
     Array(Vec<Json>),
@@ -20,6 +21,7 @@ impl Json {
     pub fn parse(text: &str) -> Option<Json> {
         let mut reader = Reader { text, at: 0 };
         let value = reader.value(MAX_DEPTH)?;
+        reader.skip_space();
         (reader.at == text.len()).then_some(value)
     }
 
@@ -63,6 +65,7 @@ impl fmt::Display for Json {
     fn fmt(&self, f: &mut fmt::Formatter<'_>) -> fmt::Result {
         match self {
             Json::Null => f.write_str("null"),
+            Json::Bool(value) => write!(f, "{value}"),
             Json::Number(number) => write!(f, "{number}"),
             Json::String(text) => write_string(f, text),
             Json::Array(items) => {
@@ -120,10 +123,26 @@ impl Reader<'_> {
         self.text.get(self.at..)?.starts_with(wanted).then(|| self.at += wanted.len())
     }
 
+    /// Reads white space.
+    fn skip_space(&mut self) {
+        while self.peek().is_some_and(|byte| matches!(byte, b' ' | b'\t' | b'\n' | b'\r')) {
+            self.at += 1;
+        }
+    }
+
+    /// Reads exactly this text, after white space.
+    fn token(&mut self, wanted: &str) -> Option<()> {
+        self.skip_space();
+        self.expect(wanted)
+    }
+
     fn value(&mut self, depth: usize) -> Option<Json> {
         let inside = depth.checked_sub(1)?;
+        self.skip_space();
         match self.peek()? {
             b'n' => self.expect("null").map(|()| Json::Null),
+            b't' => self.expect("true").map(|()| Json::Bool(true)),
+            b'f' => self.expect("false").map(|()| Json::Bool(false)),
             b'"' => self.string().map(Json::String),
             b'[' => self.list("[", "]", |it| it.value(inside)).map(Json::Array),
             b'{' => self.list("{", "}", |it| it.member(inside)).map(Json::Object),
@@ -133,22 +152,22 @@ impl Reader<'_> {
 
     fn member(&mut self, depth: usize) -> Option<(String, Json)> {
         let name = self.string()?;
-        self.expect(":")?;
+        self.token(":")?;
         Some((name, self.value(depth)?))
     }
 
     fn list<T>(&mut self, open: &str, close: &str, item: impl Fn(&mut Self) -> Option<T>) -> Option<Vec<T>> {
         self.expect(open)?;
         let mut items = Vec::new();
-        if self.expect(close).is_some() {
+        if self.token(close).is_some() {
             return Some(items);
         }
         loop {
             items.push(item(self)?);
-            if self.expect(close).is_some() {
+            if self.token(close).is_some() {
                 return Some(items);
             }
-            self.expect(",")?;
+            self.token(",")?;
         }
     }
 
@@ -161,7 +180,7 @@ impl Reader<'_> {
     }
 
     fn string(&mut self) -> Option<String> {
-        self.expect("\"")?;
+        self.token("\"")?;
         let mut text = String::new();
         loop {
             let rest = self.text.get(self.at..)?;

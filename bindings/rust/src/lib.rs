@@ -123,11 +123,11 @@ impl fmt::Display for InvalidJson {
 impl Error for InvalidJson {}
 
 impl Group {
-    /// The group of a JSON text, which has no spaces between values.
+    /// The group of a JSON text. Members that the schema does not have are passed over.
     ///
     /// # Errors
     ///
-    /// It is not the JSON of a group. Members that the schema does not have are passed over.
+    /// It is not the JSON of a group.
     pub fn from_json(text: &str) -> Result<Group, InvalidJson> {
         json::Json::parse(text).and_then(|json| schema::Schema::read(&json)).ok_or(InvalidJson)
     }

@@ -27,24 +27,24 @@ type Call = unsafe extern "C" fn(*const u8, usize, *mut u8, usize, *mut usize) -
 
 // Nothing compares these with the library's own declarations. A slice is a pointer and a length.
 unsafe extern "C" {
-    fn wit_ffi_answer(text: *const u8, text_len: usize, told: *mut u8, told_len: usize, len: *mut usize) -> u8;
-    fn wit_ffi_package(text: *const u8, text_len: usize, told: *mut u8, told_len: usize, len: *mut usize) -> u8;
+    fn wit_ffi_answer(text: *const u8, text_len: usize, buffer: *mut u8, capacity: usize, len: *mut usize) -> u8;
+    fn wit_ffi_package(text: *const u8, text_len: usize, buffer: *mut u8, capacity: usize, len: *mut usize) -> u8;
     fn wit_ffi_package_of(
         bytes: *const u8,
         bytes_len: usize,
         lens: *const usize,
         lens_len: usize,
-        told: *mut u8,
-        told_len: usize,
+        buffer: *mut u8,
+        capacity: usize,
         len: *mut usize,
     ) -> u8;
     fn wit_ffi_check(
         text: *const u8,
         text_len: usize,
         path: *mut u8,
-        path_len: usize,
+        path_capacity: usize,
         message: *mut u8,
-        message_len: usize,
+        message_capacity: usize,
         refusal: *mut Fields,
     ) -> u8;
     fn wit_ffi_version() -> u32;

@@ -189,10 +189,13 @@ fn much_json_of_little_text() {
 fn other_json_is_no_group() {
     let json = resolve_json("package a:b;").expect("legal");
     assert!(Group::from_json(&json).is_ok());
-    for wrong in ["", "{}", "null", "[", "{\"sources\":[],\"packages\":1}", &format!("{json} "), &json[1..], &"[".repeat(100_000)] {
+    for wrong in ["", "{}", "null", "[", "{\"sources\":[],\"packages\":1}", &format!("{json},"), &json[1..], &"[".repeat(100_000)] {
         assert_eq!(Group::from_json(wrong), Err(InvalidJson), "{wrong:.40}");
     }
-    let more = json.replacen("{\"sources\"", "{\"later\":[{\"a\":0}],\"sources\"", 1);
+    for end in 0..json.len() {
+        assert_eq!(Group::from_json(&json[..end]), Err(InvalidJson), "{end}");
+    }
+    let more = json.replacen("{\"sources\"", " {\n\"later\" : [ { \"a\": 0 }, true ],\t\"sources\"", 1) + "\r\n";
     assert_eq!(Group::from_json(&more).expect("a group").to_json(), json);
 }
 
