@@ -1,28 +1,29 @@
-// Reads a text from standard input and writes what is told of it to standard output; of a refusal, its
-// fields to standard error. The status is the library's answer, or 4 where memory or input is wanted.
+// Reads a text from standard input and writes the listing of its packages, or the line of their refusal, to
+// standard output; of a refusal, its fields to standard error. The status is the library's answer, or 4
+// where input cannot be read or an allocation fails.
 #include "wit_ffi.h"
 #include <stdio.h>
 #include <stdlib.h>
 
 // All of standard input, or NULL.
 static uint8_t *read_all(size_t *len) {
-    size_t room = 4096;
-    uint8_t *text = malloc(room);
+    size_t capacity = 4096;
+    uint8_t *text = malloc(capacity);
     *len = 0;
     while (text) {
-        size_t got = fread(text + *len, 1, room - *len, stdin);
+        size_t got = fread(text + *len, 1, capacity - *len, stdin);
         *len += got;
         if (got == 0) break;
-        if (*len < room) continue;
-        uint8_t *more = realloc(text, room *= 2);
+        if (*len < capacity) continue;
+        uint8_t *more = realloc(text, capacity *= 2);
         if (!more) free(text);
         text = more;
     }
     return text;
 }
 
-// Writes the fields of the refusal of a text. The path and the words get as much room as is enough for
-// most; what is longer is cut.
+// Writes the fields of the refusal of a text. The buffers are long enough for most paths and messages;
+// what is longer is cut.
 static void write_refusal(const uint8_t *text, size_t text_len) {
     uint8_t path[256] = {0}, message[256] = {0};
     struct wit_ffi_refusal refusal = {0};
@@ -38,21 +39,21 @@ int main(void) {
     size_t text_len, len = 0;
     uint8_t *text = read_all(&text_len);
     if (!text) return 4;
-    // A guess of how much is told; where it is too little, `len` says how much it is.
-    size_t room = 4 * text_len + 256;
-    uint8_t *told = calloc(room, 1);
-    if (!told) return 4;
-    uint8_t status = wit_ffi_answer(text, text_len, told, room, &len);
-    if (len > room) {
-        free(told);
-        room = len;
-        told = calloc(room, 1);
-        if (!told) return 4;
-        status = wit_ffi_answer(text, text_len, told, room, &len);
+    // A guess of how long the result is; where it is longer, `len` says how long.
+    size_t capacity = 4 * text_len + 256;
+    uint8_t *buffer = calloc(capacity, 1);
+    if (!buffer) return 4;
+    uint8_t status = wit_ffi_answer(text, text_len, buffer, capacity, &len);
+    if (len > capacity) {
+        free(buffer);
+        capacity = len;
+        buffer = calloc(capacity, 1);
+        if (!buffer) return 4;
+        status = wit_ffi_answer(text, text_len, buffer, capacity, &len);
     }
-    fwrite(told, 1, len, stdout);
+    fwrite(buffer, 1, len, stdout);
     if (status == WIT_FFI_REFUSED) write_refusal(text, text_len);
-    free(told);
+    free(buffer);
     free(text);
     return status;
 }

@@ -3,22 +3,12 @@
 
 mod rows;
 
-use rows::{Row, rows_of};
+use rows::{Row, all_rows, split};
 use tulfjak::{Answer, Refusal, answer, check, resolve};
 
 /// The sources of a text at a path.
 fn sources_at(text: &str, path: &str) -> Vec<String> {
-    let mut sources = vec![("stdin.wit", String::new())];
-    for line in text.split_inclusive('\n') {
-        match line.strip_prefix("=== ") {
-            Some(path) => {
-                let path = path.strip_suffix('\n').unwrap_or(path);
-                sources.push((path.strip_suffix('\r').unwrap_or(path), String::new()));
-            }
-            None => sources.last_mut().expect("a source").1.push_str(line),
-        }
-    }
-    sources.into_iter().filter(|it| it.0 == path).map(|it| it.1).collect()
+    split(text).into_iter().filter(|it| it.0 == path).map(|it| it.1).collect()
 }
 
 /// The lines of a refusal, made of its fields: one for each source at its path.
@@ -37,7 +27,7 @@ fn lines_of(text: &str, refusal: &Refusal) -> Vec<String> {
 
 /// Checks all that is told of the text of a row.
 fn check_row(row: &Row) {
-    let Row { name, text, wanted } = row;
+    let Row { name, text, wanted, .. } = row;
     match answer(text.as_bytes()) {
         Answer::Listing(listing) => {
             assert_eq!(&listing, wanted, "{name}");
@@ -56,7 +46,7 @@ fn check_row(row: &Row) {
 
 /// Checks the rows of a view, and that there are some.
 fn check_view(view: &str, least: usize) {
-    let rows = rows_of(view);
+    let rows: Vec<_> = all_rows().into_iter().filter(|row| row.view == view).collect();
     assert!(rows.len() >= least, "{} rows of {view}", rows.len());
     rows.iter().for_each(check_row);
 }
