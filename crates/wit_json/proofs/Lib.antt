@@ -1,0 +1,4 @@
+pub mod Closing
+pub mod Depths
+pub mod Growing
+pub mod Reading
