@@ -1,6 +1,7 @@
 pub mod Functions
 pub mod Group
 pub mod Interfaces
+pub mod Keys
 pub mod Kinds
 pub mod Metadata
 pub mod Package

@@ -8,6 +8,7 @@ mod functions;
 pub mod group;
 mod interfaces;
 mod kinds;
+pub mod laws;
 mod lists;
 mod members;
 mod metadata;
