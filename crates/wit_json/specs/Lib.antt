@@ -1,0 +1,13 @@
+pub mod Functions
+pub mod Group
+pub mod Interfaces
+pub mod Keys
+pub mod Kinds
+pub mod Metadata
+pub mod Package
+pub mod Refusal
+pub mod Tokens
+pub mod Types
+pub mod Values
+pub mod Words
+pub mod Worlds
