@@ -1,8 +1,8 @@
 //! Prints C declarations of the packages in the files that are named, with their docs: a small generator.
-//! It declares each type, and the functions of interfaces and worlds.
+//! It declares each type, and the functions of interfaces and worlds. It does not look for names that are one in C alone.
 
 use std::error::Error;
-use tulfjak::{Docs, Flags, Function, Handle, Interface, InterfaceId, ItemId, Package, Sources};
+use tulfjak::{Docs, Flags, Function, Handle, Interface, InterfaceId, ItemId, Package, Param, Sources};
 use tulfjak::{Type, TypeDef, TypeDefKind, TypeId, WorldItem};
 
 const KEYWORDS: &str = " auto bool break case char const continue default do double else enum extern false float for goto if \
@@ -31,9 +31,11 @@ fn print_package(package: &Package) {
     }
     for (id, world) in package.worlds.iter() {
         let of = owner_name(package, ItemId::World(id));
-        for item in world.imports.values().chain(world.exports.values()) {
-            if let WorldItem::Function(function) = item {
-                print_function(package, &of, function);
+        for (side, items) in [(&of, &world.imports), (&format!("exports_{of}"), &world.exports)] {
+            for item in items.values() {
+                if let WorldItem::Function(function) = item {
+                    print_function(package, side, function);
+                }
             }
         }
     }
@@ -45,15 +47,15 @@ fn print_docs(docs: &Docs) {
     }
 }
 
-/// A name as C has it: `-`, and the signs of mangled names, become `_`.
+/// A name as C has it: `-` becomes `_`, and the signs of mangled names `__`.
 fn c_name(name: &str) -> String {
-    let name = name.trim_start_matches('[').replace(|letter: char| !letter.is_ascii_alphanumeric(), "_");
+    let name = name.trim_start_matches('[').replace("][", "_").replace([']', '.'], "__").replace(['-', ':'], "_");
     if KEYWORDS.contains(&format!(" {name} ")) { name + "_" } else { name }
 }
 
 /// What an interface is called: by its name, or, without one, by its place.
 fn interface_name(id: InterfaceId, interface: &Interface) -> String {
-    interface.name.clone().unwrap_or_else(|| format!("interface{id}"))
+    interface.name.clone().unwrap_or_else(|| format!("_{id}"))
 }
 
 /// The front of the names of what an item owns.
@@ -116,7 +118,9 @@ fn definition(package: &Package, id: TypeId, ty: &TypeDef) -> String {
         TypeDefKind::FixedLengthList(ty, len) => format!("{} items[{len}];", type_name(package, *ty)),
         TypeDefKind::Resource | TypeDefKind::Future(_) | TypeDefKind::Stream(_) => "int32_t handle;".into(),
         TypeDefKind::Unknown => "void *of_another_package;".into(),
-        TypeDefKind::Handle(Handle::Own(id) | Handle::Borrow(id)) => return format!("typedef {} {name};", entry_name(package, *id)),
+        TypeDefKind::Handle(Handle::Own(id) | Handle::Borrow(id)) => {
+            return format!("typedef {} {name};", entry_name(package, *id));
+        }
         TypeDefKind::Type(ty) => return format!("typedef {} {name};", type_name(package, *ty)),
     };
     format!("typedef struct {{ {} }} {name};", body.trim_end())
@@ -130,7 +134,8 @@ fn flags_of(name: &str, flags: &Flags) -> String {
 
 fn print_function(package: &Package, of: &str, function: &Function) {
     print_docs(&function.docs);
-    let params: Vec<_> = function.params.iter().map(|param| format!("{} {}", type_name(package, param.ty), c_name(&param.name))).collect();
+    let param = |it: &Param| format!("{} {}", type_name(package, it.ty), c_name(&it.name));
+    let params: Vec<_> = function.params.iter().map(param).collect();
     let params = if params.is_empty() { "void".into() } else { params.join(", ") };
     let result = function.result.map_or("void".into(), |ty| type_name(package, ty));
     println!("{result} {of}_{}({params});", c_name(&function.name));

@@ -89,7 +89,8 @@ fn ids_point_backward_and_spans_lie_in_sources() {
 
 #[test]
 fn docs_stability_and_places() {
-    let text = "package a:b@1.0.0;\n/// Docs, \"quoted\" \\ \u{e9}.\n@since(version = 1.2.0)\n@deprecated(version = 1.3.0)\ninterface i {\n  /// Two\n  /// lines.\n  @unstable(feature = fresh)\n  f: func();\n}";
+    let text = "package a:b@1.0.0;\n/// Docs, \"quoted\" \\ \u{e9}.\n@since(version = 1.2.0)\n@deprecated(version = 1.3.0)\n\
+        interface i {\n  /// Two\n  /// lines.\n  @unstable(feature = fresh)\n  f: func();\n}";
     let group = group_of(text);
     let package = group.main();
     let interface = package.interfaces.values().next().expect("an interface");

@@ -34,7 +34,10 @@ impl Schema for Type {
     fn write(&self) -> Json {
         match self {
             Type::Id(id) => id.write(),
-            word => PRIMITIVES.iter().find(|primitive| primitive.1 == *word).map_or(Json::Null, |primitive| Json::String(primitive.0.into())),
+            word => {
+                let primitive = PRIMITIVES.iter().find(|primitive| primitive.1 == *word);
+                primitive.map_or(Json::Null, |primitive| Json::String(primitive.0.into()))
+            }
         }
     }
 }
