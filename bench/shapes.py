@@ -133,6 +133,25 @@ def packages(n):
     return HEADER + first + ''.join('package a:p%d { interface i { use a:p%d/i.{t}; } }\n' % (k, k - 1) for k in range(1, n))
 
 
+def versions(n):
+    """n packages of one name in one file, each in a version of its own."""
+    return HEADER + ''.join('package a:p@1.0.%d { interface i { type t = u8; } }\n' % k for k in range(n))
+
+
+def files(n):
+    """n files, each with two names of its own for one interface, and an interface that uses a name by each."""
+    first = '=== f0.wit\n' + HEADER + 'interface i0 { type t = u8; }\n'
+    file = '=== f%d.wit\nuse i0 as m;\nuse i0 as n;\ninterface i%d { use m.{t}; use n.{t as u}; }\n'
+    return first + ''.join(file % (k, k) for k in range(1, n))
+
+
+def top_names(n):
+    """n files, each with ten names of its own for one interface, and nothing else."""
+    first = '=== f0.wit\n' + HEADER + 'interface i { type t = u8; }\n'
+    names = ''.join('use i as n%d;\n' % k for k in range(10))
+    return first + ''.join('=== f%d.wit\n%s' % (k, names) for k in range(1, n))
+
+
 def aliases(n):
     """n interfaces, each under another name of the file, by which a world uses it."""
     declared = ''.join('interface i%d { type t = u8; }\nuse i%d as j%d;\n' % (k, k, k) for k in range(n))
@@ -162,6 +181,12 @@ def functions(n):
 def resources(n):
     """n resources, each with a constructor, a method and a static function."""
     return HEADER + interface('i', ['resource r%d { constructor(a: u8); m: func(b: borrow<r%d>) -> u8; s: static func() -> r%d; }' % (k, k, k) for k in range(n)])
+
+
+def world_resources(n):
+    """A world with n resources, each with a constructor, a method, a static function, and a setter behind its getter."""
+    parts = 'constructor(a: u8); m: func(b: borrow<r%d>) -> u8; s: static func() -> r%d; v: get() -> u8; v: set(a: u8);'
+    return HEADER + 'world w {\n' + '\n'.join('resource r%d { ' % k + parts % (k, k) + ' }' for k in range(n)) + '\n}\n'
 
 
 def handles(n):
@@ -210,7 +235,7 @@ def stable(n):
 
 
 SHAPES = [platform, chain, turned_chain, interfaces, apart, shared, uses, one_use, lists, same_list, fields, nested, worlds,
-          sides, imports, packages, aliases, foreign, foreign_uses, foreign_names, functions, methods, resources, handles, handle_ends, accessors, early_setters,
+          sides, imports, packages, versions, files, top_names, aliases, foreign, foreign_uses, foreign_names, functions, methods, resources, world_resources, handles, handle_ends, accessors, early_setters,
           parameters, docs, long_docs, stable, comment]
 
 if __name__ == '__main__':

@@ -8,13 +8,14 @@ ghost use Rattle.wit_reader.specs.Fronts.{Completes, IsReadBehind};
 ghost use Rattle.wit_reader.specs.Headers.{found_version};
 
 use crate::reader::Reader;
+use crate::room::add;
 use semver::Version;
 use wit_lex::fault::ReadResult;
 use wit_lex::kind::Kind;
 use wit_lex::word::Word;
 use wit_tree::Span;
 use wit_tree::tree::{Attribute, Docs, Id, PackageName, ToplevelUse, Use, UseName, UsePath};
-use wit_values::{beside, push};
+use wit_values::{beside, fitted};
 
 /// The package that a path names, with the version that was found behind the item's name.
 fn path_package<'a>(
@@ -127,10 +128,10 @@ impl<'a> Reader<'a> {
         let mut names = Vec::new(self.alloc);
         'names: while more {
             let used = self.read_used()?;
-            push(&mut names, used)?;
+            add(&mut names, used, self.at(Kind::CloseBrace))?;
             more = self.next_in_list(Kind::CloseBrace)?;
         }
-        Ok(names)
+        Ok(fitted(names))
     }
 
     /// Reads what stands behind the path of a `use`: `.{name, name as name, ..};`.
