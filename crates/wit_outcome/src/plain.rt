@@ -1,13 +1,13 @@
 //! A refusal of sources as plain fields.
-ghost use Rattle.std.specs.Prelude.{◌≡◌, ℕ, Some, IfNone, IfOk, IfSome, slice_get};
+ghost use Rattle.std.specs.Prelude.{◌≡◌, IfNone, IfOk, IfSome};
 ghost use Rattle.wit_lex.specs.declared.source.Source.{Source};
-ghost use Rattle.wit_lex.specs.Sources.{LiesIn};
 ghost use Rattle.wit_outcome.specs.Plain.{IsHolding, IsPlain, IsPlaced, no_refusal};
 
 use std::alloc::{AllocError, Global};
 use wit_lex::Source;
+use wit_lex::source_map::source_with;
 use wit_type_tree::ParseError;
-use wit_values::{Span, Text};
+use wit_values::Text;
 
 /// A refusal of sources as plain fields.
 #[derive(Drop)]
@@ -37,19 +37,6 @@ pub fn no_refusal(alloc: Global) -> Plain
         path: Text::from(String::new(alloc)),
         message: Text::from(String::new(alloc)),
     }
-}
-
-/// The source in which a span lies.
-fn source_with(sources: &[Source], span: Span) -> Option<&Source>
-    ensures found { IfSome result (λ source. (i : ℕ) × (slice_get sources.now i ≡ Some source.now) × LiesIn source.now span) }
-    ensures none { IfNone result ((i : ℕ) (s : Source) → slice_get sources.now i ≡ Some s → LiesIn s span → ⊥) }
-{
-    for source in sources {
-        if let Some(_place) = source.locate(span) {
-            return Some(source);
-        }
-    }
-    None
 }
 
 /// The source in which a refusal is.
