@@ -24,8 +24,9 @@ use Rattle.wit_arena.specs.Resolving.{Env, Names, env_of, AreNames, AreResolved,
 use Rattle.wit_syntax.proofs.Lists.{at_front, at_back, at_split}
 use Rattle.wit_arena.proofs.Meeting.{meets_append, meets_grown, names_kept}
 use Rattle.wit_arena.proofs.Resolving.{resolved_none, resolved_more}
-use Rattle.wit_arena.specs.Adding.{gathered, AreShapes, IsKindIn, SaysFunction}
+use Rattle.wit_arena.specs.Adding.{gathered, AreShapes, IsKindIn, SaysParam}
 use Rattle.wit_arena.proofs.Signatures.{AreTyped, functions_grown, names_beside}
+use Rattle.wit_syntax.specs.Notes.{AreNotes, notes, docs_of}
 
 -- functions behind others
 are_append : (ks : List Key) (s : Address) (fns gns : List SourceFunction) (fs gs : List Function) → AreFunctions ks s fns fs → AreFunctions ks s gns gs → AreFunctions ks s (fns ++ gns) (fs ++ gs)
@@ -109,6 +110,15 @@ typed_back ks s xs ys ts us long h = record {
   count = (let a = length-append ts us in let b = length-append xs ys in let c = h.count in omega arith);
   each = λ k x t at there. h.each (length xs + k) x t (at_back xs ys k x at) (subst (λ (n : ℕ). slice_get (ts ++ us) (n + k) ≡ Some t) long (at_back ts us k t there));
 }
+
+-- a function of the package is the written one apart from its types
+pub record SaysFunction (env : Env) (fn : SourceFunction) (f : Function) : Type 0 where
+  pub name : f.name ≡ fn.name
+  pub kind : IsKindIn env fn.role f.kind
+  pub count : length f.params ≡ length (all_params fn)
+  pub params : (k : ℕ) (w : SourceParam) (p : Param) → slice_get (all_params fn) k ≡ Some w → slice_get f.params k ≡ Some p → SaysParam w p
+  pub span : f.span ≡ fn.span
+  pub notes : AreNotes (notes (docs_of fn.docs) fn.attributes) f.docs f.stability f.external_id
 
 -- a function whose types stand at their places is the written one
 function_is : (ks : List Key) (s : Address) (env : Env) (fn : SourceFunction) (f : Function) → AreNames ks s env → SaysFunction env fn f → AreAt ks (exprs_of s (gathered (signature fn))) (function_types f) → IsFunction ks s fn f

@@ -31,7 +31,7 @@ use Rattle.wit_syntax.specs.Signature.{OfFunction, OfNothing}
 use Rattle.wit_syntax.specs.Repeats.{AllDiffer}
 use Rattle.wit_arena.specs.Whole.{Ordered, Turned}
 use Rattle.wit_arena.specs.Resolving.{Names as Table, Cell, cell, cells, env_of, Required, IsIndex, IsFound, Unresolved, Unstated, OfFunction, WrongName, WrongItself, IsWrongScope, IsWorldIndex, IsNoWorld, IsLostInclude, IsLostLink}
-use Rattle.wit_arena.specs.Resolved.{worlds_at, WorldArenas, front_worlds, AddsWorlds, AddsForeign, AreUsableUses, IsWrongHandleNow, WrongStability, WrongScope, WrongSides, WrongWorldSides, WrongLinks, UnpairedOnSide, WrongHandle, Unpaired, IsWrongInline, WrongInline, WrongWorldStability, WrongWorldScope, WrongWorldHandle, WrongWorldUse, LostLink, LostInclude, IsWrongAmong, IsWrongWorldAmong}
+use Rattle.wit_arena.specs.Resolved.{worlds_at, WorldArenas, front_worlds, AddsWorlds, AddsForeign, AreUsableUses, IsWrongHandleNow, WrongStability, WrongScope, WrongSides, WrongWorldSides, WrongLinks, UnpairedOnSide, WrongHandle, Unpaired, IsWrongInline, WrongInline, WrongWorldStability, WrongWorldScope, WrongWorldHandle, WrongWorldUse, LostLink, LostInclude, AddsInterfaces, IsWrongNow, IsWrongWorldNow}
 use Rattle.wit_syntax.proofs.Lists.{at_back, at_seam, at_split, map_at}
 use Rattle.wit_syntax.proofs.Firsts.{firsts_has}
 use Rattle.wit_syntax.proofs.Found.{at_contains, contains_at, find_at, find_passes}
@@ -288,14 +288,14 @@ module _ (files : List PackageFile) (places : List ℕ) (order : IsOrder (item_r
 
   module _ (uses : AreUsableUses files all) where
     -- what is wrong with an interface, once those before it in the order were resolved, is wrong with the files
-    pub broken_among : (f : Fault) → IsWrongAmong files all places f → IsBroken files f
-    broken_among f h =
+    pub broken_now : (es : List TypeDef) (front : List Interface) (ws : List World) → AddsForeign files es front ws → (f : Fault) → IsWrongNow (map visited (foreign_interfaces files)) es front all places f → IsBroken files f
+    broken_now es front ws foreign f h =
         let k = h.count in
         let w = h.item in
         let p = h.next.place in
         let fore = map visited (foreign_interfaces files) in
         let vs = interfaces_of (in_order all (take k places)) in
-        let d = interfaces_done files interfaces worlds (interfaces_sort (in_order all places)) (worlds_sort (in_order all places)) are_interfaces are_worlds uses h.es h.front h.ws h.foreign h.mid h.before h.rs vs (λ j v at. kept_front (λ (i : Item). not (is_world i)) all places k j v at) h.added in
+        let d = interfaces_done files interfaces worlds (interfaces_sort (in_order all places)) (worlds_sort (in_order all places)) are_interfaces are_worlds uses es front ws foreign h.mid h.before h.rs vs (λ j v at. kept_front (λ (i : Item). not (is_world i)) all places k j v at) h.added in
         let earlier : (from : Address) (attributes : List Attribute) (n : UseName) → Contains (scope_names w) (Used from attributes n) → IsResolvedUse vs from ⊎ IsForeignUse files from n = λ from attributes n among. elim (used_before files uses differ places order k p w from attributes n h.sort h.next.next h.next.at among) [
           | inl b ↦ (
               let it = kept_early (λ (i : Item). not (is_world i)) all places k b.index b.own.place b.own.item b.before b.at b.own.at (ap not b.own.sort) in
@@ -307,9 +307,9 @@ module _ (files : List PackageFile) (places : List ℕ) (order : IsOrder (item_r
         let next = next_kept (λ (i : Item). not (is_world i)) k p w h.next.next h.next.at (ap not h.sort) in
         elim h.wrong [
           | WrongStability wrong ↦ stability_broken files w declared f wrong
-          | WrongScope wrong ↦ wrong_scope uses h.es h.front h.ws h.foreign vs h.mid d.0 h.rs d.2 h.by_name (subst (λ (l : List Interface). IsIndex (cells fore l) h.by_name) d.1 h.index) w here earlier f (subst (λ (l : List Interface). IsWrongScope (cells fore l) h.by_name (scope_names w) (functions w) f) d.1 wrong)
+          | WrongScope wrong ↦ wrong_scope uses es front ws foreign vs h.mid d.0 h.rs d.2 h.by_name (subst (λ (l : List Interface). IsIndex (cells fore l) h.by_name) d.1 h.index) w here earlier f (subst (λ (l : List Interface). IsWrongScope (cells fore l) h.by_name (scope_names w) (functions w) f) d.1 wrong)
           | WrongSides wrong ↦ Sides w here wrong
-          | WrongHandle wrong ↦ handled w here f (interface_handle files interfaces worlds (interfaces_sort (in_order all places)) (worlds_sort (in_order all places)) are_interfaces are_worlds uses h.es h.front h.ws h.foreign vs h.mid d.0 h.rs w next d.2 f (subst (λ (l : List Interface). IsWrongHandleNow h.mid (cells fore l) (owner.Interface (length l)) w f) d.1 wrong))
+          | WrongHandle wrong ↦ handled w here f (interface_handle files interfaces worlds (interfaces_sort (in_order all places)) (worlds_sort (in_order all places)) are_interfaces are_worlds uses es front ws foreign vs h.mid d.0 h.rs w next d.2 f (subst (λ (l : List Interface). IsWrongHandleNow h.mid (cells fore l) (owner.Interface (length l)) w f) d.1 wrong))
           | Unpaired alone ↦ Setter w here (alone_among w h.sort f alone)
         ]
 
@@ -335,7 +335,8 @@ module _ (files : List PackageFile) (places : List ℕ) (order : IsOrder (item_r
 
       -- what is wrong with an interface that is written in the next one is wrong with the files
       inline_broken : (f : Fault) → IsWrongInline mid (cells fore (front ++ xs)) (length (front ++ xs)) a.inside by_name (owner.World (length a.worlds)) w f → IsBroken files f
-      inline_broken f h =
+      inline_broken f g =
+          let h = g.wrong in
           let inner = h.inner in
           let here = scopes_inline files w inner declared (contains_at (inline_items w) h.done inner h.next) in
           let sort = inline_interface w h.done inner h.next in
@@ -343,13 +344,13 @@ module _ (files : List PackageFile) (places : List ℕ) (order : IsOrder (item_r
             | WrongStability wrong ↦ Sides w (scopes_declared files w declared) (inline_stability w h.done inner h.next f wrong)
             | WrongScope wrong ↦ wrong_scope uses es front wfront foreign interfaces middle xs irs d by_name index inner here (used_among inner here) f wrong
             | WrongSides wrong ↦ Sides inner here wrong
-            | WrongHandle wrong ↦ handled inner here f (inline_handle files interfaces worlds is_sort ws_sort are_interfaces are_worlds uses es front wfront foreign middle xs irs d us mid a wrs w next e h.place h.done inner h.next h.types h.middle h.mid h.adds h.now h.functions h.rs h.sides h.reached f wrong)
+            | WrongHandle wrong ↦ handled inner here f (inline_handle files interfaces worlds is_sort ws_sort are_interfaces are_worlds uses es front wfront foreign middle xs irs d us mid a wrs w next e h.place h.done inner h.next g.types g.middle h.mid g.adds h.now h.functions h.rs h.sides h.reached f wrong)
             | Unpaired alone ↦ Setter inner here (alone_among inner sort f alone)
           ]
 
     -- what is wrong with a world, once all interfaces and the worlds before it in the order were resolved, is wrong with the files
-    pub broken_world_among : (f : Fault) → IsWrongWorldAmong files all places f → IsBroken files f
-    broken_world_among f h =
+    pub broken_world_now : (es : List TypeDef) (front : List Interface) (wfront : List World) → AddsForeign files es front wfront → (middle : List TypeDef) (is : List Interface) (rs : List Required) → AddsInterfaces (map visited (foreign_interfaces files)) es middle front is rs interfaces → (by_name : Table) → IsIndex (cells (map visited (foreign_interfaces files)) is) by_name → (f : Fault) → IsWrongWorldNow files (map visited (foreign_interfaces files)) (map visited (foreign_worlds files)) middle is by_name wfront all places f → IsBroken files f
+    broken_world_now es front wfront foreign middle is rs added by_name indexed f h =
         let k = h.count in
         let w = h.item in
         let p = h.next.place in
@@ -358,22 +359,22 @@ module _ (files : List PackageFile) (places : List ℕ) (order : IsOrder (item_r
         let vs = worlds_of (in_order all (take k places)) in
         let is_sort = interfaces_sort (in_order all places) in
         let ws_sort = worlds_sort (in_order all places) in
-        let d = interfaces_done files interfaces worlds is_sort ws_sort are_interfaces are_worlds uses h.es h.front h.worlds_front h.foreign h.middle h.is h.rs interfaces (λ j v at. at) h.interfaces in
-        let more = subst (λ (l : List Interface). AddsWorlds fore aft l h.middle h.mid (front_worlds h.worlds_front) h.before h.worlds_rs vs) d.1 h.added in
-        let e = worlds_done files interfaces worlds is_sort ws_sort are_interfaces are_worlds uses h.es h.front h.worlds_front h.foreign h.middle d.0 h.rs d.2 h.mid h.before h.worlds_rs vs (λ j v at. kept_front is_world all places k j v at) more in
+        let d = interfaces_done files interfaces worlds is_sort ws_sort are_interfaces are_worlds uses es front wfront foreign middle is rs interfaces (λ j v at. at) added in
+        let more = subst (λ (l : List Interface). AddsWorlds fore aft l middle h.mid (front_worlds wfront) h.before h.rs vs) d.1 h.added in
+        let e = worlds_done files interfaces worlds is_sort ws_sort are_interfaces are_worlds uses es front wfront foreign middle d.0 rs d.2 h.mid h.before h.rs vs (λ j v at. kept_front is_world all places k j v at) more in
         let declared = contains_at all p w h.next.at in
         let here = scopes_declared files w declared in
         let next = next_kept is_world k p w h.next.next h.next.at h.sort in
-        let index = subst (λ (l : List Interface). IsIndex (cells fore l) h.by_name) d.1 h.index in
+        let index = subst (λ (l : List Interface). IsIndex (cells fore l) by_name) d.1 indexed in
         elim h.wrong [
-          | WrongInline wrong ↦ inline_broken h.es h.front h.worlds_front h.foreign h.middle d.0 h.rs d.2 h.by_name index vs h.mid h.before h.worlds_rs e w next declared f (subst (λ (l : List Interface). IsWrongInline h.mid (cells fore l) (length l) h.before.inside h.by_name (owner.World (length h.before.worlds)) w f) d.1 wrong)
+          | WrongInline wrong ↦ inline_broken es front wfront foreign middle d.0 rs d.2 by_name index vs h.mid h.before h.rs e w next declared f (subst (λ (l : List Interface). IsWrongInline h.mid (cells fore l) (length l) h.before.inside by_name (owner.World (length h.before.worlds)) w f) d.1 wrong)
           | WrongWorldStability wrong ↦ stability_broken files w declared f wrong
-          | WrongWorldScope wrong ↦ wrong_scope uses h.es h.front h.worlds_front h.foreign interfaces h.middle d.0 h.rs d.2 h.by_name index w here (used_among w here) f (subst (λ (l : List Interface). IsWrongScope (cells fore l) h.by_name (scope_names w) (functions w) f) d.1 wrong)
+          | WrongWorldScope wrong ↦ wrong_scope uses es front wfront foreign interfaces middle d.0 rs d.2 by_name index w here (used_among w here) f (subst (λ (l : List Interface). IsWrongScope (cells fore l) by_name (scope_names w) (functions w) f) d.1 wrong)
           | WrongWorldSides wrong ↦ Sides w here wrong
           | UnpairedOnSide alone ↦ Setter w here alone
           | WrongLinks wrong ↦ LinkedTwice w declared wrong
-          | WrongWorldHandle wrong ↦ handled w here f (world_handle files interfaces worlds is_sort ws_sort are_interfaces are_worlds uses h.es h.front h.worlds_front h.foreign h.middle d.0 h.rs d.2 vs h.mid h.before h.worlds_rs w next e f (subst (λ (l : List Interface). IsWrongHandleNow h.mid (cells fore l) (owner.World (length h.before.worlds)) w f) d.1 wrong))
+          | WrongWorldHandle wrong ↦ handled w here f (world_handle files interfaces worlds is_sort ws_sort are_interfaces are_worlds uses es front wfront foreign middle d.0 rs d.2 vs h.mid h.before h.rs w next e f (subst (λ (l : List Interface). IsWrongHandleNow h.mid (cells fore l) (owner.World (length h.before.worlds)) w f) d.1 wrong))
           | WrongWorldUse wrong ↦ Use w declared wrong
-          | LostLink lost ↦ absurd (none_lost uses h.es h.front h.worlds_front h.foreign interfaces h.middle d.0 h.rs d.2 h.by_name index interface_at w f lost)
-          | LostInclude lost ↦ lost_include uses h.es h.front h.worlds_front h.foreign k p w h.next.next h.next.at h.sort d.2.ordered (front_scopes files h.front ++ d.2.scopes) h.mid h.before h.worlds_rs e h.worlds_by_name h.worlds_index f lost
+          | LostLink lost ↦ absurd (none_lost uses es front wfront foreign interfaces middle d.0 rs d.2 by_name index interface_at w f lost)
+          | LostInclude lost ↦ lost_include uses es front wfront foreign k p w h.next.next h.next.at h.sort d.2.ordered (front_scopes files front ++ d.2.scopes) h.mid h.before h.rs e h.worlds_by_name h.worlds_index f lost
         ]

@@ -1,15 +1,20 @@
 -- Functions of a package that stand on a side.
 use Rattle.std.proofs.Common.{◌≡◌, ℕ, zero, suc, Bool, true, false, List, [], ◌∷◌, Some, inl, inr, refl, sym, ap, ◌∙◌}
-use Rattle.std.specs.Prelude.{slice_get}
+use Rattle.std.specs.Prelude.{slice_get, if◌then◌else◌}
 use Rattle.std.proofs.lemmas.Bool.{cases_Bool, cond-true, cond-false}
 use Rattle.wit_tree.specs.declared.tree.WorldSide.{WorldSide}
 use Rattle.wit_functions.specs.declared.function.Function.{Function}
 use Rattle.wit_syntax.specs.Function.{SourceFunction}
 use Rattle.wit_syntax.specs.Crossing.{same_side}
 use Rattle.wit_syntax.specs.Sides.{role_side}
-use Rattle.wit_arena.specs.Functions.{made_on}
 use Rattle.wit_syntax.proofs.Kept.{behind_one}
 use Rattle.wit_syntax.proofs.Addresses.{side_itself, same_side-equal}
+
+-- those functions of a package that stand on a side, where these are the written ones
+abbrev pub made_on : WorldSide → List SourceFunction → List Function → List Function
+made_on side [] fs = []
+made_on side (fn ∷ fns) [] = []
+made_on side (fn ∷ fns) (f ∷ fs) = if same_side side (role_side fn.role) then f ∷ made_on side fns fs else made_on side fns fs
 
 -- whether a written function stands on a side
 abbrev pub stands_on : WorldSide → SourceFunction → Bool

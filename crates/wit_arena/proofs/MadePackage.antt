@@ -1,6 +1,6 @@
 -- Of legal files, a package that is told by its relations is what they make.
 use Rattle.std.proofs.Common.{◌≡◌, ℕ, List, ◌++◌, Some, refl, sym, ap, ◌∙◌, subst}
-use Rattle.std.specs.Prelude.{slice_get, map, take, length}
+use Rattle.std.specs.Prelude.{slice_get, map, take}
 use Rattle.std.specs.List.{flat_map, position_or_len}
 use Rattle.wit_tree.specs.declared.tree.PackageFile.{PackageFile}
 use Rattle.wit_types.specs.declared.types.TypeDef.{TypeDef}

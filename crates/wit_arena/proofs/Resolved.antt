@@ -17,7 +17,7 @@ use Rattle.wit_types.specs.declared.types.TypeDef.{TypeDef}
 use Rattle.wit_model.specs.declared.unresolved.UnresolvedPackage.{UnresolvedPackage}
 use Rattle.wit_graph.specs.Table.{IsOrder}
 use Rattle.wit_syntax.specs.Address.{Address, WorldNamed, ForeignNamed}
-use Rattle.wit_syntax.specs.Source.{address, Target, Local, Foreign, leads, item_named, item_at, is_world, Item, all_items, item_name, target_scope}
+use Rattle.wit_syntax.specs.Source.{address, Target, scope_names, Local, Foreign, leads, item_named, item_at, is_world, Item, all_items, item_name, target_scope}
 use Rattle.wit_syntax.specs.Foreign.{visited, foreign_interfaces, foreign_worlds, foreign_at, ForeignVisit}
 use Rattle.wit_syntax.specs.Scope.{in_order, uses as uses_of, include_paths, includes, item_rows, interfaces_of, worlds_of}
 use Rattle.std.specs.List.{flat_map}
@@ -25,15 +25,16 @@ use Rattle.wit_arena.specs.Meet.{Meeting}
 use Rattle.wit_arena.specs.Resolving.{Required}
 use Rattle.wit_syntax.specs.Fault.{Fault}
 use Rattle.wit_syntax.specs.Notes.{IsBrokenNotes}
-use Rattle.wit_syntax.specs.Broken.{is_world_at, IsBrokenNames, Headerless, Names, ItemStability, UseNotes, IncludeStability, Use, InterfaceIncluded, MissingName, Scope, Sides, LinkedTwice, Handle, Setter, IsLinkedTwice, IsSetterAlone, IsLegal, headers, last_header}
+use Rattle.wit_syntax.specs.Broken.{is_world_at, IsBrokenScope, IsBrokenNames, Headerless, Names, ItemStability, UseNotes, IncludeStability, Use, InterfaceIncluded, MissingName, Scope, Sides, LinkedTwice, Handle, Setter, IsLinkedTwice, IsSetterAlone, IsLegal, headers, last_header}
 use Rattle.wit_syntax.specs.Repeats.{AllDiffer}
 use Rattle.wit_arena.specs.Whole.{all_turns, all_meetings, AreIncludes, NamesOthers, first_docs, IsPackage}
-use Rattle.wit_arena.specs.Resolved.{WorldArenas, front_worlds, AddsInterfaces, AddsWorlds, AddsForeign, AreLegalScopes, AreLegalSides, AreUsableUses, AreUsableLinks, AreSoundScopes, IsBrokenItemStability, OwnStability, OfInclude, HaveLegalStability}
+use Rattle.wit_arena.specs.Resolved.{WorldArenas, front_worlds, AddsInterfaces, AddsWorlds, AddsForeign, AreLegalSides, AreUsableUses, AreUsableLinks, AreSoundScopes, IsBrokenItemStability, OwnStability, OfInclude, HaveLegalStability}
 use Rattle.wit_syntax.proofs.Lists.{at_within, flat_map_at, flat_map_has, map_at}
 use Rattle.wit_syntax.proofs.Turns.{at_part}
 use Rattle.wit_syntax.proofs.Setters.{among_alone}
 use Rattle.wit_syntax.specs.Sides.{Link, SideItem, SideLink, item_link, item_side, links, side_items, inline_items, with_inline, all_scopes}
 use Rattle.wit_syntax.specs.Crossing.{same_side}
+use Rattle.wit_syntax.specs.Function.{functions}
 use Rattle.wit_syntax.proofs.Kept.{kept_at}
 use Rattle.wit_syntax.proofs.Sides.{links_none}
 use Rattle.wit_syntax.proofs.Inline.{inline_items_none, inline_interface}
@@ -232,21 +233,20 @@ module _ (files : List PackageFile) (places : List ℕ) (order : IsOrder (item_r
         g)
   ]
 
-  -- scopes that are sound by themselves are legal: each name in a signature means something
-  pub scopes_legal : AreSoundScopes scopes_in_order → AreLegalScopes scopes_in_order
-  scopes_legal scopes = record {
-    legal = λ t w f at broken. (
-        let it = scopes.sound t w f at broken in
-        names_meant files (decls files is_items ws_items) written scopes_done new ws_done.done w (item_done w (scope_among t w at)) it.k it.fn it.id it.at it.among it.missing);
-  }
+  -- no scope is broken by itself where those are sound: each name in a signature means something
+  scopes_legal : AreSoundScopes scopes_in_order → (w : Item) → Contains (all_scopes files) w → (f : Fault) → IsBrokenScope (scope_names w) (functions w) f → ⊥
+  scopes_legal scopes w among f broken =
+      let t = scope_index w among in
+      let it = scopes.sound t.0 w f t.1 broken in
+      names_meant files (decls files is_items ws_items) written scopes_done new ws_done.done w (item_done w among) it.k it.fn it.id it.at it.among it.missing
 
   -- nothing is wrong with the stability of an item
   stability_told : HaveLegalStability in_turns → (w : Item) → Contains (all_items files) w → (f : Fault) → IsBrokenItemStability w f → ⊥
   stability_told stability w among f h = (let t = in_turn_at w among in stability.legal t.0 w f t.1 h)
 
-  -- no rule is broken, where the scopes are legal by themselves, what stands on the sides, the paths of links, the stability of items and the
+  -- no rule is broken, where the scopes are sound by themselves, what stands on the sides, the paths of links, the stability of items and the
   -- notes of their uses
-  pub files_legal : AreLegalScopes scopes_in_order → AreLegalSides scopes_in_order → AreUsableLinks files ws_items → HaveLegalStability in_turns → ((i : Item) → Contains (all_items files) i → (u : WrittenUse) → Contains (uses_of i) u → (f : Fault) → IsBrokenNotes u.attributes.items f → ⊥) → (header : Header) → last_header files ≡ Some header → IsLegal files
+  pub files_legal : AreSoundScopes scopes_in_order → AreLegalSides scopes_in_order → AreUsableLinks files ws_items → HaveLegalStability in_turns → ((i : Item) → Contains (all_items files) i → (u : WrittenUse) → Contains (uses_of i) u → (f : Fault) → IsBrokenNotes u.attributes.items f → ⊥) → (header : Header) → last_header files ≡ Some header → IsLegal files
   files_legal scopes sides usable stability notes header last f (Headerless none h) = absurd (let g : ⊥ = cc in g)
   files_legal scopes sides usable stability notes header last f (Names h) = names f h
   files_legal scopes sides usable stability notes header last f (ItemStability i among h) = stability_told stability i among f (OwnStability h)
@@ -259,7 +259,7 @@ module _ (files : List PackageFile) (places : List ℕ) (order : IsOrder (item_r
   files_legal scopes sides usable stability notes header last f (Handle i among names h) = handles_stated files (decls files is_items ws_items) written scopes_done new ws_done.done i (item_done i among) f h
   files_legal scopes sides usable stability notes header last f (Setter i among h) = setter_paired i among f h
   files_legal scopes sides usable stability notes header last f (Sides i among h) = (let t = scope_index i among in sides.legal t.0 i f t.1 h)
-  files_legal scopes sides usable stability notes header last f (Scope i among h) = (let t = scope_index i among in scopes.legal t.0 i f t.1 h)
+  files_legal scopes sides usable stability notes header last f (Scope i among h) = scopes_legal scopes i among f h
 
   -- a package that has these arenas, and names what the files name of other packages
   module _ (p : UnresolvedPackage) (types : p.types ≡ new) (interfaces : p.interfaces ≡ is ++ a.inside) (worlds : p.worlds ≡ a.worlds) (others : NamesOthers files p) where

@@ -12,9 +12,10 @@ use Rattle.wit_syntax.specs.Address.{Address}
 use Rattle.wit_syntax.specs.Crossing.{same_side}
 use Rattle.wit_syntax.specs.Source.{TopName, path_scope}
 use Rattle.wit_syntax.specs.Sides.{role_side, SideItem, SideFunction, SideLink, SideInline, Link, item_function}
-use Rattle.wit_arena.specs.Functions.{by_name, function_item, made_on}
+use Rattle.wit_arena.specs.Functions.{by_name, function_item}
 use Rattle.wit_arena.specs.Package.{import_types, item_functions}
 use Rattle.wit_arena.specs.SideItems.{link_item, inline_entry, put_on, AreSideItems}
+use Rattle.wit_arena.proofs.MadeOn.{made_on}
 
 -- what an item puts on a side brings there what it has, or nothing
 put_nothing : {Y : Type 0} (of : WorldKey × WorldItem → List Y) (side own : WorldSide) (x : WorldKey × WorldItem) (xs : List (WorldKey × WorldItem)) → of x ≡ [] → flat_map of (put_on side own x xs) ≡ flat_map of xs

@@ -15,7 +15,7 @@ use Rattle.wit_syntax.specs.Form.{Form}
 use Rattle.wit_syntax.specs.Shape.{Shape}
 use Rattle.wit_syntax.specs.Address.{Address}
 use Rattle.wit_syntax.specs.Function.{Role, Freestanding, Method, Static, Constructor, OnSide, SourceParam, SourceFunction, all_params, signature}
-use Rattle.wit_arena.specs.Functions.{IsKind, AreParams, IsFunction, AreFunctions}
+use Rattle.wit_arena.specs.Functions.{IsKind, IsFunction, AreFunctions, IsParam}
 use Rattle.wit_arena.specs.Expr.{Exprs, expr_of, exprs_of}
 use Rattle.wit_arena.specs.Meet.{Key, Def, Whole, Meeting, keys, Meets, IsAt, shape_meetings, shapes_meetings, all_function_meetings}
 use Rattle.wit_arena.specs.Package.{function_types}
@@ -25,6 +25,7 @@ use Rattle.wit_syntax.proofs.Lists.{at_split, at_within, map_at}
 use Rattle.wit_arena.proofs.Keys.{keys-shape, keys-shapes}
 use Rattle.wit_arena.proofs.Meeting.{Has, has_either, keys-append, names_kept, no_defs}
 use Rattle.wit_arena.proofs.Places.{Grown, key_grown, at_grown}
+use Rattle.wit_arena.specs.OneByOne.{OneByOne}
 
 -- the expressions in functions
 abbrev pub function_exprs : Address → List SourceFunction → Exprs
@@ -130,7 +131,7 @@ typed_append ks s xs ys ts us p q = record {
   ];
 }
 
-params_typed : (ks : List Key) (s : Address) (written : List SourceParam) (ps : List Param) → AreParams ks s written ps → AreTyped ks s (map (λ p. p.shape) written) (map (λ p. p.ty) ps)
+params_typed : (ks : List Key) (s : Address) (written : List SourceParam) (ps : List Param) → OneByOne (IsParam ks s) written ps → AreTyped ks s (map (λ p. p.shape) written) (map (λ p. p.ty) ps)
 params_typed ks s written ps h = record {
   count = length-map ps (λ p. p.ty) ∙ h.count ∙ sym (length-map written (λ p. p.shape));
   each = λ k x t at there. (

@@ -19,14 +19,14 @@ use Rattle.wit_model.specs.declared.world.WorldItem.{WorldItem}
 use Rattle.wit_syntax.specs.Scope.{local_names}
 use Rattle.wit_syntax.specs.Function.{SourceFunction}
 use Rattle.wit_syntax.specs.Sides.{role_side, FunctionKey, SideItem, item_function}
-use Rattle.wit_arena.specs.Functions.{by_name, placed_functions, made_on}
+use Rattle.wit_arena.specs.Functions.{by_name, placed_functions}
 use Rattle.wit_arena.specs.SideItems.{AreSideItems, settled}
 use Rattle.wit_arena.specs.Package.{import_types, item_functions, keyed, interface_functions, world_functions}
 use Rattle.wit_arena.specs.Whole.{type_imports}
 use Rattle.wit_arena.specs.Resolving.{Names}
 use Rattle.wit_syntax.proofs.Lists.{at_front, at_back, at_split, map_at}
 use Rattle.wit_arena.proofs.FreeNames.{made_key, AreStated}
-use Rattle.wit_arena.proofs.MadeOn.{made_on_has, made_on_pair}
+use Rattle.wit_arena.proofs.MadeOn.{made_on, made_on_has, made_on_pair}
 use Rattle.wit_arena.proofs.SideItems.{side_functions}
 use Rattle.wit_arena.proofs.Placed.{function_placed, function_from}
 use Rattle.wit_arena.proofs.Settled.{moved, settled_at, settled_has}

@@ -1,21 +1,19 @@
 -- What resolving a function does to the arena, and what the function then says, from what the names of a scope stand for.
-use Rattle.std.specs.Prelude.{◌≡◌, ℕ, List, [], ◌∷◌, length, Some, slice_get}
+use Rattle.std.specs.Prelude.{◌≡◌, ℕ, List, [], ◌∷◌, Some}
 use Rattle.std.specs.List.{flat_map}
 use Rattle.wit_types.specs.declared.stability.Stability.TheVariants.{Unknown}
 use Rattle.wit_types.specs.declared.types.«Type».{«Type» as Ty}
 use Rattle.wit_types.specs.declared.types.TypeDef.{TypeDef}
-use Rattle.wit_functions.specs.declared.function.Function.{Function}
 use Rattle.wit_functions.specs.declared.function.FunctionKind.{FunctionKind}
 use Rattle.wit_functions.specs.declared.function.FunctionKind.TheVariants as kind
 use Rattle.wit_functions.specs.declared.function.Param.{Param}
 use Rattle.wit_syntax.specs.Shape.{Shape, Shapes, End, More}
 use Rattle.wit_syntax.specs.Address.{Address}
-use Rattle.wit_syntax.specs.Function.{Role, Freestanding, Method, Static, Constructor, OnSide, SourceParam, SourceFunction, all_params}
+use Rattle.wit_syntax.specs.Function.{Role, Freestanding, Method, Static, Constructor, OnSide, SourceParam}
 use Rattle.wit_arena.specs.Functions.{kinds_of}
 use Rattle.wit_arena.specs.Expr.{exprs_of}
 use Rattle.wit_arena.specs.Meet.{shape_meetings}
 use Rattle.wit_arena.specs.Resolving.{Env, AreResolved}
-use Rattle.wit_syntax.specs.Notes.{AreNotes, notes, docs_of}
 
 -- shapes, one after another
 abbrev pub gathered : List Shape → Shapes
@@ -37,12 +35,3 @@ IsKindIn env (OnSide side id form) k = k ≡ (kinds_of form).freestanding
 -- a parameter of the package is the written one apart from its type
 abbrev pub SaysParam : SourceParam → Param → Type 0
 SaysParam w p = (p.name ≡ w.name) × (p.span ≡ w.span)
-
--- a function of the package is the written one apart from its types
-pub record SaysFunction (env : Env) (fn : SourceFunction) (f : Function) : Type 0 where
-  pub name : f.name ≡ fn.name
-  pub kind : IsKindIn env fn.role f.kind
-  pub count : length f.params ≡ length (all_params fn)
-  pub params : (k : ℕ) (w : SourceParam) (p : Param) → slice_get (all_params fn) k ≡ Some w → slice_get f.params k ≡ Some p → SaysParam w p
-  pub span : f.span ≡ fn.span
-  pub notes : AreNotes (notes (docs_of fn.docs) fn.attributes) f.docs f.stability f.external_id

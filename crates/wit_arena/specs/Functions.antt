@@ -1,5 +1,5 @@
 -- What the functions of a package say: each is a written function, whose types stand at the places of their expressions.
-use Rattle.std.specs.Prelude.{if◌then◌else◌, ◌≡◌, ℕ, List, [], ◌∷◌, map, Some, slice_get, codes}
+use Rattle.std.specs.Prelude.{◌≡◌, ℕ, List, [], ◌∷◌, map, Some, slice_get, codes}
 use Rattle.std.specs.Option.{option_to_list}
 use Rattle.wit_names.specs.Front.{behind}
 use Rattle.wit_type_tree.specs.declared.types.FuncForm.{FuncForm}
@@ -16,9 +16,6 @@ use Rattle.wit_model.specs.declared.world.WorldItem.TheVariants as item
 use Rattle.wit_functions.specs.Setters.{placed}
 use Rattle.wit_syntax.specs.Address.{Address}
 use Rattle.wit_syntax.specs.Shape.{Shape}
-use Rattle.wit_tree.specs.declared.tree.WorldSide.{WorldSide}
-use Rattle.wit_syntax.specs.Crossing.{same_side}
-use Rattle.wit_syntax.specs.Sides.{role_side}
 use Rattle.wit_syntax.specs.Function.{Role, Freestanding, Method, Static, Constructor, OnSide, SourceParam, SourceFunction, all_params}
 use Rattle.wit_arena.specs.Expr.{expr_of}
 use Rattle.wit_arena.specs.Meet.{Key, Def, IsAt}
@@ -49,10 +46,6 @@ IsKind ks s (OnSide side id form) k = k ≡ (kinds_of form).freestanding
 -- a parameter of the package is the written one
 abbrev pub IsParam : List Key → Address → SourceParam → Param → Type 0
 IsParam ks s written p = (p.name ≡ written.name) × (p.span ≡ written.span) × IsAt ks (expr_of s written.shape) p.ty
-
--- these are the written parameters, in order
-abbrev pub AreParams : List Key → Address → List SourceParam → List Param → Type 0
-AreParams ks s written ps = OneByOne (IsParam ks s) written ps
 
 -- a function of the package is the written one
 pub record IsFunction (ks : List Key) (s : Address) (written : SourceFunction) (f : Function) : Type 0 where
@@ -86,9 +79,3 @@ placed_functions fs = placed Some (map by_name fs)
 -- in a world, a function stands at its name
 abbrev pub function_item : Function → WorldKey × WorldItem
 function_item f = (key.Name f.name, item.Function f)
-
--- those functions of a package that stand on a side, where these are the written ones
-abbrev pub made_on : WorldSide → List SourceFunction → List Function → List Function
-made_on side [] fs = []
-made_on side (fn ∷ fns) [] = []
-made_on side (fn ∷ fns) (f ∷ fs) = if same_side side (role_side fn.role) then f ∷ made_on side fns fs else made_on side fns fs

@@ -145,10 +145,6 @@ AddsWorlds foreign others is old new a b rs items = AddsEach (AddsWorld foreign 
 abbrev pub front_worlds : List World → WorldArenas
 front_worlds ws = record { worlds = ws; inside = []; addresses = [] }
 
--- no scope of these items is broken by itself
-pub record AreLegalScopes (items : List Item) : Type 0 where
-  pub legal : (i : ℕ) (item : Item) (f : Fault) → slice_get items i ≡ Some item → IsBrokenScope (scope_names item) (item_functions item) f → ⊥
-
 -- nothing is wrong with what stands on the sides of these items
 pub record AreLegalSides (items : List Item) : Type 0 where
   pub legal : (i : ℕ) (item : Item) (f : Fault) → slice_get items i ≡ Some item → IsBrokenSides item f → ⊥
@@ -225,23 +221,27 @@ pub data IsWrongInterface (old : List TypeDef) (cs : List Cell) (by_name : Names
   WrongSides : IsBrokenSides item f → IsWrongInterface old cs by_name o item f
   Unpaired : IsUnpairedSetter (item_functions item) f → IsWrongInterface old cs by_name o item f
 
--- Once the names of a world were added, and some of what stands on its sides, the next interface that is written there is wrong; there are so
+-- Once some of what stands on the sides of a world was added behind its names, the next interface that is written there is wrong; there are so
 -- many others, and then those that were written before it.
-pub record IsWrongInline (old : List TypeDef) (cs : List Cell) (count : ℕ) (inside : List Interface) (by_name : Names) (o : TypeOwner) (item : Item) (f : Fault) : Type 0 where
-  pub types : Names
-  pub middle : List TypeDef
-  pub adds : AddsScope old middle cs o (scope_names item) types
+pub record IsWrongInside (old : List TypeDef) (cs : List Cell) (count : ℕ) (inside : List Interface) (by_name names : Names) (s : Address) (xs : List SideItem) (us : List Item) (f : Fault) : Type 0 where
   pub place : ℕ
   pub done : ℕ
   pub mid : List TypeDef
   pub now : List Interface
   pub functions : List Function
   pub rs : List Required
-  pub sides : AddsSides cs count (address item) types middle mid inside now functions rs (take place (side_items item)) (take done (inline_items item))
+  pub sides : AddsSides cs count s names old mid inside now functions rs (take place xs) (take done us)
   pub reached : length now ≡ length inside + done
   pub inner : Item
-  pub next : slice_get (inline_items item) done ≡ Some inner
+  pub next : slice_get us done ≡ Some inner
   pub wrong : IsWrongInterface mid cs by_name (owner.Interface (count + length now)) inner f
+
+-- once the names of a world were added, what is written in it is wrong
+pub record IsWrongInline (old : List TypeDef) (cs : List Cell) (count : ℕ) (inside : List Interface) (by_name : Names) (o : TypeOwner) (item : Item) (f : Fault) : Type 0 where
+  pub types : Names
+  pub middle : List TypeDef
+  pub adds : AddsScope old middle cs o (scope_names item) types
+  pub wrong : IsWrongInside middle cs count inside by_name types (address item) (side_items item) (inline_items item) f
 
 -- what is wrong with a world, by what was resolved before
 pub data IsWrongWorld (files : List PackageFile) (old : List TypeDef) (cs : List Cell) (count : ℕ) (inside : List Interface) (by_name worlds_by_name : Names) (o : TypeOwner) (item : Item) (f : Fault) : Type 0 where
@@ -256,45 +256,32 @@ pub data IsWrongWorld (files : List PackageFile) (old : List TypeDef) (cs : List
   LostLink : IsLostLink files by_name item f → IsWrongWorld files old cs count inside by_name worlds_by_name o item f
   LostInclude : IsLostInclude files worlds_by_name item f → IsWrongWorld files old cs count inside by_name worlds_by_name o item f
 
--- once the interfaces among some of the items were added in the order of their places, the next item is an interface that is wrong
-pub record IsWrongAmong (files : List PackageFile) (items : List Item) (places : List ℕ) (f : Fault) : Type 0 where
+-- where these stand in front, at these addresses: once the interfaces among some of the items were added in the order of their places,
+-- the next item is an interface that is wrong
+pub record IsWrongNow (foreign : List Address) (es : List TypeDef) (front : List Interface) (items : List Item) (places : List ℕ) (f : Fault) : Type 0 where
   pub count : ℕ
   pub item : Item
   pub next : IsNext items places count item
   pub sort : is_world item ≡ false
-  pub es : List TypeDef
-  pub front : List Interface
-  pub ws : List World
-  pub foreign : AddsForeign files es front ws
   pub mid : List TypeDef
   pub before : List Interface
   pub rs : List Required
-  pub added : AddsInterfaces (map visited (foreign_interfaces files)) es mid front before rs (interfaces_of (in_order items (take count places)))
+  pub added : AddsInterfaces foreign es mid front before rs (interfaces_of (in_order items (take count places)))
   pub by_name : Names
-  pub index : IsIndex (cells (map visited (foreign_interfaces files)) before) by_name
-  pub wrong : IsWrongInterface mid (cells (map visited (foreign_interfaces files)) before) by_name (owner.Interface (length before)) item f
+  pub index : IsIndex (cells foreign before) by_name
+  pub wrong : IsWrongInterface mid (cells foreign before) by_name (owner.Interface (length before)) item f
 
--- once all interfaces, and the worlds among some of the items, were added in the order of their places, the next item is a world that
--- is wrong
-pub record IsWrongWorldAmong (files : List PackageFile) (items : List Item) (places : List ℕ) (f : Fault) : Type 0 where
-  pub es : List TypeDef
-  pub front : List Interface
-  pub worlds_front : List World
-  pub foreign : AddsForeign files es front worlds_front
-  pub middle : List TypeDef
-  pub is : List Interface
-  pub rs : List Required
-  pub interfaces : AddsInterfaces (map visited (foreign_interfaces files)) es middle front is rs (interfaces_of (in_order items places))
+-- where these are the interfaces, their types were resolved, and these worlds stand in front: once the worlds among some of the items
+-- were added in the order of their places, the next item is a world that is wrong
+pub record IsWrongWorldNow (files : List PackageFile) (foreign others : List Address) (middle : List TypeDef) (is : List Interface) (by_name : Names) (front : List World) (items : List Item) (places : List ℕ) (f : Fault) : Type 0 where
   pub count : ℕ
   pub item : Item
   pub next : IsNext items places count item
   pub sort : is_world item ≡ true
   pub mid : List TypeDef
   pub before : WorldArenas
-  pub worlds_rs : List Required
-  pub added : AddsWorlds (map visited (foreign_interfaces files)) (map visited (foreign_worlds files)) is middle mid (front_worlds worlds_front) before worlds_rs (worlds_of (in_order items (take count places)))
-  pub by_name : Names
-  pub index : IsIndex (cells (map visited (foreign_interfaces files)) is) by_name
+  pub rs : List Required
+  pub added : AddsWorlds foreign others is middle mid (front_worlds front) before rs (worlds_of (in_order items (take count places)))
   pub worlds_by_name : Names
-  pub worlds_index : IsWorldIndex (worlds_at (map visited (foreign_worlds files)) before.worlds) worlds_by_name
-  pub wrong : IsWrongWorld files mid (cells (map visited (foreign_interfaces files)) is) (length is) before.inside by_name worlds_by_name (owner.World (length before.worlds)) item f
+  pub worlds_index : IsWorldIndex (worlds_at others before.worlds) worlds_by_name
+  pub wrong : IsWrongWorld files mid (cells foreign is) (length is) before.inside by_name worlds_by_name (owner.World (length before.worlds)) item f

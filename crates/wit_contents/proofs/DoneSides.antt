@@ -22,7 +22,7 @@ use Rattle.wit_syntax.specs.Source.{Item, ScopeName, scope_names}
 use Rattle.wit_syntax.proofs.Lists.{at_either}
 use Rattle.wit_types.specs.declared.types.TypeOwner.TheVariants as owner
 use Rattle.wit_arena.specs.Resolving.{AddsFunctions, Cell, Names, Required, env_of}
-use Rattle.wit_arena.specs.Resolved.{AddsSides, AreLegalSides, AreSoundScopes, IsNameless, IsWrongInterface}
+use Rattle.wit_arena.specs.Resolved.{AddsSides, AreLegalSides, AreSoundScopes, IsNameless, IsWrongInside, IsWrongInterface}
 use Rattle.wit_arena.proofs.Adding.{sounds_more}
 use Rattle.wit_entries.specs.Requiring.{IsGrown, Requires}
 use Rattle.wit_entries.proofs.Requiring.{grown_then}
@@ -32,9 +32,9 @@ use Rattle.wit_signatures.specs.Taken.{name_of_function, name_of_made}
 use Rattle.wit_externs.proofs.Done.{functions_to, functions_kept, functions_more, same_name}
 use Rattle.wit_externs.proofs.Steps.{flat_next, taken_next}
 use Rattle.wit_uses.specs.Between.{Emits}
-use Rattle.wit_contents.specs.Standing.{AddsInside, AreConsecutive, IsWrongInside}
+use Rattle.wit_contents.specs.Standing.{AddsInside, AreConsecutive}
 use Rattle.wit_contents.proofs.Adding.{sides_function, sides_inline, sides_link, sides_none, sides_then}
-use Rattle.wit_contents.proofs.Linking.{sides_more}
+use Rattle.wit_uses.proofs.Telling.{sides_more}
 
 -- the first of what stands on the sides is resolved, where these items are the interfaces that are written there
 pub record AreDoneTo (cs : List Cell) (count : ℕ) (scope : FunctionScope) (old now : List TypeDef) (inside after : List Interface) (before required : List Required) (fs : List Function) (ids : List ℕ) (xs : List SideItem) (us : List Item) (i : ℕ) : Type 0 where

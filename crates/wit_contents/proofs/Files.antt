@@ -5,7 +5,6 @@ use Rattle.std.specs.List.{flat_map}
 use Rattle.std.proofs.lemmas.List.{length-map}
 use Rattle.std.proofs.lemmas.Option.{slice_get-get_or}
 use Rattle.wit_graph.specs.Table.{IsOrder}
-use Rattle.wit_syntax.specs.Fault.{Fault}
 use Rattle.wit_arena.proofs.Itemizing.{items_within}
 use Rattle.wit_items.specs.declared.items.Item.{Item as Held}
 use Rattle.wit_items.specs.Items.{item_behind, HaveSoundUses}
@@ -20,20 +19,17 @@ use Rattle.wit_model.specs.declared.world.World.{World}
 use Rattle.wit_types.specs.declared.types.TypeDef.{TypeDef}
 use Rattle.wit_model.specs.declared.unresolved.UnresolvedPackage.{UnresolvedPackage}
 use Rattle.wit_syntax.specs.Source.{Item, all_items, is_world}
-use Rattle.wit_syntax.specs.Scope.{in_order, item_rows, interfaces_of, worlds_of}
+use Rattle.wit_syntax.specs.Scope.{item_rows, interfaces_of, worlds_of}
 use Rattle.wit_syntax.specs.Sides.{inline_items, with_inline}
 use Rattle.wit_syntax.specs.Broken.{IsLegal, headers, last_header}
-use Rattle.wit_syntax.specs.Foreign.{visited, foreign_interfaces, foreign_worlds}
-use Rattle.wit_arena.specs.Resolved.{AddsForeign, AddsInterfaces, AreLegalScopes, AreLegalSides, AreSoundScopes, AreUsableUses, IsWrongAmong, IsWrongWorldAmong}
-use Rattle.wit_arena.specs.Resolving.{Names, Required, cells, IsIndex}
+use Rattle.wit_arena.specs.Resolved.{AreLegalSides, AreSoundScopes, AreUsableUses}
+use Rattle.wit_arena.specs.Resolving.{Required}
 use Rattle.wit_arena.specs.Whole.{NamesOthers, first_docs, IsPackage}
 use Rattle.wit_arena.specs.Faithful.{IsMadeOf}
 use Rattle.wit_syntax.proofs.Inline.{inline_items_none}
 use Rattle.wit_syntax.proofs.Kept.{behind_one, kept_has}
 use Rattle.wit_syntax.proofs.Lists.{flat_map_at, flat_map_has}
-use Rattle.wit_arena.proofs.Resolved.{scopes_legal as legal_scopes, files_legal as legal_by, files_package as package_by}
-use Rattle.wit_contents.specs.BetweenInterfaces.{IsWrongNow}
-use Rattle.wit_contents.specs.BetweenWorlds.{IsWrongWorldNow}
+use Rattle.wit_arena.proofs.Resolved.{files_legal as legal_by, files_package as package_by}
 use Rattle.wit_type_tree.specs.declared.error.ParseError.{ParseError}
 use Rattle.wit_contents.specs.Between.{AddsFiles}
 
@@ -79,21 +75,9 @@ held_within files places items order all = λ i d lt. (
     let long : length (all_items files) ≡ length items = sym (ap length all) ∙ length-map items item_behind in
     subst (λ (n : ℕ). p < n) long (items_within files places order i p (slice_get-get_or places i d lt)))
 
--- an interface that is wrong behind what stands in front
-pub wrong_interface : (files : List PackageFile) (es : List TypeDef) (front : List Interface) (ws : List World) (items : List Item) (places : List ℕ) (f : Fault) → AddsForeign files es front ws → IsWrongNow (map visited (foreign_interfaces files)) es front items places f → IsWrongAmong files items places f
-wrong_interface files es front ws items places f foreign h = record { count = h.count; item = h.item; next = h.next; sort = h.sort; es = es; front = front; ws = ws; foreign = foreign; mid = h.mid; before = h.before; rs = h.rs; added = h.added; by_name = h.by_name; index = h.index; wrong = h.wrong }
-
--- a world that is wrong once all interfaces were added
-pub wrong_world : (files : List PackageFile) (es : List TypeDef) (front : List Interface) (wfront : List World) (middle : List TypeDef) (is : List Interface) (by_name : Names) (rs : List Required) (items : List Item) (places : List ℕ) (f : Fault) → AddsForeign files es front wfront → AddsInterfaces (map visited (foreign_interfaces files)) es middle front is rs (interfaces_of (in_order items places)) → IsIndex (cells (map visited (foreign_interfaces files)) is) by_name → IsWrongWorldNow files (map visited (foreign_interfaces files)) (map visited (foreign_worlds files)) middle is by_name wfront items places f → IsWrongWorldAmong files items places f
-wrong_world files es front wfront middle is by_name rs items places f foreign added index h = record { es = es; front = front; worlds_front = wfront; foreign = foreign; middle = middle; is = is; rs = rs; interfaces = added; count = h.count; item = h.item; next = h.next; sort = h.sort; mid = h.mid; before = h.before; worlds_rs = h.rs; added = h.added; by_name = by_name; index = index; worlds_by_name = h.worlds_by_name; worlds_index = h.worlds_index; wrong = h.wrong }
-
 module _ (files : List PackageFile) (es : List TypeDef) (all : List Interface) (ws : List World) (rs : List Required) (a : AddsFiles files es all ws rs) where
-  -- no scope is broken by itself
-  scopes_legal : AreLegalScopes (flat_map with_inline (in_order (all_items files) a.places))
-  scopes_legal = legal_scopes files a.places a.order a.names a.uses a.first a.middle es a.front a.is a.worlds_front a.arenas a.irs a.wrs a.foreign a.interfaces a.worlds a.sound
-
   pub files_legal : (header : Header) → last_header files ≡ Some header → IsLegal files
-  files_legal header last = legal_by files a.places a.order a.names a.uses a.first a.middle es a.front a.is a.worlds_front a.arenas a.irs a.wrs a.foreign a.interfaces a.worlds scopes_legal a.sided a.linked a.stable a.noted header last
+  files_legal header last = legal_by files a.places a.order a.names a.uses a.first a.middle es a.front a.is a.worlds_front a.arenas a.irs a.wrs a.foreign a.interfaces a.worlds a.sound a.sided a.linked a.stable a.noted header last
 
   module _ (p : UnresolvedPackage) (types : p.types ≡ es) (interfaces : p.interfaces ≡ all) (worlds : p.worlds ≡ ws) (others : NamesOthers files p) where
     pub files_package : p.required_resource_types ≡ rs → (header : Header) → last_header files ≡ Some header → p.name.namespace ≡ header.namespace.name.now → p.name.name ≡ header.name.name.now → option_map release_parts p.name.version ≡ option_map parts_of header.version → p.name_span ≡ header.span → p.docs ≡ first_docs (headers files) → IsPackage files p

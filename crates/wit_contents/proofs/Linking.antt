@@ -19,22 +19,23 @@ use Rattle.wit_syntax.specs.Fault.{Fault}
 use Rattle.wit_syntax.specs.Function.{SourceFunction}
 use Rattle.wit_syntax.specs.Repeats.{AllDiffer}
 use Rattle.wit_syntax.specs.Scope.{use_path, use_paths}
-use Rattle.wit_syntax.specs.Sides.{Link, SideItem, SideFunction, SideLink, extern_items, item_link, links, part_items, side_items, IsBrokenSides}
+use Rattle.wit_syntax.specs.Sides.{Link, SideItem, SideFunction, SideLink, extern_items, item_link, links, part_items, side_items}
 use Rattle.wit_syntax.specs.Source.{Item, Part, TopName, Defining, Using, Including, Doing, Crossing, leads, parts}
 use Rattle.wit_syntax.proofs.Found.{at_contains, contains_at}
 use Rattle.wit_syntax.proofs.Lists.{at_back, at_either, flat_map_at, flat_map_has, map_at}
 use Rattle.wit_arena.specs.Resolving.{Cell, Names}
-use Rattle.wit_arena.specs.Resolved.{AreLegalSides, AreUsableLinks, HasUsableLinks, IsWrongWorld, WrongLinks, WrongWorldUse, LostLink}
+use Rattle.wit_arena.specs.Resolved.{AreUsableLinks, HasUsableLinks, IsWrongWorld, WrongLinks, WrongWorldUse, LostLink}
 use Rattle.wit_externs.specs.Held.{externs_behind, extern_behind, held_on, link_behind}
-use Rattle.wit_externs.specs.Links.{bare_places, AreRightLinks, AreLinksPlaced}
+use Rattle.wit_externs.specs.Links.{bare_places, AreRightLinks}
 use Rattle.wit_externs.specs.declared.held.Led.{Led}
 use Rattle.wit_externs.specs.declared.held.Led.TheVariants as led
 use Rattle.wit_externs.specs.declared.held.HeldLink.{HeldLink}
 use Rattle.wit_externs.specs.declared.held.HeldExtern.{HeldExtern}
 use Rattle.wit_externs.specs.declared.held.HeldExtern.TheVariants as held
-use Rattle.wit_item_entries.specs.Body.{IsWrongPath, LeadsToWorld, LeadsToNothing, LeadsAgain}
 use Rattle.wit_uses.proofs.Linked.{linked_twice, none_linked}
 use Rattle.wit_world_sides.specs.Links.{AreLed, IsLed, IsLostAt}
+use Rattle.wit_externs.proofs.Linked.{AreLinksPlaced}
+use Rattle.wit_item_entries.proofs.ScopeFunctions.{IsWrongPath, LeadsToWorld, LeadsToNothing, LeadsAgain}
 
 -- a function among parts is no link
 no_link : (fns : List SourceFunction) (k : ℕ) (link : Link) → slice_get (map SideFunction fns) k ≡ Some (SideLink link) → ⊥
@@ -130,14 +131,6 @@ links_usable files front interfaces by_name i hs same are placed right apart = r
 }
 
 -- one world more
-pub sides_more : (ws : List Item) (w : Item) → AreLegalSides ws → ((f : Fault) → IsBrokenSides w f → ⊥) → AreLegalSides (ws ++ w ∷ [])
-sides_more ws w legal one = record {
-  legal = λ i v f at broken. elim (at_either ws w i v at) [
-    | inl old ↦ legal.legal i v f old broken
-    | inr new ↦ one f (subst (λ (x : Item). IsBrokenSides x f) new.1 broken)
-  ];
-}
-
 pub links_more : (files : List PackageFile) (ws : List Item) (w : Item) → AreUsableLinks files ws → HasUsableLinks files w → AreUsableLinks files (ws ++ w ∷ [])
 links_more files ws w usable one = record {
   each = λ i v at. elim (at_either ws w i v at) [

@@ -19,8 +19,8 @@ use Rattle.wit_externs.specs.Held.{externs_behind}
 use Rattle.wit_externs.proofs.NoSetters.{none_there}
 use Rattle.wit_scopes.specs.Held.{Held as HeldName}
 use Rattle.wit_uses.specs.Between.{Emits}
-use Rattle.wit_uses.specs.Body.{IsStandingBy}
 use Rattle.wit_contents.proofs.StandingItem.{standing_count}
+use Rattle.wit_uses.proofs.ItemSides.{IsStandingBy}
 
 module _ (i : Item) (xs : List HeldName) (hs : List HeldExtern) (own : IsStandingBy i xs hs) (none : hs ≡ []) where
   no_items : side_items i ≡ []

@@ -4,7 +4,7 @@ use Rattle.wit_tree.specs.declared.tree.PackageFile.{PackageFile}
 use Rattle.wit_syntax.specs.Source.{Declared, all_items, about}
 use Rattle.wit_syntax.proofs.Inline.{is_inside}
 use Rattle.wit_syntax.proofs.Scopes.{all_declared}
-use Rattle.wit_contents.specs.BetweenInterfaces.{AreOuter}
+use Rattle.wit_contents.specs.Outer.{AreOuter}
 
 pub all_outer : (files : List PackageFile) → AreOuter (all_items files)
 all_outer files = record {

@@ -29,7 +29,7 @@ use Rattle.wit_arena.specs.Resolved.{AddsSides, AddsWorld, AreLegalSides, AreSou
 use Rattle.wit_arena.specs.SideItems.{AreSideItems, settled}
 use Rattle.wit_arena.specs.Whole.{AreIncludes, type_imports}
 use Rattle.wit_externs.specs.Held.{externs_behind}
-use Rattle.wit_externs.specs.Links.{AreLinksPlaced, AreRightLinks}
+use Rattle.wit_externs.specs.Links.{AreRightLinks}
 use Rattle.wit_externs.specs.declared.held.HeldExtern.{HeldExtern}
 use Rattle.wit_items.specs.Told.{AreOf, notes_behind}
 use Rattle.wit_uses.specs.Between.{Emits}
@@ -45,6 +45,7 @@ use Rattle.wit_contents.specs.Standing.{AreConsecutive}
 use Rattle.wit_links.proofs.Leading.{links_wider}
 use Rattle.wit_world_sides.proofs.SideKeys.{AreMade}
 use Rattle.wit_world_sides.proofs.SideEntries.{AreAt, at_from, entries_are}
+use Rattle.wit_externs.proofs.Linked.{AreLinksPlaced}
 
 -- an element is the first, or one of those behind it
 at_cons : {X : Type 0} (x : X) (xs : List X) (k : ℕ) (y : X) → slice_get (x ∷ xs) k ≡ Some y → (x ≡ y) ⊎ ((j : ℕ) × (slice_get xs j ≡ Some y))

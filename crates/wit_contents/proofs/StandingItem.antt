@@ -16,7 +16,7 @@ use Rattle.wit_syntax.specs.Source.{Item, address, scope_names}
 use Rattle.wit_syntax.proofs.Inline.{length-inline_behind}
 use Rattle.wit_syntax.proofs.Refusing.{refused_weaker}
 use Rattle.wit_arena.specs.Resolving.{Cell, Names, Required, env_of}
-use Rattle.wit_arena.specs.Resolved.{AddsSides}
+use Rattle.wit_arena.specs.Resolved.{AddsSides, IsWrongInside}
 use Rattle.wit_refusals.specs.Names.{Name}
 use Rattle.wit_rules.specs.declared.function_scope.FunctionScope.{FunctionScope}
 use Rattle.wit_rules.specs.Signatures.{IsWrongFunctionAmong, functions_behind}
@@ -25,8 +25,8 @@ use Rattle.wit_externs.specs.declared.held.HeldExtern.{HeldExtern}
 use Rattle.wit_externs.specs.Held.{externs_behind}
 use Rattle.wit_scopes.specs.Held.{Held as HeldName}
 use Rattle.wit_uses.specs.Between.{Emits}
-use Rattle.wit_uses.specs.Body.{IsStandingBy}
-use Rattle.wit_contents.specs.Standing.{IsWrongExtern, IsWrongInside, IsWrongStanding, StandingExtern, StandingFunction, StandingInside, WrongExtern, WrongFunction, WrongInside}
+use Rattle.wit_contents.specs.Standing.{IsWrongExtern, IsWrongStanding, StandingExtern, StandingFunction, StandingInside, WrongExtern, WrongFunction, WrongInside}
+use Rattle.wit_uses.proofs.ItemSides.{IsStandingBy}
 
 module _ (i : Item) (xs : List HeldName) (hs : List HeldExtern) (own : IsStandingBy i xs hs) where
   -- as many interfaces are written there as stand on its sides

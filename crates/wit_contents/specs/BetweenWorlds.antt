@@ -1,7 +1,6 @@
--- What a world adds to the arenas, part by part, and which world is wrong.
-use Rattle.std.specs.Prelude.{◌≡◌, ℕ, ◌+◌, true, List, [], ◌∷◌, ◌++◌, length, map, take}
+-- What a world adds to the arenas, part by part.
+use Rattle.std.specs.Prelude.{◌≡◌, ◌+◌, List, [], ◌∷◌, ◌++◌, length, map}
 use Rattle.wit_type_tree.specs.declared.leaves.Id.{Id}
-use Rattle.wit_tree.specs.declared.tree.PackageFile.{PackageFile}
 use Rattle.wit_types.specs.declared.types.TypeDef.{TypeDef}
 use Rattle.wit_types.specs.declared.types.TypeOwner.TheVariants as owner
 use Rattle.wit_tree.specs.declared.tree.WorldSide.TheVariants.{Imported, Exported}
@@ -12,8 +11,8 @@ use Rattle.wit_model.specs.declared.world.WorldInclude.{WorldInclude}
 use Rattle.wit_model.specs.declared.world.WorldKey.{WorldKey}
 use Rattle.wit_model.specs.declared.world.WorldItem.{WorldItem}
 use Rattle.wit_syntax.specs.Address.{Address}
-use Rattle.wit_syntax.specs.Source.{address, Item, is_world, scope_names, declared_notes}
-use Rattle.wit_syntax.specs.Scope.{in_order, in_turn, includes, worlds_of}
+use Rattle.wit_syntax.specs.Source.{address, Item, scope_names, declared_notes}
+use Rattle.wit_syntax.specs.Scope.{in_turn, includes}
 use Rattle.wit_syntax.specs.Broken.{IsSetterAlone}
 use Rattle.wit_syntax.specs.Fault.{Fault}
 use Rattle.wit_syntax.specs.Function.{name_types}
@@ -24,8 +23,8 @@ use Rattle.wit_syntax.specs.Sides.{inline_items, side_items}
 use Rattle.wit_arena.specs.Package.{IsWorld}
 use Rattle.wit_arena.specs.SideItems.{AreSideItems, settled}
 use Rattle.wit_arena.specs.Whole.{type_imports, AreIncludes}
-use Rattle.wit_arena.specs.Resolving.{Names, env_of, cells, Required, AreEnded, IsWorldIndex}
-use Rattle.wit_arena.specs.Resolved.{interfaces_at, worlds_at, AddsScope, AddsSides, AddsWorlds, WorldArenas, front_worlds, IsNext, IsWrongWorld}
+use Rattle.wit_arena.specs.Resolving.{Names, env_of, cells, Required, AreEnded}
+use Rattle.wit_arena.specs.Resolved.{interfaces_at, worlds_at, AddsScope, AddsSides, WorldArenas}
 use Rattle.wit_items.specs.Told.{AreOf}
 use Rattle.wit_contents.specs.declared.world.WorldParts.{WorldParts}
 
@@ -64,18 +63,3 @@ pub record AreWorldParts (foreign others : List Address) (is : List Interface) (
   pub exports : p.sides.exports ≡ settled (includes item) exported
   pub paired : (f : Fault) → IsSetterAlone item f → ⊥
   pub includes : AreIncludes (worlds_at others ws) item p.includes
-
--- where these are the interfaces, their types were resolved, and these worlds stand in front: once the worlds among some of the items
--- were added in the order of their places, the next item is a world that is wrong
-pub record IsWrongWorldNow (files : List PackageFile) (foreign others : List Address) (middle : List TypeDef) (is : List Interface) (by_name : Names) (front : List World) (items : List Item) (places : List ℕ) (f : Fault) : Type 0 where
-  pub count : ℕ
-  pub item : Item
-  pub next : IsNext items places count item
-  pub sort : is_world item ≡ true
-  pub mid : List TypeDef
-  pub before : WorldArenas
-  pub rs : List Required
-  pub added : AddsWorlds foreign others is middle mid (front_worlds front) before rs (worlds_of (in_order items (take count places)))
-  pub worlds_by_name : Names
-  pub worlds_index : IsWorldIndex (worlds_at others before.worlds) worlds_by_name
-  pub wrong : IsWrongWorld files mid (cells foreign is) (length is) before.inside by_name worlds_by_name (owner.World (length before.worlds)) item f

@@ -1,4 +1,4 @@
 pub mod Between
-pub mod BetweenInterfaces
+pub mod Outer
 pub mod Standing
 pub mod BetweenWorlds

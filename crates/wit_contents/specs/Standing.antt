@@ -1,19 +1,18 @@
 -- What is added by what stands on the sides of a world, one after another behind its names, and what may be wrong there.
-use Rattle.std.specs.Prelude.{◌≡◌, ◌+◌, ℕ, List, [], ◌∷◌, ◌++◌, Some, length, map, take, slice_get}
+use Rattle.std.specs.Prelude.{◌≡◌, ◌+◌, ℕ, List, [], ◌∷◌, ◌++◌, Some, length, map, slice_get}
 use Rattle.wit_type_tree.specs.declared.leaves.Id.{Id}
 use Rattle.wit_tree.specs.declared.tree.WorldSide.{WorldSide}
 use Rattle.wit_types.specs.declared.types.TypeDef.{TypeDef}
 use Rattle.wit_types.specs.declared.types.TypeOwner.TheVariants as owner
-use Rattle.wit_functions.specs.declared.function.Function.{Function}
 use Rattle.wit_model.specs.declared.interface.Interface.{Interface}
 use Rattle.wit_syntax.specs.Address.{Address}
 use Rattle.wit_syntax.specs.Broken.{IsSetterAlone}
 use Rattle.wit_syntax.specs.Fault.{Fault}
 use Rattle.wit_syntax.specs.Function.{functions}
-use Rattle.wit_syntax.specs.Sides.{SideItem, IsFoldedTwice, inline_item, inline_items, names_on, side_items}
+use Rattle.wit_syntax.specs.Sides.{IsFoldedTwice, inline_item, inline_items, names_on, side_items}
 use Rattle.wit_syntax.specs.Source.{Item, ScopeName, address, scope_names}
 use Rattle.wit_arena.specs.Resolving.{Cell, Names, Required, env_of}
-use Rattle.wit_arena.specs.Resolved.{AddsInterface, AddsSides, IsWrongInterface}
+use Rattle.wit_arena.specs.Resolved.{AddsInterface, IsWrongInside}
 use Rattle.wit_refusals.specs.Names.{Name}
 use Rattle.wit_entries.specs.Requiring.{IsGrown}
 use Rattle.wit_rules.specs.declared.function_scope.FunctionScope.{FunctionScope}
@@ -45,21 +44,6 @@ pub record AddsInside (cs : List Cell) (count : ℕ) (old new : List TypeDef) (i
 -- these are the places from a first one on
 pub record AreConsecutive (first : ℕ) (ids : List ℕ) : Type 0 where
   pub each : (k id : ℕ) → slice_get ids k ≡ Some id → id ≡ first + k
-
--- Once some of what stands on the sides of a world was added behind its names, the next interface that is written there is wrong; there are so
--- many others, and then those that were written before it.
-pub record IsWrongInside (old : List TypeDef) (cs : List Cell) (count : ℕ) (inside : List Interface) (by_name names : Names) (s : Address) (xs : List SideItem) (us : List Item) (f : Fault) : Type 0 where
-  pub place : ℕ
-  pub done : ℕ
-  pub mid : List TypeDef
-  pub now : List Interface
-  pub functions : List Function
-  pub rs : List Required
-  pub sides : AddsSides cs count s names old mid inside now functions rs (take place xs) (take done us)
-  pub reached : length now ≡ length inside + done
-  pub inner : Item
-  pub next : slice_get us done ≡ Some inner
-  pub wrong : IsWrongInterface mid cs by_name (owner.Interface (count + length now)) inner f
 
 -- what is wrong with what stands on the sides of a world, behind these names of the sides, where its functions are resolved in this scope
 pub data IsWrongExtern (old : List TypeDef) (cs : List Cell) (count : ℕ) (inside : List Interface) (by_name : Names) (scope : FunctionScope) (names : List ScopeName) (before : WorldSide → List Name) (s : Address) (hs : List HeldExtern) (us : List Item) (f : Fault) : Type 0 where

@@ -12,11 +12,11 @@ ghost use Rattle.wit_type_tree.specs.Refusal.{IsWantOfMemory};
 ghost use Rattle.wit_items.specs.Items.{item_behind, names_behind};
 ghost use Rattle.wit_items.specs.Front.{AreItemsPlaced};
 ghost use Rattle.wit_arena.specs.Resolving.{IsIndex};
-ghost use Rattle.wit_arena.specs.Resolved.{AddsDeclared, AddsInterfaces, AreLegalSides, AreSoundScopes, HaveLegalStability, IsNameless, IsWrongInterface};
+ghost use Rattle.wit_arena.specs.Resolved.{AddsDeclared, AddsInterfaces, AreLegalSides, AreSoundScopes, HaveLegalStability, IsNameless, IsWrongInterface, IsWrongNow};
 ghost use Rattle.wit_item_names.specs.Interfaces.{front_of};
 ghost use Rattle.wit_items.specs.Interfaces.{cells_of};
 ghost use Rattle.wit_uses.specs.Between.{Emits};
-ghost use Rattle.wit_contents.specs.BetweenInterfaces.{AreOuter, IsWrongNow};
+ghost use Rattle.wit_contents.specs.Outer.{AreOuter};
 ghost use Rattle.wit_scopes.specs.Front.{AreNamesPlaced};
 
 use crate::interface::interface_of;

@@ -12,7 +12,7 @@ ghost use Rattle.wit_syntax.specs.Broken.{IsBrokenScope, Refused};
 ghost use Rattle.wit_types.specs.declared.types.TypeDef.{TypeDef as TheType};
 ghost use Rattle.wit_types.specs.declared.types.TypeOwner.TheVariants.{World as WorldOwner};
 ghost use Rattle.wit_arena.specs.Resolving.{IsIndex, IsWorldIndex, names_in};
-ghost use Rattle.wit_arena.specs.Resolved.{worlds_at, AddsWorld, AddsWorlds, AreLegalSides, AreSoundScopes, AreUsableLinks, HasUsableLinks, IsBrokenItemStability, HaveLegalStability, IsWrongWorld, front_worlds};
+ghost use Rattle.wit_arena.specs.Resolved.{worlds_at, AddsWorld, AddsWorlds, AreLegalSides, AreSoundScopes, AreUsableLinks, HasUsableLinks, IsBrokenItemStability, HaveLegalStability, IsWrongWorld, IsWrongWorldNow, front_worlds};
 ghost use Rattle.wit_items.specs.declared.notes.ItemNotes.{ItemNotes as TheNotes};
 ghost use Rattle.wit_item_names.specs.Items.{AreEntriesOf};
 ghost use Rattle.wit_items.specs.Items.{declared_behind, item_behind, names_behind, IsFiled, AreFiled, others_of};
@@ -30,7 +30,7 @@ ghost use Rattle.wit_links.specs.Includes.{AreStable};
 ghost use Rattle.wit_item_entries.specs.Body.{IsWrongBody};
 ghost use Rattle.std.specs.List.{flat_map};
 ghost use Rattle.wit_tree.specs.declared.tree.WorldSide.{WorldSide as TheSide};
-ghost use Rattle.wit_contents.specs.BetweenWorlds.{arenas, AreWorldParts, IsAddedWorld, IsWrongWorldNow};
+ghost use Rattle.wit_contents.specs.BetweenWorlds.{arenas, AreWorldParts, IsAddedWorld};
 ghost use Rattle.wit_world_sides.specs.Links.{interfaces_of_others};
 
 use crate::standing::resolve_standing;

@@ -34,6 +34,15 @@ use Rattle.wit_externs.specs.Next.{only_place, IsWrongNext, NextClashes, NextLin
 use Rattle.wit_externs.proofs.Steps.{taken_next, at_middle, kept_split, kept_next, kept_nothing}
 use Rattle.wit_externs.proofs.Clashing.{clash_whole}
 use Rattle.wit_externs.proofs.HeldAt.{behind_at}
+use Rattle.wit_syntax.specs.Source.{TopName, path_scope}
+use Rattle.wit_syntax.specs.Address.{Address}
+
+-- The links lead to interfaces of these addresses: each place is that of the scope that its path leads to, so that two are one where their
+-- scopes are one.
+pub record AreLinksPlaced (interfaces : List Address) (top : List TopName) (hs : List HeldExtern) : Type 0 where
+  pub place : Address → ℕ
+  pub stands : (k : ℕ) (l : HeldLink) (id : ℕ) → slice_get hs k ≡ Some (held.Link l) → l.led ≡ led.Interface id → id ≡ place (path_scope top l.path.now)
+  pub called : (k : ℕ) (l : HeldLink) (id : ℕ) → slice_get hs k ≡ Some (held.Link l) → l.led ≡ led.Interface id → slice_get interfaces id ≡ Some (path_scope top l.path.now)
 
 -- what passes the test of a side
 abbrev stands_on : WorldSide → HeldExtern → Bool

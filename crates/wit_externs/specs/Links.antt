@@ -4,10 +4,9 @@ use Rattle.std.specs.List.{flat_map}
 use Rattle.std.specs.Option.{option_map_or}
 use Rattle.wit_type_tree.specs.declared.leaves.Id.{Id}
 use Rattle.wit_tree.specs.declared.tree.WorldSide.{WorldSide}
-use Rattle.wit_syntax.specs.Address.{Address}
 use Rattle.wit_syntax.specs.Fault.{Fault, fault, missing_at, item_word}
 use Rattle.wit_syntax.specs.Notes.{IsBrokenNotes}
-use Rattle.wit_syntax.specs.Source.{TopName, path_id, path_scope}
+use Rattle.wit_syntax.specs.Source.{path_id}
 use Rattle.wit_refusals.specs.Names.{Name}
 use Rattle.wit_externs.specs.declared.held.Led.{Led}
 use Rattle.wit_externs.specs.declared.held.Led.TheVariants as led
@@ -71,10 +70,3 @@ pub data IsWrongAmong (before : WorldSide → List Name) (hs : List HeldExtern) 
   LinkedAgain : IsLinkedAgain hs f → IsWrongAmong before hs f
   WrongLink : (l : HeldLink) → Contains hs (held.Link l) → IsWrongLink l f → IsWrongAmong before hs f
   WrongInside : (i : HeldInline) → Contains hs (held.Inline i) → IsBrokenNotes i.written.now.attributes.items f → IsWrongAmong before hs f
-
--- The links lead to interfaces of these addresses: each place is that of the scope that its path leads to, so that two are one where their
--- scopes are one.
-pub record AreLinksPlaced (interfaces : List Address) (top : List TopName) (hs : List HeldExtern) : Type 0 where
-  pub place : Address → ℕ
-  pub stands : (k : ℕ) (l : HeldLink) (id : ℕ) → slice_get hs k ≡ Some (held.Link l) → l.led ≡ led.Interface id → id ≡ place (path_scope top l.path.now)
-  pub called : (k : ℕ) (l : HeldLink) (id : ℕ) → slice_get hs k ≡ Some (held.Link l) → l.led ≡ led.Interface id → slice_get interfaces id ≡ Some (path_scope top l.path.now)

@@ -1,4 +1,7 @@
 //! What stands on the sides of a scope as it is written, before its types are resolved.
+ghost use Rattle.std.specs.Prelude.{◌≡◌};
+ghost use Rattle.wit_syntax.specs.Sides.{item_side};
+ghost use Rattle.wit_externs.specs.Held.{extern_behind};
 
 use wit_rules::held::HeldFunction;
 use wit_tree::tree::{Attribute, Docs, Extern, Id, InterfaceItem, UsePath, WorldSide};
@@ -40,4 +43,17 @@ pub enum HeldExtern<'t, 'a> {
     Function(HeldFunction<'t, 'a>),
     Link(HeldLink<'t, 'a>),
     Inline(HeldInline<'t, 'a>),
+}
+
+impl HeldExtern<'_, '_> {
+    /// The side that it stands on.
+    pub fn side(&self) -> WorldSide
+        ensures { result ≡ item_side (extern_behind self.now) }
+    {
+        match self {
+            HeldExtern::Function(function) => function.side(),
+            HeldExtern::Link(link) => link.side,
+            HeldExtern::Inline(inline) => inline.written.side,
+        }
+    }
 }

@@ -16,7 +16,7 @@ use Rattle.wit_syntax.specs.Address.{same_package, same_address, package_of}
 use Rattle.wit_syntax.specs.Foreign.{ForeignVisit, visited, same_item}
 use Rattle.wit_arena.specs.Whole.{foreign_place}
 use Rattle.wit_syntax.proofs.Names.{name_itself, name_equal}
-use Rattle.wit_foreign.specs.Kept.{Visited, Items, item_more, row_more, table_more, items_of, interfaces_in, worlds_in, packages_of, entry_in, visit_stability, item_in, row_in, table_in, entry_next}
+use Rattle.wit_foreign.specs.Kept.{Visited, Items, item_more, row_more, table_more, items_of, interfaces_in, worlds_in, packages_of, entry_in, visit_stability, item_in, row_in, table_in}
 use Rattle.wit_syntax.proofs.Addresses.{same_package-itself, same_package-equal}
 use Rattle.wit_foreign.proofs.Same.{same_package-flip, name-flip}
 use Rattle.wit_foreign.proofs.Firsts.{firsts-more, Each, each_map, each_both, each_filter, each_firsts, each_passed, each_lost, filter_lost, map_each, Apart, apart_filter, apart_firsts, each_found, prefix_len-found, prefix_len-next, any-firsts, any-filter}
@@ -98,6 +98,10 @@ place_new t vs x is new =
     let one : filter t (new_one (is_known vs x) x) ≡ x ∷ [] = ap (λ b. filter t (new_one b x)) new ∙ ap (λ b. cond b (x ∷ []) []) is in
     let far : Each (λ y. same_item y x ≡ false) (filter t (items_of vs)) = each_filter (λ y. same_item y x ≡ false) t (items_of vs) (each_firsts (λ y. same_item y x ≡ false) same_item vs (lost vs x new)) in
     ap (λ l. foreign_place l x) (kind-more t vs x ∙ ap (λ l. filter t (items_of vs) ++ l) one) ∙ prefix_len-next (λ w. same_item w x) (filter t (items_of vs)) x far (item_itself x)
+
+-- the entry that the item of a visit gets if it is new
+abbrev pub entry_next : List ForeignVisit → ForeignVisit → AstItem
+entry_next vs v = if v.wants_world then entry.World (length (worlds_in vs)) else entry.Interface (length (interfaces_in vs))
 
 entry_in-new : (vs : List ForeignVisit) (x : ForeignVisit) → is_known vs x ≡ false → entry_in (more vs x) x ≡ entry_next vs x
 entry_in-new vs x new = go x.wants_world refl

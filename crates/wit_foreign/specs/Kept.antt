@@ -1,5 +1,5 @@
 -- The table of other packages' items, as it grows visit by visit.
-use Rattle.std.specs.Prelude.{ℕ, not, List, [], ◌∷◌, ◌++◌, length, map, Option, Some, None, nat_eq, if◌then◌else◌}
+use Rattle.std.specs.Prelude.{ℕ, not, List, [], ◌∷◌, ◌++◌, map, Option, Some, None, nat_eq, if◌then◌else◌}
 use Rattle.std.specs.List.{filter}
 use Rattle.std.specs.Map.{lookup}
 use Rattle.std.specs.Option.{unwrap_or}
@@ -66,7 +66,3 @@ row_in vs p = map (λ v. (v.id.name.now, item_in vs v)) (filter (λ v. same_pack
 -- the packages of visits, each with its items
 abbrev pub table_in : List ForeignVisit → List (PackageName × Items)
 table_in vs = map (λ v. (package_of v.of, row_in vs (package_of v.of))) (packages_of vs)
-
--- the entry that the item of a visit gets if it is new
-abbrev pub entry_next : List ForeignVisit → ForeignVisit → AstItem
-entry_next vs v = if v.wants_world then entry.World (length (worlds_in vs)) else entry.Interface (length (interfaces_in vs))

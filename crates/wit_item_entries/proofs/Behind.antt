@@ -1,4 +1,4 @@
--- What is wrong with the functions of an item, and what holds of the names of both.
+-- Names that clash behind those of a scope, and handles in its functions: what is wrong with them is wrong with the functions of the item.
 use Rattle.std.proofs.Common.{◌≡◌, ◌⊎◌, ℕ, List, [], ◌++◌, map, take, Some, inl, inr, refl, sym, ap, ◌∙◌, subst, Contains}
 use Rattle.std.specs.Prelude.{slice_get}
 use Rattle.std.specs.List.{flat_map}

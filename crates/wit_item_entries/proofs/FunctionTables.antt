@@ -1,4 +1,4 @@
--- Functions under their names, one more, and on a side of a world, one more.
+-- Functions under their names, one more.
 use Rattle.std.proofs.Common.{◌≡◌, ◌⊎◌, ℕ, false, List, [], ◌∷◌, ◌++◌, inl, inr, nat_eq, refl, ap}
 use Rattle.std.specs.Prelude.{map}
 use Rattle.std.specs.Cmp.Lexicographic.{pointwise}

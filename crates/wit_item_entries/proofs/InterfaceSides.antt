@@ -1,6 +1,5 @@
 -- An interface has functions alone on its sides, and they stand where imports do.
-use Rattle.std.proofs.Common.{◌≡◌, ℕ, ◌∷◌, ◌++◌, [], List, map, Some, false, inl, inr, refl, sym, ap, ◌∙◌, subst, Contains}
-use Rattle.std.specs.Prelude.{slice_get}
+use Rattle.std.proofs.Common.{◌≡◌, ◌∷◌, ◌++◌, [], List, map, false, inl, inr, refl, sym, ap, ◌∙◌, subst, Contains}
 use Rattle.std.specs.List.{flat_map}
 use Rattle.std.proofs.lemmas.Bool.{cases_Bool, cond-true, cond-false}
 use Rattle.wit_type_tree.specs.declared.leaves.Id.{Id}

@@ -9,10 +9,10 @@ use Rattle.wit_types.specs.declared.types.TypeDef.{TypeDef}
 use Rattle.wit_types.specs.declared.types.TypeOwner.{TypeOwner}
 use Rattle.wit_functions.specs.declared.function.Function.{Function}
 use Rattle.wit_syntax.specs.Address.{Address}
-use Rattle.wit_syntax.specs.Fault.{Fault}
+use Rattle.wit_syntax.specs.Fault.{Fault, fault, item_word, missing_at}
 use Rattle.wit_syntax.specs.Repeats.{AllDiffer}
 use Rattle.wit_syntax.specs.Shape.{all_handles}
-use Rattle.wit_syntax.specs.Source.{Item, address, ScopeName, scope_names}
+use Rattle.wit_syntax.specs.Source.{Item, address, ScopeName, scope_names, path_id}
 use Rattle.wit_syntax.specs.Scope.{in_turn}
 use Rattle.wit_syntax.specs.Function.{SourceFunction, functions, name_types, written_types, item_types}
 use Rattle.wit_syntax.specs.Signature.{IsBrokenFunction}
@@ -33,7 +33,7 @@ use Rattle.wit_rules.specs.Signatures.{IsWrongFunctionAmong}
 use Rattle.wit_signatures.specs.Taken.{name_of_function, name_of_id, name_of_made, name_key}
 use Rattle.wit_externs.specs.Held.{externs_behind}
 use Rattle.wit_externs.specs.Clash.{DifferOnSides, all_on}
-use Rattle.wit_externs.specs.Links.{IsWrongLink, WrongNotes as NotedWrong, AtWorld, AtNothing, IsWrongAmong, Clashes, LinkedAgain, WrongLink, WrongInside}
+use Rattle.wit_externs.specs.Links.{IsWrongLink, WrongNotes as NotedWrong, AtWorld, AtNothing, IsWrongAmong, Clashes, LinkedAgain, WrongLink, WrongInside, IsLinkedAgain}
 use Rattle.wit_externs.specs.declared.held.HeldLink.{HeldLink}
 use Rattle.wit_externs.specs.declared.held.HeldExtern.{HeldExtern}
 use Rattle.wit_externs.specs.declared.held.HeldExtern.TheVariants as held
@@ -42,12 +42,12 @@ use Rattle.wit_scopes.specs.Between.{IsOfFunctions, OfFunction}
 use Rattle.wit_item_entries.specs.Between.{AddsTurn}
 use Rattle.wit_uses.specs.Behind.{IsTurn}
 use Rattle.wit_item_entries.specs.Behind.{IsWrongFunctions, BrokenFunction, BrokenNames, CrossedNames, HandleOfOther}
-use Rattle.wit_uses.specs.Body.{IsStandingBy}
-use Rattle.wit_item_entries.specs.Body.{AddsBody, IsWrongBody, WrongNames, WrongHandles, WrongSides, IsWrongPath, LeadsToWorld, LeadsToNothing, LeadsAgain}
+use Rattle.wit_item_entries.specs.Body.{AddsBody, IsWrongBody, WrongNames, WrongHandles, WrongSides}
 use Rattle.wit_item_entries.proofs.Handled.{handle_wider}
 use Rattle.wit_uses.proofs.Behind.{differ_called}
 use Rattle.wit_item_entries.proofs.Behind.{clash_broken, function_handle, turn_texts}
-use Rattle.wit_uses.proofs.ItemSides.{wrong_folded, wrong_crossed, wrong_noted, wrong_inside}
+use Rattle.wit_uses.proofs.ItemSides.{IsStandingBy, wrong_folded, wrong_crossed, wrong_noted, wrong_inside}
+use Rattle.wit_externs.specs.declared.held.Led.TheVariants as led
 
 -- the names of a scope that was added, in turn
 pub turn_added : (old mid : List TypeDef) (cs : List Cell) (o : TypeOwner) (xs : List ScopeName) (types : Names) (ids : List Id) (rs : List Required) → AddsTurn old mid cs o xs types ids rs → IsTurn xs ids
@@ -128,6 +128,12 @@ wrong_function old mid new cs by_name o item types ids required f n g h = elim h
   | inl broken ↦ WrongNames (WrongItself (FunctionBroken h.place h.fn h.at broken))
   | inr handle ↦ WrongHandles (wrong_handle_behind old mid new cs o item types ids required f n g (function_handle (env_of types) new (functions item) h.place h.fn f h.at handle))
 ]
+
+-- the path of one of these links leads to a world, to nothing, or where that of an earlier one does
+pub data IsWrongPath (hs : List HeldExtern) (f : Fault) : Type 0 where
+  LeadsToWorld : (l : HeldLink) → Contains hs (held.Link l) → l.led ≡ led.World → f ≡ fault 10 (path_id l.path.now).span → IsWrongPath hs f
+  LeadsToNothing : (l : HeldLink) (id : Id) → Contains hs (held.Link l) → l.led ≡ led.Nothing id → f ≡ missing_at 7 item_word id → IsWrongPath hs f
+  LeadsAgain : IsLinkedAgain hs f → IsWrongPath hs f
 
 -- what is wrong with a link by itself is wrong with the item, or with its path
 wrong_link : (old : List TypeDef) (cs : List Cell) (by_name : Names) (o : TypeOwner) (item : Item) (names : List HeldName) (hs : List HeldExtern) (l : HeldLink) (f : Fault) → IsStandingBy item names hs → Contains hs (held.Link l) → IsWrongLink l f → IsWrongBody old cs by_name o item f ⊎ IsWrongPath hs f

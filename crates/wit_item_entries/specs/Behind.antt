@@ -1,4 +1,4 @@
--- What the functions of an item add behind its names.
+-- What may be wrong with the functions of a scope on whose sides nothing else stands.
 use Rattle.std.specs.Prelude.{◌≡◌, ℕ, List, map, Some, slice_get}
 use Rattle.std.specs.List.{flat_map}
 use Rattle.wit_types.specs.declared.types.TypeDef.{TypeDef}

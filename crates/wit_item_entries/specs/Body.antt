@@ -1,12 +1,12 @@
 -- What the names and the functions of an item add, and what can be wrong with an item: the same of an interface and of a world.
-use Rattle.std.specs.Prelude.{◌≡◌, List, map, Contains}
+use Rattle.std.specs.Prelude.{◌≡◌, List, map}
 use Rattle.wit_type_tree.specs.declared.leaves.Id.{Id}
 use Rattle.wit_types.specs.declared.types.TypeDef.{TypeDef}
 use Rattle.wit_types.specs.declared.types.TypeOwner.{TypeOwner}
 use Rattle.wit_functions.specs.declared.function.Function.{Function}
-use Rattle.wit_syntax.specs.Fault.{Fault, fault, missing_at, item_word}
+use Rattle.wit_syntax.specs.Fault.{Fault}
 use Rattle.wit_syntax.specs.Notes.{IsBrokenStability}
-use Rattle.wit_syntax.specs.Source.{Declared, Item, local_id, path_id, scope_names, about}
+use Rattle.wit_syntax.specs.Source.{Declared, Item, local_id, scope_names, about}
 use Rattle.wit_syntax.specs.Scope.{in_turn}
 use Rattle.wit_syntax.specs.Function.{functions}
 use Rattle.wit_syntax.specs.Sides.{side_items, IsBrokenSides}
@@ -14,10 +14,7 @@ use Rattle.wit_arena.specs.Resolving.{Names, Cell, Required, IsWrongScope}
 use Rattle.wit_arena.specs.Resolved.{AddsScope, AddsBehind, IsWrongHandleNow}
 use Rattle.wit_signatures.specs.Taken.{name_of_function, name_of_made}
 use Rattle.wit_externs.specs.Clash.{DifferOnSides}
-use Rattle.wit_externs.specs.Links.{IsLinkedAgain}
 use Rattle.wit_externs.specs.declared.held.Led.TheVariants as led
-use Rattle.wit_externs.specs.declared.held.HeldLink.{HeldLink}
-use Rattle.wit_externs.specs.declared.held.HeldExtern.{HeldExtern}
 use Rattle.wit_externs.specs.declared.held.HeldExtern.TheVariants as held
 use Rattle.wit_scopes.specs.Held.{name_behind, Held as HeldName}
 
@@ -41,9 +38,3 @@ pub data IsWrongBody (old : List TypeDef) (cs : List Cell) (by_name : Names) (o 
   WrongNames : IsWrongScope cs by_name (scope_names item) (functions item) f → IsWrongBody old cs by_name o item f
   WrongHandles : IsWrongHandleNow old cs o item f → IsWrongBody old cs by_name o item f
   WrongSides : IsBrokenSides item f → IsWrongBody old cs by_name o item f
-
--- the path of one of these links leads to a world, to nothing, or where that of an earlier one does
-pub data IsWrongPath (hs : List HeldExtern) (f : Fault) : Type 0 where
-  LeadsToWorld : (l : HeldLink) → Contains hs (held.Link l) → l.led ≡ led.World → f ≡ fault 10 (path_id l.path.now).span → IsWrongPath hs f
-  LeadsToNothing : (l : HeldLink) (id : Id) → Contains hs (held.Link l) → l.led ≡ led.Nothing id → f ≡ missing_at 7 item_word id → IsWrongPath hs f
-  LeadsAgain : IsLinkedAgain hs f → IsWrongPath hs f

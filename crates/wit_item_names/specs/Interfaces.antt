@@ -1,4 +1,4 @@
--- The interfaces that are resolved, as scopes that names are used from.
+-- The addresses of other packages' interfaces, which stand in front.
 use Rattle.std.specs.Prelude.{List, map}
 use Rattle.wit_files.specs.Foreign.{foreign_behind}
 use Rattle.wit_files.specs.declared.foreign.ForeignVisit.{ForeignVisit}

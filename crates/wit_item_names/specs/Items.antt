@@ -1,4 +1,4 @@
--- Declared items that are held, and where their paths to interfaces lead.
+-- Parts of items that are held, and where their paths to interfaces lead.
 use Rattle.std.specs.Prelude.{◌≡◌, ℕ, ◌<◌, length, true, false, List, [], ◌∷◌, Option, Some, None, Contains, map}
 use Rattle.std.specs.List.{flat_map}
 use Rattle.std.specs.Option.{option_map}

@@ -1,4 +1,4 @@
--- What stands in front of the arenas, while it is made.
+-- Items whose names, and those of what is written in them, are placed.
 use Rattle.std.specs.Prelude.{◌≡◌, ℕ, All, List, Some, slice_get}
 use Rattle.wit_syntax.specs.Address.{Address}
 use Rattle.wit_items.specs.declared.items.Item.{Item as HeldItem}

@@ -1,4 +1,4 @@
--- Declared items that are held, and where their paths to interfaces lead.
+-- Declared items that are held, and whether their uses break a rule.
 use Rattle.std.specs.Prelude.{◌≡◌, ℕ, List, Some, Contains, map, slice_get}
 use Rattle.wit_tree.specs.declared.tree.PackageFile.{PackageFile}
 use Rattle.wit_syntax.specs.Address.{Address}

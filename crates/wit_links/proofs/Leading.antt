@@ -29,13 +29,13 @@ use Rattle.wit_externs.specs.declared.held.Led.TheVariants as led
 use Rattle.wit_externs.specs.declared.held.HeldLink.{HeldLink}
 use Rattle.wit_externs.specs.declared.held.HeldExtern.{HeldExtern}
 use Rattle.wit_externs.specs.declared.held.HeldExtern.TheVariants as held
-use Rattle.wit_externs.specs.Links.{AreLinksPlaced}
 use Rattle.wit_item_names.proofs.Usable.{contains_one}
 use Rattle.wit_rules.specs.declared.held.HeldFunction.{HeldFunction}
 use Rattle.wit_scopes.specs.Held.{source_behind, IsPlaced}
 use Rattle.wit_scopes.specs.declared.scope_name.Source.{Source as HeldSource}
 use Rattle.wit_scopes.specs.declared.scope_name.Source.TheVariants as held_source
 use Rattle.wit_world_sides.specs.Links.{AreLed, AreWithin, IsLed, IsLostAt, interface_place, interfaces_of_others, source_place}
+use Rattle.wit_externs.proofs.Linked.{AreLinksPlaced}
 
 -- the place of an interface that is held is that of its address
 pub source_placed : (files : List PackageFile) (front : List Address) (by_name : Names) (source : HeldSource) → front ≡ interfaces_of_others files → IsPlaced (map visited (foreign_interfaces files)) source → interface_place front by_name (source_behind source) ≡ source_place by_name source

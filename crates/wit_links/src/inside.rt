@@ -4,7 +4,7 @@ ghost use Rattle.wit_tree.specs.declared.tree.WorldSide.{WorldSide as TheSide};
 ghost use Rattle.wit_syntax.specs.Address.{Address};
 ghost use Rattle.wit_syntax.specs.Source.{TheWorld, item_name, about};
 ghost use Rattle.std.specs.List.{filter};
-ghost use Rattle.wit_syntax.specs.Sides.{SideItem, inline_item, is_interface, item_inline, item_side};
+ghost use Rattle.wit_syntax.specs.Sides.{SideItem, inline_item, is_interface, item_inline};
 ghost use Rattle.wit_externs.specs.declared.held.HeldExtern.TheVariants.{Inline as TheHeld};
 ghost use Rattle.wit_externs.specs.Held.{extern_behind};
 ghost use Rattle.wit_scopes.specs.Front.{AreNamesPlaced};
@@ -38,17 +38,6 @@ pub(crate) fn declared_world<'f, 'a>(declared: &Declared<'f, 'a>) -> &'f World<'
     match declared {
         Declared::World(world) => *world,
         Declared::Interface(_) | Declared::Inline(_) => unreachable!(),
-    }
-}
-
-/// The side that it stands on.
-fn side_of(held: &HeldExtern<'_, '_>) -> WorldSide
-    ensures { result ≡ item_side (extern_behind held.now) }
-{
-    match held {
-        HeldExtern::Function(function) => function.side(),
-        HeldExtern::Link(link) => link.side,
-        HeldExtern::Inline(inline) => inline.written.side,
     }
 }
 
@@ -123,7 +112,7 @@ impl Met {
         requires inline { (side : TheSide) → (met_on side self).inline < usize.MAX }
         ensures { (xs : List SideItem) → IsMet xs self → IsMet (xs ++ extern_behind held.now ∷ []) result }
     {
-        match side_of(held) {
+        match held.side() {
             WorldSide::Imported => Met {
                 imports: self.imports.with(held),
                 exports: self.exports,

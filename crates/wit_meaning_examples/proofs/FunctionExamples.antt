@@ -46,7 +46,7 @@ use Rattle.wit_arena.specs.Meet.{Key, Def, Whole, Meeting, IsAt}
 use Rattle.wit_syntax.specs.Shape.{Word, all_handles, Shape}
 use Rattle.wit_syntax.specs.Shape as shape
 use Rattle.wit_syntax.specs.Function.{Freestanding, Method, Static, Constructor, SourceParam, SourceFunction, resource_function, free_function, functions, item_types, signature, role_names}
-use Rattle.wit_arena.specs.Functions.{IsParam, AreParams, IsFunction, AreFunctions, placed_functions}
+use Rattle.wit_arena.specs.Functions.{IsParam, IsFunction, AreFunctions, placed_functions}
 use Rattle.wit_syntax.specs.Sides.{FunctionKey}
 use Rattle.wit_arena.specs.Package.{package_tree, functions_of, function_types}
 use Rattle.wit_arena.specs.Whole.{turned}
@@ -69,7 +69,7 @@ pairs P (z ∷ xs) (w ∷ ys) all zero x y at there =
     subst (P x) second (subst (λ v. P v w) first all.0)
 pairs P (z ∷ xs) (w ∷ ys) all (suc k) x y at there = pairs P xs ys all.1 k x y at there
 
-pub params_are : (ks : List Key) (s : Address) (written : List SourceParam) (ps : List Param) → length ps ≡ length written → Pairs (IsParam ks s) written ps → AreParams ks s written ps
+pub params_are : (ks : List Key) (s : Address) (written : List SourceParam) (ps : List Param) → length ps ≡ length written → Pairs (IsParam ks s) written ps → OneByOne (IsParam ks s) written ps
 params_are ks s written ps count all = record { count = count; each = pairs (IsParam ks s) written ps all }
 
 -- a result is the written one

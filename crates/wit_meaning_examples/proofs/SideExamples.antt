@@ -31,17 +31,18 @@ use Rattle.wit_syntax.specs.Repeats.{AllDiffer}
 use Rattle.wit_syntax.specs.Source.{top_names, TheWorld, Item, Defined, scope_names}
 use Rattle.wit_syntax.specs.Function.{SourceFunction, side_function, functions, role_names}
 use Rattle.wit_syntax.specs.Signature.{IsBrokenFunction, BrokenNotes, BrokenTypes, MissingInSignature, GetterGiven, SetterGiven, DuplicateParam, GetterWithoutResult, SetterWithResult, ConstructorWithoutResult, ConstructorOfOther}
-use Rattle.wit_syntax.specs.Sides.{SideItem, SideFunction, SideLink, Link, side_items, items_on, side_called, IsFoldedTwice, IsCrossedTwice, IsBrokenSides, FoldedTwice, CrossedTwice, InterfaceNotes, interface_attributes}
+use Rattle.wit_syntax.specs.Sides.{SideItem, SideFunction, side_items, items_on, side_called, IsFoldedTwice, IsCrossedTwice, IsBrokenSides, FoldedTwice, CrossedTwice, InterfaceNotes, interface_attributes}
 use Rattle.wit_syntax.specs.Broken.{IsBrokenScope, DefinedTwice, MissingType, CyclicType, Notes, Body, Function, IsBroken, Sides}
 use Rattle.wit_syntax.proofs.Found.{at_contains}
 use Rattle.wit_syntax.proofs.Legal.{no_fold, no_crossed}
 use Rattle.wit_syntax.proofs.Unnoted.{unbroken_notes}
-use Rattle.wit_arena.specs.Functions.{function_item, made_on}
+use Rattle.wit_arena.specs.Functions.{function_item}
 use Rattle.wit_arena.specs.Package.{functions_of}
 use Rattle.wit_meaning_examples.proofs.Examples.{at, id, vec, no_comments, untold, header}
 use Rattle.wit_meaning_examples.proofs.SignatureExamples.{one_order}
 use Rattle.std.specs.List.{flat_map}
 use Rattle.wit_syntax.proofs.Repeated.{called_key}
+use Rattle.wit_arena.proofs.MadeOn.{made_on}
 
 -- a scope without names has one order
 pub no_rows : IsOrder [] []

@@ -25,7 +25,7 @@ use Rattle.wit_syntax.specs.Function.{SourceFunction, functions}
 use Rattle.wit_syntax.specs.Scope.{includes}
 use Rattle.wit_syntax.specs.Sides.{FunctionKey, side_items}
 use Rattle.wit_syntax.proofs.Legal.{functions_items}
-use Rattle.wit_arena.specs.Functions.{by_name, placed_functions, made_on, AreFunctions}
+use Rattle.wit_arena.specs.Functions.{by_name, placed_functions, AreFunctions}
 use Rattle.wit_arena.specs.SideItems.{AreSideItems, settled}
 use Rattle.wit_arena.proofs.Settled.{moved, settled_at}
 use Rattle.wit_arena.proofs.SideItems.{side_functions}
@@ -35,7 +35,7 @@ use Rattle.wit_arena.specs.OneByOne.{OneByOne}
 use Rattle.wit_arena.specs.Whole.{Ordered, OrderedWorld, ordered_names, addresses, all_inside, type_imports, IsPackage, interface_addresses, world_addresses, IsResolvedInterface, IsResolvedWorld, IsForeignInterface}
 use Rattle.wit_syntax.proofs.Lists.{at_split, at_within, map_at}
 use Rattle.wit_arena.proofs.Placed.{function_from}
-use Rattle.wit_arena.proofs.MadeOn.{made_on_from}
+use Rattle.wit_arena.proofs.MadeOn.{made_on, made_on_from}
 use Rattle.wit_parser.proofs.WrittenMarks.{written_marked}
 use Rattle.wit_parser.specs.Marks.{HaveMarks}
 

@@ -1,4 +1,4 @@
--- What the resolver's functions tell one another: orders that were found, names that stand twice, and what was resolved so far.
+-- The definitions of a scope in their order, its names, and what may be wrong with one of them.
 use Rattle.std.specs.Prelude.{◌≡◌, ◌⊎◌, ◌++◌, ℕ, List, [], take, map, Some, Contains, slice_get}
 use Rattle.wit_type_tree.specs.declared.leaves.Id.{Id}
 use Rattle.wit_type_tree.specs.declared.types.TypeDef.{TypeDef as Definition}

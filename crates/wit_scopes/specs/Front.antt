@@ -1,4 +1,4 @@
--- What stands in front of the arenas, while it is made.
+-- Names of scopes that are used from interfaces at their places, those of other packages in front.
 use Rattle.std.specs.Prelude.{◌≡◌, ℕ, ⊤, List, Some, slice_get}
 use Rattle.wit_syntax.specs.Address.{Address}
 use Rattle.wit_syntax.specs.Source.{Used, Defined}

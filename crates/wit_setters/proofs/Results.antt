@@ -1,4 +1,4 @@
--- Definitions of a scope that are written as results, told by their names.
+-- What a name finds in a map once something was put at a name.
 use Rattle.std.proofs.Common.{◌≡◌, ℕ, true, false, cond, List, [], ◌∷◌, Some, inl, inr, nat_eq, refl, sym, ap, ◌∙◌}
 use Rattle.std.specs.Cmp.Lexicographic.{pointwise}
 use Rattle.std.specs.Map.{lookup}

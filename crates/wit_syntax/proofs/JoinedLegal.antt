@@ -1,5 +1,5 @@
 -- Files that declare the same break a rule both or neither.
-use Rattle.std.proofs.Common.{unwrap_or, ◌≡◌, ℕ, zero, suc, List, ◌∷◌, Option, Some, None, refl, sym, ap, ◌∙◌, subst}
+use Rattle.std.proofs.Common.{unwrap_or, ◌≡◌, ℕ, zero, suc, List, Option, Some, None, refl, sym, ap, ◌∙◌, subst}
 use Rattle.std.specs.Prelude.{Contains}
 use Rattle.wit_tree.specs.declared.tree.PackageFile.{PackageFile}
 use Rattle.wit_type_tree.specs.declared.leaves.Id.{Id}
@@ -13,7 +13,7 @@ use Rattle.wit_syntax.specs.Form.{Form, AliasForm}
 use Rattle.wit_syntax.specs.Shape.{Shape, Shapes, Word, More}
 use Rattle.wit_syntax.specs.Source.{TopName, Item, address, all_items, ScopeName, scope_names, parts, local_name, meaning, about_name, Used}
 use Rattle.wit_syntax.specs.Trees.{scope}
-use Rattle.wit_syntax.specs.Sides.{SideItem, side_items, IsFoldedTwice, IsCrossedTwice, IsBrokenSides, FoldedTwice, CrossedTwice, all_scopes, InterfaceNotes}
+use Rattle.wit_syntax.specs.Sides.{side_items, IsFoldedTwice, IsCrossedTwice, IsBrokenSides, FoldedTwice, CrossedTwice, all_scopes, InterfaceNotes}
 use Rattle.wit_syntax.specs.Broken
 use Rattle.wit_syntax.specs.Broken.{last_header, IsBrokenScope, IsBrokenItems, IsBrokenNames, IsLinkedTwice, IsBroken, IsLegal}
 use Rattle.wit_syntax.proofs.Headers.{no_header}

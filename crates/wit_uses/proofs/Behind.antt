@@ -1,4 +1,4 @@
--- What is wrong with the functions of an item, and what holds of the names of both.
+-- Names that are taken on a side, as they are called there: where their keys differ, so do those of all that is called.
 use Rattle.std.proofs.Common.{◌≡◌, ℕ, List, [], ◌∷◌, ◌++◌, map, Option, Some, None, refl, sym, ap, ◌∙◌, subst}
 use Rattle.std.specs.List.{flat_map}
 use Rattle.std.specs.Option.{option_map_or}

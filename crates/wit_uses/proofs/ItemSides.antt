@@ -23,10 +23,14 @@ use Rattle.wit_externs.specs.declared.held.HeldLink.{HeldLink}
 use Rattle.wit_externs.specs.declared.held.HeldInline.{HeldInline}
 use Rattle.wit_externs.specs.declared.held.HeldExtern.{HeldExtern}
 use Rattle.wit_externs.specs.declared.held.HeldExtern.TheVariants as held
-use Rattle.wit_scopes.specs.Held.{Held as HeldName}
+use Rattle.wit_scopes.specs.Held.{Held as HeldName, name_behind}
 use Rattle.wit_uses.specs.Behind.{IsTurn}
-use Rattle.wit_uses.specs.Body.{IsStandingBy}
 use Rattle.wit_uses.proofs.Behind.{differ_called}
+
+-- these are the names of an item and what it has on its sides
+pub record IsStandingBy (item : Item) (xs : List HeldName) (hs : List HeldExtern) : Type 0 where
+  pub names : scope_names item ≡ map name_behind xs
+  pub sides : side_items item ≡ externs_behind hs
 
 -- the functions among what stands there are those of the item
 pub held_functions : (item : Item) (names : List HeldName) (hs : List HeldExtern) (ws : List HeldFunction) → IsStandingBy item names hs → map function_behind ws ≡ flat_map item_function (externs_behind hs) → map function_behind ws ≡ functions item

@@ -19,12 +19,13 @@ use Rattle.wit_syntax.proofs.Lists.{at_front, at_back, at_take, flat_map_at, fla
 use Rattle.wit_syntax.proofs.Found.{at_contains, contains_at}
 use Rattle.wit_syntax.proofs.Kept.{kept_at}
 use Rattle.wit_externs.specs.Held.{link_behind, extern_behind, externs_behind, held_on}
-use Rattle.wit_externs.specs.Links.{led_places, bare_place, bare_places, AreRightLinks, AreLinksPlaced, IsLinkedAgain}
+use Rattle.wit_externs.specs.Links.{led_places, bare_place, bare_places, AreRightLinks, IsLinkedAgain}
 use Rattle.wit_externs.specs.declared.held.Led.{Led}
 use Rattle.wit_externs.specs.declared.held.Led.TheVariants as led
 use Rattle.wit_externs.specs.declared.held.HeldLink.{HeldLink}
 use Rattle.wit_externs.specs.declared.held.HeldExtern.{HeldExtern}
 use Rattle.wit_externs.specs.declared.held.HeldExtern.TheVariants as held
+use Rattle.wit_externs.proofs.Linked.{AreLinksPlaced}
 
 -- lists that two items bring, one behind the other, have no common first where all that is brought differs
 differ_back : {X : Type 0} (xs ys : List X) → AllDiffer (xs ++ ys) → AllDiffer ys

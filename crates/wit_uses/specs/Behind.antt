@@ -1,4 +1,4 @@
--- What the functions of an item add behind its names.
+-- The names of a scope in the order in which they are resolved.
 use Rattle.std.specs.Prelude.{◌≡◌, ℕ, List, map}
 use Rattle.wit_type_tree.specs.declared.leaves.Id.{Id}
 use Rattle.wit_graph.specs.Table.{IsOrder}

@@ -1,4 +1,4 @@
--- What the names of a scope add to the arena, one after another, and what is wrong with them.
+-- What is required, behind what was required before.
 use Rattle.std.specs.Prelude.{◌≡◌, List, ◌++◌}
 use Rattle.wit_arena.specs.Resolving.{Required}
 

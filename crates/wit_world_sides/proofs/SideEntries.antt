@@ -7,7 +7,7 @@ use Rattle.wit_syntax.specs.Address.{Address}
 use Rattle.wit_syntax.specs.Source.{TopName, path_scope}
 use Rattle.wit_arena.specs.SideItems.{AreSideItems}
 use Rattle.wit_externs.specs.Held.{externs_behind, link_behind}
-use Rattle.wit_externs.specs.Links.{AreLinksPlaced, AreRightLinks}
+use Rattle.wit_externs.specs.Links.{AreRightLinks}
 use Rattle.wit_externs.specs.declared.held.Led.{Led}
 use Rattle.wit_externs.specs.declared.held.Led.TheVariants as led
 use Rattle.wit_externs.specs.declared.held.HeldLink.{HeldLink}
@@ -15,6 +15,7 @@ use Rattle.wit_externs.specs.declared.held.HeldExtern.{HeldExtern}
 use Rattle.wit_externs.specs.declared.held.HeldExtern.TheVariants as held
 use Rattle.wit_world_sides.specs.Sides.{entries_on, put_link}
 use Rattle.wit_world_sides.proofs.SideKeys.{AreCounted, AreMade, Lead, counted_rest, counted_some}
+use Rattle.wit_externs.proofs.Linked.{AreLinksPlaced}
 
 -- right links lead to interfaces
 pub right_lead : (hs : List HeldExtern) → AreRightLinks hs → Lead hs

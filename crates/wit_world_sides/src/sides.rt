@@ -252,20 +252,11 @@ fn add_externs<'f, 'a>(
     Ok(())
 }
 
-/// The side on which something stands.
-fn side_of(held: &HeldExtern<'_, '_>) -> WorldSide {
-    match held {
-        HeldExtern::Function(written) => written.side(),
-        HeldExtern::Link(link) => link.side,
-        HeldExtern::Inline(inline) => inline.written.side,
-    }
-}
-
 /// How much of what is written is imported; the rest is exported.
 fn import_count(externs: &[HeldExtern<'_, '_>]) -> usize {
     let mut count: usize = 0;
     for held in externs {
-        match side_of(held) {
+        match held.side() {
             WorldSide::Imported => count = count.saturating_add(1),
             WorldSide::Exported => {}
         }

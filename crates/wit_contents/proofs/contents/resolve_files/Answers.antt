@@ -8,19 +8,19 @@ use Rattle.wit_syntax.specs.Scope.{in_order, interfaces_of, worlds_of}
 use Rattle.wit_syntax.specs.Broken.{IsBroken}
 use Rattle.wit_syntax.specs.Sides.{with_inline}
 use Rattle.wit_arena.specs.Resolving.{Required, cells, IsIndex}
-use Rattle.wit_arena.specs.Resolved.{WorldArenas, front_worlds, AddsInterfaces, AddsWorlds, AreLegalSides, AreSoundScopes, AreUsableLinks, HaveLegalStability}
+use Rattle.wit_arena.specs.Resolved.{WorldArenas, front_worlds, AddsInterfaces, AddsWorlds, AreLegalSides, AreSoundScopes, AreUsableLinks, HaveLegalStability, IsWrongNow, IsWrongWorldNow}
 use Rattle.wit_syntax.proofs.Refusing.{refused_weaker}
 use Rattle.wit_arena.proofs.LegalScopes.{distinct_items}
-use Rattle.wit_arena.proofs.Finished.{broken_among, broken_world_among}
+use Rattle.wit_arena.proofs.Finished.{broken_now, broken_world_now}
 use Rattle.wit_items.specs.Items.{item_behind, others_of}
 use Rattle.wit_item_names.specs.Interfaces.{front_of}
 use Rattle.wit_front.specs.Front.{IsFront}
 use Rattle.wit_uses.specs.Between.{Emits}
-use Rattle.wit_contents.specs.BetweenInterfaces.{AreOuter, IsWrongNow}
+use Rattle.wit_contents.specs.Outer.{AreOuter}
 use Rattle.wit_contents.proofs.Outer.{all_outer}
-use Rattle.wit_contents.specs.BetweenWorlds.{arenas, IsWrongWorldNow}
+use Rattle.wit_contents.specs.BetweenWorlds.{arenas}
 use Rattle.wit_uses.proofs.Telling.{stability_both}
-use Rattle.wit_contents.proofs.Files.{sided_both, sound_both, uses_usable, held_within, wrong_interface, wrong_world}
+use Rattle.wit_contents.proofs.Files.{sided_both, sound_both, uses_usable, held_within}
 use Rattle.wit_contents.proofs.Fronting.{front_started, front_taken, lent_front, lent_placed, lent_enough, lent_index, worlds_enough, worlds_index}
 use Rattle.wit_contents.proofs.contents.resolve_files.Goals as goal
 
@@ -102,7 +102,7 @@ returns-in_err-resolve_interfaces-clause-refused c =
     let order = c.item_order-order.ensures in
     let differ = distinct_items files c.requires.legal in
     let same = lent_front files types a front held c.deref-2.ensures.value in
-    rw (p.1, p.2) (refused_weaker (IsWrongNow (front_of held) types a.interfaces (map item_behind items) places) (IsBroken files) _ (λ f h. broken_among files places order differ (uses_usable files e.sound) f (wrong_interface files types a.interfaces a.worlds (all_items files) places f front.adds (subst (λ (l : List Item). IsWrongNow (map visited (foreign_interfaces files)) types a.interfaces l places f) all (subst (λ (ss : List Address). IsWrongNow ss types a.interfaces (map item_behind items) places f) same h)))) c.in_err-resolve_interfaces.ensures.refused)
+    rw (p.1, p.2) (refused_weaker (IsWrongNow (front_of held) types a.interfaces (map item_behind items) places) (IsBroken files) _ (λ f h. broken_now files places order differ (uses_usable files e.sound) types a.interfaces a.worlds front.adds f (subst (λ (l : List Item). IsWrongNow (map visited (foreign_interfaces files)) types a.interfaces l places f) all (subst (λ (ss : List Address). IsWrongNow ss types a.interfaces (map item_behind items) places f) same h))) c.in_err-resolve_interfaces.ensures.refused)
 
 pub returns-in_err-resolve_worlds-clause-refused : goal.returns-in_err-resolve_worlds-clause-refused
 returns-in_err-resolve_worlds-clause-refused c =
@@ -124,9 +124,9 @@ returns-in_err-resolve_worlds-clause-refused c =
     let items = c.deref_mut-lent.result.now in
     let index : IsIndex (cells (map visited (foreign_interfaces files)) now.arena) now.by_name = subst (λ (ss : List Address). IsIndex (cells ss now.arena) now.by_name) kept c.in_ok-resolve_interfaces.ensures.index in
     let differ = distinct_items files c.requires.legal in
-    rw (p.1, p.2) (refused_weaker (IsWrongWorldNow files (front_of now.foreign.now) (others_of files) middle now.arena now.by_name a.worlds (map item_behind items) places) (IsBroken files) _ (λ f h. broken_world_among files places c.item_order-order.ensures differ (uses_usable files e.sound) f (wrong_world files types a.interfaces a.worlds middle now.arena now.by_name from.own (all_items files) places f front.adds added index (
+    rw (p.1, p.2) (refused_weaker (IsWrongWorldNow files (front_of now.foreign.now) (others_of files) middle now.arena now.by_name a.worlds (map item_behind items) places) (IsBroken files) _ (λ f h. broken_world_now files places c.item_order-order.ensures differ (uses_usable files e.sound) types a.interfaces a.worlds front.adds middle now.arena from.own added now.by_name index f (
     subst (λ (l : List Item). IsWrongWorldNow files (map visited (foreign_interfaces files)) (map visited (foreign_worlds files)) middle now.arena now.by_name a.worlds l places f) all (
-    subst (λ (ss : List Address). IsWrongWorldNow files ss (others_of files) middle now.arena now.by_name a.worlds (map item_behind items) places f) kept h)))) c.in_err-resolve_worlds.ensures.refused)
+    subst (λ (ss : List Address). IsWrongWorldNow files ss (others_of files) middle now.arena now.by_name a.worlds (map item_behind items) places f) kept h))) c.in_err-resolve_worlds.ensures.refused)
 
 pub returns-clause-added : goal.returns-clause-added
 returns-clause-added c =

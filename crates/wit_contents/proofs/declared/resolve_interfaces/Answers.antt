@@ -9,11 +9,10 @@ use Rattle.wit_syntax.specs.Address.{Address}
 use Rattle.wit_syntax.specs.Source.{Item, is_world, scope_names, about}
 use Rattle.wit_syntax.specs.Scope.{in_order, interfaces_of}
 use Rattle.wit_arena.specs.Resolving.{Required, cells}
-use Rattle.wit_arena.specs.Resolved.{AddsDeclared, IsWrongInterface}
+use Rattle.wit_arena.specs.Resolved.{AddsDeclared, IsWrongInterface, IsWrongNow}
 use Rattle.wit_types.specs.declared.types.TypeOwner.TheVariants.{Interface as OfInterface}
 use Rattle.wit_item_names.specs.Interfaces.{front_of}
 use Rattle.wit_uses.specs.Between.{Emits}
-use Rattle.wit_contents.specs.BetweenInterfaces.{IsWrongNow}
 use Rattle.wit_items.specs.declared.items.Item.{Item as HeldItem}
 use Rattle.wit_syntax.proofs.Lists.{read_map, map_map}
 use Rattle.wit_syntax.proofs.Kept.{kept_next, kept_past}

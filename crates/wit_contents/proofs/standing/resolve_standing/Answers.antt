@@ -24,9 +24,8 @@ use Rattle.wit_externs.specs.Held.{externs_behind}
 use Rattle.wit_scopes.specs.Held.{name_behind}
 use Rattle.wit_items.specs.Items.{item_behind}
 use Rattle.wit_items.specs.Interfaces.{cells_of}
-use Rattle.wit_uses.specs.Body.{IsStandingBy}
 use Rattle.wit_item_entries.proofs.Behind.{all_names, front_folded, taken_before}
-use Rattle.wit_uses.proofs.ItemSides.{held_functions}
+use Rattle.wit_uses.proofs.ItemSides.{IsStandingBy, held_functions}
 use Rattle.wit_item_entries.proofs.NoFunctions.{names_alone}
 use Rattle.wit_item_entries.proofs.Owners.{owners, turn_has}
 use Rattle.wit_contents.specs.Standing.{IsWrongStanding, StandingNames, StandingSetter}

@@ -11,7 +11,7 @@ use Rattle.wit_syntax.specs.Source.{is_world, scope_names, about}
 use Rattle.wit_syntax.specs.Scope.{in_order, worlds_of}
 use Rattle.wit_syntax.specs.Sides.{with_inline}
 use Rattle.wit_items.specs.Inside.{inside_behind, names_written}
-use Rattle.wit_arena.specs.Resolved.{IsWrongWorld}
+use Rattle.wit_arena.specs.Resolved.{IsWrongWorld, IsWrongWorldNow}
 use Rattle.wit_types.specs.declared.types.TypeOwner.TheVariants.{World as OfWorld}
 use Rattle.wit_syntax.proofs.Lists.{read_map, map_map}
 use Rattle.wit_syntax.proofs.Kept.{kept_next, kept_past}
@@ -19,7 +19,7 @@ use Rattle.wit_syntax.proofs.Refusing.{refused_weaker}
 use Rattle.wit_uses.proofs.Telling.{stability_more}
 use Rattle.wit_items.specs.declared.items.Declared.{Declared as HeldDeclared}
 use Rattle.wit_items.specs.Items.{declared_behind, item_behind, names_behind, others_of}
-use Rattle.wit_contents.specs.BetweenWorlds.{IsWrongWorldNow, arenas}
+use Rattle.wit_contents.specs.BetweenWorlds.{arenas}
 use Rattle.wit_scopes.proofs.Declaring.{alike}
 use Rattle.wit_contents.proofs.Linking.{links_more}
 use Rattle.wit_contents.proofs.WorldsMore.{AreWorldsTo, addresses_in, longer, placed_one, sides_both, sounds_both, with_more, worlds_more, worlds_none}

@@ -16,11 +16,10 @@ use Rattle.wit_externs.specs.Held.{externs_behind}
 use Rattle.wit_files.specs.FileNames.{names_at_top}
 use Rattle.wit_items.specs.Items.{item_behind, others_of}
 use Rattle.wit_items.proofs.Usable.{filed_item}
-use Rattle.wit_uses.specs.Body.{IsStandingBy}
 use Rattle.wit_item_names.specs.Interfaces.{front_of}
 use Rattle.wit_items.specs.Interfaces.{cells_of}
 use Rattle.wit_item_entries.proofs.Behind.{turn_texts}
-use Rattle.wit_uses.proofs.ItemSides.{sides_legal}
+use Rattle.wit_uses.proofs.ItemSides.{IsStandingBy, sides_legal}
 use Rattle.wit_item_entries.proofs.ScopeFunctions.{scope_sound}
 use Rattle.wit_world_sides.specs.Links.{AreLed}
 use Rattle.wit_contents.specs.Standing.{IsWrongStanding}
