@@ -1,4 +1,5 @@
+pub mod Answer
+pub mod Checked
+pub mod Fields
 pub mod Room
 pub mod Told
-pub mod Plain
-pub mod Checked

@@ -1,25 +1,22 @@
-//! What a check of a text tells: the refusal of its sources, where they are refused.
-ghost use Rattle.std.specs.Prelude.{◌≡◌, IfOk};
-ghost use Rattle.wit_ffi.specs.Checked.{IsChecked, IsFound, IsFoundIn};
-ghost use Rattle.wit_ffi.specs.Plain.{no_refusal};
+//! The refusal of a text in plain fields, if its sources are refused.
+ghost use Rattle.std.specs.Prelude.{◌≡◌};
+ghost use Rattle.wit_outcome.specs.Plain.{no_refusal};
+ghost use Rattle.wit_ffi.specs.Checked.{IsChecked};
 
-use crate::plain::{Plain, no_refusal, plain_of};
 use crate::status::{MADE, NO_MEMORY, NO_TEXT, REFUSED};
-use std::alloc::{AllocError, Global};
+use std::alloc::Global;
 use std::str;
-use wit_groups::UnresolvedPackageGroup;
-use wit_lex::SourceMap;
-use wit_listing::RunFault;
-use wit_tool::bundle;
+use wit_outcome::plain::no_refusal;
+use wit_outcome::{Outcome, Plain, resolve_text};
 
-/// A refusal, and which of the answers it is.
+/// A status, and with `REFUSED` a refusal.
 #[derive(Drop)]
 pub(crate) struct Checked {
     pub(crate) status: u8,
     pub(crate) plain: Plain,
 }
 
-/// An answer with no refusal.
+/// A status without a refusal.
 fn bare(alloc: Global, status: u8) -> Checked
     ensures status { result.status ≡ status }
     ensures plain { result.plain ≡ no_refusal }
@@ -30,41 +27,16 @@ fn bare(alloc: Global, status: u8) -> Checked
     }
 }
 
-/// The refusal of the sources of a map, where they are refused.
-fn find_in(alloc: Global, map: SourceMap) -> Result<Option<Plain>, AllocError>
-    ensures { IfOk result (IsFoundIn map.sources.items) }
-{
-    match UnresolvedPackageGroup::from_sources(alloc, map) {
-        Ok(_) => Ok(None),
-        Err((map, fault)) => Ok(Some(plain_of(alloc, map.sources(), &fault)?)),
-    }
-}
-
-/// The refusal of the sources of a text, where they are refused.
-fn find(alloc: Global, text: &str) -> Result<Option<Plain>, RunFault>
-    ensures { IfOk result (IsFound text.now) }
-{
-    match bundle(alloc, text) {
-        Ok(map) => Ok(find_in(alloc, map)?),
-        Err(fault) => {
-            if fault.rule() != 52 {
-                return Err(RunFault::Memory);
-            }
-            Ok(Some(plain_of(alloc, &[], &fault)?))
-        }
-    }
-}
-
-/// What is told of bytes, which may be a text.
+/// Whether bytes are a text whose sources are refused, and how.
 pub(crate) fn check(alloc: Global, bytes: &[u8]) -> Checked
     ensures { IsChecked bytes.now result.status result.plain }
 {
     let Ok(text) = str::from_utf8(bytes) else {
         return bare(alloc, NO_TEXT);
     };
-    match find(alloc, text) {
-        Ok(None) => bare(alloc, MADE),
-        Ok(Some(plain)) => Checked {
+    match resolve_text(alloc, text) {
+        Ok(Outcome::Group(_)) => bare(alloc, MADE),
+        Ok(Outcome::Refusal(plain)) => Checked {
             status: REFUSED,
             plain,
         },

@@ -1,10 +1,10 @@
-//! The resolver for callers in C and Rust: from a text to the listing of its packages, or why it is
+//! The resolver for callers in C and Rust: from a text to the listing or the JSON of its packages, or why it is
 //! refused, in room that the caller gives.
 #![tactic(auto)]
 
+mod answering;
 mod checking;
 mod laying;
-mod plain;
 pub mod refusal;
 mod status;
 mod telling;
@@ -13,14 +13,16 @@ mod tests;
 
 ghost use Rattle.std.specs.Prelude.{◌≡◌, ℕ, List, length};
 ghost use Rattle.wit_ffi.specs.Room.{laid_over};
+ghost use Rattle.wit_ffi.specs.Answer.{IsTextAnswer};
 ghost use Rattle.wit_ffi.specs.Checked.{IsChecked};
-ghost use Rattle.wit_ffi.specs.Plain.{fields_of};
+ghost use Rattle.wit_ffi.specs.Fields.{fields_of};
 ghost use Rattle.wit_ffi.specs.Told.{IsTold};
-ghost use Rattle.wit_ffi.specs.declared.plain.Plain.{Plain};
+ghost use Rattle.wit_outcome.specs.declared.plain.Plain.{Plain};
 
+use crate::answering::{Answer, answer_bytes};
 use crate::checking::{Checked, check};
 use crate::laying::lay;
-use crate::plain::fields_of;
+use crate::refusal::fields_of;
 use crate::telling::{Told, tell};
 pub use refusal::Refusal;
 use std::alloc::Global;
@@ -64,4 +66,32 @@ pub extern "C" fn wit_ffi_check(
     lay(message, plain.message.as_str().as_bytes());
     *refusal = fields_of(&plain);
     status
+}
+
+/// Writes the JSON of the group that a text's sources make, or of their refusal, over the front of `told`,
+/// as far as it fits, and its whole length to `len`. The rest of `told` stays as it was.
+///
+/// Answers 0 for a group, 1 for a refusal, 2 if the text is not UTF-8, and 3 if an allocation failed
+/// outside the resolver. For 2 and 3 nothing is written to `told`, and `len` is 0.
+#[unsafe(no_mangle)]
+pub extern "C" fn wit_ffi_package(
+    alloc: Global,
+    text: &[u8],
+    told: &mut [u8],
+    len: &mut usize,
+) -> u8
+    ensures { (json : List ℕ) × IsTextAnswer text.now result json × (told.new ≡ laid_over told.old json) × (len.new ≡ length json) }
+{
+    let Answer { status, json } = answer_bytes(alloc, text);
+    *len = json.len();
+    lay(told, json.as_slice());
+    status
+}
+
+/// The version of this library: major * 65536 + minor * 256 + patch of 0.1.0.
+#[unsafe(no_mangle)]
+pub extern "C" fn wit_ffi_version() -> u32
+    ensures { result ≡ 256 }
+{
+    256
 }

@@ -1,6 +1,6 @@
 //! Answers as a caller has them.
 
-use crate::{Refusal, wit_ffi_answer, wit_ffi_check};
+use crate::{Refusal, wit_ffi_answer, wit_ffi_check, wit_ffi_package, wit_ffi_version};
 use std::alloc::Global;
 use std::process::Abort;
 use std::test::Fail;
@@ -88,4 +88,40 @@ fn tells_a_refusal_in_fields(rt: HostRuntime) -> Result<(), Fail> {
         ".",
     )?;
     check_refusal(&rt, alloc, b"\xff", (2, 0, false), (0, 0), ".", ".")
+}
+
+/// Checks the JSON of a text, in a buffer of `.` that is as long as what is wanted in it.
+fn check_package(
+    rt: &impl Abort,
+    alloc: Global,
+    text: &[u8],
+    status: u8,
+    whole: usize,
+    json: &str,
+) -> Result<(), Fail> {
+    let mut room: Vec<u8> = Vec::from_elem(alloc, b'.', json.len())?;
+    let mut len = 9;
+    assert_eq!(rt;
+        wit_ffi_package(alloc, text, room.as_mut_slice(), &mut len),
+        status
+    );
+    assert_eq!(rt; len, whole);
+    assert_eq!(rt; room.as_slice(), json.as_bytes());
+    Ok(())
+}
+
+#[test]
+fn writes_a_package_and_a_refusal(rt: HostRuntime) -> Result<(), Fail> {
+    let alloc = rt.alloc();
+    let json =
+        "{\"sources\":[{\"path\":\"stdin.wit\",\"start\":0,\"end\":16}],\"packages\":[{\"name\":\"foo:foo\",\"worlds\":[],\"interfaces\":[],\"types\":[],\"foreign_deps\":{},\"package_name_span\":[8,15],\"unknown_type_spans\":[],\"foreign_dep_spans\":[],\"required_resource_types\":[]}]}..";
+    check_package(&rt, alloc, b"package foo:foo;", 0, 245, json)?;
+    check_package(&rt, alloc, b"package foo:foo;", 0, 245, "{\"sources\"")?;
+    let text = b"=== a.wit\npackage foo:foo;\n=== b.wit\ninterface i { type t = u; }\n";
+    let json =
+        "{\"error\":{\"rule\":15,\"path\":\"b.wit\",\"start\":23,\"end\":24,\"message\":\"type `u` does not exist\"}}.";
+    check_package(&rt, alloc, text, 1, 92, json)?;
+    check_package(&rt, alloc, b"\xff", 2, 0, ".")?;
+    assert_eq!(rt; wit_ffi_version(), 256);
+    Ok(())
 }

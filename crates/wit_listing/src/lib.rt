@@ -7,7 +7,7 @@ mod functions;
 pub mod group;
 mod interfaces;
 mod kinds;
-mod output;
+pub mod output;
 mod package;
 mod package_names;
 pub mod refusal;

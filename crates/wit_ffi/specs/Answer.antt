@@ -1,0 +1,25 @@
+-- What a call answers in JSON.
+use Rattle.std.specs.Prelude.{◌≡◌, ℕ, List, [], IsUtf8}
+use Rattle.wit_bundle.specs.Bundle.{sources_of}
+use Rattle.wit_groups.specs.declared.group.UnresolvedPackageGroup.{UnresolvedPackageGroup}
+use Rattle.wit_json.specs.Tokens.{json_text}
+use Rattle.wit_outcome.specs.declared.outcome.Outcome.{Outcome}
+use Rattle.wit_outcome.specs.declared.outcome.Outcome.TheVariants as outcome
+use Rattle.wit_outcome.specs.declared.plain.Plain.{Plain}
+use Rattle.wit_outcome.specs.Outcome.{IsOutcome, outcome_json}
+
+-- 0 for a group, 1 for a refusal
+abbrev pub outcome_status : Outcome → ℕ
+outcome_status (outcome.Group g) = 0
+outcome_status (outcome.Refusal p) = 1
+
+-- by the status: the JSON of the group that sources of these paths and texts make; that of their refusal; nothing, as an allocation failed
+pub data IsAnswer (parts : List (List ℕ × List ℕ)) (status : ℕ) (json : List ℕ) : Type 0 where
+  Group : status ≡ 0 → (g : UnresolvedPackageGroup) → IsOutcome parts (outcome.Group g) → json ≡ json_text (outcome_json (outcome.Group g)) → IsAnswer parts status json
+  Refusal : status ≡ 1 → (p : Plain) → IsOutcome parts (outcome.Refusal p) → json ≡ json_text (outcome_json (outcome.Refusal p)) → IsAnswer parts status json
+  NoMemory : status ≡ 3 → json ≡ [] → IsAnswer parts status json
+
+-- the answer to bytes: that of the sources of the text; nothing, with the status 2, if they are no text
+pub data IsTextAnswer (bytes : List ℕ) (status : ℕ) (json : List ℕ) : Type 0 where
+  Text : IsUtf8 bytes → IsAnswer (sources_of bytes) status json → IsTextAnswer bytes status json
+  NoText : ¬ (IsUtf8 bytes) → status ≡ 2 → json ≡ [] → IsTextAnswer bytes status json
