@@ -82,7 +82,9 @@ const SHOWN: &str = "\
 /// Two sources, the first of which has four lines, the second and the last of them empty.
 fn two_sources(rt: &impl Abort, alloc: Global) -> SourceMap {
     let mut map = SourceMap::new(alloc);
-    let pushed = map.push(alloc, "a.wit", "package a:b;\n\n// é ü {\n").is_ok()
+    let pushed = map
+        .push(alloc, "a.wit", "package a:b;\n\n// é ü {\n")
+        .is_ok()
         && map.push(alloc, "b.wit", "last").is_ok();
     assert!(rt; pushed);
     map
