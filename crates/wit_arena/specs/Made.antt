@@ -196,10 +196,11 @@ AreInOrder files is = (places : List ℕ) × IsOrder (item_rows files) places ×
 abbrev pub AreNamesInOrder : List PackageFile → (Address → List ℕ) → Type 0
 AreNamesInOrder files order = (i : Item) → Contains (all_scopes files) i → IsOrder (rows_of (scope_names i)) (order (address i))
 
--- The package has the name and the version of the last header, and the docs of the first that has some. Its arenas begin with the items of other packages, in the order of
--- their first visits; then they have the interfaces and the worlds in their order, with the interfaces that are written in worlds behind the declared
--- ones. Its arena of types is the list of first meetings: of what is taken from other packages, then of all declared interfaces, then of all worlds,
--- each with its used names and then its definitions in their order.
+-- The package has the name and the version of the last header, and the docs of the first that has some. Its arenas of interfaces and of worlds
+-- begin with the items of other packages, in the order of their first visits; then come the declared ones in the least order, and after the
+-- interfaces the inline ones, in the order of the worlds and of their items. Its arena of types is the list of first occurrences: of what is used
+-- from other packages, then of all declared interfaces, then of all worlds, each with its used names, its definitions in their order, and its
+-- functions in source order; an inline interface is whole where its world imports or exports it.
 pub record Makes (files : List PackageFile) (p : UnresolvedPackage) : Type 0 where
   pub name : option_map package_of (last_header files) ≡ Some p.name
   pub name_span : option_map (λ (h : Header). h.span) (last_header files) ≡ Some p.name_span
