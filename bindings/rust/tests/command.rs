@@ -161,7 +161,7 @@ fn what_cannot_be_opened_or_read_on_linux() {
     assert!(status == 2 && error.starts_with("tulfjak: /proc/self/mem: "), "{error}");
     let closed = folder.join("b.wit");
     fs::write(&closed, "package a:b;").expect("a file");
-    fs::set_permissions(&closed, fs::Permissions::from_mode(0)).expect("closed");
+    fs::set_permissions(&closed, fs::Permissions::from_mode(0o000)).expect("closed");
     let readable = fs::read(&closed).is_ok();
     assert_eq!(ran(&folder, &["b.wit"]).0, if readable { 0 } else { 2 });
 }
@@ -218,6 +218,17 @@ fn help_fits_a_screen() {
     }
     assert_eq!(ran(Path::new("."), &["--version"]), (0, "tulfjak 0.1.0\n".into(), String::new()));
     assert_eq!(ran(Path::new("."), &["-V"]).0, 0);
+}
+
+#[test]
+fn the_manual_page_has_all_options() {
+    let page = fs::read_to_string(kept("bindings/rust/tulfjak.1")).expect("a page").replace('\\', "");
+    let (_, help, _) = ran(Path::new("."), &["--help"]);
+    let options = help.split_whitespace().map(|word| word.trim_end_matches(',')).filter(|word| word.starts_with('-') && word.len() > 1);
+    assert!(options.clone().count() >= 9);
+    for option in options {
+        assert!(page.contains(option), "{option}");
+    }
 }
 
 #[test]
