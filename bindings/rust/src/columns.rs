@@ -1,4 +1,4 @@
-//! Text as a terminal shows it: what stands for a character, and how many columns that takes.
+//! Text as a terminal shows it: what is shown for a character, and how many columns wide that is.
 
 /// Whether a character is not shown as itself: a control character, or one that turns the direction of a line.
 fn is_hidden(letter: char) -> bool {
@@ -35,22 +35,22 @@ pub fn columns(line: &str) -> usize {
     line.chars().map(width).sum()
 }
 
-/// The front of a line that takes no more than so many columns.
+/// The longest front of a line that is at most so many columns wide.
 pub fn front(line: &str, most: usize) -> &str {
-    let mut taken = 0;
+    let mut columns = 0;
     let end = line.char_indices().find(|(_, letter)| {
-        taken += width(*letter);
-        taken > most
+        columns += width(*letter);
+        columns > most
     });
     end.map_or(line, |(end, _)| &line[..end])
 }
 
-/// The end of a line that takes no more than so many columns.
+/// The longest end of a line that is at most so many columns wide.
 pub fn back(line: &str, most: usize) -> &str {
-    let mut taken = 0;
+    let mut columns = 0;
     let start = line.char_indices().rev().find(|(_, letter)| {
-        taken += width(*letter);
-        taken > most
+        columns += width(*letter);
+        columns > most
     });
     start.map_or(line, |(start, letter)| &line[start + letter.len_utf8()..])
 }

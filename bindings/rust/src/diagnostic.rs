@@ -8,7 +8,7 @@ const RED: &str = "1;31";
 const BLUE: &str = "1;34";
 const BOLD: &str = "1";
 
-/// The columns that a part of a line takes at most, where the line is long.
+/// How many columns each part of a long line has at most.
 const PART: usize = 60;
 
 /// A refusal with the line in which it has its place, in the form in which `rustc` prints an error.
@@ -31,8 +31,8 @@ const PART: usize = 60;
 /// ```
 ///
 /// Lines and columns count from 1, columns in characters. A tab is shown as four spaces, and a character
-/// that controls the terminal as U+FFFD. Of a range over several lines the first one is shown, and `...`
-/// is put behind its marks; of a line that is longer than a terminal, the part around the range.
+/// that controls the terminal as U+FFFD. Of a range over several lines the first one is shown, and its
+/// marks end in `...`; of a line that is longer than a terminal, the part around the range.
 #[derive(Clone, Copy, Debug)]
 pub struct Diagnostic<'a> {
     refusal: &'a Refusal,
@@ -113,12 +113,12 @@ impl fmt::Display for Diagnostic<'_> {
     }
 }
 
-/// The line in which a range begins, as it is shown: in front of the range, in it, and behind it.
+/// The line in which a range begins, as it is shown: before the range, in it, and after it.
 struct Excerpt {
     before: String,
     marked: String,
     after: String,
-    /// Whether the range goes on behind the line.
+    /// Whether the range goes on after the line.
     goes_on: bool,
 }
 

@@ -24,7 +24,7 @@ impl Refusal {
         Refusal { rule: 45, path: None, span: 0..0, message: "out of memory".into() }
     }
 
-    /// The refusal as JSON: of one that the library told as JSON, the very text that the library wrote.
+    /// The refusal as JSON: of one that the library gave as JSON, the very text that the library wrote.
     #[must_use]
     pub fn to_json(&self) -> String {
         let mut error = vec![("rule".into(), usize::from(self.rule).write())];

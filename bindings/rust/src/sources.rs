@@ -86,8 +86,8 @@ impl Sources {
         Ok(sources)
     }
 
-    /// One text of the sources, by path: each behind a line `=== N`, where the numbers count them. A line of a source
-    /// that begins like those gets a space in front.
+    /// One text of the sources, by path: each after a line `=== N`, where the numbers count them. A line of a source
+    /// that begins like those gets a space before it.
     pub(crate) fn numbered(&self) -> String {
         let mut sources: Vec<&Source> = self.iter().collect();
         sources.sort_by_key(|source| &source.path);

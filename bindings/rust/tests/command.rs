@@ -5,7 +5,7 @@ use std::io::{Read, Write};
 use std::path::{Path, PathBuf};
 use std::process::{Command, Stdio};
 
-/// A folder for a test, which is removed behind it.
+/// A folder for a test, which is removed after it.
 struct Folder(PathBuf);
 
 impl std::ops::Deref for Folder {
@@ -231,13 +231,14 @@ fn help_fits_a_screen() {
     for arguments in [&[][..], &["-h"], &["no.wit", "--help"]] {
         assert_eq!(ran(Path::new("."), arguments), (0, help.clone(), String::new()));
     }
-    assert_eq!(ran(Path::new("."), &["--version"]), (0, "tulfjak 0.1.0\n".into(), String::new()));
+    assert_eq!(ran(Path::new("."), &["--version"]), (0, concat!("tulfjak ", env!("CARGO_PKG_VERSION"), "\n").into(), String::new()));
     assert_eq!(ran(Path::new("."), &["-V"]).0, 0);
 }
 
 #[test]
 fn the_manual_page_has_all_options() {
     let page = fs::read_to_string(kept("bindings/rust/tulfjak.1")).expect("a page").replace('\\', "");
+    assert!(page.contains(concat!("tulfjak ", env!("CARGO_PKG_VERSION"))));
     let (_, help, _) = ran(Path::new("."), &["--help"]);
     let options = help.split_whitespace().map(|word| word.trim_end_matches(',')).filter(|word| word.starts_with('-') && word.len() > 1);
     assert!(options.clone().count() >= 9);
@@ -249,11 +250,11 @@ fn the_manual_page_has_all_options() {
 #[test]
 fn rules_are_explained() {
     for rule in tulfjak::rules() {
-        let (status, told, _) = ran(Path::new("."), &["--explain", &format!("E{rule}")]);
-        let words: Vec<&str> = told.split_whitespace().skip(1).collect();
+        let (status, printed, _) = ran(Path::new("."), &["--explain", &format!("E{rule}")]);
+        let words: Vec<&str> = printed.split_whitespace().skip(1).collect();
         assert_eq!((status, words.join(" ").as_str()), (0, tulfjak::explain(rule).expect("words")));
-        assert!(told.starts_with(&format!("E{rule}: ")) && told.lines().all(|line| line.len() <= 78), "{told}");
-        assert_eq!(ran(Path::new("."), &[&format!("--explain={rule}")]).1, told);
+        assert!(printed.starts_with(&format!("E{rule}: ")) && printed.lines().all(|line| line.len() <= 78), "{printed}");
+        assert_eq!(ran(Path::new("."), &[&format!("--explain={rule}")]).1, printed);
     }
 }
 

@@ -220,5 +220,7 @@ fn other_json_is_no_group() {
 
 #[test]
 fn the_library_has_a_version() {
-    assert_eq!(library_version(), (0, 1, 0));
+    let (major, minor, patch) = library_version();
+    assert_eq!((major, minor, patch), (0, 1, 0));
+    assert_eq!(format!("{major}.{minor}.{patch}"), env!("CARGO_PKG_VERSION"));
 }

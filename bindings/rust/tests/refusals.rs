@@ -89,7 +89,7 @@ fn marks_stand_below_the_range() {
     // Wide characters take two columns, combining ones none.
     assert_eq!(printed("\u{4e16}\u{754c} x \u{ff01}", 7..12), " --> a.wit:1:4\n  |\n1 | \u{4e16}\u{754c} x \u{ff01}\n  |      ^^^^\n");
     assert_eq!(printed("e\u{301} x", 4..5), " --> a.wit:1:4\n  |\n1 | e\u{301} x\n  |   ^\n");
-    // The end of a text, behind a line's end and behind none.
+    // The end of a text, after a line's end and after none.
     assert_eq!(printed("ab\n", 3..3), " --> a.wit:2:1\n  |\n2 |\n  | ^\n");
     assert_eq!(printed("ab", 2..2), " --> a.wit:1:3\n  |\n1 | ab\n  |   ^\n");
     assert_eq!(printed("", 0..0), " --> a.wit:1:1\n  |\n1 |\n  | ^\n");
