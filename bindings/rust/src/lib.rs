@@ -54,17 +54,22 @@
 #![deny(missing_docs)]
 
 mod arena;
+mod columns;
+mod diagnostic;
 mod json;
 mod library;
 mod package;
 mod refusal;
+mod rules;
 mod schema;
 mod sources;
 mod types;
 
 pub use arena::{Arena, Id, InterfaceId, Map, PackageId, TypeId, WorldId};
+pub use diagnostic::Diagnostic;
 pub use package::*;
 pub use refusal::Refusal;
+pub use rules::{explain, rules};
 pub use sources::{Source, Sources};
 pub use types::*;
 
@@ -91,6 +96,19 @@ pub fn package(sources: &Sources) -> Result<Group, Refusal> {
 /// The refusal of the sources.
 pub fn package_json(sources: &Sources) -> Result<String, Refusal> {
     json_of(library::package_of(sources))
+}
+
+/// The listing of the packages that sources make. No line of a source begins another one.
+///
+/// # Errors
+///
+/// The refusal of the sources, for which they are resolved once more.
+pub fn listing(sources: &Sources) -> Result<String, Refusal> {
+    // In sources that are not refused, a line that begins like `=== PATH` is in a comment. A listing has no comments.
+    match answer(sources.numbered().as_bytes()) {
+        Answer::Listing(listing) => Ok(listing),
+        _ => Err(package_json(sources).err().unwrap_or_else(Refusal::out_of_memory)),
+    }
 }
 
 /// The packages that the sources of a text make, as JSON on one line without an end.

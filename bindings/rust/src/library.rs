@@ -139,15 +139,7 @@ pub fn check(text: &[u8]) -> (u8, Plain) {
         let mut fields = Fields::default();
         // SAFETY: as above; `path`, `message` and `fields` are borrowed mutably, and hold values.
         let status = unsafe {
-            wit_ffi_check(
-                text.as_ptr(),
-                text.len(),
-                path.as_mut_ptr(),
-                path.len(),
-                message.as_mut_ptr(),
-                message.len(),
-                &raw mut fields,
-            )
+            wit_ffi_check(text.as_ptr(), text.len(), path.as_mut_ptr(), path.len(), message.as_mut_ptr(), message.len(), &raw mut fields)
         };
         if fields.path_len <= path.len() && fields.message_len <= message.len() {
             path.truncate(fields.path_len);

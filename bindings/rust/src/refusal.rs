@@ -24,6 +24,19 @@ impl Refusal {
         Refusal { rule: 45, path: None, span: 0..0, message: "out of memory".into() }
     }
 
+    /// The refusal as JSON: of one that the library gave as JSON, the very text that the library wrote.
+    #[must_use]
+    pub fn to_json(&self) -> String {
+        let mut error = vec![("rule".into(), usize::from(self.rule).write())];
+        if let Some(path) = &self.path {
+            error.push(("path".into(), path.write()));
+            error.push(("start".into(), self.span.start.write()));
+            error.push(("end".into(), self.span.end.write()));
+        }
+        error.push(("message".into(), self.message.write()));
+        Json::Object(vec![("error".into(), Json::Object(error))]).to_string()
+    }
+
     /// The refusal that a JSON text tells.
     pub(crate) fn from_json(text: &str) -> Option<Refusal> {
         let json = Json::parse(text)?;

@@ -2,6 +2,7 @@
 
 use std::fs;
 use std::io;
+use std::ops::Range;
 use std::path::{Path, PathBuf};
 
 /// A source: where it comes from, and its text.
@@ -18,10 +19,26 @@ impl Source {
     /// A place past the end is the end.
     #[must_use]
     pub fn line_column(&self, at: usize) -> (usize, usize) {
-        let place = (0..=at.min(self.text.len())).rev().find(|place| self.text.is_char_boundary(*place));
-        let front = &self.text[..place.unwrap_or_default()];
-        let line = front.rfind('\n').map_or(0, |feed| feed + 1);
-        (front.matches('\n').count() + 1, front[line..].chars().count() + 1)
+        let at = self.floor(at);
+        let line = self.line_start(at);
+        (self.text[..line].matches('\n').count() + 1, self.text[line..at].chars().count() + 1)
+    }
+
+    /// The range of the line in which a place lies, without its end.
+    pub(crate) fn line_range(&self, at: usize) -> Range<usize> {
+        let start = self.line_start(self.floor(at));
+        let line = self.text[start..].split('\n').next().unwrap_or_default();
+        start..start + line.strip_suffix('\r').unwrap_or(line).len()
+    }
+
+    /// The last place up to this one that is between two characters of the text.
+    pub(crate) fn floor(&self, at: usize) -> usize {
+        (0..=at.min(self.text.len())).rev().find(|place| self.text.is_char_boundary(*place)).unwrap_or_default()
+    }
+
+    /// Where the line begins in which a place between two characters lies.
+    fn line_start(&self, at: usize) -> usize {
+        self.text[..at].rfind('\n').map_or(0, |feed| feed + 1)
     }
 }
 
@@ -69,9 +86,38 @@ impl Sources {
         Ok(sources)
     }
 
+    /// One text of the sources, by path: each after a line `=== N`, where the numbers count them. A line of a source
+    /// that begins like those gets a space before it.
+    pub(crate) fn numbered(&self) -> String {
+        let mut sources: Vec<&Source> = self.iter().collect();
+        sources.sort_by_key(|source| &source.path);
+        let mut text = String::new();
+        for (number, source) in sources.into_iter().enumerate() {
+            text.push_str(&format!("=== {number:020}\n"));
+            for line in source.text.split('\n') {
+                text.push_str(if line.starts_with("=== ") { " " } else { "" });
+                text.push_str(line);
+                text.push('\n');
+            }
+        }
+        text
+    }
+
     /// The sources, in the order in which they were pushed.
     pub fn iter(&self) -> std::slice::Iter<'_, Source> {
         self.sources.iter()
+    }
+
+    /// How many sources there are.
+    #[must_use]
+    pub fn len(&self) -> usize {
+        self.sources.len()
+    }
+
+    /// Whether there is no source.
+    #[must_use]
+    pub fn is_empty(&self) -> bool {
+        self.sources.is_empty()
     }
 
     /// The first source at a path.
@@ -88,7 +134,7 @@ fn files_at(path: &Path) -> io::Result<Vec<PathBuf>> {
     }
     let entries = fs::read_dir(path).map_err(|error| named(path, &error))?;
     let mut files = entries.map(|entry| Ok(entry?.path())).collect::<io::Result<Vec<_>>>()?;
-    files.retain(|file| file.is_file() && file.extension().is_some_and(|end| end == "wit"));
+    files.retain(|file| !file.is_dir() && file.extension().is_some_and(|end| end == "wit"));
     files.sort();
     Ok(files)
 }
@@ -104,6 +150,21 @@ impl<'a> IntoIterator for &'a Sources {
 
     fn into_iter(self) -> Self::IntoIter {
         self.iter()
+    }
+}
+
+impl IntoIterator for Sources {
+    type Item = Source;
+    type IntoIter = std::vec::IntoIter<Source>;
+
+    fn into_iter(self) -> Self::IntoIter {
+        self.sources.into_iter()
+    }
+}
+
+impl Extend<Source> for Sources {
+    fn extend<S: IntoIterator<Item = Source>>(&mut self, sources: S) {
+        self.sources.extend(sources);
     }
 }
 

@@ -156,6 +156,24 @@ fn a_refusal_is_read_from_its_json() {
 }
 
 #[test]
+fn listings_are_those_of_one_text() {
+    for row in all_rows() {
+        let sources: Sources = split(&row.text).into_iter().collect();
+        assert_eq!(listing(&sources), resolve(&row.text), "{}", row.name);
+    }
+}
+
+#[test]
+fn refusals_are_written_as_the_library_does() {
+    let sources = Sources::from_iter([("a.wit", "package a:b;"), ("b \"q\"\n.wit", "interface i { type t = u; }")]);
+    let refusal = package(&sources).expect_err("refused");
+    let json = r#"{"error":{"rule":15,"path":"b \"q\"\n.wit","start":23,"end":24,"message":"type `u` does not exist"}}"#;
+    assert_eq!(refusal.to_json(), json);
+    let refusal = package(&Sources::new()).expect_err("no header");
+    assert_eq!(refusal.to_json(), format!("{{\"error\":{{\"rule\":4,\"message\":\"{}\"}}}}", refusal.message));
+}
+
+#[test]
 fn sources_are_whole() {
     let comment = "package a:b; /*\n=== c.wit\n*/ interface i {}";
     let sources = Sources::from_iter([("two\nlines.wit", comment), ("d.wit", "interface j {}"), ("", "")]);
@@ -202,5 +220,7 @@ fn other_json_is_no_group() {
 
 #[test]
 fn the_library_has_a_version() {
-    assert_eq!(library_version(), (0, 1, 0));
+    let (major, minor, patch) = library_version();
+    assert_eq!((major, minor, patch), (0, 1, 0));
+    assert_eq!(format!("{major}.{minor}.{patch}"), env!("CARGO_PKG_VERSION"));
 }
