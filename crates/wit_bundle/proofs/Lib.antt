@@ -4,4 +4,4 @@ pub mod Splitting
 pub mod Turning
 pub mod Searching
 mod Pieces
-mod Pairing
+pub mod Pairing

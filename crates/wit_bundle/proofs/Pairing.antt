@@ -1,10 +1,11 @@
 -- Sources of pieces, two at a time.
-use Rattle.std.proofs.Common.{Bor, ◌≡◌, ℕ, ◌+◌, ◌<◌, ◌≤◌, List, [], ◌∷◌, ◌++◌, ◌-◌, drop, length, length-drop, map, slice_index_or, take, take_all, refl, sym, ap, ◌∙◌, subst, append_assoc, append-nil, arith}
+use Rattle.std.proofs.Common.{Bor, ◌≡◌, ℕ, ◌*◌, ◌%◌, ◌+◌, ◌<◌, ◌≤◌, List, [], ◌∷◌, ◌++◌, ◌-◌, drop, length, length-drop, map, slice_index_or, take, take_all, refl, sym, ap, ◌∙◌, subst, append_assoc, append-nil, arith}
+use Rattle.std.proofs.lemmas.List.{length-map}
 use Rattle.std.proofs.lemmas.List.Sums.{sum_by-append}
 use Rattle.wit_type_tree.specs.declared.error.ParseError.{ParseError}
 use Rattle.wit_lex.specs.declared.source.Source.{Source}
 use Rattle.wit_lex.specs.Sources.{IsSource, IsTooLarge, space}
-use Rattle.wit_bundle.specs.Apart.{pairs_of}
+use Rattle.wit_bundle.specs.Apart.{ArePieces, AreParts, flat, pairs_of}
 use Rattle.wit_bundle.specs.Laid.{AreLaid, room}
 use Rattle.wit_bundle.proofs.Laying.{laid_more, room_more, space_room, too_large_more}
 
@@ -55,3 +56,21 @@ paired_large pieces path text rest sources e p large =
     let whole : room (pairs_of pieces) ≡ room p.done + room ((path, text) ∷ pairs_of rest) = ap room p.whole ∙ sum_by-append (λ s. length s.1 + 1) p.done ((path, text) ∷ pairs_of rest) in
     let first : room ((path, text) ∷ pairs_of rest) ≡ length text + 1 + room (pairs_of rest) = room_more (path, text) (pairs_of rest) in
     too_large_more (space sources + length text + 1) (room (pairs_of pieces)) e large (omega arith)
+
+-- an even number of pieces is that of its pairs
+pub pairs_whole : (pieces : List (List ℕ)) → length pieces % 2 ≡ 0 → flat (pairs_of pieces) ≡ pieces
+pairs_whole [] even = refl
+pairs_whole (p ∷ []) even = absurd (let f : ⊥ = cc in f)
+pairs_whole (p ∷ t ∷ rest) even = ap (λ r. p ∷ t ∷ r) (pairs_whole rest (omega arith))
+
+flat_length : (parts : List (List ℕ × List ℕ)) → length (flat parts) ≡ length parts * 2
+flat_length [] = refl
+flat_length (p ∷ parts) = let rest = flat_length parts in omega arith
+
+-- the pieces of sources are even
+pub parts_even : (bytes lens : List ℕ) (pieces : List (List ℕ)) → ArePieces bytes lens pieces → (length pieces % 2 ≡ 0 → ⊥) → (parts : List (List ℕ × List ℕ)) → AreParts bytes lens parts → ⊥
+parts_even bytes lens pieces are odd parts is =
+    let one : length lens ≡ length pieces = ap length (sym are.lengths) ∙ length-map pieces length in
+    let other : length lens ≡ length (flat parts) = ap length (sym is.lengths) ∙ length-map (flat parts) length in
+    let double = flat_length parts in
+    odd (omega arith)
