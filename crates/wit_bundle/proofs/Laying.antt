@@ -18,7 +18,7 @@ space_total : (sources : List Source) → space sources ≡ total (told sources)
 space_total [] = refl
 space_total (s ∷ sources) = sum_by-cons (λ t. length (string_bytes t.contents) + 1) s sources ∙ ap (λ n. length (string_bytes s.contents) + 1 + n) (space_total sources)
 
-room_more : (p : List ℕ × List ℕ) (pairs : List (List ℕ × List ℕ)) → room (p ∷ pairs) ≡ length p.1 + 1 + room pairs
+pub room_more : (p : List ℕ × List ℕ) (pairs : List (List ℕ × List ℕ)) → room (p ∷ pairs) ≡ length p.1 + 1 + room pairs
 room_more p pairs = sum_by-cons (λ s. length s.1 + 1) p pairs
 
 total_room : (place : ℕ) (pairs : List (List ℕ × List ℕ)) → total (laid_out place pairs) ≡ room pairs

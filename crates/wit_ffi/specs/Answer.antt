@@ -1,5 +1,6 @@
 -- What a call answers in JSON.
 use Rattle.std.specs.Prelude.{◌≡◌, ℕ, List, [], IsUtf8}
+use Rattle.wit_bundle.specs.Apart.{AreParts}
 use Rattle.wit_bundle.specs.Bundle.{sources_of}
 use Rattle.wit_groups.specs.declared.group.UnresolvedPackageGroup.{UnresolvedPackageGroup}
 use Rattle.wit_json.specs.Tokens.{json_text}
@@ -23,3 +24,10 @@ pub data IsAnswer (parts : List (List ℕ × List ℕ)) (status : ℕ) (json : L
 pub data IsTextAnswer (bytes : List ℕ) (status : ℕ) (json : List ℕ) : Type 0 where
   Text : IsUtf8 bytes → IsAnswer (sources_of bytes) status json → IsTextAnswer bytes status json
   NoText : ¬ (IsUtf8 bytes) → status ≡ 2 → json ≡ [] → IsTextAnswer bytes status json
+
+-- the answer to paths and texts, one after the other, with the length of each: that of these sources; nothing, with the status 2, if the bytes are none
+-- such, or as an allocation failed
+pub data IsPartsAnswer (bytes lens : List ℕ) (status : ℕ) (json : List ℕ) : Type 0 where
+  Parts : (parts : List (List ℕ × List ℕ)) → AreParts bytes lens parts → IsAnswer parts status json → IsPartsAnswer bytes lens status json
+  NoParts : ((parts : List (List ℕ × List ℕ)) → AreParts bytes lens parts → ⊥) → status ≡ 2 → json ≡ [] → IsPartsAnswer bytes lens status json
+  NoMemoryForParts : status ≡ 3 → json ≡ [] → IsPartsAnswer bytes lens status json

@@ -1,13 +1,15 @@
 //! The JSON of what sources come to, with a status.
-ghost use Rattle.std.specs.Prelude.{◌≡◌, ℕ, List, []};
+ghost use Rattle.std.specs.Prelude.{◌≡◌, ℕ, List, [], MatchOption, map};
+ghost use Rattle.wit_bundle.specs.Apart.{ArePieces, pairs_of};
 ghost use Rattle.wit_bundle.specs.Bundle.{sources_of};
 ghost use Rattle.wit_outcome.specs.Outcome.{IsOutcome};
-ghost use Rattle.wit_ffi.specs.Answer.{IsAnswer, IsTextAnswer, outcome_status};
+ghost use Rattle.wit_ffi.specs.Answer.{IsAnswer, IsPartsAnswer, IsTextAnswer, outcome_status};
 
 use crate::status::{MADE, NO_MEMORY, NO_TEXT, REFUSED};
 use std::alloc::Global;
 use std::str;
-use wit_outcome::{Outcome, outcome_json, resolve_text};
+use wit_bundle::apart::{pieces_of, sources_of_pieces};
+use wit_outcome::{Outcome, outcome_json, resolve, resolve_text};
 
 /// A status, and with `MADE` and `REFUSED` a JSON text.
 #[derive(Drop)]
@@ -67,5 +69,46 @@ pub(crate) fn answer_bytes(alloc: Global, bytes: &[u8]) -> Answer
     match str::from_utf8(bytes) {
         Ok(text) => answer_text(alloc, text),
         Err(_) => bare(alloc, NO_TEXT),
+    }
+}
+
+/// The answer to the sources of pieces: of each its path, and then its text.
+fn answer_pieces(alloc: Global, pieces: &[&str]) -> Answer
+    ensures { IsAnswer (pairs_of (map (λ p. p.now) pieces.now)) result.status result.json.items }
+{
+    match resolve(alloc, sources_of_pieces(alloc, pieces)) {
+        Ok(outcome) => answer_outcome(alloc, &outcome),
+        Err(_) => bare(alloc, NO_MEMORY),
+    }
+}
+
+/// The answer to pieces that bytes are.
+fn answer_even(alloc: Global, pieces: &[&str]) -> Answer
+    ensures { (bytes lens : List ℕ) → ArePieces bytes lens (map (λ p. p.now) pieces.now) → IsPartsAnswer bytes lens result.status result.json.items }
+{
+    if pieces.len() % 2 == 0 {
+        answer_pieces(alloc, pieces)
+    } else {
+        bare(alloc, NO_TEXT)
+    }
+}
+
+/// The answer to the pieces that bytes are, if they are some.
+fn answer_found(alloc: Global, found: Option<Vec<&str>>) -> Answer
+    ensures { (bytes lens : List ℕ) → MatchOption found.entry ((ps : List (List ℕ)) → ArePieces bytes lens ps → ⊥) (λ pieces. ArePieces bytes lens (map (λ p. p.now) pieces.items)) → IsPartsAnswer bytes lens result.status result.json.items }
+{
+    match found {
+        Some(pieces) => answer_even(alloc, pieces.as_slice()),
+        None => bare(alloc, NO_TEXT),
+    }
+}
+
+/// The answer to paths and texts, one after the other, with the length of each.
+pub(crate) fn answer_parts(alloc: Global, bytes: &[u8], lens: &[usize]) -> Answer
+    ensures { IsPartsAnswer bytes.now lens.now result.status result.json.items }
+{
+    match pieces_of(alloc, bytes, lens) {
+        Ok(found) => answer_found(alloc, found),
+        Err(_) => bare(alloc, NO_MEMORY),
     }
 }

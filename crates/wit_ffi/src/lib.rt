@@ -13,13 +13,13 @@ mod tests;
 
 ghost use Rattle.std.specs.Prelude.{◌≡◌, ℕ, List, length};
 ghost use Rattle.wit_ffi.specs.Room.{laid_over};
-ghost use Rattle.wit_ffi.specs.Answer.{IsTextAnswer};
+ghost use Rattle.wit_ffi.specs.Answer.{IsPartsAnswer, IsTextAnswer};
 ghost use Rattle.wit_ffi.specs.Checked.{IsChecked};
 ghost use Rattle.wit_ffi.specs.Fields.{fields_of};
 ghost use Rattle.wit_ffi.specs.Told.{IsTold};
 ghost use Rattle.wit_outcome.specs.declared.plain.Plain.{Plain};
 
-use crate::answering::{Answer, answer_bytes};
+use crate::answering::{Answer, answer_bytes, answer_parts};
 use crate::checking::{Checked, check};
 use crate::laying::lay;
 use crate::refusal::fields_of;
@@ -83,6 +83,26 @@ pub extern "C" fn wit_ffi_package(
     ensures { (json : List ℕ) × IsTextAnswer text.now result json × (told.new ≡ laid_over told.old json) × (len.new ≡ length json) }
 {
     let Answer { status, json } = answer_bytes(alloc, text);
+    *len = json.len();
+    lay(told, json.as_slice());
+    status
+}
+
+/// As `wit_ffi_package`, of sources that come apart: `bytes` are the path and the text of each, one after the
+/// other, and `lens` the length of each of these. So no source is split by a line of its own.
+///
+/// Answers 2 also if the lengths are odd in number, or are not those of the bytes together.
+#[unsafe(no_mangle)]
+pub extern "C" fn wit_ffi_package_of(
+    alloc: Global,
+    bytes: &[u8],
+    lens: &[usize],
+    told: &mut [u8],
+    len: &mut usize,
+) -> u8
+    ensures { (json : List ℕ) × IsPartsAnswer bytes.now lens.now result json × (told.new ≡ laid_over told.old json) × (len.new ≡ length json) }
+{
+    let Answer { status, json } = answer_parts(alloc, bytes, lens);
     *len = json.len();
     lay(told, json.as_slice());
     status
