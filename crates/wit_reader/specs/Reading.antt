@@ -1,5 +1,5 @@
 -- How a reader goes on.
-use Rattle.std.specs.Prelude.{◌≡◌, ℕ, ◌+◌, ◌<◌, ◌≤◌, ◌⊎◌, List}
+use Rattle.std.specs.Prelude.{◌≡◌, ℕ, ◌+◌, ◌<◌, ◌≤◌, ◌⊎◌, List, Result, Ok}
 use Rattle.wit_type_tree.specs.Marks.{Mark}
 use Rattle.wit_type_tree.specs.Slices.{Rise}
 use Rattle.wit_reader.specs.declared.reader.Reader.{Reader}
@@ -10,6 +10,7 @@ use Rattle.wit_lex.specs.declared.token.Token.{Token}
 use Rattle.wit_lex.specs.Blanks.{IsFirst}
 use Rattle.wit_lex.specs.Faults.{IsUnread, IsWithin}
 use Rattle.wit_lex.specs.Tokens.{IsToken}
+use Rattle.wit_grammar.specs.Leaves.{Spot, Read}
 
 -- at least one token was read, and what was made of it has these marks
 pub record IsRead (old : Reader) (marks : List Mark) (new : Reader) : Type 0 where
@@ -31,3 +32,34 @@ IsRefused reader e = IsWithin reader.source.now e
 -- the token behind the blanks and comments from a place on is refused, or none stands there
 abbrev pub IsRefusedFrom : List ℕ → ℕ → ReadError → Type 0
 IsRefusedFrom source from e = ((t : Token) × IsToken source t × IsFirst source from t.start × (e ≡ Fault fault.Token t.start t.end)) ⊎ IsUnread source from e
+
+-- where a reader is
+abbrev pub spot : Reader → Spot
+spot r = record { source = r.source.now; offset = r.offset; place = r.before }
+
+-- at least one token was read, and a course gives this value and the place that the reader has then
+pub record Parses {A : Type 0} (old : Reader) (course : Read A) (value : A) (new : Reader) : Type 0 where
+  pub source : new.source ≡ old.source
+  pub offset : new.offset ≡ old.offset
+  pub onward : old.before < new.before
+  pub parses : course ≡ Ok (value, spot new)
+
+-- the same where perhaps no token was read
+pub record ParsesOn {A : Type 0} (old : Reader) (course : Read A) (value : A) (new : Reader) : Type 0 where
+  pub source : new.source ≡ old.source
+  pub offset : new.offset ≡ old.offset
+  pub onward : old.before ≤ new.before
+  pub parses : course ≡ Ok (value, spot new)
+
+-- the same of a course that gives a place alone
+pub record Passes (old : Reader) (course : Result Spot ReadError) (new : Reader) : Type 0 where
+  pub source : new.source ≡ old.source
+  pub offset : new.offset ≡ old.offset
+  pub onward : old.before < new.before
+  pub passes : course ≡ Ok (spot new)
+
+-- of what a course gives, the answer is made
+pub record ParsesAs {A B : Type 0} (old : Reader) (course : Read A) (make : A → B) (answer : B) (new : Reader) : Type 0 where
+  pub value : A
+  pub read : Parses old course value new
+  pub made : answer ≡ make value

@@ -1,10 +1,16 @@
 //! A reader goes through the tokens of a source, one after the other.
-ghost use Rattle.std.specs.Prelude.{◌≡◌, ◌+◌, ◌<◌, ◌≤◌, ◌^◌, [], ◌∷◌, length, IfOk, OnOk, IfErr, IsTrue, ◌↔◌};
+ghost use Rattle.std.specs.Prelude.{◌≡◌, ◌+◌, ◌<◌, ◌≤◌, ◌^◌, [], ◌∷◌, length, Ok, IfOk, OnOk, IfErr, IsTrue, ◌↔◌};
 ghost use Rattle.wit_type_tree.specs.Marks.{named, spelled, told};
 ghost use Rattle.wit_lex.specs.declared.fault.ReadError.TheVariants.{Fault};
 ghost use Rattle.wit_lex.specs.declared.kind.Kind.TheVariants.{Word as WordKind};
 ghost use Rattle.wit_lex.specs.Tokens.{IsToken};
+ghost use Rattle.wit_lex.specs.Lexis.{Stops, first_token, lexeme};
 ghost use Rattle.wit_lex.specs.Words.{word_text};
+ghost use Rattle.wit_grammar.specs.Kinds.{same_kind};
+ghost use Rattle.wit_grammar.specs.Seen.{see_name};
+ghost use Rattle.wit_grammar.specs.Leaves.{past, span_of, mark_at, spanned_at, text_at, name_at, ◌>>=◌};
+ghost use Rattle.wit_grammar.specs.Grammar.{run};
+ghost use Rattle.wit_grammar.specs.Rules.{label};
 
 use std::alloc::Global;
 use wit_lex::fault::{ReadError, ReadFault, ReadResult, span_at};
@@ -30,15 +36,17 @@ pub struct Reader<'a> {
     pub ghost front: { before ≤ token.start },
     pub ghost fits: { offset + length source.now < 2 ^ 32 },
     pub ghost within: { IsToken source.now token },
+    pub ghost next: { first_token source.now before ≡ Ok (lexeme token) },
 }
 
 impl<'a> Reader<'a> {
-    ghost use Rattle.wit_reader.specs.Reading.{IsRead, IsRefused};
+    ghost use Rattle.wit_reader.specs.Reading.{IsRead, IsRefused, Parses, Passes, spot};
 
     /// The token's span.
     pub fn span(&self) -> Span
         ensures start { result.start ≡ self.now.offset + self.now.token.start }
         ensures end { result.end ≡ self.now.offset + self.now.token.end }
+        ensures exact { result ≡ span_of (spot self.now) (lexeme self.now.token) }
     {
         span_at(self.offset, self.token.start, self.token.end)
     }
@@ -54,6 +62,7 @@ impl<'a> Reader<'a> {
     /// Whether the token is of this kind.
     pub fn at(&self, kind: Kind) -> bool
         ensures { IsTrue result ↔ (self.now.token.kind ≡ kind) }
+        ensures same { result ≡ same_kind self.now.token.kind kind }
     {
         self.token.kind == kind
     }
@@ -62,6 +71,7 @@ impl<'a> Reader<'a> {
     pub fn at_word(&self, word: Word) -> bool
         ensures known { IsTrue result ↔ (self.now.token.kind ≡ WordKind word) }
         ensures text { IsTrue result → self.now.token.text.now ≡ word_text word }
+        ensures same { result ≡ same_kind self.now.token.kind (WordKind word) }
     {
         match self.token.kind {
             Kind::Word(found) => found == word,
@@ -75,6 +85,8 @@ impl<'a> Reader<'a> {
         ensures past { OnOk result (self.old.token.end ≤ self.new.before) }
         ensures read { OnOk result (IsRead self.old [] self.new) }
         ensures refused { IfErr result (λ e. IsRefused self.old e) }
+        ensures passes { OnOk result (Passes self.old (past (spot self.old) (lexeme self.old.token)) self.new) }
+        ensures stops { IfErr result (Stops (past (spot self.old) (lexeme self.old.token))) }
     {
         if self.token.start == self.token.end {
             return Err(self.refuse(ReadFault::Token));
@@ -90,6 +102,8 @@ impl<'a> Reader<'a> {
     pub fn expect(&mut self, kind: Kind) -> ReadResult<()>
         ensures read { OnOk result (IsRead self.old [] self.new) }
         ensures refused { IfErr result (λ e. IsRefused self.old e) }
+        ensures passes { OnOk result (Passes self.old (mark_at kind (spot self.old)) self.new) }
+        ensures stops { IfErr result (Stops (mark_at kind (spot self.old))) }
     {
         if !self.at(kind) {
             return Err(self.refuse(ReadFault::Token));
@@ -104,6 +118,8 @@ impl<'a> Reader<'a> {
         ensures past { OnOk result (self.old.token.end ≤ self.new.before) }
         ensures read { OnOk result (IsRead self.old [] self.new) }
         ensures refused { IfErr result (λ e. IsRefused self.old e) }
+        ensures passes { OnOk result (Passes self.old (mark_at (WordKind word) (spot self.old)) self.new) }
+        ensures stops { IfErr result (Stops (mark_at (WordKind word) (spot self.old))) }
     {
         if !self.at_word(word) {
             return Err(self.refuse(ReadFault::Token));
@@ -116,18 +132,34 @@ impl<'a> Reader<'a> {
     pub fn read_word(&mut self, word: Word) -> ReadResult<Span>
         ensures read { IfOk result (λ span. IsRead self.old (spelled span (word_text word) ∷ []) self.new) }
         ensures refused { IfErr result (λ e. IsRefused self.old e) }
+        ensures parses { IfOk result (λ it. Parses self.old (spanned_at (WordKind word) (spot self.old)) it self.new) }
+        ensures stops { IfErr result (Stops (spanned_at (WordKind word) (spot self.old))) }
     {
         let span = self.span();
         self.expect_word(word)?;
         Ok(span)
     }
 
-    /// Goes past a token of this text, and tells where it stands.
+    /// Goes past a token of this kind, and tells where it is.
+    pub fn read_mark(&mut self, kind: Kind) -> ReadResult<Span>
+        ensures read { IfOk result (λ span. IsMarkRead self.old kind span self.new) }
+        ensures refused { IfErr result (λ e. IsRefused self.old e) }
+        ensures parses { IfOk result (λ it. Parses self.old (spanned_at kind (spot self.old)) it self.new) }
+        ensures stops { IfErr result (Stops (spanned_at kind (spot self.old))) }
+    {
+        let span = self.span();
+        self.expect(kind)?;
+        Ok(span)
+    }
+
+    /// Goes past a name of this text, and tells where it is.
     pub fn read_text(&mut self, text: &str) -> ReadResult<Span>
         ensures read { IfOk result (λ span. IsRead self.old (spelled span text.now ∷ []) self.new) }
         ensures refused { IfErr result (λ e. IsRefused self.old e) }
+        ensures parses { IfOk result (λ it. Parses self.old (text_at text.now (spot self.old)) it self.new) }
+        ensures stops { IfErr result (Stops (text_at text.now (spot self.old))) }
     {
-        if self.token.text != text {
+        if !self.at(Kind::Name) || self.token.text != text {
             return Err(self.refuse(ReadFault::Token));
         }
         let span = self.span();
@@ -139,6 +171,8 @@ impl<'a> Reader<'a> {
     pub fn expect_text(&mut self, text: &str) -> ReadResult<()>
         ensures read { OnOk result (IsRead self.old (told text.now ∷ []) self.new) }
         ensures refused { IfErr result (λ e. IsRefused self.old e) }
+        ensures parses { OnOk result (Passes self.old (text_at text.now (spot self.old) >>= λ x. Ok x.1) self.new) }
+        ensures stops { IfErr result (Stops (text_at text.now (spot self.old))) }
     {
         self.read_text(text)?;
         Ok(())
@@ -149,6 +183,8 @@ impl<'a> Reader<'a> {
     pub fn read_id(&mut self) -> ReadResult<Id<'a>>
         ensures read { IfOk result (λ id. IsRead self.old (named id ∷ []) self.new) }
         ensures refused { IfErr result (λ e. IsRefused self.old e) }
+        ensures parses { IfOk result (λ it. Parses self.old (name_at (spot self.old)) (see_name it) self.new) }
+        ensures stops { IfErr result (Stops (name_at (spot self.old))) }
     {
         if !self.at(Kind::Name) {
             return Err(self.refuse(ReadFault::Token));
@@ -166,6 +202,8 @@ impl<'a> Reader<'a> {
     pub fn read_label(&mut self) -> ReadResult<Id<'a>>
         ensures read { IfOk result (λ id. IsRead self.old (named id ∷ []) self.new) }
         ensures refused { IfErr result (λ e. IsRefused self.old e) }
+        ensures parses { IfOk result (λ it. Parses self.old (run label (spot self.old)) (see_name it) self.new) }
+        ensures stops { IfErr result (Stops (run label (spot self.old))) }
     {
         let id = self.read_id()?;
         self.expect(Kind::Colon)?;
