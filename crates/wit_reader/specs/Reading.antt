@@ -1,16 +1,19 @@
 -- How a reader goes on.
-use Rattle.std.specs.Prelude.{◌≡◌, ℕ, ◌+◌, ◌<◌, ◌≤◌, ◌⊎◌, List, Result, Ok}
-use Rattle.wit_type_tree.specs.Marks.{Mark}
+use Rattle.std.specs.Prelude.{◌≡◌, ℕ, ◌+◌, ◌<◌, ◌≤◌, ◌⊎◌, List, [], ◌∷◌, Result, Ok}
+use Rattle.wit_values.specs.declared.span.Span.{Span}
+use Rattle.wit_type_tree.specs.Marks.{Mark, spelled}
 use Rattle.wit_type_tree.specs.Slices.{Rise}
 use Rattle.wit_reader.specs.declared.reader.Reader.{Reader}
 use Rattle.wit_lex.specs.declared.fault.ReadError.{ReadError}
 use Rattle.wit_lex.specs.declared.fault.ReadError.TheVariants.{Fault}
 use Rattle.wit_lex.specs.declared.fault.ReadFault.TheVariants as fault
+use Rattle.wit_lex.specs.declared.kind.Kind.{Kind}
 use Rattle.wit_lex.specs.declared.token.Token.{Token}
 use Rattle.wit_lex.specs.Blanks.{IsFirst}
 use Rattle.wit_lex.specs.Faults.{IsUnread, IsWithin}
-use Rattle.wit_lex.specs.Tokens.{IsToken}
-use Rattle.wit_grammar.specs.Leaves.{Spot, Read}
+use Rattle.wit_lex.specs.Lexis.{lexeme}
+use Rattle.wit_lex.specs.Tokens.{IsSign, IsToken}
+use Rattle.wit_grammar.specs.Leaves.{Spot, Read, span_of}
 
 -- at least one token was read, and what was made of it has these marks
 pub record IsRead (old : Reader) (marks : List Mark) (new : Reader) : Type 0 where
@@ -25,6 +28,10 @@ pub record IsReadOn (old : Reader) (marks : List Mark) (new : Reader) : Type 0 w
   pub offset : new.offset ≡ old.offset
   pub rise : Rise old.source.now old.offset (old.offset + old.before) marks (old.offset + new.before)
 
+-- a token was read that stands at a span; if it is a sign, it is written as that
+abbrev pub IsMarkRead : Reader → Kind → Span → Reader → Type 0
+IsMarkRead old kind span new = (sign : ℕ) → IsSign sign kind → IsRead old (spelled span (sign ∷ []) ∷ []) new
+
 -- the source cannot be read
 abbrev pub IsRefused : Reader → ReadError → Type 0
 IsRefused reader e = IsWithin reader.source.now e
@@ -36,6 +43,10 @@ IsRefusedFrom source from e = ((t : Token) × IsToken source t × IsFirst source
 -- where a reader is
 abbrev pub spot : Reader → Spot
 spot r = record { source = r.source.now; offset = r.offset; place = r.before }
+
+-- where its token is
+abbrev pub token_span : Reader → Span
+token_span r = span_of (spot r) (lexeme r.token)
 
 -- at least one token was read, and a course gives this value and the place that the reader has then
 pub record Parses {A : Type 0} (old : Reader) (course : Read A) (value : A) (new : Reader) : Type 0 where

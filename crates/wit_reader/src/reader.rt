@@ -3,12 +3,12 @@ ghost use Rattle.std.specs.Prelude.{◌≡◌, ◌+◌, ◌<◌, ◌≤◌, ◌^
 ghost use Rattle.wit_type_tree.specs.Marks.{named, spelled, told};
 ghost use Rattle.wit_lex.specs.declared.fault.ReadError.TheVariants.{Fault};
 ghost use Rattle.wit_lex.specs.declared.kind.Kind.TheVariants.{Word as WordKind};
-ghost use Rattle.wit_lex.specs.Tokens.{IsToken};
+ghost use Rattle.wit_lex.specs.Tokens.{IsFound, IsToken};
 ghost use Rattle.wit_lex.specs.Lexis.{Stops, first_token, lexeme};
 ghost use Rattle.wit_lex.specs.Words.{word_text};
 ghost use Rattle.wit_grammar.specs.Kinds.{same_kind};
 ghost use Rattle.wit_grammar.specs.Seen.{see_name};
-ghost use Rattle.wit_grammar.specs.Leaves.{past, span_of, mark_at, spanned_at, text_at, name_at, ◌>>=◌};
+ghost use Rattle.wit_grammar.specs.Leaves.{past, mark_at, spanned_at, text_at, name_at};
 ghost use Rattle.wit_grammar.specs.Grammar.{run};
 ghost use Rattle.wit_grammar.specs.Rules.{label};
 
@@ -36,17 +36,18 @@ pub struct Reader<'a> {
     pub ghost front: { before ≤ token.start },
     pub ghost fits: { offset + length source.now < 2 ^ 32 },
     pub ghost within: { IsToken source.now token },
+    pub ghost found: { IsFound source.now token.start token.end token.text.now token.kind },
     pub ghost next: { first_token source.now before ≡ Ok (lexeme token) },
 }
 
 impl<'a> Reader<'a> {
-    ghost use Rattle.wit_reader.specs.Reading.{IsRead, IsRefused, Parses, Passes, spot};
+    ghost use Rattle.wit_reader.specs.Reading.{IsMarkRead, IsRead, IsRefused, Parses, Passes, spot, token_span};
 
     /// The token's span.
     pub fn span(&self) -> Span
         ensures start { result.start ≡ self.now.offset + self.now.token.start }
         ensures end { result.end ≡ self.now.offset + self.now.token.end }
-        ensures exact { result ≡ span_of (spot self.now) (lexeme self.now.token) }
+        ensures exact { result ≡ token_span self.now }
     {
         span_at(self.offset, self.token.start, self.token.end)
     }
@@ -99,6 +100,7 @@ impl<'a> Reader<'a> {
 
     /// Goes past a token of this kind.
     #[inline(always)]
+    #[tactic(auto, unfolding(wit_grammar::specs::Leaves::mark_at))]
     pub fn expect(&mut self, kind: Kind) -> ReadResult<()>
         ensures read { OnOk result (IsRead self.old [] self.new) }
         ensures refused { IfErr result (λ e. IsRefused self.old e) }
@@ -113,6 +115,7 @@ impl<'a> Reader<'a> {
 
     /// Goes past a word of the grammar.
     #[inline(always)]
+    #[tactic(auto, unfolding(wit_grammar::specs::Leaves::mark_at))]
     pub fn expect_word(&mut self, word: Word) -> ReadResult<()>
         ensures word { OnOk result (self.old.token.text.now ≡ word_text word) }
         ensures past { OnOk result (self.old.token.end ≤ self.new.before) }
@@ -129,6 +132,7 @@ impl<'a> Reader<'a> {
 
     /// Goes past a word of the grammar, and tells where it stands.
     #[inline(always)]
+    #[tactic(auto, unfolding(wit_grammar::specs::Leaves::spanned_at))]
     pub fn read_word(&mut self, word: Word) -> ReadResult<Span>
         ensures read { IfOk result (λ span. IsRead self.old (spelled span (word_text word) ∷ []) self.new) }
         ensures refused { IfErr result (λ e. IsRefused self.old e) }
@@ -141,18 +145,23 @@ impl<'a> Reader<'a> {
     }
 
     /// Goes past a token of this kind, and tells where it is.
+    #[tactic(auto, unfolding(wit_grammar::specs::Leaves::spanned_at, wit_grammar::specs::Leaves::mark_at))]
     pub fn read_mark(&mut self, kind: Kind) -> ReadResult<Span>
         ensures read { IfOk result (λ span. IsMarkRead self.old kind span self.new) }
         ensures refused { IfErr result (λ e. IsRefused self.old e) }
         ensures parses { IfOk result (λ it. Parses self.old (spanned_at kind (spot self.old)) it self.new) }
         ensures stops { IfErr result (Stops (spanned_at kind (spot self.old))) }
     {
+        if !self.at(kind) {
+            return Err(self.refuse(ReadFault::Token));
+        }
         let span = self.span();
-        self.expect(kind)?;
+        self.bump()?;
         Ok(span)
     }
 
     /// Goes past a name of this text, and tells where it is.
+    #[tactic(auto, unfolding(wit_grammar::specs::Leaves::text_at))]
     pub fn read_text(&mut self, text: &str) -> ReadResult<Span>
         ensures read { IfOk result (λ span. IsRead self.old (spelled span text.now ∷ []) self.new) }
         ensures refused { IfErr result (λ e. IsRefused self.old e) }
@@ -167,11 +176,11 @@ impl<'a> Reader<'a> {
         Ok(span)
     }
 
-    /// Goes past a token of this text.
+    /// Goes past a name of this text.
     pub fn expect_text(&mut self, text: &str) -> ReadResult<()>
         ensures read { OnOk result (IsRead self.old (told text.now ∷ []) self.new) }
         ensures refused { IfErr result (λ e. IsRefused self.old e) }
-        ensures parses { OnOk result (Passes self.old (text_at text.now (spot self.old) >>= λ x. Ok x.1) self.new) }
+        ensures parses { OnOk result (Parses self.old (text_at text.now (spot self.old)) (token_span self.old) self.new) }
         ensures stops { IfErr result (Stops (text_at text.now (spot self.old))) }
     {
         self.read_text(text)?;
@@ -180,6 +189,7 @@ impl<'a> Reader<'a> {
 
     /// Reads a name.
     #[inline(always)]
+    #[tactic(auto, unfolding(wit_grammar::specs::Leaves::name_at))]
     pub fn read_id(&mut self) -> ReadResult<Id<'a>>
         ensures read { IfOk result (λ id. IsRead self.old (named id ∷ []) self.new) }
         ensures refused { IfErr result (λ e. IsRefused self.old e) }
@@ -199,6 +209,7 @@ impl<'a> Reader<'a> {
     }
 
     /// Reads a name and the `:` behind it.
+    #[tactic(auto, unfolding(wit_grammar::specs::Rules::label))]
     pub fn read_label(&mut self) -> ReadResult<Id<'a>>
         ensures read { IfOk result (λ id. IsRead self.old (named id ∷ []) self.new) }
         ensures refused { IfErr result (λ e. IsRefused self.old e) }
