@@ -5,3 +5,5 @@ pub mod Onward
 pub mod ReadAgain
 pub mod Shapes
 pub mod Whole
+pub mod Opened
+pub mod Examples

@@ -1,13 +1,15 @@
 -- A source spells the tree that is read of it, and no other.
-use Rattle.std.proofs.Common.{◌≡◌, [], ◌∷◌, ◌∙◌, sym, arith, true, false}
+use Rattle.std.proofs.Common.{◌≡◌, ℕ, List, [], ◌∷◌, ◌∙◌, sym, arith, true, false}
+use Rattle.std.specs.Prelude.{Err}
 use Rattle.std.proofs.lemmas.Bool.{or_left}
+use Rattle.wit_lex.specs.declared.fault.ReadError.{ReadError}
 use Rattle.wit_lex.specs.declared.kind.Kind.TheVariants.{End}
 use Rattle.wit_grammar.specs.Trees.{File}
 use Rattle.wit_grammar.specs.Leaves.{Spot}
-use Rattle.wit_grammar.specs.Grammar.{of_kind, closes, spells}
+use Rattle.wit_grammar.specs.Grammar.{of_kind, closes, spells, run}
 use Rattle.wit_grammar.specs.OneToken.{more}
 use Rattle.wit_grammar.specs.ItemRules.{file}
-use Rattle.wit_grammar.specs.Laws.{start, ReadIsSpelled, SpelledIsRead, OneTree}
+use Rattle.wit_grammar.specs.Laws.{start, IsSpelled, ReadIsSpelled, SpelledIsRead, OneTree}
 use Rattle.wit_grammar.proofs.Onward.{misses}
 use Rattle.wit_grammar.proofs.Spelled.{sound, same_made}
 use Rattle.wit_grammar.proofs.ReadAgain.{complete}
@@ -31,3 +33,10 @@ one_tree source offset one other h k =
     let a = spelled_is_read source offset one h in
     let b = spelled_is_read source offset other k in
     same_made one other a.0 b.0 (sym a.1 ∙ b.1)
+
+-- where reading stops at a fault, no tree is spelled
+pub none_spelled : (source : List ℕ) (offset : ℕ) (e : ReadError) → run file (start source offset) ≡ Err e → (tree : File) → IsSpelled source offset tree → ⊥
+none_spelled source offset e stops tree h =
+    let read = spelled_is_read source offset tree h in
+    let both = sym read.1 ∙ stops in
+    absurd (cc)
