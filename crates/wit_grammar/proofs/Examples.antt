@@ -1,18 +1,15 @@
 -- A text with the tree that it spells, and three that spell none with the fault at which reading them stops, computed.
 use Rattle.std.proofs.Common.{◌≡◌, ℕ, List, [], ◌∷◌, refl, Some, None}
-use Rattle.std.specs.Prelude.{Err, codes}
+use Rattle.std.specs.Prelude.{codes}
 use Rattle.wit_values.specs.declared.span.Span.{Span}
 use Rattle.wit_type_tree.specs.declared.types.FuncForm.TheVariants.{Plain}
 use Rattle.wit_type_tree.specs.declared.types.Primitive.TheVariants.{U8}
-use Rattle.wit_lex.specs.declared.fault.ReadError.TheVariants.{Fault}
 use Rattle.wit_lex.specs.declared.fault.ReadFault.TheVariants.{Token, Comment}
 use Rattle.wit_grammar.specs.Trees.{list, primitive, Front, of_interface, has_func, NamedFunction, File}
-use Rattle.wit_grammar.specs.Grammar.{run}
 use Rattle.wit_grammar.specs.Rules.{no_docs}
-use Rattle.wit_grammar.specs.ItemRules.{file}
-use Rattle.wit_grammar.specs.Laws.{start, IsSpelled, IsReadAs}
+use Rattle.wit_grammar.specs.Laws.{IsSpelled, IsReadAs, StopsAt}
 use Rattle.wit_grammar.proofs.Opened.{all_rules, reading}
-use Rattle.wit_grammar.proofs.Whole.{read_is_spelled, one_tree, none_spelled}
+use Rattle.wit_grammar.proofs.Whole.{read_is_spelled, one_tree, stopped_spells_none}
 
 abbrev at : ℕ → ℕ → Span
 at from to = record { start = from; end = to }
@@ -51,31 +48,31 @@ no_other other h = one_tree text 0 tree other this_tree h
 abbrev no_type : List ℕ
 no_type = codes "interface i { f: func() -> result<_>; }"
 
-pub stops_at_bracket : run file (start no_type 0) ≡ Err (Fault Token 35 36)
+pub stops_at_bracket : StopsAt no_type 0 Token 35 36
 unfolding all_rules reading
 stops_at_bracket = refl
 
 pub no_type_no_tree : (tree : File) → IsSpelled no_type 0 tree → ⊥
-no_type_no_tree = none_spelled no_type 0 (Fault Token 35 36) stops_at_bracket
+no_type_no_tree tree = stopped_spells_none no_type 0 Token 35 36 tree stops_at_bracket
 
 -- a header without a semicolon
 abbrev no_semicolon : List ℕ
 no_semicolon = codes "package a:b interface i {}"
 
-pub stops_at_word : run file (start no_semicolon 0) ≡ Err (Fault Token 12 21)
+pub stops_at_word : StopsAt no_semicolon 0 Token 12 21
 unfolding all_rules reading
 stops_at_word = refl
 
 pub no_semicolon_no_tree : (tree : File) → IsSpelled no_semicolon 0 tree → ⊥
-no_semicolon_no_tree = none_spelled no_semicolon 0 (Fault Token 12 21) stops_at_word
+no_semicolon_no_tree tree = stopped_spells_none no_semicolon 0 Token 12 21 tree stops_at_word
 
 -- a comment without an end
 abbrev no_end : List ℕ
 no_end = codes "interface i { /* }"
 
-pub stops_at_comment : run file (start no_end 0) ≡ Err (Fault Comment 14 16)
+pub stops_at_comment : StopsAt no_end 0 Comment 14 16
 unfolding all_rules reading
 stops_at_comment = refl
 
 pub no_end_no_tree : (tree : File) → IsSpelled no_end 0 tree → ⊥
-no_end_no_tree = none_spelled no_end 0 (Fault Comment 14 16) stops_at_comment
+no_end_no_tree tree = stopped_spells_none no_end 0 Comment 14 16 tree stops_at_comment

@@ -7,3 +7,4 @@ pub mod Shapes
 pub mod Whole
 pub mod Opened
 pub mod Examples
+pub mod Stopping
