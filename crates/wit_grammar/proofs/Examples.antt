@@ -1,11 +1,12 @@
 -- A text with the tree that it spells, and three that spell none with the fault at which reading them stops, computed.
-use Rattle.std.proofs.Common.{◌≡◌, ℕ, List, [], ◌∷◌, refl, Some, None}
+use Rattle.std.proofs.Common.{◌≡◌, ℕ, List, [], ◌∷◌, ◌++◌, refl, Some, None}
 use Rattle.std.specs.Prelude.{codes}
 use Rattle.wit_values.specs.declared.span.Span.{Span}
 use Rattle.wit_type_tree.specs.declared.types.FuncForm.TheVariants.{Plain}
-use Rattle.wit_type_tree.specs.declared.types.Primitive.TheVariants.{U8}
+use Rattle.wit_type_tree.specs.declared.types.Primitive.TheVariants.{U8, U64}
+use Rattle.wit_tree.specs.declared.tree.WorldSide.TheVariants.{Imported, Exported}
 use Rattle.wit_lex.specs.declared.fault.ReadFault.TheVariants.{Token, Comment}
-use Rattle.wit_grammar.specs.Trees.{list, primitive, Front, of_interface, has_func, NamedFunction, File}
+use Rattle.wit_grammar.specs.Trees.{Name, Release, list, primitive, named, result, this, nothing, Front, since, Function, method, of_funcs, Definition, PackageId, by_package, by_name, Use, uses, defines, Interface, crosses, by_path, by_func, World, of_interface, of_world, File}
 use Rattle.wit_grammar.specs.Rules.{no_docs}
 use Rattle.wit_grammar.specs.Laws.{IsSpelled, IsReadAs, StopsAt}
 use Rattle.wit_grammar.proofs.Opened.{all_rules, reading}
@@ -15,31 +16,67 @@ abbrev at : ℕ → ℕ → Span
 at from to = record { start = from; end = to }
 
 abbrev text : List ℕ
-text = codes "package a:b; interface i { /// d\nf: func(x: list<u8>); }"
+text =
+    codes "package wasi:demo@0.2.0;\n\n/// Streams.\n@since(version = 0.2.0)\ninterface streams {\n  use wasi:io/error@0.2.0.{error};\n"
+    ++ codes "  resource input {\n    read: func(len: u64) -> result<list<u8>, error>;\n  }\n}\n"
+    ++ codes "world w {\n  import streams;\n  export run: func() -> result;\n}\n"
+
+abbrev name : List ℕ → ℕ → ℕ → Name
+name text from to = record { text = text; span = at from to }
 
 abbrev bare : Front
 bare = record { docs = no_docs; attributes = [] }
 
-abbrev func : NamedFunction
-func = record {
-  front = record { docs = record { texts = codes "/// d" ∷ []; span = at 27 32 }; attributes = [] };
-  name = record { text = codes "f"; span = at 33 34 };
-  func = record { span = at 36 40; form = Plain; params = record { name = record { text = codes "x"; span = at 41 42 }; ty = list (at 44 48) (primitive (at 49 51) U8) } ∷ []; returned = None };
+abbrev release : Release
+release = (0, 2, 0, [], [])
+
+abbrev demo : PackageId
+demo = record { docs = no_docs; span = at 8 23; namespace = name (codes "wasi") 8 12; name = name (codes "demo") 13 17; version = Some release }
+
+abbrev wasi_io : PackageId
+wasi_io = record { docs = no_docs; span = at 89 96; namespace = name (codes "wasi") 89 93; name = name (codes "io") 94 96; version = Some release }
+
+abbrev use_error : Use
+use_error = record { attributes = []; from = by_package wasi_io (name (codes "error") 97 102); names = record { name = name (codes "error") 110 115; local = None } ∷ [] }
+
+abbrev read : Function
+read = record {
+  span = at 147 151;
+  form = Plain;
+  params = record { name = name (codes "len") 152 155; ty = primitive (at 157 160) U64 } ∷ [];
+  returned = Some (result (at 165 171) (this (list (at 172 176) (primitive (at 177 179) U8))) (this (named (name (codes "error") 182 187))));
+}
+
+abbrev input : Definition
+input = record { front = bare; name = name (codes "input") 129 134; body = of_funcs (method (record { front = bare; name = name (codes "read") 141 145; func = read }) ∷ []) }
+
+abbrev streams : Interface
+streams = record {
+  front = record { docs = record { texts = codes "/// Streams." ∷ []; span = at 26 38 }; attributes = since (at 39 62) release ∷ [] };
+  name = name (codes "streams") 73 80;
+  items = uses use_error ∷ defines input ∷ [];
+}
+
+abbrev run_func : Function
+run_func = record { span = at 238 242; form = Plain; params = []; returned = Some (result (at 248 254) nothing nothing) }
+
+abbrev w : World
+w = record {
+  front = bare;
+  name = name (codes "w") 202 203;
+  items = crosses (record { side = Imported; front = bare; kind = by_path (by_name (name (codes "streams") 215 222)) })
+      ∷ crosses (record { side = Exported; front = bare; kind = by_func (name (codes "run") 233 236) run_func }) ∷ [];
 }
 
 abbrev tree : File
-tree = record {
-  header = Some (record { docs = no_docs; span = at 8 11; namespace = record { text = codes "a"; span = at 8 9 }; name = record { text = codes "b"; span = at 10 11 }; version = None });
-  declarations = of_interface (record { front = bare; name = record { text = codes "i"; span = at 23 24 }; items = has_func func ∷ [] }) ∷ [];
-  nested = [];
-}
+tree = record { header = Some demo; declarations = of_interface streams ∷ of_world w ∷ []; nested = [] }
 
-read : IsReadAs text 0 tree
+is_read : IsReadAs text 0 tree
 unfolding all_rules reading
-read = (record { source = text; offset = 0; place = 56 }, refl)
+is_read = (record { source = text; offset = 0; place = 257 }, refl)
 
 pub this_tree : IsSpelled text 0 tree
-this_tree = read_is_spelled text 0 tree read
+this_tree = read_is_spelled text 0 tree is_read
 
 pub no_other : (other : File) → IsSpelled text 0 other → tree ≡ other
 no_other other h = one_tree text 0 tree other this_tree h

@@ -1,5 +1,6 @@
 -- Rules and steps of reading, opened for proofs that compute with them: such a proof unfolds these names.
 use Rattle.std.proofs.Common.{ℕ}
+use Rattle.semver.specs.Parse.{digits_from}
 use Rattle.wit_lex.specs.Lexis.{first_token, skipped, run_end, word_kind}
 use Rattle.wit_lex.specs.DocsLexis.{docs_from, comments}
 use Rattle.wit_lex.specs.VersionLexis.{version_to, dotted_end}
@@ -40,5 +41,5 @@ unfolding type_rules types function_rules front_rules definition_rules extern_ru
 all_rules = 0
 
 unfoldable pub reading : ℕ
-unfolding first_token skipped run_end word_kind docs_from comments version_to dotted_end past mark_at spanned_at text_at name_at name_but_at number_at version_at docs_at primitive_at deeper_at nothing_at until_at open_at next_at items_at listed_at
+unfolding first_token skipped run_end word_kind docs_from comments version_to dotted_end digits_from past mark_at spanned_at text_at name_at name_but_at number_at version_at docs_at primitive_at deeper_at nothing_at until_at open_at next_at items_at listed_at
 reading = 0
