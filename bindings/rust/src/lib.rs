@@ -64,6 +64,8 @@ mod rules;
 mod schema;
 mod sources;
 mod types;
+#[cfg(feature = "serde")]
+mod with_serde;
 
 pub use arena::{Arena, Id, InterfaceId, Map, PackageId, TypeId, WorldId};
 pub use diagnostic::Diagnostic;

@@ -1,63 +1,12 @@
--- Objects whose keys are some of a list of different ones, in its order.
-use Rattle.std.proofs.Common.{◌≡◌, ◌≢◌, ℕ, zero, suc, ◌<◌, Bool, true, false, not, ◌&&◌, List, [], ◌∷◌, ◌++◌, Some, length, map, slice_index_or, ap, sym, ◌∙◌, refl, subst, arith}
-use Rattle.std.specs.Prelude.{⊤, AllPairs, bytes_eq, slice_get}
-use Rattle.std.proofs.lemmas.Slice.Eq.{bytes_eq-Decides}
-use Rattle.json.specs.Json.{Json}
+-- Values no object in which has a key twice.
+use Rattle.std.proofs.Common.{◌≡◌, ◌≢◌, ℕ, zero, suc, ◌<◌, true, List, [], ◌∷◌, length, slice_index_or, Option, Some, None, map, ap, sym, refl, subst, arith}
+use Rattle.std.specs.Prelude.{⊤, All, AllPairs}
+use Rattle.json.specs.Json.{Json, array, Items, item}
 use Rattle.json.specs.Strict.{AreDistinct, HasUniqueKeys, ItemsHaveUniqueKeys, MembersHaveUniqueKeys, keys}
 use Rattle.json.specs.Value.{items_of}
 use Rattle.wit_json.specs.Values.{fields, list, members_of}
-
--- keys that are pairwise different, by recursion
-
-abbrev pub IsNew : List ℕ → List (List ℕ) → Type 0
-IsNew k [] = ⊤
-IsNew k (l ∷ ls) = (k ≢ l) × IsNew k ls
-
-abbrev pub Apart : List (List ℕ) → Type 0
-Apart [] = ⊤
-Apart (k ∷ ks) = IsNew k ks × Apart ks
-
-first_so : (s t : Bool) → (s && t) ≡ true → s ≡ true
-first_so true t h = refl
-first_so false t h = h
-
-second_so : (s t : Bool) → (s && t) ≡ true → t ≡ true
-second_so true t h = h
-second_so false t h = absurd (cc h)
-
--- the same, as it is computed of a list that is known
-
-abbrev pub is_new : List ℕ → List (List ℕ) → Bool
-is_new k [] = true
-is_new k (l ∷ ls) = not (bytes_eq k l) && is_new k ls
-
-abbrev pub are_apart : List (List ℕ) → Bool
-are_apart [] = true
-are_apart (k ∷ ks) = is_new k ks && are_apart ks
-
-differ : (k l : List ℕ) (b : Bool) → bytes_eq k l ≡ b → not b ≡ true → k ≢ l
-differ k l true is flag same = absurd (cc flag)
-differ k l false is flag same = let yes = (bytes_eq-Decides k l).1 same in absurd (cc (yes, is))
-
-new_of : (k : List ℕ) (ls : List (List ℕ)) → is_new k ls ≡ true → IsNew k ls
-new_of k [] h = tt
-new_of k (l ∷ ls) h = (differ k l (bytes_eq k l) refl (first_so (not (bytes_eq k l)) (is_new k ls) h), new_of k ls (second_so (not (bytes_eq k l)) (is_new k ls) h))
-
-pub apart_of : (ks : List (List ℕ)) → are_apart ks ≡ true → Apart ks
-apart_of [] h = tt
-apart_of (k ∷ ks) h = (new_of k ks (first_so (is_new k ks) (are_apart ks) h), apart_of ks (second_so (is_new k ks) (are_apart ks) h))
-
-new_at : (k : List ℕ) (ls : List (List ℕ)) → IsNew k ls → (j : ℕ) (d : List ℕ) → j < length ls → k ≢ slice_index_or ls j d
-new_at k [] new j d within = absurd (omega (arith, within))
-new_at k (l ∷ ls) new zero d within = new.0
-new_at k (l ∷ ls) new (suc j) d within = new_at k ls new.1 j d (omega (arith, within))
-
-pub distinct_of : (ks : List (List ℕ)) → Apart ks → AreDistinct ks
-distinct_of [] apart i j d lt within = absurd (omega (arith, within))
-distinct_of (k ∷ ks) apart zero zero d lt within = absurd (omega (arith, lt))
-distinct_of (k ∷ ks) apart zero (suc j) d lt within = new_at k ks apart.0 j d (omega (arith, within))
-distinct_of (k ∷ ks) apart (suc i) zero d lt within = absurd (omega (arith, lt))
-distinct_of (k ∷ ks) apart (suc i) (suc j) d lt within = distinct_of ks apart.1 i j d (omega (arith, lt)) (omega (arith, within))
+use Rattle.wit_json.proofs.Apart.{apart_of, are_apart, distinct_of}
+use Rattle.wit_json.proofs.Objects.{Shape, object_apart, object_of, shape_is}
 
 -- a value with unique keys
 pub record Unique (j : Json) : Type 0 where
@@ -67,72 +16,82 @@ pub record Unique (j : Json) : Type 0 where
 pub atom : {j : Json} → HasUniqueKeys j → Unique j
 atom h = record { keys = h }
 
--- members with some of these keys, in this order, and values with unique keys
-pub data Fits : List (List ℕ) → List (List ℕ × Json) → Type 0 where
-  End : Fits [] []
-  Have : (k : List ℕ) (j : Json) (ks : List (List ℕ)) (ms : List (List ℕ × Json)) → Unique j → Fits ks ms → Fits (k ∷ ks) ((k, j) ∷ ms)
-  Lack : (k : List ℕ) (ks : List (List ℕ)) (ms : List (List ℕ × Json)) → Fits ks ms → Fits (k ∷ ks) ms
+-- values of members, each if it is there
+abbrev pub UniqueOption : Option Json → Type 0
+UniqueOption None = ⊤
+UniqueOption (Some j) = Unique j
 
-pub have : {k : List ℕ} {j : Json} {ks : List (List ℕ)} {ms : List (List ℕ × Json)} → Unique j → Fits ks ms → Fits (k ∷ ks) ((k, j) ∷ ms)
-have {k} {j} {ks} {ms} u f = Have k j ks ms u f
+abbrev pub AreUnique : List (Option Json) → Type 0
+AreUnique [] = ⊤
+AreUnique (v ∷ vs) = UniqueOption v × AreUnique vs
 
-pub lack : {k : List ℕ} {ks : List (List ℕ)} {ms : List (List ℕ × Json)} → Fits ks ms → Fits (k ∷ ks) ms
-lack {k} {ks} {ms} f = Lack k ks ms f
+values_unique : (ks : List (List ℕ)) (vs : List (Option Json)) → AreUnique vs → MembersHaveUniqueKeys (members_of (object_of ks vs))
+values_unique [] vs u = tt
+values_unique (k ∷ ks) [] u = tt
+values_unique (k ∷ ks) (None ∷ vs) u = values_unique ks vs u.1
+values_unique (k ∷ ks) (Some j ∷ vs) u = (u.0.keys, values_unique ks vs u.1)
 
-pub both : {ks ls : List (List ℕ)} {ms ns : List (List ℕ × Json)} → Fits ks ms → Fits ls ns → Fits (ks ++ ls) (ms ++ ns)
-both End g = g
-both (Have k j ks ms u f) g = have u (both f g)
-both (Lack k ks ms f) g = lack (both f g)
-
-fits_new : {ks : List (List ℕ)} {ms : List (List ℕ × Json)} (l : List ℕ) → Fits ks ms → IsNew l ks → IsNew l (keys (members_of ms))
-fits_new l End new = tt
-fits_new l (Have k j ks ms u f) new = (new.0, fits_new l f new.1)
-fits_new l (Lack k ks ms f) new = fits_new l f new.1
-
-fits_apart : {ks : List (List ℕ)} {ms : List (List ℕ × Json)} → Fits ks ms → Apart ks → Apart (keys (members_of ms))
-fits_apart End apart = tt
-fits_apart (Have k j ks ms u f) apart = (fits_new k f apart.0, fits_apart f apart.1)
-fits_apart (Lack k ks ms f) apart = fits_apart f apart.1
-
-fits_values : {ks : List (List ℕ)} {ms : List (List ℕ × Json)} → Fits ks ms → MembersHaveUniqueKeys (members_of ms)
-fits_values End = tt
-fits_values (Have k j ks ms u f) = (u.keys, fits_values f)
-fits_values (Lack k ks ms f) = fits_values f
+object_unique : (ks : List (List ℕ)) (vs : List (Option Json)) → are_apart ks ≡ true → AreUnique vs → Unique (fields (object_of ks vs))
+object_unique ks vs apart u = record { keys = (distinct_of (keys (members_of (object_of ks vs))) (object_apart ks vs (apart_of ks apart)), values_unique ks vs u) }
 
 -- an object with some of these keys
-fields_with : (ks : List (List ℕ)) (ms : List (List ℕ × Json)) → are_apart ks ≡ true → Fits ks ms → Unique (fields ms)
-fields_with ks ms apart fits = record { keys = (distinct_of (keys (members_of ms)) (fits_apart fits (apart_of ks apart)), fits_values fits) }
-
-pub fields_unique : {ks : List (List ℕ)} (ms : List (List ℕ × Json)) → are_apart ks ≡ true → Fits ks ms → Unique (fields ms)
-fields_unique {ks} ms apart fits = fields_with ks ms apart fits
+pub fields_unique : {ks : List (List ℕ)} {vs : List (Option Json)} {ms : List (List ℕ × Json)} → are_apart ks ≡ true → Shape ks vs ms → AreUnique vs → Unique (fields ms)
+fields_unique {ks} {vs} {ms} apart shape u = subst (λ (l : List (List ℕ × Json)). Unique (fields l)) (sym (shape_is shape)) (object_unique ks vs apart u)
 
 -- an object with one member
 pub one_unique : (k : List ℕ) {j : Json} → Unique j → Unique (fields ((k, j) ∷ []))
-one_unique k {j} u = fields_with (k ∷ []) ((k, j) ∷ []) refl (have u End)
+one_unique k {j} u = object_unique (k ∷ []) (Some j ∷ []) refl (u, tt)
 
 -- arrays of such values
-items_unique : {A : Type 0} (f : A → Json) (xs : List A) → ((place : ℕ) (x : A) → slice_get xs place ≡ Some x → Unique (f x)) → ItemsHaveUniqueKeys (items_of (map f xs))
-items_unique f [] h = tt
-items_unique f (x ∷ xs) h = ((h 0 x refl).keys, items_unique f xs (λ place y at. h (suc place) y at))
 
-pub list_unique : {A : Type 0} (f : A → Json) (xs : List A) → ((place : ℕ) (x : A) → slice_get xs place ≡ Some x → Unique (f x)) → Unique (list (map f xs))
-list_unique f xs h = record { keys = items_unique f xs h }
+items_unique : {A : Type 0} (P : A → Type 0) (f : A → Json) → ((x : A) → P x → Unique (f x)) → (xs : List A) → All P xs → ItemsHaveUniqueKeys (items_of (map f xs))
+items_unique P f each [] all = tt
+items_unique P f each (x ∷ xs) all = ((each x (all 0 x (omega arith))).keys, items_unique P f each xs (λ k d within. all (suc k) d (omega (arith, within))))
 
-pub list_more : {A : Type 0} (j : Json) (f : A → Json) (xs : List A) → Unique j → ((place : ℕ) (x : A) → slice_get xs place ≡ Some x → Unique (f x)) → Unique (list (j ∷ map f xs))
-list_more j f xs u h = record { keys = (u.keys, items_unique f xs h) }
+pub list_unique : {A : Type 0} (P : A → Type 0) (f : A → Json) → ((x : A) → P x → Unique (f x)) → (xs : List A) → All P xs → Unique (list (map f xs))
+list_unique P f each xs all = record { keys = items_unique P f each xs all }
+
+-- the same where nothing is asked of the values
+pub each_unique : {A : Type 0} (f : A → Json) → ((x : A) → Unique (f x)) → (xs : List A) → Unique (list (map f xs))
+each_unique f each xs = list_unique (λ x. ⊤) f (λ x p. each x) xs (λ k d within. tt)
+
+pub list_more : {j : Json} {js : Items} → Unique j → Unique (array js) → Unique (array (item j js))
+list_more u v = record { keys = (u.keys, v.keys) }
 
 pub pair_unique : {a b : Json} → Unique a → Unique b → Unique (list (a ∷ b ∷ []))
 pair_unique u v = record { keys = (u.keys, (v.keys, tt)) }
 
--- a map whose keys are different
+-- maps whose keys are different
+
 keys_of_map : {A : Type 0} (k : A → List ℕ) (f : A → Json) (xs : List A) → keys (members_of (map (λ x. (k x, f x)) xs)) ≡ map k xs
 keys_of_map k f [] = refl
 keys_of_map k f (x ∷ xs) = ap (λ ks. k x ∷ ks) (keys_of_map k f xs)
 
-values_of_map : {A : Type 0} (k : A → List ℕ) (f : A → Json) (xs : List A) → ((place : ℕ) (x : A) → slice_get xs place ≡ Some x → Unique (f x)) → MembersHaveUniqueKeys (members_of (map (λ x. (k x, f x)) xs))
-values_of_map k f [] h = tt
-values_of_map k f (x ∷ xs) h = ((h 0 x refl).keys, values_of_map k f xs (λ place y at. h (suc place) y at))
+values_of_map : {A : Type 0} (P : A → Type 0) (k : A → List ℕ) (f : A → Json) → ((x : A) → P x → Unique (f x)) → (xs : List A) → All P xs → MembersHaveUniqueKeys (members_of (map (λ x. (k x, f x)) xs))
+values_of_map P k f each [] all = tt
+values_of_map P k f each (x ∷ xs) all = ((each x (all 0 x (omega arith))).keys, values_of_map P k f each xs (λ n d within. all (suc n) d (omega (arith, within))))
 
-pub map_unique : {A : Type 0} (k : A → List ℕ) (f : A → Json) (xs : List A) → AreDistinct (map k xs) → ((place : ℕ) (x : A) → slice_get xs place ≡ Some x → Unique (f x)) →
-    Unique (fields (map (λ x. (k x, f x)) xs))
-map_unique k f xs distinct h = record { keys = (subst AreDistinct (sym (keys_of_map k f xs)) distinct, values_of_map k f xs h) }
+pub map_unique : {A : Type 0} (P : A → Type 0) (k : A → List ℕ) (f : A → Json) → ((x : A) → P x → Unique (f x)) → (xs : List A) → AreDistinct (map k xs) → All P xs → Unique (fields (map (λ x. (k x, f x)) xs))
+map_unique P k f each xs distinct all = record { keys = (subst AreDistinct (sym (keys_of_map k f xs)) distinct, values_of_map P k f each xs all) }
+
+pub table_unique : {A : Type 0} (k : A → List ℕ) (f : A → Json) → ((x : A) → Unique (f x)) → (xs : List A) → AreDistinct (map k xs) → Unique (fields (map (λ x. (k x, f x)) xs))
+table_unique k f each xs distinct = map_unique (λ x. ⊤) k f (λ x p. each x) xs distinct (λ n d within. tt)
+
+-- keys that differ, of which each is told by its text: so do their texts
+
+fresh_text : {A K : Type 0} (P : A → Type 0) (key : A → K) (text : A → List ℕ) → ((x y : A) → P x → P y → text x ≡ text y → key x ≡ key y) → (e : A) → P e → (es : List A) →
+    ((j : ℕ) (d : K) → j < length (map key es) → key e ≢ slice_index_or (map key es) j d) → All P es → (j : ℕ) (d : List ℕ) → j < length (map text es) → text e ≢ slice_index_or (map text es) j d
+fresh_text P key text tells e p [] fresh all j d within same = absurd (omega (arith, within))
+fresh_text P key text tells e p (x ∷ es) fresh all zero d within same = fresh 0 (key x) (omega arith) (tells e x p (all 0 x (omega arith)) same)
+fresh_text P key text tells e p (x ∷ es) fresh all (suc j) d within same =
+    fresh_text P key text tells e p es (λ k c lt. fresh (suc k) c (omega (arith, lt))) (λ k c lt. all (suc k) c (omega (arith, lt))) j d (omega (arith, within)) same
+
+pub texts_distinct : {A K : Type 0} (P : A → Type 0) (key : A → K) (text : A → List ℕ) → ((x y : A) → P x → P y → text x ≡ text y → key x ≡ key y) → (es : List A) →
+    AllPairs (λ a b. a ≢ b) (map key es) → All P es → AreDistinct (map text es)
+texts_distinct P key text tells [] differ all i j d lt within same = absurd (omega (arith, within))
+texts_distinct P key text tells (e ∷ es) differ all zero zero d lt within same = absurd (omega (arith, lt))
+texts_distinct P key text tells (e ∷ es) differ all zero (suc j) d lt within same =
+    fresh_text P key text tells e (all 0 e (omega arith)) es (λ k c short. differ 0 (suc k) c (omega arith) (omega (arith, short))) (λ k c short. all (suc k) c (omega (arith, short))) j d (omega (arith, within)) same
+texts_distinct P key text tells (e ∷ es) differ all (suc i) zero d lt within same = absurd (omega (arith, lt))
+texts_distinct P key text tells (e ∷ es) differ all (suc i) (suc j) d lt within same =
+    texts_distinct P key text tells es (λ k n c less short. differ (suc k) (suc n) c (omega (arith, less)) (omega (arith, short))) (λ k c short. all (suc k) c (omega (arith, short))) i j d (omega (arith, lt)) (omega (arith, within)) same

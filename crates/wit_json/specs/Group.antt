@@ -14,8 +14,12 @@ source_members s = at w.Path (string (string_bytes s.path)) ∷ at w.Start (numb
 abbrev pub source_json : Source → Json
 source_json s = fields (source_members s)
 
+-- a package, and then those that are nested in its sources
+abbrev pub packages_of : UnresolvedPackage → List UnresolvedPackage → List Json
+packages_of main nested = package_json main ∷ map package_json nested
+
 abbrev pub group_members : List Source → UnresolvedPackage → List UnresolvedPackage → List (List ℕ × Json)
-group_members sources main nested = at w.Sources (list (map source_json sources)) ∷ at w.Packages (list (package_json main ∷ map package_json nested)) ∷ []
+group_members sources main nested = at w.Sources (list (map source_json sources)) ∷ at w.Packages (list (packages_of main nested)) ∷ []
 
 -- the group
 abbrev pub group_json : List Source → UnresolvedPackage → List UnresolvedPackage → Json

@@ -11,6 +11,7 @@ use Rattle.wit_types.specs.declared.types.Handle.{Handle}
 use Rattle.wit_types.specs.declared.types.Handle.TheVariants as handle
 use Rattle.wit_types.specs.declared.types.TypeDefKind.{TypeDefKind}
 use Rattle.wit_types.specs.declared.types.TypeDefKind.TheVariants as kind
+use Rattle.wit_json.specs.declared.words.Word.{Word}
 use Rattle.wit_json.specs.declared.words.Word.TheVariants as w
 use Rattle.wit_json.specs.Values.{at, fields, list, number_json, tagged}
 use Rattle.wit_json.specs.Metadata.{docs_members, span_json}
@@ -68,6 +69,9 @@ handle_json (handle.Borrow resource) = tagged w.Borrow (number_json resource)
 abbrev pub outcome_members : Option Ty → Option Ty → List (List ℕ × Json)
 outcome_members ok err = at w.Ok_ (optional_type ok) ∷ at w.Err_ (optional_type err) ∷ []
 
+abbrev pub outcome_json : Option Ty → Option Ty → Json
+outcome_json ok err = fields (outcome_members ok err)
+
 -- two types side by side
 abbrev pub pair_json : Ty → Ty → Json
 pair_json a b = list (type_json a ∷ type_json b ∷ [])
@@ -76,17 +80,21 @@ pair_json a b = list (type_json a ∷ type_json b ∷ [])
 abbrev pub counted_json : Ty → ℕ → Json
 counted_json t n = list (type_json t ∷ number_json n ∷ [])
 
+-- parts in a list, under its name and that of the kind
+abbrev pub parts_json : Word → Word → List Json → Json
+parts_json tag name parts = tagged tag (tagged name (list parts))
+
 -- what a type is
 abbrev pub kind_json : TypeDefKind → Json
-kind_json (kind.Record r) = tagged w.Record (tagged w.Fields (list (map field_json r.fields)))
+kind_json (kind.Record r) = parts_json w.Record w.Fields (map field_json r.fields)
 kind_json kind.Resource = string (codes "resource")
 kind_json (kind.Handle h) = tagged w.Handle (handle_json h)
-kind_json (kind.Flags f) = tagged w.Flags (tagged w.Flags (list (map flag_json f.flags)))
-kind_json (kind.Tuple t) = tagged w.Tuple (tagged w.Types (list (map type_json t.types)))
-kind_json (kind.Variant v) = tagged w.Variant (tagged w.Cases (list (map case_json v.cases)))
-kind_json (kind.Enum e) = tagged w.Enum_ (tagged w.Cases (list (map enum_case_json e.cases)))
+kind_json (kind.Flags f) = parts_json w.Flags w.Flags (map flag_json f.flags)
+kind_json (kind.Tuple t) = parts_json w.Tuple w.Types (map type_json t.types)
+kind_json (kind.Variant v) = parts_json w.Variant w.Cases (map case_json v.cases)
+kind_json (kind.Enum e) = parts_json w.Enum_ w.Cases (map enum_case_json e.cases)
 kind_json (kind.Option t) = tagged w.Option_ (type_json t)
-kind_json (kind.Result r) = tagged w.Result_ (fields (outcome_members r.ok r.err))
+kind_json (kind.Result r) = tagged w.Result_ (outcome_json r.ok r.err)
 kind_json (kind.List t) = tagged w.List_ (type_json t)
 kind_json (kind.Map k v) = tagged w.Map_ (pair_json k v)
 kind_json (kind.FixedLengthList t n) = tagged w.FixedLengthList (counted_json t n)

@@ -3,8 +3,11 @@ pub mod Group
 pub mod Interfaces
 pub mod Keys
 pub mod Kinds
+pub mod Laws
 pub mod Metadata
+pub mod Numbers
 pub mod Package
+pub mod Plain
 pub mod Refusal
 pub mod Tokens
 pub mod Types

@@ -6,6 +6,7 @@ use Rattle.wit_values.specs.declared.span.Span.{Span}
 use Rattle.wit_values.specs.ReleaseText.{release_text}
 use Rattle.wit_types.specs.declared.stability.Stability.{Stability}
 use Rattle.wit_types.specs.declared.stability.Stability.TheVariants.{Unknown, Unstable, Stable}
+use Rattle.wit_json.specs.declared.words.Word.{Word}
 use Rattle.wit_json.specs.declared.words.Word.TheVariants as w
 use Rattle.wit_json.specs.Values.{at, fields, list, number_json, tagged}
 
@@ -21,27 +22,41 @@ abbrev pub external_members : Option (List ℕ) → List (List ℕ × Json)
 external_members None = []
 external_members (Some text) = at w.ExternalId (string text) ∷ []
 
+-- a version under a key
+abbrev pub version_members : Word → Release → List (List ℕ × Json)
+version_members key r = at key (string (release_text r)) ∷ []
+
 abbrev pub deprecated_members : Option Release → List (List ℕ × Json)
 deprecated_members None = []
-deprecated_members (Some r) = at w.Deprecated (string (release_text r)) ∷ []
+deprecated_members (Some r) = version_members w.Deprecated r
 
 -- the members of an unstable item, and of a stable one
 abbrev pub unstable_members : List ℕ → Option Release → List (List ℕ × Json)
 unstable_members feature deprecated = at w.Feature (string feature) ∷ deprecated_members deprecated
 
 abbrev pub stable_members : Release → Option Release → List (List ℕ × Json)
-stable_members since deprecated = at w.Since (string (release_text since)) ∷ deprecated_members deprecated
+stable_members since deprecated = version_members w.Since since ++ deprecated_members deprecated
+
+abbrev pub unstable_json : List ℕ → Option Release → Json
+unstable_json feature deprecated = fields (unstable_members feature deprecated)
+
+abbrev pub stable_json : Release → Option Release → Json
+stable_json since deprecated = fields (stable_members since deprecated)
 
 abbrev pub stability_json : Stability → Json
 stability_json Unknown = string (codes "unknown")
-stability_json (Unstable feature deprecated) = tagged w.Unstable (fields (unstable_members feature deprecated))
-stability_json (Stable since deprecated) = tagged w.Stable (fields (stable_members since deprecated))
+stability_json (Unstable feature deprecated) = tagged w.Unstable (unstable_json feature deprecated)
+stability_json (Stable since deprecated) = tagged w.Stable (stable_json since deprecated)
+
+-- one that an attribute gives
+abbrev pub known_members : Stability → List (List ℕ × Json)
+known_members s = at w.Stability (stability_json s) ∷ []
 
 -- none if no attribute gives it
 abbrev pub stability_members : Stability → List (List ℕ × Json)
 stability_members Unknown = []
-stability_members (Unstable feature deprecated) = at w.Stability (stability_json (Unstable feature deprecated)) ∷ []
-stability_members (Stable since deprecated) = at w.Stability (stability_json (Stable since deprecated)) ∷ []
+stability_members (Unstable feature deprecated) = known_members (Unstable feature deprecated)
+stability_members (Stable since deprecated) = known_members (Stable since deprecated)
 
 -- docs, stability and external id, each if there is one
 abbrev pub metadata_members : Option (List ℕ) → Stability → Option (List ℕ) → List (List ℕ × Json)

@@ -23,9 +23,15 @@ ast_item_json (item.World v) = tagged w.World (number_json v)
 abbrev pub foreign_json : AstItem × List Stability → Json
 foreign_json e = list (ast_item_json e.0 ∷ list (map stability_json e.1) ∷ [])
 
+abbrev pub dep_member : PackageName → List (List ℕ × (AstItem × List Stability)) → List ℕ × Json
+dep_member name items = (name_text name, table_json foreign_json items)
+
 -- the other packages with their items, both in order
+abbrev pub dep_members : List (PackageName × List (List ℕ × (AstItem × List Stability))) → List (List ℕ × Json)
+dep_members deps = map (λ d. dep_member d.0 d.1) deps
+
 abbrev pub deps_json : List (PackageName × List (List ℕ × (AstItem × List Stability))) → Json
-deps_json deps = fields (map (λ d. (name_text d.0, table_json foreign_json d.1)) deps)
+deps_json deps = fields (dep_members deps)
 
 -- a type that a handle wants to be a resource, and where it is written
 abbrev pub required_json : ℕ × Span → Json

@@ -27,5 +27,12 @@ place_members (Some r) = range_members r
 abbrev pub refusal_members : ℕ → Option Range → List ℕ → List (List ℕ × Json)
 refusal_members rule place message = at w.Rule (number_json rule) ∷ (place_members place ++ at w.Message (string message) ∷ [])
 
+-- the same of a refusal whose path is behind a reference
+abbrev pub members_at : ℕ → Option Place → List ℕ → List (List ℕ × Json)
+members_at rule place message = refusal_members rule (optional_range place) message
+
 abbrev pub refusal_json : ℕ → Option Range → List ℕ → Json
 refusal_json rule place message = tagged w.Error (fields (refusal_members rule place message))
+
+abbrev pub refusal_at : ℕ → Option Place → List ℕ → Json
+refusal_at rule place message = refusal_json rule (optional_range place) message

@@ -1,10 +1,10 @@
 -- Worlds.
-use Rattle.std.specs.Prelude.{ℕ, List, [], ◌∷◌, ◌++◌, None, codes, map}
+use Rattle.std.specs.Prelude.{ℕ, List, [], ◌∷◌, ◌++◌, Option, None, codes, map}
 use Rattle.std.specs.Fmt.{decimal}
 use Rattle.json.specs.Json.{Json, string}
 use Rattle.wit_values.specs.declared.span.Span.{Span}
+use Rattle.wit_types.specs.declared.docs.Docs.{Docs}
 use Rattle.wit_types.specs.declared.stability.Stability.{Stability}
-use Rattle.std.specs.Prelude.{Option}
 use Rattle.wit_model.specs.declared.world.World.{World}
 use Rattle.wit_model.specs.declared.world.WorldInclude.{WorldInclude}
 use Rattle.wit_model.specs.declared.world.IncludeName.{IncludeName}
@@ -21,13 +21,16 @@ use Rattle.wit_json.specs.Functions.{function_json}
 abbrev pub import_members : ℕ → Stability → Option (List ℕ) → Option (List ℕ) → Span → List (List ℕ × Json)
 import_members id stability external docs span = at w.Id (number_json id) ∷ (stability_members stability ++ (external_members external ++ (docs_members docs ++ at w.Span (span_json span) ∷ [])))
 
+abbrev pub import_json : ℕ → Stability → Option (List ℕ) → Docs → Span → Json
+import_json id stability external docs span = fields (import_members id stability external docs.contents span)
+
 -- a type that a world uses or defines: its id, and the span of its name there
 abbrev pub type_members : ℕ → Span → List (List ℕ × Json)
 type_members id span = at w.Type_ (number_json id) ∷ at w.Span (span_json span) ∷ []
 
 -- an import or export
 abbrev pub item_json : WorldItem → Json
-item_json (item.Interface id stability external_id docs span) = tagged w.Interface (fields (import_members id stability external_id docs.contents span))
+item_json (item.Interface id stability external_id docs span) = tagged w.Interface (import_json id stability external_id docs span)
 item_json (item.Function f) = tagged w.Function (function_json f)
 item_json (item.Type_ id span) = fields (type_members id span)
 
@@ -40,9 +43,15 @@ abbrev pub world_key : WorldKey → List ℕ
 world_key (key.Name name) = name
 world_key (key.Interface place) = interface_key place
 
+abbrev pub extern_member : WorldKey → WorldItem → List ℕ × Json
+extern_member key item = (world_key key, item_json item)
+
 -- imports or exports by their keys, in order
+abbrev pub extern_members : List (WorldKey × WorldItem) → List (List ℕ × Json)
+extern_members entries = map (λ e. extern_member e.0 e.1) entries
+
 abbrev pub externs_json : List (WorldKey × WorldItem) → Json
-externs_json entries = fields (map (λ e. (world_key e.0, item_json e.1)) entries)
+externs_json entries = fields (extern_members entries)
 
 abbrev pub rename_members : IncludeName → List (List ℕ × Json)
 rename_members r = at w.Name (string r.name) ∷ at w.As (string r.as_) ∷ []

@@ -1,10 +1,9 @@
 //! A package, and those that are nested in it.
-ghost use Rattle.std.specs.Prelude.{◌≡◌, ◌∷◌, [], IfOk, IsUtf8, OnOk, Some, map};
-ghost use Rattle.json.specs.Json.{document};
-ghost use Rattle.wit_json.specs.Tokens.{Adds, AddsEach, AddsMembers, json_text};
+ghost use Rattle.std.specs.Prelude.{◌≡◌, IfOk, IsUtf8, OnOk};
+ghost use Rattle.wit_json.specs.Numbers.{HasShortNumbers};
+ghost use Rattle.wit_json.specs.Tokens.{Adds, AddsEach, AddsMembers, ReadsAs, json_text};
 ghost use Rattle.wit_json.specs.Values.{list};
-ghost use Rattle.wit_json.specs.Group.{group_json, group_members, source_json, source_members};
-ghost use Rattle.wit_json.specs.Package.{package_json};
+ghost use Rattle.wit_json.specs.Group.{group_json, group_members, packages_of, source_json, source_members};
 
 use crate::lists::{AsJson, push_each, write_list};
 use crate::members::{push_key, push_number, push_text};
@@ -42,7 +41,7 @@ fn push_packages(
     main: &UnresolvedPackage,
     nested: &[UnresolvedPackage],
 ) -> Result<(), AllocError>
-    ensures { OnOk result (AddsEach out.old out.new (package_json main.now ∷ map package_json nested.now)) }
+    ensures { OnOk result (AddsEach out.old out.new (packages_of main.now nested.now)) }
 {
     main.write(out)?;
     push_each(out, nested)
@@ -53,7 +52,7 @@ fn write_packages(
     main: &UnresolvedPackage,
     nested: &[UnresolvedPackage],
 ) -> Result<(), AllocError>
-    ensures { OnOk result (Adds out.old out.new (list (package_json main.now ∷ map package_json nested.now))) }
+    ensures { OnOk result (Adds out.old out.new (list (packages_of main.now nested.now))) }
 {
     out.begin_array()?;
     push_packages(out, main, nested)?;
@@ -89,7 +88,8 @@ fn write_group(
 }
 
 /// The JSON of a package and of those nested in it, with the sources that their spans refer to: one line
-/// without spaces, in UTF-8, which any reader of JSON reads back as that value.
+/// without spaces, in UTF-8, which any reader of JSON reads back as that value. No number has more than 20
+/// digits.
 ///
 /// # Errors
 ///
@@ -100,9 +100,10 @@ pub fn group_json(
     main: &UnresolvedPackage,
     nested: &[UnresolvedPackage],
 ) -> Result<Vec<u8>, AllocError>
-    ensures text { IfOk result (λ text. text.items ≡ json_text (group_json sources.now main.now nested.now)) }
-    ensures utf8 { IfOk result (λ text. IsUtf8 text.items) }
-    ensures reads_back { IfOk result (λ text. document text.items ≡ Some (group_json sources.now main.now nested.now)) }
+    ensures text { IfOk result (λ t. t.items ≡ json_text (group_json sources.now main.now nested.now)) }
+    ensures utf8 { IfOk result (λ t. IsUtf8 t.items) }
+    ensures reads_back { IfOk result (λ t. ReadsAs t.items (group_json sources.now main.now nested.now)) }
+    ensures numbers { IfOk result (λ _. HasShortNumbers (group_json sources.now main.now nested.now)) }
 {
     let mut out = Output::new(alloc);
     write_group(&mut out, sources, main, nested)?;

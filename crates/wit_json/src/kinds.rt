@@ -2,8 +2,9 @@
 ghost use Rattle.std.specs.Prelude.{◌≡◌, ◌∷◌, [], OnOk, codes, map};
 ghost use Rattle.wit_types.specs.declared.types.TypeDefKind.TheVariants as kind;
 ghost use Rattle.wit_json.specs.Tokens.{Adds, AddsMembers};
-ghost use Rattle.wit_json.specs.Values.{at, fields, list, number_json, tagged};
-ghost use Rattle.wit_json.specs.Kinds.{case_json, case_members, counted_json, enum_case_json, enum_case_members, field_json, field_members, flag_json, flag_members, handle_json, kind_json, optional_type, outcome_members, pair_json, type_json};
+ghost use Rattle.wit_json.specs.declared.words.Word.TheVariants as w;
+ghost use Rattle.wit_json.specs.Values.{at, list, number_json, tagged};
+ghost use Rattle.wit_json.specs.Kinds.{case_json, case_members, counted_json, enum_case_json, enum_case_members, field_json, field_members, flag_json, flag_members, handle_json, kind_json, optional_type, outcome_json, outcome_members, pair_json, parts_json, type_json};
 
 use crate::lists::{AsJson, write_list};
 use crate::members::{open, push_key, push_text, write_number};
@@ -181,7 +182,7 @@ fn write_parts<T: AsJson>(
     name: Word,
     items: &[T],
 ) -> Result<(), AllocError>
-    ensures { OnOk result (Adds out.old out.new (tagged tag (tagged name (list (map T.json items.now))))) }
+    ensures { OnOk result (Adds out.old out.new (parts_json tag name (map T.json items.now))) }
 {
     open(out, tag)?;
     write_named_list(out, name, items)?;
@@ -213,7 +214,7 @@ fn push_outcome(out: &mut Output, ok: Option<Type>, err: Option<Type>) -> Result
 
 #[tactic(auto, using(crate::proofs::Closing::fields_closed))]
 fn write_outcome(out: &mut Output, ok: Option<Type>, err: Option<Type>) -> Result<(), AllocError>
-    ensures { OnOk result (Adds out.old out.new (fields (outcome_members ok err))) }
+    ensures { OnOk result (Adds out.old out.new (outcome_json ok err)) }
 {
     out.begin_object()?;
     push_outcome(out, ok, err)?;
@@ -221,7 +222,7 @@ fn write_outcome(out: &mut Output, ok: Option<Type>, err: Option<Type>) -> Resul
 }
 
 fn write_result(out: &mut Output, ok: Option<Type>, err: Option<Type>) -> Result<(), AllocError>
-    ensures { OnOk result (Adds out.old out.new (kind_json (kind.Result (record { ok = ok; err = err })))) }
+    ensures { OnOk result (Adds out.old out.new (tagged w.Result_ (outcome_json ok err))) }
 {
     open(out, Word::Result_)?;
     write_outcome(out, ok, err)?;

@@ -1,14 +1,16 @@
 //! What holds of the JSON of all groups.
-ghost use Rattle.std.specs.Prelude.{◌≡◌, ℕ, Some, slice_get};
-ghost use Rattle.json.specs.Strict.{HasUniqueKeys};
-ghost use Rattle.wit_lex.specs.declared.source.Source.{Source as TheSource};
-ghost use Rattle.wit_json.specs.Group.{group_json};
-ghost use Rattle.wit_json.specs.Keys.{HasOwnEntries};
-ghost use Rattle.wit_model.specs.declared.unresolved.UnresolvedPackage.{UnresolvedPackage as ThePackage};
-ghost use Rattle.std.specs.Prelude.{List};
+//!
+//! A group is plain if each version is one by SemVer 2.0.0, no name of an import or export and no namespace
+//! has a colon, no name of a package has an `@`, and ids are of 64 bits: so is each that is read from text.
+ghost use Rattle.wit_json.specs.Laws.{JsonTells, KeysAreUnique};
 
-/// No object in the JSON of a group has a key twice, at any depth: if no map of its packages has, names
-/// of imports and exports have no colon, ids are of 64 bits, and no two other packages are written alike.
+/// No object in the JSON of a plain group has a key twice, at any depth, if no map of its packages has.
 pub fn keys_are_unique()
-    ensures { (sources : List TheSource) (main : ThePackage) (nested : List ThePackage) → HasOwnEntries main → ((place : ℕ) (p : ThePackage) → slice_get nested place ≡ Some p → HasOwnEntries p) → HasUniqueKeys (group_json sources main nested) }
+    ensures { KeysAreUnique }
+{}
+
+/// Two plain groups with one JSON are equal, but for the texts of their sources: of a source the JSON tells
+/// the path and the range. Its numbers have at most 20 digits, as all have that `group_json` writes.
+pub fn json_tells()
+    ensures { JsonTells }
 {}

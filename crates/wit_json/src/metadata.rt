@@ -4,8 +4,8 @@ ghost use Rattle.json.specs.Json.{string};
 ghost use Rattle.wit_values.specs.ReleaseText.{release_text};
 ghost use Rattle.wit_json.specs.declared.words.Word.TheVariants as w;
 ghost use Rattle.wit_json.specs.Tokens.{Adds, AddsMembers};
-ghost use Rattle.wit_json.specs.Values.{at, fields, tagged};
-ghost use Rattle.wit_json.specs.Metadata.{deprecated_members, docs_members, external_members, metadata_members, span_json, stability_json, stability_members, stable_members, unstable_members};
+ghost use Rattle.wit_json.specs.Values.{at, tagged};
+ghost use Rattle.wit_json.specs.Metadata.{deprecated_members, docs_members, external_members, known_members, metadata_members, span_json, stability_json, stability_members, stable_json, unstable_json, version_members};
 
 use crate::lists::AsJson;
 use crate::members::{open, push_key, push_text};
@@ -74,7 +74,7 @@ fn release_string(alloc: Global, release: &Release) -> Result<String, AllocError
 
 /// A version under a key.
 fn push_release(out: &mut Output, name: Word, release: &Release) -> Result<(), AllocError>
-    ensures { OnOk result (AddsMembers out.old out.new (at name (string (release_text release.now)) ∷ [])) }
+    ensures { OnOk result (AddsMembers out.old out.new (version_members name release.now)) }
 {
     let text = release_string(out.alloc(), release)?;
     push_text(out, name, text.as_str())
@@ -96,7 +96,7 @@ fn write_unstable(
     feature: &Text,
     deprecated: &Rare<Release>,
 ) -> Result<(), AllocError>
-    ensures { OnOk result (Adds out.old out.new (fields (unstable_members feature.now deprecated.now))) }
+    ensures { OnOk result (Adds out.old out.new (unstable_json feature.now deprecated.now)) }
 {
     out.begin_object()?;
     push_text(out, Word::Feature, feature.as_str())?;
@@ -110,7 +110,7 @@ fn write_stable(
     since: &Release,
     deprecated: &Rare<Release>,
 ) -> Result<(), AllocError>
-    ensures { OnOk result (Adds out.old out.new (fields (stable_members since.now deprecated.now))) }
+    ensures { OnOk result (Adds out.old out.new (stable_json since.now deprecated.now)) }
 {
     out.begin_object()?;
     push_release(out, Word::Since, since)?;
@@ -143,7 +143,7 @@ impl AsJson for Stability {
 
 /// A stability under its key.
 fn push_known(out: &mut Output, stability: &Stability) -> Result<(), AllocError>
-    ensures { OnOk result (AddsMembers out.old out.new (at w.Stability (stability_json stability.now) ∷ [])) }
+    ensures { OnOk result (AddsMembers out.old out.new (known_members stability.now)) }
 {
     push_key(out, Word::Stability)?;
     stability.write(out)

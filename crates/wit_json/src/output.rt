@@ -3,12 +3,13 @@ ghost use Rattle.std.specs.Prelude.{IsUtf8, ◌≡◌, ◌++◌, ◌∷◌, [], 
 ghost use Rattle.json.specs.Token.{begin_array, begin_object, end_array, end_object, key, null, number, string};
 ghost use Rattle.json.specs.Print.{print};
 ghost use Rattle.json.specs.Lex.{tokens};
+ghost use Rattle.wit_json.specs.Numbers.{HaveShortNumbers};
 
 use json::Writer;
 use std::alloc::{AllocError, Global};
 use std::marker::Model;
 
-/// The JSON written so far, which contracts see as its tokens.
+/// The JSON written so far, which contracts see as its tokens. Its numbers are of 64 bits.
 pub struct Output {
     writer: Writer,
     alloc: Global,
@@ -27,14 +28,18 @@ impl Drop for Output {
 impl Model for Output {
     ghost use Rattle.std.specs.Prelude.{IsUtf8, List};
     ghost use Rattle.json.specs.Token.{Token, tokens_code};
+    ghost use Rattle.wit_json.specs.Numbers.{HaveShortNumbers};
 
     ghost Value = { List Token };
 
     ghost coded = { tokens_code };
 
     ghost view = { λ o. o.writer.tokens };
+
+    ghost invariant = { λ o. HaveShortNumbers o.writer.tokens };
 }
 
+#[tactic(auto, using(crate::proofs::Short::short_written))]
 impl Output {
     /// No tokens.
     pub fn new(alloc: Global) -> Output
@@ -56,6 +61,7 @@ impl Output {
         ensures text { result.items ≡ print self }
         ensures read { tokens result.items ≡ self }
         ensures utf8 { IsUtf8 result.items }
+        ensures short { HaveShortNumbers self }
     {
         let Output { writer, alloc: _ } = self;
         writer.into_inner()

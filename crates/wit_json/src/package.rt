@@ -1,9 +1,7 @@
 //! A package.
-ghost use Rattle.std.specs.Prelude.{◌≡◌, ◌∷◌, [], OnOk, map};
-ghost use Rattle.wit_package_names.specs.PackageName.{name_text};
+ghost use Rattle.std.specs.Prelude.{◌≡◌, ◌∷◌, [], OnOk};
 ghost use Rattle.wit_json.specs.Tokens.{Adds, AddsMembers};
-ghost use Rattle.wit_json.specs.Interfaces.{table_json};
-ghost use Rattle.wit_json.specs.Package.{ast_item_json, deps_json, foreign_json, name_members, package_back, package_front, package_json, package_members, package_middle, required_json};
+ghost use Rattle.wit_json.specs.Package.{ast_item_json, dep_member, dep_members, deps_json, foreign_json, name_members, package_back, package_front, package_json, package_members, package_middle, required_json};
 
 use crate::kinds::write_tagged;
 use crate::lists::{AsJson, write_arena, write_list, write_table};
@@ -53,7 +51,7 @@ fn push_dep(
     name: &PackageName,
     items: &TextTable<(AstItem, Row<Stability>)>,
 ) -> Result<(), AllocError>
-    ensures { OnOk result (AddsMembers out.old out.new ((name_text name.now, table_json foreign_json items.now) ∷ [])) }
+    ensures { OnOk result (AddsMembers out.old out.new (dep_member name.now items.now ∷ [])) }
 {
     let text = name.to_text(out.alloc())?;
     out.key(text.as_str())?;
@@ -64,7 +62,7 @@ fn push_deps(
     out: &mut Output,
     deps: &Table<PackageName, TextTable<(AstItem, Row<Stability>)>>,
 ) -> Result<(), AllocError>
-    ensures { OnOk result (AddsMembers out.old out.new (map (λ d. (name_text d.0, table_json foreign_json d.1)) deps.now)) }
+    ensures { OnOk result (AddsMembers out.old out.new (dep_members deps.now)) }
 {
     for place in 0..deps.len() {
         let Some((name, items)) = deps.get_index(place) else {

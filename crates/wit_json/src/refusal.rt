@@ -1,9 +1,8 @@
 //! A refusal.
-ghost use Rattle.std.specs.Prelude.{◌≡◌, IfOk, IsUtf8, OnOk, Some};
-ghost use Rattle.json.specs.Json.{document};
-ghost use Rattle.wit_json.specs.Tokens.{Adds, AddsMembers, json_text};
+ghost use Rattle.std.specs.Prelude.{◌≡◌, IfOk, IsUtf8, OnOk};
+ghost use Rattle.wit_json.specs.Tokens.{Adds, AddsMembers, ReadsAs, json_text};
 ghost use Rattle.wit_json.specs.Values.{fields};
-ghost use Rattle.wit_json.specs.Refusal.{optional_range, place_members, range_members, range_of, refusal_json, refusal_members};
+ghost use Rattle.wit_json.specs.Refusal.{members_at, optional_range, place_members, range_members, range_of, refusal_at};
 
 use crate::members::{open, push_number, push_text};
 use crate::output::Output;
@@ -44,7 +43,7 @@ fn push_refusal(
     place: Option<Place<'_>>,
     message: &str,
 ) -> Result<(), AllocError>
-    ensures { OnOk result (AddsMembers out.old out.new (refusal_members rule (optional_range place.entry) message.now)) }
+    ensures { OnOk result (AddsMembers out.old out.new (members_at rule place.entry message.now)) }
 {
     push_number(out, Word::Rule, rule as usize)?;
     push_place(out, place)?;
@@ -58,7 +57,7 @@ fn write_fields(
     place: Option<Place<'_>>,
     message: &str,
 ) -> Result<(), AllocError>
-    ensures { OnOk result (Adds out.old out.new (fields (refusal_members rule (optional_range place.entry) message.now))) }
+    ensures { OnOk result (Adds out.old out.new (fields (members_at rule place.entry message.now))) }
 {
     out.begin_object()?;
     push_refusal(out, rule, place, message)?;
@@ -71,7 +70,7 @@ fn write_refusal(
     place: Option<Place<'_>>,
     message: &str,
 ) -> Result<(), AllocError>
-    ensures { OnOk result (Adds out.old out.new (refusal_json rule (optional_range place.entry) message.now)) }
+    ensures { OnOk result (Adds out.old out.new (refusal_at rule place.entry message.now)) }
 {
     open(out, Word::Error)?;
     write_fields(out, rule, place, message)?;
@@ -90,9 +89,9 @@ pub fn refusal_json(
     place: Option<Place<'_>>,
     message: &str,
 ) -> Result<Vec<u8>, AllocError>
-    ensures text { IfOk result (λ text. text.items ≡ json_text (refusal_json rule (optional_range place.entry) message.now)) }
-    ensures utf8 { IfOk result (λ text. IsUtf8 text.items) }
-    ensures reads_back { IfOk result (λ text. document text.items ≡ Some (refusal_json rule (optional_range place.entry) message.now)) }
+    ensures text { IfOk result (λ t. t.items ≡ json_text (refusal_at rule place.entry message.now)) }
+    ensures utf8 { IfOk result (λ t. IsUtf8 t.items) }
+    ensures reads_back { IfOk result (λ t. ReadsAs t.items (refusal_at rule place.entry message.now)) }
 {
     let mut out = Output::new(alloc);
     write_refusal(&mut out, rule, place, message)?;

@@ -3,7 +3,7 @@ ghost use Rattle.std.specs.Prelude.{◌≡◌, ◌++◌, ◌∷◌, [], IfOk, On
 ghost use Rattle.json.specs.Token as token;
 ghost use Rattle.wit_json.specs.Tokens.{Adds, AddsMembers};
 ghost use Rattle.wit_json.specs.Values.{fields};
-ghost use Rattle.wit_json.specs.Worlds.{externs_json, import_members, include_json, include_members, interface_key, item_json, rename_json, rename_members, type_members, world_back, world_front, world_json, world_key, world_members};
+ghost use Rattle.wit_json.specs.Worlds.{extern_member, extern_members, externs_json, import_json, import_members, include_json, include_members, interface_key, item_json, rename_json, rename_members, type_members, world_back, world_front, world_json, world_key, world_members};
 
 use crate::lists::{AsJson, write_list};
 use crate::members::{open, push_key, push_number, push_text, write_optional_id};
@@ -41,7 +41,7 @@ fn write_import(
     docs: &Docs,
     span: Span,
 ) -> Result<(), AllocError>
-    ensures { OnOk result (Adds out.old out.new (fields (import_members id stability.now external_id.now docs.now.contents span))) }
+    ensures { OnOk result (Adds out.old out.new (import_json id stability.now external_id.now docs.now span)) }
 {
     out.begin_object()?;
     push_import(out, id, stability, external_id, docs, span)?;
@@ -116,14 +116,14 @@ fn push_world_key(out: &mut Output, key: &WorldKey) -> Result<(), AllocError>
 }
 
 fn push_extern(out: &mut Output, key: &WorldKey, item: &WorldItem) -> Result<(), AllocError>
-    ensures { OnOk result (AddsMembers out.old out.new ((world_key key.now, item_json item.now) ∷ [])) }
+    ensures { OnOk result (AddsMembers out.old out.new (extern_member key.now item.now ∷ [])) }
 {
     push_world_key(out, key)?;
     item.write(out)
 }
 
 fn push_externs(out: &mut Output, externs: &Table<WorldKey, WorldItem>) -> Result<(), AllocError>
-    ensures { OnOk result (AddsMembers out.old out.new (map (λ e. (world_key e.0, item_json e.1)) externs.now)) }
+    ensures { OnOk result (AddsMembers out.old out.new (extern_members externs.now)) }
 {
     for place in 0..externs.len() {
         let Some((key, item)) = externs.get_index(place) else {
