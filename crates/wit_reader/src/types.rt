@@ -99,7 +99,6 @@ impl<'a> Reader<'a> {
 
     /// Reads a type of at most `left` levels.
     #[cycle(types)]
-    #[tactic(auto, unfolding(wit_grammar::specs::Rules::types))]
     pub fn read_type(&mut self, left: u8) -> ReadResult<Type<'a>>
         ensures read { IfOk result (λ t. IsRead self.old (type_marks t) self.new) }
         ensures refused { IfErr result (λ e. IsRefused self.old e) }
