@@ -66,7 +66,7 @@ pub number_parsed : {E : Type 0} (r : Reader) (answer : Result ℕ E) → r.toke
     OkIff answer (digits_value 10 r.token.text.now < 2 ^ 32) (digits_value 10 r.token.text.now)
 number_parsed r answer kind h =
     let text : (all_ascii_digits r.token.text.now ≡ true) × (0 < length r.token.text.now) =
-    ∥∥₁_elim r.found (search props) (λ f. number_text r.source.now r.token.text.now r.token.start r.token.end r.within.text r.within.within (rw kind at f)) in
+    ∥∥₁_elim r.found (hlevel props) (λ f. number_text r.source.now r.token.text.now r.token.start r.token.end r.within.text r.within.within (rw kind at f)) in
     decided r.token.text.now answer text.0 text.1 h
 
 number_goes : (s next : Spot) (t : Lexeme) → lexed s ≡ Ok t → t.kind ≡ Number → digits_value 10 (text_of s t) < 4294967296 → past s t ≡ Ok next → number_at s ≡ Ok (digits_value 10 (text_of s t), next)

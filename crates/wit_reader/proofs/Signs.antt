@@ -57,4 +57,4 @@ pub mark_read : {a b : Reader} (k : Kind) (span : Span) → IsRead a [] b → a.
     IsMarkRead a k span b
 mark_read {a} {b} k span p past first last same =
     λ sign is. spelled_read span (sign ∷ []) p past first last (
-    ∥∥₁_elim a.found (search props) (λ f. sign_text a.source.now a.token.text.now a.token.start a.token.end sign k a.within.text a.within.within (rw same at f) is))
+    ∥∥₁_elim a.found (hlevel props) (λ f. sign_text a.source.now a.token.text.now a.token.start a.token.end sign k a.within.text a.within.within (rw same at f) is))
