@@ -33,7 +33,7 @@ abbrev value_or : Span → Read Span → Span
 value_or span (Ok x) = x.0
 value_or span (Err e) = span
 
-the_span : (s end : Spot) (t : Lexeme) (b : Bool) (p : Result Spot ReadError) (it : Span) → (if b then (p >>= λ next. Ok (span_of s t, next)) else stop fault.Token t) ≡ Ok (it, end) → it ≡ span_of s t
+the_span : (s end : Spot) (t : Lexeme) (b : Bool) (p : Result Spot ReadError) (it : Span) → (if b then ◌>>=◌ {B = Span × Spot} p (λ next. Ok (span_of s t, next)) else stop fault.Token t) ≡ Ok (it, end) → it ≡ span_of s t
 the_span s end t true (Ok next) it h = ap (value_or (span_of s t)) (sym h)
 the_span s end t true (Err e) it h = ap (value_or (span_of s t)) (sym h)
 the_span s end t false p it h = ap (value_or (span_of s t)) (sym h)

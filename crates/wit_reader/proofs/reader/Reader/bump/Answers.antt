@@ -26,11 +26,12 @@ returns-in_err-advance-clause-stops c =
 
 pub invariant_of-self : goal.invariant_of-self
 invariant_of-self c =
-    let token = c.in_ok-advance.ensures in
+    let self = c.args.self.now in
+    let kept = c.in_err-advance.ensures.kept in
     record {
-      front = token.onward;
-      fits = c.args.self.now.fits;
-      within = token.token;
-      found = ∣ token.found ∣₁;
-      next = token.lexed;
+      front = rw kept self.front;
+      fits = self.fits;
+      within = rw kept self.within;
+      found = rw kept self.found;
+      next = rw kept self.next;
     }
