@@ -9,7 +9,7 @@ ghost use Rattle.wit_lex.specs.Words.{word_text};
 ghost use Rattle.wit_grammar.specs.Kinds.{same_kind};
 ghost use Rattle.wit_grammar.specs.Seen.{see_name};
 ghost use Rattle.wit_grammar.specs.Leaves.{past, mark_at, spanned_at, text_at, name_at};
-ghost use Rattle.wit_grammar.specs.Grammar.{run};
+ghost use Rattle.wit_grammar.specs.Grammar.{matches, of_text, run};
 ghost use Rattle.wit_grammar.specs.Rules.{label};
 
 use std::alloc::Global;
@@ -36,7 +36,7 @@ pub struct Reader<'a> {
     pub ghost front: { before ≤ token.start },
     pub ghost fits: { offset + length source.now < 2 ^ 32 },
     pub ghost within: { IsToken source.now token },
-    pub ghost found: { IsFound source.now token.start token.end token.text.now token.kind },
+    pub ghost found: { ∥ IsFound source.now token.start token.end token.text.now token.kind ∥₁ },
     pub ghost next: { first_token source.now before ≡ Ok (lexeme token) },
 }
 
@@ -62,7 +62,7 @@ impl<'a> Reader<'a> {
 
     /// Whether the token is of this kind.
     pub fn at(&self, kind: Kind) -> bool
-        ensures { IsTrue result ↔ (self.now.token.kind ≡ kind) }
+        ensures kind { IsTrue result ↔ (self.now.token.kind ≡ kind) }
         ensures same { result ≡ same_kind self.now.token.kind kind }
     {
         self.token.kind == kind
@@ -78,6 +78,14 @@ impl<'a> Reader<'a> {
             Kind::Word(found) => found == word,
             _ => false,
         }
+    }
+
+    /// Whether the token is a name of this text.
+    pub fn at_text(&self, text: &str) -> bool
+        ensures text { IsTrue result → self.now.token.text.now ≡ text.now }
+        ensures same { result ≡ matches (of_text text.now) (spot self.now) (lexeme self.now.token) }
+    {
+        self.at(Kind::Name) && self.token.text == text
     }
 
     /// Goes past the token.
@@ -168,7 +176,7 @@ impl<'a> Reader<'a> {
         ensures parses { IfOk result (λ it. Parses self.old (text_at text.now (spot self.old)) it self.new) }
         ensures stops { IfErr result (Stops (text_at text.now (spot self.old))) }
     {
-        if !self.at(Kind::Name) || self.token.text != text {
+        if !self.at_text(text) {
             return Err(self.refuse(ReadFault::Token));
         }
         let span = self.span();
