@@ -66,18 +66,18 @@ by_reader r n k some e = at_reader r n some ∙ ap (chosen (types (n - 1)) (spot
 
 -- what begins none of the others is a primitive type, or refused as none
 rest : (t : Gram Ty) (s : Spot) (k : Kind) → (k ≡ kind.Word word.List → ⊥) → (k ≡ kind.Word word.Map → ⊥) → (k ≡ kind.Word word.Option → ⊥) → (k ≡ kind.Word word.Result → ⊥) → (k ≡ kind.Word word.Tuple → ⊥) → (k ≡ kind.Word word.Future → ⊥) → (k ≡ kind.Word word.Stream → ⊥) → (k ≡ kind.Word word.Own → ⊥) → (k ≡ kind.Word word.Borrow → ⊥) → (k ≡ kind.Name → ⊥) → chosen t s k ≡ run primitives s
-rest t s k list map option result tuple future stream own borrow name =
-    rw (other k _ list, other k _ map, other k _ option, other k _ result, other k _ tuple, other k _ future, other k _ stream, other k _ own, other k _ borrow, other k _ name) refl
+rest t s k no_list no_map no_option no_result no_tuple no_future no_stream no_own no_borrow no_name =
+    rw (other k _ no_list, other k _ no_map, other k _ no_option, other k _ no_result, other k _ no_tuple, other k _ no_future, other k _ no_stream, other k _ no_own, other k _ no_borrow, other k _ no_name) refl
 
 pub by_word : (r : Reader) (n : ℕ) (w : Word) → (n ≡ 0 → ⊥) → r.token.kind ≡ kind.Word w → (w ≡ word.List → ⊥) → (w ≡ word.Map → ⊥) → (w ≡ word.Option → ⊥) → (w ≡ word.Result → ⊥) → (w ≡ word.Tuple → ⊥) → (w ≡ word.Future → ⊥) → (w ≡ word.Stream → ⊥) → (w ≡ word.Own → ⊥) → (w ≡ word.Borrow → ⊥) →
     run (types n) (spot r) ≡ run primitives (spot r)
-by_word r n w some e list map option result tuple future stream own borrow =
+by_word r n w some e no_list no_map no_option no_result no_tuple no_future no_stream no_own no_borrow =
     at_reader r n some ∙ ap (chosen (types (n - 1)) (spot r)) e
-    ∙ rest (types (n - 1)) (spot r) (kind.Word w) (other_word list) (other_word map) (other_word option) (other_word result) (other_word tuple) (other_word future) (other_word stream) (other_word own) (other_word borrow) (λ (f : kind.Word w ≡ kind.Name). cc)
+    ∙ rest (types (n - 1)) (spot r) (kind.Word w) (other_word no_list) (other_word no_map) (other_word no_option) (other_word no_result) (other_word no_tuple) (other_word no_future) (other_word no_stream) (other_word no_own) (other_word no_borrow) (λ (f : kind.Word w ≡ kind.Name). cc)
 
 pub by_sign : (r : Reader) (n : ℕ) → (n ≡ 0 → ⊥) → ((w : Word) → r.token.kind ≡ kind.Word w → ⊥) → (r.token.kind ≡ kind.Name → ⊥) → run (types n) (spot r) ≡ run primitives (spot r)
-by_sign r n some word name =
-    at_reader r n some ∙ rest (types (n - 1)) (spot r) r.token.kind (word word.List) (word word.Map) (word word.Option) (word word.Result) (word word.Tuple) (word word.Future) (word word.Stream) (word word.Own) (word word.Borrow) name
+by_sign r n some no_word no_name =
+    at_reader r n some ∙ rest (types (n - 1)) (spot r) r.token.kind (no_word word.List) (no_word word.Map) (no_word word.Option) (no_word word.Result) (no_word word.Tuple) (no_word word.Future) (no_word word.Stream) (no_word word.Own) (no_word word.Borrow) no_name
 
 -- a name alone
 name_goes : (s e : Spot) (n : Name) → name_at s ≡ Ok (n, e) → run (act named name) s ≡ Ok (named n, e)

@@ -33,10 +33,10 @@ some_digits source start end digit run = elim (cases_lt start end) [
   | inl lt ↦ lt
   | inr ge ↦ (
       let order = run.order in
-      let same : start ≡ end = omega arith in
+      let empty : start ≡ end = omega arith in
       elim (cases_lt end (length source)) [
-        | inl lt ↦ absurd (true≢false (sym (rw same at digit) ∙ run.stop lt))
-        | inr past ↦ absurd (true≢false (sym digit ∙ ap is_ascii_digit (get_or_past source 0 (omega arith))))
+        | inl lt ↦ absurd (true≢false (sym (rw empty at digit) ∙ run.stop lt))
+        | inr none ↦ absurd (true≢false (sym digit ∙ ap is_ascii_digit (get_or_past source start 0 (omega arith))))
       ]
       )
 ]
