@@ -74,9 +74,13 @@ member_of f (n, true, x) = of_resource (named_func_of f n x)
 unfoldable pub resource_function : Gram ResourceFunction
 resource_function = both (λ f x. x f) front (either (act (λ x f. maker_of f x) constructed) (act (λ x f. member_of f x) member))
 
+-- '{' function .. '}'
+unfoldable pub braced_functions : Gram (List ResourceFunction)
+braced_functions = OpenBrace ▸ (until resource_function CloseBrace ◂ CloseBrace)
+
 -- ';' | '{' function .. '}'
 unfoldable pub resource_body : Gram (List ResourceFunction)
-resource_body = either (act (λ _. []) (mark Semicolon)) (OpenBrace ▸ (until resource_function CloseBrace ◂ CloseBrace))
+resource_body = either (act (λ _. []) (mark Semicolon)) braced_functions
 
 unfoldable pub resource_definition : Gram (Name × Body)
 resource_definition = Word word.Resource ▸ both (λ n xs. (n, of_funcs xs)) name resource_body

@@ -4,12 +4,15 @@ ghost use Rattle.std.specs.List.{flat_map};
 ghost use Rattle.wit_reader.specs.Fronts.{IsReadBehind};
 ghost use Rattle.wit_type_tree.specs.Marks.{front_marks, defined_marks, definition_marks};
 ghost use Rattle.wit_tree.specs.Marks.{item_marks};
-ghost use Rattle.wit_reader.specs.Reading.{IsRead, IsRefused};
+ghost use Rattle.wit_reader.specs.Reading.{IsRead, IsRefused, Reads, ReadsAs, Refuses};
+ghost use Rattle.std.specs.Prelude.{map};
+ghost use Rattle.wit_grammar.specs.ItemRules.{alias_definition, record_definition, flags_definition, variant_definition, enum_definition, definition, definition_of, interface_item, interface_items};
+ghost use Rattle.wit_grammar.specs.Seen.{see_name, see_body, see_definition, see_item, see_front};
 
 use crate::function::read_named_func;
 use crate::members::{read_cases, read_enum_cases, read_fields, read_flags};
 use crate::resource::read_resource;
-use wit_lex::fault::{ReadFault, ReadResult};
+use wit_lex::fault::ReadResult;
 use wit_lex::kind::Kind;
 use wit_lex::word::Word;
 use wit_reader::front::Front;
@@ -19,9 +22,12 @@ use wit_tree::tree::{Id, InterfaceItem, TypeBody, TypeDef};
 use wit_values::fitted;
 
 /// Reads `type name = type;`.
+#[tactic(auto, unfolding(wit_grammar::specs::ItemRules::alias_definition))]
 fn read_alias<'a>(reader: &mut Reader<'a>) -> ReadResult<(Id<'a>, TypeBody<'a>)>
     ensures read { IfOk result (λ d. IsRead reader.old (defined_marks d.0 d.1) reader.new) }
     ensures refused { IfErr result (λ e. IsRefused reader.old e) }
+    ensures reads { IfOk result (λ it. Reads alias_definition reader.old (see_name it.0, see_body it.1) reader.new) }
+    ensures stops { IfErr result (Refuses alias_definition reader.old) }
 {
     reader.expect_word(Word::Type)?;
     let name = reader.read_id()?;
@@ -31,9 +37,12 @@ fn read_alias<'a>(reader: &mut Reader<'a>) -> ReadResult<(Id<'a>, TypeBody<'a>)>
 }
 
 /// Reads `record name { name: type, .. }`.
+#[tactic(auto, unfolding(wit_grammar::specs::ItemRules::record_definition))]
 fn read_record<'a>(reader: &mut Reader<'a>) -> ReadResult<(Id<'a>, TypeBody<'a>)>
     ensures read { IfOk result (λ d. IsRead reader.old (defined_marks d.0 d.1) reader.new) }
     ensures refused { IfErr result (λ e. IsRefused reader.old e) }
+    ensures reads { IfOk result (λ it. Reads record_definition reader.old (see_name it.0, see_body it.1) reader.new) }
+    ensures stops { IfErr result (Refuses record_definition reader.old) }
 {
     reader.expect_word(Word::Record)?;
     let name = reader.read_id()?;
@@ -43,9 +52,12 @@ fn read_record<'a>(reader: &mut Reader<'a>) -> ReadResult<(Id<'a>, TypeBody<'a>)
 }
 
 /// Reads `flags name { name, .. }`.
+#[tactic(auto, unfolding(wit_grammar::specs::ItemRules::flags_definition))]
 fn read_flags_definition<'a>(reader: &mut Reader<'a>) -> ReadResult<(Id<'a>, TypeBody<'a>)>
     ensures read { IfOk result (λ d. IsRead reader.old (defined_marks d.0 d.1) reader.new) }
     ensures refused { IfErr result (λ e. IsRefused reader.old e) }
+    ensures reads { IfOk result (λ it. Reads flags_definition reader.old (see_name it.0, see_body it.1) reader.new) }
+    ensures stops { IfErr result (Refuses flags_definition reader.old) }
 {
     reader.expect_word(Word::Flags)?;
     let name = reader.read_id()?;
@@ -55,9 +67,12 @@ fn read_flags_definition<'a>(reader: &mut Reader<'a>) -> ReadResult<(Id<'a>, Typ
 }
 
 /// Reads `variant name { name(type), .. }`, where a case may have no type.
+#[tactic(auto, unfolding(wit_grammar::specs::ItemRules::variant_definition))]
 fn read_variant<'a>(reader: &mut Reader<'a>) -> ReadResult<(Id<'a>, TypeBody<'a>)>
     ensures read { IfOk result (λ d. IsRead reader.old (defined_marks d.0 d.1) reader.new) }
     ensures refused { IfErr result (λ e. IsRefused reader.old e) }
+    ensures reads { IfOk result (λ it. Reads variant_definition reader.old (see_name it.0, see_body it.1) reader.new) }
+    ensures stops { IfErr result (Refuses variant_definition reader.old) }
 {
     reader.expect_word(Word::Variant)?;
     let name = reader.read_id()?;
@@ -67,9 +82,12 @@ fn read_variant<'a>(reader: &mut Reader<'a>) -> ReadResult<(Id<'a>, TypeBody<'a>
 }
 
 /// Reads `enum name { name, .. }`.
+#[tactic(auto, unfolding(wit_grammar::specs::ItemRules::enum_definition))]
 fn read_enum<'a>(reader: &mut Reader<'a>) -> ReadResult<(Id<'a>, TypeBody<'a>)>
     ensures read { IfOk result (λ d. IsRead reader.old (defined_marks d.0 d.1) reader.new) }
     ensures refused { IfErr result (λ e. IsRefused reader.old e) }
+    ensures reads { IfOk result (λ it. Reads enum_definition reader.old (see_name it.0, see_body it.1) reader.new) }
+    ensures stops { IfErr result (Refuses enum_definition reader.old) }
 {
     reader.expect_word(Word::Enum)?;
     let name = reader.read_id()?;
@@ -79,25 +97,37 @@ fn read_enum<'a>(reader: &mut Reader<'a>) -> ReadResult<(Id<'a>, TypeBody<'a>)>
 }
 
 /// Reads the name and the body of a definition.
+#[tactic(auto, unfolding(wit_grammar::specs::ItemRules::definition))]
 fn read_body<'a>(reader: &mut Reader<'a>) -> ReadResult<(Id<'a>, TypeBody<'a>)>
     ensures read { IfOk result (λ d. IsRead reader.old (defined_marks d.0 d.1) reader.new) }
     ensures refused { IfErr result (λ e. IsRefused reader.old e) }
+    ensures reads { IfOk result (λ it. Reads definition reader.old (see_name it.0, see_body it.1) reader.new) }
+    ensures stops { IfErr result (Refuses definition reader.old) }
 {
-    match reader.token.kind {
-        Kind::Word(Word::Type) => read_alias(reader),
-        Kind::Word(Word::Record) => read_record(reader),
-        Kind::Word(Word::Flags) => read_flags_definition(reader),
-        Kind::Word(Word::Variant) => read_variant(reader),
-        Kind::Word(Word::Enum) => read_enum(reader),
-        Kind::Word(Word::Resource) => read_resource(reader),
-        _ => Err(reader.refuse(ReadFault::Token)),
+    if reader.at_word(Word::Type) {
+        return read_alias(reader);
     }
+    if reader.at_word(Word::Record) {
+        return read_record(reader);
+    }
+    if reader.at_word(Word::Flags) {
+        return read_flags_definition(reader);
+    }
+    if reader.at_word(Word::Variant) {
+        return read_variant(reader);
+    }
+    if reader.at_word(Word::Enum) {
+        return read_enum(reader);
+    }
+    read_resource(reader)
 }
 
 /// Reads a definition, of an interface or of a world.
 pub fn read_definition<'a>(reader: &mut Reader<'a>, front: Front<'a>) -> ReadResult<TypeDef<'a>>
     ensures read { IfOk result (λ d. IsReadBehind reader.old (front_marks front.entry.docs front.entry.attributes.items) (definition_marks d) reader.new) }
     ensures refused { IfErr result (λ e. IsRefused reader.old e) }
+    ensures reads { IfOk result (λ it. ReadsAs definition (definition_of (see_front front.entry.docs front.entry.attributes.items)) reader.old (see_definition it) reader.new) }
+    ensures stops { IfErr result (Refuses definition reader.old) }
 {
     let (name, body) = read_body(reader)?;
     Ok(TypeDef {
@@ -109,9 +139,12 @@ pub fn read_definition<'a>(reader: &mut Reader<'a>, front: Front<'a>) -> ReadRes
 }
 
 /// Reads an item of an interface.
+#[tactic(auto, unfolding(wit_grammar::specs::ItemRules::interface_item))]
 fn read_item<'a>(reader: &mut Reader<'a>) -> ReadResult<InterfaceItem<'a>>
     ensures read { IfOk result (λ item. IsRead reader.old (item_marks item) reader.new) }
     ensures refused { IfErr result (λ e. IsRefused reader.old e) }
+    ensures reads { IfOk result (λ it. Reads interface_item reader.old (see_item it) reader.new) }
+    ensures stops { IfErr result (Refuses interface_item reader.old) }
 {
     let front = reader.read_front()?;
     if reader.at_word(Word::Use) {
@@ -127,9 +160,12 @@ fn read_item<'a>(reader: &mut Reader<'a>) -> ReadResult<InterfaceItem<'a>>
 }
 
 /// Reads the items of an interface in braces.
+#[tactic(auto, unfolding(wit_grammar::specs::ItemRules::interface_items))]
 pub fn read_interface_items<'a>(reader: &mut Reader<'a>) -> ReadResult<Vec<InterfaceItem<'a>>>
     ensures read { IfOk result (λ items. IsRead reader.old (flat_map item_marks items.items) reader.new) }
     ensures refused { IfErr result (λ e. IsRefused reader.old e) }
+    ensures reads { IfOk result (λ it. Reads interface_items reader.old (map see_item it.items) reader.new) }
+    ensures stops { IfErr result (Refuses interface_items reader.old) }
 {
     reader.expect(Kind::OpenBrace)?;
     let mut items = Vec::new(reader.alloc);

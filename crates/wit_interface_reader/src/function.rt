@@ -3,7 +3,12 @@ ghost use Rattle.std.specs.Prelude.{◌≡◌, ◌+◌, [], ◌∷◌, ◌++◌,
 ghost use Rattle.std.specs.List.{flat_map};
 ghost use Rattle.wit_reader.specs.Fronts.{IsReadBehind};
 ghost use Rattle.wit_type_tree.specs.Marks.{spelled, front_marks, param_marks, payload_marks, form_word, func_marks, named_func_marks};
-ghost use Rattle.wit_reader.specs.Reading.{IsRead, IsReadOn, IsRefused};
+ghost use Rattle.wit_reader.specs.Reading.{IsRead, IsReadOn, IsRefused, Reads, ReadsAs, ReadsOn, Refuses};
+ghost use Rattle.std.specs.Prelude.{map};
+ghost use Rattle.std.specs.Option.{option_map};
+ghost use Rattle.wit_grammar.specs.Rules.{param, params, returned, signature, accessor, form, function};
+ghost use Rattle.wit_grammar.specs.ItemRules.{closed_function, named_function, named_func_of};
+ghost use Rattle.wit_grammar.specs.Seen.{see_name, see_type, see_param, see_func, see_named_func, see_front};
 
 use wit_lex::fault::ReadResult;
 use wit_lex::kind::Kind;
@@ -27,9 +32,12 @@ fn accessor_form(text: &str) -> Option<FuncForm>
     }
 }
 
+#[tactic(auto, unfolding(wit_grammar::specs::Rules::param))]
 fn read_param<'a>(reader: &mut Reader<'a>) -> ReadResult<Param<'a>>
     ensures read { IfOk result (λ p. IsRead reader.old (param_marks p) reader.new) }
     ensures refused { IfErr result (λ e. IsRefused reader.old e) }
+    ensures reads { IfOk result (λ it. Reads param reader.old (see_param it) reader.new) }
+    ensures stops { IfErr result (Refuses param reader.old) }
 {
     let name = reader.read_label()?;
     let ty = reader.read_type(MOST_NESTED)?;
@@ -37,9 +45,12 @@ fn read_param<'a>(reader: &mut Reader<'a>) -> ReadResult<Param<'a>>
 }
 
 /// Reads parameters in parentheses.
+#[tactic(auto, unfolding(wit_grammar::specs::Rules::params))]
 fn read_params<'a>(reader: &mut Reader<'a>) -> ReadResult<Vec<Param<'a>>>
     ensures read { IfOk result (λ ps. IsRead reader.old (flat_map param_marks ps.items) reader.new) }
     ensures refused { IfErr result (λ e. IsRefused reader.old e) }
+    ensures reads { IfOk result (λ it. Reads params reader.old (map see_param it.items) reader.new) }
+    ensures stops { IfErr result (Refuses params reader.old) }
 {
     let mut more = reader.open_list(Kind::OpenParen, Kind::CloseParen)?;
     let mut params = Vec::new(reader.alloc);
@@ -52,9 +63,12 @@ fn read_params<'a>(reader: &mut Reader<'a>) -> ReadResult<Vec<Param<'a>>>
 }
 
 /// Reads `->` and the type of what a function returns, where there is one.
+#[tactic(auto, unfolding(wit_grammar::specs::Rules::returned, wit_grammar::specs::Leaves::mark_at))]
 fn read_returned<'a>(reader: &mut Reader<'a>) -> ReadResult<Option<Type<'a>>>
     ensures read { IfOk result (λ ty. IsReadOn reader.old (payload_marks ty) reader.new) }
     ensures refused { IfErr result (λ e. IsRefused reader.old e) }
+    ensures reads { IfOk result (λ it. ReadsOn returned reader.old (option_map see_type it) reader.new) }
+    ensures stops { IfErr result (Refuses returned reader.old) }
 {
     if !reader.at(Kind::Arrow) {
         return Ok(None);
@@ -65,9 +79,12 @@ fn read_returned<'a>(reader: &mut Reader<'a>) -> ReadResult<Option<Type<'a>>>
 }
 
 /// Reads parameters in parentheses, and the type of what a function returns, where there is one.
+#[tactic(auto, unfolding(wit_grammar::specs::Rules::signature))]
 pub fn read_signature<'a>(reader: &mut Reader<'a>) -> ReadResult<(Vec<Param<'a>>, Option<Type<'a>>)>
     ensures read { IfOk result (λ r. IsRead reader.old (flat_map param_marks r.0.items ++ payload_marks r.1) reader.new) }
     ensures refused { IfErr result (λ e. IsRefused reader.old e) }
+    ensures reads { IfOk result (λ it. Reads signature reader.old (map see_param it.0.items, option_map see_type it.1) reader.new) }
+    ensures stops { IfErr result (Refuses signature reader.old) }
 {
     let params = read_params(reader)?;
     let returned = read_returned(reader)?;
@@ -76,26 +93,28 @@ pub fn read_signature<'a>(reader: &mut Reader<'a>) -> ReadResult<(Vec<Param<'a>>
 
 /// Reads `func`, `async func`, `get` or `set`, and tells where the word of these stands that is
 /// not `async`.
+#[tactic(auto, unfolding(wit_grammar::specs::Rules::form, wit_grammar::specs::Rules::func_word))]
 fn read_form(reader: &mut Reader<'_>) -> ReadResult<(Span, FuncForm)>
     ensures read { IfOk result (λ r. IsRead reader.old (spelled r.0 (form_word r.1) ∷ []) reader.new) }
     ensures refused { IfErr result (λ e. IsRefused reader.old e) }
+    ensures reads { IfOk result (λ it. Reads form reader.old (it) reader.new) }
+    ensures stops { IfErr result (Refuses form reader.old) }
 {
+    if reader.at_text("get") {
+        let span = reader.read_text("get")?;
+        return Ok((span, FuncForm::Getter));
+    }
+    if reader.at_text("set") {
+        let span = reader.read_text("set")?;
+        return Ok((span, FuncForm::Setter));
+    }
     if reader.at_word(Word::Async) {
         reader.bump()?;
         let span = reader.read_word(Word::Func)?;
         return Ok((span, FuncForm::Async));
     }
-    match accessor_form(reader.token.text) {
-        Some(form) => {
-            let span = reader.span();
-            reader.bump()?;
-            Ok((span, form))
-        }
-        None => {
-            let span = reader.read_word(Word::Func)?;
-            Ok((span, FuncForm::Plain))
-        }
-    }
+    let span = reader.read_word(Word::Func)?;
+    Ok((span, FuncForm::Plain))
 }
 
 /// Whether a function begins with the token: at `func`, `async`, or `get` or `set` with `(`
@@ -114,9 +133,12 @@ pub fn begins_func(reader: &Reader<'_>) -> ReadResult<bool>
 }
 
 /// Reads a function without its name.
+#[tactic(auto, unfolding(wit_grammar::specs::Rules::function))]
 pub fn read_func<'a>(reader: &mut Reader<'a>) -> ReadResult<Func<'a>>
     ensures read { IfOk result (λ f. IsRead reader.old (func_marks f) reader.new) }
     ensures refused { IfErr result (λ e. IsRefused reader.old e) }
+    ensures reads { IfOk result (λ it. Reads function reader.old (see_func it) reader.new) }
+    ensures stops { IfErr result (Refuses function reader.old) }
 {
     let form = read_form(reader)?;
     let (params, returned) = read_signature(reader)?;
@@ -129,9 +151,12 @@ pub fn read_func<'a>(reader: &mut Reader<'a>) -> ReadResult<Func<'a>>
 }
 
 /// Reads a function without its name, and the `;` behind it.
+#[tactic(auto, unfolding(wit_grammar::specs::ItemRules::closed_function))]
 pub fn read_closed_func<'a>(reader: &mut Reader<'a>) -> ReadResult<Func<'a>>
     ensures read { IfOk result (λ f. IsRead reader.old (func_marks f) reader.new) }
     ensures refused { IfErr result (λ e. IsRefused reader.old e) }
+    ensures reads { IfOk result (λ it. Reads closed_function reader.old (see_func it) reader.new) }
+    ensures stops { IfErr result (Refuses closed_function reader.old) }
 {
     let func = read_func(reader)?;
     let closed = reader.closed(func, Kind::Semicolon)?;
@@ -139,9 +164,12 @@ pub fn read_closed_func<'a>(reader: &mut Reader<'a>) -> ReadResult<Func<'a>>
 }
 
 /// Reads `name: function;`.
+#[tactic(auto, unfolding(wit_grammar::specs::ItemRules::named_function))]
 pub fn read_named_func<'a>(reader: &mut Reader<'a>, front: Front<'a>) -> ReadResult<NamedFunc<'a>>
     ensures read { IfOk result (λ f. IsReadBehind reader.old (front_marks front.entry.docs front.entry.attributes.items) (named_func_marks f) reader.new) }
     ensures refused { IfErr result (λ e. IsRefused reader.old e) }
+    ensures reads { IfOk result (λ it. ReadsAs named_function (λ x. named_func_of (see_front front.entry.docs front.entry.attributes.items) x.0 x.1) reader.old (see_named_func it) reader.new) }
+    ensures stops { IfErr result (Refuses named_function reader.old) }
 {
     let name = reader.read_label()?;
     let func = read_closed_func(reader)?;

@@ -11,9 +11,10 @@ use Rattle.wit_lex.specs.declared.kind.Kind.{Kind}
 use Rattle.wit_lex.specs.declared.token.Token.{Token}
 use Rattle.wit_lex.specs.Blanks.{IsFirst}
 use Rattle.wit_lex.specs.Faults.{IsUnread, IsWithin}
-use Rattle.wit_lex.specs.Lexis.{lexeme}
+use Rattle.wit_lex.specs.Lexis.{lexeme, Stops}
 use Rattle.wit_lex.specs.Tokens.{IsSign, IsToken}
 use Rattle.wit_grammar.specs.Leaves.{Spot, Read, span_of}
+use Rattle.wit_grammar.specs.Grammar.{Gram, run}
 
 -- at least one token was read, and what was made of it has these marks
 pub record IsRead (old : Reader) (marks : List Mark) (new : Reader) : Type 0 where
@@ -74,3 +75,19 @@ pub record ParsesAs {A B : Type 0} (old : Reader) (course : Read A) (make : A �
   pub value : A
   pub read : Parses old course value new
   pub made : answer ≡ make value
+
+-- the grammar spells this value from where one reader is to where the other is, at least one token further
+abbrev pub Reads : {A : Type 0} → Gram A → Reader → A → Reader → Type 0
+Reads g old value new = Parses old (run g (spot old)) value new
+
+-- the same where perhaps no token was read
+abbrev pub ReadsOn : {A : Type 0} → Gram A → Reader → A → Reader → Type 0
+ReadsOn g old value new = ParsesOn old (run g (spot old)) value new
+
+-- the same of a value of which the answer is made
+abbrev pub ReadsAs : {A B : Type 0} → Gram A → (A → B) → Reader → B → Reader → Type 0
+ReadsAs g make old answer new = ParsesAs old (run g (spot old)) make answer new
+
+-- the fault at which reading by the grammar stops, or memory ran out
+abbrev pub Refuses : {A : Type 0} → Gram A → Reader → ReadError → Type 0
+Refuses g old e = Stops (run g (spot old)) e
