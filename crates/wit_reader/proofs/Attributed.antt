@@ -5,7 +5,7 @@ use Rattle.wit_values.specs.declared.span.Span.{Span}
 use Rattle.wit_lex.specs.declared.kind.Kind.TheVariants as kind
 use Rattle.wit_lex.specs.Lexis.{lexeme}
 use Rattle.wit_grammar.specs.Kinds.{same_kind}
-use Rattle.wit_grammar.specs.Leaves.{◌>>=◌}
+use Rattle.wit_grammar.specs.Leaves.{Read, ◌>>=◌}
 use Rattle.wit_grammar.specs.Trees.{Attribute, Name, Release}
 use Rattle.wit_grammar.specs.Grammar.{Gram, act, either, matches, of_kind, of_text, run, starts}
 use Rattle.wit_grammar.specs.Rules.{after_at, attribute, deprecated_attribute, deprecated_of, since_attribute, since_of, unstable_attribute, unstable_of}
@@ -61,4 +61,4 @@ deprecated_next r n m =
 -- the attribute of an alternative
 pub attribute_made : {A : Type 0} (at : Span) (make : A → Span → Attribute) (g : Gram A) (r : Reader) → run after_at (spot r) ≡ run (act make g) (spot r) →
     run (act (given at) after_at) (spot r) ≡ run (act (λ x. make x at) g) (spot r)
-attribute_made at make g r h = ap (λ c. c >>= made (given at)) h ∙ made_twice (given at) make (run g (spot r))
+attribute_made at make g r h = ap (λ (c : Read (Span → Attribute)). c >>= made (given at)) h ∙ made_twice (given at) make (run g (spot r))

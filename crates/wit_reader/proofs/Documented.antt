@@ -1,8 +1,7 @@
 -- Docs by the grammar's leaf, and the token after them.
-use Rattle.std.proofs.Common.{◌≡◌, ℕ, ◌+◌, ◌≤◌, List, [], ◌∷◌, drop, length, ap, ◌∙◌, sym, arith, refl}
-use Rattle.std.specs.Prelude.{Ok, Err, Result, IfOk, if◌then◌else◌}
+use Rattle.std.proofs.Common.{◌≡◌, ℕ, ◌+◌, ◌≤◌, List, [], ◌∷◌, drop, length, ap, ◌∙◌, sym, arith, refl, true, false, Bool}
+use Rattle.std.specs.Prelude.{Ok, Err, Result, IfOk, ◌==◌, ◌&&◌, if◌then◌else◌}
 use Rattle.std.specs.Char.{is_ascii_digit}
-use Rattle.std.proofs.lemmas.Bool.{cond_both}
 use Rattle.std.proofs.lemmas.Result.{IfOk-at_ok}
 use Rattle.wit_type_tree.specs.declared.leaves.Docs.{Docs}
 use Rattle.wit_lex.specs.declared.fault.ReadError.{ReadError}
@@ -19,15 +18,18 @@ use Rattle.wit_reader.proofs.Courses.{stops_first}
 abbrev begins : ℕ → Result Lexeme ReadError → Type 0
 begins at r = IfOk r (λ t. t.start ≡ at)
 
+either_begins : (at : ℕ) (b : Bool) (x y : Result Lexeme ReadError) → begins at x → begins at y → begins at (if b then x else y)
+either_begins at true x y h k = h
+either_begins at false x y h k = k
+
 arrow_begins : (source : List ℕ) (at c : ℕ) (rest : List ℕ) → begins at (arrow_or_escaped source at c rest)
 arrow_begins source at c [] = tt
-arrow_begins source at c (d ∷ rest) = cond_both _ _ _ (begins at) (λ _. refl) (λ _. cond_both _ _ _ (begins at) (λ _. refl) (λ _. tt))
+arrow_begins source at c (d ∷ rest) = either_begins at (c == 45 && d == 62) _ _ refl (either_begins at (c == 37 && is_letter d) _ _ refl tt)
 
 here_begins : (source : List ℕ) (at : ℕ) (rest : List ℕ) → begins at (token_here source at rest)
 here_begins source at [] = refl
 here_begins source at (c ∷ rest) =
-    cond_both (is_letter c) _ _ (begins at) (λ _. refl)
-    (λ _. cond_both (is_sign c) _ _ (begins at) (λ _. refl) (λ _. cond_both (is_ascii_digit c) _ _ (begins at) (λ _. refl) (λ _. arrow_begins source at c rest)))
+    either_begins at (is_letter c) _ _ refl (either_begins at (is_sign c) _ _ refl (either_begins at (is_ascii_digit c) _ _ refl (arrow_begins source at c rest)))
 
 -- the token begins where blanks and comments end
 pub token_begins : (source : List ℕ) (from to : ℕ) (t : Lexeme) → skipped between from (drop from source) ≡ Ok to → first_token source from ≡ Ok t → t.start ≡ to

@@ -97,7 +97,7 @@ abbrev put : {V : Type 0} → V → List V × Spot → Read (List V)
 put x ys = Ok (x ∷ ys.0, ys.1)
 
 one_way : {V : Type 0} (b : Bool) (r : Read V) (f g : Spot → Read (List V)) (s : Spot) → ((m : Spot) → f m ≡ g m) →
-    (if b then none_at s else (r >>= λ x. f x.1 >>= put x.0)) ≡ (if not b then (r >>= λ x. g x.1 >>= put x.0) else none_at s)
+    (if b then none_at {V = V} s else (r >>= λ x. f x.1 >>= put x.0)) ≡ (if not b then (r >>= λ x. g x.1 >>= put x.0) else none_at {V = V} s)
 one_way true r f g s h = refl
 one_way false (Ok x) f g s h = ap (λ ys. ys >>= put x.0) (h x.1)
 one_way false (Err e) f g s h = refl
@@ -107,5 +107,9 @@ unfolding until_at
 until_is_many item close zero s = refl
 until_is_many item close (suc n) s = one_way (closes close s) (item s) (until_at item close n) (many_at (goes_until close) item n) s (until_is_many item close n)
 
-pub closes_here : (close : Kind) (r : Reader) → closes close (spot r) ≡ same_kind r.token.kind close
+closes_here : (close : Kind) (r : Reader) → closes close (spot r) ≡ same_kind r.token.kind close
 closes_here close r = rw r.next refl
+
+-- the token tells whether the mark is reached
+pub goes_on : (close : Kind) (r : Reader) (b : Bool) → same_kind r.token.kind close ≡ b → goes_until close (spot r) ≡ not b
+goes_on close r b h = ap not (closes_here close r ∙ h)
