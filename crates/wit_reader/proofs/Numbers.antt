@@ -1,6 +1,6 @@
 -- Numbers of 32 bits.
-use Rattle.std.proofs.Common.{◌≡◌, ℕ, zero, suc, ◌+◌, ◌-◌, ◌<◌, ◌≤◌, ◌^◌, List, [], ◌∷◌, length, drop, take, ap, ◌∙◌, sym, arith, refl, true, false, Bool, inl, inr}
-use Rattle.std.specs.Prelude.{Result, Ok, Err, slice_index, slice_range, ◌&&◌}
+use Rattle.std.proofs.Common.{◌≡◌, ℕ, zero, suc, ◌+◌, ◌-◌, ◌<◌, ◌≤◌, ◌^◌, List, length, drop, take, ap, ◌∙◌, sym, arith, refl, true, inl, inr}
+use Rattle.std.specs.Prelude.{Result, Ok, Err, slice_index, slice_range}
 use Rattle.std.specs.Char.{is_ascii_digit}
 use Rattle.std.specs.Result.{OkIff}
 use Rattle.std.specs.Str.{all_ascii_digits}

@@ -1,6 +1,6 @@
 -- Past a token.
 use Rattle.std.proofs.Common.{◌≡◌, ℕ, List, Bool, true, false, ap, sym, refl}
-use Rattle.std.specs.Prelude.{Result, Ok, Err, ◌==◌, ◌&&◌, if◌then◌else◌}
+use Rattle.std.specs.Prelude.{Result, Ok, Err, ◌&&◌, if◌then◌else◌}
 use Rattle.std.specs.Str.{bytes_eq}
 use Rattle.std.proofs.lemmas.Bool.{eq-eqb, ne_eqb}
 use Rattle.wit_values.specs.declared.span.Span.{Span}
