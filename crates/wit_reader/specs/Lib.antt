@@ -4,3 +4,4 @@ pub mod Fronts
 pub mod Headers
 pub mod Primitives
 pub mod Reading
+pub mod ResultTypes

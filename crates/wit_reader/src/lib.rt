@@ -7,6 +7,7 @@ pub mod front;
 mod handle;
 pub mod holding;
 pub mod list;
+mod nesting;
 mod primitive;
 pub mod reader;
 pub mod room;

@@ -1,17 +1,25 @@
-//! Primitive types.
-ghost use Rattle.std.specs.Prelude.{◌≡◌, IfSome};
+//! Reading primitive types.
+ghost use Rattle.std.specs.Prelude.{◌≡◌, [], ◌∷◌, IfOk, IfErr, IfSome};
 ghost use Rattle.std.specs.Option.{is_some};
-ghost use Rattle.wit_type_tree.specs.Marks.{primitive_word};
+ghost use Rattle.wit_type_tree.specs.Marks.{primitive_word, type_marks};
+ghost use Rattle.wit_lex.specs.declared.kind.Kind.TheVariants.{Word as WordKind};
+ghost use Rattle.wit_lex.specs.Lexis.{Stops};
 ghost use Rattle.wit_lex.specs.Words.{word_text};
+ghost use Rattle.wit_grammar.specs.Leaves.{primitive_of, primitive_at};
+ghost use Rattle.wit_grammar.specs.Seen.{see_type};
 ghost use Rattle.wit_reader.specs.Primitives.{is_primitive};
 
+use crate::reader::Reader;
+use wit_lex::fault::{ReadFault, ReadResult};
+use wit_lex::kind::Kind;
 use wit_lex::word::Word;
-use wit_tree::tree::Primitive;
+use wit_tree::tree::{Primitive, Type};
 
 /// The primitive type of a word, if the word is one's.
 pub fn primitive(word: Word) -> Option<Primitive>
     ensures word { IfSome result (λ p. primitive_word p ≡ word_text word) }
     ensures known { is_some result ≡ is_primitive word }
+    ensures exact { result ≡ primitive_of (WordKind word) }
 {
     match word {
         Word::Bool => Some(Primitive::Bool),
@@ -29,5 +37,38 @@ pub fn primitive(word: Word) -> Option<Primitive>
         Word::String => Some(Primitive::String),
         Word::ErrorContext => Some(Primitive::ErrorContext),
         _ => None,
+    }
+}
+
+impl<'a> Reader<'a> {
+    ghost use Rattle.wit_reader.specs.Reading.{IsRead, IsRefused, Parses, spot};
+
+    /// The primitive type that the token is.
+    fn primitive(&self) -> Option<Primitive>
+        ensures word { IfSome result (λ p. primitive_word p ≡ self.now.token.text.now) }
+        ensures exact { result ≡ primitive_of self.now.token.kind }
+    {
+        match self.token.kind {
+            Kind::Word(word) => primitive(word),
+            _ => None,
+        }
+    }
+
+    /// Reads the word of a primitive type.
+    #[tactic(auto, unfolding(wit_grammar::specs::Leaves::primitive_at))]
+    pub fn read_primitive(&mut self) -> ReadResult<Type<'a>>
+        ensures read { IfOk result (λ t. IsRead self.old (type_marks t) self.new) }
+        ensures refused { IfErr result (λ e. IsRefused self.old e) }
+        ensures parses { IfOk result (λ it. Parses self.old (primitive_at (spot self.old)) (see_type it) self.new) }
+        ensures stops { IfErr result (Stops (primitive_at (spot self.old))) }
+    {
+        match self.primitive() {
+            Some(primitive) => {
+                let span = self.span();
+                self.bump()?;
+                Ok(Type::Primitive(span, primitive))
+            }
+            None => Err(self.refuse(ReadFault::Token)),
+        }
     }
 }

@@ -62,7 +62,7 @@ impl<'a> Reader<'a> {
 
     /// Whether the token is of this kind.
     pub fn at(&self, kind: Kind) -> bool
-        ensures { IsTrue result ↔ (self.now.token.kind ≡ kind) }
+        ensures kind { IsTrue result ↔ (self.now.token.kind ≡ kind) }
         ensures same { result ≡ same_kind self.now.token.kind kind }
     {
         self.token.kind == kind

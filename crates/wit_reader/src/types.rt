@@ -1,42 +1,31 @@
 //! Reading types.
-ghost use Rattle.std.specs.Prelude.{◌≡◌, [], ◌∷◌, ◌++◌, IfOk, IfErr, IfSome, codes};
+ghost use Rattle.std.specs.Prelude.{◌≡◌, [], ◌∷◌, ◌++◌, map, IfOk, IfErr, codes};
 ghost use Rattle.std.specs.List.{flat_map};
-ghost use Rattle.wit_type_tree.specs.Marks.{spelled, counted, primitive_word, type_marks, boxed_marks, size_marks};
-ghost use Rattle.wit_reader.specs.Deeper.{word_begins_type, kind_begins_type, deeper_fault};
+ghost use Rattle.wit_type_tree.specs.Marks.{spelled, counted, type_marks, result_marks, boxed_marks, size_marks};
+ghost use Rattle.wit_lex.specs.declared.kind.Kind.TheVariants.{OpenAngle, CloseAngle};
+ghost use Rattle.wit_lex.specs.Lexis.{Stops};
+ghost use Rattle.wit_grammar.specs.Trees.{this};
+ghost use Rattle.wit_grammar.specs.Seen.{see_type, see_boxed};
+ghost use Rattle.wit_grammar.specs.Leaves.{number_at};
+ghost use Rattle.wit_grammar.specs.Grammar.{run, listed, ◌◂◌};
+ghost use Rattle.wit_grammar.specs.Rules.{sized, size, types, lists, maps_of, options, results, result_types, error_type, tuples, payload, futures, streams};
+ghost use Rattle.wit_reader.specs.ResultTypes.{see_result_types};
 
-use crate::primitive::primitive;
 use crate::reader::Reader;
-use wit_lex::fault::{ReadError, ReadFault, ReadResult};
+use wit_lex::fault::{ReadFault, ReadResult};
 use wit_lex::kind::Kind;
 use wit_lex::word::Word;
 use wit_tree::Span;
-use wit_tree::tree::{Primitive, ResultTypes, Type};
+use wit_tree::tree::{ResultTypes, Type};
 use wit_values::{beside, push};
 
 /// How many levels of types are read.
 pub const MOST_NESTED: u8 = 100;
 
-/// Whether a word begins a type.
-fn begins_type(word: Word) -> bool
-    ensures { result ≡ word_begins_type word }
-{
-    match word {
-        Word::List
-        | Word::Map
-        | Word::Option
-        | Word::Result
-        | Word::Tuple
-        | Word::Future
-        | Word::Stream
-        | Word::Own
-        | Word::Borrow => true,
-        _ => primitive(word).is_some(),
-    }
-}
-
 /// The list of these items, of a fixed length where one was found.
 fn list<'a>(span: Span, item: Box<Type<'a>>, size: Option<u32>) -> Type<'a>
-    ensures { type_marks result ≡ spelled span (codes "list") ∷ (type_marks item.entry.value ++ size_marks size) }
+    ensures marks { type_marks result ≡ spelled span (codes "list") ∷ (type_marks item.entry.value ++ size_marks size) }
+    ensures seen { see_type result ≡ sized span (see_type item.entry.value) size }
 {
     match size {
         Some(size) => Type::FixedLengthList(span, item, size),
@@ -44,74 +33,27 @@ fn list<'a>(span: Span, item: Box<Type<'a>>, size: Option<u32>) -> Type<'a>
     }
 }
 
-/// The result of these types, where there are any.
-fn result_of<'a>(span: Span, ok: Option<Box<Type<'a>>>, err: Option<Box<Type<'a>>>) -> Type<'a>
-    ensures { type_marks result ≡ spelled span (codes "result") ∷ (boxed_marks ok.entry ++ boxed_marks err.entry) }
+/// The types of a result: that of its value, and that of its error, where there is one.
+fn ok_and<'a>(ok: Box<Type<'a>>, err: Option<Box<Type<'a>>>) -> ResultTypes<'a>
+    ensures marks { result_marks result ≡ type_marks ok.entry.value ++ boxed_marks err.entry }
+    ensures seen { see_result_types result ≡ (this (see_type ok.entry.value), see_boxed err.entry) }
 {
-    let types = match (ok, err) {
-        (None, None) => ResultTypes::Neither,
-        (Some(ok), None) => ResultTypes::Ok(ok),
-        (None, Some(err)) => ResultTypes::Err(err),
-        (Some(ok), Some(err)) => ResultTypes::Both(ok, err),
-    };
-    Type::Result(span, types)
+    match err {
+        Some(err) => ResultTypes::Both(ok, err),
+        None => ResultTypes::Ok(ok),
+    }
 }
 
 impl<'a> Reader<'a> {
-    ghost use Rattle.wit_reader.specs.Reading.{IsRead, IsReadOn, IsRefused};
-
-    /// Whether a type begins with the token.
-    fn begins_type(&self) -> bool
-        ensures { result ≡ kind_begins_type self.now.token.kind }
-    {
-        match self.token.kind {
-            Kind::Name => true,
-            Kind::Word(word) => begins_type(word),
-            _ => false,
-        }
-    }
-
-    /// The refusal of the token where no further level of types is read.
-    fn refuse_deeper(&self) -> ReadError
-        ensures refused { IsRefused self.now result }
-        ensures exact { result ≡ deeper_fault self.now.token }
-    {
-        if self.begins_type() {
-            self.refuse(ReadFault::Nesting)
-        } else {
-            self.refuse(ReadFault::Token)
-        }
-    }
-
-    /// The primitive type that the token is.
-    fn primitive(&self) -> Option<Primitive>
-        ensures { IfSome result (λ p. primitive_word p ≡ self.now.token.text.now) }
-    {
-        match self.token.kind {
-            Kind::Word(word) => primitive(word),
-            _ => None,
-        }
-    }
-
-    /// Reads the word of a primitive type.
-    fn read_primitive(&mut self) -> ReadResult<Type<'a>>
-        ensures read { IfOk result (λ t. IsRead self.old (type_marks t) self.new) }
-        ensures refused { IfErr result (λ e. IsRefused self.old e) }
-    {
-        match self.primitive() {
-            Some(primitive) => {
-                let span = self.span();
-                self.bump()?;
-                Ok(Type::Primitive(span, primitive))
-            }
-            None => Err(self.refuse(ReadFault::Token)),
-        }
-    }
+    ghost use Rattle.wit_reader.specs.Reading.{IsRead, IsReadOn, IsRefused, Parses, ParsesOn, spot};
 
     /// Reads a number of 32 bits.
+    #[tactic(auto, unfolding(wit_grammar::specs::Leaves::number_at))]
     fn read_number(&mut self) -> ReadResult<u32>
         ensures read { IfOk result (λ n. IsRead self.old (counted n ∷ []) self.new) }
         ensures refused { IfErr result (λ e. IsRefused self.old e) }
+        ensures parses { IfOk result (λ it. Parses self.old (number_at (spot self.old)) it self.new) }
+        ensures stops { IfErr result (Stops (number_at (spot self.old))) }
     {
         if !self.at(Kind::Number) {
             return Err(self.refuse(ReadFault::Token));
@@ -126,9 +68,12 @@ impl<'a> Reader<'a> {
     }
 
     /// Reads `>`, perhaps with `,` and a number in front of it.
+    #[tactic(auto, unfolding(wit_grammar::specs::Rules::size, wit_grammar::specs::Leaves::mark_at))]
     fn read_size(&mut self) -> ReadResult<Option<u32>>
         ensures read { IfOk result (λ size. IsRead self.old (size_marks size) self.new) }
         ensures refused { IfErr result (λ e. IsRefused self.old e) }
+        ensures parses { IfOk result (λ it. Parses self.old (run size (spot self.old)) it self.new) }
+        ensures stops { IfErr result (Stops (run size (spot self.old))) }
     {
         if !self.at(Kind::Comma) {
             self.expect(Kind::CloseAngle)?;
@@ -144,6 +89,8 @@ impl<'a> Reader<'a> {
     pub fn read_closed_type(&mut self, close: Kind) -> ReadResult<Type<'a>>
         ensures read { IfOk result (λ t. IsRead self.old (type_marks t) self.new) }
         ensures refused { IfErr result (λ e. IsRefused self.old e) }
+        ensures parses { IfOk result (λ it. Parses self.old (run (types 100 ◂ close) (spot self.old)) (see_type it) self.new) }
+        ensures stops { IfErr result (Stops (run (types 100 ◂ close) (spot self.old))) }
     {
         let ty = self.read_type(MOST_NESTED)?;
         let closed = self.closed(ty, close)?;
@@ -155,33 +102,41 @@ impl<'a> Reader<'a> {
     pub fn read_type(&mut self, left: u8) -> ReadResult<Type<'a>>
         ensures read { IfOk result (λ t. IsRead self.old (type_marks t) self.new) }
         ensures refused { IfErr result (λ e. IsRefused self.old e) }
+        ensures parses { IfOk result (λ it. Parses self.old (run (types left) (spot self.old)) (see_type it) self.new) }
+        ensures stops { IfErr result (Stops (run (types left) (spot self.old))) }
     {
         if left == 0 {
             return Err(self.refuse_deeper());
         }
         match self.token.kind {
-            Kind::Word(Word::List) => self.read_list(left - 1),
-            Kind::Word(Word::Map) => self.read_map(left - 1),
-            Kind::Word(Word::Option) => self.read_option(left - 1),
-            Kind::Word(Word::Result) => self.read_result(left - 1),
-            Kind::Word(Word::Tuple) => self.read_tuple(left - 1),
-            Kind::Word(Word::Future) => self.read_future(left - 1),
-            Kind::Word(Word::Stream) => self.read_stream(left - 1),
-            Kind::Word(Word::Own) => self.read_own(),
-            Kind::Word(Word::Borrow) => self.read_borrow(),
-            Kind::Word(_) => self.read_primitive(),
-            _ => {
+            Kind::Word(word) => match word {
+                Word::List => self.read_list(left - 1),
+                Word::Map => self.read_map(left - 1),
+                Word::Option => self.read_option(left - 1),
+                Word::Result => self.read_result(left - 1),
+                Word::Tuple => self.read_tuple(left - 1),
+                Word::Future => self.read_future(left - 1),
+                Word::Stream => self.read_stream(left - 1),
+                Word::Own => self.read_own(),
+                Word::Borrow => self.read_borrow(),
+                _ => self.read_primitive(),
+            },
+            Kind::Name => {
                 let id = self.read_id()?;
                 Ok(Type::Name(id))
             }
+            _ => self.read_primitive(),
         }
     }
 
     /// Reads `list<type>`, perhaps with a number of items.
     #[cycle(types)]
+    #[tactic(auto, unfolding(wit_grammar::specs::Rules::lists))]
     fn read_list(&mut self, left: u8) -> ReadResult<Type<'a>>
         ensures read { IfOk result (λ t. IsRead self.old (type_marks t) self.new) }
         ensures refused { IfErr result (λ e. IsRefused self.old e) }
+        ensures parses { IfOk result (λ it. Parses self.old (run (lists (types left)) (spot self.old)) (see_type it) self.new) }
+        ensures stops { IfErr result (Stops (run (lists (types left)) (spot self.old))) }
     {
         let span = self.read_word(Word::List)?;
         self.expect(Kind::OpenAngle)?;
@@ -193,9 +148,12 @@ impl<'a> Reader<'a> {
 
     /// Reads `map<type, type>`.
     #[cycle(types)]
+    #[tactic(auto, unfolding(wit_grammar::specs::Rules::maps_of))]
     fn read_map(&mut self, left: u8) -> ReadResult<Type<'a>>
         ensures read { IfOk result (λ t. IsRead self.old (type_marks t) self.new) }
         ensures refused { IfErr result (λ e. IsRefused self.old e) }
+        ensures parses { IfOk result (λ it. Parses self.old (run (maps_of (types left)) (spot self.old)) (see_type it) self.new) }
+        ensures stops { IfErr result (Stops (run (maps_of (types left)) (spot self.old))) }
     {
         let span = self.read_word(Word::Map)?;
         self.expect(Kind::OpenAngle)?;
@@ -206,9 +164,12 @@ impl<'a> Reader<'a> {
 
     /// Reads `option<type>`.
     #[cycle(types)]
+    #[tactic(auto, unfolding(wit_grammar::specs::Rules::options))]
     fn read_option(&mut self, left: u8) -> ReadResult<Type<'a>>
         ensures read { IfOk result (λ t. IsRead self.old (type_marks t) self.new) }
         ensures refused { IfErr result (λ e. IsRefused self.old e) }
+        ensures parses { IfOk result (λ it. Parses self.old (run (options (types left)) (spot self.old)) (see_type it) self.new) }
+        ensures stops { IfErr result (Stops (run (options (types left)) (spot self.old))) }
     {
         let span = self.read_word(Word::Option)?;
         self.expect(Kind::OpenAngle)?;
@@ -216,46 +177,55 @@ impl<'a> Reader<'a> {
         Ok(Type::Option(span, value))
     }
 
-    /// Reads `result`, perhaps with the types of the value and of the error.
+    /// Reads `result`, perhaps with the types of the value and of the error in angles.
     #[cycle(types)]
+    #[tactic(auto, using(crate::proofs::Seen::seen_result), unfolding(wit_grammar::specs::Rules::results, wit_grammar::specs::Leaves::mark_at))]
     fn read_result(&mut self, left: u8) -> ReadResult<Type<'a>>
         ensures read { IfOk result (λ t. IsRead self.old (type_marks t) self.new) }
         ensures refused { IfErr result (λ e. IsRefused self.old e) }
+        ensures parses { IfOk result (λ it. Parses self.old (run (results (types left)) (spot self.old)) (see_type it) self.new) }
+        ensures stops { IfErr result (Stops (run (results (types left)) (spot self.old))) }
     {
         let span = self.read_word(Word::Result)?;
         if !self.at(Kind::OpenAngle) {
             return Ok(Type::Result(span, ResultTypes::Neither));
         }
         self.bump()?;
-        let first = self.read_ok(left)?;
-        let needed = first.is_none();
-        let (ok, err) = beside(first, self.read_err(left, needed))?;
-        Ok(result_of(span, ok, err))
+        let types = self.read_result_types(left)?;
+        Ok(Type::Result(span, types))
     }
 
-    /// Reads the type of the value of a result, or `_`.
+    /// Reads `_, type>`, or a type and `>`, perhaps with `,` and the type of the error between them.
     #[cycle(types)]
-    fn read_ok(&mut self, left: u8) -> ReadResult<Option<Box<Type<'a>>>>
-        ensures read { IfOk result (λ t. IsRead self.old (boxed_marks t) self.new) }
+    #[tactic(auto, unfolding(wit_grammar::specs::Rules::result_types, wit_grammar::specs::Leaves::mark_at))]
+    fn read_result_types(&mut self, left: u8) -> ReadResult<ResultTypes<'a>>
+        ensures read { IfOk result (λ types. IsRead self.old (result_marks types) self.new) }
         ensures refused { IfErr result (λ e. IsRefused self.old e) }
+        ensures parses { IfOk result (λ it. Parses self.old (run (result_types (types left)) (spot self.old)) (see_result_types it) self.new) }
+        ensures stops { IfErr result (Stops (run (result_types (types left)) (spot self.old))) }
     {
         if self.at(Kind::Underscore) {
             self.bump()?;
-            return Ok(None);
+            self.expect(Kind::Comma)?;
+            let err = self.read_boxed_before(left, Kind::CloseAngle)?;
+            return Ok(ResultTypes::Err(err));
         }
-        let ok = self.read_boxed(left)?;
-        Ok(Some(ok))
+        let first = self.read_boxed(left)?;
+        let (ok, err) = beside(first, self.read_error_type(left))?;
+        Ok(ok_and(ok, err))
     }
 
-    /// Reads `>`, with `,` and the type of the error of a result in front of it, where there is one
-    /// or has to be.
+    /// Reads `>`, perhaps with `,` and the type of the error of a result in front of it.
     #[cycle(types)]
-    fn read_err(&mut self, left: u8, needed: bool) -> ReadResult<Option<Box<Type<'a>>>>
+    #[tactic(auto, unfolding(wit_grammar::specs::Rules::error_type, wit_grammar::specs::Leaves::mark_at))]
+    fn read_error_type(&mut self, left: u8) -> ReadResult<Option<Box<Type<'a>>>>
         ensures read { IfOk result (λ t. IsRead self.old (boxed_marks t) self.new) }
         ensures refused { IfErr result (λ e. IsRefused self.old e) }
+        ensures parses { IfOk result (λ it. Parses self.old (run (error_type (types left)) (spot self.old)) (see_boxed it) self.new) }
+        ensures stops { IfErr result (Stops (run (error_type (types left)) (spot self.old))) }
     {
-        if !needed && !self.at(Kind::Comma) {
-            self.expect(Kind::CloseAngle)?;
+        if self.at(Kind::CloseAngle) {
+            self.bump()?;
             return Ok(None);
         }
         self.expect(Kind::Comma)?;
@@ -265,9 +235,12 @@ impl<'a> Reader<'a> {
 
     /// Reads `tuple<type, ..>`.
     #[cycle(types)]
+    #[tactic(auto, using(crate::proofs::Seen::seen_tuple), unfolding(wit_grammar::specs::Rules::tuples))]
     fn read_tuple(&mut self, left: u8) -> ReadResult<Type<'a>>
         ensures read { IfOk result (λ t. IsRead self.old (type_marks t) self.new) }
         ensures refused { IfErr result (λ e. IsRefused self.old e) }
+        ensures parses { IfOk result (λ it. Parses self.old (run (tuples (types left)) (spot self.old)) (see_type it) self.new) }
+        ensures stops { IfErr result (Stops (run (tuples (types left)) (spot self.old))) }
     {
         let span = self.read_word(Word::Tuple)?;
         let types = self.read_types(left)?;
@@ -276,9 +249,12 @@ impl<'a> Reader<'a> {
 
     /// Reads types in angles.
     #[cycle(types)]
+    #[tactic(auto, unfolding(wit_grammar::specs::Grammar::listed_at))]
     fn read_types(&mut self, left: u8) -> ReadResult<Vec<Type<'a>>>
         ensures read { IfOk result (λ ts. IsRead self.old (flat_map type_marks ts.items) self.new) }
         ensures refused { IfErr result (λ e. IsRefused self.old e) }
+        ensures parses { IfOk result (λ it. Parses self.old (run (listed OpenAngle CloseAngle (types left)) (spot self.old)) (map see_type it.items) self.new) }
+        ensures stops { IfErr result (Stops (run (listed OpenAngle CloseAngle (types left)) (spot self.old))) }
     {
         let mut more = self.open_list(Kind::OpenAngle, Kind::CloseAngle)?;
         let mut types = Vec::new(self.alloc);
@@ -292,9 +268,12 @@ impl<'a> Reader<'a> {
 
     /// Reads `future`, perhaps with the type of its value.
     #[cycle(types)]
+    #[tactic(auto, unfolding(wit_grammar::specs::Rules::futures))]
     fn read_future(&mut self, left: u8) -> ReadResult<Type<'a>>
         ensures read { IfOk result (λ t. IsRead self.old (type_marks t) self.new) }
         ensures refused { IfErr result (λ e. IsRefused self.old e) }
+        ensures parses { IfOk result (λ it. Parses self.old (run (futures (types left)) (spot self.old)) (see_type it) self.new) }
+        ensures stops { IfErr result (Stops (run (futures (types left)) (spot self.old))) }
     {
         let span = self.read_word(Word::Future)?;
         let value = self.read_payload(left)?;
@@ -303,9 +282,12 @@ impl<'a> Reader<'a> {
 
     /// Reads `stream`, perhaps with the type of its items.
     #[cycle(types)]
+    #[tactic(auto, unfolding(wit_grammar::specs::Rules::streams))]
     fn read_stream(&mut self, left: u8) -> ReadResult<Type<'a>>
         ensures read { IfOk result (λ t. IsRead self.old (type_marks t) self.new) }
         ensures refused { IfErr result (λ e. IsRefused self.old e) }
+        ensures parses { IfOk result (λ it. Parses self.old (run (streams (types left)) (spot self.old)) (see_type it) self.new) }
+        ensures stops { IfErr result (Stops (run (streams (types left)) (spot self.old))) }
     {
         let span = self.read_word(Word::Stream)?;
         let item = self.read_payload(left)?;
@@ -314,9 +296,12 @@ impl<'a> Reader<'a> {
 
     /// Reads a type in angles, where there is one.
     #[cycle(types)]
+    #[tactic(auto, unfolding(wit_grammar::specs::Rules::payload, wit_grammar::specs::Leaves::mark_at))]
     fn read_payload(&mut self, left: u8) -> ReadResult<Option<Box<Type<'a>>>>
         ensures read { IfOk result (λ t. IsReadOn self.old (boxed_marks t) self.new) }
         ensures refused { IfErr result (λ e. IsRefused self.old e) }
+        ensures parses { IfOk result (λ it. ParsesOn self.old (run (payload (types left)) (spot self.old)) (see_boxed it) self.new) }
+        ensures stops { IfErr result (Stops (run (payload (types left)) (spot self.old))) }
     {
         if !self.at(Kind::OpenAngle) {
             return Ok(None);
@@ -331,6 +316,8 @@ impl<'a> Reader<'a> {
     fn read_boxed_before(&mut self, left: u8, close: Kind) -> ReadResult<Box<Type<'a>>>
         ensures read { IfOk result (λ t. IsRead self.old (type_marks t.value) self.new) }
         ensures refused { IfErr result (λ e. IsRefused self.old e) }
+        ensures parses { IfOk result (λ it. Parses self.old (run (types left ◂ close) (spot self.old)) (see_type it.value) self.new) }
+        ensures stops { IfErr result (Stops (run (types left ◂ close) (spot self.old))) }
     {
         let ty = self.read_type(left)?;
         let closed = self.closed(ty, close)?;
@@ -343,6 +330,8 @@ impl<'a> Reader<'a> {
     fn read_boxed(&mut self, left: u8) -> ReadResult<Box<Type<'a>>>
         ensures read { IfOk result (λ t. IsRead self.old (type_marks t.value) self.new) }
         ensures refused { IfErr result (λ e. IsRefused self.old e) }
+        ensures parses { IfOk result (λ it. Parses self.old (run (types left) (spot self.old)) (see_type it.value) self.new) }
+        ensures stops { IfErr result (Stops (run (types left) (spot self.old))) }
     {
         let ty = self.read_type(left)?;
         Ok(Box::new(self.alloc, ty)?)

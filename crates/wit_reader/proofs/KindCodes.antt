@@ -1,0 +1,122 @@
+-- Kinds of tokens by their numbers: kinds with one number are one, and what is so of each kind of a list of all is so of each kind.
+use Rattle.std.proofs.Common.{◌≡◌, ℕ, zero, suc, ◌+◌, List, [], ◌∷◌, map, get_or, refl, ap, sym, ◌∙◌, true, false}
+use Rattle.std.specs.Prelude.{◌==◌, Bool, IsTrue, ◌↔◌}
+use Rattle.std.proofs.lemmas.Bool.{eq-eqb, ne_eqb, false≢true}
+use Rattle.wit_lex.specs.declared.kind.Kind.{Kind}
+use Rattle.wit_lex.specs.declared.kind.Kind.TheVariants as kind
+use Rattle.wit_lex.specs.declared.word.Word.{Word}
+use Rattle.wit_lex.specs.declared.word.Word.TheVariants as word
+use Rattle.wit_lex.specs.Lexis.{words}
+use Rattle.wit_grammar.specs.Kinds.{word_code, kind_code, same_kind}
+
+abbrev pub all_kinds : List Kind
+all_kinds =
+    kind.Name ∷ kind.Number ∷ kind.Arrow ∷ kind.Equals ∷ kind.Comma ∷ kind.Colon ∷ kind.Semicolon ∷ kind.OpenParen ∷ kind.CloseParen ∷ kind.OpenBrace ∷ kind.CloseBrace
+    ∷ kind.OpenAngle ∷ kind.CloseAngle ∷ kind.Dot ∷ kind.Slash ∷ kind.At ∷ kind.Underscore ∷ kind.End ∷ map kind.Word words
+
+decoded : (k : Kind) → get_or all_kinds (kind_code k) kind.End ≡ k
+decoded kind.Name = refl
+decoded kind.Number = refl
+decoded kind.Arrow = refl
+decoded kind.Equals = refl
+decoded kind.Comma = refl
+decoded kind.Colon = refl
+decoded kind.Semicolon = refl
+decoded kind.OpenParen = refl
+decoded kind.CloseParen = refl
+decoded kind.OpenBrace = refl
+decoded kind.CloseBrace = refl
+decoded kind.OpenAngle = refl
+decoded kind.CloseAngle = refl
+decoded kind.Dot = refl
+decoded kind.Slash = refl
+decoded kind.At = refl
+decoded kind.Underscore = refl
+decoded kind.End = refl
+decoded (kind.Word word.Use) = refl
+decoded (kind.Word word.Type) = refl
+decoded (kind.Word word.Func) = refl
+decoded (kind.Word word.Async) = refl
+decoded (kind.Word word.Resource) = refl
+decoded (kind.Word word.Own) = refl
+decoded (kind.Word word.Borrow) = refl
+decoded (kind.Word word.Record) = refl
+decoded (kind.Word word.Flags) = refl
+decoded (kind.Word word.Variant) = refl
+decoded (kind.Word word.Enum) = refl
+decoded (kind.Word word.Bool) = refl
+decoded (kind.Word word.U8) = refl
+decoded (kind.Word word.U16) = refl
+decoded (kind.Word word.U32) = refl
+decoded (kind.Word word.U64) = refl
+decoded (kind.Word word.S8) = refl
+decoded (kind.Word word.S16) = refl
+decoded (kind.Word word.S32) = refl
+decoded (kind.Word word.S64) = refl
+decoded (kind.Word word.F32) = refl
+decoded (kind.Word word.F64) = refl
+decoded (kind.Word word.Char) = refl
+decoded (kind.Word word.String) = refl
+decoded (kind.Word word.Option) = refl
+decoded (kind.Word word.Result) = refl
+decoded (kind.Word word.Future) = refl
+decoded (kind.Word word.Stream) = refl
+decoded (kind.Word word.List) = refl
+decoded (kind.Word word.Map) = refl
+decoded (kind.Word word.Tuple) = refl
+decoded (kind.Word word.ErrorContext) = refl
+decoded (kind.Word word.As) = refl
+decoded (kind.Word word.Static) = refl
+decoded (kind.Word word.Interface) = refl
+decoded (kind.Word word.Import) = refl
+decoded (kind.Word word.Export) = refl
+decoded (kind.Word word.World) = refl
+decoded (kind.Word word.Package) = refl
+decoded (kind.Word word.Constructor) = refl
+decoded (kind.Word word.Include) = refl
+decoded (kind.Word word.With) = refl
+
+mapped : {A : Type 0} (f : Kind → A) (ks : List Kind) (n : ℕ) (k : Kind) → get_or (map f ks) n (f k) ≡ f (get_or ks n k)
+mapped f [] n k = refl
+mapped f (j ∷ ks) zero k = refl
+mapped f (j ∷ ks) (suc n) k = mapped f ks n k
+
+by_code : {A : Type 0} (f : Kind → A) (k : Kind) → f k ≡ get_or (map f all_kinds) (kind_code k) (f kind.End)
+by_code f k = sym (mapped f all_kinds (kind_code k) kind.End ∙ ap f (decoded k))
+
+-- two functions that say the same of each kind of the list are one
+pub by_table : {A : Type 0} (f g : Kind → A) → map f all_kinds ≡ map g all_kinds → (k : Kind) → f k ≡ g k
+by_table {A} f g h k =
+    let last : f kind.End ≡ g kind.End = ap (λ (xs : List A). get_or xs 17 (f kind.End)) h in
+    by_code f k ∙ ap (λ (xs : List A). get_or xs (kind_code k) (f kind.End)) h ∙ ap (λ (x : A). get_or (map g all_kinds) (kind_code k) x) last ∙ sym (by_code g k)
+
+one_code : (a b : Kind) → kind_code a ≡ kind_code b → a ≡ b
+one_code a b e = sym (decoded a) ∙ ap (λ n. get_or all_kinds n kind.End) e ∙ decoded b
+
+pub same : (a b : Kind) → a ≡ b → same_kind a b ≡ true
+unfolding same_kind
+same a b e = eq-eqb (kind_code a) (kind_code b) (ap kind_code e)
+
+pub other : (a b : Kind) → (a ≡ b → ⊥) → same_kind a b ≡ false
+unfolding same_kind
+other a b n = ne_eqb (kind_code a) (kind_code b) (λ e. n (one_code a b e))
+
+-- what `==` says of two kinds
+pub told : (r : Bool) (a b : Kind) → (IsTrue r ↔ (a ≡ b)) → r ≡ same_kind a b
+told true a b h = sym (same a b (h.0 refl))
+told false a b h = sym (other a b (λ e. false≢true (h.1 e)))
+
+abbrev word_of : Kind → Word
+word_of (kind.Word w) = w
+word_of other = word.Use
+
+pub other_word : {v w : Word} → (v ≡ w → ⊥) → kind.Word v ≡ kind.Word w → ⊥
+other_word n e = n (ap word_of e)
+
+-- what `==` says of the word of a token
+pub told_word : (r : Bool) (k : Kind) (v w : Word) → k ≡ kind.Word v → (IsTrue r ↔ (v ≡ w)) → r ≡ same_kind k (kind.Word w)
+told_word true k v w e h = sym (same k (kind.Word w) (e ∙ ap kind.Word (h.0 refl)))
+told_word false k v w e h = sym (other k (kind.Word w) (λ f. other_word (λ g. false≢true (h.1 g)) (sym e ∙ f)))
+
+pub told_none : (k : Kind) (w : Word) → ((v : Word) → k ≡ kind.Word v → ⊥) → false ≡ same_kind k (kind.Word w)
+told_none k w h = sym (other k (kind.Word w) (h w))
