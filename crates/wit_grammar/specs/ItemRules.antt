@@ -9,7 +9,7 @@ use Rattle.wit_lex.specs.declared.kind.Kind.TheVariants.{Comma, Colon, Semicolon
 use Rattle.wit_lex.specs.declared.word.Word.TheVariants as word
 use Rattle.wit_grammar.specs.Grammar.{Gram, mark, spanned, says, name, name_but, docs, never, deeper, both, act, either, opt, until, listed, seq, ◌▸◌, ◌◂◌}
 use Rattle.wit_grammar.specs.Trees.{Name, Documents, Release, Ty, Attribute, Front, Parameter, Function, NamedFunction, ResourceFunction, method, of_resource, maker, Field, Flag, Case, Body, alias, of_fields, of_flags, of_cases, of_labels, of_funcs, Definition, PackageId, Path, by_name, UsedName, Use, TopUse, InterfaceItem, uses, defines, has_func, Interface, ExternKind, inline_interface, by_path, by_func, named_path, Extern, RenamedName, Include, WorldItem, crosses, world_uses, world_defines, includes, World, Declaration, of_interface, of_world, of_use, Item, declares, nests, Items, no_more, then_item, items_of, Nested, File}
-use Rattle.wit_grammar.specs.Rules.{joined, label, types, signature, func_word, function, func_of, front, at_version, item_path, package_path, rest_of_path, path_of, path, release_of, used, use_of, top_used, top_use_of}
+use Rattle.wit_grammar.specs.Rules.{joined, label, types, signature, accessor, func_word, function, func_of, front, at_version, item_path, package_path, rest_of_path, path_of, path, release_of, used, use_of, top_used, top_use_of}
 
 -- ---- definitions of types
 -- 'type' name '=' type ';'
@@ -49,9 +49,13 @@ enum_definition = Word word.Enum ▸ both (λ n xs. (n, of_labels n.span xs)) na
 unfoldable pub closed_function : Gram Function
 closed_function = function ◂ Semicolon
 
+-- signature ';'
+unfoldable pub closed_signature : Gram (List Parameter × Option Ty)
+closed_signature = signature ◂ Semicolon
+
 -- 'constructor' signature ';'
 unfoldable pub constructed : Gram (Span × List Parameter × Option Ty)
-constructed = both (λ s x. (s, x.0, x.1)) (spanned (Word word.Constructor)) (signature ◂ Semicolon)
+constructed = both (λ s x. (s, x.0, x.1)) (spanned (Word word.Constructor)) closed_signature
 
 -- 'static'?
 unfoldable pub is_static : Gram Bool
@@ -131,14 +135,21 @@ accessor_name (s, other) = record { text = codes "set"; span = s }
 -- 'get' or 'set' is a name, where no '(' follows
 unfoldable pub get_or_set : Gram (Name → ExternKind)
 get_or_set =
-    both (λ a x n. x a n) (either (act (λ s. (s, Getter)) (says (codes "get"))) (act (λ s. (s, Setter)) (says (codes "set"))))
-    (either (act (λ x a n. by_func n (func_of a x)) (signature ◂ Semicolon)) (act (λ x a n. x n (accessor_name a)) after_second))
+    both (λ a x n. x a n) accessor
+    (either (act (λ x a n. by_func n (func_of a x)) closed_signature) (act (λ x a n. x n (accessor_name a)) after_second))
+
+-- 'async'? 'func' signature ';'
+unfoldable pub worded_function : Gram Function
+worded_function = both func_of func_word closed_signature
+
+unfoldable pub inline_items : Gram (List InterfaceItem)
+inline_items = Word word.Interface ▸ interface_items
 
 -- after a name and ':'
 unfoldable pub after_colon : Gram (Name → ExternKind)
 after_colon =
-    either (act (λ xs n. inline_interface n xs) (Word word.Interface ▸ interface_items))
-    (either (act (λ f n. by_func n f) (both func_of func_word signature ◂ Semicolon)) (either get_or_set extern_path))
+    either (act (λ xs n. inline_interface n xs) inline_items)
+    (either (act (λ f n. by_func n f) worded_function) (either get_or_set extern_path))
 
 unfoldable pub extern_kind : Gram ExternKind
 extern_kind = both (λ n x. x n) name (either (Colon ▸ after_colon) (act (λ _ n. by_path (by_name n)) (mark Semicolon)))
@@ -157,10 +168,14 @@ extern_of f x = record { side = x.0; front = f; kind = x.1 }
 unfoldable pub renamed : Gram RenamedName
 renamed = both (λ n l. record { name = n; local = l }) name (Word word.As ▸ name)
 
+-- ';'?
+unfoldable pub maybe_semicolon : Gram Bool
+maybe_semicolon = act is_some (opt (mark Semicolon))
+
 -- 'with' '{' name 'as' name, .. '}' ';'? | ';'
 unfoldable pub renames : Gram (List RenamedName)
 renames =
-    either (Word word.With ▸ both (λ xs _. xs) (listed OpenBrace CloseBrace renamed) (opt (mark Semicolon)))
+    either (Word word.With ▸ both (λ xs _. xs) (listed OpenBrace CloseBrace renamed) maybe_semicolon)
     (act (λ _. []) (mark Semicolon))
 
 unfoldable pub include : Gram (Path × List RenamedName)
@@ -193,9 +208,13 @@ declaration =
     (either (act (λ x f. of_use (top_use_of f.attributes x)) top_used)
     (either (act (λ x f. of_world (world_of f x)) world_rule) (act (λ x f. of_interface (interface_of f x)) interface_rule)))
 
+-- 'package' name ':' name
+unfoldable pub two_names : Gram (Name × Name)
+two_names = Word word.Package ▸ seq label name
+
 -- 'package' name ':' name ( '@' version )?
 unfoldable pub package_names : Gram (Name × Name × Option (Span × Release))
-package_names = Word word.Package ▸ both (λ x v. (x.0, x.1, v)) (seq label name) at_version
+package_names = both (λ x v. (x.0, x.1, v)) two_names at_version
 
 -- the end of the version, or of the name where there is none
 abbrev pub last_span : Name → Option (Span × Release) → Span
@@ -209,18 +228,20 @@ package_of d x = record { docs = d; span = joined x.0.span (last_span x.1 x.2); 
 unfoldable pub braced : Gram Item → Gram (List Item)
 braced item = OpenBrace ▸ (until item CloseBrace ◂ CloseBrace)
 
--- 'package' .. '{' item .. '}'
-unfoldable pub nested_package : Gram Item → Gram Item
-nested_package item = both (λ d x. nests (package_of d x.0) (items_of x.1)) docs (seq package_names (braced item))
+abbrev pub nest : Documents → (Name × Name × Option (Span × Release)) × List Item → Item
+nest d x = nests (package_of d x.0) (items_of x.1)
 
--- a package in which these items are, or a declaration
-abbrev pub item_of : Gram Item → Gram Item
-item_of inner = either (nested_package inner) (act declares declaration)
+-- a package, whose docs are in front of this, or a declaration
+abbrev pub item_of : Gram ((Name × Name × Option (Span × Release)) × List Item) → Gram Item
+item_of inner = either (both nest docs inner) (act declares declaration)
 
--- an item, with packages in one another of at most so many levels
+-- 'package' .. '{' item .. '}', with packages in one another of at most so many levels
+unfoldable pub package_to : ℕ → Gram ((Name × Name × Option (Span × Release)) × List Item)
+package_to zero = deeper (Word word.Package ∷ [])
+package_to (suc n) = seq package_names (braced (item_of (package_to n)))
+
 unfoldable pub item_to : ℕ → Gram Item
-item_to zero = either (both (λ _ x. x) docs (deeper (Word word.Package ∷ []))) (act declares declaration)
-item_to (suc n) = item_of (item_to n)
+item_to n = item_of (package_to n)
 
 -- what a file begins with: a header, or an item
 pub data Beginning : Type 0 where
@@ -257,6 +278,9 @@ abbrev pub names_in : Items → List PackageId
 names_in no_more = []
 names_in (then_item x rest) = name_in x ++ names_in rest
 
+abbrev pub nested_of : PackageId → List Item → Nested
+nested_of p xs = record { name = p; declarations = declarations_in (items_of xs); nested = names_in (items_of xs) }
+
 abbrev pub nested_in : Item → List Nested
 nested_in (declares d) = []
 nested_in (nests p items) = record { name = p; declarations = declarations_in items; nested = names_in items } ∷ []
@@ -269,6 +293,10 @@ file_of None = file_from None []
 file_of (Some (header p, xs)) = file_from (Some p) xs
 file_of (Some (item x, xs)) = file_from None (x ∷ xs)
 
+-- item .. up to the end of the text
+unfoldable pub items_to_end : Gram (List Item)
+items_to_end = until (item_to 100) End
+
 -- a file up to its end
 unfoldable pub file : Gram File
-file = both (λ x _. file_of x) (opt (seq beginning (until (item_to 100) End))) (until (never {A = Item}) End)
+file = both (λ x _. file_of x) (opt (seq beginning items_to_end)) (until (never {A = Item}) End)
