@@ -9,3 +9,9 @@ pub mod Numbers
 pub mod Lists
 pub mod Seen
 pub mod Alternatives
+pub mod Courses
+pub mod Several
+pub mod Attributed
+pub mod Documented
+pub mod Paths
+pub mod Versions

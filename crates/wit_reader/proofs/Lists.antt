@@ -15,7 +15,7 @@ use Rattle.wit_reader.specs.Reading.{Parses, spot}
 abbrev pub with_front : {V : Type 0} → List V → Read (List V) → Read (List V)
 with_front front r = r >>= λ x. Ok (front ++ x.0, x.1)
 
-no_front : {V : Type 0} (r : Read (List V)) → with_front [] r ≡ r
+pub no_front : {V : Type 0} (r : Read (List V)) → with_front [] r ≡ r
 no_front (Ok x) = refl
 no_front (Err e) = refl
 

@@ -5,3 +5,4 @@ pub mod Headers
 pub mod Primitives
 pub mod Reading
 pub mod ResultTypes
+pub mod Versions

@@ -14,7 +14,7 @@ use Rattle.wit_lex.specs.Faults.{IsUnread, IsWithin}
 use Rattle.wit_lex.specs.Lexis.{lexeme, Stops}
 use Rattle.wit_lex.specs.Tokens.{IsSign, IsToken}
 use Rattle.wit_grammar.specs.Leaves.{Spot, Read, span_of}
-use Rattle.wit_grammar.specs.Grammar.{Gram, run}
+use Rattle.wit_grammar.specs.Grammar.{Gram, act, run}
 
 -- at least one token was read, and what was made of it has these marks
 pub record IsRead (old : Reader) (marks : List Mark) (new : Reader) : Type 0 where
@@ -70,12 +70,6 @@ pub record Passes (old : Reader) (course : Result Spot ReadError) (new : Reader)
   pub onward : old.before < new.before
   pub passes : course ≡ Ok (spot new)
 
--- of what a course gives, the answer is made
-pub record ParsesAs {A B : Type 0} (old : Reader) (course : Read A) (make : A → B) (answer : B) (new : Reader) : Type 0 where
-  pub value : A
-  pub read : Parses old course value new
-  pub made : answer ≡ make value
-
 -- the grammar spells this value from where one reader is to where the other is, at least one token further
 abbrev pub Reads : {A : Type 0} → Gram A → Reader → A → Reader → Type 0
 Reads g old value new = Parses old (run g (spot old)) value new
@@ -86,8 +80,12 @@ ReadsOn g old value new = ParsesOn old (run g (spot old)) value new
 
 -- the same of a value of which the answer is made
 abbrev pub ReadsAs : {A B : Type 0} → Gram A → (A → B) → Reader → B → Reader → Type 0
-ReadsAs g make old answer new = ParsesAs old (run g (spot old)) make answer new
+ReadsAs g make old answer new = Reads (act make g) old answer new
 
 -- the fault at which reading by the grammar stops, or memory ran out
 abbrev pub Refuses : {A : Type 0} → Gram A → Reader → ReadError → Type 0
 Refuses g old e = Stops (run g (spot old)) e
+
+-- what is made of a value that was read before
+abbrev pub given : {A B : Type 0} → A → (A → B) → B
+given x make = make x

@@ -1,6 +1,10 @@
 //! Reading what stands in front of items.
-ghost use Rattle.std.specs.Prelude.{◌≡◌, ◌+◌, [], ◌∷◌, IfOk, IfErr};
+ghost use Rattle.std.specs.Prelude.{◌≡◌, ◌+◌, [], ◌∷◌, map, IfOk, IfErr};
 ghost use Rattle.wit_type_tree.specs.Marks.{documented, attributes_marks, front_marks};
+ghost use Rattle.wit_lex.specs.Lexis.{Stops};
+ghost use Rattle.wit_grammar.specs.Seen.{see_attribute, see_docs, see_front};
+ghost use Rattle.wit_grammar.specs.Leaves.{docs_at};
+ghost use Rattle.wit_grammar.specs.Rules.{attributes, front};
 
 use crate::reader::Reader;
 use crate::room::add;
@@ -17,20 +21,17 @@ pub struct Front<'a> {
 }
 
 impl<'a> Reader<'a> {
-    ghost use Rattle.wit_reader.specs.Reading.{IsRead, IsReadOn, IsRefused};
+    ghost use Rattle.wit_reader.specs.Reading.{IsRead, IsReadOn, IsRefused, ParsesOn, ReadsOn, Refuses, spot};
 
-    /// Reads the docs in front of the token, which is taken anew where it does not begin at their end.
+    /// Reads the docs in front of the token; what is in front of it is then read.
     pub fn read_docs(&mut self) -> ReadResult<Docs<'a>>
         ensures read { IfOk result (λ docs. IsReadOn self.old (documented docs ∷ []) self.new) }
         ensures refused { IfErr result (λ e. IsRefused self.old e) }
+        ensures parses { IfOk result (λ it. ParsesOn self.old (docs_at (spot self.old)) (see_docs it) self.new) }
+        ensures stops { IfErr result (Stops (docs_at (spot self.old))) }
     {
-        let (docs, end) = docs_behind(self.alloc, self.source, self.offset, self.before)?;
-        if end == self.token.start {
-            self.before = end;
-            return Ok(docs);
-        }
-        self.token.advance(self.source, end)?;
-        self.before = end;
+        let (docs, _) = docs_behind(self.alloc, self.source, self.offset, self.before)?;
+        self.before = self.token.start;
         Ok(docs)
     }
 
@@ -38,6 +39,8 @@ impl<'a> Reader<'a> {
     fn read_attributes(&mut self) -> ReadResult<Vec<Attribute<'a>>>
         ensures read { IfOk result (λ list. IsReadOn self.old (attributes_marks list.items) self.new) }
         ensures refused { IfErr result (λ e. IsRefused self.old e) }
+        ensures parses { IfOk result (λ it. ReadsOn attributes self.old (map see_attribute it.items) self.new) }
+        ensures stops { IfErr result (Refuses attributes self.old) }
     {
         let mut attributes = Vec::new(self.alloc);
         'attributes: while self.at(Kind::At) {
@@ -47,10 +50,13 @@ impl<'a> Reader<'a> {
         Ok(attributes)
     }
 
-    /// Reads docs, and attributes behind them.
+    /// Reads docs, and attributes after them.
+    #[tactic(auto, unfolding(wit_grammar::specs::Rules::front))]
     pub fn read_front(&mut self) -> ReadResult<Front<'a>>
-        ensures read { IfOk result (λ front. IsReadOn self.old (front_marks front.docs front.attributes.items) self.new) }
+        ensures read { IfOk result (λ f. IsReadOn self.old (front_marks f.docs f.attributes.items) self.new) }
         ensures refused { IfErr result (λ e. IsRefused self.old e) }
+        ensures parses { IfOk result (λ it. ReadsOn front self.old (see_front it.docs it.attributes.items) self.new) }
+        ensures stops { IfErr result (Refuses front self.old) }
     {
         let docs = self.read_docs()?;
         let attributes = self.read_attributes()?;

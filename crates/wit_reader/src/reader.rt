@@ -9,7 +9,7 @@ ghost use Rattle.wit_lex.specs.Words.{word_text};
 ghost use Rattle.wit_grammar.specs.Kinds.{same_kind};
 ghost use Rattle.wit_grammar.specs.Seen.{see_name};
 ghost use Rattle.wit_grammar.specs.Leaves.{past, mark_at, spanned_at, text_at, name_at};
-ghost use Rattle.wit_grammar.specs.Grammar.{run};
+ghost use Rattle.wit_grammar.specs.Grammar.{matches, of_text, run};
 ghost use Rattle.wit_grammar.specs.Rules.{label};
 
 use std::alloc::Global;
@@ -78,6 +78,13 @@ impl<'a> Reader<'a> {
             Kind::Word(found) => found == word,
             _ => false,
         }
+    }
+
+    /// Whether the token is a name of this very text, without a `%` in front.
+    pub fn at_text(&self, text: &str) -> bool
+        ensures { result ≡ matches (of_text text.now) (spot self.now) (lexeme self.now.token) }
+    {
+        self.at(Kind::Name) && self.token.text == text
     }
 
     /// Goes past the token.

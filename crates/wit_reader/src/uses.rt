@@ -1,9 +1,13 @@
 //! Reading paths, what an interface or a world uses, and other names for items.
-ghost use Rattle.std.specs.Prelude.{◌≡◌, ◌+◌, [], ◌∷◌, IfOk, IfErr};
+ghost use Rattle.std.specs.Prelude.{◌≡◌, ◌+◌, [], ◌∷◌, map, IfOk, IfErr};
 ghost use Rattle.std.specs.List.{flat_map};
+ghost use Rattle.std.specs.Option.{option_map};
 ghost use Rattle.wit_type_tree.specs.Marks.{named, attributes_marks};
 ghost use Rattle.wit_tree.specs.Marks.{path_marks, local_marks, used_marks, use_marks, toplevel_marks};
-ghost use Rattle.wit_type_tree.specs.Slices.{IsJoined};
+ghost use Rattle.wit_lex.specs.declared.kind.Kind.TheVariants.{Dot, Semicolon};
+ghost use Rattle.wit_grammar.specs.Seen.{see_attribute, see_name, see_path, see_top_use, see_use, see_used};
+ghost use Rattle.wit_grammar.specs.Grammar.{act, ◌▸◌, ◌◂◌};
+ghost use Rattle.wit_grammar.specs.Rules.{item_path, joined, local, package_path, path, path_of, rest_of_path, top_use_of, top_used, use_of, used, used_name, used_names};
 ghost use Rattle.wit_reader.specs.Fronts.{Completes, IsReadBehind};
 ghost use Rattle.wit_reader.specs.Headers.{found_version};
 
@@ -27,7 +31,7 @@ fn path_package<'a>(
     ensures docs { result.docs ≡ docs.entry }
     ensures namespace { result.namespace ≡ namespace.entry }
     ensures name { result.name ≡ name.entry }
-    ensures span { IsJoined result.span namespace.entry.span name.entry.span }
+    ensures span { result.span ≡ joined namespace.entry.span name.entry.span }
     ensures version { result.version ≡ found_version found }
 {
     let version = match found {
@@ -47,21 +51,17 @@ fn path_package<'a>(
     }
 }
 
-/// The used name, with the local name that was found behind it.
-fn used_name<'a>(name: Id<'a>, local: Option<Id<'a>>) -> UseName<'a>
-    ensures { used_marks result ≡ named name.entry ∷ local_marks local.entry }
-{
-    UseName { name, as_: local }
-}
-
 impl<'a> Reader<'a> {
-    ghost use Rattle.wit_reader.specs.Reading.{IsRead, IsReadOn, IsRefused};
+    ghost use Rattle.wit_reader.specs.Reading.{IsRead, IsReadOn, IsRefused, Reads, ReadsAs, ReadsOn, Refuses};
 
     /// Reads the rest of a path with a package behind the two names of that: `/name`, and perhaps a
     /// version.
+    #[tactic(auto, unfolding(wit_grammar::specs::Rules::item_path))]
     pub fn read_item_path(&mut self, first: Id<'a>, second: Id<'a>) -> ReadResult<UsePath<'a>>
-        ensures read { IfOk result (λ path. Completes self.old (named first.entry ∷ named second.entry ∷ []) (path_marks path) self.new) }
+        ensures read { IfOk result (λ p. Completes self.old (named first.entry ∷ named second.entry ∷ []) (path_marks p) self.new) }
         ensures refused { IfErr result (λ e. IsRefused self.old e) }
+        ensures parses { IfOk result (λ it. ReadsAs item_path (package_path (see_name first.entry) (see_name second.entry)) self.old (see_path it) self.new) }
+        ensures stops { IfErr result (Refuses item_path self.old) }
     {
         self.expect(Kind::Slash)?;
         let name = self.read_id()?;
@@ -73,9 +73,12 @@ impl<'a> Reader<'a> {
 
     /// Reads the rest of a path behind its first name: nothing, or `:name/name` with perhaps a
     /// version.
+    #[tactic(auto, unfolding(wit_grammar::specs::Rules::rest_of_path, wit_grammar::specs::Leaves::mark_at))]
     pub fn read_rest_of_path(&mut self, first: Id<'a>) -> ReadResult<UsePath<'a>>
-        ensures read { IfOk result (λ path. Completes self.old (named first.entry ∷ []) (path_marks path) self.new) }
+        ensures read { IfOk result (λ p. Completes self.old (named first.entry ∷ []) (path_marks p) self.new) }
         ensures refused { IfErr result (λ e. IsRefused self.old e) }
+        ensures parses { IfOk result (λ it. ReadsOn (act (path_of (see_name first.entry)) rest_of_path) self.old (see_path it) self.new) }
+        ensures stops { IfErr result (Refuses rest_of_path self.old) }
     {
         if !self.at(Kind::Colon) {
             return Ok(UsePath::Id(first));
@@ -87,9 +90,12 @@ impl<'a> Reader<'a> {
     }
 
     /// Reads a path: a name of the package, or `name:name/name` with perhaps a version behind it.
+    #[tactic(auto, unfolding(wit_grammar::specs::Rules::path))]
     pub fn read_path(&mut self) -> ReadResult<UsePath<'a>>
-        ensures read { IfOk result (λ path. IsRead self.old (path_marks path) self.new) }
+        ensures read { IfOk result (λ p. IsRead self.old (path_marks p) self.new) }
         ensures refused { IfErr result (λ e. IsRefused self.old e) }
+        ensures parses { IfOk result (λ it. Reads path self.old (see_path it) self.new) }
+        ensures stops { IfErr result (Refuses path self.old) }
     {
         let first = self.read_id()?;
         let path = self.read_rest_of_path(first)?;
@@ -97,9 +103,12 @@ impl<'a> Reader<'a> {
     }
 
     /// Reads `as` and the local name, where there is one.
+    #[tactic(auto, unfolding(wit_grammar::specs::Rules::local, wit_grammar::specs::Leaves::mark_at))]
     fn read_local(&mut self) -> ReadResult<Option<Id<'a>>>
-        ensures read { IfOk result (λ local. IsReadOn self.old (local_marks local) self.new) }
+        ensures read { IfOk result (λ it. IsReadOn self.old (local_marks it) self.new) }
         ensures refused { IfErr result (λ e. IsRefused self.old e) }
+        ensures parses { IfOk result (λ it. ReadsOn local self.old (option_map see_name it) self.new) }
+        ensures stops { IfErr result (Refuses local self.old) }
     {
         if !self.at_word(Word::As) {
             return Ok(None);
@@ -110,19 +119,24 @@ impl<'a> Reader<'a> {
     }
 
     /// Reads a used name, perhaps with a local name behind it.
+    #[tactic(auto, unfolding(wit_grammar::specs::Rules::used_name))]
     fn read_used(&mut self) -> ReadResult<UseName<'a>>
         ensures read { IfOk result (λ u. IsRead self.old (used_marks u) self.new) }
         ensures refused { IfErr result (λ e. IsRefused self.old e) }
+        ensures parses { IfOk result (λ it. Reads used_name self.old (see_used it) self.new) }
+        ensures stops { IfErr result (Refuses used_name self.old) }
     {
         let name = self.read_id()?;
         let local = self.read_local()?;
-        Ok(used_name(name, local))
+        Ok(UseName { name, as_: local })
     }
 
     /// Reads used names in braces.
     fn read_used_names(&mut self) -> ReadResult<Vec<UseName<'a>>>
         ensures read { IfOk result (λ names. IsRead self.old (flat_map used_marks names.items) self.new) }
         ensures refused { IfErr result (λ e. IsRefused self.old e) }
+        ensures parses { IfOk result (λ it. Reads used_names self.old (map see_used it.items) self.new) }
+        ensures stops { IfErr result (Refuses used_names self.old) }
     {
         let mut more = self.open_list(Kind::OpenBrace, Kind::CloseBrace)?;
         let mut names = Vec::new(self.alloc);
@@ -138,6 +152,8 @@ impl<'a> Reader<'a> {
     fn read_behind_path(&mut self) -> ReadResult<Vec<UseName<'a>>>
         ensures read { IfOk result (λ names. IsRead self.old (flat_map used_marks names.items) self.new) }
         ensures refused { IfErr result (λ e. IsRefused self.old e) }
+        ensures parses { IfOk result (λ it. Reads (Dot ▸ (used_names ◂ Semicolon)) self.old (map see_used it.items) self.new) }
+        ensures stops { IfErr result (Refuses (Dot ▸ (used_names ◂ Semicolon)) self.old) }
     {
         self.expect(Kind::Dot)?;
         let names = self.read_used_names()?;
@@ -146,9 +162,12 @@ impl<'a> Reader<'a> {
     }
 
     /// Reads `use path.{name, name as name, ..};`.
+    #[tactic(auto, unfolding(wit_grammar::specs::Rules::used))]
     pub fn read_use(&mut self, attributes: Vec<Attribute<'a>>) -> ReadResult<Use<'a>>
         ensures read { IfOk result (λ u. IsReadBehind self.old (attributes_marks attributes.entry.items) (use_marks u) self.new) }
         ensures refused { IfErr result (λ e. IsRefused self.old e) }
+        ensures parses { IfOk result (λ it. ReadsAs used (use_of (map see_attribute attributes.entry.items)) self.old (see_use it) self.new) }
+        ensures stops { IfErr result (Refuses used self.old) }
     {
         self.expect_word(Word::Use)?;
         let path = self.read_path()?;
@@ -162,8 +181,10 @@ impl<'a> Reader<'a> {
 
     /// Reads `;`, perhaps with `as` and the local name in front of it.
     fn read_local_and_close(&mut self) -> ReadResult<Option<Id<'a>>>
-        ensures read { IfOk result (λ local. IsRead self.old (local_marks local) self.new) }
+        ensures read { IfOk result (λ it. IsRead self.old (local_marks it) self.new) }
         ensures refused { IfErr result (λ e. IsRefused self.old e) }
+        ensures parses { IfOk result (λ it. Reads (local ◂ Semicolon) self.old (option_map see_name it) self.new) }
+        ensures stops { IfErr result (Refuses (local ◂ Semicolon) self.old) }
     {
         let local = self.read_local()?;
         self.expect(Kind::Semicolon)?;
@@ -171,12 +192,15 @@ impl<'a> Reader<'a> {
     }
 
     /// Reads `use path;` or `use path as name;`.
+    #[tactic(auto, unfolding(wit_grammar::specs::Rules::top_used))]
     pub fn read_toplevel_use(
         &mut self,
         attributes: Vec<Attribute<'a>>,
     ) -> ReadResult<ToplevelUse<'a>>
         ensures read { IfOk result (λ u. IsReadBehind self.old (attributes_marks attributes.entry.items) (toplevel_marks u) self.new) }
         ensures refused { IfErr result (λ e. IsRefused self.old e) }
+        ensures parses { IfOk result (λ it. ReadsAs top_used (top_use_of (map see_attribute attributes.entry.items)) self.old (see_top_use it) self.new) }
+        ensures stops { IfErr result (Refuses top_used self.old) }
     {
         let span = self.read_word(Word::Use)?;
         let path = self.read_path()?;
