@@ -55,6 +55,10 @@ g ◂ k = both (λ x _. x) g (mark k)
 abbrev pub seq : {A B : Type 0} → Gram A → Gram B → Gram (A × B)
 seq g h = both (λ x y. (x, y)) g h
 
+-- what is made of what was spelled before
+abbrev pub applied : {A B : Type 0} → A → (A → B) → B
+applied a f = f a
+
 -- ---- what a token is
 pub data Terminal : Type 0 where
   of_kind : Kind → Terminal
@@ -133,7 +137,7 @@ Many f (x ∷ xs) s e = (m : Spot) × f x s m × Many f xs m e
 -- several, with commas between them, perhaps one after the last, and then a mark
 abbrev pub AreListed : {A : Type 0} → (A → Spot → Spot → Type 0) → Kind → A → List A → Spot → Spot → Type 0
 AreListed f close x [] s e = (m : Spot) × f x s m × ((mark_at close m ≡ Ok e) ⊎ ((n : Spot) × (mark_at Comma m ≡ Ok n) × (mark_at close n ≡ Ok e)))
-AreListed f close x (y ∷ ys) s e = (m n : Spot) × f x s m × (mark_at Comma m ≡ Ok n) × AreListed f close y ys n e
+AreListed f close x (y ∷ ys) s e = (m : Spot) × (n : Spot) × f x s m × (mark_at Comma m ≡ Ok n) × AreListed f close y ys n e
 
 abbrev pub Listed : {A : Type 0} → (A → Spot → Spot → Type 0) → Kind → List A → Spot → Spot → Type 0
 Listed f close [] s e = mark_at close s ≡ Ok e

@@ -3,11 +3,13 @@ use Rattle.std.specs.Prelude.{ℕ, zero, suc, Bool, true, false, List, [], ◌�
 use Rattle.std.specs.List.{flat_map}
 use Rattle.std.specs.Option.{is_some}
 use Rattle.wit_values.specs.declared.span.Span.{Span}
-use Rattle.wit_type_tree.specs.declared.types.FuncForm.{FuncForm, Getter, Setter}
-use Rattle.wit_tree.specs.declared.tree.WorldSide.{WorldSide, Imported, Exported}
+use Rattle.wit_type_tree.specs.declared.types.FuncForm.{FuncForm}
+use Rattle.wit_type_tree.specs.declared.types.FuncForm.TheVariants.{Getter, Setter}
+use Rattle.wit_tree.specs.declared.tree.WorldSide.{WorldSide}
+use Rattle.wit_tree.specs.declared.tree.WorldSide.TheVariants.{Imported, Exported}
 use Rattle.wit_lex.specs.declared.kind.Kind.TheVariants.{Comma, Colon, Semicolon, Equals, OpenParen, CloseParen, OpenBrace, CloseBrace, End, Word}
 use Rattle.wit_lex.specs.declared.word.Word.TheVariants as word
-use Rattle.wit_grammar.specs.Grammar.{Gram, mark, spanned, says, name, name_but, docs, never, deeper, both, act, either, opt, until, listed, seq, ◌▸◌, ◌◂◌}
+use Rattle.wit_grammar.specs.Grammar.{Gram, mark, spanned, says, name, name_but, docs, never, deeper, both, act, either, opt, until, listed, seq, applied, ◌▸◌, ◌◂◌}
 use Rattle.wit_grammar.specs.Trees.{Name, Documents, Release, Ty, Attribute, Front, Parameter, Function, NamedFunction, ResourceFunction, method, of_resource, maker, Field, Flag, Case, Body, alias, of_fields, of_flags, of_cases, of_labels, of_funcs, Definition, PackageId, Path, by_name, UsedName, Use, TopUse, InterfaceItem, uses, defines, has_func, Interface, ExternKind, inline_interface, by_path, by_func, named_path, Extern, RenamedName, Include, WorldItem, crosses, world_uses, world_defines, includes, World, Declaration, of_interface, of_world, of_use, Item, declares, nests, Items, no_more, then_item, items_of, Nested, File}
 use Rattle.wit_grammar.specs.Rules.{joined, label, types, signature, accessor, func_word, function, func_of, front, at_version, item_path, package_path, rest_of_path, path_of, path, release_of, used, use_of, top_used, top_use_of}
 
@@ -76,7 +78,7 @@ member_of f (n, false, x) = method (named_func_of f n x)
 member_of f (n, true, x) = of_resource (named_func_of f n x)
 
 unfoldable pub resource_function : Gram ResourceFunction
-resource_function = both (λ f x. x f) front (either (act (λ x f. maker_of f x) constructed) (act (λ x f. member_of f x) member))
+resource_function = both applied front (either (act (λ x f. maker_of f x) constructed) (act (λ x f. member_of f x) member))
 
 -- '{' function .. '}'
 unfoldable pub braced_functions : Gram (List ResourceFunction)
@@ -103,7 +105,7 @@ named_function = seq label closed_function
 
 unfoldable pub interface_item : Gram InterfaceItem
 interface_item =
-    both (λ f x. x f) front
+    both applied front
     (either (act (λ x f. uses (use_of f.attributes x)) used)
     (either (act (λ x f. has_func (named_func_of f x.0 x.1)) named_function) (act (λ x f. defines (definition_of f x)) definition)))
 
@@ -135,7 +137,7 @@ accessor_name (s, other) = record { text = codes "set"; span = s }
 -- 'get' or 'set' is a name, where no '(' follows
 unfoldable pub get_or_set : Gram (Name → ExternKind)
 get_or_set =
-    both (λ a x n. x a n) accessor
+    both applied accessor
     (either (act (λ x a n. by_func n (func_of a x)) closed_signature) (act (λ x a n. x n (accessor_name a)) after_second))
 
 -- 'async'? 'func' signature ';'
@@ -152,7 +154,7 @@ after_colon =
     (either (act (λ f n. by_func n f) worded_function) (either get_or_set extern_path))
 
 unfoldable pub extern_kind : Gram ExternKind
-extern_kind = both (λ n x. x n) name (either (Colon ▸ after_colon) (act (λ _ n. by_path (by_name n)) (mark Semicolon)))
+extern_kind = both applied name (either (Colon ▸ after_colon) (act (λ _ n. by_path (by_name n)) (mark Semicolon)))
 
 -- 'import' | 'export'
 unfoldable pub side : Gram WorldSide
@@ -186,7 +188,7 @@ include_of xs x = record { attributes = xs; from = x.0; names = x.1 }
 
 unfoldable pub world_item : Gram WorldItem
 world_item =
-    both (λ f x. x f) front
+    both applied front
     (either (act (λ x f. world_uses (use_of f.attributes x)) used)
     (either (act (λ x f. includes (include_of f.attributes x)) include)
     (either (act (λ x f. crosses (extern_of f x)) extern) (act (λ x f. world_defines (definition_of f x)) definition))))
@@ -204,7 +206,7 @@ world_of f x = record { front = f; name = x.0; items = x.1 }
 -- ---- files
 unfoldable pub declaration : Gram Declaration
 declaration =
-    both (λ f x. x f) front
+    both applied front
     (either (act (λ x f. of_use (top_use_of f.attributes x)) top_used)
     (either (act (λ x f. of_world (world_of f x)) world_rule) (act (λ x f. of_interface (interface_of f x)) interface_rule)))
 
@@ -246,11 +248,11 @@ item_to n = item_of (package_to n)
 -- what a file begins with: a header, or an item
 pub data Beginning : Type 0 where
   header : PackageId → Beginning
-  item : Item → Beginning
+  first_item : Item → Beginning
 
 abbrev pub header_or_nested : PackageId → Option (List Item) → Beginning
 header_or_nested p None = header p
-header_or_nested p (Some xs) = item (nests p (items_of xs))
+header_or_nested p (Some xs) = first_item (nests p (items_of xs))
 
 -- 'package' name ':' name ( '@' version )? ( ';' | '{' item .. '}' )
 unfoldable pub package_first : Gram Beginning
@@ -259,7 +261,7 @@ package_first =
     (seq package_names (either (act (λ xs. Some xs) (braced (item_to 99))) (act (λ _. None) (mark Semicolon))))
 
 unfoldable pub beginning : Gram Beginning
-beginning = either package_first (act (λ d. item (declares d)) declaration)
+beginning = either package_first (act (λ d. first_item (declares d)) declaration)
 
 -- ---- what is kept of what is spelled
 abbrev pub declaration_in : Item → List Declaration
@@ -291,7 +293,7 @@ file_from h xs = record { header = h; declarations = flat_map declaration_in xs;
 abbrev pub file_of : Option (Beginning × List Item) → File
 file_of None = file_from None []
 file_of (Some (header p, xs)) = file_from (Some p) xs
-file_of (Some (item x, xs)) = file_from None (x ∷ xs)
+file_of (Some (first_item x, xs)) = file_from None (x ∷ xs)
 
 -- item .. up to the end of the text
 unfoldable pub items_to_end : Gram (List Item)

@@ -1,12 +1,13 @@
 -- The grammar of WIT, a line a rule, from types up to what items have in front.
 use Rattle.std.specs.Prelude.{ℕ, zero, suc, List, [], ◌∷◌, Option, Some, None, codes}
 use Rattle.wit_values.specs.declared.span.Span.{Span}
-use Rattle.wit_type_tree.specs.declared.types.FuncForm.{FuncForm, Plain, Async, Getter, Setter}
+use Rattle.wit_type_tree.specs.declared.types.FuncForm.{FuncForm}
+use Rattle.wit_type_tree.specs.declared.types.FuncForm.TheVariants.{Plain, Async, Getter, Setter}
 use Rattle.wit_lex.specs.declared.kind.Kind.{Kind}
 use Rattle.wit_lex.specs.declared.kind.Kind.TheVariants.{Comma, Colon, Semicolon, Arrow, Equals, Underscore, OpenAngle, CloseAngle, OpenParen, CloseParen, OpenBrace, CloseBrace, Dot, Slash, At, Word}
 use Rattle.wit_lex.specs.declared.kind.Kind.TheVariants as kind
 use Rattle.wit_lex.specs.declared.word.Word.TheVariants as word
-use Rattle.wit_grammar.specs.Grammar.{Gram, mark, spanned, says, name, number, version, primitives, docs, deeper, both, act, either, opt, many, listed, seq, ◌▸◌, ◌◂◌}
+use Rattle.wit_grammar.specs.Grammar.{Gram, mark, spanned, says, name, number, version, primitives, docs, deeper, both, act, either, opt, many, listed, seq, applied, ◌▸◌, ◌◂◌}
 use Rattle.wit_grammar.specs.Trees.{Text, Name, Documents, Release, Ty, named, list, fixed, maps, option, result, tuple, future, stream, own, borrow, Perhaps, nothing, this, tys, perhaps, Attribute, since, unstable, deprecated, Front, Parameter, Function, PackageId, Path, by_name, by_package, UsedName, Use, TopUse}
 
 -- from the first span to the end of the last
@@ -164,7 +165,7 @@ after_at =
 
 -- '@' 'since' '(' .. ')', and the like
 unfoldable pub attribute : Gram Attribute
-attribute = both (λ at x. x at) (spanned At) after_at
+attribute = both applied (spanned At) after_at
 
 unfoldable pub attributes : Gram (List Attribute)
 attributes = many attribute

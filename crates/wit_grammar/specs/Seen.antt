@@ -8,33 +8,41 @@ use Rattle.semver.specs.Identifiers.{parts_of}
 use Rattle.wit_values.specs.declared.span.Span.{Span}
 use Rattle.wit_type_tree.specs.declared.leaves.Id.{Id}
 use Rattle.wit_type_tree.specs.declared.leaves.Docs.{Docs}
-use Rattle.wit_type_tree.specs.declared.leaves.Attribute.{Attribute as WrittenAttribute, Since, Unstable, Deprecated, ExternalId}
+use Rattle.wit_type_tree.specs.declared.leaves.Attribute.{Attribute as WrittenAttribute}
+use Rattle.wit_type_tree.specs.declared.leaves.Attribute.TheVariants.{Since, Unstable, Deprecated, ExternalId}
 use Rattle.wit_type_tree.specs.declared.types.Param.{Param}
 use Rattle.wit_type_tree.specs.declared.types.Func.{Func}
 use Rattle.wit_type_tree.specs.declared.types.NamedFunc.{NamedFunc}
-use Rattle.wit_type_tree.specs.declared.types.ResourceFunc.{ResourceFunc, Method, Static, Constructor}
+use Rattle.wit_type_tree.specs.declared.types.ResourceFunc.{ResourceFunc}
+use Rattle.wit_type_tree.specs.declared.types.ResourceFunc.TheVariants.{Method, Static, Constructor}
 use Rattle.wit_type_tree.specs.declared.types.Field.{Field as WrittenField}
 use Rattle.wit_type_tree.specs.declared.types.Flag.{Flag as WrittenFlag}
 use Rattle.wit_type_tree.specs.declared.types.Case.{Case as WrittenCase}
 use Rattle.wit_type_tree.specs.declared.types.EnumCase.{EnumCase}
-use Rattle.wit_type_tree.specs.declared.types.TypeBody.{TypeBody, Record, Flags, Variant, Enum, Resource, Plain}
+use Rattle.wit_type_tree.specs.declared.types.TypeBody.{TypeBody}
+use Rattle.wit_type_tree.specs.declared.types.TypeBody.TheVariants.{Record, Flags, Variant, Enum, Resource, Plain}
 use Rattle.wit_type_tree.specs.declared.types.TypeDef.{TypeDef}
 use Rattle.wit_type_tree.specs.declared.types.«Type».{«Type» as Written, Primitive as Word, Name as NameOf, List', FixedLengthList', Map', Option', Result, Tuple', Future', Stream', Own, Borrow, Held-Type-Future-1, None', Some', Row_of-Type, end_of-Type, more_of-Type}
 use Rattle.wit_type_tree.specs.declared.types.ResultTypes.{ResultTypes, Neither, Ok', Err', Both'}
 use Rattle.wit_tree.specs.declared.tree.PackageName.{PackageName}
-use Rattle.wit_tree.specs.declared.tree.UsePath.{UsePath, Id as IdPath, Package as PackagePath}
+use Rattle.wit_tree.specs.declared.tree.UsePath.{UsePath}
+use Rattle.wit_tree.specs.declared.tree.UsePath.TheVariants.{Id as IdPath, Package as PackagePath}
 use Rattle.wit_tree.specs.declared.tree.UseName.{UseName}
 use Rattle.wit_tree.specs.declared.tree.Use.{Use as WrittenUse}
 use Rattle.wit_tree.specs.declared.tree.ToplevelUse.{ToplevelUse}
-use Rattle.wit_tree.specs.declared.tree.InterfaceItem.{InterfaceItem as WrittenItem, TypeDef as ItemDef, Use as ItemUse, Func as ItemFunc}
+use Rattle.wit_tree.specs.declared.tree.InterfaceItem.{InterfaceItem as WrittenItem}
+use Rattle.wit_tree.specs.declared.tree.InterfaceItem.TheVariants.{TypeDef as ItemDef, Use as ItemUse, Func as ItemFunc}
 use Rattle.wit_tree.specs.declared.tree.Interface.{Interface as WrittenInterface}
-use Rattle.wit_tree.specs.declared.tree.ExternKind.{ExternKind as WrittenKind, Interface as KindInterface, Path as KindPath, Func as KindFunc, NamedPath as KindNamed}
+use Rattle.wit_tree.specs.declared.tree.ExternKind.{ExternKind as WrittenKind}
+use Rattle.wit_tree.specs.declared.tree.ExternKind.TheVariants.{Interface as KindInterface, Path as KindPath, Func as KindFunc, NamedPath as KindNamed}
 use Rattle.wit_tree.specs.declared.tree.Extern.{Extern as WrittenExtern}
 use Rattle.wit_tree.specs.declared.tree.IncludeName.{IncludeName}
 use Rattle.wit_tree.specs.declared.tree.Include.{Include as WrittenInclude}
-use Rattle.wit_tree.specs.declared.tree.WorldItem.{WorldItem as WrittenWorldItem, Extern as WorldExtern, Use as WorldUse, TypeDef as WorldDef, Include as WorldInclude}
+use Rattle.wit_tree.specs.declared.tree.WorldItem.{WorldItem as WrittenWorldItem}
+use Rattle.wit_tree.specs.declared.tree.WorldItem.TheVariants.{Extern as WorldExtern, Use as WorldUse, TypeDef as WorldDef, Include as WorldInclude}
 use Rattle.wit_tree.specs.declared.tree.World.{World as WrittenWorld}
-use Rattle.wit_tree.specs.declared.tree.AstItem.{AstItem, Interface as AstInterface, World as AstWorld, Use as AstUse}
+use Rattle.wit_tree.specs.declared.tree.AstItem.{AstItem}
+use Rattle.wit_tree.specs.declared.tree.AstItem.TheVariants.{Interface as AstInterface, World as AstWorld, Use as AstUse}
 use Rattle.wit_tree.specs.declared.tree.NestedPackage.{NestedPackage}
 use Rattle.wit_tree.specs.declared.tree.SourceFile.{SourceFile}
 use Rattle.wit_grammar.specs.Trees.{Name, Documents, Ty, primitive, named, list, fixed, maps, option, result, tuple, future, stream, own, borrow, Perhaps, nothing, this, Tys, end, and, Attribute, since, unstable, deprecated, external, Front, Parameter, Function, NamedFunction, ResourceFunction, method, of_resource, maker, Field, Flag, Case, Body, alias, of_fields, of_flags, of_cases, of_labels, of_funcs, Definition, PackageId, Path, by_name, by_package, UsedName, Use, TopUse, InterfaceItem, uses, defines, has_func, Interface, ExternKind, inline_interface, by_path, by_func, named_path, Extern, RenamedName, Include, WorldItem, crosses, world_uses, world_defines, includes, World, Declaration, of_interface, of_world, of_use, Nested, File}

@@ -127,7 +127,7 @@ pub record PackageId : Type 0 where
 
 pub data Path : Type 0 where
   by_name : (name : Name) → Path
-  by_package : (package : PackageId) (name : Name) → Path
+  by_package : (owner : PackageId) (name : Name) → Path
 
 pub record UsedName : Type 0 where
   pub name : Name
@@ -196,8 +196,8 @@ pub data Declaration : Type 0 where
 -- what stands in a file, or in the braces of a package, to any depth
 mutual
   pub data Item : Type 0 where
-    declared : (d : Declaration) → Item
-    package : (name : PackageId) (items : Items) → Item
+    declares : (d : Declaration) → Item
+    nests : (name : PackageId) (items : Items) → Item
 
   pub data Items : Type 0 where
     no_more : Items
