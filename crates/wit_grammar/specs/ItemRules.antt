@@ -4,13 +4,13 @@ use Rattle.std.specs.List.{flat_map}
 use Rattle.std.specs.Option.{is_some}
 use Rattle.wit_values.specs.declared.span.Span.{Span}
 use Rattle.wit_type_tree.specs.declared.types.FuncForm.{FuncForm}
-use Rattle.wit_type_tree.specs.declared.types.FuncForm.TheVariants.{Getter, Setter}
+use Rattle.wit_type_tree.specs.declared.types.FuncForm.TheVariants.{Getter}
 use Rattle.wit_tree.specs.declared.tree.WorldSide.{WorldSide}
 use Rattle.wit_tree.specs.declared.tree.WorldSide.TheVariants.{Imported, Exported}
-use Rattle.wit_lex.specs.declared.kind.Kind.TheVariants.{Comma, Colon, Semicolon, Equals, OpenParen, CloseParen, OpenBrace, CloseBrace, End, Word}
+use Rattle.wit_lex.specs.declared.kind.Kind.TheVariants.{Colon, Semicolon, Equals, OpenParen, CloseParen, OpenBrace, CloseBrace, End, Word}
 use Rattle.wit_lex.specs.declared.word.Word.TheVariants as word
-use Rattle.wit_grammar.specs.Grammar.{Gram, mark, spanned, says, name, name_but, docs, never, deeper, both, act, either, opt, until, listed, seq, applied, ◌▸◌, ◌◂◌}
-use Rattle.wit_grammar.specs.Trees.{Name, Documents, Release, Ty, Attribute, Front, Parameter, Function, NamedFunction, ResourceFunction, method, of_resource, maker, Field, Flag, Case, Body, alias, of_fields, of_flags, of_cases, of_labels, of_funcs, Definition, PackageId, Path, by_name, UsedName, Use, TopUse, InterfaceItem, uses, defines, has_func, Interface, ExternKind, inline_interface, by_path, by_func, named_path, Extern, RenamedName, Include, WorldItem, crosses, world_uses, world_defines, includes, World, Declaration, of_interface, of_world, of_use, Item, declares, nests, Items, no_more, then_item, items_of, Nested, File}
+use Rattle.wit_grammar.specs.Grammar.{Gram, mark, spanned, name, name_but, docs, never, deeper, both, act, either, opt, until, listed, seq, applied, ◌▸◌, ◌◂◌}
+use Rattle.wit_grammar.specs.Trees.{Name, Documents, Release, Ty, Attribute, Front, Parameter, Function, NamedFunction, ResourceFunction, method, of_resource, maker, Field, Flag, Case, Body, alias, of_fields, of_flags, of_cases, of_labels, of_funcs, Definition, PackageId, Path, by_name, InterfaceItem, uses, defines, has_func, Interface, ExternKind, inline_interface, by_path, by_func, named_path, Extern, RenamedName, Include, WorldItem, crosses, world_uses, world_defines, includes, World, Declaration, of_interface, of_world, of_use, Item, declares, nests, Items, no_more, then_item, items_of, Nested, File}
 use Rattle.wit_grammar.specs.Rules.{joined, label, types, signature, accessor, func_word, function, func_of, front, at_version, item_path, package_path, rest_of_path, path_of, path, release_of, used, use_of, top_used, top_use_of}
 
 -- ---- definitions of types

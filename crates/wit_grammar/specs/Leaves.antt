@@ -1,5 +1,5 @@
 -- How single tokens are read: what one says, and the place after it, or the first fault.
-use Rattle.std.specs.Prelude.{◌≡◌, ℕ, ◌+◌, ◌==◌, ◌&&◌, ◌||◌, not, Bool, true, false, List, [], ◌∷◌, cond, nat_lt, slice_range, Option, Some, None, Result, Ok, Err, if◌then◌else◌}
+use Rattle.std.specs.Prelude.{ℕ, ◌+◌, ◌==◌, ◌&&◌, ◌||◌, Bool, false, List, [], ◌∷◌, cond, nat_lt, slice_range, Option, Some, None, Result, Ok, Err, if◌then◌else◌}
 use Rattle.std.specs.Str.{bytes_eq}
 use Rattle.std.specs.Str.Parse.{digits_value}
 use Rattle.semver.specs.declared.error.Error.{Error}
@@ -99,8 +99,8 @@ unfoldable pub number_at : Spot → Read ℕ
 number_at s = do
   t ← lexed s
   if same_kind t.kind kind.Number
-    then (if nat_lt (digits_value 10 (text_of s t)) 4294967296 then (past s t >>= λ next. Ok (digits_value 10 (text_of s t), next)) else stop fault.Number t)
-    else stop fault.Token t
+      then (if nat_lt (digits_value 10 (text_of s t)) 4294967296 then (past s t >>= λ next. Ok (digits_value 10 (text_of s t), next)) else stop fault.Number t)
+      else stop fault.Token t
 
 -- ---- versions
 -- what `semver` reads of a version from a place to another, which a token follows

@@ -6,3 +6,4 @@ pub mod Grammar
 pub mod OneToken
 pub mod Rules
 pub mod ItemRules
+pub mod Laws

@@ -1,11 +1,11 @@
 -- Whether one token decides how a grammar goes on: a test that computes.
-use Rattle.std.specs.Prelude.{◌≡◌, Bool, true, false, ◌&&◌, not, List, [], ◌∷◌, ◌++◌}
+use Rattle.std.specs.Prelude.{Bool, true, false, ◌&&◌, not, List, [], ◌∷◌, ◌++◌}
 use Rattle.std.specs.Str.{bytes_eq}
 use Rattle.wit_lex.specs.declared.kind.Kind.TheVariants.{Comma}
 use Rattle.wit_lex.specs.declared.kind.Kind.TheVariants as kind
 use Rattle.wit_grammar.specs.Kinds.{same_kind}
 use Rattle.wit_grammar.specs.Leaves.{is_in}
-use Rattle.wit_grammar.specs.Grammar.{Gram, mark, spanned, says, name, name_but, number, version, primitives, docs, never, deeper, both, act, either, opt, many, until, listed, Terminal, of_kind, of_text, of_other, nullable, where_empty, first}
+use Rattle.wit_grammar.specs.Grammar.{Gram, both, act, either, opt, many, until, listed, Terminal, of_kind, of_text, of_other, nullable, where_empty, first}
 
 -- no token is both
 abbrev pub apart_one : Terminal → Terminal → Bool

@@ -1,0 +1,27 @@
+-- What a text spells, and that this is what is read of it.
+use Rattle.std.specs.Prelude.{◌≡◌, ℕ, List, Ok}
+use Rattle.wit_grammar.specs.Trees.{File}
+use Rattle.wit_grammar.specs.Leaves.{Spot}
+use Rattle.wit_grammar.specs.Grammar.{spells, run}
+use Rattle.wit_grammar.specs.ItemRules.{file}
+
+-- the beginning of a source, whose first byte has the place `offset`
+abbrev pub start : List ℕ → ℕ → Spot
+start source offset = record { source = source; offset = offset; place = 0 }
+
+-- the source spells this tree, from its beginning to its end
+abbrev pub IsSpelled : List ℕ → ℕ → File → Type 0
+IsSpelled source offset tree = (end : Spot) × spells file tree (start source offset) end
+
+-- this tree is what is read of the source by one token
+abbrev pub IsReadAs : List ℕ → ℕ → File → Type 0
+IsReadAs source offset tree = (end : Spot) × (run file (start source offset) ≡ Ok (tree, end))
+
+abbrev pub ReadIsSpelled : Type 0
+ReadIsSpelled = (source : List ℕ) (offset : ℕ) (tree : File) → IsReadAs source offset tree → IsSpelled source offset tree
+
+abbrev pub SpelledIsRead : Type 0
+SpelledIsRead = (source : List ℕ) (offset : ℕ) (tree : File) → IsSpelled source offset tree → IsReadAs source offset tree
+
+abbrev pub OneTree : Type 0
+OneTree = (source : List ℕ) (offset : ℕ) (one other : File) → IsSpelled source offset one → IsSpelled source offset other → one ≡ other

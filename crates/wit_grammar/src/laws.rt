@@ -1,0 +1,17 @@
+//! What holds of the grammar: a source spells the tree that is read of it by one token, and no other.
+ghost use Rattle.wit_grammar.specs.Laws.{OneTree, ReadIsSpelled, SpelledIsRead};
+
+/// A tree that is read of a source by one token is spelled by it, from its beginning to its end.
+pub fn read_is_spelled()
+    ensures { ReadIsSpelled }
+{}
+
+/// A tree that a source spells is the one that is read of it: reading by one token refuses no source that spells a tree.
+pub fn spelled_is_read()
+    ensures { SpelledIsRead }
+{}
+
+/// No source spells two trees.
+pub fn one_tree()
+    ensures { OneTree }
+{}
