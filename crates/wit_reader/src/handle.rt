@@ -1,8 +1,6 @@
 //! Reading handles of resources.
 ghost use Rattle.std.specs.Prelude.{◌≡◌, ◌+◌, [], ◌∷◌, IfOk, IfErr};
 ghost use Rattle.wit_type_tree.specs.Marks.{named, type_marks};
-ghost use Rattle.wit_lex.specs.Lexis.{Stops};
-ghost use Rattle.wit_grammar.specs.Grammar.{run};
 ghost use Rattle.wit_grammar.specs.Rules.{handled, owns, borrows};
 ghost use Rattle.wit_grammar.specs.Seen.{see_name, see_type};
 
@@ -13,15 +11,15 @@ use wit_lex::word::Word;
 use wit_tree::tree::{Id, Type};
 
 impl<'a> Reader<'a> {
-    ghost use Rattle.wit_reader.specs.Reading.{IsRead, IsRefused, Parses, spot};
+    ghost use Rattle.wit_reader.specs.Reading.{IsRead, IsRefused, Reads, Refuses};
 
     /// Reads a name in angles.
     #[tactic(auto, unfolding(wit_grammar::specs::Rules::handled))]
     fn read_handled(&mut self) -> ReadResult<Id<'a>>
         ensures read { IfOk result (λ id. IsRead self.old (named id ∷ []) self.new) }
         ensures refused { IfErr result (λ e. IsRefused self.old e) }
-        ensures parses { IfOk result (λ it. Parses self.old (run handled (spot self.old)) (see_name it) self.new) }
-        ensures stops { IfErr result (Stops (run handled (spot self.old))) }
+        ensures reads { IfOk result (λ it. Reads handled self.old (see_name it) self.new) }
+        ensures stops { IfErr result (Refuses handled self.old) }
     {
         self.expect(Kind::OpenAngle)?;
         let id = self.read_id()?;
@@ -34,8 +32,8 @@ impl<'a> Reader<'a> {
     pub fn read_own(&mut self) -> ReadResult<Type<'a>>
         ensures read { IfOk result (λ t. IsRead self.old (type_marks t) self.new) }
         ensures refused { IfErr result (λ e. IsRefused self.old e) }
-        ensures parses { IfOk result (λ it. Parses self.old (run owns (spot self.old)) (see_type it) self.new) }
-        ensures stops { IfErr result (Stops (run owns (spot self.old))) }
+        ensures reads { IfOk result (λ it. Reads owns self.old (see_type it) self.new) }
+        ensures stops { IfErr result (Refuses owns self.old) }
     {
         let span = self.read_word(Word::Own)?;
         let id = self.read_handled()?;
@@ -47,8 +45,8 @@ impl<'a> Reader<'a> {
     pub fn read_borrow(&mut self) -> ReadResult<Type<'a>>
         ensures read { IfOk result (λ t. IsRead self.old (type_marks t) self.new) }
         ensures refused { IfErr result (λ e. IsRefused self.old e) }
-        ensures parses { IfOk result (λ it. Parses self.old (run borrows (spot self.old)) (see_type it) self.new) }
-        ensures stops { IfErr result (Stops (run borrows (spot self.old))) }
+        ensures reads { IfOk result (λ it. Reads borrows self.old (see_type it) self.new) }
+        ensures stops { IfErr result (Refuses borrows self.old) }
     {
         let span = self.read_word(Word::Borrow)?;
         let id = self.read_handled()?;

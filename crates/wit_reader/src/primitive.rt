@@ -3,9 +3,9 @@ ghost use Rattle.std.specs.Prelude.{◌≡◌, [], ◌∷◌, IfOk, IfErr, IfSom
 ghost use Rattle.std.specs.Option.{is_some};
 ghost use Rattle.wit_type_tree.specs.Marks.{primitive_word, type_marks};
 ghost use Rattle.wit_lex.specs.declared.kind.Kind.TheVariants.{Word as WordKind};
-ghost use Rattle.wit_lex.specs.Lexis.{Stops};
 ghost use Rattle.wit_lex.specs.Words.{word_text};
-ghost use Rattle.wit_grammar.specs.Leaves.{primitive_of, primitive_at};
+ghost use Rattle.wit_grammar.specs.Leaves.{primitive_of};
+ghost use Rattle.wit_grammar.specs.Grammar.{primitives};
 ghost use Rattle.wit_grammar.specs.Seen.{see_type};
 ghost use Rattle.wit_reader.specs.Primitives.{is_primitive};
 
@@ -41,7 +41,7 @@ pub fn primitive(word: Word) -> Option<Primitive>
 }
 
 impl<'a> Reader<'a> {
-    ghost use Rattle.wit_reader.specs.Reading.{IsRead, IsRefused, Parses, spot};
+    ghost use Rattle.wit_reader.specs.Reading.{IsRead, IsRefused, Reads, Refuses};
 
     /// The primitive type that the token is.
     fn primitive(&self) -> Option<Primitive>
@@ -59,8 +59,8 @@ impl<'a> Reader<'a> {
     pub fn read_primitive(&mut self) -> ReadResult<Type<'a>>
         ensures read { IfOk result (λ t. IsRead self.old (type_marks t) self.new) }
         ensures refused { IfErr result (λ e. IsRefused self.old e) }
-        ensures parses { IfOk result (λ it. Parses self.old (primitive_at (spot self.old)) (see_type it) self.new) }
-        ensures stops { IfErr result (Stops (primitive_at (spot self.old))) }
+        ensures reads { IfOk result (λ it. Reads primitives self.old (see_type it) self.new) }
+        ensures stops { IfErr result (Refuses primitives self.old) }
     {
         match self.primitive() {
             Some(primitive) => {

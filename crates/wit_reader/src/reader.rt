@@ -80,9 +80,10 @@ impl<'a> Reader<'a> {
         }
     }
 
-    /// Whether the token is a name of this very text, without a `%` in front.
+    /// Whether the token is a name of this text.
     pub fn at_text(&self, text: &str) -> bool
-        ensures { result ≡ matches (of_text text.now) (spot self.now) (lexeme self.now.token) }
+        ensures text { IsTrue result → self.now.token.text.now ≡ text.now }
+        ensures same { result ≡ matches (of_text text.now) (spot self.now) (lexeme self.now.token) }
     {
         self.at(Kind::Name) && self.token.text == text
     }
@@ -175,7 +176,7 @@ impl<'a> Reader<'a> {
         ensures parses { IfOk result (λ it. Parses self.old (text_at text.now (spot self.old)) it self.new) }
         ensures stops { IfErr result (Stops (text_at text.now (spot self.old))) }
     {
-        if !self.at(Kind::Name) || self.token.text != text {
+        if !self.at_text(text) {
             return Err(self.refuse(ReadFault::Token));
         }
         let span = self.span();

@@ -3,11 +3,9 @@ ghost use Rattle.std.specs.Prelude.{◌≡◌, [], ◌∷◌, ◌++◌, map, IfO
 ghost use Rattle.std.specs.List.{flat_map};
 ghost use Rattle.wit_type_tree.specs.Marks.{spelled, counted, type_marks, result_marks, boxed_marks, size_marks};
 ghost use Rattle.wit_lex.specs.declared.kind.Kind.TheVariants.{OpenAngle, CloseAngle};
-ghost use Rattle.wit_lex.specs.Lexis.{Stops};
 ghost use Rattle.wit_grammar.specs.Trees.{this};
 ghost use Rattle.wit_grammar.specs.Seen.{see_type, see_boxed};
-ghost use Rattle.wit_grammar.specs.Leaves.{number_at};
-ghost use Rattle.wit_grammar.specs.Grammar.{run, listed, ◌◂◌};
+ghost use Rattle.wit_grammar.specs.Grammar.{number, listed, ◌◂◌};
 ghost use Rattle.wit_grammar.specs.Rules.{sized, size, types, lists, maps_of, options, results, result_types, error_type, tuples, payload, futures, streams};
 ghost use Rattle.wit_reader.specs.ResultTypes.{see_result_types};
 
@@ -45,15 +43,15 @@ fn ok_and<'a>(ok: Box<Type<'a>>, err: Option<Box<Type<'a>>>) -> ResultTypes<'a>
 }
 
 impl<'a> Reader<'a> {
-    ghost use Rattle.wit_reader.specs.Reading.{IsRead, IsReadOn, IsRefused, Parses, ParsesOn, spot};
+    ghost use Rattle.wit_reader.specs.Reading.{IsRead, IsReadOn, IsRefused, Reads, ReadsOn, Refuses};
 
     /// Reads a number of 32 bits.
     #[tactic(auto, unfolding(wit_grammar::specs::Leaves::number_at))]
     fn read_number(&mut self) -> ReadResult<u32>
         ensures read { IfOk result (λ n. IsRead self.old (counted n ∷ []) self.new) }
         ensures refused { IfErr result (λ e. IsRefused self.old e) }
-        ensures parses { IfOk result (λ it. Parses self.old (number_at (spot self.old)) it self.new) }
-        ensures stops { IfErr result (Stops (number_at (spot self.old))) }
+        ensures reads { IfOk result (λ it. Reads number self.old it self.new) }
+        ensures stops { IfErr result (Refuses number self.old) }
     {
         if !self.at(Kind::Number) {
             return Err(self.refuse(ReadFault::Token));
@@ -72,8 +70,8 @@ impl<'a> Reader<'a> {
     fn read_size(&mut self) -> ReadResult<Option<u32>>
         ensures read { IfOk result (λ size. IsRead self.old (size_marks size) self.new) }
         ensures refused { IfErr result (λ e. IsRefused self.old e) }
-        ensures parses { IfOk result (λ it. Parses self.old (run size (spot self.old)) it self.new) }
-        ensures stops { IfErr result (Stops (run size (spot self.old))) }
+        ensures reads { IfOk result (λ it. Reads size self.old it self.new) }
+        ensures stops { IfErr result (Refuses size self.old) }
     {
         if !self.at(Kind::Comma) {
             self.expect(Kind::CloseAngle)?;
@@ -89,8 +87,8 @@ impl<'a> Reader<'a> {
     pub fn read_closed_type(&mut self, close: Kind) -> ReadResult<Type<'a>>
         ensures read { IfOk result (λ t. IsRead self.old (type_marks t) self.new) }
         ensures refused { IfErr result (λ e. IsRefused self.old e) }
-        ensures parses { IfOk result (λ it. Parses self.old (run (types 100 ◂ close) (spot self.old)) (see_type it) self.new) }
-        ensures stops { IfErr result (Stops (run (types 100 ◂ close) (spot self.old))) }
+        ensures reads { IfOk result (λ it. Reads (types 100 ◂ close) self.old (see_type it) self.new) }
+        ensures stops { IfErr result (Refuses (types 100 ◂ close) self.old) }
     {
         let ty = self.read_type(MOST_NESTED)?;
         let closed = self.closed(ty, close)?;
@@ -102,8 +100,8 @@ impl<'a> Reader<'a> {
     pub fn read_type(&mut self, left: u8) -> ReadResult<Type<'a>>
         ensures read { IfOk result (λ t. IsRead self.old (type_marks t) self.new) }
         ensures refused { IfErr result (λ e. IsRefused self.old e) }
-        ensures parses { IfOk result (λ it. Parses self.old (run (types left) (spot self.old)) (see_type it) self.new) }
-        ensures stops { IfErr result (Stops (run (types left) (spot self.old))) }
+        ensures reads { IfOk result (λ it. Reads (types left) self.old (see_type it) self.new) }
+        ensures stops { IfErr result (Refuses (types left) self.old) }
     {
         if left == 0 {
             return Err(self.refuse_deeper());
@@ -135,8 +133,8 @@ impl<'a> Reader<'a> {
     fn read_list(&mut self, left: u8) -> ReadResult<Type<'a>>
         ensures read { IfOk result (λ t. IsRead self.old (type_marks t) self.new) }
         ensures refused { IfErr result (λ e. IsRefused self.old e) }
-        ensures parses { IfOk result (λ it. Parses self.old (run (lists (types left)) (spot self.old)) (see_type it) self.new) }
-        ensures stops { IfErr result (Stops (run (lists (types left)) (spot self.old))) }
+        ensures reads { IfOk result (λ it. Reads (lists (types left)) self.old (see_type it) self.new) }
+        ensures stops { IfErr result (Refuses (lists (types left)) self.old) }
     {
         let span = self.read_word(Word::List)?;
         self.expect(Kind::OpenAngle)?;
@@ -152,8 +150,8 @@ impl<'a> Reader<'a> {
     fn read_map(&mut self, left: u8) -> ReadResult<Type<'a>>
         ensures read { IfOk result (λ t. IsRead self.old (type_marks t) self.new) }
         ensures refused { IfErr result (λ e. IsRefused self.old e) }
-        ensures parses { IfOk result (λ it. Parses self.old (run (maps_of (types left)) (spot self.old)) (see_type it) self.new) }
-        ensures stops { IfErr result (Stops (run (maps_of (types left)) (spot self.old))) }
+        ensures reads { IfOk result (λ it. Reads (maps_of (types left)) self.old (see_type it) self.new) }
+        ensures stops { IfErr result (Refuses (maps_of (types left)) self.old) }
     {
         let span = self.read_word(Word::Map)?;
         self.expect(Kind::OpenAngle)?;
@@ -168,8 +166,8 @@ impl<'a> Reader<'a> {
     fn read_option(&mut self, left: u8) -> ReadResult<Type<'a>>
         ensures read { IfOk result (λ t. IsRead self.old (type_marks t) self.new) }
         ensures refused { IfErr result (λ e. IsRefused self.old e) }
-        ensures parses { IfOk result (λ it. Parses self.old (run (options (types left)) (spot self.old)) (see_type it) self.new) }
-        ensures stops { IfErr result (Stops (run (options (types left)) (spot self.old))) }
+        ensures reads { IfOk result (λ it. Reads (options (types left)) self.old (see_type it) self.new) }
+        ensures stops { IfErr result (Refuses (options (types left)) self.old) }
     {
         let span = self.read_word(Word::Option)?;
         self.expect(Kind::OpenAngle)?;
@@ -183,8 +181,8 @@ impl<'a> Reader<'a> {
     fn read_result(&mut self, left: u8) -> ReadResult<Type<'a>>
         ensures read { IfOk result (λ t. IsRead self.old (type_marks t) self.new) }
         ensures refused { IfErr result (λ e. IsRefused self.old e) }
-        ensures parses { IfOk result (λ it. Parses self.old (run (results (types left)) (spot self.old)) (see_type it) self.new) }
-        ensures stops { IfErr result (Stops (run (results (types left)) (spot self.old))) }
+        ensures reads { IfOk result (λ it. Reads (results (types left)) self.old (see_type it) self.new) }
+        ensures stops { IfErr result (Refuses (results (types left)) self.old) }
     {
         let span = self.read_word(Word::Result)?;
         if !self.at(Kind::OpenAngle) {
@@ -201,8 +199,8 @@ impl<'a> Reader<'a> {
     fn read_result_types(&mut self, left: u8) -> ReadResult<ResultTypes<'a>>
         ensures read { IfOk result (λ types. IsRead self.old (result_marks types) self.new) }
         ensures refused { IfErr result (λ e. IsRefused self.old e) }
-        ensures parses { IfOk result (λ it. Parses self.old (run (result_types (types left)) (spot self.old)) (see_result_types it) self.new) }
-        ensures stops { IfErr result (Stops (run (result_types (types left)) (spot self.old))) }
+        ensures reads { IfOk result (λ it. Reads (result_types (types left)) self.old (see_result_types it) self.new) }
+        ensures stops { IfErr result (Refuses (result_types (types left)) self.old) }
     {
         if self.at(Kind::Underscore) {
             self.bump()?;
@@ -221,8 +219,8 @@ impl<'a> Reader<'a> {
     fn read_error_type(&mut self, left: u8) -> ReadResult<Option<Box<Type<'a>>>>
         ensures read { IfOk result (λ t. IsRead self.old (boxed_marks t) self.new) }
         ensures refused { IfErr result (λ e. IsRefused self.old e) }
-        ensures parses { IfOk result (λ it. Parses self.old (run (error_type (types left)) (spot self.old)) (see_boxed it) self.new) }
-        ensures stops { IfErr result (Stops (run (error_type (types left)) (spot self.old))) }
+        ensures reads { IfOk result (λ it. Reads (error_type (types left)) self.old (see_boxed it) self.new) }
+        ensures stops { IfErr result (Refuses (error_type (types left)) self.old) }
     {
         if self.at(Kind::CloseAngle) {
             self.bump()?;
@@ -239,8 +237,8 @@ impl<'a> Reader<'a> {
     fn read_tuple(&mut self, left: u8) -> ReadResult<Type<'a>>
         ensures read { IfOk result (λ t. IsRead self.old (type_marks t) self.new) }
         ensures refused { IfErr result (λ e. IsRefused self.old e) }
-        ensures parses { IfOk result (λ it. Parses self.old (run (tuples (types left)) (spot self.old)) (see_type it) self.new) }
-        ensures stops { IfErr result (Stops (run (tuples (types left)) (spot self.old))) }
+        ensures reads { IfOk result (λ it. Reads (tuples (types left)) self.old (see_type it) self.new) }
+        ensures stops { IfErr result (Refuses (tuples (types left)) self.old) }
     {
         let span = self.read_word(Word::Tuple)?;
         let types = self.read_types(left)?;
@@ -253,8 +251,8 @@ impl<'a> Reader<'a> {
     fn read_types(&mut self, left: u8) -> ReadResult<Vec<Type<'a>>>
         ensures read { IfOk result (λ ts. IsRead self.old (flat_map type_marks ts.items) self.new) }
         ensures refused { IfErr result (λ e. IsRefused self.old e) }
-        ensures parses { IfOk result (λ it. Parses self.old (run (listed OpenAngle CloseAngle (types left)) (spot self.old)) (map see_type it.items) self.new) }
-        ensures stops { IfErr result (Stops (run (listed OpenAngle CloseAngle (types left)) (spot self.old))) }
+        ensures reads { IfOk result (λ it. Reads (listed OpenAngle CloseAngle (types left)) self.old (map see_type it.items) self.new) }
+        ensures stops { IfErr result (Refuses (listed OpenAngle CloseAngle (types left)) self.old) }
     {
         let mut more = self.open_list(Kind::OpenAngle, Kind::CloseAngle)?;
         let mut types = Vec::new(self.alloc);
@@ -272,8 +270,8 @@ impl<'a> Reader<'a> {
     fn read_future(&mut self, left: u8) -> ReadResult<Type<'a>>
         ensures read { IfOk result (λ t. IsRead self.old (type_marks t) self.new) }
         ensures refused { IfErr result (λ e. IsRefused self.old e) }
-        ensures parses { IfOk result (λ it. Parses self.old (run (futures (types left)) (spot self.old)) (see_type it) self.new) }
-        ensures stops { IfErr result (Stops (run (futures (types left)) (spot self.old))) }
+        ensures reads { IfOk result (λ it. Reads (futures (types left)) self.old (see_type it) self.new) }
+        ensures stops { IfErr result (Refuses (futures (types left)) self.old) }
     {
         let span = self.read_word(Word::Future)?;
         let value = self.read_payload(left)?;
@@ -286,8 +284,8 @@ impl<'a> Reader<'a> {
     fn read_stream(&mut self, left: u8) -> ReadResult<Type<'a>>
         ensures read { IfOk result (λ t. IsRead self.old (type_marks t) self.new) }
         ensures refused { IfErr result (λ e. IsRefused self.old e) }
-        ensures parses { IfOk result (λ it. Parses self.old (run (streams (types left)) (spot self.old)) (see_type it) self.new) }
-        ensures stops { IfErr result (Stops (run (streams (types left)) (spot self.old))) }
+        ensures reads { IfOk result (λ it. Reads (streams (types left)) self.old (see_type it) self.new) }
+        ensures stops { IfErr result (Refuses (streams (types left)) self.old) }
     {
         let span = self.read_word(Word::Stream)?;
         let item = self.read_payload(left)?;
@@ -300,8 +298,8 @@ impl<'a> Reader<'a> {
     fn read_payload(&mut self, left: u8) -> ReadResult<Option<Box<Type<'a>>>>
         ensures read { IfOk result (λ t. IsReadOn self.old (boxed_marks t) self.new) }
         ensures refused { IfErr result (λ e. IsRefused self.old e) }
-        ensures parses { IfOk result (λ it. ParsesOn self.old (run (payload (types left)) (spot self.old)) (see_boxed it) self.new) }
-        ensures stops { IfErr result (Stops (run (payload (types left)) (spot self.old))) }
+        ensures reads { IfOk result (λ it. ReadsOn (payload (types left)) self.old (see_boxed it) self.new) }
+        ensures stops { IfErr result (Refuses (payload (types left)) self.old) }
     {
         if !self.at(Kind::OpenAngle) {
             return Ok(None);
@@ -316,8 +314,8 @@ impl<'a> Reader<'a> {
     fn read_boxed_before(&mut self, left: u8, close: Kind) -> ReadResult<Box<Type<'a>>>
         ensures read { IfOk result (λ t. IsRead self.old (type_marks t.value) self.new) }
         ensures refused { IfErr result (λ e. IsRefused self.old e) }
-        ensures parses { IfOk result (λ it. Parses self.old (run (types left ◂ close) (spot self.old)) (see_type it.value) self.new) }
-        ensures stops { IfErr result (Stops (run (types left ◂ close) (spot self.old))) }
+        ensures reads { IfOk result (λ it. Reads (types left ◂ close) self.old (see_type it.value) self.new) }
+        ensures stops { IfErr result (Refuses (types left ◂ close) self.old) }
     {
         let ty = self.read_type(left)?;
         let closed = self.closed(ty, close)?;
@@ -330,8 +328,8 @@ impl<'a> Reader<'a> {
     fn read_boxed(&mut self, left: u8) -> ReadResult<Box<Type<'a>>>
         ensures read { IfOk result (λ t. IsRead self.old (type_marks t.value) self.new) }
         ensures refused { IfErr result (λ e. IsRefused self.old e) }
-        ensures parses { IfOk result (λ it. Parses self.old (run (types left) (spot self.old)) (see_type it.value) self.new) }
-        ensures stops { IfErr result (Stops (run (types left) (spot self.old))) }
+        ensures reads { IfOk result (λ it. Reads (types left) self.old (see_type it.value) self.new) }
+        ensures stops { IfErr result (Refuses (types left) self.old) }
     {
         let ty = self.read_type(left)?;
         Ok(Box::new(self.alloc, ty)?)

@@ -7,8 +7,8 @@ use Rattle.wit_reader.proofs.reader.Reader.read_number.Goals as goal
 pub returns-in_ok-bump-in-Ok-clause-read : goal.returns-in_ok-bump-in-Ok-clause-read
 returns-in_ok-bump-in-Ok-clause-read c = number_read c.in-Ok.number c.in_ok-bump-in-Ok.ensures.read c.in_ok-bump-in-Ok.ensures.past (search rules)
 
-pub returns-in_ok-bump-in-Ok-clause-parses : goal.returns-in_ok-bump-in-Ok-clause-parses
-returns-in_ok-bump-in-Ok-clause-parses c =
+pub returns-in_ok-bump-in-Ok-clause-reads : goal.returns-in_ok-bump-in-Ok-clause-reads
+returns-in_ok-bump-in-Ok-clause-reads c =
     number_read_at c.in-Ok.number (search rules) (rw c.in-Ok.is at (number_parsed c.args.self.now c.parse.result (search rules) c.parse.ensures.value.0)) c.in_ok-bump-in-Ok.ensures.passes
 
 pub returns-in_err-bump-in-Ok-clause-stops : goal.returns-in_err-bump-in-Ok-clause-stops
