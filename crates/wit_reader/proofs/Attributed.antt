@@ -7,10 +7,10 @@ use Rattle.wit_lex.specs.Lexis.{lexeme}
 use Rattle.wit_grammar.specs.Kinds.{same_kind}
 use Rattle.wit_grammar.specs.Leaves.{Read, ◌>>=◌}
 use Rattle.wit_grammar.specs.Trees.{Attribute, Name, Release}
-use Rattle.wit_grammar.specs.Grammar.{Gram, act, either, matches, of_kind, of_text, run, starts}
+use Rattle.wit_grammar.specs.Grammar.{Gram, act, applied, either, matches, of_kind, of_text, run, starts}
 use Rattle.wit_grammar.specs.Rules.{after_at, attribute, deprecated_attribute, deprecated_of, since_attribute, since_of, unstable_attribute, unstable_of}
 use Rattle.wit_reader.specs.declared.reader.Reader.{Reader}
-use Rattle.wit_reader.specs.Reading.{given, spot}
+use Rattle.wit_reader.specs.Reading.{spot}
 use Rattle.wit_reader.proofs.Courses.{first_way, made, made_twice, second_way, starts_with}
 
 -- an attribute begins with its sign
@@ -60,5 +60,5 @@ deprecated_next r n m =
 
 -- the attribute of an alternative
 pub attribute_made : {A : Type 0} (at : Span) (make : A → Span → Attribute) (g : Gram A) (r : Reader) → run after_at (spot r) ≡ run (act make g) (spot r) →
-    run (act (given at) after_at) (spot r) ≡ run (act (λ x. make x at) g) (spot r)
-attribute_made at make g r h = ap (λ (c : Read (Span → Attribute)). c >>= made (given at)) h ∙ made_twice (given at) make (run g (spot r))
+    run (act (applied at) after_at) (spot r) ≡ run (act (λ x. make x at) g) (spot r)
+attribute_made at make g r h = ap (λ (c : Read (Span → Attribute)). c >>= made (applied at)) h ∙ made_twice (applied at) make (run g (spot r))

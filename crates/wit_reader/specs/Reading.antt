@@ -85,7 +85,3 @@ ReadsAs g make old answer new = Reads (act make g) old answer new
 -- the fault at which reading by the grammar stops, or memory ran out
 abbrev pub Refuses : {A : Type 0} → Gram A → Reader → ReadError → Type 0
 Refuses g old e = Stops (run g (spot old)) e
-
--- what is made of a value that was read before
-abbrev pub given : {A B : Type 0} → A → (A → B) → B
-given x make = make x

@@ -2,10 +2,10 @@
 ghost use Rattle.std.specs.Prelude.{◌≡◌, ◌+◌, [], ◌∷◌, ◌++◌, codes, IfOk, IfErr};
 ghost use Rattle.wit_type_tree.specs.Marks.{attribute_marks};
 ghost use Rattle.wit_grammar.specs.Seen.{see_attribute, see_name};
+ghost use Rattle.wit_grammar.specs.Grammar.{applied};
 ghost use Rattle.wit_grammar.specs.Rules.{after_at, attribute, deprecated_attribute, deprecated_of, joined as joined_span, of_feature, since_attribute, since_of, since_version, unstable_attribute, unstable_of};
 ghost use Rattle.wit_reader.specs.Attributes.{IsAttribute, feature_marks, version_marks};
 ghost use Rattle.wit_reader.specs.Headers.{see_found};
-ghost use Rattle.wit_reader.specs.Reading.{given};
 
 use crate::reader::Reader;
 use semver::Version;
@@ -112,7 +112,7 @@ impl<'a> Reader<'a> {
     fn read_after_at(&mut self, at: Span) -> ReadResult<Attribute<'a>>
         ensures read { IfOk result (λ a. IsAttribute self.old at.start a self.new) }
         ensures refused { IfErr result (λ e. IsRefused self.old e) }
-        ensures parses { IfOk result (λ it. ReadsAs after_at (given at) self.old (see_attribute it) self.new) }
+        ensures parses { IfOk result (λ it. ReadsAs after_at (applied at) self.old (see_attribute it) self.new) }
         ensures stops { IfErr result (Refuses after_at self.old) }
     {
         if self.at_text("since") {
