@@ -5,3 +5,6 @@ pub mod Onward
 pub mod ReadAgain
 pub mod Shapes
 pub mod Whole
+pub mod Opened
+pub mod Examples
+pub mod Stopping

@@ -5,11 +5,12 @@ use Rattle.wit_lex.specs.declared.kind.Kind.{Kind}
 use Rattle.wit_lex.specs.declared.kind.Kind.TheVariants.{Semicolon, OpenAngle, OpenBrace, At, End, Word}
 use Rattle.wit_lex.specs.declared.word.Word.TheVariants as word
 use Rattle.wit_grammar.specs.Kinds.{same_kind}
+use Rattle.wit_grammar.proofs.Opened.{type_rules, function_rules, front_rules, definition_rules, extern_rules}
 use Rattle.wit_grammar.specs.Trees.{Ty}
 use Rattle.wit_grammar.specs.Grammar.{Gram, Terminal, of_kind, of_text, first, nullable, deeper, seq}
 use Rattle.wit_grammar.specs.OneToken.{apart, more, one_token}
-use Rattle.wit_grammar.specs.Rules.{label, size, lists, maps_of, options, error_type, result_types, results, tuples, payload, futures, streams, handled, owns, borrows, type_kinds, type_of, types, param, params, returned, signature, func_word, accessor, form, function, since_version, of_feature, since_attribute, unstable_attribute, deprecated_attribute, after_at, attribute, attributes, front, at_version, item_path, rest_of_path, path, local, used_name, used_names, used, top_used}
-use Rattle.wit_grammar.specs.ItemRules.{alias_definition, field, record_definition, flag, flags_definition, case_type, case, variant_definition, enum_definition, closed_function, closed_signature, constructed, is_static, member, resource_function, braced_functions, resource_body, resource_definition, definition, named_function, interface_item, interface_items, interface_rule, after_second, extern_path, get_or_set, worded_function, inline_items, after_colon, extern_kind, side, extern, renamed, maybe_semicolon, renames, include, world_item, world_items, world_rule, declaration, two_names, package_names, braced, item_of, package_to, item_to, package_first, beginning, items_to_end, file}
+use Rattle.wit_grammar.specs.Rules.{label, type_kinds, type_of, types, since_version, of_feature, since_attribute, unstable_attribute, deprecated_attribute, after_at, attribute, attributes, front, at_version, used}
+use Rattle.wit_grammar.specs.ItemRules.{closed_function, definition, named_function, interface_item, interface_items, interface_rule, extern, include, world_item, world_items, world_rule, declaration, two_names, package_names, braced, item_of, package_to, item_to, package_first, beginning, items_to_end, file}
 
 -- what other rules ask of one that takes a token
 pub record Shape {A : Type 0} (g : Gram A) (fs ms : List Terminal) : Type 0 where
@@ -20,31 +21,6 @@ pub record Shape {A : Type 0} (g : Gram A) (fs ms : List Terminal) : Type 0 wher
 
 abbrev words : List Kind → List Terminal
 words ks = map of_kind ks
-
--- the rules of types, opened
-type_rules : ℕ
-unfolding same_kind size lists maps_of options error_type result_types results tuples payload futures streams handled owns borrows
-type_rules = 0
-
--- those of functions
-function_rules : ℕ
-unfolding same_kind label param params returned signature func_word accessor form function closed_signature closed_function
-function_rules = 0
-
--- those of what items have in front, of paths and uses
-front_rules : ℕ
-unfolding same_kind label since_version of_feature since_attribute unstable_attribute deprecated_attribute after_at attribute attributes front at_version item_path rest_of_path path local used_name used_names used top_used
-front_rules = 0
-
--- those of definitions
-definition_rules : ℕ
-unfolding same_kind label signature params param returned alias_definition field record_definition flag flags_definition case_type case variant_definition enum_definition closed_signature constructed is_static member resource_function braced_functions resource_body resource_definition definition
-definition_rules = 0
-
--- those of worlds
-extern_rules : ℕ
-unfolding same_kind label signature params param returned func_word accessor closed_signature after_second extern_path get_or_set worded_function inline_items after_colon extern_kind side extern renamed maybe_semicolon renames include
-extern_rules = 0
 
 -- ---- types
 abbrev type_firsts : List Terminal

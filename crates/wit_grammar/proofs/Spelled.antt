@@ -21,7 +21,7 @@ unfolding value_of
 same_made a b s e h = ap (value_of a) h
 
 -- what is made of a value that is read
-abbrev made : {A C : Type 0} → (A → C) → A × Spot → Read C
+abbrev pub made : {A C : Type 0} → (A → C) → A × Spot → Read C
 made make x = Ok (make x.0, x.1)
 
 two_reads : {A B C : Type 0} (r : Read A) (k : Spot → Read B) (make : A → B → C) (c : C) (e : Spot) → (r >>= λ x. k x.1 >>= made (make x.0)) ≡ Ok (c, e) →
@@ -76,7 +76,7 @@ shut_mark close s e t is k h =
     let b = bind_ok (past s t) shut (false, e) h in
     rw is (rw k (b.1 ∙ ap (λ m. Ok m) (same_spot false false b.0 e b.2)))
 
-opened : (opening close : Kind) (s e : Spot) (more : Bool) → open_at opening close s ≡ Ok (more, e) →
+pub opened : (opening close : Kind) (s e : Spot) (more : Bool) → open_at opening close s ≡ Ok (more, e) →
     ((more ≡ true) × (mark_at opening s ≡ Ok e)) ⊎ ((more ≡ false) × (m : Spot) × (mark_at opening s ≡ Ok m) × (mark_at close m ≡ Ok e))
 unfolding open_at
 opened opening close s e more h =
@@ -93,7 +93,7 @@ opened opening close s e more h =
     ]
 
 -- after an item
-went_on : (close : Kind) (s e : Spot) (more : Bool) → next_at close s ≡ Ok (more, e) →
+pub went_on : (close : Kind) (s e : Spot) (more : Bool) → next_at close s ≡ Ok (more, e) →
     ((more ≡ true) × (mark_at Comma s ≡ Ok e)) ⊎ ((more ≡ false) × ((mark_at close s ≡ Ok e) ⊎ ((m : Spot) × (mark_at Comma s ≡ Ok m) × (mark_at close m ≡ Ok e))))
 unfolding next_at
 went_on close s e more h =

@@ -95,7 +95,7 @@ run_bounds test at (c ∷ rest) =
     let high = next.1 in
     elim (cases_Bool (test c)) [ inl is ↦ rw is (omega arith, omega arith) | inr other ↦ rw other (omega arith, omega arith) ]
 
-abbrev lexeme_ok : Lexeme → Result Lexeme ReadError
+abbrev pub lexeme_ok : Lexeme → Result Lexeme ReadError
 lexeme_ok t = Ok t
 
 -- a token at a place, where so many bytes are left

@@ -1,5 +1,7 @@
 -- What a text spells, and that this is what is read of it.
-use Rattle.std.specs.Prelude.{◌≡◌, ℕ, List, Ok}
+use Rattle.std.specs.Prelude.{◌≡◌, ◌⊎◌, ℕ, List, Ok, Err}
+use Rattle.wit_lex.specs.declared.fault.ReadError.TheVariants.{Fault}
+use Rattle.wit_lex.specs.declared.fault.ReadFault.{ReadFault}
 use Rattle.wit_grammar.specs.Trees.{File}
 use Rattle.wit_grammar.specs.Leaves.{Spot}
 use Rattle.wit_grammar.specs.Grammar.{spells, run}
@@ -25,3 +27,14 @@ SpelledIsRead = (source : List ℕ) (offset : ℕ) (tree : File) → IsSpelled s
 
 abbrev pub OneTree : Type 0
 OneTree = (source : List ℕ) (offset : ℕ) (one other : File) → IsSpelled source offset one → IsSpelled source offset other → one ≡ other
+
+-- reading it by one token stops at this fault
+abbrev pub StopsAt : List ℕ → ℕ → ReadFault → (from to : ℕ) → Type 0
+StopsAt source offset fault from to = run file (start source offset) ≡ Err (Fault fault from to)
+
+abbrev pub StoppedSpellsNone : Type 0
+StoppedSpellsNone = (source : List ℕ) (offset : ℕ) (fault : ReadFault) (from to : ℕ) (tree : File) → StopsAt source offset fault from to → IsSpelled source offset tree → ⊥
+
+abbrev pub TreeOrFault : Type 0
+TreeOrFault =
+    (source : List ℕ) (offset : ℕ) → ((tree : File) × IsSpelled source offset tree) ⊎ ((fault : ReadFault) × (from : ℕ) × (to : ℕ) × StopsAt source offset fault from to)

@@ -1,5 +1,5 @@
 //! What holds of the grammar: a source spells the tree that is read of it by one token, and no other.
-ghost use Rattle.wit_grammar.specs.Laws.{OneTree, ReadIsSpelled, SpelledIsRead};
+ghost use Rattle.wit_grammar.specs.Laws.{OneTree, ReadIsSpelled, SpelledIsRead, StoppedSpellsNone, TreeOrFault};
 
 /// A tree that is read of a source by one token is spelled by it, from its beginning to its end.
 pub fn read_is_spelled()
@@ -14,4 +14,14 @@ pub fn spelled_is_read()
 /// No source spells two trees.
 pub fn one_tree()
     ensures { OneTree }
+{}
+
+/// A source of which reading stops at a fault spells no tree.
+pub fn stopped_spells_none()
+    ensures { StoppedSpellsNone }
+{}
+
+/// A source spells a tree, or reading it stops at a fault: one of the two, whatever the source, so the steps of reading suffice.
+pub fn tree_or_fault()
+    ensures { TreeOrFault }
 {}
