@@ -1,6 +1,6 @@
 -- The type that a kind of token begins.
-use Rattle.std.proofs.Common.{◌≡◌, ℕ, zero, suc, ◌+◌, ◌-◌, ◌<◌, List, [], ◌∷◌, map, refl, ap, ◌∙◌, sym, arith, Bool, true, false}
-use Rattle.std.specs.Prelude.{Result, Ok, Err, ◌||◌, cond, if◌then◌else◌}
+use Rattle.std.proofs.Common.{◌≡◌, ℕ, zero, suc, ◌-◌, List, refl, ap, ◌∙◌, arith, false}
+use Rattle.std.specs.Prelude.{Ok, Err, ◌||◌, cond, if◌then◌else◌}
 use Rattle.wit_values.specs.declared.span.Span.{Span}
 use Rattle.wit_lex.specs.declared.fault.ReadError.{ReadError}
 use Rattle.wit_lex.specs.declared.fault.ReadError.TheVariants.{Fault, OutOfMemory}
@@ -13,7 +13,7 @@ use Rattle.wit_lex.specs.declared.word.Word.TheVariants as word
 use Rattle.wit_lex.specs.Lexis.{Lexeme, Stops, lexeme}
 use Rattle.wit_grammar.specs.Grammar.{Gram, run, listed, act, name, primitives}
 use Rattle.wit_grammar.specs.Kinds.{same_kind}
-use Rattle.wit_grammar.specs.Leaves.{Spot, Read, lexed, spanned_at, name_at, deeper_at, is_among, ◌>>=◌}
+use Rattle.wit_grammar.specs.Leaves.{Spot, Read, lexed, spanned_at, name_at, deeper_at, is_among}
 use Rattle.wit_grammar.specs.Rules.{type_kinds, types, tuples, lists, maps_of, options, results, futures, streams, owns, borrows}
 use Rattle.wit_grammar.specs.Trees.{Name, Ty, named, tuple, tys}
 use Rattle.wit_reader.specs.declared.reader.Reader.{Reader}

@@ -1,13 +1,13 @@
 -- Kinds of tokens by their numbers: kinds with one number are one, and what is so of each kind of a list of all is so of each kind.
-use Rattle.std.proofs.Common.{◌≡◌, ℕ, zero, suc, ◌+◌, List, [], ◌∷◌, map, get_or, refl, ap, sym, ◌∙◌, true, false}
-use Rattle.std.specs.Prelude.{◌==◌, Bool, IsTrue, ◌↔◌}
+use Rattle.std.proofs.Common.{◌≡◌, ℕ, zero, suc, List, [], ◌∷◌, map, get_or, refl, ap, sym, ◌∙◌, true, false}
+use Rattle.std.specs.Prelude.{Bool, IsTrue, ◌↔◌}
 use Rattle.std.proofs.lemmas.Bool.{eq-eqb, ne_eqb, false≢true}
 use Rattle.wit_lex.specs.declared.kind.Kind.{Kind}
 use Rattle.wit_lex.specs.declared.kind.Kind.TheVariants as kind
 use Rattle.wit_lex.specs.declared.word.Word.{Word}
 use Rattle.wit_lex.specs.declared.word.Word.TheVariants as word
 use Rattle.wit_lex.specs.Lexis.{words}
-use Rattle.wit_grammar.specs.Kinds.{word_code, kind_code, same_kind}
+use Rattle.wit_grammar.specs.Kinds.{kind_code, same_kind}
 
 abbrev pub all_kinds : List Kind
 all_kinds =

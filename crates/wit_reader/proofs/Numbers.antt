@@ -1,10 +1,12 @@
 -- Numbers of 32 bits.
-use Rattle.std.proofs.Common.{◌≡◌, ℕ, zero, suc, ◌+◌, ◌-◌, ◌<◌, ◌≤◌, ◌^◌, List, [], ◌∷◌, length, drop, take, ap, ◌∙◌, sym, arith, refl, true, false, Bool, inl, inr}
-use Rattle.std.specs.Prelude.{Result, Ok, Err, slice_index, slice_range, ◌&&◌}
+use Rattle.std.proofs.Common.{◌≡◌, ℕ, zero, suc, ◌+◌, ◌-◌, ◌<◌, ◌≤◌, ◌^◌, List, length, drop, take, ap, ◌∙◌, sym, arith, refl, true, inl, inr}
+use Rattle.std.specs.Prelude.{Result, Ok, Err, slice_index, slice_range}
 use Rattle.std.specs.Char.{is_ascii_digit}
 use Rattle.std.specs.Result.{OkIff}
 use Rattle.std.specs.Str.{all_ascii_digits}
 use Rattle.std.specs.Str.Parse.{ParsesUnsigned, digits_value}
+use Rattle.std.proofs.Math.Logic.{∥∥₁_elim}
+use Rattle.std.proofs.Props.{props}
 use Rattle.std.proofs.lemmas.Bool.{and_from, cases_lt, lt-ltb, le-ltb, true≢false}
 use Rattle.std.proofs.lemmas.List.{drop_more, get_or_past, length-drop, length-take-le}
 use Rattle.std.proofs.lemmas.Str.Parse.{IsNumeralModel, numerals_by_value, tells_all_ascii_digits, parse_digits}
@@ -44,21 +46,28 @@ some_digits source start end digit run = elim (cases_lt start end) [
 own : IsNumeralModel (λ ds. all_ascii_digits ds ≡ true) (digits_value 10)
 own = numerals_by_value (λ ds. all_ascii_digits ds ≡ true) tells_all_ascii_digits
 
+weaker : {T E : Type 0} (r : Result T E) (P Q : Type 0) (v : T) → (P → Q) → (Q → P) → OkIff r P v → OkIff r Q v
+weaker (Ok x) P Q v f g h = (f h.0, h.1)
+weaker (Err e) P Q v f g h = λ q. h (g q)
+
 decided : {E : Type 0} (text : List ℕ) (r : Result ℕ E) → all_ascii_digits text ≡ true → 0 < length text → ParsesUnsigned 32 10 text r → OkIff r (digits_value 10 text < 2 ^ 32) (digits_value 10 text)
-decided text (Ok n) digits some h = let p = parse_digits own 32 text (Ok n) h digits in (p.0.1, p.1)
-decided text (Err e) digits some h = let none = parse_digits own 32 text (Err e) h digits in λ small. none (some, small)
+decided text r digits some h =
+    weaker r ((0 < length text) × (digits_value 10 text < 2 ^ 32)) (digits_value 10 text < 2 ^ 32) (digits_value 10 text) (λ p. p.1) (λ small. (some, small)) (parse_digits own 32 text r h digits)
+
+number_text : (source text : List ℕ) (start end : ℕ) → text ≡ slice_range source start end → end ≤ length source → IsFound source start end text Number → (all_ascii_digits text ≡ true) × (0 < length text)
+number_text source text start end whole within found =
+    let some = some_digits source start end found.0 found.1 in
+    let long : length (take (end - start) (drop start source)) ≡ end - start = length-take-le (end - start) (drop start source) (rw length-drop (omega arith)) in
+    let digits = run_digits source start (end - start) (omega arith) (λ i low high. found.1.inside i low (omega arith)) in
+    (ap all_ascii_digits whole ∙ digits, rw whole (omega arith))
 
 -- what std reads of a token of digits
 pub number_parsed : {E : Type 0} (r : Reader) (answer : Result ℕ E) → r.token.kind ≡ Number → ParsesUnsigned 32 10 r.token.text.now answer →
     OkIff answer (digits_value 10 r.token.text.now < 2 ^ 32) (digits_value 10 r.token.text.now)
 number_parsed r answer kind h =
-    let found : IsFound r.source.now r.token.start r.token.end r.token.text.now Number = rw kind at r.found in
-    let some = some_digits r.source.now r.token.start r.token.end found.0 found.1 in
-    let within = r.within.within in
-    let long : length (take (r.token.end - r.token.start) (drop r.token.start r.source.now)) ≡ r.token.end - r.token.start =
-    length-take-le (r.token.end - r.token.start) (drop r.token.start r.source.now) (rw length-drop (omega arith)) in
-    let digits = run_digits r.source.now r.token.start (r.token.end - r.token.start) (omega arith) (λ i low high. found.1.inside i low (omega arith)) in
-    decided r.token.text.now answer (ap all_ascii_digits r.within.text ∙ digits) (rw r.within.text (omega arith)) h
+    let text : (all_ascii_digits r.token.text.now ≡ true) × (0 < length r.token.text.now) =
+    ∥∥₁_elim r.found (hlevel props) (λ f. number_text r.source.now r.token.text.now r.token.start r.token.end r.within.text r.within.within (rw kind at f)) in
+    decided r.token.text.now answer text.0 text.1 h
 
 number_goes : (s next : Spot) (t : Lexeme) → lexed s ≡ Ok t → t.kind ≡ Number → digits_value 10 (text_of s t) < 4294967296 → past s t ≡ Ok next → number_at s ≡ Ok (digits_value 10 (text_of s t), next)
 unfolding number_at

@@ -1,5 +1,5 @@
 -- What types of several parts say.
-use Rattle.std.proofs.Common.{◌≡◌, ◌∷◌, map, Vec, Option, Some, None, Box, refl, rules, ap}
+use Rattle.std.proofs.Common.{◌≡◌, map, Vec, Option, Some, None, Box, refl, rules, ap}
 use Rattle.std.specs.declared.alloc.Global.{Global}
 use Rattle.wit_values.specs.declared.span.Span.{Span}
 use Rattle.wit_type_tree.specs.declared.types.«Type».{«Type» as Written, Tuple, Future, Stream, Row_of-Type, end_of-Type, more_of-Type, items-the_row-Type, the_lemmas}

@@ -1,6 +1,8 @@
 -- Signs as they are written.
-use Rattle.std.proofs.Common.{◌≡◌, ℕ, ◌+◌, ◌-◌, ◌<◌, ◌≤◌, List, [], ◌∷◌, length, drop, take, ap, ◌∙◌, sym, arith, refl}
+use Rattle.std.proofs.Common.{◌≡◌, ℕ, ◌+◌, ◌-◌, ◌≤◌, List, [], ◌∷◌, length, drop, take, ap, ◌∙◌, sym, arith}
 use Rattle.std.specs.Prelude.{slice_index, slice_range}
+use Rattle.std.proofs.Math.Logic.{∥∥₁_elim}
+use Rattle.std.proofs.Props.{props}
 use Rattle.std.proofs.lemmas.List.{drop_more}
 use Rattle.wit_values.specs.declared.span.Span.{Span}
 use Rattle.wit_type_tree.specs.Marks.{spelled}
@@ -54,5 +56,5 @@ spelled_read {a} {b} span text p past first last same =
 pub mark_read : {a b : Reader} (k : Kind) (span : Span) → IsRead a [] b → a.token.end ≤ b.before → span.start ≡ a.offset + a.token.start → span.end ≡ a.offset + a.token.end → a.token.kind ≡ k →
     IsMarkRead a k span b
 mark_read {a} {b} k span p past first last same =
-    let found : IsFound a.source.now a.token.start a.token.end a.token.text.now k = rw same at a.found in
-    λ sign is. spelled_read span (sign ∷ []) p past first last (sign_text a.source.now a.token.text.now a.token.start a.token.end sign k a.within.text a.within.within found is)
+    λ sign is. spelled_read span (sign ∷ []) p past first last (
+    ∥∥₁_elim a.found (hlevel props) (λ f. sign_text a.source.now a.token.text.now a.token.start a.token.end sign k a.within.text a.within.within (rw same at f) is))

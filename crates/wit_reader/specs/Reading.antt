@@ -84,4 +84,4 @@ ReadsAs g make old answer new = Reads (act make g) old answer new
 
 -- the fault at which reading by the grammar stops, or memory ran out
 abbrev pub Refuses : {A : Type 0} → Gram A → Reader → ReadError → Type 0
-Refuses g old e = Stops (run g (spot old)) e
+Refuses g old = Stops (run g (spot old))

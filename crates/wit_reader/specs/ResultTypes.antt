@@ -1,5 +1,4 @@
 -- The types that a result is written with.
-use Rattle.std.specs.Prelude.{Box}
 use Rattle.wit_type_tree.specs.declared.types.ResultTypes.{ResultTypes, Neither, Ok', Err', Both'}
 use Rattle.wit_grammar.specs.Seen.{see_type}
 use Rattle.wit_grammar.specs.Trees.{Perhaps, nothing, this}

@@ -36,7 +36,7 @@ pub struct Reader<'a> {
     pub ghost front: { before ≤ token.start },
     pub ghost fits: { offset + length source.now < 2 ^ 32 },
     pub ghost within: { IsToken source.now token },
-    pub ghost found: { IsFound source.now token.start token.end token.text.now token.kind },
+    pub ghost found: { ∥ IsFound source.now token.start token.end token.text.now token.kind ∥₁ },
     pub ghost next: { first_token source.now before ≡ Ok (lexeme token) },
 }
 

@@ -23,3 +23,15 @@ pub returns-in_err-advance-clause-stops : goal.returns-in_err-advance-clause-sto
 returns-in_err-advance-clause-stops c =
     let p = err_from_is_err_and c.from_residual.result c.from_residual.ensures.1 in
     rw (p.1, p.2) (past_stops (spot c.args.self.now) (lexeme c.args.self.now.token) _ c.if-self.false c.in_err-advance.ensures.unlexed)
+
+pub invariant_of-self : goal.invariant_of-self
+invariant_of-self c =
+    let self = c.args.self.now in
+    let kept = c.in_err-advance.ensures.kept in
+    record {
+      front = rw kept self.front;
+      fits = self.fits;
+      within = rw kept self.within;
+      found = rw kept self.found;
+      next = rw kept self.next;
+    }
