@@ -1,9 +1,10 @@
 -- Attributes by the rules of the grammar.
-use Rattle.std.proofs.Common.{◌≡◌, ℕ, List, [], ◌∷◌, ap, ◌∙◌, refl, true, false, Bool}
-use Rattle.std.specs.Prelude.{codes}
+use Rattle.std.proofs.Common.{◌≡◌, ℕ, List, [], ◌∷◌, ap, ◌∙◌, sym, subst, refl, true, false, Bool}
+use Rattle.std.specs.Prelude.{Result, IfErr, codes}
 use Rattle.wit_values.specs.declared.span.Span.{Span}
 use Rattle.wit_lex.specs.declared.kind.Kind.TheVariants as kind
-use Rattle.wit_lex.specs.Lexis.{lexeme}
+use Rattle.wit_lex.specs.declared.fault.ReadError.{ReadError}
+use Rattle.wit_lex.specs.Lexis.{lexeme, Stops}
 use Rattle.wit_grammar.specs.Kinds.{same_kind}
 use Rattle.wit_grammar.specs.Leaves.{Read, ◌>>=◌}
 use Rattle.wit_grammar.specs.Trees.{Attribute, Name, Release}
@@ -11,7 +12,7 @@ use Rattle.wit_grammar.specs.Grammar.{Gram, act, applied, either, matches, of_ki
 use Rattle.wit_grammar.specs.Rules.{after_at, attribute, deprecated_attribute, deprecated_of, since_attribute, since_of, unstable_attribute, unstable_of}
 use Rattle.wit_reader.specs.declared.reader.Reader.{Reader}
 use Rattle.wit_reader.specs.Reading.{spot}
-use Rattle.wit_reader.proofs.Courses.{first_way, made, made_twice, second_way, starts_with}
+use Rattle.wit_reader.proofs.Courses.{first_way, made, made_twice, second_way, starts_with, stops_made}
 
 -- an attribute begins with its sign
 pub attribute_begins : (r : Reader) (b : Bool) → same_kind r.token.kind kind.At ≡ b → starts attribute (spot r) ≡ b
@@ -62,3 +63,8 @@ deprecated_next r n m =
 pub attribute_made : {A : Type 0} (at : Span) (make : A → Span → Attribute) (g : Gram A) (r : Reader) → run after_at (spot r) ≡ run (act make g) (spot r) →
     run (act (applied at) after_at) (spot r) ≡ run (act (λ x. make x at) g) (spot r)
 attribute_made at make g r h = ap (λ (c : Read (Span → Attribute)). c >>= made (applied at)) h ∙ made_twice (applied at) make (run g (spot r))
+
+-- the fault at which one of them stops
+pub attribute_stops : {A T : Type 0} (make : A → Span → Attribute) (g : Gram A) (r : Reader) (result : Result T ReadError) → run after_at (spot r) ≡ run (act make g) (spot r) →
+    IfErr result (Stops (run g (spot r))) → IfErr result (Stops (run after_at (spot r)))
+attribute_stops make g r result h k = subst (λ (c : Read (Span → Attribute)). IfErr result (Stops c)) (sym h) (stops_made (made make) (run g (spot r)) result k)

@@ -14,4 +14,3 @@ pub mod Several
 pub mod Attributed
 pub mod Documented
 pub mod Paths
-pub mod Versions

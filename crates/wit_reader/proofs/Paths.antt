@@ -70,11 +70,11 @@ item_parsed {a} {b} {c} {d} {first} {second} {name} {version} {answer} made slas
     }
 
 -- ':', a name, and what follows a second name
-pub rest_parsed : {a b c d : Reader} {first second : Name} {answer : Path} → same_kind a.token.kind Colon ≡ true →
+pub rest_parsed : {a b c d : Reader} (first : Name) {second : Name} {answer : Path} → same_kind a.token.kind Colon ≡ true →
     Passes a (past (spot a) (lexeme a.token)) b → Parses b (name_at (spot b)) second c → Parses c (run (act (package_path first second) item_path) (spot c)) answer d →
     ParsesOn a (run (act (path_of first) rest_of_path) (spot a)) answer d
 unfolding rest_of_path mark_at
-rest_parsed {a} {b} {c} {d} {first} {second} {answer} colon passed name item =
+rest_parsed {a} {b} {c} {d} first {second} {answer} colon passed name item =
     let one = passed.onward in
     let two = name.onward in
     let three = item.onward in

@@ -1,9 +1,6 @@
 use Rattle.std.proofs.Common.{◌∙◌, sym}
-use Rattle.wit_grammar.specs.Grammar.{run}
 use Rattle.wit_grammar.specs.Rules.{deprecated_attribute, since_attribute, unstable_attribute}
-use Rattle.wit_reader.specs.Reading.{spot}
-use Rattle.wit_reader.proofs.Attributed.{attribute_made, deprecated_next, made_deprecated, made_since, made_unstable, since_next, unstable_next}
-use Rattle.wit_reader.proofs.Courses.{made, stops_made}
+use Rattle.wit_reader.proofs.Attributed.{attribute_made, attribute_stops, deprecated_next, made_deprecated, made_since, made_unstable, since_next, unstable_next}
 use Rattle.wit_reader.proofs.reader.Reader.read_after_at.Goals as goal
 
 pub returns-then-at_text-clause-parses : goal.returns-then-at_text-clause-parses
@@ -14,7 +11,7 @@ returns-then-at_text-clause-parses c =
 pub returns-then-at_text-clause-stops : goal.returns-then-at_text-clause-stops
 returns-then-at_text-clause-stops c =
     let self = c.args.self.now in
-    rw (since_next self (sym c.at_text.ensures.same ∙ c.if-at_text.true)) (stops_made (made made_since) (run since_attribute (spot self)) _ c.read_since.ensures.stops)
+    attribute_stops made_since since_attribute self _ (since_next self (sym c.at_text.ensures.same ∙ c.if-at_text.true)) c.read_since.ensures.stops
 
 pub returns-then-at_text-2-clause-parses : goal.returns-then-at_text-2-clause-parses
 returns-then-at_text-2-clause-parses c =
@@ -26,7 +23,7 @@ pub returns-then-at_text-2-clause-stops : goal.returns-then-at_text-2-clause-sto
 returns-then-at_text-2-clause-stops c =
     let self = c.args.self.now in
     let next = unstable_next self (sym c.at_text.ensures.same ∙ c.if-at_text.false) (sym c.at_text-2.ensures.same ∙ c.if-at_text-2.true) in
-    rw next (stops_made (made made_unstable) (run unstable_attribute (spot self)) _ c.read_unstable.ensures.stops)
+    attribute_stops made_unstable unstable_attribute self _ next c.read_unstable.ensures.stops
 
 pub returns-clause-parses : goal.returns-clause-parses
 returns-clause-parses c =
@@ -38,4 +35,4 @@ pub returns-clause-stops : goal.returns-clause-stops
 returns-clause-stops c =
     let self = c.args.self.now in
     let next = deprecated_next self (sym c.at_text.ensures.same ∙ c.if-at_text.false) (sym c.at_text-2.ensures.same ∙ c.if-at_text-2.false) in
-    rw next (stops_made (made made_deprecated) (run deprecated_attribute (spot self)) _ c.read_deprecated.ensures.stops)
+    attribute_stops made_deprecated deprecated_attribute self _ next c.read_deprecated.ensures.stops

@@ -1,4 +1,5 @@
 use Rattle.std.proofs.Common.{refl, ap, ◌∙◌}
+use Rattle.wit_type_tree.specs.Slices.{IsJoined}
 use Rattle.wit_grammar.specs.Trees.{by_package}
 use Rattle.wit_grammar.specs.Seen.{see_name}
 use Rattle.wit_grammar.specs.Rules.{item_path}
@@ -12,7 +13,7 @@ returns-clause-read c =
     let item = skip c.in_ok-expect.ensures.read c.in_ok-name.ensures.read in
     let rest = then_perhaps item c.in_ok-found.ensures.read in
     let made = c.path_package-id.ensures in
-    let spans = rw made.span (record { start = refl; end = refl }) in
+    let spans : IsJoined c.path_package-id.result.span c.args.first.span c.args.second.span = rw made.span (record { start = refl; end = refl }) in
     record {
       source = rest.source;
       offset = rest.offset;

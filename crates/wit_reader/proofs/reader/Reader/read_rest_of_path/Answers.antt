@@ -14,4 +14,4 @@ pub returns-clause-read : goal.returns-clause-read
 returns-clause-read c = complete_behind (skip c.in_ok-bump.ensures.read c.in_ok-second.ensures.read) c.in_ok-path.ensures.read
 
 pub returns-clause-parses : goal.returns-clause-parses
-returns-clause-parses c = rest_parsed (sym c.at.ensures.same ∙ c.if-not-at.false) c.in_ok-bump.ensures.passes c.in_ok-second.ensures.parses c.in_ok-path.ensures.parses
+returns-clause-parses c = rest_parsed _ (sym c.at.ensures.same ∙ c.if-not-at.false) c.in_ok-bump.ensures.passes c.in_ok-second.ensures.parses c.in_ok-path.ensures.parses
