@@ -1,12 +1,12 @@
 -- Courses, one after another: what is made of what they give, and where they stop.
 use Rattle.std.proofs.Common.{◌≡◌, List, [], ◌∷◌, ap, ◌∙◌, sym, refl, true, false, Bool}
-use Rattle.std.specs.Prelude.{◌||◌, Result, Ok, Err, IfErr, Option, Some, None}
+use Rattle.std.specs.Prelude.{◌||◌, Result, Ok, Err, IfErr}
 use Rattle.std.proofs.lemmas.Result.{IfErr-weaker}
 use Rattle.wit_lex.specs.declared.fault.ReadError.{ReadError}
 use Rattle.wit_lex.specs.declared.fault.ReadError.TheVariants.{Fault, OutOfMemory}
 use Rattle.wit_lex.specs.Lexis.{lexeme, Stops}
 use Rattle.wit_grammar.specs.Leaves.{Spot, Read, ◌>>=◌}
-use Rattle.wit_grammar.specs.Grammar.{Gram, Terminal, either, opt, first, matches, run, starts}
+use Rattle.wit_grammar.specs.Grammar.{Gram, Terminal, either, first, matches, run, starts}
 use Rattle.wit_reader.specs.declared.reader.Reader.{Reader}
 use Rattle.wit_reader.specs.Reading.{Parses, spot}
 
@@ -19,10 +19,6 @@ made_twice g f (Ok x) = refl
 made_twice g f (Err e) = refl
 
 -- a fault stops a course, and what goes on after it
-pub stops_at : {A : Type 0} (r : Result A ReadError) (e : ReadError) → r ≡ Err e → Stops r e
-stops_at r (Fault f start end) h = h
-stops_at r OutOfMemory h = tt
-
 pub stops_first : {A B : Type 0} (r : Result A ReadError) (f : A → Result B ReadError) (e : ReadError) → Stops r e → Stops (r >>= f) e
 stops_first r f (Fault k start end) h = rw h refl
 stops_first r f OutOfMemory h = tt

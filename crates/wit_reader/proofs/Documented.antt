@@ -6,14 +6,13 @@ use Rattle.std.proofs.lemmas.Result.{IfOk-at_ok}
 use Rattle.wit_type_tree.specs.declared.leaves.Docs.{Docs}
 use Rattle.wit_lex.specs.declared.fault.ReadError.{ReadError}
 use Rattle.wit_lex.specs.DocsLexis.{AreDocsFrom}
-use Rattle.wit_lex.specs.Lexis.{Lexeme, Stops, arrow_or_escaped, between, first_token, lexeme, skipped, token_after, token_here}
+use Rattle.wit_lex.specs.Lexis.{Lexeme, arrow_or_escaped, between, first_token, lexeme, skipped, token_after, token_here}
 use Rattle.wit_lex.specs.Starts.{is_letter, is_sign}
 use Rattle.wit_grammar.specs.Leaves.{Spot, docs_at, docs_of, lexed, moved}
 use Rattle.wit_grammar.specs.Seen.{see_docs}
 use Rattle.wit_grammar.proofs.Tokens.{token_placed}
 use Rattle.wit_reader.specs.declared.reader.Reader.{Reader}
 use Rattle.wit_reader.specs.Reading.{spot, ParsesOn}
-use Rattle.wit_reader.proofs.Courses.{stops_first}
 
 abbrev begins : ℕ → Result Lexeme ReadError → Type 0
 begins at r = IfOk r (λ t. t.start ≡ at)
@@ -59,8 +58,3 @@ docs_parsed {a} {b} docs to source offset place h =
       onward = omega arith;
       parses = docs_given (spot a) (lexeme a.token) a.next ∙ rw (h.texts, h.span, source, offset, place) refl;
     }
-
--- a comment without an end stops the docs in front of it
-pub docs_stop : (s : Spot) (e : ReadError) → Stops (lexed s) e → Stops (docs_at s) e
-unfolding docs_at
-docs_stop s e h = stops_first (lexed s) (λ t. Ok (docs_of s, moved s t.start)) e h

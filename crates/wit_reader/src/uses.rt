@@ -56,7 +56,7 @@ impl<'a> Reader<'a> {
 
     /// Reads the rest of a path with a package behind the two names of that: `/name`, and perhaps a
     /// version.
-    #[tactic(auto, unfolding(wit_grammar::specs::Rules::item_path))]
+    #[tactic(auto, using(crate::proofs::Paths::package_seen), unfolding(wit_grammar::specs::Rules::item_path))]
     pub fn read_item_path(&mut self, first: Id<'a>, second: Id<'a>) -> ReadResult<UsePath<'a>>
         ensures read { IfOk result (λ p. Completes self.old (named first.entry ∷ named second.entry ∷ []) (path_marks p) self.new) }
         ensures refused { IfErr result (λ e. IsRefused self.old e) }
@@ -73,7 +73,7 @@ impl<'a> Reader<'a> {
 
     /// Reads the rest of a path behind its first name: nothing, or `:name/name` with perhaps a
     /// version.
-    #[tactic(auto, unfolding(wit_grammar::specs::Rules::rest_of_path, wit_grammar::specs::Leaves::mark_at))]
+    #[tactic(auto, using(crate::proofs::Paths::rest_made), unfolding(wit_grammar::specs::Rules::rest_of_path, wit_grammar::specs::Leaves::mark_at))]
     pub fn read_rest_of_path(&mut self, first: Id<'a>) -> ReadResult<UsePath<'a>>
         ensures read { IfOk result (λ p. Completes self.old (named first.entry ∷ []) (path_marks p) self.new) }
         ensures refused { IfErr result (λ e. IsRefused self.old e) }

@@ -1,8 +1,6 @@
 use Rattle.std.proofs.Common.{refl, arith}
-use Rattle.std.proofs.lemmas.Result.{err_from_is_err_and}
 use Rattle.wit_lex.specs.Lexis.{lexeme}
-use Rattle.wit_reader.specs.Reading.{spot}
-use Rattle.wit_reader.proofs.Documented.{docs_parsed, docs_stop, token_begins, token_stays}
+use Rattle.wit_reader.proofs.Documented.{docs_parsed, token_begins, token_stays}
 use Rattle.wit_reader.proofs.Fronts.{docs_read}
 use Rattle.wit_reader.proofs.reader.Reader.read_docs.Goals as goal
 
@@ -14,11 +12,6 @@ returns-clause-read c =
 
 pub returns-clause-parses : goal.returns-clause-parses
 returns-clause-parses c = docs_parsed _ _ refl refl refl c.in_ok-docs.ensures.lexed
-
-pub returns-in_err-docs-clause-stops : goal.returns-in_err-docs-clause-stops
-returns-in_err-docs-clause-stops c =
-    let p = err_from_is_err_and c.from_residual.result c.from_residual.ensures.1 in
-    rw (p.1, p.2) (docs_stop (spot c.args.self.now) _ c.in_err-docs.ensures.unlexed)
 
 pub invariant_of-self : goal.invariant_of-self
 invariant_of-self c =

@@ -24,9 +24,6 @@ names-preserved c = record {
   listing = listing_more c.add.new.items.items c.in_ok-used.used c.in_ok-more-2.more (rw c.names-test.true at c.names.invariant.listing) c.in_ok-used.ensures.parses c.in_ok-add.ensures c.in_ok-more-2.ensures.parses;
 }
 
-pub returns-clause-read : goal.returns-clause-read
-returns-clause-read c = rw c.fitted.ensures c.names.invariant.read
-
 pub returns-clause-parses : goal.returns-clause-parses
 returns-clause-parses c = rw c.fitted.ensures (listing_closed (rw c.names-test.false at c.names.invariant.listing))
 
