@@ -12,11 +12,11 @@ use Rattle.wit_reader.proofs.reader.Reader.read_attributes.Goals as goal
 pub attributes-init : goal.attributes-init
 unfolding attributes
 attributes-init c = rw c.new-attributes.ensures.items (
-  record {
-    read = record { source = refl; offset = refl; rise = omega arith };
-    several = several_opened see_attribute (starts attribute) (run attribute) refl;
-  }
-)
+    record {
+      read = record { source = refl; offset = refl; rise = omega arith };
+      several = several_opened see_attribute (starts attribute) (run attribute) refl;
+    }
+    )
 
 pub attributes-preserved : goal.attributes-preserved
 attributes-preserved c = record {

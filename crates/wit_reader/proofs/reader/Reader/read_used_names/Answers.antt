@@ -12,11 +12,11 @@ use Rattle.wit_reader.proofs.reader.Reader.read_used_names.Goals as goal
 pub names-init : goal.names-init
 unfolding used_names
 names-init c = rw c.new-names.ensures.items (
-  record {
-    read = c.in_ok-more.ensures.read;
-    listing = listing_opened see_used (run used_name) OpenBrace CloseBrace c.in_ok-more.more c.in_ok-more.ensures.parses;
-  }
-)
+    record {
+      read = c.in_ok-more.ensures.read;
+      listing = listing_opened see_used (run used_name) OpenBrace CloseBrace c.in_ok-more.more c.in_ok-more.ensures.parses;
+    }
+    )
 
 pub names-preserved : goal.names-preserved
 names-preserved c = record {
