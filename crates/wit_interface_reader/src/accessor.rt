@@ -1,23 +1,28 @@
-//! Reading the words that functions begin with, and signatures.
-ghost use Rattle.std.specs.Prelude.{◌≡◌, ◌+◌, [], ◌∷◌, ◌++◌, map, IfOk, IfErr};
-ghost use Rattle.std.specs.List.{flat_map};
-ghost use Rattle.std.specs.Option.{option_map};
-ghost use Rattle.wit_type_tree.specs.Marks.{named, spelled, form_word, param_marks, payload_marks};
-ghost use Rattle.wit_grammar.specs.Seen.{see_name, see_type, see_param};
-ghost use Rattle.wit_grammar.specs.Rules.{accessor, func_word};
-ghost use Rattle.wit_grammar.specs.ItemRules.{accessor_name, closed_signature};
-ghost use Rattle.wit_reader.specs.Reading.{IsRead, IsRefused, Reads, Refuses};
+//! Reading the words that functions begin with.
+ghost use Rattle.std.specs.Prelude.{◌≡◌, [], ◌∷◌, IfOk, IfErr};
+ghost use Rattle.wit_type_tree.specs.Marks.{named, spelled, form_word};
+ghost use Rattle.wit_grammar.specs.Seen.{see_name};
+ghost use Rattle.wit_grammar.specs.Grammar.{starts};
+ghost use Rattle.wit_grammar.specs.Rules.{accessor, func_word, form};
+ghost use Rattle.wit_grammar.specs.ItemRules.{accessor_name};
+ghost use Rattle.wit_reader.specs.Reading.{IsRead, IsRefused, Reads, Refuses, spot};
 
-use crate::function::read_signature;
-use wit_lex::fault::{ReadFault, ReadResult};
-use wit_lex::kind::Kind;
+use wit_lex::fault::ReadResult;
 use wit_lex::word::Word;
 use wit_reader::reader::Reader;
 use wit_tree::Span;
-use wit_tree::tree::{FuncForm, Id, Param, Type};
+use wit_tree::tree::{FuncForm, Id};
+
+/// Whether the token is `get` or `set`.
+#[tactic(auto, unfolding(wit_grammar::specs::Rules::accessor))]
+pub fn at_accessor(reader: &Reader<'_>) -> bool
+    ensures { result ≡ starts accessor (spot reader.now) }
+{
+    reader.at_text("get") || reader.at_text("set")
+}
 
 /// Reads `get` or `set`, as a name, and tells the form of a function that it begins.
-#[tactic(auto, unfolding(wit_grammar::specs::Rules::accessor, wit_grammar::specs::Leaves::text_at, wit_grammar::specs::Leaves::name_at))]
+#[tactic(auto, unfolding(wit_grammar::specs::Rules::accessor))]
 pub fn read_accessor<'a>(reader: &mut Reader<'a>) -> ReadResult<(Id<'a>, FuncForm)>
     ensures read { IfOk result (λ r. IsRead reader.old (named r.0 ∷ []) reader.new) }
     ensures word { IfOk result (λ r. IsRead reader.old (spelled r.0.span (form_word r.1) ∷ []) reader.new) }
@@ -27,14 +32,11 @@ pub fn read_accessor<'a>(reader: &mut Reader<'a>) -> ReadResult<(Id<'a>, FuncFor
     ensures stops { IfErr result (Refuses accessor reader.old) }
 {
     if reader.at_text("get") {
-        let id = reader.read_id()?;
-        return Ok((id, FuncForm::Getter));
+        let span = reader.read_text("get")?;
+        return Ok((Id { name: "get", span }, FuncForm::Getter));
     }
-    if reader.at_text("set") {
-        let id = reader.read_id()?;
-        return Ok((id, FuncForm::Setter));
-    }
-    Err(reader.refuse(ReadFault::Token))
+    let span = reader.read_text("set")?;
+    Ok((Id { name: "set", span }, FuncForm::Setter))
 }
 
 /// Reads `func` or `async func`, and tells where `func` is.
@@ -54,16 +56,18 @@ pub fn read_func_word(reader: &mut Reader<'_>) -> ReadResult<(Span, FuncForm)>
     Ok((span, FuncForm::Plain))
 }
 
-/// Reads parameters, the type of what a function returns, where there is one, and the `;` after them.
-#[tactic(auto, unfolding(wit_grammar::specs::ItemRules::closed_signature))]
-pub fn read_closed_signature<'a>(
-    reader: &mut Reader<'a>,
-) -> ReadResult<(Vec<Param<'a>>, Option<Type<'a>>)>
-    ensures read { IfOk result (λ r. IsRead reader.old (flat_map param_marks r.0.items ++ payload_marks r.1) reader.new) }
+/// Reads `func`, `async func`, `get` or `set`, and tells where the word of these is that is not
+/// `async`.
+#[tactic(auto, unfolding(wit_grammar::specs::Rules::form))]
+pub fn read_form(reader: &mut Reader<'_>) -> ReadResult<(Span, FuncForm)>
+    ensures read { IfOk result (λ r. IsRead reader.old (spelled r.0 (form_word r.1) ∷ []) reader.new) }
     ensures refused { IfErr result (λ e. IsRefused reader.old e) }
-    ensures reads { IfOk result (λ it. Reads closed_signature reader.old (map see_param it.0.items, option_map see_type it.1) reader.new) }
-    ensures stops { IfErr result (Refuses closed_signature reader.old) }
+    ensures reads { IfOk result (λ it. Reads form reader.old it reader.new) }
+    ensures stops { IfErr result (Refuses form reader.old) }
 {
-    let signature = read_signature(reader)?;
-    reader.closed(signature, Kind::Semicolon)
+    if at_accessor(reader) {
+        let (name, form) = read_accessor(reader)?;
+        return Ok((name.span, form));
+    }
+    read_func_word(reader)
 }

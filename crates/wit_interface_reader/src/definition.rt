@@ -1,13 +1,13 @@
 //! Reading definitions of types, and the items of an interface.
-ghost use Rattle.std.specs.Prelude.{◌≡◌, ◌+◌, [], ◌∷◌, IfOk, IfErr};
+ghost use Rattle.std.specs.Prelude.{◌≡◌, ◌+◌, [], ◌∷◌, map, IfOk, IfErr};
 ghost use Rattle.std.specs.List.{flat_map};
-ghost use Rattle.wit_reader.specs.Fronts.{IsReadBehind};
 ghost use Rattle.wit_type_tree.specs.Marks.{front_marks, defined_marks, definition_marks};
 ghost use Rattle.wit_tree.specs.Marks.{item_marks};
-ghost use Rattle.wit_reader.specs.Reading.{IsRead, IsRefused, Reads, ReadsAs, Refuses};
-ghost use Rattle.std.specs.Prelude.{map};
-ghost use Rattle.wit_grammar.specs.ItemRules.{alias_definition, record_definition, flags_definition, variant_definition, enum_definition, definition, definition_of, interface_item, interface_items};
-ghost use Rattle.wit_grammar.specs.Seen.{see_name, see_body, see_definition, see_item, see_front};
+ghost use Rattle.wit_grammar.specs.Seen.{see_name, see_body, see_definition, see_item};
+ghost use Rattle.wit_grammar.specs.ItemRules.{alias_definition, record_definition, flags_definition, variant_definition, enum_definition, definition, interface_item, interface_items};
+ghost use Rattle.wit_reader.specs.Fronts.{IsReadBehind};
+ghost use Rattle.wit_reader.specs.Reading.{IsRead, IsRefused, Reads, Refuses};
+ghost use Rattle.wit_interface_reader.specs.After.{defined_after};
 
 use crate::function::read_named_func;
 use crate::members::{read_cases, read_enum_cases, read_fields, read_flags};
@@ -126,7 +126,7 @@ fn read_body<'a>(reader: &mut Reader<'a>) -> ReadResult<(Id<'a>, TypeBody<'a>)>
 pub fn read_definition<'a>(reader: &mut Reader<'a>, front: Front<'a>) -> ReadResult<TypeDef<'a>>
     ensures read { IfOk result (λ d. IsReadBehind reader.old (front_marks front.entry.docs front.entry.attributes.items) (definition_marks d) reader.new) }
     ensures refused { IfErr result (λ e. IsRefused reader.old e) }
-    ensures reads { IfOk result (λ it. ReadsAs definition (definition_of (see_front front.entry.docs front.entry.attributes.items)) reader.old (see_definition it) reader.new) }
+    ensures reads { IfOk result (λ it. Reads (defined_after front.entry) reader.old (see_definition it) reader.new) }
     ensures stops { IfErr result (Refuses definition reader.old) }
 {
     let (name, body) = read_body(reader)?;

@@ -1,15 +1,16 @@
 //! Reading functions.
-ghost use Rattle.std.specs.Prelude.{◌≡◌, ◌+◌, [], ◌∷◌, ◌++◌, IfOk, IfErr, IfSome};
+ghost use Rattle.std.specs.Prelude.{◌≡◌, ◌+◌, [], ◌∷◌, ◌++◌, map, IfOk, IfErr};
 ghost use Rattle.std.specs.List.{flat_map};
-ghost use Rattle.wit_reader.specs.Fronts.{IsReadBehind};
-ghost use Rattle.wit_type_tree.specs.Marks.{spelled, front_marks, param_marks, payload_marks, form_word, func_marks, named_func_marks};
-ghost use Rattle.wit_reader.specs.Reading.{IsRead, IsReadOn, IsRefused, Reads, ReadsAs, ReadsOn, Refuses};
-ghost use Rattle.std.specs.Prelude.{map};
 ghost use Rattle.std.specs.Option.{option_map};
-ghost use Rattle.wit_grammar.specs.Rules.{param, params, returned, signature, accessor, form, function};
-ghost use Rattle.wit_grammar.specs.ItemRules.{closed_function, named_function, named_func_of};
-ghost use Rattle.wit_grammar.specs.Seen.{see_name, see_type, see_param, see_func, see_named_func, see_front};
+ghost use Rattle.wit_type_tree.specs.Marks.{front_marks, param_marks, payload_marks, func_marks, named_func_marks};
+ghost use Rattle.wit_grammar.specs.Seen.{see_type, see_param, see_func, see_named_func};
+ghost use Rattle.wit_grammar.specs.Rules.{param, params, returned, signature, function};
+ghost use Rattle.wit_grammar.specs.ItemRules.{closed_function, closed_signature, named_function};
+ghost use Rattle.wit_reader.specs.Fronts.{IsReadBehind};
+ghost use Rattle.wit_reader.specs.Reading.{IsRead, IsReadOn, IsRefused, Reads, ReadsOn, Refuses};
+ghost use Rattle.wit_interface_reader.specs.After.{named_after};
 
+use crate::accessor::{at_accessor, read_form};
 use wit_lex::fault::ReadResult;
 use wit_lex::kind::Kind;
 use wit_lex::token::next_token;
@@ -18,19 +19,7 @@ use wit_reader::front::Front;
 use wit_reader::reader::Reader;
 use wit_reader::room::add;
 use wit_reader::types::MOST_NESTED;
-use wit_tree::Span;
-use wit_tree::tree::{Func, FuncForm, NamedFunc, Param, Type};
-
-/// The form of a getter or a setter, where the text is its word.
-fn accessor_form(text: &str) -> Option<FuncForm>
-    ensures { IfSome result (λ form. text.now ≡ form_word form) }
-{
-    match text {
-        "get" => Some(FuncForm::Getter),
-        "set" => Some(FuncForm::Setter),
-        _ => None,
-    }
-}
+use wit_tree::tree::{Func, NamedFunc, Param, Type};
 
 #[tactic(auto, unfolding(wit_grammar::specs::Rules::param))]
 fn read_param<'a>(reader: &mut Reader<'a>) -> ReadResult<Param<'a>>
@@ -91,41 +80,30 @@ pub fn read_signature<'a>(reader: &mut Reader<'a>) -> ReadResult<(Vec<Param<'a>>
     Ok((params, returned))
 }
 
-/// Reads `func`, `async func`, `get` or `set`, and tells where the word of these stands that is
-/// not `async`.
-#[tactic(auto, unfolding(wit_grammar::specs::Rules::form, wit_grammar::specs::Rules::func_word))]
-fn read_form(reader: &mut Reader<'_>) -> ReadResult<(Span, FuncForm)>
-    ensures read { IfOk result (λ r. IsRead reader.old (spelled r.0 (form_word r.1) ∷ []) reader.new) }
+/// Reads parameters, the type of what a function returns, where there is one, and the `;` after them.
+#[tactic(auto, unfolding(wit_grammar::specs::ItemRules::closed_signature))]
+pub fn read_closed_signature<'a>(
+    reader: &mut Reader<'a>,
+) -> ReadResult<(Vec<Param<'a>>, Option<Type<'a>>)>
+    ensures read { IfOk result (λ r. IsRead reader.old (flat_map param_marks r.0.items ++ payload_marks r.1) reader.new) }
     ensures refused { IfErr result (λ e. IsRefused reader.old e) }
-    ensures reads { IfOk result (λ it. Reads form reader.old (it) reader.new) }
-    ensures stops { IfErr result (Refuses form reader.old) }
+    ensures reads { IfOk result (λ it. Reads closed_signature reader.old (map see_param it.0.items, option_map see_type it.1) reader.new) }
+    ensures stops { IfErr result (Refuses closed_signature reader.old) }
 {
-    if reader.at_text("get") {
-        let span = reader.read_text("get")?;
-        return Ok((span, FuncForm::Getter));
-    }
-    if reader.at_text("set") {
-        let span = reader.read_text("set")?;
-        return Ok((span, FuncForm::Setter));
-    }
-    if reader.at_word(Word::Async) {
-        reader.bump()?;
-        let span = reader.read_word(Word::Func)?;
-        return Ok((span, FuncForm::Async));
-    }
-    let span = reader.read_word(Word::Func)?;
-    Ok((span, FuncForm::Plain))
+    let signature = read_signature(reader)?;
+    let closed = reader.closed(signature, Kind::Semicolon)?;
+    Ok(closed)
 }
 
-/// Whether a function begins with the token: at `func`, `async`, or `get` or `set` with `(`
-/// behind it.
+/// Whether a function begins with the token: at `func`, `async`, or `get` or `set` with `(` after
+/// it. An error is that of the token after `get` or `set`.
 pub fn begins_func(reader: &Reader<'_>) -> ReadResult<bool>
     ensures refused { IfErr result (λ e. IsRefused reader.now e) }
 {
     if reader.at_word(Word::Func) || reader.at_word(Word::Async) {
         return Ok(true);
     }
-    if accessor_form(reader.token.text).is_none() {
+    if !at_accessor(reader) {
         return Ok(false);
     }
     let next = next_token(reader.source, reader.token.end)?;
@@ -150,7 +128,7 @@ pub fn read_func<'a>(reader: &mut Reader<'a>) -> ReadResult<Func<'a>>
     })
 }
 
-/// Reads a function without its name, and the `;` behind it.
+/// Reads a function without its name, and the `;` after it.
 #[tactic(auto, unfolding(wit_grammar::specs::ItemRules::closed_function))]
 pub fn read_closed_func<'a>(reader: &mut Reader<'a>) -> ReadResult<Func<'a>>
     ensures read { IfOk result (λ f. IsRead reader.old (func_marks f) reader.new) }
@@ -168,7 +146,7 @@ pub fn read_closed_func<'a>(reader: &mut Reader<'a>) -> ReadResult<Func<'a>>
 pub fn read_named_func<'a>(reader: &mut Reader<'a>, front: Front<'a>) -> ReadResult<NamedFunc<'a>>
     ensures read { IfOk result (λ f. IsReadBehind reader.old (front_marks front.entry.docs front.entry.attributes.items) (named_func_marks f) reader.new) }
     ensures refused { IfErr result (λ e. IsRefused reader.old e) }
-    ensures reads { IfOk result (λ it. ReadsAs named_function (λ x. named_func_of (see_front front.entry.docs front.entry.attributes.items) x.0 x.1) reader.old (see_named_func it) reader.new) }
+    ensures reads { IfOk result (λ it. Reads (named_after front.entry) reader.old (see_named_func it) reader.new) }
     ensures stops { IfErr result (Refuses named_function reader.old) }
 {
     let name = reader.read_label()?;

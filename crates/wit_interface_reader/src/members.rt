@@ -1,14 +1,13 @@
 //! Reading fields, flags and cases.
-ghost use Rattle.std.specs.Prelude.{◌≡◌, ◌+◌, [], ◌∷◌, IfOk, IfErr};
+ghost use Rattle.std.specs.Prelude.{◌≡◌, ◌+◌, [], ◌∷◌, map, IfOk, IfErr};
 ghost use Rattle.std.specs.List.{flat_map};
-ghost use Rattle.wit_type_tree.specs.Marks.{field_marks, flag_marks, payload_marks, case_marks, enum_case_marks};
-ghost use Rattle.wit_reader.specs.Reading.{IsRead, IsReadOn, IsRefused, Reads, ReadsAs, ReadsOn, Refuses};
-ghost use Rattle.std.specs.Prelude.{map};
 ghost use Rattle.std.specs.Option.{option_map};
+ghost use Rattle.wit_type_tree.specs.Marks.{field_marks, flag_marks, payload_marks, case_marks, enum_case_marks};
 ghost use Rattle.wit_lex.specs.declared.kind.Kind.TheVariants.{OpenBrace, CloseBrace};
+ghost use Rattle.wit_grammar.specs.Seen.{see_type, see_field, see_flag, see_case, see_enum_case};
 ghost use Rattle.wit_grammar.specs.Grammar.{listed};
 ghost use Rattle.wit_grammar.specs.ItemRules.{field, flag, case, case_type};
-ghost use Rattle.wit_grammar.specs.Seen.{see_type, see_field, see_flag, see_case, see_enum_case};
+ghost use Rattle.wit_reader.specs.Reading.{IsRead, IsReadOn, IsRefused, Reads, ReadsOn, Refuses};
 
 use wit_lex::fault::ReadResult;
 use wit_lex::kind::Kind;

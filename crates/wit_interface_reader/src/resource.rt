@@ -1,14 +1,14 @@
 //! Reading resources.
-ghost use Rattle.std.specs.Prelude.{◌≡◌, ◌+◌, [], ◌∷◌, ◌++◌, IfOk, IfErr};
+ghost use Rattle.std.specs.Prelude.{◌≡◌, ◌+◌, [], ◌∷◌, ◌++◌, map, IfOk, IfErr};
 ghost use Rattle.std.specs.List.{flat_map};
-ghost use Rattle.wit_reader.specs.Fronts.{IsReadBehind};
 ghost use Rattle.wit_type_tree.specs.Marks.{named, front_marks, func_marks, resource_func_marks, defined_marks};
-ghost use Rattle.wit_reader.specs.Reading.{IsRead, IsReadOn, IsRefused, Reads, ReadsAs, ReadsOn, Refuses};
-ghost use Rattle.std.specs.Prelude.{map};
-ghost use Rattle.wit_grammar.specs.ItemRules.{constructed, is_static, maker_of, member, member_of, braced_functions, resource_function, resource_body, resource_definition};
-ghost use Rattle.wit_grammar.specs.Seen.{see_name, see_body, see_func, see_resource_func, see_front};
+ghost use Rattle.wit_grammar.specs.Seen.{see_name, see_body, see_func, see_resource_func};
+ghost use Rattle.wit_grammar.specs.ItemRules.{constructed, is_static, member, member_of, braced_functions, resource_function, resource_body, resource_definition};
+ghost use Rattle.wit_reader.specs.Fronts.{IsReadBehind};
+ghost use Rattle.wit_reader.specs.Reading.{IsRead, IsReadOn, IsRefused, Reads, ReadsOn, Refuses};
+ghost use Rattle.wit_interface_reader.specs.After.{front_of, constructed_after, member_after};
 
-use crate::function::{read_closed_func, read_signature};
+use crate::function::{read_closed_func, read_closed_signature};
 use wit_lex::fault::ReadResult;
 use wit_lex::kind::Kind;
 use wit_lex::word::Word;
@@ -25,7 +25,7 @@ fn resource_func<'a>(
     func: Func<'a>,
 ) -> ResourceFunc<'a>
     ensures marks { resource_func_marks result ≡ front_marks front.entry.docs front.entry.attributes.items ++ named name.entry ∷ func_marks func.entry }
-    ensures seen { see_resource_func result ≡ member_of (see_front front.entry.docs front.entry.attributes.items) (see_name name.entry, is_static, see_func func.entry) }
+    ensures seen { see_resource_func result ≡ member_of (front_of front.entry) (see_name name.entry, is_static, see_func func.entry) }
 {
     let named = NamedFunc {
         docs: front.docs,
@@ -45,18 +45,17 @@ fn resource_func<'a>(
 fn read_constructor<'a>(reader: &mut Reader<'a>, front: Front<'a>) -> ReadResult<ResourceFunc<'a>>
     ensures read { IfOk result (λ f. IsReadBehind reader.old (front_marks front.entry.docs front.entry.attributes.items) (resource_func_marks f) reader.new) }
     ensures refused { IfErr result (λ e. IsRefused reader.old e) }
-    ensures reads { IfOk result (λ it. ReadsAs constructed (maker_of (see_front front.entry.docs front.entry.attributes.items)) reader.old (see_resource_func it) reader.new) }
+    ensures reads { IfOk result (λ it. Reads (constructed_after front.entry) reader.old (see_resource_func it) reader.new) }
     ensures stops { IfErr result (Refuses constructed reader.old) }
 {
     let span = reader.read_word(Word::Constructor)?;
-    let signature = read_signature(reader)?;
-    let closed = reader.closed(signature, Kind::Semicolon)?;
+    let (params, returned) = read_closed_signature(reader)?;
     Ok(ResourceFunc::Constructor {
         docs: front.docs,
         attributes: front.attributes,
         span,
-        params: closed.0,
-        result: closed.1,
+        params,
+        result: returned,
     })
 }
 
@@ -65,7 +64,7 @@ fn read_constructor<'a>(reader: &mut Reader<'a>, front: Front<'a>) -> ReadResult
 fn skip_static(reader: &mut Reader<'_>) -> ReadResult<bool>
     ensures read { IfOk result (λ _. IsReadOn reader.old [] reader.new) }
     ensures refused { IfErr result (λ e. IsRefused reader.old e) }
-    ensures reads { IfOk result (λ it. ReadsOn is_static reader.old (it) reader.new) }
+    ensures reads { IfOk result (λ it. ReadsOn is_static reader.old it reader.new) }
     ensures stops { IfErr result (Refuses is_static reader.old) }
 {
     if !reader.at_word(Word::Static) {
@@ -80,7 +79,7 @@ fn skip_static(reader: &mut Reader<'_>) -> ReadResult<bool>
 fn read_member<'a>(reader: &mut Reader<'a>, front: Front<'a>) -> ReadResult<ResourceFunc<'a>>
     ensures read { IfOk result (λ f. IsReadBehind reader.old (front_marks front.entry.docs front.entry.attributes.items) (resource_func_marks f) reader.new) }
     ensures refused { IfErr result (λ e. IsRefused reader.old e) }
-    ensures reads { IfOk result (λ it. ReadsAs member (member_of (see_front front.entry.docs front.entry.attributes.items)) reader.old (see_resource_func it) reader.new) }
+    ensures reads { IfOk result (λ it. Reads (member_after front.entry) reader.old (see_resource_func it) reader.new) }
     ensures stops { IfErr result (Refuses member reader.old) }
 {
     let name = reader.read_label()?;
@@ -125,7 +124,7 @@ fn read_resource_funcs<'a>(reader: &mut Reader<'a>) -> ReadResult<Vec<ResourceFu
 }
 
 /// Reads `;`, or functions in braces.
-#[tactic(auto, unfolding(wit_grammar::specs::ItemRules::resource_body))]
+#[tactic(auto, unfolding(wit_grammar::specs::ItemRules::resource_body, wit_grammar::specs::Leaves::mark_at))]
 fn read_resource_body<'a>(reader: &mut Reader<'a>) -> ReadResult<Vec<ResourceFunc<'a>>>
     ensures read { IfOk result (λ fs. IsRead reader.old (flat_map resource_func_marks fs.items) reader.new) }
     ensures refused { IfErr result (λ e. IsRefused reader.old e) }
@@ -136,7 +135,8 @@ fn read_resource_body<'a>(reader: &mut Reader<'a>) -> ReadResult<Vec<ResourceFun
         reader.bump()?;
         return Ok(Vec::new(reader.alloc));
     }
-    read_resource_funcs(reader)
+    let funcs = read_resource_funcs(reader)?;
+    Ok(funcs)
 }
 
 /// Reads `resource name;` or `resource name { .. }`.

@@ -1,0 +1,5 @@
+pub mod Items
+pub mod Fronted
+pub mod Braces
+pub mod Definitions
+pub mod Words
