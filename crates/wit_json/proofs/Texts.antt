@@ -1,10 +1,8 @@
 -- Numbers, versions, names of packages, and keys of imports and exports: each is told by its text.
 use Rattle.std.proofs.Common.{◌≡◌, ℕ, zero, suc, ◌+◌, ◌<◌, ◌≤◌, ◌^◌, ◌/◌, ◌%◌, Bool, true, false, cond, eqb, eqb-true, List, [], ◌∷◌, ◌++◌, length, ap, sym, ◌∙◌, refl, subst, arith}
 use Rattle.std.specs.Prelude.{⊤, Option, Some, None, Result, Ok, Err, Contains, IfSome, drop}
-use Rattle.std.specs.Fmt.{decimal}
-use Rattle.core.specs.Fmt.{digit_glyph, digits_onto}
+use Rattle.std.specs.Fmt.{decimal, digit_glyph, digits, digits_onto}
 use Rattle.std.specs.Str.Parse.{digits_value}
-use Rattle.core.proofs.fmt.DigitsParse.{digits_onto-nil}
 use Rattle.std.proofs.lemmas.Fmt.{decimal_injective, decimal_is_IsNumeral_wide}
 use Rattle.semver.specs.Parse.{Parts, version_parts}
 use Rattle.semver.specs.declared.error.Error.{Error}
@@ -34,8 +32,13 @@ wide : (k n : ℕ) (acc : List ℕ) → length (digits_onto k 10 false n acc) < 
 wide zero n acc room = absurd (omega (arith, room))
 wide (suc k) n acc room = wide_step k n acc (wide k) (eqb (n / 10) 0) refl room
 
+-- a decimal text is that of at most 64 digits
+all_digits : (n : ℕ) → digits_onto 64 10 false n [] ≡ decimal n
+unfolding digits
+all_digits n = refl
+
 short_number : (n : ℕ) → length (decimal n) ≤ 20 → n < 10 ^ 64
-short_number n short = wide 64 n [] (subst (λ (ds : List ℕ). length ds < 64 + 0) (sym (digits_onto-nil 10 false n)) (omega (arith, short)))
+short_number n short = wide 64 n [] (subst (λ (ds : List ℕ). length ds < 64 + 0) (sym (all_digits n)) (omega (arith, short)))
 
 pub decimal_tells : (m n : ℕ) → length (decimal m) ≤ 20 → decimal m ≡ decimal n → m ≡ n
 decimal_tells m n short same =
