@@ -7,8 +7,10 @@ use Rattle.wit_type_tree.specs.declared.error.ParseError.{ParseError}
 use Rattle.wit_lex.specs.declared.source.Source.{Source}
 use Rattle.wit_lex.specs.declared.source_map.SourceMap.{SourceMap}
 use Rattle.wit_lex.specs.Sources.{IsSource, space}
+use Rattle.wit_grammar.specs.Trees.{File}
+use Rattle.wit_grammar.specs.Laws.{IsSpelled}
+use Rattle.wit_text.specs.Files.{Gives, IsFaultOf}
 use Rattle.wit_bundle.specs.Paths.{IsByPath}
-use Rattle.wit_lex.specs.Faults.{IsRefusal}
 use Rattle.wit_model.specs.declared.unresolved.UnresolvedPackage.{UnresolvedPackage}
 use Rattle.wit_syntax.specs.Fault.{Fault}
 use Rattle.wit_syntax.specs.Broken.{Refused}
@@ -16,7 +18,7 @@ use Rattle.wit_nested.specs.Nested.{GrowByNested, IsUnfit}
 use Rattle.wit_nested.specs.Names.{IsUnjoined}
 use Rattle.wit_nested.specs.Names.IsUnjoined.{Broken, Repeated as RepeatedName}
 use Rattle.wit_groups.specs.declared.group.UnresolvedPackageGroup.{UnresolvedPackageGroup}
-use Rattle.wit_groups.specs.Groups.{AreRefused, AreTaken, IsAlone, IsRefused, IsTree, IsUnparsed}
+use Rattle.wit_groups.specs.Groups.{AreRefused, AreTaken, IsAlone, IsRefused, IsTree, IsUnparsed, IsUnread}
 use Rattle.wit_groups.specs.Groups.AreRefused.{Unread, Unfit, Illegal, Repeated}
 use Rattle.wit_groups.specs.Groups.IsRefused.{InTurn}
 use Rattle.wit_groups.specs.Groups.IsUnparsed.{Alone}
@@ -26,6 +28,11 @@ use Rattle.wit_nested.proofs.Fronts.{front_more, front_none, front_split}
 -- a source that is lent
 abbrev pub now_of : Bor Source → Source
 now_of s = s.now
+
+-- why no tree was read
+pub none_read : (s : Source) (r : Result SourceFile ParseError) → ((tree : File) → IsSpelled (string_bytes s.contents) s.offset tree → Gives r tree) → IfErr r (IsFaultOf (string_bytes s.contents) s.offset) → IfErr r (IsUnread s)
+none_read s (Ok read) only fault = tt
+none_read s (Err e) only fault = record { none = only; fault = fault }
 
 -- no source yet
 pub taken_none : (turn : List (Bor Source)) (files : List PackageFile) (packages : List UnresolvedPackage) → files ≡ [] → packages ≡ [] → AreTaken (map now_of (take 0 turn)) files packages
@@ -39,7 +46,7 @@ taken_more turn i s files grown packages kept read lt is taken tree fit e nested
 
 -- a source that cannot be read
 pub unread : (turn : List (Bor Source)) (i : ℕ) (s : Bor Source) (files : List PackageFile) (packages : List UnresolvedPackage) (e : ParseError) → i < length turn → s ≡ get_or turn i s →
-    AreTaken (map now_of (take i turn)) files packages → IsRefusal (string_bytes s.now.contents) s.now.offset e → AreRefused (map now_of turn) e
+    AreTaken (map now_of (take i turn)) files packages → IsUnread s.now e → AreRefused (map now_of turn) e
 unread turn i s files packages e lt is taken refused = Unread (map now_of (take i turn)) (map now_of (drop (suc i) turn)) s.now (front_split now_of turn i s lt is) files packages taken refused
 
 -- a tree that is unfit

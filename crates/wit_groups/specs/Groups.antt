@@ -1,16 +1,15 @@
 -- What sources come to: the package that they make and those that are nested in them, or why they make none.
 use Rattle.std.specs.Prelude.{◌≡◌, ℕ, ◌+◌, List, [], ◌∷◌, ◌++◌, length, string_bytes}
-use Rattle.std.specs.List.{flat_map}
 use Rattle.wit_tree.specs.declared.tree.PackageFile.{PackageFile}
 use Rattle.wit_tree.specs.declared.tree.SourceFile.{SourceFile}
 use Rattle.wit_type_tree.specs.declared.error.ParseError.{ParseError}
-use Rattle.wit_type_tree.specs.Marks.{Mark}
-use Rattle.wit_tree.specs.Marks.{file_marks, inner_marks, nested_marks}
 use Rattle.wit_type_tree.specs.Refusal.{IsWantOfMemory}
-use Rattle.wit_type_tree.specs.Slices.{Rise}
 use Rattle.wit_lex.specs.declared.source.Source.{Source}
-use Rattle.wit_lex.specs.Faults.{IsRefusal}
 use Rattle.wit_lex.specs.Sources.{IsSource, IsTooLarge}
+use Rattle.wit_grammar.specs.Trees.{File}
+use Rattle.wit_grammar.specs.Seen.{see_file}
+use Rattle.wit_grammar.specs.Laws.{IsSpelled}
+use Rattle.wit_text.specs.Files.{IsFaultOf}
 use Rattle.wit_bundle.specs.Paths.{IsByPath}
 use Rattle.wit_model.specs.declared.unresolved.UnresolvedPackage.{UnresolvedPackage}
 use Rattle.wit_syntax.specs.Fault.{Fault, fault_of}
@@ -19,15 +18,14 @@ use Rattle.wit_arena.specs.Faithful.{IsMadeOf}
 use Rattle.wit_nested.specs.Nested.{GrowByNested, IsUnfit}
 use Rattle.wit_nested.specs.Names.{AreNamedApart, IsRepeatedPackage}
 
--- marks stand in the source, one behind the other
-abbrev pub AreIn : Source → List Mark → Type 0
-AreIn s marks = Rise (string_bytes s.contents) s.offset s.offset marks (s.offset + length (string_bytes s.contents))
+-- the source spells the tree, from its beginning to its end
+abbrev pub IsTree : Source → SourceFile → Type 0
+IsTree s read = IsSpelled (string_bytes s.contents) s.offset (see_file read)
 
--- the names and words of a tree stand in the source, one behind the other, and so do those of the packages that are nested in it
-pub record IsTree (s : Source) (read : SourceFile) : Type 0 where
-  pub file : AreIn s (file_marks read.file)
-  pub nested : AreIn s (flat_map nested_marks read.nested.items)
-  pub inner : AreIn s (flat_map inner_marks read.nested.items)
+-- no tree is spelled, and the refusal is of the fault at which reading stops; or memory ran out
+pub record IsUnread (s : Source) (e : ParseError) : Type 0 where
+  pub none : (tree : File) → IsSpelled (string_bytes s.contents) s.offset tree → IsWantOfMemory e
+  pub fault : IsFaultOf (string_bytes s.contents) s.offset e
 
 -- there is a tree of each source, none of which is unfit behind those before it; these are their files, and the packages that are nested in
 -- them
@@ -49,7 +47,7 @@ pub record IsGroup (sources : List Source) (main : UnresolvedPackage) (nested : 
 -- all of them are read, fit and legal, and a nested package has the name of the main one or of a nested one before it
 pub data AreRefused (turn : List Source) (e : ParseError) : Type 0 where
   Unread : (front rest : List Source) (s : Source) → turn ≡ front ++ s ∷ rest → (files : List PackageFile) (packages : List UnresolvedPackage) → AreTaken front files packages →
-      IsRefusal (string_bytes s.contents) s.offset e → AreRefused turn e
+      IsUnread s e → AreRefused turn e
   Unfit : (front rest : List Source) (s : Source) → turn ≡ front ++ s ∷ rest → (files : List PackageFile) (packages : List UnresolvedPackage) (read : SourceFile) → AreTaken front files packages →
       IsTree s read → Refused (IsUnfit files read) e → AreRefused turn e
   Illegal : (files : List PackageFile) (packages : List UnresolvedPackage) → AreTaken turn files packages → Refused (IsBroken files) e → AreRefused turn e

@@ -1,8 +1,7 @@
 //! From sources to a group.
-ghost use Rattle.std.specs.Prelude.{◌≡◌, IfErr, IfOk, map, string_bytes};
-ghost use Rattle.wit_lex.specs.Faults.{IsRefusal};
+ghost use Rattle.std.specs.Prelude.{◌≡◌, IfErr, IfOk, map};
 ghost use Rattle.wit_lex.specs.Sources.{told};
-ghost use Rattle.wit_groups.specs.Groups.{AreRefused, AreTaken, IsAlone, IsGroup, IsRefused, IsTree, IsUnparsed};
+ghost use Rattle.wit_groups.specs.Groups.{AreRefused, AreTaken, IsAlone, IsGroup, IsRefused, IsTree, IsUnparsed, IsUnread};
 
 use std::alloc::{AllocError, Global};
 use wit_bundle::by_path;
@@ -46,7 +45,7 @@ impl Clone for UnresolvedPackageGroup {
 /// The tree of a source.
 fn read_source<'a>(alloc: Global, source: &'a Source) -> ParseResult<SourceFile<'a>>
     ensures tree { IfOk result (IsTree source.now) }
-    ensures unread { IfErr result (IsRefusal (string_bytes source.now.contents) source.now.offset) }
+    ensures unread { IfErr result (IsUnread source.now) }
 {
     read_file(alloc, source.contents.as_str(), source.offset)
 }

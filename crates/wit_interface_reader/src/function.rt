@@ -10,11 +10,9 @@ ghost use Rattle.wit_reader.specs.Fronts.{IsReadBehind};
 ghost use Rattle.wit_reader.specs.Reading.{IsRead, IsReadOn, IsRefused, Reads, ReadsOn, Refuses};
 ghost use Rattle.wit_interface_reader.specs.After.{named_after};
 
-use crate::accessor::{at_accessor, read_form};
+use crate::accessor::read_form;
 use wit_lex::fault::ReadResult;
 use wit_lex::kind::Kind;
-use wit_lex::token::next_token;
-use wit_lex::word::Word;
 use wit_reader::front::Front;
 use wit_reader::reader::Reader;
 use wit_reader::room::add;
@@ -93,21 +91,6 @@ pub fn read_closed_signature<'a>(
     let signature = read_signature(reader)?;
     let closed = reader.closed(signature, Kind::Semicolon)?;
     Ok(closed)
-}
-
-/// Whether a function begins with the token: at `func`, `async`, or `get` or `set` with `(` after
-/// it. An error is that of the token after `get` or `set`.
-pub fn begins_func(reader: &Reader<'_>) -> ReadResult<bool>
-    ensures refused { IfErr result (λ e. IsRefused reader.now e) }
-{
-    if reader.at_word(Word::Func) || reader.at_word(Word::Async) {
-        return Ok(true);
-    }
-    if !at_accessor(reader) {
-        return Ok(false);
-    }
-    let next = next_token(reader.source, reader.token.end)?;
-    Ok(next.kind == Kind::OpenParen)
 }
 
 /// Reads a function without its name.

@@ -36,7 +36,7 @@ impl<'a> Reader<'a> {
     }
 
     /// Reads attributes.
-    fn read_attributes(&mut self) -> ReadResult<Vec<Attribute<'a>>>
+    pub fn read_attributes(&mut self) -> ReadResult<Vec<Attribute<'a>>>
         ensures read { IfOk result (λ list. IsReadOn self.old (attributes_marks list.items) self.new) }
         ensures refused { IfErr result (λ e. IsRefused self.old e) }
         ensures parses { IfOk result (λ it. ReadsOn attributes self.old (map see_attribute it.items) self.new) }

@@ -1,14 +1,14 @@
 //! Reading declarations, and whether a nested package stands in the place of one.
 ghost use Rattle.std.specs.Prelude.{◌≡◌, ◌+◌, [], ◌∷◌, IfOk, IfErr};
-ghost use Rattle.wit_type_tree.specs.Marks.{front_marks};
-ghost use Rattle.wit_tree.specs.Marks.{interface_marks};
-ghost use Rattle.wit_reader.specs.Fronts.{IsReadBehind};
-ghost use Rattle.wit_reader.specs.Reading.{IsRead, IsRefused};
-ghost use Rattle.wit_text.specs.Packages.{IsItemRead};
+ghost use Rattle.wit_grammar.specs.Seen.{see_interface};
+ghost use Rattle.wit_grammar.specs.ItemRules.{interface_rule};
+ghost use Rattle.wit_reader.specs.Reading.{IsRefused, Reads, Refuses};
+ghost use Rattle.wit_text.specs.After.{interface_after};
+ghost use Rattle.wit_text.specs.Packages.{ReadsItem, RefusesItem};
 
 use crate::world::read_world;
 use wit_interface_reader::definition::read_interface_items;
-use wit_lex::fault::{ReadFault, ReadResult};
+use wit_lex::fault::ReadResult;
 use wit_lex::word::Word;
 use wit_reader::front::Front;
 use wit_reader::reader::Reader;
@@ -23,9 +23,11 @@ pub enum PackageItem<'a> {
 }
 
 /// Reads `interface name { .. }`.
+#[tactic(auto, unfolding(wit_grammar::specs::ItemRules::interface_rule))]
 fn read_interface<'a>(reader: &mut Reader<'a>, front: Front<'a>) -> ReadResult<Interface<'a>>
-    ensures read { IfOk result (λ i. IsReadBehind reader.old (front_marks front.entry.docs front.entry.attributes.items) (interface_marks i) reader.new) }
+    ensures reads { IfOk result (λ it. Reads (interface_after front.entry) reader.old (see_interface it) reader.new) }
     ensures refused { IfErr result (λ e. IsRefused reader.old e) }
+    ensures stops { IfErr result (Refuses interface_rule reader.old) }
 {
     reader.expect_word(Word::Interface)?;
     let name = reader.read_id()?;
@@ -41,10 +43,16 @@ fn read_interface<'a>(reader: &mut Reader<'a>, front: Front<'a>) -> ReadResult<I
 /// Reads a declaration (an interface, a world, or another name for an item), or the docs of a
 /// nested package, which may have no attributes.
 pub fn read_package_item<'a>(reader: &mut Reader<'a>) -> ReadResult<PackageItem<'a>>
-    ensures read { IfOk result (λ item. IsItemRead reader.old item reader.new) }
+    ensures reads { IfOk result (λ it. ReadsItem reader.old it reader.new) }
     ensures refused { IfErr result (λ e. IsRefused reader.old e) }
+    ensures stops { IfErr result (RefusesItem reader.old) }
 {
-    let front = reader.read_front()?;
+    let docs = reader.read_docs()?;
+    if reader.at_word(Word::Package) {
+        return Ok(PackageItem::Package(docs));
+    }
+    let attributes = reader.read_attributes()?;
+    let front = Front { docs, attributes };
     if reader.at_word(Word::Use) {
         let used = reader.read_toplevel_use(front.attributes)?;
         return Ok(PackageItem::Declaration(AstItem::Use(used)));
@@ -52,12 +60,6 @@ pub fn read_package_item<'a>(reader: &mut Reader<'a>) -> ReadResult<PackageItem<
     if reader.at_word(Word::World) {
         let world = read_world(reader, front)?;
         return Ok(PackageItem::Declaration(AstItem::World(world)));
-    }
-    if reader.at_word(Word::Package) {
-        if !front.attributes.is_empty() {
-            return Err(reader.refuse(ReadFault::Token));
-        }
-        return Ok(PackageItem::Package(front.docs));
     }
     let interface = read_interface(reader, front)?;
     Ok(PackageItem::Declaration(AstItem::Interface(interface)))

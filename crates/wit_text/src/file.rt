@@ -1,11 +1,14 @@
 //! Reading a file.
-ghost use Rattle.std.specs.Prelude.{◌≡◌, ◌+◌, ◌<◌, ◌^◌, [], ◌∷◌, length, IfOk, OnOk, IfErr};
-ghost use Rattle.std.specs.List.{flat_map};
-ghost use Rattle.wit_tree.specs.Marks.{declaration_marks, package_marks, file_marks, nested_marks, inner_marks};
-ghost use Rattle.wit_type_tree.specs.Slices.{Rise};
-ghost use Rattle.wit_lex.specs.Faults.{IsRefusal, IsWithin};
-ghost use Rattle.wit_reader.specs.Reading.{IsReadOn, IsRefused};
-ghost use Rattle.wit_reader.specs.Fronts.{CompletesOn};
+ghost use Rattle.std.specs.Prelude.{◌≡◌, ◌+◌, ◌<◌, ◌^◌, length, IfOk, OnOk, IfErr};
+ghost use Rattle.wit_lex.specs.Faults.{IsWithin};
+ghost use Rattle.wit_lex.specs.Lexis.{Stops};
+ghost use Rattle.wit_grammar.specs.Grammar.{run};
+ghost use Rattle.wit_grammar.specs.Seen.{see_file};
+ghost use Rattle.wit_grammar.specs.ItemRules.{beginning, file, item_to, items_to_end, package_first};
+ghost use Rattle.wit_grammar.specs.Laws.{IsReadAs, IsSpelled, start};
+ghost use Rattle.wit_reader.specs.Reading.{IsRefused, ReadsOn, Refuses};
+ghost use Rattle.wit_grammar.specs.Trees.{File};
+ghost use Rattle.wit_text.specs.Files.{AddsBeginning, AddsItem, AddsItems, AddsPackage, Gives, IsFaultOf, file_with};
 
 use crate::declaration::{PackageItem, read_package_item};
 use crate::package::{read_nested, read_package_name};
@@ -19,81 +22,124 @@ use wit_tree::ParseResult;
 use wit_tree::tree::{AstItem, DeclList, NestedPackage, PackageFile, PackageName, SourceFile};
 use wit_values::{fitted, push};
 
-/// Reads what stands at `package` where a file begins with that: a header, or a nested package.
-fn read_beginning<'a>(
+/// Reads an item, and adds it to the declarations of the file or to the packages in it.
+fn add_item<'a>(
     reader: &mut Reader<'a>,
-) -> ReadResult<(Option<PackageName<'a>>, Vec<NestedPackage<'a>>)>
-    ensures read { IfOk result (λ r. IsReadOn reader.old (package_marks r.0) reader.new) }
-    ensures nested { IfOk result (λ r. IsReadOn reader.old (flat_map nested_marks r.1.items) reader.new) }
-    ensures inner { IfOk result (λ r. IsReadOn reader.old (flat_map inner_marks r.1.items) reader.new) }
+    items: &mut Vec<AstItem<'a>>,
+    nested: &mut Vec<NestedPackage<'a>>,
+) -> ReadResult<()>
+    ensures adds { OnOk result (AddsItem reader.old items.old items.new nested.old nested.new reader.new) }
     ensures refused { IfErr result (λ e. IsRefused reader.old e) }
+    ensures stops { IfErr result (Refuses (item_to 100) reader.old) }
 {
-    if !reader.at_word(Word::Package) {
-        return Ok((None, Vec::new(reader.alloc)));
+    let item = read_package_item(reader)?;
+    match item {
+        PackageItem::Declaration(declaration) => push(items, declaration)?,
+        PackageItem::Package(docs) => {
+            let name = read_package_name(reader, docs)?;
+            let package = read_nested(reader, name)?;
+            push(nested, package)?;
+        }
     }
+    Ok(())
+}
+
+/// Reads what begins with `package` at the start of a file: its header, or a package in it, which is added
+/// to the others.
+fn read_package<'a>(
+    reader: &mut Reader<'a>,
+    nested: &mut Vec<NestedPackage<'a>>,
+) -> ReadResult<Option<PackageName<'a>>>
+    ensures adds { IfOk result (λ it. AddsPackage reader.old it nested.old nested.new reader.new) }
+    ensures refused { IfErr result (λ e. IsRefused reader.old e) }
+    ensures stops { IfErr result (Refuses package_first reader.old) }
+{
     let docs = reader.read_docs()?;
     let name = read_package_name(reader, docs)?;
     if reader.at(Kind::OpenBrace) {
-        let first = read_nested(reader, name)?;
-        let mut nested = Vec::new(reader.alloc);
-        push(&mut nested, first)?;
-        return Ok((None, nested));
+        let package = read_nested(reader, name)?;
+        push(nested, package)?;
+        return Ok(None);
     }
     let header = reader.closed(name, Kind::Semicolon)?;
-    Ok((Some(header), Vec::new(reader.alloc)))
+    Ok(Some(header))
 }
 
-/// Reads the declarations of a file up to the end of the source, and adds the packages that are
-/// nested between them.
-fn read_declarations<'a>(
+/// Reads what a file begins with: its header, or an item, which is added to the others.
+fn read_beginning<'a>(
     reader: &mut Reader<'a>,
+    items: &mut Vec<AstItem<'a>>,
     nested: &mut Vec<NestedPackage<'a>>,
-) -> ReadResult<Vec<AstItem<'a>>>
-    ensures read { IfOk result (λ items. IsReadOn reader.old (flat_map declaration_marks items.items) reader.new) }
-    ensures nested { OnOk result (CompletesOn reader.old (flat_map nested_marks nested.old.items) (flat_map nested_marks nested.new.items) reader.new) }
-    ensures inner { OnOk result (CompletesOn reader.old (flat_map inner_marks nested.old.items) (flat_map inner_marks nested.new.items) reader.new) }
+) -> ReadResult<Option<PackageName<'a>>>
+    ensures adds { IfOk result (λ it. AddsBeginning reader.old it items.old items.new nested.old nested.new reader.new) }
     ensures refused { IfErr result (λ e. IsRefused reader.old e) }
+    ensures stops { IfErr result (Refuses beginning reader.old) }
 {
-    let mut items = Vec::new(reader.alloc);
-    'items: while !reader.at(Kind::End) {
-        let item = read_package_item(reader)?;
-        match item {
-            PackageItem::Declaration(declaration) => push(&mut items, declaration)?,
-            PackageItem::Package(docs) => {
-                let name = read_package_name(reader, docs)?;
-                let package = read_nested(reader, name)?;
-                push(nested, package)?;
-            }
-        }
+    if reader.at_word(Word::Package) {
+        let header = read_package(reader, nested)?;
+        return Ok(header);
     }
-    Ok(fitted(items))
+    add_item(reader, items, nested)?;
+    Ok(None)
+}
+
+/// Reads the items of a file up to the end of the source, and adds them to the others.
+fn add_items<'a>(
+    reader: &mut Reader<'a>,
+    items: &mut Vec<AstItem<'a>>,
+    nested: &mut Vec<NestedPackage<'a>>,
+) -> ReadResult<()>
+    ensures adds { OnOk result (AddsItems reader.old items.old items.new nested.old nested.new reader.new) }
+    ensures refused { IfErr result (λ e. IsRefused reader.old e) }
+    ensures stops { IfErr result (Refuses items_to_end reader.old) }
+{
+    'items: while !reader.at(Kind::End) {
+        add_item(reader, items, nested)?;
+    }
+    Ok(())
+}
+
+/// The file that has these.
+fn source_file<'a>(
+    header: Option<PackageName<'a>>,
+    declarations: Vec<AstItem<'a>>,
+    nested: Vec<NestedPackage<'a>>,
+) -> SourceFile<'a>
+    ensures { see_file result ≡ file_with header.entry declarations.entry.items nested.entry.items }
+{
+    SourceFile {
+        file: PackageFile {
+            package_id: header,
+            decl_list: DeclList {
+                items: fitted(declarations),
+            },
+        },
+        nested,
+    }
 }
 
 /// Reads up to the end of the source.
 fn read_whole<'a>(reader: &mut Reader<'a>) -> ReadResult<SourceFile<'a>>
-    ensures read { IfOk result (λ source. IsReadOn reader.old (file_marks source.file) reader.new) }
-    ensures nested { IfOk result (λ source. IsReadOn reader.old (flat_map nested_marks source.nested.items) reader.new) }
-    ensures inner { IfOk result (λ source. IsReadOn reader.old (flat_map inner_marks source.nested.items) reader.new) }
+    ensures reads { IfOk result (λ it. ReadsOn file reader.old (see_file it) reader.new) }
     ensures refused { IfErr result (λ e. IsRefused reader.old e) }
+    ensures stops { IfErr result (Refuses file reader.old) }
 {
-    let (package_id, mut nested) = read_beginning(reader)?;
-    let items = read_declarations(reader, &mut nested)?;
-    Ok(SourceFile {
-        file: PackageFile {
-            package_id,
-            decl_list: DeclList { items },
-        },
-        nested,
-    })
+    let mut declarations = Vec::new(reader.alloc);
+    let mut nested = Vec::new(reader.alloc);
+    if reader.at(Kind::End) {
+        return Ok(source_file(None, declarations, nested));
+    }
+    let header = read_beginning(reader, &mut declarations, &mut nested)?;
+    add_items(reader, &mut declarations, &mut nested)?;
+    Ok(source_file(header, declarations, nested))
 }
 
 /// [`read_file`], of which a fault is not told yet.
 fn read_source<'a>(alloc: Global, source: &'a str, offset: u32) -> ReadResult<SourceFile<'a>>
     requires fits { offset + length source.now < 2 ^ 32 }
-    ensures read { IfOk result (λ read. Rise source.now offset offset (file_marks read.file) (offset + length source.now)) }
-    ensures nested { IfOk result (λ read. Rise source.now offset offset (flat_map nested_marks read.nested.items) (offset + length source.now)) }
-    ensures inner { IfOk result (λ read. Rise source.now offset offset (flat_map inner_marks read.nested.items) (offset + length source.now)) }
+    ensures reads { IfOk result (λ it. IsReadAs source.now offset (see_file it)) }
     ensures refused { IfErr result (IsWithin source.now) }
+    ensures stops { IfErr result (Stops (run file (start source.now offset))) }
 {
     let token = next_token(source, 0)?;
     let mut reader = Reader {
@@ -131,10 +177,9 @@ fn read_source<'a>(alloc: Global, source: &'a str, offset: u32) -> ReadResult<So
 /// follows. Where a number or a `.` is wanted and another token stands, that token is refused.
 pub fn read_file<'a>(alloc: Global, source: &'a str, offset: u32) -> ParseResult<SourceFile<'a>>
     requires fits { offset + length source.now < 2 ^ 32 }
-    ensures read { IfOk result (λ read. Rise source.now offset offset (file_marks read.file) (offset + length source.now)) }
-    ensures nested { IfOk result (λ read. Rise source.now offset offset (flat_map nested_marks read.nested.items) (offset + length source.now)) }
-    ensures inner { IfOk result (λ read. Rise source.now offset offset (flat_map inner_marks read.nested.items) (offset + length source.now)) }
-    ensures refused { IfErr result (λ e. IsRefusal source.now offset e) }
+    ensures spelled { IfOk result (λ it. IsSpelled source.now offset (see_file it)) }
+    ensures only { (tree : File) → IsSpelled source.now offset tree → Gives result tree }
+    ensures refused { IfErr result (IsFaultOf source.now offset) }
 {
     match read_source(alloc, source, offset) {
         Ok(file) => Ok(file),

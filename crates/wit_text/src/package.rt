@@ -1,11 +1,12 @@
 //! Reading names of packages, and packages that are nested in a file or in one another.
-ghost use Rattle.std.specs.Prelude.{◌≡◌, ◌+◌, [], ◌∷◌, IfOk, OnOk, IfErr};
-ghost use Rattle.std.specs.List.{flat_map};
-ghost use Rattle.wit_type_tree.specs.Marks.{named, documented};
-ghost use Rattle.wit_tree.specs.Marks.{declaration_marks, header_marks, nested_marks, inner_marks};
-ghost use Rattle.wit_reader.specs.Fronts.{IsReadBehind};
-ghost use Rattle.wit_reader.specs.Headers.{IsWhole};
-ghost use Rattle.wit_reader.specs.Reading.{IsRead, IsRefused};
+ghost use Rattle.std.specs.Prelude.{◌≡◌, IfOk, OnOk, IfErr};
+ghost use Rattle.wit_lex.specs.declared.kind.Kind.TheVariants.{Word as WordKind};
+ghost use Rattle.wit_lex.specs.declared.word.Word.TheVariants as word;
+ghost use Rattle.wit_grammar.specs.Seen.{see_name, see_docs, see_package_id, see_nested};
+ghost use Rattle.wit_grammar.specs.ItemRules.{two_names, package_names, package_of, braced, item_to, package_to};
+ghost use Rattle.wit_reader.specs.Reading.{IsRefused, Reads, ReadsAs, Refuses};
+ghost use Rattle.wit_text.specs.After.{names_after, nested_after, package_after, names_of};
+ghost use Rattle.wit_text.specs.Packages.{Skips, kept_items, see_items};
 
 use crate::declaration::{PackageItem, read_package_item};
 use semver::Version;
@@ -26,10 +27,7 @@ fn package_name<'a>(
     name: Id<'a>,
     found: Option<(Span, Version)>,
 ) -> PackageName<'a>
-    ensures docs { result.docs ≡ docs.entry }
-    ensures namespace { result.namespace ≡ namespace.entry }
-    ensures name { result.name ≡ name.entry }
-    ensures spans { IsWhole namespace.entry name.entry found result }
+    ensures { see_package_id result ≡ package_of (see_docs docs.entry) (names_of namespace.entry name.entry found) }
 {
     let (end, version) = match found {
         Some((place, version)) => (place.end, Some(version)),
@@ -49,9 +47,11 @@ fn package_name<'a>(
 }
 
 /// Reads `package name:name`.
+#[tactic(auto, unfolding(wit_grammar::specs::ItemRules::two_names))]
 fn read_names_of_package<'a>(reader: &mut Reader<'a>) -> ReadResult<(Id<'a>, Id<'a>)>
-    ensures read { IfOk result (λ r. IsRead reader.old (named r.0 ∷ named r.1 ∷ []) reader.new) }
+    ensures reads { IfOk result (λ it. Reads two_names reader.old (see_name it.0, see_name it.1) reader.new) }
     ensures refused { IfErr result (λ e. IsRefused reader.old e) }
+    ensures stops { IfErr result (Refuses two_names reader.old) }
 {
     reader.expect_word(Word::Package)?;
     let namespace = reader.read_label()?;
@@ -61,9 +61,11 @@ fn read_names_of_package<'a>(reader: &mut Reader<'a>) -> ReadResult<(Id<'a>, Id<
 
 /// Reads `package name:name`, perhaps with a version behind the name: what stands in front of the
 /// `;` of a header, or of the `{` of a nested package.
+#[tactic(auto, unfolding(wit_grammar::specs::ItemRules::package_names))]
 pub fn read_package_name<'a>(reader: &mut Reader<'a>, docs: Docs<'a>) -> ReadResult<PackageName<'a>>
-    ensures read { IfOk result (λ p. IsReadBehind reader.old (documented docs.entry ∷ []) (header_marks p) reader.new) }
+    ensures reads { IfOk result (λ it. Reads (names_after docs.entry) reader.old (see_package_id it) reader.new) }
     ensures refused { IfErr result (λ e. IsRefused reader.old e) }
+    ensures stops { IfErr result (Refuses package_names reader.old) }
 {
     let (namespace, name) = read_names_of_package(reader)?;
     let found = reader.read_at_version()?;
@@ -73,8 +75,9 @@ pub fn read_package_name<'a>(reader: &mut Reader<'a>, docs: Docs<'a>) -> ReadRes
 /// Reads items in braces, of which nothing is kept, and in them packages of at most `left` levels.
 #[cycle(packages)]
 fn pass_items(reader: &mut Reader<'_>, left: u8) -> ReadResult<()>
-    ensures read { OnOk result (IsRead reader.old [] reader.new) }
+    ensures reads { OnOk result (Skips (braced (item_to left)) reader.old reader.new) }
     ensures refused { IfErr result (λ e. IsRefused reader.old e) }
+    ensures stops { IfErr result (Refuses (braced (item_to left)) reader.old) }
 {
     reader.expect(Kind::OpenBrace)?;
     'items: while !reader.at(Kind::CloseBrace) {
@@ -87,8 +90,9 @@ fn pass_items(reader: &mut Reader<'_>, left: u8) -> ReadResult<()>
 /// Reads an item, of which nothing is kept: a declaration, or a package of at most `left` levels.
 #[cycle(packages)]
 fn pass_item(reader: &mut Reader<'_>, left: u8) -> ReadResult<()>
-    ensures read { OnOk result (IsRead reader.old [] reader.new) }
+    ensures reads { OnOk result (Skips (item_to left) reader.old reader.new) }
     ensures refused { IfErr result (λ e. IsRefused reader.old e) }
+    ensures stops { IfErr result (Refuses (item_to left) reader.old) }
 {
     let item = read_package_item(reader)?;
     match item {
@@ -106,8 +110,10 @@ fn pass_item(reader: &mut Reader<'_>, left: u8) -> ReadResult<()>
 /// Reads a package of at most `left` levels, which is nested in a nested one: its name is kept.
 #[cycle(packages)]
 fn read_inner<'a>(reader: &mut Reader<'a>, docs: Docs<'a>, left: u8) -> ReadResult<PackageName<'a>>
-    ensures read { IfOk result (λ p. IsReadBehind reader.old (documented docs.entry ∷ []) (header_marks p) reader.new) }
+    requires begun { reader.old.token.kind ≡ WordKind word.Package }
+    ensures reads { IfOk result (λ it. Reads (package_after docs.entry left) reader.old (see_package_id it) reader.new) }
     ensures refused { IfErr result (λ e. IsRefused reader.old e) }
+    ensures stops { IfErr result (Refuses (package_to left) reader.old) }
 {
     if left == 0 {
         return Err(reader.refuse(ReadFault::Nesting));
@@ -122,9 +128,9 @@ fn read_inner<'a>(reader: &mut Reader<'a>, docs: Docs<'a>, left: u8) -> ReadResu
 fn read_nested_items<'a>(
     reader: &mut Reader<'a>,
 ) -> ReadResult<(DeclList<'a>, Vec<PackageName<'a>>)>
-    ensures read { IfOk result (λ r. IsRead reader.old (flat_map declaration_marks r.0.items.items) reader.new) }
-    ensures inner { IfOk result (λ r. IsRead reader.old (flat_map header_marks r.1.items) reader.new) }
+    ensures reads { IfOk result (λ it. ReadsAs (braced (item_to 99)) kept_items reader.old (see_items it) reader.new) }
     ensures refused { IfErr result (λ e. IsRefused reader.old e) }
+    ensures stops { IfErr result (Refuses (braced (item_to 99)) reader.old) }
 {
     reader.expect(Kind::OpenBrace)?;
     let mut items = Vec::new(reader.alloc);
@@ -150,9 +156,9 @@ pub fn read_nested<'a>(
     reader: &mut Reader<'a>,
     name: PackageName<'a>,
 ) -> ReadResult<NestedPackage<'a>>
-    ensures read { IfOk result (λ p. IsReadBehind reader.old (header_marks name.entry) (nested_marks p) reader.new) }
-    ensures inner { IfOk result (λ p. IsRead reader.old (inner_marks p) reader.new) }
+    ensures reads { IfOk result (λ it. Reads (nested_after name.entry) reader.old (see_nested it) reader.new) }
     ensures refused { IfErr result (λ e. IsRefused reader.old e) }
+    ensures stops { IfErr result (Refuses (braced (item_to 99)) reader.old) }
 {
     let (header, items) = beside(name, read_nested_items(reader))?;
     Ok(NestedPackage {

@@ -1,13 +1,14 @@
 //! Reading worlds.
 ghost use Rattle.std.specs.Prelude.{◌≡◌, ◌+◌, [], ◌∷◌, OnOk, IfOk, IfErr};
-ghost use Rattle.std.specs.List.{flat_map};
-ghost use Rattle.wit_reader.specs.Fronts.{IsReadBehind};
-ghost use Rattle.wit_type_tree.specs.Marks.{attributes_marks, front_marks};
-ghost use Rattle.wit_tree.specs.Marks.{renamed_marks, include_marks, world_item_marks, world_marks};
-ghost use Rattle.wit_reader.specs.Reading.{IsRead, IsReadOn, IsRefused};
-ghost use Rattle.wit_text.specs.Worlds.{IsAdded, IsMore};
+ghost use Rattle.std.specs.Prelude.{map};
+ghost use Rattle.wit_grammar.specs.Seen.{see_renamed, see_include, see_world_item, see_world};
+ghost use Rattle.wit_grammar.specs.Rules.{used};
+ghost use Rattle.wit_grammar.specs.ItemRules.{definition, extern, maybe_semicolon, renamed, renames, include, world_item, world_items, world_rule};
+ghost use Rattle.wit_reader.specs.Reading.{IsRefused, Reads, ReadsOn, Refuses};
+ghost use Rattle.wit_text.specs.After.{crossing_after, definition_after, include_after, includes_after, renamed_names, uses_after, world_after};
+ghost use Rattle.wit_text.specs.Worlds.{Adds};
 
-use crate::extern_kind::read_side;
+use crate::extern_kind::{at_side, read_side};
 use wit_interface_reader::definition::read_definition;
 use wit_lex::fault::ReadResult;
 use wit_lex::kind::Kind;
@@ -19,9 +20,11 @@ use wit_tree::tree::{Attribute, Include, IncludeName, World, WorldItem};
 use wit_values::{beside, fitted};
 
 /// Reads `name as name`.
+#[tactic(auto, unfolding(wit_grammar::specs::ItemRules::renamed))]
 fn read_renamed<'a>(reader: &mut Reader<'a>) -> ReadResult<IncludeName<'a>>
-    ensures read { IfOk result (λ n. IsRead reader.old (renamed_marks n) reader.new) }
+    ensures reads { IfOk result (λ it. Reads renamed reader.old (see_renamed it) reader.new) }
     ensures refused { IfErr result (λ e. IsRefused reader.old e) }
+    ensures stops { IfErr result (Refuses renamed reader.old) }
 {
     let name = reader.read_id()?;
     reader.expect_word(Word::As)?;
@@ -31,8 +34,9 @@ fn read_renamed<'a>(reader: &mut Reader<'a>) -> ReadResult<IncludeName<'a>>
 
 /// Reads renamed names in braces.
 fn read_renamed_names<'a>(reader: &mut Reader<'a>) -> ReadResult<Vec<IncludeName<'a>>>
-    ensures read { IfOk result (λ names. IsRead reader.old (flat_map renamed_marks names.items) reader.new) }
+    ensures reads { IfOk result (λ it. Reads renamed_names reader.old (map see_renamed it.items) reader.new) }
     ensures refused { IfErr result (λ e. IsRefused reader.old e) }
+    ensures stops { IfErr result (Refuses renamed_names reader.old) }
 {
     let mut more = reader.open_list(Kind::OpenBrace, Kind::CloseBrace)?;
     let mut names = Vec::new(reader.alloc);
@@ -44,21 +48,26 @@ fn read_renamed_names<'a>(reader: &mut Reader<'a>) -> ReadResult<Vec<IncludeName
     Ok(names)
 }
 
-/// Goes past a `;`, where there is one.
-fn skip_semicolon(reader: &mut Reader<'_>) -> ReadResult<()>
-    ensures read { OnOk result (IsReadOn reader.old [] reader.new) }
+/// Goes past a `;`, where there is one, and tells whether there is.
+#[tactic(auto, unfolding(wit_grammar::specs::ItemRules::maybe_semicolon, wit_grammar::specs::Leaves::mark_at))]
+fn skip_semicolon(reader: &mut Reader<'_>) -> ReadResult<bool>
+    ensures reads { IfOk result (λ it. ReadsOn maybe_semicolon reader.old it reader.new) }
     ensures refused { IfErr result (λ e. IsRefused reader.old e) }
+    ensures stops { IfErr result (Refuses maybe_semicolon reader.old) }
 {
     if !reader.at(Kind::Semicolon) {
-        return Ok(());
+        return Ok(false);
     }
-    reader.bump()
+    reader.bump()?;
+    Ok(true)
 }
 
 /// Reads `;`, or `with { name as name, .. }` and perhaps a `;` behind it.
+#[tactic(auto, unfolding(wit_grammar::specs::ItemRules::renames, wit_grammar::specs::Leaves::mark_at))]
 fn read_renames<'a>(reader: &mut Reader<'a>) -> ReadResult<Vec<IncludeName<'a>>>
-    ensures read { IfOk result (λ names. IsRead reader.old (flat_map renamed_marks names.items) reader.new) }
+    ensures reads { IfOk result (λ it. Reads renames reader.old (map see_renamed it.items) reader.new) }
     ensures refused { IfErr result (λ e. IsRefused reader.old e) }
+    ensures stops { IfErr result (Refuses renames reader.old) }
 {
     if !reader.at_word(Word::With) {
         reader.expect(Kind::Semicolon)?;
@@ -71,12 +80,14 @@ fn read_renames<'a>(reader: &mut Reader<'a>) -> ReadResult<Vec<IncludeName<'a>>>
 }
 
 /// Reads `include path;`, perhaps with names that are renamed.
+#[tactic(auto, unfolding(wit_grammar::specs::ItemRules::include))]
 fn read_include<'a>(
     reader: &mut Reader<'a>,
     attributes: Vec<Attribute<'a>>,
 ) -> ReadResult<Include<'a>>
-    ensures read { IfOk result (λ i. IsReadBehind reader.old (attributes_marks attributes.entry.items) (include_marks i) reader.new) }
+    ensures reads { IfOk result (λ it. Reads (include_after attributes.entry) reader.old (see_include it) reader.new) }
     ensures refused { IfErr result (λ e. IsRefused reader.old e) }
+    ensures stops { IfErr result (Refuses include reader.old) }
 {
     reader.expect_word(Word::Include)?;
     let path = reader.read_path()?;
@@ -95,8 +106,9 @@ fn add_side<'a>(
     front: Front<'a>,
     items: &mut Vec<WorldItem<'a>>,
 ) -> ReadResult<()>
-    ensures read { OnOk result (IsAdded reader.old (front_marks front.entry.docs front.entry.attributes.items) items.old.items items.new.items reader.new) }
+    ensures reads { OnOk result (Adds (crossing_after front.entry) reader.old items.old items.new reader.new) }
     ensures refused { IfErr result (λ e. IsRefused reader.old e) }
+    ensures stops { IfErr result (Refuses extern reader.old) }
 {
     let side = read_side(reader, front)?;
     add(items, WorldItem::Extern(side), reader.at(Kind::CloseBrace))?;
@@ -110,8 +122,9 @@ fn add_use<'a>(
     attributes: Vec<Attribute<'a>>,
     items: &mut Vec<WorldItem<'a>>,
 ) -> ReadResult<()>
-    ensures read { OnOk result (IsAdded reader.old (attributes_marks attributes.entry.items) items.old.items items.new.items reader.new) }
+    ensures reads { OnOk result (Adds (uses_after attributes.entry) reader.old items.old items.new reader.new) }
     ensures refused { IfErr result (λ e. IsRefused reader.old e) }
+    ensures stops { IfErr result (Refuses used reader.old) }
 {
     let names = reader.read_use(attributes)?;
     add(items, WorldItem::Use(names), reader.at(Kind::CloseBrace))?;
@@ -125,8 +138,9 @@ fn add_include<'a>(
     attributes: Vec<Attribute<'a>>,
     items: &mut Vec<WorldItem<'a>>,
 ) -> ReadResult<()>
-    ensures read { OnOk result (IsAdded reader.old (attributes_marks attributes.entry.items) items.old.items items.new.items reader.new) }
+    ensures reads { OnOk result (Adds (includes_after attributes.entry) reader.old items.old items.new reader.new) }
     ensures refused { IfErr result (λ e. IsRefused reader.old e) }
+    ensures stops { IfErr result (Refuses include reader.old) }
 {
     let include = read_include(reader, attributes)?;
     add(
@@ -144,8 +158,9 @@ fn add_definition<'a>(
     front: Front<'a>,
     items: &mut Vec<WorldItem<'a>>,
 ) -> ReadResult<()>
-    ensures read { OnOk result (IsAdded reader.old (front_marks front.entry.docs front.entry.attributes.items) items.old.items items.new.items reader.new) }
+    ensures reads { OnOk result (Adds (definition_after front.entry) reader.old items.old items.new reader.new) }
     ensures refused { IfErr result (λ e. IsRefused reader.old e) }
+    ensures stops { IfErr result (Refuses definition reader.old) }
 {
     let definition = read_definition(reader, front)?;
     add(
@@ -159,9 +174,11 @@ fn add_definition<'a>(
 /// Reads an item of a world, and puts it behind the others.
 ///
 /// Each sort of item has a function of its own, so that no item takes the room of the others.
+#[tactic(auto, unfolding(wit_grammar::specs::ItemRules::world_item))]
 fn add_world_item<'a>(reader: &mut Reader<'a>, items: &mut Vec<WorldItem<'a>>) -> ReadResult<()>
-    ensures read { OnOk result (IsMore reader.old items.old.items items.new.items reader.new) }
+    ensures reads { OnOk result (Adds world_item reader.old items.old items.new reader.new) }
     ensures refused { IfErr result (λ e. IsRefused reader.old e) }
+    ensures stops { IfErr result (Refuses world_item reader.old) }
 {
     let front = reader.read_front()?;
     if reader.at_word(Word::Use) {
@@ -172,7 +189,7 @@ fn add_world_item<'a>(reader: &mut Reader<'a>, items: &mut Vec<WorldItem<'a>>) -
         add_include(reader, front.attributes, items)?;
         return Ok(());
     }
-    if reader.at_word(Word::Import) || reader.at_word(Word::Export) {
+    if at_side(reader) {
         add_side(reader, front, items)?;
         return Ok(());
     }
@@ -181,9 +198,11 @@ fn add_world_item<'a>(reader: &mut Reader<'a>, items: &mut Vec<WorldItem<'a>>) -
 }
 
 /// Reads the items of a world in braces.
+#[tactic(auto, unfolding(wit_grammar::specs::ItemRules::world_items))]
 fn read_world_items<'a>(reader: &mut Reader<'a>) -> ReadResult<Vec<WorldItem<'a>>>
-    ensures read { IfOk result (λ items. IsRead reader.old (flat_map world_item_marks items.items) reader.new) }
+    ensures reads { IfOk result (λ it. Reads world_items reader.old (map see_world_item it.items) reader.new) }
     ensures refused { IfErr result (λ e. IsRefused reader.old e) }
+    ensures stops { IfErr result (Refuses world_items reader.old) }
 {
     reader.expect(Kind::OpenBrace)?;
     let mut items = Vec::new(reader.alloc);
@@ -195,9 +214,11 @@ fn read_world_items<'a>(reader: &mut Reader<'a>) -> ReadResult<Vec<WorldItem<'a>
 }
 
 /// Reads `world name { .. }`.
+#[tactic(auto, unfolding(wit_grammar::specs::ItemRules::world_rule))]
 pub fn read_world<'a>(reader: &mut Reader<'a>, front: Front<'a>) -> ReadResult<World<'a>>
-    ensures read { IfOk result (λ w. IsReadBehind reader.old (front_marks front.entry.docs front.entry.attributes.items) (world_marks w) reader.new) }
+    ensures reads { IfOk result (λ it. Reads (world_after front.entry) reader.old (see_world it) reader.new) }
     ensures refused { IfErr result (λ e. IsRefused reader.old e) }
+    ensures stops { IfErr result (Refuses world_rule reader.old) }
 {
     reader.expect_word(Word::World)?;
     let name = reader.read_id()?;

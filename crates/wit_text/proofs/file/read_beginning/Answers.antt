@@ -1,20 +1,22 @@
-use Rattle.std.proofs.Common.{◌++◌, ◌∷◌, [], ap, ◌∙◌}
-use Rattle.wit_tree.specs.Marks.{nested_marks, inner_marks}
-use Rattle.wit_reader.proofs.Parts.{alone, behind, close, fronted, on, passed, then}
+use Rattle.std.proofs.Common.{rules, refl}
+use Rattle.std.proofs.lemmas.Result.{err_from_is_err_and}
+use Rattle.wit_text.proofs.Begun.{begun, begun_by_item, item_stops, package_stops}
 use Rattle.wit_text.proofs.file.read_beginning.Goals as goal
 
-pub returns-then-at-clause-nested : goal.returns-then-at-clause-nested
-returns-then-at-clause-nested c =
-    let header = fronted c.in_ok-docs.ensures.read c.in_ok-name.ensures.read in
-    let first = c.in_ok-push.ensures ∙ ap (λ packages. packages ++ c.in_ok-first.first ∷ []) c.new-nested.ensures.items in
-    alone nested_marks c.push.new.items.items _ first (behind header c.in_ok-first.ensures.read)
+pub returns-then-at_word-clause-adds : goal.returns-then-at_word-clause-adds
+returns-then-at_word-clause-adds c = begun (search rules) c.in_ok-header.ensures.adds
 
-pub returns-then-at-clause-inner : goal.returns-then-at-clause-inner
-returns-then-at-clause-inner c =
-    let header = fronted c.in_ok-docs.ensures.read c.in_ok-name.ensures.read in
-    let first = c.in_ok-push.ensures ∙ ap (λ packages. packages ++ c.in_ok-first.first ∷ []) c.new-nested.ensures.items in
-    alone inner_marks c.push.new.items.items _ first (then (passed header) c.in_ok-first.ensures.inner)
+pub returns-clause-adds : goal.returns-clause-adds
+returns-clause-adds c =
+    let added = c.in_ok-add_item.ensures.adds in
+    record { begins = _; reads = begun_by_item (search rules) added.reads; header = refl; added = added.added }
 
-pub returns-clause-read : goal.returns-clause-read
-returns-clause-read c =
-    rw c.in_ok-header.ensures.value (on (close (fronted c.in_ok-docs.ensures.read c.in_ok-name.ensures.read) c.in_ok-header.ensures.read))
+pub returns-in_err-header-clause-stops : goal.returns-in_err-header-clause-stops
+returns-in_err-header-clause-stops c =
+    let p = err_from_is_err_and c.from_residual.result c.from_residual.ensures.1 in
+    rw (p.1, p.2) (package_stops c.args.reader.now c.in_err-header.field-0.0 (search rules) c.in_err-header.ensures.stops)
+
+pub returns-in_err-add_item-clause-stops : goal.returns-in_err-add_item-clause-stops
+returns-in_err-add_item-clause-stops c =
+    let p = err_from_is_err_and c.from_residual-in_err-add_item.result c.from_residual-in_err-add_item.ensures.1 in
+    rw (p.1, p.2) (item_stops c.args.reader.now c.in_err-add_item.field-0.0 (search rules) c.in_err-add_item.ensures.stops)

@@ -1,12 +1,6 @@
-use Rattle.std.proofs.Common.{refl}
+use Rattle.wit_grammar.specs.Seen.{see_package_id}
+use Rattle.wit_text.proofs.Kept.{nested_parsed}
 use Rattle.wit_text.proofs.package.read_nested.Goals as goal
 
-pub returns-clause-read : goal.returns-clause-read
-returns-clause-read c = record {
-  marks = _;
-  item = rw c.in_ok-header.ensures.both.0 refl;
-  read = rw c.in_ok-header.ensures.both.1 at c.read_nested_items.ensures.read;
-}
-
-pub returns-clause-inner : goal.returns-clause-inner
-returns-clause-inner c = rw c.in_ok-header.ensures.both.1 at c.read_nested_items.ensures.inner
+pub returns-clause-reads : goal.returns-clause-reads
+returns-clause-reads c = rw c.in_ok-header.ensures.both.0 (nested_parsed (see_package_id c.args.name) (rw c.in_ok-header.ensures.both.1 at c.read_nested_items.ensures.reads))

@@ -1,11 +1,9 @@
 use Rattle.std.proofs.Common.{◌-◌, length}
-use Rattle.std.specs.List.{flat_map}
-use Rattle.wit_tree.specs.Marks.{declaration_marks, header_marks}
-use Rattle.wit_reader.specs.Reading.{IsRead}
+use Rattle.wit_text.proofs.Kept.{AreKept}
 use Rattle.wit_text.proofs.package.read_nested_items.Given as goal
 
 abbrev pub invariant-items : goal.invariant-items
-invariant-items l = IsRead l.fn.reader (flat_map declaration_marks l.items.items) l.reader × IsRead l.fn.reader (flat_map header_marks l.inner.items) l.reader
+invariant-items l = AreKept l.fn.reader l.items.items l.inner.items l.reader
 
 abbrev pub decreases-items : goal.decreases-items
 decreases-items l = length l.fn.reader.source.now - l.reader.before

@@ -1,7 +1,33 @@
-use Rattle.wit_tree.specs.Marks.{renamed_marks}
-use Rattle.wit_reader.proofs.Parts.{close, more}
+use Rattle.std.proofs.lemmas.Result.{err_from_is_err_and}
+use Rattle.wit_lex.specs.declared.kind.Kind.TheVariants.{OpenBrace, CloseBrace}
+use Rattle.wit_grammar.specs.Seen.{see_renamed}
+use Rattle.wit_grammar.specs.Grammar.{run}
+use Rattle.wit_grammar.specs.ItemRules.{renamed}
+use Rattle.wit_reader.specs.Reading.{spot}
+use Rattle.wit_reader.proofs.Lists.{listing_opened, listing_more, listing_closed, open_stops, item_stops, next_stops}
 use Rattle.wit_text.proofs.world.read_renamed_names.Goals as goal
+
+pub names-init : goal.names-init
+names-init c = rw c.new-names.ensures.items (listing_opened see_renamed (run renamed) OpenBrace CloseBrace c.in_ok-more.more c.in_ok-more.ensures.parses)
 
 pub names-preserved : goal.names-preserved
 names-preserved c =
-    close (more renamed_marks c.names.names.items c.add.new.items.items c.in_ok-renamed.renamed c.in_ok-add.ensures c.names.invariant c.in_ok-renamed.ensures.read) c.in_ok-more-2.ensures.read
+    listing_more c.add.new.items.items c.in_ok-renamed.renamed c.in_ok-more-2.more (rw c.names-test.true at c.names.invariant) c.in_ok-renamed.ensures.reads c.in_ok-add.ensures c.in_ok-more-2.ensures.parses
+
+pub returns-clause-reads : goal.returns-clause-reads
+returns-clause-reads c = listing_closed (rw c.names-test.false at c.names.invariant)
+
+pub returns-in_err-renamed-clause-stops : goal.returns-in_err-renamed-clause-stops
+returns-in_err-renamed-clause-stops c =
+    let p = err_from_is_err_and c.from_residual-in_err-renamed.result c.from_residual-in_err-renamed.ensures.1 in
+    rw (p.1, p.2) (item_stops c.in_err-renamed.field-0.0 (rw c.names-test.true at c.names.invariant) c.in_err-renamed.ensures.stops)
+
+pub returns-in_err-more-2-clause-stops : goal.returns-in_err-more-2-clause-stops
+returns-in_err-more-2-clause-stops c =
+    let p = err_from_is_err_and c.from_residual-in_err-more-2.result c.from_residual-in_err-more-2.ensures.1 in
+    rw (p.1, p.2) (next_stops _ c.in_err-more-2.field-0.0 (rw c.names-test.true at c.names.invariant) c.in_ok-renamed.ensures.reads c.in_err-more-2.ensures.stops)
+
+pub returns-in_err-more-clause-stops : goal.returns-in_err-more-clause-stops
+returns-in_err-more-clause-stops c =
+    let p = err_from_is_err_and c.from_residual.result c.from_residual.ensures.1 in
+    rw (p.1, p.2) (open_stops (run renamed) OpenBrace CloseBrace (spot c.args.reader.now) c.in_err-more.field-0.0 c.in_err-more.ensures.stops)

@@ -1,0 +1,30 @@
+-- What reading a file comes to: the tree that its source spells, or the fault at which reading stops.
+use Rattle.std.proofs.Common.{◌≡◌, ℕ, List, ◌∙◌, sym}
+use Rattle.std.specs.Prelude.{Ok, Err}
+use Rattle.wit_type_tree.specs.declared.error.ParseError.{ParseError}
+use Rattle.wit_type_tree.specs.Refusal.{IsWantOfMemory}
+use Rattle.wit_lex.specs.declared.fault.ReadError.{ReadError}
+use Rattle.wit_lex.specs.declared.fault.ReadError.TheVariants.{Fault, OutOfMemory}
+use Rattle.wit_lex.specs.Faults.{IsRefusalOf, IsWithin}
+use Rattle.wit_lex.specs.Lexis.{Stops}
+use Rattle.wit_grammar.specs.Trees.{File}
+use Rattle.wit_grammar.specs.Grammar.{run}
+use Rattle.wit_grammar.specs.ItemRules.{file}
+use Rattle.wit_grammar.specs.Laws.{IsReadAs, IsSpelled, start}
+use Rattle.wit_grammar.proofs.Whole.{one_tree, read_is_spelled, spelled_is_read}
+use Rattle.wit_text.specs.Files.{IsFaultOf, At, Wanted}
+
+-- no other tree is spelled than that which is read
+pub no_other : (source : List ℕ) (offset : ℕ) (one other : File) → IsReadAs source offset one → IsSpelled source offset other → one ≡ other
+no_other source offset one other h k = one_tree source offset one other (read_is_spelled source offset one h) k
+
+-- none is spelled where reading stops, unless memory ran out
+pub none_spelled : (source : List ℕ) (offset : ℕ) (e : ReadError) (r : ParseError) → Stops (run file (start source offset)) e → IsRefusalOf e offset r → (tree : File) → IsSpelled source offset tree → IsWantOfMemory r
+none_spelled source offset (Fault f from to) r h told tree k =
+    let read = spelled_is_read source offset tree k in
+    absurd (let both = sym read.1 ∙ h in cc)
+none_spelled source offset OutOfMemory r h told tree k = told
+
+pub fault_of : (source : List ℕ) (offset : ℕ) (e : ReadError) (r : ParseError) → Stops (run file (start source offset)) e → IsWithin source e → IsRefusalOf e offset r → IsFaultOf source offset r
+fault_of source offset (Fault f from to) r h within told = At (Fault f from to) h within told
+fault_of source offset OutOfMemory r h within told = Wanted told
