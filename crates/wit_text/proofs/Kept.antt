@@ -1,6 +1,6 @@
 -- Items in braces, and what is kept of them.
 use Rattle.std.proofs.Common.{◌≡◌, ℕ, zero, suc, ◌+◌, ◌<◌, ◌≤◌, Bool, Option, List, [], ◌∷◌, ◌++◌, map, true, false, ap, ◌∙◌, sym, arith, refl, append_assoc, subst}
-use Rattle.std.specs.Prelude.{Ok, Err, Vec}
+use Rattle.std.specs.Prelude.{Ok, Err, cond, Vec}
 use Rattle.std.proofs.lemmas.List.{append-nil}
 use Rattle.wit_values.specs.declared.span.Span.{Span}
 use Rattle.wit_type_tree.specs.declared.leaves.Docs.{Docs}
@@ -27,8 +27,8 @@ use Rattle.wit_reader.proofs.Lists.{map_more}
 use Rattle.wit_interface_reader.proofs.Braces.{IsInBraces, braces_closed, braces_more, braces_stop, braces_unclosed}
 use Rattle.wit_text.specs.declared.declaration.PackageItem.{PackageItem}
 use Rattle.wit_text.specs.declared.declaration.PackageItem.TheVariants.{Declaration as Declared, Package}
-use Rattle.wit_text.specs.Packages.{Begins, ReadsItem, Skips, kept_items}
-use Rattle.wit_text.proofs.Declared.{item_packed}
+use Rattle.wit_text.specs.Packages.{Begins, ReadsItem, Skips, kept_items, level_fault}
+use Rattle.wit_text.proofs.Declared.{item_packed, or_none}
 use Rattle.wit_text.proofs.Makings.{acted, same_answer}
 
 abbrev pub itself : {A : Type 0} → A → A
@@ -112,9 +112,12 @@ inner_stops {a} {b} d left n (Fault f start end) same r k =
 inner_stops d left n OutOfMemory same r k = tt
 
 -- a level too many
-pub inner_deeper : (a : Reader) (left : ℕ) → left ≡ 0 → a.token.kind ≡ kind.Word word.Package → run (package_to left) (spot a) ≡ Err (Fault fault.Nesting a.token.start a.token.end)
+zero_deep : (r : Reader) → run (package_to 0) (spot r) ≡ Err (level_fault r.token)
 unfolding package_to deeper_at
-inner_deeper a left e h = rw (e, a.next, by_kind a h) refl
+zero_deep r = rw r.next (ap (λ b. Err (Fault (cond b fault.Nesting fault.Token) r.token.start r.token.end)) (or_none (same_kind r.token.kind (kind.Word word.Package))))
+
+pub inner_deeper : (r : Reader) (left : ℕ) → left ≡ 0 → Stops (run (package_to left) (spot r)) (level_fault r.token)
+inner_deeper r left e = rw e (zero_deep r)
 
 -- ---- items whose values are let go
 abbrev pub IsPassed : ℕ → Reader → Reader → Type 0

@@ -1,12 +1,16 @@
 -- The items of a file or of a nested package.
-use Rattle.std.specs.Prelude.{◌≡◌, ℕ, List, map, Vec}
+use Rattle.std.specs.Prelude.{◌≡◌, ℕ, List, map, cond, Vec}
 use Rattle.std.specs.declared.alloc.Global.{Global}
 use Rattle.wit_type_tree.specs.declared.leaves.Docs.{Docs}
 use Rattle.wit_tree.specs.declared.tree.DeclList.{DeclList}
 use Rattle.wit_tree.specs.declared.tree.PackageName.{PackageName}
 use Rattle.wit_lex.specs.declared.fault.ReadError.{ReadError}
+use Rattle.wit_lex.specs.declared.fault.ReadError.TheVariants.{Fault}
+use Rattle.wit_lex.specs.declared.fault.ReadFault.TheVariants as fault
 use Rattle.wit_lex.specs.declared.kind.Kind.TheVariants.{Word}
 use Rattle.wit_lex.specs.declared.word.Word.TheVariants as word
+use Rattle.wit_lex.specs.declared.token.Token.{Token}
+use Rattle.wit_grammar.specs.Kinds.{same_kind}
 use Rattle.wit_grammar.specs.Grammar.{Gram, docs}
 use Rattle.wit_grammar.specs.Trees.{Declaration, Item, PackageId, declares, items_of}
 use Rattle.wit_grammar.specs.Seen.{see_docs, see_declaration, see_package_id}
@@ -28,6 +32,10 @@ ReadsItem old (Package found) new = Begins old found new
 
 abbrev pub RefusesItem : Reader → ReadError → Type 0
 RefusesItem old e = (n : ℕ) → Refuses (item_to n) old e
+
+-- packages are nested too deeply, or the token begins none
+abbrev pub level_fault : Token → ReadError
+level_fault t = Fault (cond (same_kind t.kind (Word word.Package)) fault.Nesting fault.Token) t.start t.end
 
 -- something was read by a grammar, of which nothing is kept
 pub record Skips {A : Type 0} (g : Gram A) (old new : Reader) : Type 0 where

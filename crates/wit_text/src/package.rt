@@ -1,16 +1,14 @@
 //! Reading names of packages, and packages that are nested in a file or in one another.
 ghost use Rattle.std.specs.Prelude.{◌≡◌, IfOk, OnOk, IfErr};
-ghost use Rattle.wit_lex.specs.declared.kind.Kind.TheVariants.{Word as WordKind};
-ghost use Rattle.wit_lex.specs.declared.word.Word.TheVariants as word;
 ghost use Rattle.wit_grammar.specs.Seen.{see_name, see_docs, see_package_id, see_nested};
 ghost use Rattle.wit_grammar.specs.ItemRules.{two_names, package_names, package_of, braced, item_to, package_to};
 ghost use Rattle.wit_reader.specs.Reading.{IsRefused, Reads, ReadsAs, Refuses};
 ghost use Rattle.wit_text.specs.After.{names_after, nested_after, package_after, names_of};
-ghost use Rattle.wit_text.specs.Packages.{Skips, kept_items, see_items};
+ghost use Rattle.wit_text.specs.Packages.{Skips, kept_items, level_fault, see_items};
 
 use crate::declaration::{PackageItem, read_package_item};
 use semver::Version;
-use wit_lex::fault::{ReadFault, ReadResult};
+use wit_lex::fault::{ReadError, ReadFault, ReadResult};
 use wit_lex::kind::Kind;
 use wit_lex::word::Word;
 use wit_reader::reader::Reader;
@@ -72,6 +70,18 @@ pub fn read_package_name<'a>(reader: &mut Reader<'a>, docs: Docs<'a>) -> ReadRes
     Ok(package_name(docs, namespace, name, found))
 }
 
+/// The refusal of the token where no further level of packages is read.
+fn refuse_level(reader: &Reader<'_>) -> ReadError
+    ensures refused { IsRefused reader.now result }
+    ensures exact { result ≡ level_fault reader.now.token }
+{
+    if reader.at_word(Word::Package) {
+        reader.refuse(ReadFault::Nesting)
+    } else {
+        reader.refuse(ReadFault::Token)
+    }
+}
+
 /// Reads items in braces, of which nothing is kept, and in them packages of at most `left` levels.
 #[cycle(packages)]
 fn pass_items(reader: &mut Reader<'_>, left: u8) -> ReadResult<()>
@@ -110,13 +120,12 @@ fn pass_item(reader: &mut Reader<'_>, left: u8) -> ReadResult<()>
 /// Reads a package of at most `left` levels, which is nested in a nested one: its name is kept.
 #[cycle(packages)]
 fn read_inner<'a>(reader: &mut Reader<'a>, docs: Docs<'a>, left: u8) -> ReadResult<PackageName<'a>>
-    requires begun { reader.old.token.kind ≡ WordKind word.Package }
     ensures reads { IfOk result (λ it. Reads (package_after docs.entry left) reader.old (see_package_id it) reader.new) }
     ensures refused { IfErr result (λ e. IsRefused reader.old e) }
     ensures stops { IfErr result (Refuses (package_to left) reader.old) }
 {
     if left == 0 {
-        return Err(reader.refuse(ReadFault::Nesting));
+        return Err(refuse_level(reader));
     }
     let header = read_package_name(reader, docs)?;
     let (name, _) = beside(header, pass_items(reader, left - 1))?;
