@@ -23,6 +23,10 @@ pub stops_first : {A B : Type 0} (r : Result A ReadError) (f : A → Result B Re
 stops_first r f (Fault k start end) h = rw h refl
 stops_first r f OutOfMemory h = tt
 
+pub stops_at : {A : Type 0} (r : Result A ReadError) (e : ReadError) → r ≡ Err e → Stops r e
+stops_at r (Fault k start end) h = h
+stops_at r OutOfMemory h = tt
+
 -- one token tells which way a grammar goes on
 no_more : (b : Bool) → (b || false) ≡ b
 no_more true = refl

@@ -1,12 +1,11 @@
 //! Reading a file.
 ghost use Rattle.std.specs.Prelude.{◌≡◌, ◌+◌, ◌<◌, ◌^◌, length, IfOk, OnOk, IfErr};
-ghost use Rattle.wit_lex.specs.Faults.{IsWithin};
 ghost use Rattle.wit_lex.specs.Lexis.{Stops};
 ghost use Rattle.wit_grammar.specs.Grammar.{run};
 ghost use Rattle.wit_grammar.specs.Seen.{see_file};
 ghost use Rattle.wit_grammar.specs.ItemRules.{beginning, file, item_to, items_to_end, package_first};
 ghost use Rattle.wit_grammar.specs.Laws.{IsReadAs, IsSpelled, start};
-ghost use Rattle.wit_reader.specs.Reading.{IsRefused, ReadsOn, Refuses};
+ghost use Rattle.wit_reader.specs.Reading.{ReadsOn, Refuses};
 ghost use Rattle.wit_grammar.specs.Trees.{File};
 ghost use Rattle.wit_text.specs.Files.{AddsBeginning, AddsItem, AddsItems, AddsPackage, Gives, IsFaultOf, file_with};
 
@@ -29,7 +28,6 @@ fn add_item<'a>(
     nested: &mut Vec<NestedPackage<'a>>,
 ) -> ReadResult<()>
     ensures adds { OnOk result (AddsItem reader.old items.old items.new nested.old nested.new reader.new) }
-    ensures refused { IfErr result (λ e. IsRefused reader.old e) }
     ensures stops { IfErr result (Refuses (item_to 100) reader.old) }
 {
     let item = read_package_item(reader)?;
@@ -51,7 +49,6 @@ fn read_package<'a>(
     nested: &mut Vec<NestedPackage<'a>>,
 ) -> ReadResult<Option<PackageName<'a>>>
     ensures adds { IfOk result (λ it. AddsPackage reader.old it nested.old nested.new reader.new) }
-    ensures refused { IfErr result (λ e. IsRefused reader.old e) }
     ensures stops { IfErr result (Refuses package_first reader.old) }
 {
     let docs = reader.read_docs()?;
@@ -72,7 +69,6 @@ fn read_beginning<'a>(
     nested: &mut Vec<NestedPackage<'a>>,
 ) -> ReadResult<Option<PackageName<'a>>>
     ensures adds { IfOk result (λ it. AddsBeginning reader.old it items.old items.new nested.old nested.new reader.new) }
-    ensures refused { IfErr result (λ e. IsRefused reader.old e) }
     ensures stops { IfErr result (Refuses beginning reader.old) }
 {
     if reader.at_word(Word::Package) {
@@ -90,7 +86,6 @@ fn add_items<'a>(
     nested: &mut Vec<NestedPackage<'a>>,
 ) -> ReadResult<()>
     ensures adds { OnOk result (AddsItems reader.old items.old items.new nested.old nested.new reader.new) }
-    ensures refused { IfErr result (λ e. IsRefused reader.old e) }
     ensures stops { IfErr result (Refuses items_to_end reader.old) }
 {
     'items: while !reader.at(Kind::End) {
@@ -121,7 +116,6 @@ fn source_file<'a>(
 /// Reads up to the end of the source.
 fn read_whole<'a>(reader: &mut Reader<'a>) -> ReadResult<SourceFile<'a>>
     ensures reads { IfOk result (λ it. ReadsOn file reader.old (see_file it) reader.new) }
-    ensures refused { IfErr result (λ e. IsRefused reader.old e) }
     ensures stops { IfErr result (Refuses file reader.old) }
 {
     let mut declarations = Vec::new(reader.alloc);
@@ -138,7 +132,6 @@ fn read_whole<'a>(reader: &mut Reader<'a>) -> ReadResult<SourceFile<'a>>
 fn read_source<'a>(alloc: Global, source: &'a str, offset: u32) -> ReadResult<SourceFile<'a>>
     requires fits { offset + length source.now < 2 ^ 32 }
     ensures reads { IfOk result (λ it. IsReadAs source.now offset (see_file it)) }
-    ensures refused { IfErr result (IsWithin source.now) }
     ensures stops { IfErr result (Stops (run file (start source.now offset))) }
 {
     let token = next_token(source, 0)?;

@@ -4,7 +4,7 @@ ghost use Rattle.std.specs.Prelude.{map};
 ghost use Rattle.wit_grammar.specs.Seen.{see_renamed, see_include, see_world_item, see_world};
 ghost use Rattle.wit_grammar.specs.Rules.{used};
 ghost use Rattle.wit_grammar.specs.ItemRules.{definition, extern, maybe_semicolon, renamed, renames, include, world_item, world_items, world_rule};
-ghost use Rattle.wit_reader.specs.Reading.{IsRefused, Reads, ReadsOn, Refuses};
+ghost use Rattle.wit_reader.specs.Reading.{Reads, ReadsOn, Refuses};
 ghost use Rattle.wit_text.specs.After.{crossing_after, definition_after, include_after, includes_after, renamed_names, uses_after, world_after};
 ghost use Rattle.wit_text.specs.Worlds.{Adds};
 
@@ -23,7 +23,6 @@ use wit_values::{beside, fitted};
 #[tactic(auto, unfolding(wit_grammar::specs::ItemRules::renamed))]
 fn read_renamed<'a>(reader: &mut Reader<'a>) -> ReadResult<IncludeName<'a>>
     ensures reads { IfOk result (λ it. Reads renamed reader.old (see_renamed it) reader.new) }
-    ensures refused { IfErr result (λ e. IsRefused reader.old e) }
     ensures stops { IfErr result (Refuses renamed reader.old) }
 {
     let name = reader.read_id()?;
@@ -35,7 +34,6 @@ fn read_renamed<'a>(reader: &mut Reader<'a>) -> ReadResult<IncludeName<'a>>
 /// Reads renamed names in braces.
 fn read_renamed_names<'a>(reader: &mut Reader<'a>) -> ReadResult<Vec<IncludeName<'a>>>
     ensures reads { IfOk result (λ it. Reads renamed_names reader.old (map see_renamed it.items) reader.new) }
-    ensures refused { IfErr result (λ e. IsRefused reader.old e) }
     ensures stops { IfErr result (Refuses renamed_names reader.old) }
 {
     let mut more = reader.open_list(Kind::OpenBrace, Kind::CloseBrace)?;
@@ -52,7 +50,6 @@ fn read_renamed_names<'a>(reader: &mut Reader<'a>) -> ReadResult<Vec<IncludeName
 #[tactic(auto, unfolding(wit_grammar::specs::ItemRules::maybe_semicolon, wit_grammar::specs::Leaves::mark_at))]
 fn skip_semicolon(reader: &mut Reader<'_>) -> ReadResult<bool>
     ensures reads { IfOk result (λ it. ReadsOn maybe_semicolon reader.old it reader.new) }
-    ensures refused { IfErr result (λ e. IsRefused reader.old e) }
     ensures stops { IfErr result (Refuses maybe_semicolon reader.old) }
 {
     if !reader.at(Kind::Semicolon) {
@@ -66,7 +63,6 @@ fn skip_semicolon(reader: &mut Reader<'_>) -> ReadResult<bool>
 #[tactic(auto, unfolding(wit_grammar::specs::ItemRules::renames, wit_grammar::specs::Leaves::mark_at))]
 fn read_renames<'a>(reader: &mut Reader<'a>) -> ReadResult<Vec<IncludeName<'a>>>
     ensures reads { IfOk result (λ it. Reads renames reader.old (map see_renamed it.items) reader.new) }
-    ensures refused { IfErr result (λ e. IsRefused reader.old e) }
     ensures stops { IfErr result (Refuses renames reader.old) }
 {
     if !reader.at_word(Word::With) {
@@ -86,7 +82,6 @@ fn read_include<'a>(
     attributes: Vec<Attribute<'a>>,
 ) -> ReadResult<Include<'a>>
     ensures reads { IfOk result (λ it. Reads (include_after attributes.entry) reader.old (see_include it) reader.new) }
-    ensures refused { IfErr result (λ e. IsRefused reader.old e) }
     ensures stops { IfErr result (Refuses include reader.old) }
 {
     reader.expect_word(Word::Include)?;
@@ -107,7 +102,6 @@ fn add_side<'a>(
     items: &mut Vec<WorldItem<'a>>,
 ) -> ReadResult<()>
     ensures reads { OnOk result (Adds (crossing_after front.entry) reader.old items.old items.new reader.new) }
-    ensures refused { IfErr result (λ e. IsRefused reader.old e) }
     ensures stops { IfErr result (Refuses extern reader.old) }
 {
     let side = read_side(reader, front)?;
@@ -123,7 +117,6 @@ fn add_use<'a>(
     items: &mut Vec<WorldItem<'a>>,
 ) -> ReadResult<()>
     ensures reads { OnOk result (Adds (uses_after attributes.entry) reader.old items.old items.new reader.new) }
-    ensures refused { IfErr result (λ e. IsRefused reader.old e) }
     ensures stops { IfErr result (Refuses used reader.old) }
 {
     let names = reader.read_use(attributes)?;
@@ -139,7 +132,6 @@ fn add_include<'a>(
     items: &mut Vec<WorldItem<'a>>,
 ) -> ReadResult<()>
     ensures reads { OnOk result (Adds (includes_after attributes.entry) reader.old items.old items.new reader.new) }
-    ensures refused { IfErr result (λ e. IsRefused reader.old e) }
     ensures stops { IfErr result (Refuses include reader.old) }
 {
     let include = read_include(reader, attributes)?;
@@ -159,7 +151,6 @@ fn add_definition<'a>(
     items: &mut Vec<WorldItem<'a>>,
 ) -> ReadResult<()>
     ensures reads { OnOk result (Adds (definition_after front.entry) reader.old items.old items.new reader.new) }
-    ensures refused { IfErr result (λ e. IsRefused reader.old e) }
     ensures stops { IfErr result (Refuses definition reader.old) }
 {
     let definition = read_definition(reader, front)?;
@@ -177,7 +168,6 @@ fn add_definition<'a>(
 #[tactic(auto, unfolding(wit_grammar::specs::ItemRules::world_item))]
 fn add_world_item<'a>(reader: &mut Reader<'a>, items: &mut Vec<WorldItem<'a>>) -> ReadResult<()>
     ensures reads { OnOk result (Adds world_item reader.old items.old items.new reader.new) }
-    ensures refused { IfErr result (λ e. IsRefused reader.old e) }
     ensures stops { IfErr result (Refuses world_item reader.old) }
 {
     let front = reader.read_front()?;
@@ -201,7 +191,6 @@ fn add_world_item<'a>(reader: &mut Reader<'a>, items: &mut Vec<WorldItem<'a>>) -
 #[tactic(auto, unfolding(wit_grammar::specs::ItemRules::world_items))]
 fn read_world_items<'a>(reader: &mut Reader<'a>) -> ReadResult<Vec<WorldItem<'a>>>
     ensures reads { IfOk result (λ it. Reads world_items reader.old (map see_world_item it.items) reader.new) }
-    ensures refused { IfErr result (λ e. IsRefused reader.old e) }
     ensures stops { IfErr result (Refuses world_items reader.old) }
 {
     reader.expect(Kind::OpenBrace)?;
@@ -217,7 +206,6 @@ fn read_world_items<'a>(reader: &mut Reader<'a>) -> ReadResult<Vec<WorldItem<'a>
 #[tactic(auto, unfolding(wit_grammar::specs::ItemRules::world_rule))]
 pub fn read_world<'a>(reader: &mut Reader<'a>, front: Front<'a>) -> ReadResult<World<'a>>
     ensures reads { IfOk result (λ it. Reads (world_after front.entry) reader.old (see_world it) reader.new) }
-    ensures refused { IfErr result (λ e. IsRefused reader.old e) }
     ensures stops { IfErr result (Refuses world_rule reader.old) }
 {
     reader.expect_word(Word::World)?;
