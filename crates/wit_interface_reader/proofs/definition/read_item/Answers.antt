@@ -3,20 +3,9 @@ use Rattle.std.proofs.lemmas.Result.{err_from_is_err_and}
 use Rattle.wit_grammar.specs.Trees.{uses, has_func, defines}
 use Rattle.wit_grammar.specs.Rules.{front, used, use_of}
 use Rattle.wit_grammar.specs.ItemRules.{named_function, named_func_of, definition, definition_of, interface_item}
-use Rattle.wit_reader.proofs.Fronts.{without_docs}
-use Rattle.wit_reader.proofs.Parts.{fronted}
 use Rattle.wit_interface_reader.proofs.Items.{any_item, at_use, at_func, at_definition, use_item, func_item, defined_item}
 use Rattle.wit_interface_reader.proofs.Fronted.{read_after, stops_after}
 use Rattle.wit_interface_reader.proofs.definition.read_item.Goals as goal
-
-pub returns-then-at_word-clause-read : goal.returns-then-at_word-clause-read
-returns-then-at_word-clause-read c = fronted (without_docs _ c.in_ok-front.ensures.read) c.in_ok-names.ensures.read
-
-pub returns-then-at-clause-read : goal.returns-then-at-clause-read
-returns-then-at-clause-read c = fronted c.in_ok-front.ensures.read c.in_ok-func.ensures.read
-
-pub returns-clause-read : goal.returns-clause-read
-returns-clause-read c = fronted c.in_ok-front.ensures.read c.in_ok-definition.ensures.read
 
 pub returns-then-at_word-clause-reads : goal.returns-then-at_word-clause-reads
 unfolding interface_item

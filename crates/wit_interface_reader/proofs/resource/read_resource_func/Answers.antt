@@ -2,16 +2,9 @@ use Rattle.std.proofs.Common.{refl, rules}
 use Rattle.std.proofs.lemmas.Result.{err_from_is_err_and}
 use Rattle.wit_grammar.specs.Rules.{front}
 use Rattle.wit_grammar.specs.ItemRules.{constructed, maker_of, member, member_of, resource_function}
-use Rattle.wit_reader.proofs.Parts.{fronted}
 use Rattle.wit_interface_reader.proofs.Items.{any_func, at_constructor, at_member, made_item, member_item}
 use Rattle.wit_interface_reader.proofs.Fronted.{read_after, stops_after}
 use Rattle.wit_interface_reader.proofs.resource.read_resource_func.Goals as goal
-
-pub returns-then-at_word-clause-read : goal.returns-then-at_word-clause-read
-returns-then-at_word-clause-read c = fronted c.in_ok-front.ensures.read c.in_ok-constructor.ensures.read
-
-pub returns-clause-read : goal.returns-clause-read
-returns-clause-read c = fronted c.in_ok-front.ensures.read c.in_ok-member.ensures.read
 
 pub returns-then-at_word-clause-reads : goal.returns-then-at_word-clause-reads
 unfolding resource_function
