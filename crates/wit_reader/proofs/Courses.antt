@@ -1,5 +1,5 @@
 -- Courses, one after another: what is made of what they give, and where they stop.
-use Rattle.std.proofs.Common.{◌≡◌, List, [], ◌∷◌, ap, ◌∙◌, sym, refl, true, false, Bool}
+use Rattle.std.proofs.Common.{◌≡◌, [], ◌∷◌, ap, sym, refl, true, false, Bool}
 use Rattle.std.specs.Prelude.{◌||◌, Result, Ok, Err, IfErr}
 use Rattle.std.proofs.lemmas.Result.{IfErr-weaker}
 use Rattle.wit_lex.specs.declared.fault.ReadError.{ReadError}

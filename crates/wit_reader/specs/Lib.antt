@@ -1,6 +1,4 @@
-pub mod Attributes
 pub mod Deeper
-pub mod Fronts
 pub mod Headers
 pub mod Primitives
 pub mod Reading

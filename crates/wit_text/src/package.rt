@@ -70,7 +70,7 @@ pub fn read_package_name<'a>(reader: &mut Reader<'a>, docs: Docs<'a>) -> ReadRes
 
 /// The refusal of the token where no further level of packages is read.
 fn refuse_level(reader: &Reader<'_>) -> ReadError
-    ensures exact { result ≡ level_fault reader.now.token }
+    ensures { result ≡ level_fault reader.now.token }
 {
     if reader.at_word(Word::Package) {
         reader.refuse(ReadFault::Nesting)

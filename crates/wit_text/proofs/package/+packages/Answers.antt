@@ -55,7 +55,7 @@ pass_item-returns-in_err-read_inner-in-Package-clause-stops t c =
     rw (p.1, p.2) (package_item_stops c.args.left c.in_err-read_inner-in-Package.field-0.0 begun c.in_err-read_inner-in-Package.ensures.stops)
 
 pub read_inner-returns-then-left-eq0-clause-stops : goal.read_inner-returns-then-left-eq0-clause-stops
-read_inner-returns-then-left-eq0-clause-stops t c = rw c.refuse_level.ensures.exact (inner_deeper c.args.reader.now c.args.left (search rules))
+read_inner-returns-then-left-eq0-clause-stops t c = rw c.refuse_level.ensures (inner_deeper c.args.reader.now c.args.left (search rules))
 
 pub read_inner-returns-in_err-header-clause-stops : goal.read_inner-returns-in_err-header-clause-stops
 read_inner-returns-in_err-header-clause-stops t c =

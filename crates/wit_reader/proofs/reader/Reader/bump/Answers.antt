@@ -17,7 +17,7 @@ returns-clause-passes c =
     }
 
 pub returns-then-self-clause-stops : goal.returns-then-self-clause-stops
-returns-then-self-clause-stops c = rw c.refuse.ensures.exact (past_end (spot c.args.self.now) (lexeme c.args.self.now.token) c.if-self.true)
+returns-then-self-clause-stops c = rw c.refuse.ensures (past_end (spot c.args.self.now) (lexeme c.args.self.now.token) c.if-self.true)
 
 pub returns-in_err-advance-clause-stops : goal.returns-in_err-advance-clause-stops
 returns-in_err-advance-clause-stops c =
