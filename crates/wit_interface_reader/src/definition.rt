@@ -1,9 +1,10 @@
 //! Reading definitions of types, and the items of an interface.
 ghost use Rattle.std.specs.Prelude.{map, IfOk, IfErr};
-ghost use Rattle.wit_grammar.specs.Seen.{see_name, see_body, see_definition, see_item};
+ghost use Rattle.wit_grammar.specs.Seen.{see_definition, see_item};
 ghost use Rattle.wit_grammar.specs.ItemRules.{alias_definition, record_definition, flags_definition, variant_definition, enum_definition, definition, interface_item, interface_items};
 ghost use Rattle.wit_reader.specs.Reading.{Reads, Refuses};
 ghost use Rattle.wit_interface_reader.specs.After.{defined_after};
+ghost use Rattle.wit_interface_reader.specs.Parts.{see_defined};
 
 use crate::function::read_named_func;
 use crate::members::{read_cases, read_enum_cases, read_fields, read_flags};
@@ -20,7 +21,7 @@ use wit_values::fitted;
 /// Reads `type name = type;`.
 #[tactic(auto, unfolding(wit_grammar::specs::ItemRules::alias_definition))]
 fn read_alias<'a>(reader: &mut Reader<'a>) -> ReadResult<(Id<'a>, TypeBody<'a>)>
-    ensures reads { IfOk result (λ it. Reads alias_definition reader.old (see_name it.0, see_body it.1) reader.new) }
+    ensures reads { IfOk result (λ it. Reads alias_definition reader.old (see_defined it) reader.new) }
     ensures stops { IfErr result (Refuses alias_definition reader.old) }
 {
     reader.expect_word(Word::Type)?;
@@ -33,7 +34,7 @@ fn read_alias<'a>(reader: &mut Reader<'a>) -> ReadResult<(Id<'a>, TypeBody<'a>)>
 /// Reads `record name { name: type, .. }`.
 #[tactic(auto, unfolding(wit_grammar::specs::ItemRules::record_definition))]
 fn read_record<'a>(reader: &mut Reader<'a>) -> ReadResult<(Id<'a>, TypeBody<'a>)>
-    ensures reads { IfOk result (λ it. Reads record_definition reader.old (see_name it.0, see_body it.1) reader.new) }
+    ensures reads { IfOk result (λ it. Reads record_definition reader.old (see_defined it) reader.new) }
     ensures stops { IfErr result (Refuses record_definition reader.old) }
 {
     reader.expect_word(Word::Record)?;
@@ -46,7 +47,7 @@ fn read_record<'a>(reader: &mut Reader<'a>) -> ReadResult<(Id<'a>, TypeBody<'a>)
 /// Reads `flags name { name, .. }`.
 #[tactic(auto, unfolding(wit_grammar::specs::ItemRules::flags_definition))]
 fn read_flags_definition<'a>(reader: &mut Reader<'a>) -> ReadResult<(Id<'a>, TypeBody<'a>)>
-    ensures reads { IfOk result (λ it. Reads flags_definition reader.old (see_name it.0, see_body it.1) reader.new) }
+    ensures reads { IfOk result (λ it. Reads flags_definition reader.old (see_defined it) reader.new) }
     ensures stops { IfErr result (Refuses flags_definition reader.old) }
 {
     reader.expect_word(Word::Flags)?;
@@ -59,7 +60,7 @@ fn read_flags_definition<'a>(reader: &mut Reader<'a>) -> ReadResult<(Id<'a>, Typ
 /// Reads `variant name { name(type), .. }`, where a case may have no type.
 #[tactic(auto, unfolding(wit_grammar::specs::ItemRules::variant_definition))]
 fn read_variant<'a>(reader: &mut Reader<'a>) -> ReadResult<(Id<'a>, TypeBody<'a>)>
-    ensures reads { IfOk result (λ it. Reads variant_definition reader.old (see_name it.0, see_body it.1) reader.new) }
+    ensures reads { IfOk result (λ it. Reads variant_definition reader.old (see_defined it) reader.new) }
     ensures stops { IfErr result (Refuses variant_definition reader.old) }
 {
     reader.expect_word(Word::Variant)?;
@@ -72,7 +73,7 @@ fn read_variant<'a>(reader: &mut Reader<'a>) -> ReadResult<(Id<'a>, TypeBody<'a>
 /// Reads `enum name { name, .. }`.
 #[tactic(auto, unfolding(wit_grammar::specs::ItemRules::enum_definition))]
 fn read_enum<'a>(reader: &mut Reader<'a>) -> ReadResult<(Id<'a>, TypeBody<'a>)>
-    ensures reads { IfOk result (λ it. Reads enum_definition reader.old (see_name it.0, see_body it.1) reader.new) }
+    ensures reads { IfOk result (λ it. Reads enum_definition reader.old (see_defined it) reader.new) }
     ensures stops { IfErr result (Refuses enum_definition reader.old) }
 {
     reader.expect_word(Word::Enum)?;
@@ -85,7 +86,7 @@ fn read_enum<'a>(reader: &mut Reader<'a>) -> ReadResult<(Id<'a>, TypeBody<'a>)>
 /// Reads the name and the body of a definition.
 #[tactic(auto, unfolding(wit_grammar::specs::ItemRules::definition))]
 fn read_body<'a>(reader: &mut Reader<'a>) -> ReadResult<(Id<'a>, TypeBody<'a>)>
-    ensures reads { IfOk result (λ it. Reads definition reader.old (see_name it.0, see_body it.1) reader.new) }
+    ensures reads { IfOk result (λ it. Reads definition reader.old (see_defined it) reader.new) }
     ensures stops { IfErr result (Refuses definition reader.old) }
 {
     if reader.at_word(Word::Type) {

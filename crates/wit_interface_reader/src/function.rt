@@ -6,6 +6,7 @@ ghost use Rattle.wit_grammar.specs.Rules.{param, params, returned, signature, fu
 ghost use Rattle.wit_grammar.specs.ItemRules.{closed_function, closed_signature, named_function};
 ghost use Rattle.wit_reader.specs.Reading.{Reads, ReadsOn, Refuses};
 ghost use Rattle.wit_interface_reader.specs.After.{named_after};
+ghost use Rattle.wit_interface_reader.specs.Parts.{see_signature};
 
 use crate::accessor::read_form;
 use wit_lex::fault::ReadResult;
@@ -59,7 +60,7 @@ fn read_returned<'a>(reader: &mut Reader<'a>) -> ReadResult<Option<Type<'a>>>
 /// Reads parameters in parentheses, and the type of what a function returns, where there is one.
 #[tactic(auto, unfolding(wit_grammar::specs::Rules::signature))]
 pub fn read_signature<'a>(reader: &mut Reader<'a>) -> ReadResult<(Vec<Param<'a>>, Option<Type<'a>>)>
-    ensures reads { IfOk result (λ it. Reads signature reader.old (map see_param it.0.items, option_map see_type it.1) reader.new) }
+    ensures reads { IfOk result (λ it. Reads signature reader.old (see_signature it) reader.new) }
     ensures stops { IfErr result (Refuses signature reader.old) }
 {
     let params = read_params(reader)?;
@@ -72,7 +73,7 @@ pub fn read_signature<'a>(reader: &mut Reader<'a>) -> ReadResult<(Vec<Param<'a>>
 pub fn read_closed_signature<'a>(
     reader: &mut Reader<'a>,
 ) -> ReadResult<(Vec<Param<'a>>, Option<Type<'a>>)>
-    ensures reads { IfOk result (λ it. Reads closed_signature reader.old (map see_param it.0.items, option_map see_type it.1) reader.new) }
+    ensures reads { IfOk result (λ it. Reads closed_signature reader.old (see_signature it) reader.new) }
     ensures stops { IfErr result (Refuses closed_signature reader.old) }
 {
     let signature = read_signature(reader)?;

@@ -1,11 +1,10 @@
 //! Reading fields, flags and cases.
 ghost use Rattle.std.specs.Prelude.{map, IfOk, IfErr};
 ghost use Rattle.std.specs.Option.{option_map};
-ghost use Rattle.wit_lex.specs.declared.kind.Kind.TheVariants.{OpenBrace, CloseBrace};
 ghost use Rattle.wit_grammar.specs.Seen.{see_type, see_field, see_flag, see_case, see_enum_case};
-ghost use Rattle.wit_grammar.specs.Grammar.{listed};
 ghost use Rattle.wit_grammar.specs.ItemRules.{field, flag, case, case_type};
 ghost use Rattle.wit_reader.specs.Reading.{Reads, ReadsOn, Refuses};
+ghost use Rattle.wit_interface_reader.specs.Parts.{braced_list};
 
 use wit_lex::fault::ReadResult;
 use wit_lex::kind::Kind;
@@ -29,8 +28,8 @@ fn read_field<'a>(reader: &mut Reader<'a>) -> ReadResult<Field<'a>>
 /// Reads fields in braces.
 #[tactic(auto, unfolding(wit_grammar::specs::Grammar::listed_at))]
 pub fn read_fields<'a>(reader: &mut Reader<'a>) -> ReadResult<Vec<Field<'a>>>
-    ensures reads { IfOk result (λ it. Reads (listed OpenBrace CloseBrace field) reader.old (map see_field it.items) reader.new) }
-    ensures stops { IfErr result (Refuses (listed OpenBrace CloseBrace field) reader.old) }
+    ensures reads { IfOk result (λ it. Reads (braced_list field) reader.old (map see_field it.items) reader.new) }
+    ensures stops { IfErr result (Refuses (braced_list field) reader.old) }
 {
     let mut more = reader.open_list(Kind::OpenBrace, Kind::CloseBrace)?;
     let mut fields = Vec::new(reader.alloc);
@@ -55,8 +54,8 @@ fn read_flag<'a>(reader: &mut Reader<'a>) -> ReadResult<Flag<'a>>
 /// Reads flags in braces.
 #[tactic(auto, unfolding(wit_grammar::specs::Grammar::listed_at))]
 pub fn read_flags<'a>(reader: &mut Reader<'a>) -> ReadResult<Vec<Flag<'a>>>
-    ensures reads { IfOk result (λ it. Reads (listed OpenBrace CloseBrace flag) reader.old (map see_flag it.items) reader.new) }
-    ensures stops { IfErr result (Refuses (listed OpenBrace CloseBrace flag) reader.old) }
+    ensures reads { IfOk result (λ it. Reads (braced_list flag) reader.old (map see_flag it.items) reader.new) }
+    ensures stops { IfErr result (Refuses (braced_list flag) reader.old) }
 {
     let mut more = reader.open_list(Kind::OpenBrace, Kind::CloseBrace)?;
     let mut flags = Vec::new(reader.alloc);
@@ -96,8 +95,8 @@ fn read_case<'a>(reader: &mut Reader<'a>) -> ReadResult<Case<'a>>
 /// Reads the cases of a variant in braces.
 #[tactic(auto, unfolding(wit_grammar::specs::Grammar::listed_at))]
 pub fn read_cases<'a>(reader: &mut Reader<'a>) -> ReadResult<Vec<Case<'a>>>
-    ensures reads { IfOk result (λ it. Reads (listed OpenBrace CloseBrace case) reader.old (map see_case it.items) reader.new) }
-    ensures stops { IfErr result (Refuses (listed OpenBrace CloseBrace case) reader.old) }
+    ensures reads { IfOk result (λ it. Reads (braced_list case) reader.old (map see_case it.items) reader.new) }
+    ensures stops { IfErr result (Refuses (braced_list case) reader.old) }
 {
     let mut more = reader.open_list(Kind::OpenBrace, Kind::CloseBrace)?;
     let mut cases = Vec::new(reader.alloc);
@@ -122,8 +121,8 @@ fn read_enum_case<'a>(reader: &mut Reader<'a>) -> ReadResult<EnumCase<'a>>
 /// Reads the cases of an enum in braces.
 #[tactic(auto, unfolding(wit_grammar::specs::Grammar::listed_at))]
 pub fn read_enum_cases<'a>(reader: &mut Reader<'a>) -> ReadResult<Vec<EnumCase<'a>>>
-    ensures reads { IfOk result (λ it. Reads (listed OpenBrace CloseBrace flag) reader.old (map see_enum_case it.items) reader.new) }
-    ensures stops { IfErr result (Refuses (listed OpenBrace CloseBrace flag) reader.old) }
+    ensures reads { IfOk result (λ it. Reads (braced_list flag) reader.old (map see_enum_case it.items) reader.new) }
+    ensures stops { IfErr result (Refuses (braced_list flag) reader.old) }
 {
     let mut more = reader.open_list(Kind::OpenBrace, Kind::CloseBrace)?;
     let mut cases = Vec::new(reader.alloc);

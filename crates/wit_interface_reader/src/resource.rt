@@ -1,9 +1,10 @@
 //! Reading resources.
 ghost use Rattle.std.specs.Prelude.{◌≡◌, map, IfOk, IfErr};
-ghost use Rattle.wit_grammar.specs.Seen.{see_name, see_body, see_func, see_resource_func};
+ghost use Rattle.wit_grammar.specs.Seen.{see_name, see_func, see_resource_func};
 ghost use Rattle.wit_grammar.specs.ItemRules.{constructed, is_static, member, member_of, braced_functions, resource_function, resource_body, resource_definition};
 ghost use Rattle.wit_reader.specs.Reading.{Reads, ReadsOn, Refuses};
 ghost use Rattle.wit_interface_reader.specs.After.{front_of, constructed_after, member_after};
+ghost use Rattle.wit_interface_reader.specs.Parts.{see_defined};
 
 use crate::function::{read_closed_func, read_closed_signature};
 use wit_lex::fault::ReadResult;
@@ -21,7 +22,7 @@ fn resource_func<'a>(
     name: Id<'a>,
     func: Func<'a>,
 ) -> ResourceFunc<'a>
-    ensures seen { see_resource_func result ≡ member_of (front_of front.entry) (see_name name.entry, is_static, see_func func.entry) }
+    ensures { see_resource_func result ≡ member_of (front_of front.entry) (see_name name.entry, is_static, see_func func.entry) }
 {
     let named = NamedFunc {
         docs: front.docs,
@@ -126,7 +127,7 @@ fn read_resource_body<'a>(reader: &mut Reader<'a>) -> ReadResult<Vec<ResourceFun
 /// Reads `resource name;` or `resource name { .. }`.
 #[tactic(auto, unfolding(wit_grammar::specs::ItemRules::resource_definition))]
 pub fn read_resource<'a>(reader: &mut Reader<'a>) -> ReadResult<(Id<'a>, TypeBody<'a>)>
-    ensures reads { IfOk result (λ it. Reads resource_definition reader.old (see_name it.0, see_body it.1) reader.new) }
+    ensures reads { IfOk result (λ it. Reads resource_definition reader.old (see_defined it) reader.new) }
     ensures stops { IfErr result (Refuses resource_definition reader.old) }
 {
     reader.expect_word(Word::Resource)?;

@@ -1,3 +1,4 @@
+pub mod After
 pub mod Deeper
 pub mod Headers
 pub mod Primitives

@@ -28,7 +28,7 @@ impl<'a> Reader<'a> {
     /// Reads `(version = V)`, and tells where the version and the `)` are.
     #[tactic(auto, unfolding(wit_grammar::specs::Rules::since_version))]
     fn read_told_version(&mut self) -> ReadResult<((Span, Version), Span)>
-        ensures parses { IfOk result (λ it. Reads since_version self.old (see_found it.0, it.1) self.new) }
+        ensures reads { IfOk result (λ it. Reads since_version self.old (see_found it.0, it.1) self.new) }
         ensures stops { IfErr result (Refuses since_version self.old) }
     {
         self.expect(Kind::OpenParen)?;
@@ -42,7 +42,7 @@ impl<'a> Reader<'a> {
     /// Reads `(feature = name)`, and tells where the `)` is.
     #[tactic(auto, unfolding(wit_grammar::specs::Rules::of_feature))]
     fn read_told_feature(&mut self) -> ReadResult<(Id<'a>, Span)>
-        ensures parses { IfOk result (λ it. Reads of_feature self.old (see_name it.0, it.1) self.new) }
+        ensures reads { IfOk result (λ it. Reads of_feature self.old (see_name it.0, it.1) self.new) }
         ensures stops { IfErr result (Refuses of_feature self.old) }
     {
         self.expect(Kind::OpenParen)?;
@@ -56,7 +56,7 @@ impl<'a> Reader<'a> {
     /// Reads `since(version = V)`, after the `@` at a span.
     #[tactic(auto, unfolding(wit_grammar::specs::Rules::since_attribute))]
     fn read_since(&mut self, at: Span) -> ReadResult<Attribute<'a>>
-        ensures parses { IfOk result (λ it. ReadsAs since_attribute (since_of at) self.old (see_attribute it) self.new) }
+        ensures reads { IfOk result (λ it. ReadsAs since_attribute (since_of at) self.old (see_attribute it) self.new) }
         ensures stops { IfErr result (Refuses since_attribute self.old) }
     {
         self.expect_text("since")?;
@@ -70,7 +70,7 @@ impl<'a> Reader<'a> {
     /// Reads `deprecated(version = V)`, after the `@` at a span.
     #[tactic(auto, unfolding(wit_grammar::specs::Rules::deprecated_attribute))]
     fn read_deprecated(&mut self, at: Span) -> ReadResult<Attribute<'a>>
-        ensures parses { IfOk result (λ it. ReadsAs deprecated_attribute (deprecated_of at) self.old (see_attribute it) self.new) }
+        ensures reads { IfOk result (λ it. ReadsAs deprecated_attribute (deprecated_of at) self.old (see_attribute it) self.new) }
         ensures stops { IfErr result (Refuses deprecated_attribute self.old) }
     {
         self.expect_text("deprecated")?;
@@ -84,7 +84,7 @@ impl<'a> Reader<'a> {
     /// Reads `unstable(feature = name)`, after the `@` at a span.
     #[tactic(auto, unfolding(wit_grammar::specs::Rules::unstable_attribute))]
     fn read_unstable(&mut self, at: Span) -> ReadResult<Attribute<'a>>
-        ensures parses { IfOk result (λ it. ReadsAs unstable_attribute (unstable_of at) self.old (see_attribute it) self.new) }
+        ensures reads { IfOk result (λ it. ReadsAs unstable_attribute (unstable_of at) self.old (see_attribute it) self.new) }
         ensures stops { IfErr result (Refuses unstable_attribute self.old) }
     {
         self.expect_text("unstable")?;
@@ -98,7 +98,7 @@ impl<'a> Reader<'a> {
     /// Reads what follows the `@` of an attribute, which is at a span.
     #[tactic(auto, unfolding(wit_grammar::specs::Rules::after_at))]
     fn read_after_at(&mut self, at: Span) -> ReadResult<Attribute<'a>>
-        ensures parses { IfOk result (λ it. ReadsAs after_at (applied at) self.old (see_attribute it) self.new) }
+        ensures reads { IfOk result (λ it. ReadsAs after_at (applied at) self.old (see_attribute it) self.new) }
         ensures stops { IfErr result (Refuses after_at self.old) }
     {
         if self.at_text("since") {
@@ -113,7 +113,7 @@ impl<'a> Reader<'a> {
     /// Reads an attribute.
     #[tactic(auto, unfolding(wit_grammar::specs::Rules::attribute))]
     pub fn read_attribute(&mut self) -> ReadResult<Attribute<'a>>
-        ensures parses { IfOk result (λ it. Reads attribute self.old (see_attribute it) self.new) }
+        ensures reads { IfOk result (λ it. Reads attribute self.old (see_attribute it) self.new) }
         ensures stops { IfErr result (Refuses attribute self.old) }
     {
         let at = self.read_mark(Kind::At)?;

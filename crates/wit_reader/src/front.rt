@@ -1,8 +1,7 @@
 //! Reading what stands in front of items.
 ghost use Rattle.std.specs.Prelude.{map, IfOk, IfErr};
-ghost use Rattle.wit_lex.specs.Lexis.{Stops};
 ghost use Rattle.wit_grammar.specs.Seen.{see_attribute, see_docs, see_front};
-ghost use Rattle.wit_grammar.specs.Leaves.{docs_at};
+ghost use Rattle.wit_grammar.specs.Grammar.{docs};
 ghost use Rattle.wit_grammar.specs.Rules.{attributes, front};
 
 use crate::reader::Reader;
@@ -20,12 +19,12 @@ pub struct Front<'a> {
 }
 
 impl<'a> Reader<'a> {
-    ghost use Rattle.wit_reader.specs.Reading.{ParsesOn, ReadsOn, Refuses, spot};
+    ghost use Rattle.wit_reader.specs.Reading.{ReadsOn, Refuses};
 
     /// Reads the docs in front of the token; what is in front of it is then read.
     pub fn read_docs(&mut self) -> ReadResult<Docs<'a>>
-        ensures parses { IfOk result (λ it. ParsesOn self.old (docs_at (spot self.old)) (see_docs it) self.new) }
-        ensures stops { IfErr result (Stops (docs_at (spot self.old))) }
+        ensures reads { IfOk result (λ it. ReadsOn docs self.old (see_docs it) self.new) }
+        ensures stops { IfErr result (Refuses docs self.old) }
     {
         let (docs, _) = docs_behind(self.alloc, self.source, self.offset, self.before)?;
         self.before = self.token.start;
@@ -34,7 +33,7 @@ impl<'a> Reader<'a> {
 
     /// Reads attributes.
     pub fn read_attributes(&mut self) -> ReadResult<Vec<Attribute<'a>>>
-        ensures parses { IfOk result (λ it. ReadsOn attributes self.old (map see_attribute it.items) self.new) }
+        ensures reads { IfOk result (λ it. ReadsOn attributes self.old (map see_attribute it.items) self.new) }
         ensures stops { IfErr result (Refuses attributes self.old) }
     {
         let mut attributes = Vec::new(self.alloc);
@@ -48,7 +47,7 @@ impl<'a> Reader<'a> {
     /// Reads docs, and attributes after them.
     #[tactic(auto, unfolding(wit_grammar::specs::Rules::front))]
     pub fn read_front(&mut self) -> ReadResult<Front<'a>>
-        ensures parses { IfOk result (λ it. ReadsOn front self.old (see_front it.docs it.attributes.items) self.new) }
+        ensures reads { IfOk result (λ it. ReadsOn front self.old (see_front it.docs it.attributes.items) self.new) }
         ensures stops { IfErr result (Refuses front self.old) }
     {
         let docs = self.read_docs()?;

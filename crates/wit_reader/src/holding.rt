@@ -14,7 +14,7 @@ impl<'a> Reader<'a> {
     /// Goes past a token of this kind behind a value, which it gives back.
     pub fn closed<T: Drop>(&mut self, value: T, close: Kind) -> ReadResult<T>
         ensures value { IfOk result (λ it. it ≡ value) }
-        ensures passes { OnOk result (Passes self.old (mark_at close (spot self.old)) self.new) }
+        ensures reads { OnOk result (Passes self.old (mark_at close (spot self.old)) self.new) }
         ensures stops { IfErr result (Stops (mark_at close (spot self.old))) }
     {
         self.expect(close)?;

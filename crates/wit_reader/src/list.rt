@@ -14,7 +14,7 @@ impl<'a> Reader<'a> {
     /// tells whether an item stands there.
     #[tactic(auto, unfolding(wit_grammar::specs::Grammar::open_at))]
     pub fn open_list(&mut self, opening: Kind, close: Kind) -> ReadResult<bool>
-        ensures parses { IfOk result (λ it. Parses self.old (open_at opening close (spot self.old)) it self.new) }
+        ensures reads { IfOk result (λ it. Parses self.old (open_at opening close (spot self.old)) it self.new) }
         ensures stops { IfErr result (Stops (open_at opening close (spot self.old))) }
     {
         self.expect(opening)?;
@@ -29,7 +29,7 @@ impl<'a> Reader<'a> {
     /// further item stands; tells whether one does.
     #[tactic(auto, unfolding(wit_grammar::specs::Grammar::next_at))]
     pub fn next_in_list(&mut self, close: Kind) -> ReadResult<bool>
-        ensures parses { IfOk result (λ it. Parses self.old (next_at close (spot self.old)) it self.new) }
+        ensures reads { IfOk result (λ it. Parses self.old (next_at close (spot self.old)) it self.new) }
         ensures stops { IfErr result (Stops (next_at close (spot self.old))) }
     {
         if !self.at(Kind::Comma) {

@@ -6,8 +6,8 @@ ghost use Rattle.wit_lex.specs.Tokens.{IsFound, IsToken};
 ghost use Rattle.wit_lex.specs.Lexis.{Stops, first_token, lexeme};
 ghost use Rattle.wit_grammar.specs.Kinds.{same_kind};
 ghost use Rattle.wit_grammar.specs.Seen.{see_name};
-ghost use Rattle.wit_grammar.specs.Leaves.{past, mark_at, spanned_at, text_at, name_at};
-ghost use Rattle.wit_grammar.specs.Grammar.{matches, of_text, run};
+ghost use Rattle.wit_grammar.specs.Leaves.{past, mark_at};
+ghost use Rattle.wit_grammar.specs.Grammar.{matches, of_text, name, says, spanned};
 ghost use Rattle.wit_grammar.specs.Rules.{label};
 
 use std::alloc::Global;
@@ -39,7 +39,7 @@ pub struct Reader<'a> {
 }
 
 impl<'a> Reader<'a> {
-    ghost use Rattle.wit_reader.specs.Reading.{Parses, Passes, spot, token_span};
+    ghost use Rattle.wit_reader.specs.Reading.{Passes, Reads, Refuses, spot, token_span};
 
     /// The token's span.
     pub fn span(&self) -> Span
@@ -84,7 +84,7 @@ impl<'a> Reader<'a> {
     /// Goes past the token.
     #[inline(always)]
     pub fn bump(&mut self) -> ReadResult<()>
-        ensures passes { OnOk result (Passes self.old (past (spot self.old) (lexeme self.old.token)) self.new) }
+        ensures reads { OnOk result (Passes self.old (past (spot self.old) (lexeme self.old.token)) self.new) }
         ensures stops { IfErr result (Stops (past (spot self.old) (lexeme self.old.token))) }
     {
         if self.token.start == self.token.end {
@@ -100,7 +100,7 @@ impl<'a> Reader<'a> {
     #[inline(always)]
     #[tactic(auto, unfolding(wit_grammar::specs::Leaves::mark_at))]
     pub fn expect(&mut self, kind: Kind) -> ReadResult<()>
-        ensures passes { OnOk result (Passes self.old (mark_at kind (spot self.old)) self.new) }
+        ensures reads { OnOk result (Passes self.old (mark_at kind (spot self.old)) self.new) }
         ensures stops { IfErr result (Stops (mark_at kind (spot self.old))) }
     {
         if !self.at(kind) {
@@ -113,7 +113,7 @@ impl<'a> Reader<'a> {
     #[inline(always)]
     #[tactic(auto, unfolding(wit_grammar::specs::Leaves::mark_at))]
     pub fn expect_word(&mut self, word: Word) -> ReadResult<()>
-        ensures passes { OnOk result (Passes self.old (mark_at (WordKind word) (spot self.old)) self.new) }
+        ensures reads { OnOk result (Passes self.old (mark_at (WordKind word) (spot self.old)) self.new) }
         ensures stops { IfErr result (Stops (mark_at (WordKind word) (spot self.old))) }
     {
         if !self.at_word(word) {
@@ -126,8 +126,8 @@ impl<'a> Reader<'a> {
     #[inline(always)]
     #[tactic(auto, unfolding(wit_grammar::specs::Leaves::spanned_at))]
     pub fn read_word(&mut self, word: Word) -> ReadResult<Span>
-        ensures parses { IfOk result (λ it. Parses self.old (spanned_at (WordKind word) (spot self.old)) it self.new) }
-        ensures stops { IfErr result (Stops (spanned_at (WordKind word) (spot self.old))) }
+        ensures reads { IfOk result (λ it. Reads (spanned (WordKind word)) self.old it self.new) }
+        ensures stops { IfErr result (Refuses (spanned (WordKind word)) self.old) }
     {
         let span = self.span();
         self.expect_word(word)?;
@@ -137,8 +137,8 @@ impl<'a> Reader<'a> {
     /// Goes past a token of this kind, and tells where it is.
     #[tactic(auto, unfolding(wit_grammar::specs::Leaves::spanned_at, wit_grammar::specs::Leaves::mark_at))]
     pub fn read_mark(&mut self, kind: Kind) -> ReadResult<Span>
-        ensures parses { IfOk result (λ it. Parses self.old (spanned_at kind (spot self.old)) it self.new) }
-        ensures stops { IfErr result (Stops (spanned_at kind (spot self.old))) }
+        ensures reads { IfOk result (λ it. Reads (spanned kind) self.old it self.new) }
+        ensures stops { IfErr result (Refuses (spanned kind) self.old) }
     {
         if !self.at(kind) {
             return Err(self.refuse(ReadFault::Token));
@@ -151,8 +151,8 @@ impl<'a> Reader<'a> {
     /// Goes past a name of this text, and tells where it is.
     #[tactic(auto, unfolding(wit_grammar::specs::Leaves::text_at))]
     pub fn read_text(&mut self, text: &str) -> ReadResult<Span>
-        ensures parses { IfOk result (λ it. Parses self.old (text_at text.now (spot self.old)) it self.new) }
-        ensures stops { IfErr result (Stops (text_at text.now (spot self.old))) }
+        ensures reads { IfOk result (λ it. Reads (says text.now) self.old it self.new) }
+        ensures stops { IfErr result (Refuses (says text.now) self.old) }
     {
         if !self.at_text(text) {
             return Err(self.refuse(ReadFault::Token));
@@ -164,8 +164,8 @@ impl<'a> Reader<'a> {
 
     /// Goes past a name of this text.
     pub fn expect_text(&mut self, text: &str) -> ReadResult<()>
-        ensures parses { OnOk result (Parses self.old (text_at text.now (spot self.old)) (token_span self.old) self.new) }
-        ensures stops { IfErr result (Stops (text_at text.now (spot self.old))) }
+        ensures reads { OnOk result (Reads (says text.now) self.old (token_span self.old) self.new) }
+        ensures stops { IfErr result (Refuses (says text.now) self.old) }
     {
         self.read_text(text)?;
         Ok(())
@@ -175,8 +175,8 @@ impl<'a> Reader<'a> {
     #[inline(always)]
     #[tactic(auto, unfolding(wit_grammar::specs::Leaves::name_at))]
     pub fn read_id(&mut self) -> ReadResult<Id<'a>>
-        ensures parses { IfOk result (λ it. Parses self.old (name_at (spot self.old)) (see_name it) self.new) }
-        ensures stops { IfErr result (Stops (name_at (spot self.old))) }
+        ensures reads { IfOk result (λ it. Reads name self.old (see_name it) self.new) }
+        ensures stops { IfErr result (Refuses name self.old) }
     {
         if !self.at(Kind::Name) {
             return Err(self.refuse(ReadFault::Token));
@@ -193,8 +193,8 @@ impl<'a> Reader<'a> {
     /// Reads a name and the `:` behind it.
     #[tactic(auto, unfolding(wit_grammar::specs::Rules::label))]
     pub fn read_label(&mut self) -> ReadResult<Id<'a>>
-        ensures parses { IfOk result (λ it. Parses self.old (run label (spot self.old)) (see_name it) self.new) }
-        ensures stops { IfErr result (Stops (run label (spot self.old))) }
+        ensures reads { IfOk result (λ it. Reads label self.old (see_name it) self.new) }
+        ensures stops { IfErr result (Refuses label self.old) }
     {
         let id = self.read_id()?;
         self.expect(Kind::Colon)?;

@@ -2,9 +2,10 @@
 ghost use Rattle.std.specs.Prelude.{◌≡◌, map, IfOk, IfErr};
 ghost use Rattle.std.specs.Option.{option_map};
 ghost use Rattle.wit_lex.specs.declared.kind.Kind.TheVariants.{Dot, Semicolon};
-ghost use Rattle.wit_grammar.specs.Seen.{see_attribute, see_name, see_path, see_top_use, see_use, see_used};
-ghost use Rattle.wit_grammar.specs.Grammar.{act, ◌▸◌, ◌◂◌};
-ghost use Rattle.wit_grammar.specs.Rules.{item_path, joined, local, package_path, path, path_of, rest_of_path, top_use_of, top_used, use_of, used, used_name, used_names};
+ghost use Rattle.wit_grammar.specs.Seen.{see_name, see_path, see_top_use, see_use, see_used};
+ghost use Rattle.wit_grammar.specs.Grammar.{◌▸◌, ◌◂◌};
+ghost use Rattle.wit_grammar.specs.Rules.{item_path, joined, local, path, rest_of_path, top_used, used, used_name, used_names};
+ghost use Rattle.wit_reader.specs.After.{item_after, rest_after, top_use_after, use_after};
 ghost use Rattle.wit_reader.specs.Headers.{found_version};
 
 use crate::reader::Reader;
@@ -48,13 +49,13 @@ fn path_package<'a>(
 }
 
 impl<'a> Reader<'a> {
-    ghost use Rattle.wit_reader.specs.Reading.{Reads, ReadsAs, ReadsOn, Refuses};
+    ghost use Rattle.wit_reader.specs.Reading.{Reads, ReadsOn, Refuses};
 
     /// Reads the rest of a path with a package behind the two names of that: `/name`, and perhaps a
     /// version.
     #[tactic(auto, using(crate::proofs::Paths::package_seen), unfolding(wit_grammar::specs::Rules::item_path))]
     pub fn read_item_path(&mut self, first: Id<'a>, second: Id<'a>) -> ReadResult<UsePath<'a>>
-        ensures parses { IfOk result (λ it. ReadsAs item_path (package_path (see_name first.entry) (see_name second.entry)) self.old (see_path it) self.new) }
+        ensures reads { IfOk result (λ it. Reads (item_after first.entry second.entry) self.old (see_path it) self.new) }
         ensures stops { IfErr result (Refuses item_path self.old) }
     {
         self.expect(Kind::Slash)?;
@@ -69,7 +70,7 @@ impl<'a> Reader<'a> {
     /// version.
     #[tactic(auto, using(crate::proofs::Paths::rest_made), unfolding(wit_grammar::specs::Rules::rest_of_path, wit_grammar::specs::Leaves::mark_at))]
     pub fn read_rest_of_path(&mut self, first: Id<'a>) -> ReadResult<UsePath<'a>>
-        ensures parses { IfOk result (λ it. ReadsOn (act (path_of (see_name first.entry)) rest_of_path) self.old (see_path it) self.new) }
+        ensures reads { IfOk result (λ it. ReadsOn (rest_after first.entry) self.old (see_path it) self.new) }
         ensures stops { IfErr result (Refuses rest_of_path self.old) }
     {
         if !self.at(Kind::Colon) {
@@ -84,7 +85,7 @@ impl<'a> Reader<'a> {
     /// Reads a path: a name of the package, or `name:name/name` with perhaps a version behind it.
     #[tactic(auto, unfolding(wit_grammar::specs::Rules::path))]
     pub fn read_path(&mut self) -> ReadResult<UsePath<'a>>
-        ensures parses { IfOk result (λ it. Reads path self.old (see_path it) self.new) }
+        ensures reads { IfOk result (λ it. Reads path self.old (see_path it) self.new) }
         ensures stops { IfErr result (Refuses path self.old) }
     {
         let first = self.read_id()?;
@@ -95,7 +96,7 @@ impl<'a> Reader<'a> {
     /// Reads `as` and the local name, where there is one.
     #[tactic(auto, unfolding(wit_grammar::specs::Rules::local, wit_grammar::specs::Leaves::mark_at))]
     fn read_local(&mut self) -> ReadResult<Option<Id<'a>>>
-        ensures parses { IfOk result (λ it. ReadsOn local self.old (option_map see_name it) self.new) }
+        ensures reads { IfOk result (λ it. ReadsOn local self.old (option_map see_name it) self.new) }
         ensures stops { IfErr result (Refuses local self.old) }
     {
         if !self.at_word(Word::As) {
@@ -109,7 +110,7 @@ impl<'a> Reader<'a> {
     /// Reads a used name, perhaps with a local name behind it.
     #[tactic(auto, unfolding(wit_grammar::specs::Rules::used_name))]
     fn read_used(&mut self) -> ReadResult<UseName<'a>>
-        ensures parses { IfOk result (λ it. Reads used_name self.old (see_used it) self.new) }
+        ensures reads { IfOk result (λ it. Reads used_name self.old (see_used it) self.new) }
         ensures stops { IfErr result (Refuses used_name self.old) }
     {
         let name = self.read_id()?;
@@ -119,7 +120,7 @@ impl<'a> Reader<'a> {
 
     /// Reads used names in braces.
     fn read_used_names(&mut self) -> ReadResult<Vec<UseName<'a>>>
-        ensures parses { IfOk result (λ it. Reads used_names self.old (map see_used it.items) self.new) }
+        ensures reads { IfOk result (λ it. Reads used_names self.old (map see_used it.items) self.new) }
         ensures stops { IfErr result (Refuses used_names self.old) }
     {
         let mut more = self.open_list(Kind::OpenBrace, Kind::CloseBrace)?;
@@ -134,7 +135,7 @@ impl<'a> Reader<'a> {
 
     /// Reads what stands behind the path of a `use`: `.{name, name as name, ..};`.
     fn read_behind_path(&mut self) -> ReadResult<Vec<UseName<'a>>>
-        ensures parses { IfOk result (λ it. Reads (Dot ▸ (used_names ◂ Semicolon)) self.old (map see_used it.items) self.new) }
+        ensures reads { IfOk result (λ it. Reads (Dot ▸ (used_names ◂ Semicolon)) self.old (map see_used it.items) self.new) }
         ensures stops { IfErr result (Refuses (Dot ▸ (used_names ◂ Semicolon)) self.old) }
     {
         self.expect(Kind::Dot)?;
@@ -146,7 +147,7 @@ impl<'a> Reader<'a> {
     /// Reads `use path.{name, name as name, ..};`.
     #[tactic(auto, unfolding(wit_grammar::specs::Rules::used))]
     pub fn read_use(&mut self, attributes: Vec<Attribute<'a>>) -> ReadResult<Use<'a>>
-        ensures parses { IfOk result (λ it. ReadsAs used (use_of (map see_attribute attributes.entry.items)) self.old (see_use it) self.new) }
+        ensures reads { IfOk result (λ it. Reads (use_after attributes.entry) self.old (see_use it) self.new) }
         ensures stops { IfErr result (Refuses used self.old) }
     {
         self.expect_word(Word::Use)?;
@@ -161,7 +162,7 @@ impl<'a> Reader<'a> {
 
     /// Reads `;`, perhaps with `as` and the local name in front of it.
     fn read_local_and_close(&mut self) -> ReadResult<Option<Id<'a>>>
-        ensures parses { IfOk result (λ it. Reads (local ◂ Semicolon) self.old (option_map see_name it) self.new) }
+        ensures reads { IfOk result (λ it. Reads (local ◂ Semicolon) self.old (option_map see_name it) self.new) }
         ensures stops { IfErr result (Refuses (local ◂ Semicolon) self.old) }
     {
         let local = self.read_local()?;
@@ -175,7 +176,7 @@ impl<'a> Reader<'a> {
         &mut self,
         attributes: Vec<Attribute<'a>>,
     ) -> ReadResult<ToplevelUse<'a>>
-        ensures parses { IfOk result (λ it. ReadsAs top_used (top_use_of (map see_attribute attributes.entry.items)) self.old (see_top_use it) self.new) }
+        ensures reads { IfOk result (λ it. Reads (top_use_after attributes.entry) self.old (see_top_use it) self.new) }
         ensures stops { IfErr result (Refuses top_used self.old) }
     {
         let span = self.read_word(Word::Use)?;

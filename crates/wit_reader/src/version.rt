@@ -1,8 +1,8 @@
 //! Reading versions.
 ghost use Rattle.std.specs.Prelude.{◌≡◌, ◌<◌, ◌≤◌, ◌-◌, length, slice_index, Err, IfOk, IfErr};
 ghost use Rattle.std.specs.Option.{option_map};
-ghost use Rattle.wit_lex.specs.Lexis.{Stops};
 ghost use Rattle.wit_grammar.specs.Leaves.{version_at};
+ghost use Rattle.wit_grammar.specs.Grammar.{version};
 ghost use Rattle.wit_grammar.specs.Rules.{at_version};
 ghost use Rattle.wit_reader.specs.Headers.{see_found};
 ghost use Rattle.wit_reader.specs.Versions.{broken_off, version_between};
@@ -29,7 +29,7 @@ fn refuse_from(source: &str, from: usize) -> ReadError
 }
 
 impl<'a> Reader<'a> {
-    ghost use Rattle.wit_reader.specs.Reading.{Parses, ReadsOn, Refuses, spot};
+    ghost use Rattle.wit_reader.specs.Reading.{Reads, ReadsOn, Refuses, spot};
 
     /// The end of the version whose first number is the token.
     #[tactic(auto, unfolding(wit_grammar::specs::Leaves::version_at))]
@@ -52,7 +52,7 @@ impl<'a> Reader<'a> {
     /// Reads `@` and a version, where there is one, and tells where it is.
     #[tactic(auto, unfolding(wit_grammar::specs::Rules::at_version, wit_grammar::specs::Leaves::mark_at))]
     pub fn read_at_version(&mut self) -> ReadResult<Option<(Span, Version)>>
-        ensures parses { IfOk result (λ it. ReadsOn at_version self.old (option_map see_found it) self.new) }
+        ensures reads { IfOk result (λ it. ReadsOn at_version self.old (option_map see_found it) self.new) }
         ensures stops { IfErr result (Refuses at_version self.old) }
     {
         if !self.at(Kind::At) {
@@ -65,8 +65,8 @@ impl<'a> Reader<'a> {
 
     /// Reads a version, and tells where it is.
     pub fn read_version(&mut self) -> ReadResult<(Span, Version)>
-        ensures parses { IfOk result (λ it. Parses self.old (version_at (spot self.old)) (see_found it) self.new) }
-        ensures stops { IfErr result (Stops (version_at (spot self.old))) }
+        ensures reads { IfOk result (λ it. Reads version self.old (see_found it) self.new) }
+        ensures stops { IfErr result (Refuses version self.old) }
     {
         let start = self.token.start;
         let end = self.find_version_end()?;

@@ -9,11 +9,11 @@ use Rattle.wit_interface_reader.proofs.function.read_params.Goals as goal
 
 pub params-init : goal.params-init
 unfolding params
-params-init c = rw c.new-params.ensures.items (listing_opened see_param (run param) OpenParen CloseParen c.in_ok-more.more c.in_ok-more.ensures.parses)
+params-init c = rw c.new-params.ensures.items (listing_opened see_param (run param) OpenParen CloseParen c.in_ok-more.more c.in_ok-more.ensures.reads)
 
 pub params-preserved : goal.params-preserved
 params-preserved c =
-    listing_more c.add.new.items.items c.in_ok-param.param c.in_ok-more-2.more (rw c.params-test.true at c.params.invariant) c.in_ok-param.ensures.reads c.in_ok-add.ensures c.in_ok-more-2.ensures.parses
+    listing_more c.add.new.items.items c.in_ok-param.param c.in_ok-more-2.more (rw c.params-test.true at c.params.invariant) c.in_ok-param.ensures.reads c.in_ok-add.ensures c.in_ok-more-2.ensures.reads
 
 pub returns-clause-reads : goal.returns-clause-reads
 returns-clause-reads c = listing_closed (rw c.params-test.false at c.params.invariant)

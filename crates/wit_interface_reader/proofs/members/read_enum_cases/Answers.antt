@@ -8,11 +8,11 @@ use Rattle.wit_reader.proofs.Lists.{listing_opened, listing_more, listing_closed
 use Rattle.wit_interface_reader.proofs.members.read_enum_cases.Goals as goal
 
 pub cases-init : goal.cases-init
-cases-init c = rw c.new-cases.ensures.items (listing_opened see_enum_case (run flag) OpenBrace CloseBrace c.in_ok-more.more c.in_ok-more.ensures.parses)
+cases-init c = rw c.new-cases.ensures.items (listing_opened see_enum_case (run flag) OpenBrace CloseBrace c.in_ok-more.more c.in_ok-more.ensures.reads)
 
 pub cases-preserved : goal.cases-preserved
 cases-preserved c =
-    listing_more c.add.new.items.items c.in_ok-case.case c.in_ok-more-2.more (rw c.cases-test.true at c.cases.invariant) c.in_ok-case.ensures.reads c.in_ok-add.ensures c.in_ok-more-2.ensures.parses
+    listing_more c.add.new.items.items c.in_ok-case.case c.in_ok-more-2.more (rw c.cases-test.true at c.cases.invariant) c.in_ok-case.ensures.reads c.in_ok-add.ensures c.in_ok-more-2.ensures.reads
 
 pub returns-clause-reads : goal.returns-clause-reads
 returns-clause-reads c = rw c.fitted.ensures (listing_closed (rw c.cases-test.false at c.cases.invariant))

@@ -8,11 +8,11 @@ use Rattle.wit_reader.proofs.Lists.{listing_opened, listing_more, listing_closed
 use Rattle.wit_interface_reader.proofs.members.read_fields.Goals as goal
 
 pub fields-init : goal.fields-init
-fields-init c = rw c.new-fields.ensures.items (listing_opened see_field (run field) OpenBrace CloseBrace c.in_ok-more.more c.in_ok-more.ensures.parses)
+fields-init c = rw c.new-fields.ensures.items (listing_opened see_field (run field) OpenBrace CloseBrace c.in_ok-more.more c.in_ok-more.ensures.reads)
 
 pub fields-preserved : goal.fields-preserved
 fields-preserved c =
-    listing_more c.add.new.items.items c.in_ok-field.field c.in_ok-more-2.more (rw c.fields-test.true at c.fields.invariant) c.in_ok-field.ensures.reads c.in_ok-add.ensures c.in_ok-more-2.ensures.parses
+    listing_more c.add.new.items.items c.in_ok-field.field c.in_ok-more-2.more (rw c.fields-test.true at c.fields.invariant) c.in_ok-field.ensures.reads c.in_ok-add.ensures c.in_ok-more-2.ensures.reads
 
 pub returns-clause-reads : goal.returns-clause-reads
 returns-clause-reads c = rw c.fitted.ensures (listing_closed (rw c.fields-test.false at c.fields.invariant))

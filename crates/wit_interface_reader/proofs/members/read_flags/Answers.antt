@@ -8,11 +8,11 @@ use Rattle.wit_reader.proofs.Lists.{listing_opened, listing_more, listing_closed
 use Rattle.wit_interface_reader.proofs.members.read_flags.Goals as goal
 
 pub flags-init : goal.flags-init
-flags-init c = rw c.new-flags.ensures.items (listing_opened see_flag (run flag) OpenBrace CloseBrace c.in_ok-more.more c.in_ok-more.ensures.parses)
+flags-init c = rw c.new-flags.ensures.items (listing_opened see_flag (run flag) OpenBrace CloseBrace c.in_ok-more.more c.in_ok-more.ensures.reads)
 
 pub flags-preserved : goal.flags-preserved
 flags-preserved c =
-    listing_more c.add.new.items.items c.in_ok-flag.flag c.in_ok-more-2.more (rw c.flags-test.true at c.flags.invariant) c.in_ok-flag.ensures.reads c.in_ok-add.ensures c.in_ok-more-2.ensures.parses
+    listing_more c.add.new.items.items c.in_ok-flag.flag c.in_ok-more-2.more (rw c.flags-test.true at c.flags.invariant) c.in_ok-flag.ensures.reads c.in_ok-add.ensures c.in_ok-more-2.ensures.reads
 
 pub returns-clause-reads : goal.returns-clause-reads
 returns-clause-reads c = rw c.fitted.ensures (listing_closed (rw c.flags-test.false at c.flags.invariant))

@@ -6,7 +6,7 @@ use Rattle.wit_interface_reader.proofs.Braces.{braces_opened, braces_more, brace
 use Rattle.wit_interface_reader.proofs.resource.read_resource_funcs.Goals as goal
 
 pub funcs-init : goal.funcs-init
-funcs-init c = rw c.new-funcs.ensures.items (braces_opened see_resource_func resource_function c.in_ok-expect.ensures.passes)
+funcs-init c = rw c.new-funcs.ensures.items (braces_opened see_resource_func resource_function c.in_ok-expect.ensures.reads)
 
 pub funcs-preserved : goal.funcs-preserved
 funcs-preserved c =
@@ -14,7 +14,7 @@ funcs-preserved c =
 
 pub returns-clause-reads : goal.returns-clause-reads
 unfolding braced_functions
-returns-clause-reads c = rw c.fitted.ensures (braces_closed resource_function c.funcs.invariant (search rules) c.in_ok-bump.ensures.passes)
+returns-clause-reads c = rw c.fitted.ensures (braces_closed resource_function c.funcs.invariant (search rules) c.in_ok-bump.ensures.reads)
 
 pub returns-in_err-func-clause-stops : goal.returns-in_err-func-clause-stops
 unfolding braced_functions

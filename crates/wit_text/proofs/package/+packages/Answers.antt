@@ -8,13 +8,13 @@ use Rattle.wit_text.proofs.Kept.{declaration_read, inner_deeper, inner_named_sto
 use Rattle.wit_text.proofs.package.+packages.Goals as goal
 
 pub pass_items-items-init : goal.pass_items-items-init
-pass_items-items-init t c = ([], braces_opened itself (item_to c.args.left) c.in_ok-expect.ensures.passes)
+pass_items-items-init t c = ([], braces_opened itself (item_to c.args.left) c.in_ok-expect.ensures.reads)
 
 pub pass_items-items-preserved : goal.pass_items-items-preserved
 pass_items-items-preserved t c = passed_more c.args.left c.items.invariant (search rules) c.in_ok-pass_item.ensures.reads
 
 pub pass_items-returns-clause-reads : goal.pass_items-returns-clause-reads
-pass_items-returns-clause-reads t c = passed_closed c.args.left c.items.invariant (search rules) c.in_ok-bump.ensures.passes
+pass_items-returns-clause-reads t c = passed_closed c.args.left c.items.invariant (search rules) c.in_ok-bump.ensures.reads
 
 pub pass_items-returns-in_err-expect-clause-stops : goal.pass_items-returns-in_err-expect-clause-stops
 pass_items-returns-in_err-expect-clause-stops t c =

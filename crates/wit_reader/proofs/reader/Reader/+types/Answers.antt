@@ -13,14 +13,14 @@ use Rattle.wit_reader.proofs.reader.Reader.+types.Goals as goal
 
 pub read_tuple-returns-clause-reads : goal.read_tuple-returns-clause-reads
 read_tuple-returns-clause-reads t c =
-    tuple_parses (types c.args.left) c.in_ok-span.span (map see_type c.in_ok-types.types.items) (seen_tuple c.in_ok-span.span c.in_ok-types.types) c.in_ok-span.ensures.parses c.in_ok-types.ensures.reads
+    tuple_parses (types c.args.left) c.in_ok-span.span (map see_type c.in_ok-types.types.items) (seen_tuple c.in_ok-span.span c.in_ok-types.types) c.in_ok-span.ensures.reads c.in_ok-types.ensures.reads
 
 pub read_types-types-init : goal.read_types-types-init
-read_types-types-init t c = rw c.new-types.ensures.items (listing_opened see_type (run (types c.args.left)) OpenAngle kind.CloseAngle c.in_ok-more.more c.in_ok-more.ensures.parses)
+read_types-types-init t c = rw c.new-types.ensures.items (listing_opened see_type (run (types c.args.left)) OpenAngle kind.CloseAngle c.in_ok-more.more c.in_ok-more.ensures.reads)
 
 pub read_types-types-preserved : goal.read_types-types-preserved
 read_types-types-preserved t c =
-    listing_more c.push.new.items.items c.in_ok-ty.ty c.in_ok-more-2.more (rw c.types-test.true at c.types.invariant) c.in_ok-ty.ensures.reads c.in_ok-push.ensures c.in_ok-more-2.ensures.parses
+    listing_more c.push.new.items.items c.in_ok-ty.ty c.in_ok-more-2.more (rw c.types-test.true at c.types.invariant) c.in_ok-ty.ensures.reads c.in_ok-push.ensures c.in_ok-more-2.ensures.reads
 
 pub read_types-returns-clause-reads : goal.read_types-returns-clause-reads
 read_types-returns-clause-reads t c = listing_closed (rw c.types-test.false at c.types.invariant)
@@ -122,7 +122,7 @@ read_type-returns-in_default-word-clause-stops t c =
 
 pub read_type-returns-in_ok-id-in-Name-clause-reads : goal.read_type-returns-in_ok-id-in-Name-clause-reads
 read_type-returns-in_ok-id-in-Name-clause-reads t c =
-    name_parses c.args.left (see_name c.in_ok-id-in-Name.id) c.if-left-eq0.false c.in-Name.is c.in_ok-id-in-Name.ensures.parses
+    name_parses c.args.left (see_name c.in_ok-id-in-Name.id) c.if-left-eq0.false c.in-Name.is c.in_ok-id-in-Name.ensures.reads
 
 pub read_type-returns-in_err-id-in-Name-clause-stops : goal.read_type-returns-in_err-id-in-Name-clause-stops
 read_type-returns-in_err-id-in-Name-clause-stops t c =

@@ -5,8 +5,8 @@ use Rattle.wit_reader.specs.Reading.{spot}
 use Rattle.wit_reader.proofs.Steps.{past_end, past_next, past_stops}
 use Rattle.wit_reader.proofs.reader.Reader.bump.Goals as goal
 
-pub returns-clause-passes : goal.returns-clause-passes
-returns-clause-passes c =
+pub returns-clause-reads : goal.returns-clause-reads
+returns-clause-reads c =
     let order = c.args.self.now.within.order in
     let front = c.args.self.now.front in
     record {

@@ -13,10 +13,10 @@ attributes-init c = rw c.new-attributes.ensures.items (several_opened see_attrib
 
 pub attributes-preserved : goal.attributes-preserved
 attributes-preserved c =
-    several_more c.add.new.items.items c.in_ok-attribute.attribute c.attributes.invariant (attribute_begins c.attributes.self true (sym c.at.ensures.same ∙ c.attributes-test.true)) c.in_ok-attribute.ensures.parses c.in_ok-add.ensures
+    several_more c.add.new.items.items c.in_ok-attribute.attribute c.attributes.invariant (attribute_begins c.attributes.self true (sym c.at.ensures.same ∙ c.attributes-test.true)) c.in_ok-attribute.ensures.reads c.in_ok-add.ensures
 
-pub returns-clause-parses : goal.returns-clause-parses
-returns-clause-parses c = several_closed c.attributes.invariant (attribute_begins c.attributes.self false (sym c.at.ensures.same ∙ c.attributes-test.false))
+pub returns-clause-reads : goal.returns-clause-reads
+returns-clause-reads c = several_closed c.attributes.invariant (attribute_begins c.attributes.self false (sym c.at.ensures.same ∙ c.attributes-test.false))
 
 pub returns-in_err-attribute-clause-stops : goal.returns-in_err-attribute-clause-stops
 returns-in_err-attribute-clause-stops c =

@@ -5,7 +5,7 @@ use Rattle.wit_reader.proofs.reader.Reader.read_number.Goals as goal
 
 pub returns-in_ok-bump-in-Ok-clause-reads : goal.returns-in_ok-bump-in-Ok-clause-reads
 returns-in_ok-bump-in-Ok-clause-reads c =
-    number_read_at c.in-Ok.number (search rules) (rw c.in-Ok.is at (number_parsed c.args.self.now c.parse.result (search rules) c.parse.ensures.value.0)) c.in_ok-bump-in-Ok.ensures.passes
+    number_read_at c.in-Ok.number (search rules) (rw c.in-Ok.is at (number_parsed c.args.self.now c.parse.result (search rules) c.parse.ensures.value.0)) c.in_ok-bump-in-Ok.ensures.reads
 
 pub returns-in_err-bump-in-Ok-clause-stops : goal.returns-in_err-bump-in-Ok-clause-stops
 returns-in_err-bump-in-Ok-clause-stops c =

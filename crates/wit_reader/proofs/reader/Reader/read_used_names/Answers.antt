@@ -9,14 +9,14 @@ use Rattle.wit_reader.proofs.reader.Reader.read_used_names.Goals as goal
 
 pub names-init : goal.names-init
 unfolding used_names
-names-init c = rw c.new-names.ensures.items (listing_opened see_used (run used_name) OpenBrace CloseBrace c.in_ok-more.more c.in_ok-more.ensures.parses)
+names-init c = rw c.new-names.ensures.items (listing_opened see_used (run used_name) OpenBrace CloseBrace c.in_ok-more.more c.in_ok-more.ensures.reads)
 
 pub names-preserved : goal.names-preserved
 names-preserved c =
-    listing_more c.add.new.items.items c.in_ok-used.used c.in_ok-more-2.more (rw c.names-test.true at c.names.invariant) c.in_ok-used.ensures.parses c.in_ok-add.ensures c.in_ok-more-2.ensures.parses
+    listing_more c.add.new.items.items c.in_ok-used.used c.in_ok-more-2.more (rw c.names-test.true at c.names.invariant) c.in_ok-used.ensures.reads c.in_ok-add.ensures c.in_ok-more-2.ensures.reads
 
-pub returns-clause-parses : goal.returns-clause-parses
-returns-clause-parses c = rw c.fitted.ensures (listing_closed (rw c.names-test.false at c.names.invariant))
+pub returns-clause-reads : goal.returns-clause-reads
+returns-clause-reads c = rw c.fitted.ensures (listing_closed (rw c.names-test.false at c.names.invariant))
 
 pub returns-in_err-used-clause-stops : goal.returns-in_err-used-clause-stops
 returns-in_err-used-clause-stops c =
@@ -26,7 +26,7 @@ returns-in_err-used-clause-stops c =
 pub returns-in_err-more-2-clause-stops : goal.returns-in_err-more-2-clause-stops
 returns-in_err-more-2-clause-stops c =
     let p = err_from_is_err_and c.from_residual-in_err-more-2.result c.from_residual-in_err-more-2.ensures.1 in
-    rw (p.1, p.2) (next_stops _ _ (rw c.names-test.true at c.names.invariant) c.in_ok-used.ensures.parses c.in_err-more-2.ensures.stops)
+    rw (p.1, p.2) (next_stops _ _ (rw c.names-test.true at c.names.invariant) c.in_ok-used.ensures.reads c.in_err-more-2.ensures.stops)
 
 pub returns-in_err-more-clause-stops : goal.returns-in_err-more-clause-stops
 unfolding used_names
