@@ -54,7 +54,7 @@ fn read_constructor<'a>(reader: &mut Reader<'a>, front: Front<'a>) -> ReadResult
     })
 }
 
-/// Goes past `static`, where it stands, and tells whether it does.
+/// Goes past `static`, where it is the token, and tells whether it is.
 #[tactic(auto, unfolding(wit_grammar::specs::ItemRules::is_static, wit_grammar::specs::Leaves::mark_at))]
 fn skip_static(reader: &mut Reader<'_>) -> ReadResult<bool>
     ensures reads { IfOk result (λ it. ReadsOn is_static reader.old it reader.new) }

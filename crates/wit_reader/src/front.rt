@@ -1,4 +1,4 @@
-//! Reading what stands in front of items.
+//! Reading what items have in front.
 ghost use Rattle.std.specs.Prelude.{map, IfOk, IfErr};
 ghost use Rattle.wit_grammar.specs.Seen.{see_attribute, see_docs, see_front};
 ghost use Rattle.wit_grammar.specs.Grammar.{docs};
@@ -11,7 +11,7 @@ use wit_lex::fault::ReadResult;
 use wit_lex::kind::Kind;
 use wit_tree::tree::{Attribute, Docs};
 
-/// What stands in front of an item.
+/// What an item has in front.
 #[derive(Drop)]
 pub struct Front<'a> {
     pub docs: Docs<'a>,

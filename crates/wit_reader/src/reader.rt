@@ -122,7 +122,7 @@ impl<'a> Reader<'a> {
         self.bump()
     }
 
-    /// Goes past a word of the grammar, and tells where it stands.
+    /// Goes past a word of the grammar, and tells where it is.
     #[inline(always)]
     #[tactic(auto, unfolding(wit_grammar::specs::Leaves::spanned_at))]
     pub fn read_word(&mut self, word: Word) -> ReadResult<Span>
@@ -190,7 +190,7 @@ impl<'a> Reader<'a> {
         }
     }
 
-    /// Reads a name and the `:` behind it.
+    /// Reads a name and the `:` after it.
     #[tactic(auto, unfolding(wit_grammar::specs::Rules::label))]
     pub fn read_label(&mut self) -> ReadResult<Id<'a>>
         ensures reads { IfOk result (λ it. Reads label self.old (see_name it) self.new) }

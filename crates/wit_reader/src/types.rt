@@ -75,7 +75,7 @@ impl<'a> Reader<'a> {
         Ok(Some(size))
     }
 
-    /// Reads a type and the token of a kind behind it.
+    /// Reads a type and the token of a kind after it.
     pub fn read_closed_type(&mut self, close: Kind) -> ReadResult<Type<'a>>
         ensures reads { IfOk result (λ it. Reads (types 100 ◂ close) self.old (see_type it) self.new) }
         ensures stops { IfErr result (Refuses (types 100 ◂ close) self.old) }
@@ -275,7 +275,7 @@ impl<'a> Reader<'a> {
         Ok(Some(payload))
     }
 
-    /// Reads a type and the token of a kind behind it, and boxes the type.
+    /// Reads a type and the token of a kind after it, and boxes the type.
     #[cycle(types)]
     fn read_boxed_before(&mut self, left: u8, close: Kind) -> ReadResult<Box<Type<'a>>>
         ensures reads { IfOk result (λ it. Reads (types left ◂ close) self.old (see_type it.value) self.new) }

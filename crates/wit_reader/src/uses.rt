@@ -18,7 +18,7 @@ use wit_tree::Span;
 use wit_tree::tree::{Attribute, Docs, Id, PackageName, ToplevelUse, Use, UseName, UsePath};
 use wit_values::{beside, fitted};
 
-/// The package that a path names, with the version that was found behind the item's name.
+/// The package that a path names, with the version that was found after the item's name.
 fn path_package<'a>(
     docs: Docs<'a>,
     namespace: Id<'a>,
@@ -51,7 +51,7 @@ fn path_package<'a>(
 impl<'a> Reader<'a> {
     ghost use Rattle.wit_reader.specs.Reading.{Reads, ReadsOn, Refuses};
 
-    /// Reads the rest of a path with a package behind the two names of that: `/name`, and perhaps a
+    /// Reads the rest of a path with a package after the two names of that: `/name`, and perhaps a
     /// version.
     #[tactic(auto, using(crate::proofs::Paths::package_seen), unfolding(wit_grammar::specs::Rules::item_path))]
     pub fn read_item_path(&mut self, first: Id<'a>, second: Id<'a>) -> ReadResult<UsePath<'a>>
@@ -66,7 +66,7 @@ impl<'a> Reader<'a> {
         Ok(UsePath::Package { id, name })
     }
 
-    /// Reads the rest of a path behind its first name: nothing, or `:name/name` with perhaps a
+    /// Reads the rest of a path after its first name: nothing, or `:name/name` with perhaps a
     /// version.
     #[tactic(auto, using(crate::proofs::Paths::rest_made), unfolding(wit_grammar::specs::Rules::rest_of_path, wit_grammar::specs::Leaves::mark_at))]
     pub fn read_rest_of_path(&mut self, first: Id<'a>) -> ReadResult<UsePath<'a>>
@@ -82,7 +82,7 @@ impl<'a> Reader<'a> {
         Ok(path)
     }
 
-    /// Reads a path: a name of the package, or `name:name/name` with perhaps a version behind it.
+    /// Reads a path: a name of the package, or `name:name/name` with perhaps a version after it.
     #[tactic(auto, unfolding(wit_grammar::specs::Rules::path))]
     pub fn read_path(&mut self) -> ReadResult<UsePath<'a>>
         ensures reads { IfOk result (λ it. Reads path self.old (see_path it) self.new) }
@@ -107,7 +107,7 @@ impl<'a> Reader<'a> {
         Ok(Some(local))
     }
 
-    /// Reads a used name, perhaps with a local name behind it.
+    /// Reads a used name, perhaps with a local name after it.
     #[tactic(auto, unfolding(wit_grammar::specs::Rules::used_name))]
     fn read_used(&mut self) -> ReadResult<UseName<'a>>
         ensures reads { IfOk result (λ it. Reads used_name self.old (see_used it) self.new) }
@@ -133,7 +133,7 @@ impl<'a> Reader<'a> {
         Ok(fitted(names))
     }
 
-    /// Reads what stands behind the path of a `use`: `.{name, name as name, ..};`.
+    /// Reads what follows the path of a `use`: `.{name, name as name, ..};`.
     fn read_behind_path(&mut self) -> ReadResult<Vec<UseName<'a>>>
         ensures reads { IfOk result (λ it. Reads (Dot ▸ (used_names ◂ Semicolon)) self.old (map see_used it.items) self.new) }
         ensures stops { IfErr result (Refuses (Dot ▸ (used_names ◂ Semicolon)) self.old) }

@@ -1,4 +1,4 @@
-//! Reading declarations, and whether a nested package stands in the place of one.
+//! Reading declarations, and whether a nested package is in the place of one.
 ghost use Rattle.std.specs.Prelude.{◌≡◌, ◌+◌, [], ◌∷◌, IfOk, IfErr};
 ghost use Rattle.wit_grammar.specs.Seen.{see_interface};
 ghost use Rattle.wit_grammar.specs.ItemRules.{interface_rule};
@@ -14,11 +14,11 @@ use wit_reader::front::Front;
 use wit_reader::reader::Reader;
 use wit_tree::tree::{AstItem, Docs, Interface};
 
-/// What stands among the items of a file or of a nested package.
+/// What is among the items of a file or of a nested package.
 #[derive(Drop)]
 pub enum PackageItem<'a> {
     Declaration(AstItem<'a>),
-    /// The docs of a nested package. The token behind them is its word `package`.
+    /// The docs of a nested package. The token after them is its word `package`.
     Package(Docs<'a>),
 }
 

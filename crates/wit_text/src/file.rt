@@ -128,7 +128,7 @@ fn read_whole<'a>(reader: &mut Reader<'a>) -> ReadResult<SourceFile<'a>>
     Ok(source_file(header, declarations, nested))
 }
 
-/// [`read_file`], of which a fault is not told yet.
+/// [`read_file`], before a fault becomes a refusal.
 fn read_source<'a>(alloc: Global, source: &'a str, offset: u32) -> ReadResult<SourceFile<'a>>
     requires fits { offset + length source.now < 2 ^ 32 }
     ensures reads { IfOk result (λ it. IsReadAs source.now offset (see_file it)) }
@@ -149,8 +149,8 @@ fn read_source<'a>(alloc: Global, source: &'a str, offset: u32) -> ReadResult<So
 /// The tree of a file whose first byte has the place `offset`.
 ///
 /// Its docs, names and words are slices of the source at their spans, which rise in the order of the
-/// tree's fields; a `%` in front of a name belongs to its span alone. The version in a path stands
-/// behind the item's name, and is in no span. Docs are the comments between two tokens that begin
+/// tree's fields; a `%` in front of a name belongs to its span alone. The version in a path is
+/// after the item's name, and in no span. Docs are the comments between two tokens that begin
 /// with `///` or `/**`; their span goes from the first to the end of the last, and is (0, 0) where
 /// there is none. That of an attribute goes from its `@` to the end of its `)`. Spans are shifted by
 /// `offset`, but for the (0, 0).
@@ -160,14 +160,14 @@ fn read_source<'a>(alloc: Global, source: &'a str, offset: u32) -> ReadResult<So
 /// name that is no label (twice the end of the source where it ends too soon), 48 at the first two
 /// bytes of a comment without end, 49 at the first word of a type or of a package that is the hundred
 /// and first of those in one another, 50 at a version that `semver` refuses, 51 at a number of items
-/// over 4,294,967,295, and 45 for want of memory.
+/// over 4,294,967,295, and 45 where memory runs out.
 ///
-/// Nested packages stand beside the declarations of the file itself, in source order. Of what is nested
+/// Nested packages are beside the declarations of the file itself, in source order. Of what is nested
 /// in one of them the names alone are kept; all is read by the same rules.
 ///
 /// A version is three numbers joined by `.`, then perhaps `-` and a run, then perhaps `+` and a run,
 /// without blanks; a run is the longest text of letters, digits, `-` and those `.` that one of these
-/// follows. Where a number or a `.` is wanted and another token stands, that token is refused.
+/// follows. Where a number or a `.` is wanted and another token is found, that token is refused.
 pub fn read_file<'a>(alloc: Global, source: &'a str, offset: u32) -> ParseResult<SourceFile<'a>>
     requires fits { offset + length source.now < 2 ^ 32 }
     ensures spelled { IfOk result (λ it. IsSpelled source.now offset (see_file it)) }

@@ -56,7 +56,7 @@ fn read_names_of_package<'a>(reader: &mut Reader<'a>) -> ReadResult<(Id<'a>, Id<
     Ok((namespace, name))
 }
 
-/// Reads `package name:name`, perhaps with a version behind the name: what stands in front of the
+/// Reads `package name:name`, perhaps with a version after the name: what is in front of the
 /// `;` of a header, or of the `{` of a nested package.
 #[tactic(auto, unfolding(wit_grammar::specs::ItemRules::package_names))]
 pub fn read_package_name<'a>(reader: &mut Reader<'a>, docs: Docs<'a>) -> ReadResult<PackageName<'a>>
@@ -153,7 +153,7 @@ fn read_nested_items<'a>(
     Ok((DeclList { items }, inner))
 }
 
-/// Reads a nested package behind its name: what stands in its braces.
+/// Reads a nested package after its name: what is in its braces.
 pub fn read_nested<'a>(
     reader: &mut Reader<'a>,
     name: PackageName<'a>,

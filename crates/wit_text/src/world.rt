@@ -59,7 +59,7 @@ fn skip_semicolon(reader: &mut Reader<'_>) -> ReadResult<bool>
     Ok(true)
 }
 
-/// Reads `;`, or `with { name as name, .. }` and perhaps a `;` behind it.
+/// Reads `;`, or `with { name as name, .. }` and perhaps a `;` after it.
 #[tactic(auto, unfolding(wit_grammar::specs::ItemRules::renames, wit_grammar::specs::Leaves::mark_at))]
 fn read_renames<'a>(reader: &mut Reader<'a>) -> ReadResult<Vec<IncludeName<'a>>>
     ensures reads { IfOk result (λ it. Reads renames reader.old (map see_renamed it.items) reader.new) }
@@ -94,7 +94,7 @@ fn read_include<'a>(
     })
 }
 
-/// Reads an import or an export, and puts it behind the other items.
+/// Reads an import or an export, and puts it after the other items.
 #[inline(never)]
 fn add_side<'a>(
     reader: &mut Reader<'a>,
@@ -109,7 +109,7 @@ fn add_side<'a>(
     Ok(())
 }
 
-/// Reads names that are used, and puts them behind the other items.
+/// Reads names that are used, and puts them after the other items.
 #[inline(never)]
 fn add_use<'a>(
     reader: &mut Reader<'a>,
@@ -124,7 +124,7 @@ fn add_use<'a>(
     Ok(())
 }
 
-/// Reads what a world includes, and puts it behind the other items.
+/// Reads what a world includes, and puts it after the other items.
 #[inline(never)]
 fn add_include<'a>(
     reader: &mut Reader<'a>,
@@ -143,7 +143,7 @@ fn add_include<'a>(
     Ok(())
 }
 
-/// Reads a definition, and puts it behind the other items.
+/// Reads a definition, and puts it after the other items.
 #[inline(never)]
 fn add_definition<'a>(
     reader: &mut Reader<'a>,
@@ -162,7 +162,7 @@ fn add_definition<'a>(
     Ok(())
 }
 
-/// Reads an item of a world, and puts it behind the others.
+/// Reads an item of a world, and puts it after the others.
 ///
 /// Each sort of item has a function of its own, so that no item takes the room of the others.
 #[tactic(auto, unfolding(wit_grammar::specs::ItemRules::world_item))]
