@@ -1,5 +1,5 @@
 //! Reading declarations, and whether a nested package is in the place of one.
-ghost use Rattle.std.specs.Prelude.{◌≡◌, ◌+◌, [], ◌∷◌, IfOk, IfErr};
+ghost use Rattle.std.specs.Prelude.{IfOk, IfErr};
 ghost use Rattle.wit_grammar.specs.Seen.{see_interface};
 ghost use Rattle.wit_grammar.specs.ItemRules.{interface_rule};
 ghost use Rattle.wit_reader.specs.Reading.{Reads, Refuses};

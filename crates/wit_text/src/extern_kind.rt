@@ -1,5 +1,5 @@
 //! Reading what worlds import and export.
-ghost use Rattle.std.specs.Prelude.{◌≡◌, ◌+◌, [], ◌∷◌, IfOk, IfErr};
+ghost use Rattle.std.specs.Prelude.{◌≡◌, IfOk, IfErr};
 ghost use Rattle.wit_grammar.specs.Grammar.{starts};
 ghost use Rattle.wit_grammar.specs.Seen.{see_kind, see_extern};
 ghost use Rattle.wit_grammar.specs.ItemRules.{inline_items, worded_function, after_second, get_or_set, after_colon, extern_kind, side, extern};

@@ -1,5 +1,5 @@
 //! Reading worlds.
-ghost use Rattle.std.specs.Prelude.{◌≡◌, ◌+◌, [], ◌∷◌, OnOk, IfOk, IfErr};
+ghost use Rattle.std.specs.Prelude.{OnOk, IfOk, IfErr};
 ghost use Rattle.std.specs.Prelude.{map};
 ghost use Rattle.wit_grammar.specs.Seen.{see_renamed, see_include, see_world_item, see_world};
 ghost use Rattle.wit_grammar.specs.Rules.{used};
