@@ -8,3 +8,4 @@ pub mod Whole
 pub mod Opened
 pub mod Examples
 pub mod Stopping
+pub mod Within

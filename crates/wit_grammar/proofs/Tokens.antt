@@ -16,7 +16,7 @@ chosen true x y z h = inl (refl, h)
 chosen false x y z h = inr (refl, h)
 
 -- ---- blanks and comments
-abbrev at_place : ℕ → Result ℕ ℕ
+abbrev pub at_place : ℕ → Result ℕ ℕ
 at_place at = Ok at
 
 same_place : (a b : ℕ) → at_place a ≡ at_place b → a ≡ b
@@ -194,7 +194,7 @@ dot_bounds at (c ∷ rest) k h = elim (chosen (c == 46) (number_from (at + 1) re
   | inr b ↦ absurd (cc)
 ]
 
-number_within : (source : List ℕ) (at k : ℕ) → at ≤ length source → dot_number source at ≡ Ok k → (at < k) × (k ≤ length source)
+pub number_within : (source : List ℕ) (at k : ℕ) → at ≤ length source → dot_number source at ≡ Ok k → (at < k) × (k ≤ length source)
 number_within source at k le h =
     let n = dot_bounds at (drop at source) k h in
     let low = n.0 in

@@ -1,5 +1,5 @@
 -- What a text spells, and that this is what is read of it.
-use Rattle.std.specs.Prelude.{◌≡◌, ◌⊎◌, ℕ, List, Ok, Err}
+use Rattle.std.specs.Prelude.{◌≡◌, ◌≤◌, ◌⊎◌, ℕ, List, length, Ok, Err}
 use Rattle.wit_lex.specs.declared.fault.ReadError.TheVariants.{Fault}
 use Rattle.wit_lex.specs.declared.fault.ReadFault.{ReadFault}
 use Rattle.wit_grammar.specs.Trees.{File}
@@ -38,3 +38,6 @@ StoppedSpellsNone = (source : List ℕ) (offset : ℕ) (fault : ReadFault) (from
 abbrev pub TreeOrFault : Type 0
 TreeOrFault =
     (source : List ℕ) (offset : ℕ) → ((tree : File) × IsSpelled source offset tree) ⊎ ((fault : ReadFault) × (from : ℕ) × (to : ℕ) × StopsAt source offset fault from to)
+
+abbrev pub FaultsLieWithin : Type 0
+FaultsLieWithin = (source : List ℕ) (offset : ℕ) (fault : ReadFault) (from to : ℕ) → StopsAt source offset fault from to → (from ≤ to) × (to ≤ length source)

@@ -193,7 +193,7 @@ pub data Declaration : Type 0 where
   of_world : (w : World) → Declaration
   of_use : (u : TopUse) → Declaration
 
--- what stands in a file, or in the braces of a package, to any depth
+-- what is in a file, or in the braces of a package, to any depth
 mutual
   pub data Item : Type 0 where
     declares : (d : Declaration) → Item

@@ -1,5 +1,5 @@
 //! What holds of the grammar: a source spells the tree that is read of it by one token, and no other.
-ghost use Rattle.wit_grammar.specs.Laws.{OneTree, ReadIsSpelled, SpelledIsRead, StoppedSpellsNone, TreeOrFault};
+ghost use Rattle.wit_grammar.specs.Laws.{FaultsLieWithin, OneTree, ReadIsSpelled, SpelledIsRead, StoppedSpellsNone, TreeOrFault};
 
 /// A tree that is read of a source by one token is spelled by it, from its beginning to its end.
 pub fn read_is_spelled()
@@ -24,4 +24,9 @@ pub fn stopped_spells_none()
 /// A source spells a tree, or reading it stops at a fault: one of the two, whatever the source, so the steps of reading suffice.
 pub fn tree_or_fault()
     ensures { TreeOrFault }
+{}
+
+/// The fault at which reading a source stops lies within the source.
+pub fn faults_lie_within()
+    ensures { FaultsLieWithin }
 {}

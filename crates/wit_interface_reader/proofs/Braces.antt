@@ -1,5 +1,5 @@
 -- Items in braces: a loop over them, up to the `}`.
-use Rattle.std.proofs.Common.{◌≡◌, suc, ◌+◌, ◌<◌, ◌≤◌, List, [], ◌∷◌, ◌++◌, length, map, ap, ◌∙◌, sym, arith, refl, true, false}
+use Rattle.std.proofs.Common.{◌≡◌, suc, List, [], ◌∷◌, ◌++◌, length, map, ap, ◌∙◌, sym, arith, refl, true, false}
 use Rattle.std.specs.Prelude.{Result, Ok, Err}
 use Rattle.wit_lex.specs.declared.fault.ReadError.{ReadError}
 use Rattle.wit_lex.specs.declared.fault.ReadError.TheVariants.{Fault, OutOfMemory}

@@ -1,6 +1,6 @@
 -- Items after what is in front of them.
-use Rattle.std.proofs.Common.{◌≡◌, ◌+◌, ◌<◌, ◌≤◌, ap, ◌∙◌, arith, refl}
-use Rattle.std.specs.Prelude.{Result, Ok, Err}
+use Rattle.std.proofs.Common.{◌≡◌, ap, ◌∙◌, arith, refl}
+use Rattle.std.specs.Prelude.{Ok, Err}
 use Rattle.wit_lex.specs.declared.fault.ReadError.{ReadError}
 use Rattle.wit_lex.specs.declared.fault.ReadError.TheVariants.{Fault, OutOfMemory}
 use Rattle.wit_lex.specs.Lexis.{Stops}

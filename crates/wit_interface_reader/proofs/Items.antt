@@ -3,7 +3,7 @@ use Rattle.std.proofs.Common.{◌≡◌, List, Option, Bool, true, false, ◌∙
 use Rattle.wit_lex.specs.declared.kind.Kind.TheVariants as kind
 use Rattle.wit_lex.specs.declared.word.Word.TheVariants as word
 use Rattle.wit_grammar.specs.Kinds.{same_kind}
-use Rattle.wit_grammar.specs.Trees.{Name, Release, Ty, Front, Parameter, Function, ResourceFunction, Body, Path, UsedName, InterfaceItem, uses, defines, has_func}
+use Rattle.wit_grammar.specs.Trees.{Name, Ty, Front, Parameter, Function, ResourceFunction, Body, Path, UsedName, InterfaceItem, uses, defines, has_func}
 use Rattle.wit_grammar.specs.Grammar.{Gram, act, either, of_kind, run, starts}
 use Rattle.wit_grammar.specs.Rules.{front, label, used, use_of}
 use Rattle.wit_grammar.specs.ItemRules.{constructed, maker_of, member, member_of, named_function, named_func_of, definition, definition_of}

@@ -2,4 +2,3 @@ pub mod Items
 pub mod Fronted
 pub mod Braces
 pub mod Definitions
-pub mod Words

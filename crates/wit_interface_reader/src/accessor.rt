@@ -1,11 +1,10 @@
 //! Reading the words that functions begin with.
-ghost use Rattle.std.specs.Prelude.{◌≡◌, [], ◌∷◌, IfOk, IfErr};
-ghost use Rattle.wit_type_tree.specs.Marks.{named, spelled, form_word};
+ghost use Rattle.std.specs.Prelude.{◌≡◌, IfOk, IfErr};
 ghost use Rattle.wit_grammar.specs.Seen.{see_name};
 ghost use Rattle.wit_grammar.specs.Grammar.{starts};
 ghost use Rattle.wit_grammar.specs.Rules.{accessor, func_word, form};
 ghost use Rattle.wit_grammar.specs.ItemRules.{accessor_name};
-ghost use Rattle.wit_reader.specs.Reading.{IsRead, IsRefused, Reads, Refuses, spot};
+ghost use Rattle.wit_reader.specs.Reading.{Reads, Refuses, spot};
 
 use wit_lex::fault::ReadResult;
 use wit_lex::word::Word;
@@ -24,9 +23,6 @@ pub fn at_accessor(reader: &Reader<'_>) -> bool
 /// Reads `get` or `set`, as a name, and tells the form of a function that it begins.
 #[tactic(auto, unfolding(wit_grammar::specs::Rules::accessor))]
 pub fn read_accessor<'a>(reader: &mut Reader<'a>) -> ReadResult<(Id<'a>, FuncForm)>
-    ensures read { IfOk result (λ r. IsRead reader.old (named r.0 ∷ []) reader.new) }
-    ensures word { IfOk result (λ r. IsRead reader.old (spelled r.0.span (form_word r.1) ∷ []) reader.new) }
-    ensures refused { IfErr result (λ e. IsRefused reader.old e) }
     ensures reads { IfOk result (λ it. Reads accessor reader.old (it.0.span, it.1) reader.new) }
     ensures name { IfOk result (λ it. see_name it.0 ≡ accessor_name (it.0.span, it.1)) }
     ensures stops { IfErr result (Refuses accessor reader.old) }
@@ -42,8 +38,6 @@ pub fn read_accessor<'a>(reader: &mut Reader<'a>) -> ReadResult<(Id<'a>, FuncFor
 /// Reads `func` or `async func`, and tells where `func` is.
 #[tactic(auto, unfolding(wit_grammar::specs::Rules::func_word, wit_grammar::specs::Leaves::mark_at))]
 pub fn read_func_word(reader: &mut Reader<'_>) -> ReadResult<(Span, FuncForm)>
-    ensures read { IfOk result (λ r. IsRead reader.old (spelled r.0 (form_word r.1) ∷ []) reader.new) }
-    ensures refused { IfErr result (λ e. IsRefused reader.old e) }
     ensures reads { IfOk result (λ it. Reads func_word reader.old it reader.new) }
     ensures stops { IfErr result (Refuses func_word reader.old) }
 {
@@ -60,8 +54,6 @@ pub fn read_func_word(reader: &mut Reader<'_>) -> ReadResult<(Span, FuncForm)>
 /// `async`.
 #[tactic(auto, unfolding(wit_grammar::specs::Rules::form))]
 pub fn read_form(reader: &mut Reader<'_>) -> ReadResult<(Span, FuncForm)>
-    ensures read { IfOk result (λ r. IsRead reader.old (spelled r.0 (form_word r.1) ∷ []) reader.new) }
-    ensures refused { IfErr result (λ e. IsRefused reader.old e) }
     ensures reads { IfOk result (λ it. Reads form reader.old it reader.new) }
     ensures stops { IfErr result (Refuses form reader.old) }
 {

@@ -1,13 +1,10 @@
 //! Reading definitions of types, and the items of an interface.
-ghost use Rattle.std.specs.Prelude.{◌≡◌, ◌+◌, [], ◌∷◌, map, IfOk, IfErr};
-ghost use Rattle.std.specs.List.{flat_map};
-ghost use Rattle.wit_type_tree.specs.Marks.{front_marks, defined_marks, definition_marks};
-ghost use Rattle.wit_tree.specs.Marks.{item_marks};
-ghost use Rattle.wit_grammar.specs.Seen.{see_name, see_body, see_definition, see_item};
+ghost use Rattle.std.specs.Prelude.{map, IfOk, IfErr};
+ghost use Rattle.wit_grammar.specs.Seen.{see_definition, see_item};
 ghost use Rattle.wit_grammar.specs.ItemRules.{alias_definition, record_definition, flags_definition, variant_definition, enum_definition, definition, interface_item, interface_items};
-ghost use Rattle.wit_reader.specs.Fronts.{IsReadBehind};
-ghost use Rattle.wit_reader.specs.Reading.{IsRead, IsRefused, Reads, Refuses};
+ghost use Rattle.wit_reader.specs.Reading.{Reads, Refuses};
 ghost use Rattle.wit_interface_reader.specs.After.{defined_after};
+ghost use Rattle.wit_interface_reader.specs.Parts.{see_defined};
 
 use crate::function::read_named_func;
 use crate::members::{read_cases, read_enum_cases, read_fields, read_flags};
@@ -24,9 +21,7 @@ use wit_values::fitted;
 /// Reads `type name = type;`.
 #[tactic(auto, unfolding(wit_grammar::specs::ItemRules::alias_definition))]
 fn read_alias<'a>(reader: &mut Reader<'a>) -> ReadResult<(Id<'a>, TypeBody<'a>)>
-    ensures read { IfOk result (λ d. IsRead reader.old (defined_marks d.0 d.1) reader.new) }
-    ensures refused { IfErr result (λ e. IsRefused reader.old e) }
-    ensures reads { IfOk result (λ it. Reads alias_definition reader.old (see_name it.0, see_body it.1) reader.new) }
+    ensures reads { IfOk result (λ it. Reads alias_definition reader.old (see_defined it) reader.new) }
     ensures stops { IfErr result (Refuses alias_definition reader.old) }
 {
     reader.expect_word(Word::Type)?;
@@ -39,9 +34,7 @@ fn read_alias<'a>(reader: &mut Reader<'a>) -> ReadResult<(Id<'a>, TypeBody<'a>)>
 /// Reads `record name { name: type, .. }`.
 #[tactic(auto, unfolding(wit_grammar::specs::ItemRules::record_definition))]
 fn read_record<'a>(reader: &mut Reader<'a>) -> ReadResult<(Id<'a>, TypeBody<'a>)>
-    ensures read { IfOk result (λ d. IsRead reader.old (defined_marks d.0 d.1) reader.new) }
-    ensures refused { IfErr result (λ e. IsRefused reader.old e) }
-    ensures reads { IfOk result (λ it. Reads record_definition reader.old (see_name it.0, see_body it.1) reader.new) }
+    ensures reads { IfOk result (λ it. Reads record_definition reader.old (see_defined it) reader.new) }
     ensures stops { IfErr result (Refuses record_definition reader.old) }
 {
     reader.expect_word(Word::Record)?;
@@ -54,9 +47,7 @@ fn read_record<'a>(reader: &mut Reader<'a>) -> ReadResult<(Id<'a>, TypeBody<'a>)
 /// Reads `flags name { name, .. }`.
 #[tactic(auto, unfolding(wit_grammar::specs::ItemRules::flags_definition))]
 fn read_flags_definition<'a>(reader: &mut Reader<'a>) -> ReadResult<(Id<'a>, TypeBody<'a>)>
-    ensures read { IfOk result (λ d. IsRead reader.old (defined_marks d.0 d.1) reader.new) }
-    ensures refused { IfErr result (λ e. IsRefused reader.old e) }
-    ensures reads { IfOk result (λ it. Reads flags_definition reader.old (see_name it.0, see_body it.1) reader.new) }
+    ensures reads { IfOk result (λ it. Reads flags_definition reader.old (see_defined it) reader.new) }
     ensures stops { IfErr result (Refuses flags_definition reader.old) }
 {
     reader.expect_word(Word::Flags)?;
@@ -69,9 +60,7 @@ fn read_flags_definition<'a>(reader: &mut Reader<'a>) -> ReadResult<(Id<'a>, Typ
 /// Reads `variant name { name(type), .. }`, where a case may have no type.
 #[tactic(auto, unfolding(wit_grammar::specs::ItemRules::variant_definition))]
 fn read_variant<'a>(reader: &mut Reader<'a>) -> ReadResult<(Id<'a>, TypeBody<'a>)>
-    ensures read { IfOk result (λ d. IsRead reader.old (defined_marks d.0 d.1) reader.new) }
-    ensures refused { IfErr result (λ e. IsRefused reader.old e) }
-    ensures reads { IfOk result (λ it. Reads variant_definition reader.old (see_name it.0, see_body it.1) reader.new) }
+    ensures reads { IfOk result (λ it. Reads variant_definition reader.old (see_defined it) reader.new) }
     ensures stops { IfErr result (Refuses variant_definition reader.old) }
 {
     reader.expect_word(Word::Variant)?;
@@ -84,9 +73,7 @@ fn read_variant<'a>(reader: &mut Reader<'a>) -> ReadResult<(Id<'a>, TypeBody<'a>
 /// Reads `enum name { name, .. }`.
 #[tactic(auto, unfolding(wit_grammar::specs::ItemRules::enum_definition))]
 fn read_enum<'a>(reader: &mut Reader<'a>) -> ReadResult<(Id<'a>, TypeBody<'a>)>
-    ensures read { IfOk result (λ d. IsRead reader.old (defined_marks d.0 d.1) reader.new) }
-    ensures refused { IfErr result (λ e. IsRefused reader.old e) }
-    ensures reads { IfOk result (λ it. Reads enum_definition reader.old (see_name it.0, see_body it.1) reader.new) }
+    ensures reads { IfOk result (λ it. Reads enum_definition reader.old (see_defined it) reader.new) }
     ensures stops { IfErr result (Refuses enum_definition reader.old) }
 {
     reader.expect_word(Word::Enum)?;
@@ -99,9 +86,7 @@ fn read_enum<'a>(reader: &mut Reader<'a>) -> ReadResult<(Id<'a>, TypeBody<'a>)>
 /// Reads the name and the body of a definition.
 #[tactic(auto, unfolding(wit_grammar::specs::ItemRules::definition))]
 fn read_body<'a>(reader: &mut Reader<'a>) -> ReadResult<(Id<'a>, TypeBody<'a>)>
-    ensures read { IfOk result (λ d. IsRead reader.old (defined_marks d.0 d.1) reader.new) }
-    ensures refused { IfErr result (λ e. IsRefused reader.old e) }
-    ensures reads { IfOk result (λ it. Reads definition reader.old (see_name it.0, see_body it.1) reader.new) }
+    ensures reads { IfOk result (λ it. Reads definition reader.old (see_defined it) reader.new) }
     ensures stops { IfErr result (Refuses definition reader.old) }
 {
     if reader.at_word(Word::Type) {
@@ -124,8 +109,6 @@ fn read_body<'a>(reader: &mut Reader<'a>) -> ReadResult<(Id<'a>, TypeBody<'a>)>
 
 /// Reads a definition, of an interface or of a world.
 pub fn read_definition<'a>(reader: &mut Reader<'a>, front: Front<'a>) -> ReadResult<TypeDef<'a>>
-    ensures read { IfOk result (λ d. IsReadBehind reader.old (front_marks front.entry.docs front.entry.attributes.items) (definition_marks d) reader.new) }
-    ensures refused { IfErr result (λ e. IsRefused reader.old e) }
     ensures reads { IfOk result (λ it. Reads (defined_after front.entry) reader.old (see_definition it) reader.new) }
     ensures stops { IfErr result (Refuses definition reader.old) }
 {
@@ -141,8 +124,6 @@ pub fn read_definition<'a>(reader: &mut Reader<'a>, front: Front<'a>) -> ReadRes
 /// Reads an item of an interface.
 #[tactic(auto, unfolding(wit_grammar::specs::ItemRules::interface_item))]
 fn read_item<'a>(reader: &mut Reader<'a>) -> ReadResult<InterfaceItem<'a>>
-    ensures read { IfOk result (λ item. IsRead reader.old (item_marks item) reader.new) }
-    ensures refused { IfErr result (λ e. IsRefused reader.old e) }
     ensures reads { IfOk result (λ it. Reads interface_item reader.old (see_item it) reader.new) }
     ensures stops { IfErr result (Refuses interface_item reader.old) }
 {
@@ -162,8 +143,6 @@ fn read_item<'a>(reader: &mut Reader<'a>) -> ReadResult<InterfaceItem<'a>>
 /// Reads the items of an interface in braces.
 #[tactic(auto, unfolding(wit_grammar::specs::ItemRules::interface_items))]
 pub fn read_interface_items<'a>(reader: &mut Reader<'a>) -> ReadResult<Vec<InterfaceItem<'a>>>
-    ensures read { IfOk result (λ items. IsRead reader.old (flat_map item_marks items.items) reader.new) }
-    ensures refused { IfErr result (λ e. IsRefused reader.old e) }
     ensures reads { IfOk result (λ it. Reads interface_items reader.old (map see_item it.items) reader.new) }
     ensures stops { IfErr result (Refuses interface_items reader.old) }
 {

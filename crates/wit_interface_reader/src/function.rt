@@ -1,14 +1,12 @@
 //! Reading functions.
-ghost use Rattle.std.specs.Prelude.{◌≡◌, ◌+◌, [], ◌∷◌, ◌++◌, map, IfOk, IfErr};
-ghost use Rattle.std.specs.List.{flat_map};
+ghost use Rattle.std.specs.Prelude.{map, IfOk, IfErr};
 ghost use Rattle.std.specs.Option.{option_map};
-ghost use Rattle.wit_type_tree.specs.Marks.{front_marks, param_marks, payload_marks, func_marks, named_func_marks};
 ghost use Rattle.wit_grammar.specs.Seen.{see_type, see_param, see_func, see_named_func};
 ghost use Rattle.wit_grammar.specs.Rules.{param, params, returned, signature, function};
 ghost use Rattle.wit_grammar.specs.ItemRules.{closed_function, closed_signature, named_function};
-ghost use Rattle.wit_reader.specs.Fronts.{IsReadBehind};
-ghost use Rattle.wit_reader.specs.Reading.{IsRead, IsReadOn, IsRefused, Reads, ReadsOn, Refuses};
+ghost use Rattle.wit_reader.specs.Reading.{Reads, ReadsOn, Refuses};
 ghost use Rattle.wit_interface_reader.specs.After.{named_after};
+ghost use Rattle.wit_interface_reader.specs.Parts.{see_signature};
 
 use crate::accessor::read_form;
 use wit_lex::fault::ReadResult;
@@ -21,8 +19,6 @@ use wit_tree::tree::{Func, NamedFunc, Param, Type};
 
 #[tactic(auto, unfolding(wit_grammar::specs::Rules::param))]
 fn read_param<'a>(reader: &mut Reader<'a>) -> ReadResult<Param<'a>>
-    ensures read { IfOk result (λ p. IsRead reader.old (param_marks p) reader.new) }
-    ensures refused { IfErr result (λ e. IsRefused reader.old e) }
     ensures reads { IfOk result (λ it. Reads param reader.old (see_param it) reader.new) }
     ensures stops { IfErr result (Refuses param reader.old) }
 {
@@ -34,8 +30,6 @@ fn read_param<'a>(reader: &mut Reader<'a>) -> ReadResult<Param<'a>>
 /// Reads parameters in parentheses.
 #[tactic(auto, unfolding(wit_grammar::specs::Rules::params))]
 fn read_params<'a>(reader: &mut Reader<'a>) -> ReadResult<Vec<Param<'a>>>
-    ensures read { IfOk result (λ ps. IsRead reader.old (flat_map param_marks ps.items) reader.new) }
-    ensures refused { IfErr result (λ e. IsRefused reader.old e) }
     ensures reads { IfOk result (λ it. Reads params reader.old (map see_param it.items) reader.new) }
     ensures stops { IfErr result (Refuses params reader.old) }
 {
@@ -52,8 +46,6 @@ fn read_params<'a>(reader: &mut Reader<'a>) -> ReadResult<Vec<Param<'a>>>
 /// Reads `->` and the type of what a function returns, where there is one.
 #[tactic(auto, unfolding(wit_grammar::specs::Rules::returned, wit_grammar::specs::Leaves::mark_at))]
 fn read_returned<'a>(reader: &mut Reader<'a>) -> ReadResult<Option<Type<'a>>>
-    ensures read { IfOk result (λ ty. IsReadOn reader.old (payload_marks ty) reader.new) }
-    ensures refused { IfErr result (λ e. IsRefused reader.old e) }
     ensures reads { IfOk result (λ it. ReadsOn returned reader.old (option_map see_type it) reader.new) }
     ensures stops { IfErr result (Refuses returned reader.old) }
 {
@@ -68,9 +60,7 @@ fn read_returned<'a>(reader: &mut Reader<'a>) -> ReadResult<Option<Type<'a>>>
 /// Reads parameters in parentheses, and the type of what a function returns, where there is one.
 #[tactic(auto, unfolding(wit_grammar::specs::Rules::signature))]
 pub fn read_signature<'a>(reader: &mut Reader<'a>) -> ReadResult<(Vec<Param<'a>>, Option<Type<'a>>)>
-    ensures read { IfOk result (λ r. IsRead reader.old (flat_map param_marks r.0.items ++ payload_marks r.1) reader.new) }
-    ensures refused { IfErr result (λ e. IsRefused reader.old e) }
-    ensures reads { IfOk result (λ it. Reads signature reader.old (map see_param it.0.items, option_map see_type it.1) reader.new) }
+    ensures reads { IfOk result (λ it. Reads signature reader.old (see_signature it) reader.new) }
     ensures stops { IfErr result (Refuses signature reader.old) }
 {
     let params = read_params(reader)?;
@@ -83,9 +73,7 @@ pub fn read_signature<'a>(reader: &mut Reader<'a>) -> ReadResult<(Vec<Param<'a>>
 pub fn read_closed_signature<'a>(
     reader: &mut Reader<'a>,
 ) -> ReadResult<(Vec<Param<'a>>, Option<Type<'a>>)>
-    ensures read { IfOk result (λ r. IsRead reader.old (flat_map param_marks r.0.items ++ payload_marks r.1) reader.new) }
-    ensures refused { IfErr result (λ e. IsRefused reader.old e) }
-    ensures reads { IfOk result (λ it. Reads closed_signature reader.old (map see_param it.0.items, option_map see_type it.1) reader.new) }
+    ensures reads { IfOk result (λ it. Reads closed_signature reader.old (see_signature it) reader.new) }
     ensures stops { IfErr result (Refuses closed_signature reader.old) }
 {
     let signature = read_signature(reader)?;
@@ -96,8 +84,6 @@ pub fn read_closed_signature<'a>(
 /// Reads a function without its name.
 #[tactic(auto, unfolding(wit_grammar::specs::Rules::function))]
 pub fn read_func<'a>(reader: &mut Reader<'a>) -> ReadResult<Func<'a>>
-    ensures read { IfOk result (λ f. IsRead reader.old (func_marks f) reader.new) }
-    ensures refused { IfErr result (λ e. IsRefused reader.old e) }
     ensures reads { IfOk result (λ it. Reads function reader.old (see_func it) reader.new) }
     ensures stops { IfErr result (Refuses function reader.old) }
 {
@@ -114,8 +100,6 @@ pub fn read_func<'a>(reader: &mut Reader<'a>) -> ReadResult<Func<'a>>
 /// Reads a function without its name, and the `;` after it.
 #[tactic(auto, unfolding(wit_grammar::specs::ItemRules::closed_function))]
 pub fn read_closed_func<'a>(reader: &mut Reader<'a>) -> ReadResult<Func<'a>>
-    ensures read { IfOk result (λ f. IsRead reader.old (func_marks f) reader.new) }
-    ensures refused { IfErr result (λ e. IsRefused reader.old e) }
     ensures reads { IfOk result (λ it. Reads closed_function reader.old (see_func it) reader.new) }
     ensures stops { IfErr result (Refuses closed_function reader.old) }
 {
@@ -127,8 +111,6 @@ pub fn read_closed_func<'a>(reader: &mut Reader<'a>) -> ReadResult<Func<'a>>
 /// Reads `name: function;`.
 #[tactic(auto, unfolding(wit_grammar::specs::ItemRules::named_function))]
 pub fn read_named_func<'a>(reader: &mut Reader<'a>, front: Front<'a>) -> ReadResult<NamedFunc<'a>>
-    ensures read { IfOk result (λ f. IsReadBehind reader.old (front_marks front.entry.docs front.entry.attributes.items) (named_func_marks f) reader.new) }
-    ensures refused { IfErr result (λ e. IsRefused reader.old e) }
     ensures reads { IfOk result (λ it. Reads (named_after front.entry) reader.old (see_named_func it) reader.new) }
     ensures stops { IfErr result (Refuses named_function reader.old) }
 {

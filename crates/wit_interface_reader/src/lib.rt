@@ -1,4 +1,4 @@
-//! Reading what stands in an interface: functions, definitions of types, and resources.
+//! Reading what is in an interface: functions, definitions of types, and resources.
 #![tactic(auto)]
 
 pub mod accessor;

@@ -1,13 +1,10 @@
 //! Reading fields, flags and cases.
-ghost use Rattle.std.specs.Prelude.{◌≡◌, ◌+◌, [], ◌∷◌, map, IfOk, IfErr};
-ghost use Rattle.std.specs.List.{flat_map};
+ghost use Rattle.std.specs.Prelude.{map, IfOk, IfErr};
 ghost use Rattle.std.specs.Option.{option_map};
-ghost use Rattle.wit_type_tree.specs.Marks.{field_marks, flag_marks, payload_marks, case_marks, enum_case_marks};
-ghost use Rattle.wit_lex.specs.declared.kind.Kind.TheVariants.{OpenBrace, CloseBrace};
 ghost use Rattle.wit_grammar.specs.Seen.{see_type, see_field, see_flag, see_case, see_enum_case};
-ghost use Rattle.wit_grammar.specs.Grammar.{listed};
 ghost use Rattle.wit_grammar.specs.ItemRules.{field, flag, case, case_type};
-ghost use Rattle.wit_reader.specs.Reading.{IsRead, IsReadOn, IsRefused, Reads, ReadsOn, Refuses};
+ghost use Rattle.wit_reader.specs.Reading.{Reads, ReadsOn, Refuses};
+ghost use Rattle.wit_interface_reader.specs.Parts.{braced_list};
 
 use wit_lex::fault::ReadResult;
 use wit_lex::kind::Kind;
@@ -19,8 +16,6 @@ use wit_values::fitted;
 
 #[tactic(auto, unfolding(wit_grammar::specs::ItemRules::field))]
 fn read_field<'a>(reader: &mut Reader<'a>) -> ReadResult<Field<'a>>
-    ensures read { IfOk result (λ f. IsRead reader.old (field_marks f) reader.new) }
-    ensures refused { IfErr result (λ e. IsRefused reader.old e) }
     ensures reads { IfOk result (λ it. Reads field reader.old (see_field it) reader.new) }
     ensures stops { IfErr result (Refuses field reader.old) }
 {
@@ -33,10 +28,8 @@ fn read_field<'a>(reader: &mut Reader<'a>) -> ReadResult<Field<'a>>
 /// Reads fields in braces.
 #[tactic(auto, unfolding(wit_grammar::specs::Grammar::listed_at))]
 pub fn read_fields<'a>(reader: &mut Reader<'a>) -> ReadResult<Vec<Field<'a>>>
-    ensures read { IfOk result (λ fs. IsRead reader.old (flat_map field_marks fs.items) reader.new) }
-    ensures refused { IfErr result (λ e. IsRefused reader.old e) }
-    ensures reads { IfOk result (λ it. Reads (listed OpenBrace CloseBrace field) reader.old (map see_field it.items) reader.new) }
-    ensures stops { IfErr result (Refuses (listed OpenBrace CloseBrace field) reader.old) }
+    ensures reads { IfOk result (λ it. Reads (braced_list field) reader.old (map see_field it.items) reader.new) }
+    ensures stops { IfErr result (Refuses (braced_list field) reader.old) }
 {
     let mut more = reader.open_list(Kind::OpenBrace, Kind::CloseBrace)?;
     let mut fields = Vec::new(reader.alloc);
@@ -50,8 +43,6 @@ pub fn read_fields<'a>(reader: &mut Reader<'a>) -> ReadResult<Vec<Field<'a>>>
 
 #[tactic(auto, unfolding(wit_grammar::specs::ItemRules::flag))]
 fn read_flag<'a>(reader: &mut Reader<'a>) -> ReadResult<Flag<'a>>
-    ensures read { IfOk result (λ f. IsRead reader.old (flag_marks f) reader.new) }
-    ensures refused { IfErr result (λ e. IsRefused reader.old e) }
     ensures reads { IfOk result (λ it. Reads flag reader.old (see_flag it) reader.new) }
     ensures stops { IfErr result (Refuses flag reader.old) }
 {
@@ -63,10 +54,8 @@ fn read_flag<'a>(reader: &mut Reader<'a>) -> ReadResult<Flag<'a>>
 /// Reads flags in braces.
 #[tactic(auto, unfolding(wit_grammar::specs::Grammar::listed_at))]
 pub fn read_flags<'a>(reader: &mut Reader<'a>) -> ReadResult<Vec<Flag<'a>>>
-    ensures read { IfOk result (λ f. IsRead reader.old (flat_map flag_marks f.items) reader.new) }
-    ensures refused { IfErr result (λ e. IsRefused reader.old e) }
-    ensures reads { IfOk result (λ it. Reads (listed OpenBrace CloseBrace flag) reader.old (map see_flag it.items) reader.new) }
-    ensures stops { IfErr result (Refuses (listed OpenBrace CloseBrace flag) reader.old) }
+    ensures reads { IfOk result (λ it. Reads (braced_list flag) reader.old (map see_flag it.items) reader.new) }
+    ensures stops { IfErr result (Refuses (braced_list flag) reader.old) }
 {
     let mut more = reader.open_list(Kind::OpenBrace, Kind::CloseBrace)?;
     let mut flags = Vec::new(reader.alloc);
@@ -81,8 +70,6 @@ pub fn read_flags<'a>(reader: &mut Reader<'a>) -> ReadResult<Vec<Flag<'a>>>
 /// Reads the type that a case holds, in parentheses, where there is one.
 #[tactic(auto, unfolding(wit_grammar::specs::ItemRules::case_type, wit_grammar::specs::Leaves::mark_at))]
 fn read_held<'a>(reader: &mut Reader<'a>) -> ReadResult<Option<Type<'a>>>
-    ensures read { IfOk result (λ ty. IsReadOn reader.old (payload_marks ty) reader.new) }
-    ensures refused { IfErr result (λ e. IsRefused reader.old e) }
     ensures reads { IfOk result (λ it. ReadsOn case_type reader.old (option_map see_type it) reader.new) }
     ensures stops { IfErr result (Refuses case_type reader.old) }
 {
@@ -96,8 +83,6 @@ fn read_held<'a>(reader: &mut Reader<'a>) -> ReadResult<Option<Type<'a>>>
 
 #[tactic(auto, unfolding(wit_grammar::specs::ItemRules::case))]
 fn read_case<'a>(reader: &mut Reader<'a>) -> ReadResult<Case<'a>>
-    ensures read { IfOk result (λ c. IsRead reader.old (case_marks c) reader.new) }
-    ensures refused { IfErr result (λ e. IsRefused reader.old e) }
     ensures reads { IfOk result (λ it. Reads case reader.old (see_case it) reader.new) }
     ensures stops { IfErr result (Refuses case reader.old) }
 {
@@ -110,10 +95,8 @@ fn read_case<'a>(reader: &mut Reader<'a>) -> ReadResult<Case<'a>>
 /// Reads the cases of a variant in braces.
 #[tactic(auto, unfolding(wit_grammar::specs::Grammar::listed_at))]
 pub fn read_cases<'a>(reader: &mut Reader<'a>) -> ReadResult<Vec<Case<'a>>>
-    ensures read { IfOk result (λ c. IsRead reader.old (flat_map case_marks c.items) reader.new) }
-    ensures refused { IfErr result (λ e. IsRefused reader.old e) }
-    ensures reads { IfOk result (λ it. Reads (listed OpenBrace CloseBrace case) reader.old (map see_case it.items) reader.new) }
-    ensures stops { IfErr result (Refuses (listed OpenBrace CloseBrace case) reader.old) }
+    ensures reads { IfOk result (λ it. Reads (braced_list case) reader.old (map see_case it.items) reader.new) }
+    ensures stops { IfErr result (Refuses (braced_list case) reader.old) }
 {
     let mut more = reader.open_list(Kind::OpenBrace, Kind::CloseBrace)?;
     let mut cases = Vec::new(reader.alloc);
@@ -127,8 +110,6 @@ pub fn read_cases<'a>(reader: &mut Reader<'a>) -> ReadResult<Vec<Case<'a>>>
 
 #[tactic(auto, unfolding(wit_grammar::specs::ItemRules::flag))]
 fn read_enum_case<'a>(reader: &mut Reader<'a>) -> ReadResult<EnumCase<'a>>
-    ensures read { IfOk result (λ c. IsRead reader.old (enum_case_marks c) reader.new) }
-    ensures refused { IfErr result (λ e. IsRefused reader.old e) }
     ensures reads { IfOk result (λ it. Reads flag reader.old (see_enum_case it) reader.new) }
     ensures stops { IfErr result (Refuses flag reader.old) }
 {
@@ -140,10 +121,8 @@ fn read_enum_case<'a>(reader: &mut Reader<'a>) -> ReadResult<EnumCase<'a>>
 /// Reads the cases of an enum in braces.
 #[tactic(auto, unfolding(wit_grammar::specs::Grammar::listed_at))]
 pub fn read_enum_cases<'a>(reader: &mut Reader<'a>) -> ReadResult<Vec<EnumCase<'a>>>
-    ensures read { IfOk result (λ c. IsRead reader.old (flat_map enum_case_marks c.items) reader.new) }
-    ensures refused { IfErr result (λ e. IsRefused reader.old e) }
-    ensures reads { IfOk result (λ it. Reads (listed OpenBrace CloseBrace flag) reader.old (map see_enum_case it.items) reader.new) }
-    ensures stops { IfErr result (Refuses (listed OpenBrace CloseBrace flag) reader.old) }
+    ensures reads { IfOk result (λ it. Reads (braced_list flag) reader.old (map see_enum_case it.items) reader.new) }
+    ensures stops { IfErr result (Refuses (braced_list flag) reader.old) }
 {
     let mut more = reader.open_list(Kind::OpenBrace, Kind::CloseBrace)?;
     let mut cases = Vec::new(reader.alloc);

@@ -1,12 +1,10 @@
 //! Reading resources.
-ghost use Rattle.std.specs.Prelude.{◌≡◌, ◌+◌, [], ◌∷◌, ◌++◌, map, IfOk, IfErr};
-ghost use Rattle.std.specs.List.{flat_map};
-ghost use Rattle.wit_type_tree.specs.Marks.{named, front_marks, func_marks, resource_func_marks, defined_marks};
-ghost use Rattle.wit_grammar.specs.Seen.{see_name, see_body, see_func, see_resource_func};
+ghost use Rattle.std.specs.Prelude.{◌≡◌, map, IfOk, IfErr};
+ghost use Rattle.wit_grammar.specs.Seen.{see_name, see_func, see_resource_func};
 ghost use Rattle.wit_grammar.specs.ItemRules.{constructed, is_static, member, member_of, braced_functions, resource_function, resource_body, resource_definition};
-ghost use Rattle.wit_reader.specs.Fronts.{IsReadBehind};
-ghost use Rattle.wit_reader.specs.Reading.{IsRead, IsReadOn, IsRefused, Reads, ReadsOn, Refuses};
+ghost use Rattle.wit_reader.specs.Reading.{Reads, ReadsOn, Refuses};
 ghost use Rattle.wit_interface_reader.specs.After.{front_of, constructed_after, member_after};
+ghost use Rattle.wit_interface_reader.specs.Parts.{see_defined};
 
 use crate::function::{read_closed_func, read_closed_signature};
 use wit_lex::fault::ReadResult;
@@ -24,8 +22,7 @@ fn resource_func<'a>(
     name: Id<'a>,
     func: Func<'a>,
 ) -> ResourceFunc<'a>
-    ensures marks { resource_func_marks result ≡ front_marks front.entry.docs front.entry.attributes.items ++ named name.entry ∷ func_marks func.entry }
-    ensures seen { see_resource_func result ≡ member_of (front_of front.entry) (see_name name.entry, is_static, see_func func.entry) }
+    ensures { see_resource_func result ≡ member_of (front_of front.entry) (see_name name.entry, is_static, see_func func.entry) }
 {
     let named = NamedFunc {
         docs: front.docs,
@@ -43,8 +40,6 @@ fn resource_func<'a>(
 /// Reads `constructor(..);`, perhaps with the type of what it returns.
 #[tactic(auto, unfolding(wit_grammar::specs::ItemRules::constructed))]
 fn read_constructor<'a>(reader: &mut Reader<'a>, front: Front<'a>) -> ReadResult<ResourceFunc<'a>>
-    ensures read { IfOk result (λ f. IsReadBehind reader.old (front_marks front.entry.docs front.entry.attributes.items) (resource_func_marks f) reader.new) }
-    ensures refused { IfErr result (λ e. IsRefused reader.old e) }
     ensures reads { IfOk result (λ it. Reads (constructed_after front.entry) reader.old (see_resource_func it) reader.new) }
     ensures stops { IfErr result (Refuses constructed reader.old) }
 {
@@ -59,11 +54,9 @@ fn read_constructor<'a>(reader: &mut Reader<'a>, front: Front<'a>) -> ReadResult
     })
 }
 
-/// Goes past `static`, where it stands, and tells whether it does.
+/// Goes past `static`, where it is the token, and tells whether it is.
 #[tactic(auto, unfolding(wit_grammar::specs::ItemRules::is_static, wit_grammar::specs::Leaves::mark_at))]
 fn skip_static(reader: &mut Reader<'_>) -> ReadResult<bool>
-    ensures read { IfOk result (λ _. IsReadOn reader.old [] reader.new) }
-    ensures refused { IfErr result (λ e. IsRefused reader.old e) }
     ensures reads { IfOk result (λ it. ReadsOn is_static reader.old it reader.new) }
     ensures stops { IfErr result (Refuses is_static reader.old) }
 {
@@ -77,8 +70,6 @@ fn skip_static(reader: &mut Reader<'_>) -> ReadResult<bool>
 /// Reads `name: function;`, perhaps with `static` in front of the function.
 #[tactic(auto, unfolding(wit_grammar::specs::ItemRules::member))]
 fn read_member<'a>(reader: &mut Reader<'a>, front: Front<'a>) -> ReadResult<ResourceFunc<'a>>
-    ensures read { IfOk result (λ f. IsReadBehind reader.old (front_marks front.entry.docs front.entry.attributes.items) (resource_func_marks f) reader.new) }
-    ensures refused { IfErr result (λ e. IsRefused reader.old e) }
     ensures reads { IfOk result (λ it. Reads (member_after front.entry) reader.old (see_resource_func it) reader.new) }
     ensures stops { IfErr result (Refuses member reader.old) }
 {
@@ -91,8 +82,6 @@ fn read_member<'a>(reader: &mut Reader<'a>, front: Front<'a>) -> ReadResult<Reso
 /// Reads a function of a resource.
 #[tactic(auto, unfolding(wit_grammar::specs::ItemRules::resource_function))]
 fn read_resource_func<'a>(reader: &mut Reader<'a>) -> ReadResult<ResourceFunc<'a>>
-    ensures read { IfOk result (λ f. IsRead reader.old (resource_func_marks f) reader.new) }
-    ensures refused { IfErr result (λ e. IsRefused reader.old e) }
     ensures reads { IfOk result (λ it. Reads resource_function reader.old (see_resource_func it) reader.new) }
     ensures stops { IfErr result (Refuses resource_function reader.old) }
 {
@@ -108,8 +97,6 @@ fn read_resource_func<'a>(reader: &mut Reader<'a>) -> ReadResult<ResourceFunc<'a
 /// Reads the functions of a resource in braces.
 #[tactic(auto, unfolding(wit_grammar::specs::ItemRules::braced_functions))]
 fn read_resource_funcs<'a>(reader: &mut Reader<'a>) -> ReadResult<Vec<ResourceFunc<'a>>>
-    ensures read { IfOk result (λ fs. IsRead reader.old (flat_map resource_func_marks fs.items) reader.new) }
-    ensures refused { IfErr result (λ e. IsRefused reader.old e) }
     ensures reads { IfOk result (λ it. Reads braced_functions reader.old (map see_resource_func it.items) reader.new) }
     ensures stops { IfErr result (Refuses braced_functions reader.old) }
 {
@@ -126,8 +113,6 @@ fn read_resource_funcs<'a>(reader: &mut Reader<'a>) -> ReadResult<Vec<ResourceFu
 /// Reads `;`, or functions in braces.
 #[tactic(auto, unfolding(wit_grammar::specs::ItemRules::resource_body, wit_grammar::specs::Leaves::mark_at))]
 fn read_resource_body<'a>(reader: &mut Reader<'a>) -> ReadResult<Vec<ResourceFunc<'a>>>
-    ensures read { IfOk result (λ fs. IsRead reader.old (flat_map resource_func_marks fs.items) reader.new) }
-    ensures refused { IfErr result (λ e. IsRefused reader.old e) }
     ensures reads { IfOk result (λ it. Reads resource_body reader.old (map see_resource_func it.items) reader.new) }
     ensures stops { IfErr result (Refuses resource_body reader.old) }
 {
@@ -142,9 +127,7 @@ fn read_resource_body<'a>(reader: &mut Reader<'a>) -> ReadResult<Vec<ResourceFun
 /// Reads `resource name;` or `resource name { .. }`.
 #[tactic(auto, unfolding(wit_grammar::specs::ItemRules::resource_definition))]
 pub fn read_resource<'a>(reader: &mut Reader<'a>) -> ReadResult<(Id<'a>, TypeBody<'a>)>
-    ensures read { IfOk result (λ d. IsRead reader.old (defined_marks d.0 d.1) reader.new) }
-    ensures refused { IfErr result (λ e. IsRefused reader.old e) }
-    ensures reads { IfOk result (λ it. Reads resource_definition reader.old (see_name it.0, see_body it.1) reader.new) }
+    ensures reads { IfOk result (λ it. Reads resource_definition reader.old (see_defined it) reader.new) }
     ensures stops { IfErr result (Refuses resource_definition reader.old) }
 {
     reader.expect_word(Word::Resource)?;

@@ -1,5 +1,5 @@
 -- Attributes by the rules of the grammar.
-use Rattle.std.proofs.Common.{◌≡◌, ℕ, List, [], ◌∷◌, ap, ◌∙◌, sym, subst, refl, true, false, Bool}
+use Rattle.std.proofs.Common.{◌≡◌, ℕ, List, ap, ◌∙◌, sym, subst, refl, true, false, Bool}
 use Rattle.std.specs.Prelude.{Result, IfErr, codes}
 use Rattle.wit_values.specs.declared.span.Span.{Span}
 use Rattle.wit_lex.specs.declared.kind.Kind.TheVariants as kind

@@ -1,5 +1,5 @@
 -- Courses, one after another: what is made of what they give, and where they stop.
-use Rattle.std.proofs.Common.{◌≡◌, List, [], ◌∷◌, ap, ◌∙◌, sym, refl, true, false, Bool}
+use Rattle.std.proofs.Common.{◌≡◌, [], ◌∷◌, ap, sym, refl, true, false, Bool}
 use Rattle.std.specs.Prelude.{◌||◌, Result, Ok, Err, IfErr}
 use Rattle.std.proofs.lemmas.Result.{IfErr-weaker}
 use Rattle.wit_lex.specs.declared.fault.ReadError.{ReadError}
@@ -22,6 +22,10 @@ made_twice g f (Err e) = refl
 pub stops_first : {A B : Type 0} (r : Result A ReadError) (f : A → Result B ReadError) (e : ReadError) → Stops r e → Stops (r >>= f) e
 stops_first r f (Fault k start end) h = rw h refl
 stops_first r f OutOfMemory h = tt
+
+pub stops_at : {A : Type 0} (r : Result A ReadError) (e : ReadError) → r ≡ Err e → Stops r e
+stops_at r (Fault k start end) h = h
+stops_at r OutOfMemory h = tt
 
 -- one token tells which way a grammar goes on
 no_more : (b : Bool) → (b || false) ≡ b

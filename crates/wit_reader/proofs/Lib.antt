@@ -1,10 +1,5 @@
-pub mod Fronts
-pub mod Rises
-pub mod Parts
-pub mod Headers
 pub mod KindCodes
 pub mod Steps
-pub mod Signs
 pub mod Numbers
 pub mod Lists
 pub mod Seen

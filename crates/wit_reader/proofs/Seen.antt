@@ -1,11 +1,11 @@
 -- What types of several parts say.
-use Rattle.std.proofs.Common.{◌≡◌, map, Vec, Option, Some, None, Box, refl, rules, ap}
+use Rattle.std.proofs.Common.{◌≡◌, map, Vec, refl, rules, ap}
 use Rattle.std.specs.declared.alloc.Global.{Global}
 use Rattle.wit_values.specs.declared.span.Span.{Span}
-use Rattle.wit_type_tree.specs.declared.types.«Type».{«Type» as Written, Tuple, Future, Stream, Row_of-Type, end_of-Type, more_of-Type, items-the_row-Type, the_lemmas}
+use Rattle.wit_type_tree.specs.declared.types.«Type».{«Type» as Written, Tuple, Row_of-Type, end_of-Type, more_of-Type, items-the_row-Type, the_lemmas}
 use Rattle.wit_type_tree.specs.declared.types.ResultTypes.{ResultTypes, Neither, Ok', Err', Both'}
-use Rattle.wit_grammar.specs.Trees.{and, result, tuple, future, stream, tys}
-use Rattle.wit_grammar.specs.Seen.{see_type, see_row, see_result, see_boxed}
+use Rattle.wit_grammar.specs.Trees.{and, result, tuple, tys}
+use Rattle.wit_grammar.specs.Seen.{see_type, see_row, see_result}
 use Rattle.wit_reader.specs.ResultTypes.{see_result_types}
 
 seen_row : (n : _) (row : Row_of-Type n) → see_row row ≡ tys (map see_type (items-the_row-Type n row))
@@ -20,11 +20,3 @@ seen_result span Neither = refl
 seen_result span (Ok' p t) = refl
 seen_result span (Err' p t) = refl
 seen_result span (Both' p t q u) = refl
-
-pub seen_future : (span : Span) (t : Option (Box Written Global)) → see_type (Future span t) ≡ future span (see_boxed t)
-seen_future span None = refl
-seen_future span (Some b) = refl
-
-pub seen_stream : (span : Span) (t : Option (Box Written Global)) → see_type (Stream span t) ≡ stream span (see_boxed t)
-seen_stream span None = refl
-seen_stream span (Some b) = refl

@@ -1,6 +1,5 @@
-pub mod Attributes
+pub mod After
 pub mod Deeper
-pub mod Fronts
 pub mod Headers
 pub mod Primitives
 pub mod Reading

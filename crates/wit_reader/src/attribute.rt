@@ -1,10 +1,8 @@
 //! Reading attributes.
-ghost use Rattle.std.specs.Prelude.{◌≡◌, ◌+◌, [], ◌∷◌, ◌++◌, codes, IfOk, IfErr};
-ghost use Rattle.wit_type_tree.specs.Marks.{attribute_marks};
+ghost use Rattle.std.specs.Prelude.{◌≡◌, IfOk, IfErr};
 ghost use Rattle.wit_grammar.specs.Seen.{see_attribute, see_name};
 ghost use Rattle.wit_grammar.specs.Grammar.{applied};
 ghost use Rattle.wit_grammar.specs.Rules.{after_at, attribute, deprecated_attribute, deprecated_of, joined as joined_span, of_feature, since_attribute, since_of, since_version, unstable_attribute, unstable_of};
-ghost use Rattle.wit_reader.specs.Attributes.{IsAttribute, feature_marks, version_marks};
 ghost use Rattle.wit_reader.specs.Headers.{see_found};
 
 use crate::reader::Reader;
@@ -25,14 +23,12 @@ fn joined(first: Span, last: Span) -> Span
 }
 
 impl<'a> Reader<'a> {
-    ghost use Rattle.wit_reader.specs.Reading.{IsRead, IsRefused, Reads, ReadsAs, Refuses};
+    ghost use Rattle.wit_reader.specs.Reading.{Reads, ReadsAs, Refuses};
 
     /// Reads `(version = V)`, and tells where the version and the `)` are.
     #[tactic(auto, unfolding(wit_grammar::specs::Rules::since_version))]
     fn read_told_version(&mut self) -> ReadResult<((Span, Version), Span)>
-        ensures read { IfOk result (λ r. IsRead self.old (version_marks r.0.1 r.1) self.new) }
-        ensures refused { IfErr result (λ e. IsRefused self.old e) }
-        ensures parses { IfOk result (λ it. Reads since_version self.old (see_found it.0, it.1) self.new) }
+        ensures reads { IfOk result (λ it. Reads since_version self.old (see_found it.0, it.1) self.new) }
         ensures stops { IfErr result (Refuses since_version self.old) }
     {
         self.expect(Kind::OpenParen)?;
@@ -46,9 +42,7 @@ impl<'a> Reader<'a> {
     /// Reads `(feature = name)`, and tells where the `)` is.
     #[tactic(auto, unfolding(wit_grammar::specs::Rules::of_feature))]
     fn read_told_feature(&mut self) -> ReadResult<(Id<'a>, Span)>
-        ensures read { IfOk result (λ r. IsRead self.old (feature_marks r.0 r.1) self.new) }
-        ensures refused { IfErr result (λ e. IsRefused self.old e) }
-        ensures parses { IfOk result (λ it. Reads of_feature self.old (see_name it.0, it.1) self.new) }
+        ensures reads { IfOk result (λ it. Reads of_feature self.old (see_name it.0, it.1) self.new) }
         ensures stops { IfErr result (Refuses of_feature self.old) }
     {
         self.expect(Kind::OpenParen)?;
@@ -62,9 +56,7 @@ impl<'a> Reader<'a> {
     /// Reads `since(version = V)`, after the `@` at a span.
     #[tactic(auto, unfolding(wit_grammar::specs::Rules::since_attribute))]
     fn read_since(&mut self, at: Span) -> ReadResult<Attribute<'a>>
-        ensures read { IfOk result (λ a. IsAttribute self.old at.start a self.new) }
-        ensures refused { IfErr result (λ e. IsRefused self.old e) }
-        ensures parses { IfOk result (λ it. ReadsAs since_attribute (since_of at) self.old (see_attribute it) self.new) }
+        ensures reads { IfOk result (λ it. ReadsAs since_attribute (since_of at) self.old (see_attribute it) self.new) }
         ensures stops { IfErr result (Refuses since_attribute self.old) }
     {
         self.expect_text("since")?;
@@ -78,9 +70,7 @@ impl<'a> Reader<'a> {
     /// Reads `deprecated(version = V)`, after the `@` at a span.
     #[tactic(auto, unfolding(wit_grammar::specs::Rules::deprecated_attribute))]
     fn read_deprecated(&mut self, at: Span) -> ReadResult<Attribute<'a>>
-        ensures read { IfOk result (λ a. IsAttribute self.old at.start a self.new) }
-        ensures refused { IfErr result (λ e. IsRefused self.old e) }
-        ensures parses { IfOk result (λ it. ReadsAs deprecated_attribute (deprecated_of at) self.old (see_attribute it) self.new) }
+        ensures reads { IfOk result (λ it. ReadsAs deprecated_attribute (deprecated_of at) self.old (see_attribute it) self.new) }
         ensures stops { IfErr result (Refuses deprecated_attribute self.old) }
     {
         self.expect_text("deprecated")?;
@@ -94,9 +84,7 @@ impl<'a> Reader<'a> {
     /// Reads `unstable(feature = name)`, after the `@` at a span.
     #[tactic(auto, unfolding(wit_grammar::specs::Rules::unstable_attribute))]
     fn read_unstable(&mut self, at: Span) -> ReadResult<Attribute<'a>>
-        ensures read { IfOk result (λ a. IsAttribute self.old at.start a self.new) }
-        ensures refused { IfErr result (λ e. IsRefused self.old e) }
-        ensures parses { IfOk result (λ it. ReadsAs unstable_attribute (unstable_of at) self.old (see_attribute it) self.new) }
+        ensures reads { IfOk result (λ it. ReadsAs unstable_attribute (unstable_of at) self.old (see_attribute it) self.new) }
         ensures stops { IfErr result (Refuses unstable_attribute self.old) }
     {
         self.expect_text("unstable")?;
@@ -110,9 +98,7 @@ impl<'a> Reader<'a> {
     /// Reads what follows the `@` of an attribute, which is at a span.
     #[tactic(auto, unfolding(wit_grammar::specs::Rules::after_at))]
     fn read_after_at(&mut self, at: Span) -> ReadResult<Attribute<'a>>
-        ensures read { IfOk result (λ a. IsAttribute self.old at.start a self.new) }
-        ensures refused { IfErr result (λ e. IsRefused self.old e) }
-        ensures parses { IfOk result (λ it. ReadsAs after_at (applied at) self.old (see_attribute it) self.new) }
+        ensures reads { IfOk result (λ it. ReadsAs after_at (applied at) self.old (see_attribute it) self.new) }
         ensures stops { IfErr result (Refuses after_at self.old) }
     {
         if self.at_text("since") {
@@ -127,9 +113,7 @@ impl<'a> Reader<'a> {
     /// Reads an attribute.
     #[tactic(auto, unfolding(wit_grammar::specs::Rules::attribute))]
     pub fn read_attribute(&mut self) -> ReadResult<Attribute<'a>>
-        ensures read { IfOk result (λ a. IsRead self.old (attribute_marks a) self.new) }
-        ensures refused { IfErr result (λ e. IsRefused self.old e) }
-        ensures parses { IfOk result (λ it. Reads attribute self.old (see_attribute it) self.new) }
+        ensures reads { IfOk result (λ it. Reads attribute self.old (see_attribute it) self.new) }
         ensures stops { IfErr result (Refuses attribute self.old) }
     {
         let at = self.read_mark(Kind::At)?;

@@ -1,9 +1,7 @@
-//! Reading what stands in front of items.
-ghost use Rattle.std.specs.Prelude.{◌≡◌, ◌+◌, [], ◌∷◌, map, IfOk, IfErr};
-ghost use Rattle.wit_type_tree.specs.Marks.{documented, attributes_marks, front_marks};
-ghost use Rattle.wit_lex.specs.Lexis.{Stops};
+//! Reading what items have in front.
+ghost use Rattle.std.specs.Prelude.{map, IfOk, IfErr};
 ghost use Rattle.wit_grammar.specs.Seen.{see_attribute, see_docs, see_front};
-ghost use Rattle.wit_grammar.specs.Leaves.{docs_at};
+ghost use Rattle.wit_grammar.specs.Grammar.{docs};
 ghost use Rattle.wit_grammar.specs.Rules.{attributes, front};
 
 use crate::reader::Reader;
@@ -13,7 +11,7 @@ use wit_lex::fault::ReadResult;
 use wit_lex::kind::Kind;
 use wit_tree::tree::{Attribute, Docs};
 
-/// What stands in front of an item.
+/// What an item has in front.
 #[derive(Drop)]
 pub struct Front<'a> {
     pub docs: Docs<'a>,
@@ -21,14 +19,12 @@ pub struct Front<'a> {
 }
 
 impl<'a> Reader<'a> {
-    ghost use Rattle.wit_reader.specs.Reading.{IsRead, IsReadOn, IsRefused, ParsesOn, ReadsOn, Refuses, spot};
+    ghost use Rattle.wit_reader.specs.Reading.{ReadsOn, Refuses};
 
     /// Reads the docs in front of the token; what is in front of it is then read.
     pub fn read_docs(&mut self) -> ReadResult<Docs<'a>>
-        ensures read { IfOk result (λ docs. IsReadOn self.old (documented docs ∷ []) self.new) }
-        ensures refused { IfErr result (λ e. IsRefused self.old e) }
-        ensures parses { IfOk result (λ it. ParsesOn self.old (docs_at (spot self.old)) (see_docs it) self.new) }
-        ensures stops { IfErr result (Stops (docs_at (spot self.old))) }
+        ensures reads { IfOk result (λ it. ReadsOn docs self.old (see_docs it) self.new) }
+        ensures stops { IfErr result (Refuses docs self.old) }
     {
         let (docs, _) = docs_behind(self.alloc, self.source, self.offset, self.before)?;
         self.before = self.token.start;
@@ -37,9 +33,7 @@ impl<'a> Reader<'a> {
 
     /// Reads attributes.
     pub fn read_attributes(&mut self) -> ReadResult<Vec<Attribute<'a>>>
-        ensures read { IfOk result (λ list. IsReadOn self.old (attributes_marks list.items) self.new) }
-        ensures refused { IfErr result (λ e. IsRefused self.old e) }
-        ensures parses { IfOk result (λ it. ReadsOn attributes self.old (map see_attribute it.items) self.new) }
+        ensures reads { IfOk result (λ it. ReadsOn attributes self.old (map see_attribute it.items) self.new) }
         ensures stops { IfErr result (Refuses attributes self.old) }
     {
         let mut attributes = Vec::new(self.alloc);
@@ -53,9 +47,7 @@ impl<'a> Reader<'a> {
     /// Reads docs, and attributes after them.
     #[tactic(auto, unfolding(wit_grammar::specs::Rules::front))]
     pub fn read_front(&mut self) -> ReadResult<Front<'a>>
-        ensures read { IfOk result (λ f. IsReadOn self.old (front_marks f.docs f.attributes.items) self.new) }
-        ensures refused { IfErr result (λ e. IsRefused self.old e) }
-        ensures parses { IfOk result (λ it. ReadsOn front self.old (see_front it.docs it.attributes.items) self.new) }
+        ensures reads { IfOk result (λ it. ReadsOn front self.old (see_front it.docs it.attributes.items) self.new) }
         ensures stops { IfErr result (Refuses front self.old) }
     {
         let docs = self.read_docs()?;

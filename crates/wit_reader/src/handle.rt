@@ -1,6 +1,5 @@
 //! Reading handles of resources.
-ghost use Rattle.std.specs.Prelude.{◌≡◌, ◌+◌, [], ◌∷◌, IfOk, IfErr};
-ghost use Rattle.wit_type_tree.specs.Marks.{named, type_marks};
+ghost use Rattle.std.specs.Prelude.{IfOk, IfErr};
 ghost use Rattle.wit_grammar.specs.Rules.{handled, owns, borrows};
 ghost use Rattle.wit_grammar.specs.Seen.{see_name, see_type};
 
@@ -11,13 +10,11 @@ use wit_lex::word::Word;
 use wit_tree::tree::{Id, Type};
 
 impl<'a> Reader<'a> {
-    ghost use Rattle.wit_reader.specs.Reading.{IsRead, IsRefused, Reads, Refuses};
+    ghost use Rattle.wit_reader.specs.Reading.{Reads, Refuses};
 
     /// Reads a name in angles.
     #[tactic(auto, unfolding(wit_grammar::specs::Rules::handled))]
     fn read_handled(&mut self) -> ReadResult<Id<'a>>
-        ensures read { IfOk result (λ id. IsRead self.old (named id ∷ []) self.new) }
-        ensures refused { IfErr result (λ e. IsRefused self.old e) }
         ensures reads { IfOk result (λ it. Reads handled self.old (see_name it) self.new) }
         ensures stops { IfErr result (Refuses handled self.old) }
     {
@@ -30,8 +27,6 @@ impl<'a> Reader<'a> {
     /// Reads `own<name>`.
     #[tactic(auto, unfolding(wit_grammar::specs::Rules::owns))]
     pub fn read_own(&mut self) -> ReadResult<Type<'a>>
-        ensures read { IfOk result (λ t. IsRead self.old (type_marks t) self.new) }
-        ensures refused { IfErr result (λ e. IsRefused self.old e) }
         ensures reads { IfOk result (λ it. Reads owns self.old (see_type it) self.new) }
         ensures stops { IfErr result (Refuses owns self.old) }
     {
@@ -43,8 +38,6 @@ impl<'a> Reader<'a> {
     /// Reads `borrow<name>`.
     #[tactic(auto, unfolding(wit_grammar::specs::Rules::borrows))]
     pub fn read_borrow(&mut self) -> ReadResult<Type<'a>>
-        ensures read { IfOk result (λ t. IsRead self.old (type_marks t) self.new) }
-        ensures refused { IfErr result (λ e. IsRefused self.old e) }
         ensures reads { IfOk result (λ it. Reads borrows self.old (see_type it) self.new) }
         ensures stops { IfErr result (Refuses borrows self.old) }
     {

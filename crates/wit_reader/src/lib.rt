@@ -1,4 +1,4 @@
-//! The reader: it goes through the tokens of a source, and reads what stands in items of every sort:
+//! The reader: it goes through the tokens of a source, and reads what is in items of every sort:
 //! types, paths, versions, docs and attributes.
 #![tactic(auto)]
 

@@ -27,8 +27,6 @@ fn begins_type(word: Word) -> bool
 }
 
 impl<'a> Reader<'a> {
-    ghost use Rattle.wit_reader.specs.Reading.{IsRefused};
-
     /// Whether a type begins with the token.
     fn begins_type(&self) -> bool
         ensures { result ≡ kind_begins_type self.now.token.kind }
@@ -42,8 +40,7 @@ impl<'a> Reader<'a> {
 
     /// The refusal of the token where no further level of types is read.
     pub fn refuse_deeper(&self) -> ReadError
-        ensures refused { IsRefused self.now result }
-        ensures exact { result ≡ deeper_fault self.now.token }
+        ensures { result ≡ deeper_fault self.now.token }
     {
         if self.begins_type() {
             self.refuse(ReadFault::Nesting)

@@ -1,9 +1,7 @@
 //! Reading primitive types.
-ghost use Rattle.std.specs.Prelude.{◌≡◌, [], ◌∷◌, IfOk, IfErr, IfSome};
+ghost use Rattle.std.specs.Prelude.{◌≡◌, IfOk, IfErr};
 ghost use Rattle.std.specs.Option.{is_some};
-ghost use Rattle.wit_type_tree.specs.Marks.{primitive_word, type_marks};
 ghost use Rattle.wit_lex.specs.declared.kind.Kind.TheVariants.{Word as WordKind};
-ghost use Rattle.wit_lex.specs.Words.{word_text};
 ghost use Rattle.wit_grammar.specs.Leaves.{primitive_of};
 ghost use Rattle.wit_grammar.specs.Grammar.{primitives};
 ghost use Rattle.wit_grammar.specs.Seen.{see_type};
@@ -17,7 +15,6 @@ use wit_tree::tree::{Primitive, Type};
 
 /// The primitive type of a word, if the word is one's.
 pub fn primitive(word: Word) -> Option<Primitive>
-    ensures word { IfSome result (λ p. primitive_word p ≡ word_text word) }
     ensures known { is_some result ≡ is_primitive word }
     ensures exact { result ≡ primitive_of (WordKind word) }
 {
@@ -41,12 +38,11 @@ pub fn primitive(word: Word) -> Option<Primitive>
 }
 
 impl<'a> Reader<'a> {
-    ghost use Rattle.wit_reader.specs.Reading.{IsRead, IsRefused, Reads, Refuses};
+    ghost use Rattle.wit_reader.specs.Reading.{Reads, Refuses};
 
     /// The primitive type that the token is.
     fn primitive(&self) -> Option<Primitive>
-        ensures word { IfSome result (λ p. primitive_word p ≡ self.now.token.text.now) }
-        ensures exact { result ≡ primitive_of self.now.token.kind }
+        ensures { result ≡ primitive_of self.now.token.kind }
     {
         match self.token.kind {
             Kind::Word(word) => primitive(word),
@@ -57,8 +53,6 @@ impl<'a> Reader<'a> {
     /// Reads the word of a primitive type.
     #[tactic(auto, unfolding(wit_grammar::specs::Leaves::primitive_at))]
     pub fn read_primitive(&mut self) -> ReadResult<Type<'a>>
-        ensures read { IfOk result (λ t. IsRead self.old (type_marks t) self.new) }
-        ensures refused { IfErr result (λ e. IsRefused self.old e) }
         ensures reads { IfOk result (λ it. Reads primitives self.old (see_type it) self.new) }
         ensures stops { IfErr result (Refuses primitives self.old) }
     {

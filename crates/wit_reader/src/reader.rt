@@ -1,15 +1,13 @@
 //! A reader goes through the tokens of a source, one after the other.
-ghost use Rattle.std.specs.Prelude.{◌≡◌, ◌+◌, ◌<◌, ◌≤◌, ◌^◌, [], ◌∷◌, length, Ok, IfOk, OnOk, IfErr, IsTrue, ◌↔◌};
-ghost use Rattle.wit_type_tree.specs.Marks.{named, spelled, told};
+ghost use Rattle.std.specs.Prelude.{◌≡◌, ◌+◌, ◌<◌, ◌≤◌, ◌^◌, length, Ok, IfOk, OnOk, IfErr, IsTrue, ◌↔◌};
 ghost use Rattle.wit_lex.specs.declared.fault.ReadError.TheVariants.{Fault};
 ghost use Rattle.wit_lex.specs.declared.kind.Kind.TheVariants.{Word as WordKind};
 ghost use Rattle.wit_lex.specs.Tokens.{IsFound, IsToken};
 ghost use Rattle.wit_lex.specs.Lexis.{Stops, first_token, lexeme};
-ghost use Rattle.wit_lex.specs.Words.{word_text};
 ghost use Rattle.wit_grammar.specs.Kinds.{same_kind};
 ghost use Rattle.wit_grammar.specs.Seen.{see_name};
-ghost use Rattle.wit_grammar.specs.Leaves.{past, mark_at, spanned_at, text_at, name_at};
-ghost use Rattle.wit_grammar.specs.Grammar.{matches, of_text, run};
+ghost use Rattle.wit_grammar.specs.Leaves.{past, mark_at};
+ghost use Rattle.wit_grammar.specs.Grammar.{matches, of_text, name, says, spanned};
 ghost use Rattle.wit_grammar.specs.Rules.{label};
 
 use std::alloc::Global;
@@ -41,21 +39,18 @@ pub struct Reader<'a> {
 }
 
 impl<'a> Reader<'a> {
-    ghost use Rattle.wit_reader.specs.Reading.{IsMarkRead, IsRead, IsRefused, Parses, Passes, spot, token_span};
+    ghost use Rattle.wit_reader.specs.Reading.{Passes, Reads, Refuses, spot, token_span};
 
     /// The token's span.
     pub fn span(&self) -> Span
-        ensures start { result.start ≡ self.now.offset + self.now.token.start }
-        ensures end { result.end ≡ self.now.offset + self.now.token.end }
-        ensures exact { result ≡ token_span self.now }
+        ensures { result ≡ token_span self.now }
     {
         span_at(self.offset, self.token.start, self.token.end)
     }
 
     /// The fault of the token.
     pub fn refuse(&self, fault: ReadFault) -> ReadError
-        ensures refused { IsRefused self.now result }
-        ensures exact { result ≡ Fault fault self.now.token.start self.now.token.end }
+        ensures { result ≡ Fault fault self.now.token.start self.now.token.end }
     {
         ReadError::Fault(fault, self.token.start, self.token.end)
     }
@@ -71,7 +66,6 @@ impl<'a> Reader<'a> {
     /// Whether the token is this word of the grammar.
     pub fn at_word(&self, word: Word) -> bool
         ensures known { IsTrue result ↔ (self.now.token.kind ≡ WordKind word) }
-        ensures text { IsTrue result → self.now.token.text.now ≡ word_text word }
         ensures same { result ≡ same_kind self.now.token.kind (WordKind word) }
     {
         match self.token.kind {
@@ -82,8 +76,7 @@ impl<'a> Reader<'a> {
 
     /// Whether the token is a name of this text.
     pub fn at_text(&self, text: &str) -> bool
-        ensures text { IsTrue result → self.now.token.text.now ≡ text.now }
-        ensures same { result ≡ matches (of_text text.now) (spot self.now) (lexeme self.now.token) }
+        ensures { result ≡ matches (of_text text.now) (spot self.now) (lexeme self.now.token) }
     {
         self.at(Kind::Name) && self.token.text == text
     }
@@ -91,10 +84,7 @@ impl<'a> Reader<'a> {
     /// Goes past the token.
     #[inline(always)]
     pub fn bump(&mut self) -> ReadResult<()>
-        ensures past { OnOk result (self.old.token.end ≤ self.new.before) }
-        ensures read { OnOk result (IsRead self.old [] self.new) }
-        ensures refused { IfErr result (λ e. IsRefused self.old e) }
-        ensures passes { OnOk result (Passes self.old (past (spot self.old) (lexeme self.old.token)) self.new) }
+        ensures reads { OnOk result (Passes self.old (past (spot self.old) (lexeme self.old.token)) self.new) }
         ensures stops { IfErr result (Stops (past (spot self.old) (lexeme self.old.token))) }
     {
         if self.token.start == self.token.end {
@@ -110,9 +100,7 @@ impl<'a> Reader<'a> {
     #[inline(always)]
     #[tactic(auto, unfolding(wit_grammar::specs::Leaves::mark_at))]
     pub fn expect(&mut self, kind: Kind) -> ReadResult<()>
-        ensures read { OnOk result (IsRead self.old [] self.new) }
-        ensures refused { IfErr result (λ e. IsRefused self.old e) }
-        ensures passes { OnOk result (Passes self.old (mark_at kind (spot self.old)) self.new) }
+        ensures reads { OnOk result (Passes self.old (mark_at kind (spot self.old)) self.new) }
         ensures stops { IfErr result (Stops (mark_at kind (spot self.old))) }
     {
         if !self.at(kind) {
@@ -125,11 +113,7 @@ impl<'a> Reader<'a> {
     #[inline(always)]
     #[tactic(auto, unfolding(wit_grammar::specs::Leaves::mark_at))]
     pub fn expect_word(&mut self, word: Word) -> ReadResult<()>
-        ensures word { OnOk result (self.old.token.text.now ≡ word_text word) }
-        ensures past { OnOk result (self.old.token.end ≤ self.new.before) }
-        ensures read { OnOk result (IsRead self.old [] self.new) }
-        ensures refused { IfErr result (λ e. IsRefused self.old e) }
-        ensures passes { OnOk result (Passes self.old (mark_at (WordKind word) (spot self.old)) self.new) }
+        ensures reads { OnOk result (Passes self.old (mark_at (WordKind word) (spot self.old)) self.new) }
         ensures stops { IfErr result (Stops (mark_at (WordKind word) (spot self.old))) }
     {
         if !self.at_word(word) {
@@ -138,14 +122,12 @@ impl<'a> Reader<'a> {
         self.bump()
     }
 
-    /// Goes past a word of the grammar, and tells where it stands.
+    /// Goes past a word of the grammar, and tells where it is.
     #[inline(always)]
     #[tactic(auto, unfolding(wit_grammar::specs::Leaves::spanned_at))]
     pub fn read_word(&mut self, word: Word) -> ReadResult<Span>
-        ensures read { IfOk result (λ span. IsRead self.old (spelled span (word_text word) ∷ []) self.new) }
-        ensures refused { IfErr result (λ e. IsRefused self.old e) }
-        ensures parses { IfOk result (λ it. Parses self.old (spanned_at (WordKind word) (spot self.old)) it self.new) }
-        ensures stops { IfErr result (Stops (spanned_at (WordKind word) (spot self.old))) }
+        ensures reads { IfOk result (λ it. Reads (spanned (WordKind word)) self.old it self.new) }
+        ensures stops { IfErr result (Refuses (spanned (WordKind word)) self.old) }
     {
         let span = self.span();
         self.expect_word(word)?;
@@ -155,10 +137,8 @@ impl<'a> Reader<'a> {
     /// Goes past a token of this kind, and tells where it is.
     #[tactic(auto, unfolding(wit_grammar::specs::Leaves::spanned_at, wit_grammar::specs::Leaves::mark_at))]
     pub fn read_mark(&mut self, kind: Kind) -> ReadResult<Span>
-        ensures read { IfOk result (λ span. IsMarkRead self.old kind span self.new) }
-        ensures refused { IfErr result (λ e. IsRefused self.old e) }
-        ensures parses { IfOk result (λ it. Parses self.old (spanned_at kind (spot self.old)) it self.new) }
-        ensures stops { IfErr result (Stops (spanned_at kind (spot self.old))) }
+        ensures reads { IfOk result (λ it. Reads (spanned kind) self.old it self.new) }
+        ensures stops { IfErr result (Refuses (spanned kind) self.old) }
     {
         if !self.at(kind) {
             return Err(self.refuse(ReadFault::Token));
@@ -171,10 +151,8 @@ impl<'a> Reader<'a> {
     /// Goes past a name of this text, and tells where it is.
     #[tactic(auto, unfolding(wit_grammar::specs::Leaves::text_at))]
     pub fn read_text(&mut self, text: &str) -> ReadResult<Span>
-        ensures read { IfOk result (λ span. IsRead self.old (spelled span text.now ∷ []) self.new) }
-        ensures refused { IfErr result (λ e. IsRefused self.old e) }
-        ensures parses { IfOk result (λ it. Parses self.old (text_at text.now (spot self.old)) it self.new) }
-        ensures stops { IfErr result (Stops (text_at text.now (spot self.old))) }
+        ensures reads { IfOk result (λ it. Reads (says text.now) self.old it self.new) }
+        ensures stops { IfErr result (Refuses (says text.now) self.old) }
     {
         if !self.at_text(text) {
             return Err(self.refuse(ReadFault::Token));
@@ -186,10 +164,8 @@ impl<'a> Reader<'a> {
 
     /// Goes past a name of this text.
     pub fn expect_text(&mut self, text: &str) -> ReadResult<()>
-        ensures read { OnOk result (IsRead self.old (told text.now ∷ []) self.new) }
-        ensures refused { IfErr result (λ e. IsRefused self.old e) }
-        ensures parses { OnOk result (Parses self.old (text_at text.now (spot self.old)) (token_span self.old) self.new) }
-        ensures stops { IfErr result (Stops (text_at text.now (spot self.old))) }
+        ensures reads { OnOk result (Reads (says text.now) self.old (token_span self.old) self.new) }
+        ensures stops { IfErr result (Refuses (says text.now) self.old) }
     {
         self.read_text(text)?;
         Ok(())
@@ -199,10 +175,8 @@ impl<'a> Reader<'a> {
     #[inline(always)]
     #[tactic(auto, unfolding(wit_grammar::specs::Leaves::name_at))]
     pub fn read_id(&mut self) -> ReadResult<Id<'a>>
-        ensures read { IfOk result (λ id. IsRead self.old (named id ∷ []) self.new) }
-        ensures refused { IfErr result (λ e. IsRefused self.old e) }
-        ensures parses { IfOk result (λ it. Parses self.old (name_at (spot self.old)) (see_name it) self.new) }
-        ensures stops { IfErr result (Stops (name_at (spot self.old))) }
+        ensures reads { IfOk result (λ it. Reads name self.old (see_name it) self.new) }
+        ensures stops { IfErr result (Refuses name self.old) }
     {
         if !self.at(Kind::Name) {
             return Err(self.refuse(ReadFault::Token));
@@ -216,13 +190,11 @@ impl<'a> Reader<'a> {
         }
     }
 
-    /// Reads a name and the `:` behind it.
+    /// Reads a name and the `:` after it.
     #[tactic(auto, unfolding(wit_grammar::specs::Rules::label))]
     pub fn read_label(&mut self) -> ReadResult<Id<'a>>
-        ensures read { IfOk result (λ id. IsRead self.old (named id ∷ []) self.new) }
-        ensures refused { IfErr result (λ e. IsRefused self.old e) }
-        ensures parses { IfOk result (λ it. Parses self.old (run label (spot self.old)) (see_name it) self.new) }
-        ensures stops { IfErr result (Stops (run label (spot self.old))) }
+        ensures reads { IfOk result (λ it. Reads label self.old (see_name it) self.new) }
+        ensures stops { IfErr result (Refuses label self.old) }
     {
         let id = self.read_id()?;
         self.expect(Kind::Colon)?;

@@ -1,7 +1,5 @@
 //! Reading types.
-ghost use Rattle.std.specs.Prelude.{◌≡◌, [], ◌∷◌, ◌++◌, map, IfOk, IfErr, codes};
-ghost use Rattle.std.specs.List.{flat_map};
-ghost use Rattle.wit_type_tree.specs.Marks.{spelled, counted, type_marks, result_marks, boxed_marks, size_marks};
+ghost use Rattle.std.specs.Prelude.{◌≡◌, map, IfOk, IfErr};
 ghost use Rattle.wit_lex.specs.declared.kind.Kind.TheVariants.{OpenAngle, CloseAngle};
 ghost use Rattle.wit_grammar.specs.Trees.{this};
 ghost use Rattle.wit_grammar.specs.Seen.{see_type, see_boxed};
@@ -22,8 +20,7 @@ pub const MOST_NESTED: u8 = 100;
 
 /// The list of these items, of a fixed length where one was found.
 fn list<'a>(span: Span, item: Box<Type<'a>>, size: Option<u32>) -> Type<'a>
-    ensures marks { type_marks result ≡ spelled span (codes "list") ∷ (type_marks item.entry.value ++ size_marks size) }
-    ensures seen { see_type result ≡ sized span (see_type item.entry.value) size }
+    ensures { see_type result ≡ sized span (see_type item.entry.value) size }
 {
     match size {
         Some(size) => Type::FixedLengthList(span, item, size),
@@ -33,8 +30,7 @@ fn list<'a>(span: Span, item: Box<Type<'a>>, size: Option<u32>) -> Type<'a>
 
 /// The types of a result: that of its value, and that of its error, where there is one.
 fn ok_and<'a>(ok: Box<Type<'a>>, err: Option<Box<Type<'a>>>) -> ResultTypes<'a>
-    ensures marks { result_marks result ≡ type_marks ok.entry.value ++ boxed_marks err.entry }
-    ensures seen { see_result_types result ≡ (this (see_type ok.entry.value), see_boxed err.entry) }
+    ensures { see_result_types result ≡ (this (see_type ok.entry.value), see_boxed err.entry) }
 {
     match err {
         Some(err) => ResultTypes::Both(ok, err),
@@ -43,13 +39,11 @@ fn ok_and<'a>(ok: Box<Type<'a>>, err: Option<Box<Type<'a>>>) -> ResultTypes<'a>
 }
 
 impl<'a> Reader<'a> {
-    ghost use Rattle.wit_reader.specs.Reading.{IsRead, IsReadOn, IsRefused, Reads, ReadsOn, Refuses};
+    ghost use Rattle.wit_reader.specs.Reading.{Reads, ReadsOn, Refuses};
 
     /// Reads a number of 32 bits.
     #[tactic(auto, unfolding(wit_grammar::specs::Leaves::number_at))]
     fn read_number(&mut self) -> ReadResult<u32>
-        ensures read { IfOk result (λ n. IsRead self.old (counted n ∷ []) self.new) }
-        ensures refused { IfErr result (λ e. IsRefused self.old e) }
         ensures reads { IfOk result (λ it. Reads number self.old it self.new) }
         ensures stops { IfErr result (Refuses number self.old) }
     {
@@ -68,8 +62,6 @@ impl<'a> Reader<'a> {
     /// Reads `>`, perhaps with `,` and a number in front of it.
     #[tactic(auto, unfolding(wit_grammar::specs::Rules::size, wit_grammar::specs::Leaves::mark_at))]
     fn read_size(&mut self) -> ReadResult<Option<u32>>
-        ensures read { IfOk result (λ size. IsRead self.old (size_marks size) self.new) }
-        ensures refused { IfErr result (λ e. IsRefused self.old e) }
         ensures reads { IfOk result (λ it. Reads size self.old it self.new) }
         ensures stops { IfErr result (Refuses size self.old) }
     {
@@ -83,10 +75,8 @@ impl<'a> Reader<'a> {
         Ok(Some(size))
     }
 
-    /// Reads a type and the token of a kind behind it.
+    /// Reads a type and the token of a kind after it.
     pub fn read_closed_type(&mut self, close: Kind) -> ReadResult<Type<'a>>
-        ensures read { IfOk result (λ t. IsRead self.old (type_marks t) self.new) }
-        ensures refused { IfErr result (λ e. IsRefused self.old e) }
         ensures reads { IfOk result (λ it. Reads (types 100 ◂ close) self.old (see_type it) self.new) }
         ensures stops { IfErr result (Refuses (types 100 ◂ close) self.old) }
     {
@@ -98,8 +88,6 @@ impl<'a> Reader<'a> {
     /// Reads a type of at most `left` levels.
     #[cycle(types)]
     pub fn read_type(&mut self, left: u8) -> ReadResult<Type<'a>>
-        ensures read { IfOk result (λ t. IsRead self.old (type_marks t) self.new) }
-        ensures refused { IfErr result (λ e. IsRefused self.old e) }
         ensures reads { IfOk result (λ it. Reads (types left) self.old (see_type it) self.new) }
         ensures stops { IfErr result (Refuses (types left) self.old) }
     {
@@ -131,8 +119,6 @@ impl<'a> Reader<'a> {
     #[cycle(types)]
     #[tactic(auto, unfolding(wit_grammar::specs::Rules::lists))]
     fn read_list(&mut self, left: u8) -> ReadResult<Type<'a>>
-        ensures read { IfOk result (λ t. IsRead self.old (type_marks t) self.new) }
-        ensures refused { IfErr result (λ e. IsRefused self.old e) }
         ensures reads { IfOk result (λ it. Reads (lists (types left)) self.old (see_type it) self.new) }
         ensures stops { IfErr result (Refuses (lists (types left)) self.old) }
     {
@@ -148,8 +134,6 @@ impl<'a> Reader<'a> {
     #[cycle(types)]
     #[tactic(auto, unfolding(wit_grammar::specs::Rules::maps_of))]
     fn read_map(&mut self, left: u8) -> ReadResult<Type<'a>>
-        ensures read { IfOk result (λ t. IsRead self.old (type_marks t) self.new) }
-        ensures refused { IfErr result (λ e. IsRefused self.old e) }
         ensures reads { IfOk result (λ it. Reads (maps_of (types left)) self.old (see_type it) self.new) }
         ensures stops { IfErr result (Refuses (maps_of (types left)) self.old) }
     {
@@ -164,8 +148,6 @@ impl<'a> Reader<'a> {
     #[cycle(types)]
     #[tactic(auto, unfolding(wit_grammar::specs::Rules::options))]
     fn read_option(&mut self, left: u8) -> ReadResult<Type<'a>>
-        ensures read { IfOk result (λ t. IsRead self.old (type_marks t) self.new) }
-        ensures refused { IfErr result (λ e. IsRefused self.old e) }
         ensures reads { IfOk result (λ it. Reads (options (types left)) self.old (see_type it) self.new) }
         ensures stops { IfErr result (Refuses (options (types left)) self.old) }
     {
@@ -179,8 +161,6 @@ impl<'a> Reader<'a> {
     #[cycle(types)]
     #[tactic(auto, using(crate::proofs::Seen::seen_result), unfolding(wit_grammar::specs::Rules::results, wit_grammar::specs::Leaves::mark_at))]
     fn read_result(&mut self, left: u8) -> ReadResult<Type<'a>>
-        ensures read { IfOk result (λ t. IsRead self.old (type_marks t) self.new) }
-        ensures refused { IfErr result (λ e. IsRefused self.old e) }
         ensures reads { IfOk result (λ it. Reads (results (types left)) self.old (see_type it) self.new) }
         ensures stops { IfErr result (Refuses (results (types left)) self.old) }
     {
@@ -197,8 +177,6 @@ impl<'a> Reader<'a> {
     #[cycle(types)]
     #[tactic(auto, unfolding(wit_grammar::specs::Rules::result_types, wit_grammar::specs::Leaves::mark_at))]
     fn read_result_types(&mut self, left: u8) -> ReadResult<ResultTypes<'a>>
-        ensures read { IfOk result (λ types. IsRead self.old (result_marks types) self.new) }
-        ensures refused { IfErr result (λ e. IsRefused self.old e) }
         ensures reads { IfOk result (λ it. Reads (result_types (types left)) self.old (see_result_types it) self.new) }
         ensures stops { IfErr result (Refuses (result_types (types left)) self.old) }
     {
@@ -217,8 +195,6 @@ impl<'a> Reader<'a> {
     #[cycle(types)]
     #[tactic(auto, unfolding(wit_grammar::specs::Rules::error_type, wit_grammar::specs::Leaves::mark_at))]
     fn read_error_type(&mut self, left: u8) -> ReadResult<Option<Box<Type<'a>>>>
-        ensures read { IfOk result (λ t. IsRead self.old (boxed_marks t) self.new) }
-        ensures refused { IfErr result (λ e. IsRefused self.old e) }
         ensures reads { IfOk result (λ it. Reads (error_type (types left)) self.old (see_boxed it) self.new) }
         ensures stops { IfErr result (Refuses (error_type (types left)) self.old) }
     {
@@ -235,8 +211,6 @@ impl<'a> Reader<'a> {
     #[cycle(types)]
     #[tactic(auto, using(crate::proofs::Seen::seen_tuple), unfolding(wit_grammar::specs::Rules::tuples))]
     fn read_tuple(&mut self, left: u8) -> ReadResult<Type<'a>>
-        ensures read { IfOk result (λ t. IsRead self.old (type_marks t) self.new) }
-        ensures refused { IfErr result (λ e. IsRefused self.old e) }
         ensures reads { IfOk result (λ it. Reads (tuples (types left)) self.old (see_type it) self.new) }
         ensures stops { IfErr result (Refuses (tuples (types left)) self.old) }
     {
@@ -249,8 +223,6 @@ impl<'a> Reader<'a> {
     #[cycle(types)]
     #[tactic(auto, unfolding(wit_grammar::specs::Grammar::listed_at))]
     fn read_types(&mut self, left: u8) -> ReadResult<Vec<Type<'a>>>
-        ensures read { IfOk result (λ ts. IsRead self.old (flat_map type_marks ts.items) self.new) }
-        ensures refused { IfErr result (λ e. IsRefused self.old e) }
         ensures reads { IfOk result (λ it. Reads (listed OpenAngle CloseAngle (types left)) self.old (map see_type it.items) self.new) }
         ensures stops { IfErr result (Refuses (listed OpenAngle CloseAngle (types left)) self.old) }
     {
@@ -268,8 +240,6 @@ impl<'a> Reader<'a> {
     #[cycle(types)]
     #[tactic(auto, unfolding(wit_grammar::specs::Rules::futures))]
     fn read_future(&mut self, left: u8) -> ReadResult<Type<'a>>
-        ensures read { IfOk result (λ t. IsRead self.old (type_marks t) self.new) }
-        ensures refused { IfErr result (λ e. IsRefused self.old e) }
         ensures reads { IfOk result (λ it. Reads (futures (types left)) self.old (see_type it) self.new) }
         ensures stops { IfErr result (Refuses (futures (types left)) self.old) }
     {
@@ -282,8 +252,6 @@ impl<'a> Reader<'a> {
     #[cycle(types)]
     #[tactic(auto, unfolding(wit_grammar::specs::Rules::streams))]
     fn read_stream(&mut self, left: u8) -> ReadResult<Type<'a>>
-        ensures read { IfOk result (λ t. IsRead self.old (type_marks t) self.new) }
-        ensures refused { IfErr result (λ e. IsRefused self.old e) }
         ensures reads { IfOk result (λ it. Reads (streams (types left)) self.old (see_type it) self.new) }
         ensures stops { IfErr result (Refuses (streams (types left)) self.old) }
     {
@@ -296,8 +264,6 @@ impl<'a> Reader<'a> {
     #[cycle(types)]
     #[tactic(auto, unfolding(wit_grammar::specs::Rules::payload, wit_grammar::specs::Leaves::mark_at))]
     fn read_payload(&mut self, left: u8) -> ReadResult<Option<Box<Type<'a>>>>
-        ensures read { IfOk result (λ t. IsReadOn self.old (boxed_marks t) self.new) }
-        ensures refused { IfErr result (λ e. IsRefused self.old e) }
         ensures reads { IfOk result (λ it. ReadsOn (payload (types left)) self.old (see_boxed it) self.new) }
         ensures stops { IfErr result (Refuses (payload (types left)) self.old) }
     {
@@ -309,11 +275,9 @@ impl<'a> Reader<'a> {
         Ok(Some(payload))
     }
 
-    /// Reads a type and the token of a kind behind it, and boxes the type.
+    /// Reads a type and the token of a kind after it, and boxes the type.
     #[cycle(types)]
     fn read_boxed_before(&mut self, left: u8, close: Kind) -> ReadResult<Box<Type<'a>>>
-        ensures read { IfOk result (λ t. IsRead self.old (type_marks t.value) self.new) }
-        ensures refused { IfErr result (λ e. IsRefused self.old e) }
         ensures reads { IfOk result (λ it. Reads (types left ◂ close) self.old (see_type it.value) self.new) }
         ensures stops { IfErr result (Refuses (types left ◂ close) self.old) }
     {
@@ -326,8 +290,6 @@ impl<'a> Reader<'a> {
     /// Reads a type, and boxes it.
     #[cycle(types)]
     fn read_boxed(&mut self, left: u8) -> ReadResult<Box<Type<'a>>>
-        ensures read { IfOk result (λ t. IsRead self.old (type_marks t.value) self.new) }
-        ensures refused { IfErr result (λ e. IsRefused self.old e) }
         ensures reads { IfOk result (λ it. Reads (types left) self.old (see_type it.value) self.new) }
         ensures stops { IfErr result (Refuses (types left) self.old) }
     {

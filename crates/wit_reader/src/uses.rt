@@ -1,14 +1,11 @@
 //! Reading paths, what an interface or a world uses, and other names for items.
-ghost use Rattle.std.specs.Prelude.{◌≡◌, ◌+◌, [], ◌∷◌, map, IfOk, IfErr};
-ghost use Rattle.std.specs.List.{flat_map};
+ghost use Rattle.std.specs.Prelude.{◌≡◌, map, IfOk, IfErr};
 ghost use Rattle.std.specs.Option.{option_map};
-ghost use Rattle.wit_type_tree.specs.Marks.{named, attributes_marks};
-ghost use Rattle.wit_tree.specs.Marks.{path_marks, local_marks, used_marks, use_marks, toplevel_marks};
 ghost use Rattle.wit_lex.specs.declared.kind.Kind.TheVariants.{Dot, Semicolon};
-ghost use Rattle.wit_grammar.specs.Seen.{see_attribute, see_name, see_path, see_top_use, see_use, see_used};
-ghost use Rattle.wit_grammar.specs.Grammar.{act, ◌▸◌, ◌◂◌};
-ghost use Rattle.wit_grammar.specs.Rules.{item_path, joined, local, package_path, path, path_of, rest_of_path, top_use_of, top_used, use_of, used, used_name, used_names};
-ghost use Rattle.wit_reader.specs.Fronts.{Completes, IsReadBehind};
+ghost use Rattle.wit_grammar.specs.Seen.{see_name, see_path, see_top_use, see_use, see_used};
+ghost use Rattle.wit_grammar.specs.Grammar.{◌▸◌, ◌◂◌};
+ghost use Rattle.wit_grammar.specs.Rules.{item_path, joined, local, path, rest_of_path, top_used, used, used_name, used_names};
+ghost use Rattle.wit_reader.specs.After.{item_after, rest_after, top_use_after, use_after};
 ghost use Rattle.wit_reader.specs.Headers.{found_version};
 
 use crate::reader::Reader;
@@ -21,7 +18,7 @@ use wit_tree::Span;
 use wit_tree::tree::{Attribute, Docs, Id, PackageName, ToplevelUse, Use, UseName, UsePath};
 use wit_values::{beside, fitted};
 
-/// The package that a path names, with the version that was found behind the item's name.
+/// The package that a path names, with the version that was found after the item's name.
 fn path_package<'a>(
     docs: Docs<'a>,
     namespace: Id<'a>,
@@ -52,15 +49,13 @@ fn path_package<'a>(
 }
 
 impl<'a> Reader<'a> {
-    ghost use Rattle.wit_reader.specs.Reading.{IsRead, IsReadOn, IsRefused, Reads, ReadsAs, ReadsOn, Refuses};
+    ghost use Rattle.wit_reader.specs.Reading.{Reads, ReadsOn, Refuses};
 
-    /// Reads the rest of a path with a package behind the two names of that: `/name`, and perhaps a
+    /// Reads the rest of a path with a package after the two names of that: `/name`, and perhaps a
     /// version.
     #[tactic(auto, using(crate::proofs::Paths::package_seen), unfolding(wit_grammar::specs::Rules::item_path))]
     pub fn read_item_path(&mut self, first: Id<'a>, second: Id<'a>) -> ReadResult<UsePath<'a>>
-        ensures read { IfOk result (λ p. Completes self.old (named first.entry ∷ named second.entry ∷ []) (path_marks p) self.new) }
-        ensures refused { IfErr result (λ e. IsRefused self.old e) }
-        ensures parses { IfOk result (λ it. ReadsAs item_path (package_path (see_name first.entry) (see_name second.entry)) self.old (see_path it) self.new) }
+        ensures reads { IfOk result (λ it. Reads (item_after first.entry second.entry) self.old (see_path it) self.new) }
         ensures stops { IfErr result (Refuses item_path self.old) }
     {
         self.expect(Kind::Slash)?;
@@ -71,13 +66,11 @@ impl<'a> Reader<'a> {
         Ok(UsePath::Package { id, name })
     }
 
-    /// Reads the rest of a path behind its first name: nothing, or `:name/name` with perhaps a
+    /// Reads the rest of a path after its first name: nothing, or `:name/name` with perhaps a
     /// version.
     #[tactic(auto, using(crate::proofs::Paths::rest_made), unfolding(wit_grammar::specs::Rules::rest_of_path, wit_grammar::specs::Leaves::mark_at))]
     pub fn read_rest_of_path(&mut self, first: Id<'a>) -> ReadResult<UsePath<'a>>
-        ensures read { IfOk result (λ p. Completes self.old (named first.entry ∷ []) (path_marks p) self.new) }
-        ensures refused { IfErr result (λ e. IsRefused self.old e) }
-        ensures parses { IfOk result (λ it. ReadsOn (act (path_of (see_name first.entry)) rest_of_path) self.old (see_path it) self.new) }
+        ensures reads { IfOk result (λ it. ReadsOn (rest_after first.entry) self.old (see_path it) self.new) }
         ensures stops { IfErr result (Refuses rest_of_path self.old) }
     {
         if !self.at(Kind::Colon) {
@@ -89,12 +82,10 @@ impl<'a> Reader<'a> {
         Ok(path)
     }
 
-    /// Reads a path: a name of the package, or `name:name/name` with perhaps a version behind it.
+    /// Reads a path: a name of the package, or `name:name/name` with perhaps a version after it.
     #[tactic(auto, unfolding(wit_grammar::specs::Rules::path))]
     pub fn read_path(&mut self) -> ReadResult<UsePath<'a>>
-        ensures read { IfOk result (λ p. IsRead self.old (path_marks p) self.new) }
-        ensures refused { IfErr result (λ e. IsRefused self.old e) }
-        ensures parses { IfOk result (λ it. Reads path self.old (see_path it) self.new) }
+        ensures reads { IfOk result (λ it. Reads path self.old (see_path it) self.new) }
         ensures stops { IfErr result (Refuses path self.old) }
     {
         let first = self.read_id()?;
@@ -105,9 +96,7 @@ impl<'a> Reader<'a> {
     /// Reads `as` and the local name, where there is one.
     #[tactic(auto, unfolding(wit_grammar::specs::Rules::local, wit_grammar::specs::Leaves::mark_at))]
     fn read_local(&mut self) -> ReadResult<Option<Id<'a>>>
-        ensures read { IfOk result (λ it. IsReadOn self.old (local_marks it) self.new) }
-        ensures refused { IfErr result (λ e. IsRefused self.old e) }
-        ensures parses { IfOk result (λ it. ReadsOn local self.old (option_map see_name it) self.new) }
+        ensures reads { IfOk result (λ it. ReadsOn local self.old (option_map see_name it) self.new) }
         ensures stops { IfErr result (Refuses local self.old) }
     {
         if !self.at_word(Word::As) {
@@ -118,12 +107,10 @@ impl<'a> Reader<'a> {
         Ok(Some(local))
     }
 
-    /// Reads a used name, perhaps with a local name behind it.
+    /// Reads a used name, perhaps with a local name after it.
     #[tactic(auto, unfolding(wit_grammar::specs::Rules::used_name))]
     fn read_used(&mut self) -> ReadResult<UseName<'a>>
-        ensures read { IfOk result (λ u. IsRead self.old (used_marks u) self.new) }
-        ensures refused { IfErr result (λ e. IsRefused self.old e) }
-        ensures parses { IfOk result (λ it. Reads used_name self.old (see_used it) self.new) }
+        ensures reads { IfOk result (λ it. Reads used_name self.old (see_used it) self.new) }
         ensures stops { IfErr result (Refuses used_name self.old) }
     {
         let name = self.read_id()?;
@@ -133,9 +120,7 @@ impl<'a> Reader<'a> {
 
     /// Reads used names in braces.
     fn read_used_names(&mut self) -> ReadResult<Vec<UseName<'a>>>
-        ensures read { IfOk result (λ names. IsRead self.old (flat_map used_marks names.items) self.new) }
-        ensures refused { IfErr result (λ e. IsRefused self.old e) }
-        ensures parses { IfOk result (λ it. Reads used_names self.old (map see_used it.items) self.new) }
+        ensures reads { IfOk result (λ it. Reads used_names self.old (map see_used it.items) self.new) }
         ensures stops { IfErr result (Refuses used_names self.old) }
     {
         let mut more = self.open_list(Kind::OpenBrace, Kind::CloseBrace)?;
@@ -148,11 +133,9 @@ impl<'a> Reader<'a> {
         Ok(fitted(names))
     }
 
-    /// Reads what stands behind the path of a `use`: `.{name, name as name, ..};`.
+    /// Reads what follows the path of a `use`: `.{name, name as name, ..};`.
     fn read_behind_path(&mut self) -> ReadResult<Vec<UseName<'a>>>
-        ensures read { IfOk result (λ names. IsRead self.old (flat_map used_marks names.items) self.new) }
-        ensures refused { IfErr result (λ e. IsRefused self.old e) }
-        ensures parses { IfOk result (λ it. Reads (Dot ▸ (used_names ◂ Semicolon)) self.old (map see_used it.items) self.new) }
+        ensures reads { IfOk result (λ it. Reads (Dot ▸ (used_names ◂ Semicolon)) self.old (map see_used it.items) self.new) }
         ensures stops { IfErr result (Refuses (Dot ▸ (used_names ◂ Semicolon)) self.old) }
     {
         self.expect(Kind::Dot)?;
@@ -164,9 +147,7 @@ impl<'a> Reader<'a> {
     /// Reads `use path.{name, name as name, ..};`.
     #[tactic(auto, unfolding(wit_grammar::specs::Rules::used))]
     pub fn read_use(&mut self, attributes: Vec<Attribute<'a>>) -> ReadResult<Use<'a>>
-        ensures read { IfOk result (λ u. IsReadBehind self.old (attributes_marks attributes.entry.items) (use_marks u) self.new) }
-        ensures refused { IfErr result (λ e. IsRefused self.old e) }
-        ensures parses { IfOk result (λ it. ReadsAs used (use_of (map see_attribute attributes.entry.items)) self.old (see_use it) self.new) }
+        ensures reads { IfOk result (λ it. Reads (use_after attributes.entry) self.old (see_use it) self.new) }
         ensures stops { IfErr result (Refuses used self.old) }
     {
         self.expect_word(Word::Use)?;
@@ -181,9 +162,7 @@ impl<'a> Reader<'a> {
 
     /// Reads `;`, perhaps with `as` and the local name in front of it.
     fn read_local_and_close(&mut self) -> ReadResult<Option<Id<'a>>>
-        ensures read { IfOk result (λ it. IsRead self.old (local_marks it) self.new) }
-        ensures refused { IfErr result (λ e. IsRefused self.old e) }
-        ensures parses { IfOk result (λ it. Reads (local ◂ Semicolon) self.old (option_map see_name it) self.new) }
+        ensures reads { IfOk result (λ it. Reads (local ◂ Semicolon) self.old (option_map see_name it) self.new) }
         ensures stops { IfErr result (Refuses (local ◂ Semicolon) self.old) }
     {
         let local = self.read_local()?;
@@ -197,9 +176,7 @@ impl<'a> Reader<'a> {
         &mut self,
         attributes: Vec<Attribute<'a>>,
     ) -> ReadResult<ToplevelUse<'a>>
-        ensures read { IfOk result (λ u. IsReadBehind self.old (attributes_marks attributes.entry.items) (toplevel_marks u) self.new) }
-        ensures refused { IfErr result (λ e. IsRefused self.old e) }
-        ensures parses { IfOk result (λ it. ReadsAs top_used (top_use_of (map see_attribute attributes.entry.items)) self.old (see_top_use it) self.new) }
+        ensures reads { IfOk result (λ it. Reads (top_use_after attributes.entry) self.old (see_top_use it) self.new) }
         ensures stops { IfErr result (Refuses top_used self.old) }
     {
         let span = self.read_word(Word::Use)?;

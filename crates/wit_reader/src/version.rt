@@ -1,13 +1,10 @@
 //! Reading versions.
-ghost use Rattle.std.specs.Prelude.{◌≡◌, ◌<◌, ◌≤◌, [], ◌∷◌, ◌-◌, length, slice_index, Err, IfOk, IfErr};
+ghost use Rattle.std.specs.Prelude.{◌≡◌, ◌<◌, ◌≤◌, ◌-◌, length, slice_index, Err, IfOk, IfErr};
 ghost use Rattle.std.specs.Option.{option_map};
-ghost use Rattle.wit_type_tree.specs.Marks.{versioned};
-ghost use Rattle.wit_lex.specs.Faults.{IsWithin};
-ghost use Rattle.wit_lex.specs.Lexis.{Stops};
 ghost use Rattle.wit_grammar.specs.Leaves.{version_at};
+ghost use Rattle.wit_grammar.specs.Grammar.{version};
 ghost use Rattle.wit_grammar.specs.Rules.{at_version};
-ghost use Rattle.wit_reader.specs.Headers.{found_marks, see_found};
-ghost use Rattle.wit_reader.specs.Reading.{IsRefusedFrom};
+ghost use Rattle.wit_reader.specs.Headers.{see_found};
 ghost use Rattle.wit_reader.specs.Versions.{broken_off, version_between};
 
 use crate::reader::Reader;
@@ -23,9 +20,7 @@ use wit_tree::Span;
 /// The fault of the first token from a place on.
 fn refuse_from(source: &str, from: usize) -> ReadError
     requires within { from ≤ length source.now }
-    ensures within { IsWithin source.now result }
-    ensures told { IsRefusedFrom source.now from result }
-    ensures exact { broken_off source.now from ≡ Err result }
+    ensures { broken_off source.now from ≡ Err result }
 {
     match next_token(source, from) {
         Ok(token) => ReadError::Fault(ReadFault::Token, token.start, token.end),
@@ -34,7 +29,7 @@ fn refuse_from(source: &str, from: usize) -> ReadError
 }
 
 impl<'a> Reader<'a> {
-    ghost use Rattle.wit_reader.specs.Reading.{IsRead, IsReadOn, IsRefused, Parses, ReadsOn, Refuses, spot};
+    ghost use Rattle.wit_reader.specs.Reading.{Reads, ReadsOn, Refuses, spot};
 
     /// The end of the version whose first number is the token.
     #[tactic(auto, unfolding(wit_grammar::specs::Leaves::version_at))]
@@ -42,7 +37,6 @@ impl<'a> Reader<'a> {
         ensures first { IfOk result (λ end. slice_index self.now.source.now self.now.token.start < 128) }
         ensures last { IfOk result (λ end. slice_index self.now.source.now (end - 1) < 128) }
         ensures range { IfOk result (λ end. (self.now.token.start < end) × (self.now.token.end ≤ end) × (end ≤ length self.now.source.now)) }
-        ensures refused { IfErr result (λ e. IsRefused self.now e) }
         ensures ends { IfOk result (λ end. version_at (spot self.now) ≡ version_between (spot self.now) self.now.token.start end) }
         ensures stops { IfErr result (λ e. version_at (spot self.now) ≡ Err e) }
     {
@@ -58,9 +52,7 @@ impl<'a> Reader<'a> {
     /// Reads `@` and a version, where there is one, and tells where it is.
     #[tactic(auto, unfolding(wit_grammar::specs::Rules::at_version, wit_grammar::specs::Leaves::mark_at))]
     pub fn read_at_version(&mut self) -> ReadResult<Option<(Span, Version)>>
-        ensures read { IfOk result (λ found. IsReadOn self.old (found_marks found) self.new) }
-        ensures refused { IfErr result (λ e. IsRefused self.old e) }
-        ensures parses { IfOk result (λ it. ReadsOn at_version self.old (option_map see_found it) self.new) }
+        ensures reads { IfOk result (λ it. ReadsOn at_version self.old (option_map see_found it) self.new) }
         ensures stops { IfErr result (Refuses at_version self.old) }
     {
         if !self.at(Kind::At) {
@@ -73,10 +65,8 @@ impl<'a> Reader<'a> {
 
     /// Reads a version, and tells where it is.
     pub fn read_version(&mut self) -> ReadResult<(Span, Version)>
-        ensures read { IfOk result (λ r. IsRead self.old (versioned r.0 r.0 r.1 ∷ []) self.new) }
-        ensures refused { IfErr result (λ e. IsRefused self.old e) }
-        ensures parses { IfOk result (λ it. Parses self.old (version_at (spot self.old)) (see_found it) self.new) }
-        ensures stops { IfErr result (Stops (version_at (spot self.old))) }
+        ensures reads { IfOk result (λ it. Reads version self.old (see_found it) self.new) }
+        ensures stops { IfErr result (Refuses version self.old) }
     {
         let start = self.token.start;
         let end = self.find_version_end()?;

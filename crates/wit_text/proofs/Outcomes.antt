@@ -1,5 +1,5 @@
 -- What reading a file comes to: the tree that its source spells, or the fault at which reading stops.
-use Rattle.std.proofs.Common.{◌≡◌, ℕ, List, ◌∙◌, sym}
+use Rattle.std.proofs.Common.{◌≡◌, ℕ, List, ◌∙◌, sym, arith}
 use Rattle.std.specs.Prelude.{Ok, Err}
 use Rattle.wit_type_tree.specs.declared.error.ParseError.{ParseError}
 use Rattle.wit_type_tree.specs.Refusal.{IsWantOfMemory}
@@ -12,6 +12,7 @@ use Rattle.wit_grammar.specs.Grammar.{run}
 use Rattle.wit_grammar.specs.ItemRules.{file}
 use Rattle.wit_grammar.specs.Laws.{IsReadAs, IsSpelled, start}
 use Rattle.wit_grammar.proofs.Whole.{one_tree, read_is_spelled, spelled_is_read}
+use Rattle.wit_grammar.proofs.Within.{fault_within}
 use Rattle.wit_text.specs.Files.{IsFaultOf, At, Wanted}
 
 -- no other tree is spelled than that which is read
@@ -25,6 +26,9 @@ none_spelled source offset (Fault f from to) r h told tree k =
     absurd (let both = sym read.1 ∙ h in cc)
 none_spelled source offset OutOfMemory r h told tree k = told
 
-pub fault_of : (source : List ℕ) (offset : ℕ) (e : ReadError) (r : ParseError) → Stops (run file (start source offset)) e → IsWithin source e → IsRefusalOf e offset r → IsFaultOf source offset r
-fault_of source offset (Fault f from to) r h within told = At (Fault f from to) h within told
-fault_of source offset OutOfMemory r h within told = Wanted told
+pub stops_within : (source : List ℕ) (offset : ℕ) (e : ReadError) → Stops (run file (start source offset)) e → IsWithin source e
+stops_within source offset e h = fault_within file (start source offset) e (omega arith) h
+
+pub fault_of : (source : List ℕ) (offset : ℕ) (e : ReadError) (r : ParseError) → Stops (run file (start source offset)) e → IsRefusalOf e offset r → IsFaultOf source offset r
+fault_of source offset (Fault f from to) r h told = At (Fault f from to) h (stops_within source offset (Fault f from to) h) told
+fault_of source offset OutOfMemory r h told = Wanted told

@@ -1,8 +1,8 @@
-//! Reading declarations, and whether a nested package stands in the place of one.
-ghost use Rattle.std.specs.Prelude.{◌≡◌, ◌+◌, [], ◌∷◌, IfOk, IfErr};
+//! Reading declarations, and whether a nested package is in the place of one.
+ghost use Rattle.std.specs.Prelude.{IfOk, IfErr};
 ghost use Rattle.wit_grammar.specs.Seen.{see_interface};
 ghost use Rattle.wit_grammar.specs.ItemRules.{interface_rule};
-ghost use Rattle.wit_reader.specs.Reading.{IsRefused, Reads, Refuses};
+ghost use Rattle.wit_reader.specs.Reading.{Reads, Refuses};
 ghost use Rattle.wit_text.specs.After.{interface_after};
 ghost use Rattle.wit_text.specs.Packages.{ReadsItem, RefusesItem};
 
@@ -14,11 +14,11 @@ use wit_reader::front::Front;
 use wit_reader::reader::Reader;
 use wit_tree::tree::{AstItem, Docs, Interface};
 
-/// What stands among the items of a file or of a nested package.
+/// What is among the items of a file or of a nested package.
 #[derive(Drop)]
 pub enum PackageItem<'a> {
     Declaration(AstItem<'a>),
-    /// The docs of a nested package. The token behind them is its word `package`.
+    /// The docs of a nested package. The token after them is its word `package`.
     Package(Docs<'a>),
 }
 
@@ -26,7 +26,6 @@ pub enum PackageItem<'a> {
 #[tactic(auto, unfolding(wit_grammar::specs::ItemRules::interface_rule))]
 fn read_interface<'a>(reader: &mut Reader<'a>, front: Front<'a>) -> ReadResult<Interface<'a>>
     ensures reads { IfOk result (λ it. Reads (interface_after front.entry) reader.old (see_interface it) reader.new) }
-    ensures refused { IfErr result (λ e. IsRefused reader.old e) }
     ensures stops { IfErr result (Refuses interface_rule reader.old) }
 {
     reader.expect_word(Word::Interface)?;
@@ -44,7 +43,6 @@ fn read_interface<'a>(reader: &mut Reader<'a>, front: Front<'a>) -> ReadResult<I
 /// nested package, which may have no attributes.
 pub fn read_package_item<'a>(reader: &mut Reader<'a>) -> ReadResult<PackageItem<'a>>
     ensures reads { IfOk result (λ it. ReadsItem reader.old it reader.new) }
-    ensures refused { IfErr result (λ e. IsRefused reader.old e) }
     ensures stops { IfErr result (RefusesItem reader.old) }
 {
     let docs = reader.read_docs()?;

@@ -1,9 +1,9 @@
 //! Reading what worlds import and export.
-ghost use Rattle.std.specs.Prelude.{◌≡◌, ◌+◌, [], ◌∷◌, IfOk, IfErr};
+ghost use Rattle.std.specs.Prelude.{◌≡◌, IfOk, IfErr};
 ghost use Rattle.wit_grammar.specs.Grammar.{starts};
 ghost use Rattle.wit_grammar.specs.Seen.{see_kind, see_extern};
 ghost use Rattle.wit_grammar.specs.ItemRules.{inline_items, worded_function, after_second, get_or_set, after_colon, extern_kind, side, extern};
-ghost use Rattle.wit_reader.specs.Reading.{IsRefused, Reads, Refuses, spot};
+ghost use Rattle.wit_reader.specs.Reading.{Reads, Refuses, spot};
 ghost use Rattle.wit_text.specs.After.{accessor_after, extern_after, inline_after, kind_after, path_after, worded_after};
 
 use wit_interface_reader::accessor::{at_accessor, read_accessor, read_func_word};
@@ -20,7 +20,6 @@ use wit_tree::tree::{Extern, ExternKind, Func, Id, UsePath, WorldSide};
 #[tactic(auto, unfolding(wit_grammar::specs::ItemRules::inline_items))]
 fn read_inline_interface<'a>(reader: &mut Reader<'a>, name: Id<'a>) -> ReadResult<ExternKind<'a>>
     ensures reads { IfOk result (λ it. Reads (inline_after name.entry) reader.old (see_kind it) reader.new) }
-    ensures refused { IfErr result (λ e. IsRefused reader.old e) }
     ensures stops { IfErr result (Refuses inline_items reader.old) }
 {
     reader.expect_word(Word::Interface)?;
@@ -32,7 +31,6 @@ fn read_inline_interface<'a>(reader: &mut Reader<'a>, name: Id<'a>) -> ReadResul
 #[tactic(auto, unfolding(wit_grammar::specs::ItemRules::worded_function))]
 fn read_extern_func<'a>(reader: &mut Reader<'a>, name: Id<'a>) -> ReadResult<ExternKind<'a>>
     ensures reads { IfOk result (λ it. Reads (worded_after name.entry) reader.old (see_kind it) reader.new) }
-    ensures refused { IfErr result (λ e. IsRefused reader.old e) }
     ensures stops { IfErr result (Refuses worded_function reader.old) }
 {
     let (span, form) = read_func_word(reader)?;
@@ -55,7 +53,6 @@ fn read_after_second<'a>(
     second: Id<'a>,
 ) -> ReadResult<ExternKind<'a>>
     ensures reads { IfOk result (λ it. Reads (path_after first.entry second.entry) reader.old (see_kind it) reader.new) }
-    ensures refused { IfErr result (λ e. IsRefused reader.old e) }
     ensures stops { IfErr result (Refuses after_second reader.old) }
 {
     if reader.at(Kind::Slash) {
@@ -73,7 +70,6 @@ fn read_after_second<'a>(
 #[tactic(auto, unfolding(wit_grammar::specs::ItemRules::get_or_set))]
 fn read_get_or_set<'a>(reader: &mut Reader<'a>, name: Id<'a>) -> ReadResult<ExternKind<'a>>
     ensures reads { IfOk result (λ it. Reads (accessor_after name.entry) reader.old (see_kind it) reader.new) }
-    ensures refused { IfErr result (λ e. IsRefused reader.old e) }
     ensures stops { IfErr result (Refuses get_or_set reader.old) }
 {
     let (word, form) = read_accessor(reader)?;
@@ -102,7 +98,6 @@ fn at_func(reader: &Reader<'_>) -> bool
 /// Reads what follows a name and `:`.
 fn read_after_colon<'a>(reader: &mut Reader<'a>, name: Id<'a>) -> ReadResult<ExternKind<'a>>
     ensures reads { IfOk result (λ it. Reads (kind_after name.entry) reader.old (see_kind it) reader.new) }
-    ensures refused { IfErr result (λ e. IsRefused reader.old e) }
     ensures stops { IfErr result (Refuses after_colon reader.old) }
 {
     if reader.at_word(Word::Interface) {
@@ -126,7 +121,6 @@ fn read_after_colon<'a>(reader: &mut Reader<'a>, name: Id<'a>) -> ReadResult<Ext
 #[tactic(auto, unfolding(wit_grammar::specs::ItemRules::extern_kind, wit_grammar::specs::Leaves::mark_at))]
 fn read_extern<'a>(reader: &mut Reader<'a>) -> ReadResult<ExternKind<'a>>
     ensures reads { IfOk result (λ it. Reads extern_kind reader.old (see_kind it) reader.new) }
-    ensures refused { IfErr result (λ e. IsRefused reader.old e) }
     ensures stops { IfErr result (Refuses extern_kind reader.old) }
 {
     let first = reader.read_id()?;
@@ -151,7 +145,6 @@ pub fn at_side(reader: &Reader<'_>) -> bool
 #[tactic(auto, unfolding(wit_grammar::specs::ItemRules::side))]
 fn read_direction(reader: &mut Reader<'_>) -> ReadResult<WorldSide>
     ensures reads { IfOk result (λ it. Reads side reader.old it reader.new) }
-    ensures refused { IfErr result (λ e. IsRefused reader.old e) }
     ensures stops { IfErr result (Refuses side reader.old) }
 {
     if reader.at_word(Word::Import) {
@@ -165,7 +158,6 @@ fn read_direction(reader: &mut Reader<'_>) -> ReadResult<WorldSide>
 /// Reads `import` or `export`, and what is imported or exported.
 pub fn read_side<'a>(reader: &mut Reader<'a>, front: Front<'a>) -> ReadResult<Extern<'a>>
     ensures reads { IfOk result (λ it. Reads (extern_after front.entry) reader.old (see_extern it) reader.new) }
-    ensures refused { IfErr result (λ e. IsRefused reader.old e) }
     ensures stops { IfErr result (Refuses extern reader.old) }
 {
     let side = read_direction(reader)?;

@@ -1,12 +1,11 @@
 //! Reading a file.
 ghost use Rattle.std.specs.Prelude.{◌≡◌, ◌+◌, ◌<◌, ◌^◌, length, IfOk, OnOk, IfErr};
-ghost use Rattle.wit_lex.specs.Faults.{IsWithin};
 ghost use Rattle.wit_lex.specs.Lexis.{Stops};
 ghost use Rattle.wit_grammar.specs.Grammar.{run};
 ghost use Rattle.wit_grammar.specs.Seen.{see_file};
 ghost use Rattle.wit_grammar.specs.ItemRules.{beginning, file, item_to, items_to_end, package_first};
 ghost use Rattle.wit_grammar.specs.Laws.{IsReadAs, IsSpelled, start};
-ghost use Rattle.wit_reader.specs.Reading.{IsRefused, ReadsOn, Refuses};
+ghost use Rattle.wit_reader.specs.Reading.{ReadsOn, Refuses};
 ghost use Rattle.wit_grammar.specs.Trees.{File};
 ghost use Rattle.wit_text.specs.Files.{AddsBeginning, AddsItem, AddsItems, AddsPackage, Gives, IsFaultOf, file_with};
 
@@ -29,7 +28,6 @@ fn add_item<'a>(
     nested: &mut Vec<NestedPackage<'a>>,
 ) -> ReadResult<()>
     ensures adds { OnOk result (AddsItem reader.old items.old items.new nested.old nested.new reader.new) }
-    ensures refused { IfErr result (λ e. IsRefused reader.old e) }
     ensures stops { IfErr result (Refuses (item_to 100) reader.old) }
 {
     let item = read_package_item(reader)?;
@@ -51,7 +49,6 @@ fn read_package<'a>(
     nested: &mut Vec<NestedPackage<'a>>,
 ) -> ReadResult<Option<PackageName<'a>>>
     ensures adds { IfOk result (λ it. AddsPackage reader.old it nested.old nested.new reader.new) }
-    ensures refused { IfErr result (λ e. IsRefused reader.old e) }
     ensures stops { IfErr result (Refuses package_first reader.old) }
 {
     let docs = reader.read_docs()?;
@@ -72,7 +69,6 @@ fn read_beginning<'a>(
     nested: &mut Vec<NestedPackage<'a>>,
 ) -> ReadResult<Option<PackageName<'a>>>
     ensures adds { IfOk result (λ it. AddsBeginning reader.old it items.old items.new nested.old nested.new reader.new) }
-    ensures refused { IfErr result (λ e. IsRefused reader.old e) }
     ensures stops { IfErr result (Refuses beginning reader.old) }
 {
     if reader.at_word(Word::Package) {
@@ -90,7 +86,6 @@ fn add_items<'a>(
     nested: &mut Vec<NestedPackage<'a>>,
 ) -> ReadResult<()>
     ensures adds { OnOk result (AddsItems reader.old items.old items.new nested.old nested.new reader.new) }
-    ensures refused { IfErr result (λ e. IsRefused reader.old e) }
     ensures stops { IfErr result (Refuses items_to_end reader.old) }
 {
     'items: while !reader.at(Kind::End) {
@@ -121,7 +116,6 @@ fn source_file<'a>(
 /// Reads up to the end of the source.
 fn read_whole<'a>(reader: &mut Reader<'a>) -> ReadResult<SourceFile<'a>>
     ensures reads { IfOk result (λ it. ReadsOn file reader.old (see_file it) reader.new) }
-    ensures refused { IfErr result (λ e. IsRefused reader.old e) }
     ensures stops { IfErr result (Refuses file reader.old) }
 {
     let mut declarations = Vec::new(reader.alloc);
@@ -134,11 +128,10 @@ fn read_whole<'a>(reader: &mut Reader<'a>) -> ReadResult<SourceFile<'a>>
     Ok(source_file(header, declarations, nested))
 }
 
-/// [`read_file`], of which a fault is not told yet.
+/// [`read_file`], before a fault becomes a refusal.
 fn read_source<'a>(alloc: Global, source: &'a str, offset: u32) -> ReadResult<SourceFile<'a>>
     requires fits { offset + length source.now < 2 ^ 32 }
     ensures reads { IfOk result (λ it. IsReadAs source.now offset (see_file it)) }
-    ensures refused { IfErr result (IsWithin source.now) }
     ensures stops { IfErr result (Stops (run file (start source.now offset))) }
 {
     let token = next_token(source, 0)?;
@@ -156,8 +149,8 @@ fn read_source<'a>(alloc: Global, source: &'a str, offset: u32) -> ReadResult<So
 /// The tree of a file whose first byte has the place `offset`.
 ///
 /// Its docs, names and words are slices of the source at their spans, which rise in the order of the
-/// tree's fields; a `%` in front of a name belongs to its span alone. The version in a path stands
-/// behind the item's name, and is in no span. Docs are the comments between two tokens that begin
+/// tree's fields; a `%` in front of a name belongs to its span alone. The version in a path is
+/// after the item's name, and in no span. Docs are the comments between two tokens that begin
 /// with `///` or `/**`; their span goes from the first to the end of the last, and is (0, 0) where
 /// there is none. That of an attribute goes from its `@` to the end of its `)`. Spans are shifted by
 /// `offset`, but for the (0, 0).
@@ -167,14 +160,14 @@ fn read_source<'a>(alloc: Global, source: &'a str, offset: u32) -> ReadResult<So
 /// name that is no label (twice the end of the source where it ends too soon), 48 at the first two
 /// bytes of a comment without end, 49 at the first word of a type or of a package that is the hundred
 /// and first of those in one another, 50 at a version that `semver` refuses, 51 at a number of items
-/// over 4,294,967,295, and 45 for want of memory.
+/// over 4,294,967,295, and 45 where memory runs out.
 ///
-/// Nested packages stand beside the declarations of the file itself, in source order. Of what is nested
+/// Nested packages are beside the declarations of the file itself, in source order. Of what is nested
 /// in one of them the names alone are kept; all is read by the same rules.
 ///
 /// A version is three numbers joined by `.`, then perhaps `-` and a run, then perhaps `+` and a run,
 /// without blanks; a run is the longest text of letters, digits, `-` and those `.` that one of these
-/// follows. Where a number or a `.` is wanted and another token stands, that token is refused.
+/// follows. Where a number or a `.` is wanted and another token is found, that token is refused.
 pub fn read_file<'a>(alloc: Global, source: &'a str, offset: u32) -> ParseResult<SourceFile<'a>>
     requires fits { offset + length source.now < 2 ^ 32 }
     ensures spelled { IfOk result (λ it. IsSpelled source.now offset (see_file it)) }

@@ -1,4 +1,4 @@
-//! Reading a file, which turns it into its tree. Sources are given again from `wit_lex`.
+//! Reading a file, which turns it into its tree. Sources are re-exported from `wit_lex`.
 #![tactic(auto)]
 
 mod declaration;

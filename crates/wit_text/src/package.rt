@@ -2,7 +2,7 @@
 ghost use Rattle.std.specs.Prelude.{◌≡◌, IfOk, OnOk, IfErr};
 ghost use Rattle.wit_grammar.specs.Seen.{see_name, see_docs, see_package_id, see_nested};
 ghost use Rattle.wit_grammar.specs.ItemRules.{two_names, package_names, package_of, braced, item_to, package_to};
-ghost use Rattle.wit_reader.specs.Reading.{IsRefused, Reads, ReadsAs, Refuses};
+ghost use Rattle.wit_reader.specs.Reading.{Reads, ReadsAs, Refuses};
 ghost use Rattle.wit_text.specs.After.{names_after, nested_after, package_after, names_of};
 ghost use Rattle.wit_text.specs.Packages.{Skips, kept_items, level_fault, see_items};
 
@@ -48,7 +48,6 @@ fn package_name<'a>(
 #[tactic(auto, unfolding(wit_grammar::specs::ItemRules::two_names))]
 fn read_names_of_package<'a>(reader: &mut Reader<'a>) -> ReadResult<(Id<'a>, Id<'a>)>
     ensures reads { IfOk result (λ it. Reads two_names reader.old (see_name it.0, see_name it.1) reader.new) }
-    ensures refused { IfErr result (λ e. IsRefused reader.old e) }
     ensures stops { IfErr result (Refuses two_names reader.old) }
 {
     reader.expect_word(Word::Package)?;
@@ -57,12 +56,11 @@ fn read_names_of_package<'a>(reader: &mut Reader<'a>) -> ReadResult<(Id<'a>, Id<
     Ok((namespace, name))
 }
 
-/// Reads `package name:name`, perhaps with a version behind the name: what stands in front of the
+/// Reads `package name:name`, perhaps with a version after the name: what is in front of the
 /// `;` of a header, or of the `{` of a nested package.
 #[tactic(auto, unfolding(wit_grammar::specs::ItemRules::package_names))]
 pub fn read_package_name<'a>(reader: &mut Reader<'a>, docs: Docs<'a>) -> ReadResult<PackageName<'a>>
     ensures reads { IfOk result (λ it. Reads (names_after docs.entry) reader.old (see_package_id it) reader.new) }
-    ensures refused { IfErr result (λ e. IsRefused reader.old e) }
     ensures stops { IfErr result (Refuses package_names reader.old) }
 {
     let (namespace, name) = read_names_of_package(reader)?;
@@ -72,8 +70,7 @@ pub fn read_package_name<'a>(reader: &mut Reader<'a>, docs: Docs<'a>) -> ReadRes
 
 /// The refusal of the token where no further level of packages is read.
 fn refuse_level(reader: &Reader<'_>) -> ReadError
-    ensures refused { IsRefused reader.now result }
-    ensures exact { result ≡ level_fault reader.now.token }
+    ensures { result ≡ level_fault reader.now.token }
 {
     if reader.at_word(Word::Package) {
         reader.refuse(ReadFault::Nesting)
@@ -86,7 +83,6 @@ fn refuse_level(reader: &Reader<'_>) -> ReadError
 #[cycle(packages)]
 fn pass_items(reader: &mut Reader<'_>, left: u8) -> ReadResult<()>
     ensures reads { OnOk result (Skips (braced (item_to left)) reader.old reader.new) }
-    ensures refused { IfErr result (λ e. IsRefused reader.old e) }
     ensures stops { IfErr result (Refuses (braced (item_to left)) reader.old) }
 {
     reader.expect(Kind::OpenBrace)?;
@@ -101,7 +97,6 @@ fn pass_items(reader: &mut Reader<'_>, left: u8) -> ReadResult<()>
 #[cycle(packages)]
 fn pass_item(reader: &mut Reader<'_>, left: u8) -> ReadResult<()>
     ensures reads { OnOk result (Skips (item_to left) reader.old reader.new) }
-    ensures refused { IfErr result (λ e. IsRefused reader.old e) }
     ensures stops { IfErr result (Refuses (item_to left) reader.old) }
 {
     let item = read_package_item(reader)?;
@@ -121,7 +116,6 @@ fn pass_item(reader: &mut Reader<'_>, left: u8) -> ReadResult<()>
 #[cycle(packages)]
 fn read_inner<'a>(reader: &mut Reader<'a>, docs: Docs<'a>, left: u8) -> ReadResult<PackageName<'a>>
     ensures reads { IfOk result (λ it. Reads (package_after docs.entry left) reader.old (see_package_id it) reader.new) }
-    ensures refused { IfErr result (λ e. IsRefused reader.old e) }
     ensures stops { IfErr result (Refuses (package_to left) reader.old) }
 {
     if left == 0 {
@@ -138,7 +132,6 @@ fn read_nested_items<'a>(
     reader: &mut Reader<'a>,
 ) -> ReadResult<(DeclList<'a>, Vec<PackageName<'a>>)>
     ensures reads { IfOk result (λ it. ReadsAs (braced (item_to 99)) kept_items reader.old (see_items it) reader.new) }
-    ensures refused { IfErr result (λ e. IsRefused reader.old e) }
     ensures stops { IfErr result (Refuses (braced (item_to 99)) reader.old) }
 {
     reader.expect(Kind::OpenBrace)?;
@@ -160,13 +153,12 @@ fn read_nested_items<'a>(
     Ok((DeclList { items }, inner))
 }
 
-/// Reads a nested package behind its name: what stands in its braces.
+/// Reads a nested package after its name: what is in its braces.
 pub fn read_nested<'a>(
     reader: &mut Reader<'a>,
     name: PackageName<'a>,
 ) -> ReadResult<NestedPackage<'a>>
     ensures reads { IfOk result (λ it. Reads (nested_after name.entry) reader.old (see_nested it) reader.new) }
-    ensures refused { IfErr result (λ e. IsRefused reader.old e) }
     ensures stops { IfErr result (Refuses (braced (item_to 99)) reader.old) }
 {
     let (header, items) = beside(name, read_nested_items(reader))?;

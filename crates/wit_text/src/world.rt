@@ -1,10 +1,10 @@
 //! Reading worlds.
-ghost use Rattle.std.specs.Prelude.{◌≡◌, ◌+◌, [], ◌∷◌, OnOk, IfOk, IfErr};
+ghost use Rattle.std.specs.Prelude.{OnOk, IfOk, IfErr};
 ghost use Rattle.std.specs.Prelude.{map};
 ghost use Rattle.wit_grammar.specs.Seen.{see_renamed, see_include, see_world_item, see_world};
 ghost use Rattle.wit_grammar.specs.Rules.{used};
 ghost use Rattle.wit_grammar.specs.ItemRules.{definition, extern, maybe_semicolon, renamed, renames, include, world_item, world_items, world_rule};
-ghost use Rattle.wit_reader.specs.Reading.{IsRefused, Reads, ReadsOn, Refuses};
+ghost use Rattle.wit_reader.specs.Reading.{Reads, ReadsOn, Refuses};
 ghost use Rattle.wit_text.specs.After.{crossing_after, definition_after, include_after, includes_after, renamed_names, uses_after, world_after};
 ghost use Rattle.wit_text.specs.Worlds.{Adds};
 
@@ -23,7 +23,6 @@ use wit_values::{beside, fitted};
 #[tactic(auto, unfolding(wit_grammar::specs::ItemRules::renamed))]
 fn read_renamed<'a>(reader: &mut Reader<'a>) -> ReadResult<IncludeName<'a>>
     ensures reads { IfOk result (λ it. Reads renamed reader.old (see_renamed it) reader.new) }
-    ensures refused { IfErr result (λ e. IsRefused reader.old e) }
     ensures stops { IfErr result (Refuses renamed reader.old) }
 {
     let name = reader.read_id()?;
@@ -35,7 +34,6 @@ fn read_renamed<'a>(reader: &mut Reader<'a>) -> ReadResult<IncludeName<'a>>
 /// Reads renamed names in braces.
 fn read_renamed_names<'a>(reader: &mut Reader<'a>) -> ReadResult<Vec<IncludeName<'a>>>
     ensures reads { IfOk result (λ it. Reads renamed_names reader.old (map see_renamed it.items) reader.new) }
-    ensures refused { IfErr result (λ e. IsRefused reader.old e) }
     ensures stops { IfErr result (Refuses renamed_names reader.old) }
 {
     let mut more = reader.open_list(Kind::OpenBrace, Kind::CloseBrace)?;
@@ -52,7 +50,6 @@ fn read_renamed_names<'a>(reader: &mut Reader<'a>) -> ReadResult<Vec<IncludeName
 #[tactic(auto, unfolding(wit_grammar::specs::ItemRules::maybe_semicolon, wit_grammar::specs::Leaves::mark_at))]
 fn skip_semicolon(reader: &mut Reader<'_>) -> ReadResult<bool>
     ensures reads { IfOk result (λ it. ReadsOn maybe_semicolon reader.old it reader.new) }
-    ensures refused { IfErr result (λ e. IsRefused reader.old e) }
     ensures stops { IfErr result (Refuses maybe_semicolon reader.old) }
 {
     if !reader.at(Kind::Semicolon) {
@@ -62,11 +59,10 @@ fn skip_semicolon(reader: &mut Reader<'_>) -> ReadResult<bool>
     Ok(true)
 }
 
-/// Reads `;`, or `with { name as name, .. }` and perhaps a `;` behind it.
+/// Reads `;`, or `with { name as name, .. }` and perhaps a `;` after it.
 #[tactic(auto, unfolding(wit_grammar::specs::ItemRules::renames, wit_grammar::specs::Leaves::mark_at))]
 fn read_renames<'a>(reader: &mut Reader<'a>) -> ReadResult<Vec<IncludeName<'a>>>
     ensures reads { IfOk result (λ it. Reads renames reader.old (map see_renamed it.items) reader.new) }
-    ensures refused { IfErr result (λ e. IsRefused reader.old e) }
     ensures stops { IfErr result (Refuses renames reader.old) }
 {
     if !reader.at_word(Word::With) {
@@ -86,7 +82,6 @@ fn read_include<'a>(
     attributes: Vec<Attribute<'a>>,
 ) -> ReadResult<Include<'a>>
     ensures reads { IfOk result (λ it. Reads (include_after attributes.entry) reader.old (see_include it) reader.new) }
-    ensures refused { IfErr result (λ e. IsRefused reader.old e) }
     ensures stops { IfErr result (Refuses include reader.old) }
 {
     reader.expect_word(Word::Include)?;
@@ -99,7 +94,7 @@ fn read_include<'a>(
     })
 }
 
-/// Reads an import or an export, and puts it behind the other items.
+/// Reads an import or an export, and puts it after the other items.
 #[inline(never)]
 fn add_side<'a>(
     reader: &mut Reader<'a>,
@@ -107,7 +102,6 @@ fn add_side<'a>(
     items: &mut Vec<WorldItem<'a>>,
 ) -> ReadResult<()>
     ensures reads { OnOk result (Adds (crossing_after front.entry) reader.old items.old items.new reader.new) }
-    ensures refused { IfErr result (λ e. IsRefused reader.old e) }
     ensures stops { IfErr result (Refuses extern reader.old) }
 {
     let side = read_side(reader, front)?;
@@ -115,7 +109,7 @@ fn add_side<'a>(
     Ok(())
 }
 
-/// Reads names that are used, and puts them behind the other items.
+/// Reads names that are used, and puts them after the other items.
 #[inline(never)]
 fn add_use<'a>(
     reader: &mut Reader<'a>,
@@ -123,7 +117,6 @@ fn add_use<'a>(
     items: &mut Vec<WorldItem<'a>>,
 ) -> ReadResult<()>
     ensures reads { OnOk result (Adds (uses_after attributes.entry) reader.old items.old items.new reader.new) }
-    ensures refused { IfErr result (λ e. IsRefused reader.old e) }
     ensures stops { IfErr result (Refuses used reader.old) }
 {
     let names = reader.read_use(attributes)?;
@@ -131,7 +124,7 @@ fn add_use<'a>(
     Ok(())
 }
 
-/// Reads what a world includes, and puts it behind the other items.
+/// Reads what a world includes, and puts it after the other items.
 #[inline(never)]
 fn add_include<'a>(
     reader: &mut Reader<'a>,
@@ -139,7 +132,6 @@ fn add_include<'a>(
     items: &mut Vec<WorldItem<'a>>,
 ) -> ReadResult<()>
     ensures reads { OnOk result (Adds (includes_after attributes.entry) reader.old items.old items.new reader.new) }
-    ensures refused { IfErr result (λ e. IsRefused reader.old e) }
     ensures stops { IfErr result (Refuses include reader.old) }
 {
     let include = read_include(reader, attributes)?;
@@ -151,7 +143,7 @@ fn add_include<'a>(
     Ok(())
 }
 
-/// Reads a definition, and puts it behind the other items.
+/// Reads a definition, and puts it after the other items.
 #[inline(never)]
 fn add_definition<'a>(
     reader: &mut Reader<'a>,
@@ -159,7 +151,6 @@ fn add_definition<'a>(
     items: &mut Vec<WorldItem<'a>>,
 ) -> ReadResult<()>
     ensures reads { OnOk result (Adds (definition_after front.entry) reader.old items.old items.new reader.new) }
-    ensures refused { IfErr result (λ e. IsRefused reader.old e) }
     ensures stops { IfErr result (Refuses definition reader.old) }
 {
     let definition = read_definition(reader, front)?;
@@ -171,13 +162,12 @@ fn add_definition<'a>(
     Ok(())
 }
 
-/// Reads an item of a world, and puts it behind the others.
+/// Reads an item of a world, and puts it after the others.
 ///
 /// Each sort of item has a function of its own, so that no item takes the room of the others.
 #[tactic(auto, unfolding(wit_grammar::specs::ItemRules::world_item))]
 fn add_world_item<'a>(reader: &mut Reader<'a>, items: &mut Vec<WorldItem<'a>>) -> ReadResult<()>
     ensures reads { OnOk result (Adds world_item reader.old items.old items.new reader.new) }
-    ensures refused { IfErr result (λ e. IsRefused reader.old e) }
     ensures stops { IfErr result (Refuses world_item reader.old) }
 {
     let front = reader.read_front()?;
@@ -201,7 +191,6 @@ fn add_world_item<'a>(reader: &mut Reader<'a>, items: &mut Vec<WorldItem<'a>>) -
 #[tactic(auto, unfolding(wit_grammar::specs::ItemRules::world_items))]
 fn read_world_items<'a>(reader: &mut Reader<'a>) -> ReadResult<Vec<WorldItem<'a>>>
     ensures reads { IfOk result (λ it. Reads world_items reader.old (map see_world_item it.items) reader.new) }
-    ensures refused { IfErr result (λ e. IsRefused reader.old e) }
     ensures stops { IfErr result (Refuses world_items reader.old) }
 {
     reader.expect(Kind::OpenBrace)?;
@@ -217,7 +206,6 @@ fn read_world_items<'a>(reader: &mut Reader<'a>) -> ReadResult<Vec<WorldItem<'a>
 #[tactic(auto, unfolding(wit_grammar::specs::ItemRules::world_rule))]
 pub fn read_world<'a>(reader: &mut Reader<'a>, front: Front<'a>) -> ReadResult<World<'a>>
     ensures reads { IfOk result (λ it. Reads (world_after front.entry) reader.old (see_world it) reader.new) }
-    ensures refused { IfErr result (λ e. IsRefused reader.old e) }
     ensures stops { IfErr result (Refuses world_rule reader.old) }
 {
     reader.expect_word(Word::World)?;

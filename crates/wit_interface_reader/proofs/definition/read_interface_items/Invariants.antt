@@ -1,14 +1,11 @@
 use Rattle.std.proofs.Common.{◌-◌, length}
-use Rattle.std.specs.List.{flat_map}
-use Rattle.wit_tree.specs.Marks.{item_marks}
 use Rattle.wit_grammar.specs.Seen.{see_item}
 use Rattle.wit_grammar.specs.ItemRules.{interface_item}
-use Rattle.wit_reader.specs.Reading.{IsRead}
 use Rattle.wit_interface_reader.proofs.Braces.{IsInBraces}
 use Rattle.wit_interface_reader.proofs.definition.read_interface_items.Given as goal
 
 abbrev pub invariant-items : goal.invariant-items
-invariant-items l = IsRead l.fn.reader (flat_map item_marks l.items.items) l.reader × IsInBraces see_item interface_item l.fn.reader l.items.items l.reader
+invariant-items l = IsInBraces see_item interface_item l.fn.reader l.items.items l.reader
 
 abbrev pub decreases-items : goal.decreases-items
 decreases-items l = length l.fn.reader.source.now - l.reader.before

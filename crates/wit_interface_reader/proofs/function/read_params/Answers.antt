@@ -1,36 +1,32 @@
 use Rattle.std.proofs.lemmas.Result.{err_from_is_err_and}
-use Rattle.wit_type_tree.specs.Marks.{param_marks}
 use Rattle.wit_lex.specs.declared.kind.Kind.TheVariants.{OpenParen, CloseParen}
 use Rattle.wit_grammar.specs.Seen.{see_param}
 use Rattle.wit_grammar.specs.Grammar.{run}
 use Rattle.wit_grammar.specs.Rules.{param, params}
 use Rattle.wit_reader.specs.Reading.{spot}
 use Rattle.wit_reader.proofs.Lists.{listing_opened, listing_more, listing_closed, open_stops, item_stops, next_stops}
-use Rattle.wit_reader.proofs.Parts.{close, more}
 use Rattle.wit_interface_reader.proofs.function.read_params.Goals as goal
 
 pub params-init : goal.params-init
 unfolding params
-params-init c = rw c.new-params.ensures.items (c.in_ok-more.ensures.read, listing_opened see_param (run param) OpenParen CloseParen c.in_ok-more.more c.in_ok-more.ensures.parses)
+params-init c = rw c.new-params.ensures.items (listing_opened see_param (run param) OpenParen CloseParen c.in_ok-more.more c.in_ok-more.ensures.reads)
 
 pub params-preserved : goal.params-preserved
-params-preserved c = (
-  close (more param_marks c.params.params.items c.add.new.items.items c.in_ok-param.param c.in_ok-add.ensures c.params.invariant.0 c.in_ok-param.ensures.read) c.in_ok-more-2.ensures.read,
-  listing_more c.add.new.items.items c.in_ok-param.param c.in_ok-more-2.more (rw c.params-test.true at c.params.invariant.1) c.in_ok-param.ensures.reads c.in_ok-add.ensures c.in_ok-more-2.ensures.parses,
-)
+params-preserved c =
+    listing_more c.add.new.items.items c.in_ok-param.param c.in_ok-more-2.more (rw c.params-test.true at c.params.invariant) c.in_ok-param.ensures.reads c.in_ok-add.ensures c.in_ok-more-2.ensures.reads
 
 pub returns-clause-reads : goal.returns-clause-reads
-returns-clause-reads c = listing_closed (rw c.params-test.false at c.params.invariant.1)
+returns-clause-reads c = listing_closed (rw c.params-test.false at c.params.invariant)
 
 pub returns-in_err-param-clause-stops : goal.returns-in_err-param-clause-stops
 returns-in_err-param-clause-stops c =
     let p = err_from_is_err_and c.from_residual-in_err-param.result c.from_residual-in_err-param.ensures.1 in
-    rw (p.1, p.2) (item_stops _ (rw c.params-test.true at c.params.invariant.1) c.in_err-param.ensures.stops)
+    rw (p.1, p.2) (item_stops _ (rw c.params-test.true at c.params.invariant) c.in_err-param.ensures.stops)
 
 pub returns-in_err-more-2-clause-stops : goal.returns-in_err-more-2-clause-stops
 returns-in_err-more-2-clause-stops c =
     let p = err_from_is_err_and c.from_residual-in_err-more-2.result c.from_residual-in_err-more-2.ensures.1 in
-    rw (p.1, p.2) (next_stops _ _ (rw c.params-test.true at c.params.invariant.1) c.in_ok-param.ensures.reads c.in_err-more-2.ensures.stops)
+    rw (p.1, p.2) (next_stops _ _ (rw c.params-test.true at c.params.invariant) c.in_ok-param.ensures.reads c.in_err-more-2.ensures.stops)
 
 pub returns-in_err-more-clause-stops : goal.returns-in_err-more-clause-stops
 unfolding params

@@ -1,36 +1,29 @@
 use Rattle.std.proofs.Common.{rules}
 use Rattle.std.proofs.lemmas.Result.{err_from_is_err_and}
-use Rattle.wit_type_tree.specs.Marks.{resource_func_marks}
 use Rattle.wit_grammar.specs.Seen.{see_resource_func}
 use Rattle.wit_grammar.specs.ItemRules.{resource_function, braced_functions}
-use Rattle.wit_reader.proofs.Parts.{close, more}
 use Rattle.wit_interface_reader.proofs.Braces.{braces_opened, braces_more, braces_closed, braces_stop, braces_unclosed}
 use Rattle.wit_interface_reader.proofs.resource.read_resource_funcs.Goals as goal
 
 pub funcs-init : goal.funcs-init
-funcs-init c = rw c.new-funcs.ensures.items (c.in_ok-expect.ensures.read, braces_opened see_resource_func resource_function c.in_ok-expect.ensures.passes)
+funcs-init c = rw c.new-funcs.ensures.items (braces_opened see_resource_func resource_function c.in_ok-expect.ensures.reads)
 
 pub funcs-preserved : goal.funcs-preserved
-funcs-preserved c = (
-  more resource_func_marks c.funcs.funcs.items c.push.new.items.items _ c.in_ok-push.ensures c.funcs.invariant.0 c.in_ok-func.ensures.read,
-  braces_more resource_function c.push.new.items.items _ c.funcs.invariant.1 (search rules) c.in_ok-func.ensures.reads c.in_ok-push.ensures,
-)
-
-pub returns-clause-read : goal.returns-clause-read
-returns-clause-read c = rw c.fitted.ensures (close c.funcs.invariant.0 c.in_ok-bump.ensures.read)
+funcs-preserved c =
+    braces_more resource_function c.push.new.items.items _ c.funcs.invariant (search rules) c.in_ok-func.ensures.reads c.in_ok-push.ensures
 
 pub returns-clause-reads : goal.returns-clause-reads
 unfolding braced_functions
-returns-clause-reads c = rw c.fitted.ensures (braces_closed resource_function c.funcs.invariant.1 (search rules) c.in_ok-bump.ensures.passes)
+returns-clause-reads c = rw c.fitted.ensures (braces_closed resource_function c.funcs.invariant (search rules) c.in_ok-bump.ensures.reads)
 
 pub returns-in_err-func-clause-stops : goal.returns-in_err-func-clause-stops
 unfolding braced_functions
 returns-in_err-func-clause-stops c =
     let p = err_from_is_err_and c.from_residual-in_err-func.result c.from_residual-in_err-func.ensures.1 in
-    rw (p.1, p.2) (braces_stop resource_function _ c.funcs.invariant.1 (search rules) c.in_err-func.ensures.stops)
+    rw (p.1, p.2) (braces_stop resource_function _ c.funcs.invariant (search rules) c.in_err-func.ensures.stops)
 
 pub returns-in_err-bump-clause-stops : goal.returns-in_err-bump-clause-stops
 unfolding braced_functions
 returns-in_err-bump-clause-stops c =
     let p = err_from_is_err_and c.from_residual-in_err-bump.result c.from_residual-in_err-bump.ensures.1 in
-    rw (p.1, p.2) (braces_unclosed resource_function _ c.funcs.invariant.1 (search rules) c.in_err-bump.ensures.stops)
+    rw (p.1, p.2) (braces_unclosed resource_function _ c.funcs.invariant (search rules) c.in_err-bump.ensures.stops)

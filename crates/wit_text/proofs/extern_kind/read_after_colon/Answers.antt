@@ -26,7 +26,7 @@ returns-then-at_accessor-clause-reads c =
 pub returns-clause-reads : goal.returns-clause-reads
 returns-clause-reads c =
     let r = c.args.reader.now in
-    same_parsed (same_made (see_name c.args.name) extern_path (spot r) (at_second r (search rules) (search rules) (search rules))) (second_parsed (see_name c.args.name) (search rules) c.in_ok-second.ensures.parses c.in_ok-kind-4.ensures.reads)
+    same_parsed (same_made (see_name c.args.name) extern_path (spot r) (at_second r (search rules) (search rules) (search rules))) (second_parsed (see_name c.args.name) (search rules) c.in_ok-second.ensures.reads c.in_ok-kind-4.ensures.reads)
 
 pub returns-in_err-kind-clause-stops : goal.returns-in_err-kind-clause-stops
 returns-in_err-kind-clause-stops c =
@@ -51,4 +51,4 @@ returns-in_err-second-clause-stops c =
 pub returns-in_err-kind-4-clause-stops : goal.returns-in_err-kind-4-clause-stops
 returns-in_err-kind-4-clause-stops c =
     let p = err_from_is_err_and c.from_residual-in_err-kind-4.result c.from_residual-in_err-kind-4.ensures.1 in
-    rw (p.1, p.2) (same_stops c.in_err-kind-4.field-0.0 (at_second c.args.reader.now (search rules) (search rules) (search rules)) (second_stops c.in_err-kind-4.field-0.0 c.in_ok-second.ensures.parses (search rules) c.in_err-kind-4.ensures.stops))
+    rw (p.1, p.2) (same_stops c.in_err-kind-4.field-0.0 (at_second c.args.reader.now (search rules) (search rules) (search rules)) (second_stops c.in_err-kind-4.field-0.0 c.in_ok-second.ensures.reads (search rules) c.in_err-kind-4.ensures.stops))

@@ -1,5 +1,5 @@
 use Rattle.wit_grammar.proofs.Whole.{read_is_spelled}
-use Rattle.wit_text.proofs.Outcomes.{fault_of, no_other, none_spelled}
+use Rattle.wit_text.proofs.Outcomes.{fault_of, no_other, none_spelled, stops_within}
 use Rattle.wit_text.proofs.file.read_file.Goals as goal
 
 pub returns-in-Ok-clause-spelled : goal.returns-in-Ok-clause-spelled
@@ -12,5 +12,7 @@ pub returns-in-Err-clause-only : goal.returns-in-Err-clause-only
 returns-in-Err-clause-only c = λ tree k. none_spelled _ _ c.in-Err.e _ (rw c.in-Err.is at c.read_source.ensures.stops) c.refusal.ensures.told tree k
 
 pub returns-in-Err-clause-refused : goal.returns-in-Err-clause-refused
-returns-in-Err-clause-refused c =
-    fault_of _ _ c.in-Err.e _ (rw c.in-Err.is at c.read_source.ensures.stops) (rw c.in-Err.is at c.read_source.ensures.refused) c.refusal.ensures.told
+returns-in-Err-clause-refused c = fault_of _ _ c.in-Err.e _ (rw c.in-Err.is at c.read_source.ensures.stops) c.refusal.ensures.told
+
+pub refusal-requires-clause-within : goal.refusal-requires-clause-within
+refusal-requires-clause-within c = stops_within _ c.args.offset c.in-Err.e (rw c.in-Err.is at c.read_source.ensures.stops)

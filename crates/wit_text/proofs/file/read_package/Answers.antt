@@ -6,14 +6,14 @@ use Rattle.wit_text.proofs.file.read_package.Goals as goal
 
 pub returns-then-at-clause-adds : goal.returns-then-at-clause-adds
 returns-then-at-clause-adds c =
-    let p = nested_first c.in_ok-docs.ensures.parses c.in_ok-name.ensures.reads (search rules) c.in_ok-package.ensures.reads in
+    let p = nested_first c.in_ok-docs.ensures.reads c.in_ok-name.ensures.reads (search rules) c.in_ok-package.ensures.reads in
     record { begins = _; reads = p.1; header = refl; none = refl; added = one_nested c.args.nested.now c.push.new.items _ _ p.0 c.in_ok-push.ensures p.2 }
 
 pub returns-clause-adds : goal.returns-clause-adds
 returns-clause-adds c = rw c.in_ok-header.ensures.value (
     record {
       begins = _;
-      reads = header_parsed c.in_ok-docs.ensures.parses c.in_ok-name.ensures.reads (search rules) c.in_ok-header.ensures.passes;
+      reads = header_parsed c.in_ok-docs.ensures.reads c.in_ok-name.ensures.reads (search rules) c.in_ok-header.ensures.reads;
       header = refl;
       none = refl;
       added = none_more see_nested c.args.nested.now.items [] refl;
@@ -28,14 +28,14 @@ returns-in_err-docs-clause-stops c =
 pub returns-in_err-name-clause-stops : goal.returns-in_err-name-clause-stops
 returns-in_err-name-clause-stops c =
     let p = err_from_is_err_and c.from_residual-in_err-name.result c.from_residual-in_err-name.ensures.1 in
-    rw (p.1, p.2) (name_stops c.in_err-name.field-0.0 c.in_ok-docs.ensures.parses c.in_err-name.ensures.stops)
+    rw (p.1, p.2) (name_stops c.in_err-name.field-0.0 c.in_ok-docs.ensures.reads c.in_err-name.ensures.stops)
 
 pub returns-in_err-package-clause-stops : goal.returns-in_err-package-clause-stops
 returns-in_err-package-clause-stops c =
     let p = err_from_is_err_and c.from_residual-in_err-package.result c.from_residual-in_err-package.ensures.1 in
-    rw (p.1, p.2) (nested_stops c.in_err-package.field-0.0 c.in_ok-docs.ensures.parses c.in_ok-name.ensures.reads (search rules) c.in_err-package.ensures.stops)
+    rw (p.1, p.2) (nested_stops c.in_err-package.field-0.0 c.in_ok-docs.ensures.reads c.in_ok-name.ensures.reads (search rules) c.in_err-package.ensures.stops)
 
 pub returns-in_err-header-clause-stops : goal.returns-in_err-header-clause-stops
 returns-in_err-header-clause-stops c =
     let p = err_from_is_err_and c.from_residual-in_err-header.result c.from_residual-in_err-header.ensures.1 in
-    rw (p.1, p.2) (header_stops c.in_err-header.field-0.0 c.in_ok-docs.ensures.parses c.in_ok-name.ensures.reads (search rules) c.in_err-header.ensures.stops)
+    rw (p.1, p.2) (header_stops c.in_err-header.field-0.0 c.in_ok-docs.ensures.reads c.in_ok-name.ensures.reads (search rules) c.in_err-header.ensures.stops)

@@ -8,13 +8,13 @@ use Rattle.wit_text.proofs.Kept.{declaration_read, inner_deeper, inner_named_sto
 use Rattle.wit_text.proofs.package.+packages.Goals as goal
 
 pub pass_items-items-init : goal.pass_items-items-init
-pass_items-items-init t c = ([], braces_opened itself (item_to c.args.left) c.in_ok-expect.ensures.passes)
+pass_items-items-init t c = ([], braces_opened itself (item_to c.args.left) c.in_ok-expect.ensures.reads)
 
 pub pass_items-items-preserved : goal.pass_items-items-preserved
 pass_items-items-preserved t c = passed_more c.args.left c.items.invariant (search rules) c.in_ok-pass_item.ensures.reads
 
 pub pass_items-returns-clause-reads : goal.pass_items-returns-clause-reads
-pass_items-returns-clause-reads t c = passed_closed c.args.left c.items.invariant (search rules) c.in_ok-bump.ensures.passes
+pass_items-returns-clause-reads t c = passed_closed c.args.left c.items.invariant (search rules) c.in_ok-bump.ensures.reads
 
 pub pass_items-returns-in_err-expect-clause-stops : goal.pass_items-returns-in_err-expect-clause-stops
 pass_items-returns-in_err-expect-clause-stops t c =
@@ -55,7 +55,7 @@ pass_item-returns-in_err-read_inner-in-Package-clause-stops t c =
     rw (p.1, p.2) (package_item_stops c.args.left c.in_err-read_inner-in-Package.field-0.0 begun c.in_err-read_inner-in-Package.ensures.stops)
 
 pub read_inner-returns-then-left-eq0-clause-stops : goal.read_inner-returns-then-left-eq0-clause-stops
-read_inner-returns-then-left-eq0-clause-stops t c = rw c.refuse_level.ensures.exact (inner_deeper c.args.reader.now c.args.left (search rules))
+read_inner-returns-then-left-eq0-clause-stops t c = rw c.refuse_level.ensures (inner_deeper c.args.reader.now c.args.left (search rules))
 
 pub read_inner-returns-in_err-header-clause-stops : goal.read_inner-returns-in_err-header-clause-stops
 read_inner-returns-in_err-header-clause-stops t c =

@@ -8,7 +8,7 @@ use Rattle.wit_text.proofs.package.read_nested_items.Goals as goal
 
 pub items-init : goal.items-init
 items-init c = rw (c.new-items.ensures.items, c.new-inner.ensures.items) (
-    record { items = []; reads = braces_opened itself (item_to 99) c.in_ok-expect.ensures.passes; declarations = refl; names = refl }
+    record { items = []; reads = braces_opened itself (item_to 99) c.in_ok-expect.ensures.reads; declarations = refl; names = refl }
     )
 
 pub items-preserved-in-Continue-branch-3 : goal.items-preserved-in-Continue-branch-3
@@ -21,7 +21,7 @@ items-preserved c =
     name_kept c.push.new.items.items _ p.0 c.items.invariant (search rules) p.1 c.in_ok-push-in-Package.ensures
 
 pub returns-clause-reads : goal.returns-clause-reads
-returns-clause-reads c = kept_closed c.items.invariant (search rules) c.in_ok-bump.ensures.passes
+returns-clause-reads c = kept_closed c.items.invariant (search rules) c.in_ok-bump.ensures.reads
 
 pub returns-in_err-expect-clause-stops : goal.returns-in_err-expect-clause-stops
 returns-in_err-expect-clause-stops c =

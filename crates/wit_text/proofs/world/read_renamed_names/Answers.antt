@@ -8,11 +8,11 @@ use Rattle.wit_reader.proofs.Lists.{listing_opened, listing_more, listing_closed
 use Rattle.wit_text.proofs.world.read_renamed_names.Goals as goal
 
 pub names-init : goal.names-init
-names-init c = rw c.new-names.ensures.items (listing_opened see_renamed (run renamed) OpenBrace CloseBrace c.in_ok-more.more c.in_ok-more.ensures.parses)
+names-init c = rw c.new-names.ensures.items (listing_opened see_renamed (run renamed) OpenBrace CloseBrace c.in_ok-more.more c.in_ok-more.ensures.reads)
 
 pub names-preserved : goal.names-preserved
 names-preserved c =
-    listing_more c.add.new.items.items c.in_ok-renamed.renamed c.in_ok-more-2.more (rw c.names-test.true at c.names.invariant) c.in_ok-renamed.ensures.reads c.in_ok-add.ensures c.in_ok-more-2.ensures.parses
+    listing_more c.add.new.items.items c.in_ok-renamed.renamed c.in_ok-more-2.more (rw c.names-test.true at c.names.invariant) c.in_ok-renamed.ensures.reads c.in_ok-add.ensures c.in_ok-more-2.ensures.reads
 
 pub returns-clause-reads : goal.returns-clause-reads
 returns-clause-reads c = listing_closed (rw c.names-test.false at c.names.invariant)

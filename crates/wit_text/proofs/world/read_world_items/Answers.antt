@@ -6,7 +6,7 @@ use Rattle.wit_interface_reader.proofs.Braces.{braces_opened, braces_more, brace
 use Rattle.wit_text.proofs.world.read_world_items.Goals as goal
 
 pub items-init : goal.items-init
-items-init c = rw c.new-items.ensures.items (braces_opened see_world_item world_item c.in_ok-expect.ensures.passes)
+items-init c = rw c.new-items.ensures.items (braces_opened see_world_item world_item c.in_ok-expect.ensures.reads)
 
 pub items-preserved : goal.items-preserved
 items-preserved c =
@@ -15,7 +15,7 @@ items-preserved c =
 
 pub returns-clause-reads : goal.returns-clause-reads
 unfolding world_items
-returns-clause-reads c = rw c.fitted.ensures (braces_closed world_item c.items.invariant (search rules) c.in_ok-bump.ensures.passes)
+returns-clause-reads c = rw c.fitted.ensures (braces_closed world_item c.items.invariant (search rules) c.in_ok-bump.ensures.reads)
 
 pub returns-in_err-add_world_item-clause-stops : goal.returns-in_err-add_world_item-clause-stops
 unfolding world_items

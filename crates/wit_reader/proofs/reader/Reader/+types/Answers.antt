@@ -1,7 +1,5 @@
 use Rattle.std.proofs.Common.{◌∙◌, ap, map}
 use Rattle.std.proofs.lemmas.Result.{err_from_is_err_and}
-use Rattle.wit_type_tree.specs.Marks.{type_marks}
-use Rattle.wit_type_tree.proofs.Rows.{tuple_marks, future_marks, stream_marks}
 use Rattle.wit_lex.specs.declared.kind.Kind.TheVariants as kind
 use Rattle.wit_lex.specs.declared.kind.Kind.TheVariants.{OpenAngle}
 use Rattle.wit_lex.specs.declared.word.Word.TheVariants as word
@@ -10,88 +8,35 @@ use Rattle.wit_grammar.specs.Rules.{types}
 use Rattle.wit_grammar.specs.Seen.{see_name, see_type}
 use Rattle.wit_reader.proofs.Alternatives.{by_reader, by_sign, by_word, deep_stops, name_parses, name_stops, tuple_parses}
 use Rattle.wit_reader.proofs.Lists.{item_stops, listing_closed, listing_more, listing_opened, next_stops}
-use Rattle.wit_reader.proofs.Parts.{then, then_perhaps, on, skip, close, more, same_marks}
 use Rattle.wit_reader.proofs.Seen.{seen_tuple}
 use Rattle.wit_reader.proofs.reader.Reader.+types.Goals as goal
 
-pub read_list-returns-clause-read : goal.read_list-returns-clause-read
-read_list-returns-clause-read t c =
-    same_marks (rw (c.in_ok-boxed.ensures.ok, c.in_ok-item.ensures.both.0) at c.list.ensures.marks)
-    (then c.in_ok-span.ensures.read (skip c.in_ok-expect.ensures.read (then c.in_ok-ty.ensures.read (rw c.in_ok-item.ensures.both.1 at c.read_size.ensures.read))))
-
-pub read_map-returns-clause-read : goal.read_map-returns-clause-read
-read_map-returns-clause-read t c =
-    rw c.in_ok-key.ensures.both.0
-    (then c.in_ok-span.ensures.read (skip c.in_ok-expect.ensures.read (then c.in_ok-first.ensures.read (rw c.in_ok-key.ensures.both.1 at c.read_boxed_before-2.ensures.read))))
-
-pub read_option-returns-clause-read : goal.read_option-returns-clause-read
-read_option-returns-clause-read t c = then c.in_ok-span.ensures.read (skip c.in_ok-expect.ensures.read c.in_ok-value.ensures.read)
-
-pub read_result-returns-clause-read : goal.read_result-returns-clause-read
-read_result-returns-clause-read t c = then c.in_ok-span.ensures.read (skip c.in_ok-bump.ensures.read c.in_ok-types.ensures.read)
-
-pub read_result_types-returns-then-at-clause-read : goal.read_result_types-returns-then-at-clause-read
-read_result_types-returns-then-at-clause-read t c = skip c.in_ok-bump.ensures.read (skip c.in_ok-expect.ensures.read c.in_ok-err.ensures.read)
-
-pub read_result_types-returns-clause-read : goal.read_result_types-returns-clause-read
-read_result_types-returns-clause-read t c =
-    same_marks (rw c.in_ok-ok.ensures.both.0 at c.ok_and.ensures.marks) (then c.in_ok-first.ensures.read (rw c.in_ok-ok.ensures.both.1 at c.read_error_type.ensures.read))
-
-pub read_error_type-returns-clause-read : goal.read_error_type-returns-clause-read
-read_error_type-returns-clause-read t c = skip c.in_ok-expect.ensures.read c.in_ok-err.ensures.read
-
-pub read_tuple-returns-clause-read : goal.read_tuple-returns-clause-read
-read_tuple-returns-clause-read t c =
-    same_marks (tuple_marks c.in_ok-span.span c.in_ok-types.types) (then c.in_ok-span.ensures.read c.in_ok-types.ensures.read)
-
 pub read_tuple-returns-clause-reads : goal.read_tuple-returns-clause-reads
 read_tuple-returns-clause-reads t c =
-    tuple_parses (types c.args.left) c.in_ok-span.span (map see_type c.in_ok-types.types.items) (seen_tuple c.in_ok-span.span c.in_ok-types.types) c.in_ok-span.ensures.parses c.in_ok-types.ensures.reads
+    tuple_parses (types c.args.left) c.in_ok-span.span (map see_type c.in_ok-types.types.items) (seen_tuple c.in_ok-span.span c.in_ok-types.types) c.in_ok-span.ensures.reads c.in_ok-types.ensures.reads
 
 pub read_types-types-init : goal.read_types-types-init
-read_types-types-init t c =
-    record {
-      read = rw c.new-types.ensures.items c.in_ok-more.ensures.read;
-      listing = rw c.new-types.ensures.items (listing_opened see_type (run (types c.args.left)) OpenAngle kind.CloseAngle c.in_ok-more.more c.in_ok-more.ensures.parses);
-    }
+read_types-types-init t c = rw c.new-types.ensures.items (listing_opened see_type (run (types c.args.left)) OpenAngle kind.CloseAngle c.in_ok-more.more c.in_ok-more.ensures.reads)
 
 pub read_types-types-preserved : goal.read_types-types-preserved
 read_types-types-preserved t c =
-    record {
-      read = close (more type_marks c.types.types.items c.push.new.items.items c.in_ok-ty.ty c.in_ok-push.ensures c.types.invariant.read c.in_ok-ty.ensures.read) c.in_ok-more-2.ensures.read;
-      listing = listing_more c.push.new.items.items c.in_ok-ty.ty c.in_ok-more-2.more (rw c.types-test.true at c.types.invariant.listing) c.in_ok-ty.ensures.reads c.in_ok-push.ensures c.in_ok-more-2.ensures.parses;
-    }
+    listing_more c.push.new.items.items c.in_ok-ty.ty c.in_ok-more-2.more (rw c.types-test.true at c.types.invariant) c.in_ok-ty.ensures.reads c.in_ok-push.ensures c.in_ok-more-2.ensures.reads
 
 pub read_types-returns-clause-reads : goal.read_types-returns-clause-reads
-read_types-returns-clause-reads t c = listing_closed (rw c.types-test.false at c.types.invariant.listing)
+read_types-returns-clause-reads t c = listing_closed (rw c.types-test.false at c.types.invariant)
 
 pub read_types-returns-in_err-ty-clause-stops : goal.read_types-returns-in_err-ty-clause-stops
 read_types-returns-in_err-ty-clause-stops t c =
     let p = err_from_is_err_and c.from_residual-in_err-ty.result c.from_residual-in_err-ty.ensures.1 in
-    rw (p.1, p.2) (item_stops _ (rw c.types-test.true at c.types.invariant.listing) c.in_err-ty.ensures.stops)
+    rw (p.1, p.2) (item_stops _ (rw c.types-test.true at c.types.invariant) c.in_err-ty.ensures.stops)
 
 pub read_types-returns-in_err-more-2-clause-stops : goal.read_types-returns-in_err-more-2-clause-stops
 read_types-returns-in_err-more-2-clause-stops t c =
     let p = err_from_is_err_and c.from_residual-in_err-more-2.result c.from_residual-in_err-more-2.ensures.1 in
-    rw (p.1, p.2) (next_stops _ _ (rw c.types-test.true at c.types.invariant.listing) c.in_ok-ty.ensures.reads c.in_err-more-2.ensures.stops)
-
-pub read_future-returns-clause-read : goal.read_future-returns-clause-read
-read_future-returns-clause-read t c =
-    same_marks (future_marks c.in_ok-span.span c.in_ok-value.value) (then_perhaps c.in_ok-span.ensures.read c.in_ok-value.ensures.read)
-
-pub read_stream-returns-clause-read : goal.read_stream-returns-clause-read
-read_stream-returns-clause-read t c =
-    same_marks (stream_marks c.in_ok-span.span c.in_ok-item.item) (then_perhaps c.in_ok-span.ensures.read c.in_ok-item.ensures.read)
-
-pub read_payload-returns-clause-read : goal.read_payload-returns-clause-read
-read_payload-returns-clause-read t c = on (skip c.in_ok-bump.ensures.read c.in_ok-payload.ensures.read)
-
-pub read_boxed_before-returns-clause-read : goal.read_boxed_before-returns-clause-read
-read_boxed_before-returns-clause-read t c =
-    rw (c.in_ok-boxed.ensures.ok, c.in_ok-closed.ensures.value) (close c.in_ok-ty.ensures.read c.in_ok-closed.ensures.read)
+    rw (p.1, p.2) (next_stops _ _ (rw c.types-test.true at c.types.invariant) c.in_ok-ty.ensures.reads c.in_err-more-2.ensures.stops)
 
 pub read_type-returns-then-left-eq0-clause-stops : goal.read_type-returns-then-left-eq0-clause-stops
-read_type-returns-then-left-eq0-clause-stops t c = rw c.refuse_deeper.ensures.exact (deep_stops c.args.self.now c.args.left c.if-left-eq0.true)
+read_type-returns-then-left-eq0-clause-stops t c = rw c.refuse_deeper.ensures (deep_stops c.args.self.now c.args.left c.if-left-eq0.true)
 
 pub read_type-returns-in-List-clause-reads : goal.read_type-returns-in-List-clause-reads
 read_type-returns-in-List-clause-reads t c =
@@ -177,7 +122,7 @@ read_type-returns-in_default-word-clause-stops t c =
 
 pub read_type-returns-in_ok-id-in-Name-clause-reads : goal.read_type-returns-in_ok-id-in-Name-clause-reads
 read_type-returns-in_ok-id-in-Name-clause-reads t c =
-    name_parses c.args.left (see_name c.in_ok-id-in-Name.id) c.if-left-eq0.false c.in-Name.is c.in_ok-id-in-Name.ensures.parses
+    name_parses c.args.left (see_name c.in_ok-id-in-Name.id) c.if-left-eq0.false c.in-Name.is c.in_ok-id-in-Name.ensures.reads
 
 pub read_type-returns-in_err-id-in-Name-clause-stops : goal.read_type-returns-in_err-id-in-Name-clause-stops
 read_type-returns-in_err-id-in-Name-clause-stops t c =

@@ -1,11 +1,9 @@
 use Rattle.std.proofs.Common.{◌+◌, ◌-◌, ◌*◌, length}
-use Rattle.std.specs.List.{flat_map}
-use Rattle.wit_type_tree.specs.Marks.{type_marks}
 use Rattle.wit_lex.specs.declared.kind.Kind.TheVariants.{OpenAngle, CloseAngle}
 use Rattle.wit_grammar.specs.Grammar.{run, listed}
 use Rattle.wit_grammar.specs.Rules.{types}
 use Rattle.wit_grammar.specs.Seen.{see_type}
-use Rattle.wit_reader.specs.Reading.{IsRead, spot}
+use Rattle.wit_reader.specs.Reading.{spot}
 use Rattle.wit_reader.proofs.Lists.{IsListing}
 use Rattle.wit_reader.proofs.reader.Reader.+types.Given as goal
 
@@ -52,10 +50,8 @@ abbrev pub decreases-read_stream : goal.decreases-read_stream
 decreases-read_stream l = 6 * l.left + 5
 
 abbrev pub invariant-read_types-types : goal.invariant-read_types-types
-invariant-read_types-types l = record {
-  read : IsRead l.fn.self (flat_map type_marks l.types.items) l.self;
-  listing : IsListing see_type (run (types l.fn.left)) CloseAngle l.fn.self (run (listed OpenAngle CloseAngle (types l.fn.left)) (spot l.fn.self)) l.types.items l.more l.self;
-}
+invariant-read_types-types l =
+    IsListing see_type (run (types l.fn.left)) CloseAngle l.fn.self (run (listed OpenAngle CloseAngle (types l.fn.left)) (spot l.fn.self)) l.types.items l.more l.self
 
 abbrev pub decreases-read_types-types : goal.decreases-read_types-types
 decreases-read_types-types l = length l.fn.self.source.now - l.self.before

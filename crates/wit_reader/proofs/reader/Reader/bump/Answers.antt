@@ -5,8 +5,8 @@ use Rattle.wit_reader.specs.Reading.{spot}
 use Rattle.wit_reader.proofs.Steps.{past_end, past_next, past_stops}
 use Rattle.wit_reader.proofs.reader.Reader.bump.Goals as goal
 
-pub returns-clause-passes : goal.returns-clause-passes
-returns-clause-passes c =
+pub returns-clause-reads : goal.returns-clause-reads
+returns-clause-reads c =
     let order = c.args.self.now.within.order in
     let front = c.args.self.now.front in
     record {
@@ -17,7 +17,7 @@ returns-clause-passes c =
     }
 
 pub returns-then-self-clause-stops : goal.returns-then-self-clause-stops
-returns-then-self-clause-stops c = rw c.refuse.ensures.exact (past_end (spot c.args.self.now) (lexeme c.args.self.now.token) c.if-self.true)
+returns-then-self-clause-stops c = rw c.refuse.ensures (past_end (spot c.args.self.now) (lexeme c.args.self.now.token) c.if-self.true)
 
 pub returns-in_err-advance-clause-stops : goal.returns-in_err-advance-clause-stops
 returns-in_err-advance-clause-stops c =

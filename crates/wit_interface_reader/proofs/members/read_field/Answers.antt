@@ -1,5 +1,0 @@
-use Rattle.wit_reader.proofs.Parts.{then, perhaps_then}
-use Rattle.wit_interface_reader.proofs.members.read_field.Goals as goal
-
-pub returns-clause-read : goal.returns-clause-read
-returns-clause-read c = perhaps_then c.in_ok-docs.ensures.read (then c.in_ok-name.ensures.read c.in_ok-ty.ensures.read)
