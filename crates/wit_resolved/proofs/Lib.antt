@@ -1,0 +1,4 @@
+mod Ending
+mod Making
+mod Searching
+mod Validity

@@ -1,0 +1,6 @@
+use Rattle.std.proofs.Math.Logic.{∥∥₁_map}
+use Rattle.wit_resolved.proofs.Validity.{exports_valid}
+use Rattle.wit_resolved.proofs.world_ref.WorldRef.exports.Goals as goal
+
+pub invariant_of-result-clause-each : goal.invariant_of-result-clause-each
+invariant_of-result-clause-each c = ∥∥₁_map c.args.self.now.valid (λ v. exports_valid _ _ _ v c.get.ensures)

@@ -1,0 +1,4 @@
+pub mod Ends
+pub mod Left
+pub mod Lookups
+pub mod Valid
