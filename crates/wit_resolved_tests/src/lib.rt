@@ -1,0 +1,5 @@
+//! Tests of `wit_resolved`.
+#![tactic(auto)]
+
+#[cfg(test)]
+mod outline;
