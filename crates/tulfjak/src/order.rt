@@ -1,0 +1,7 @@
+//! Tables of names, each after those that it needs.
+
+/// What holds of every table.
+pub use wit_order::laws;
+/// The least order in which each name comes after those that it needs, by any of three ways, and how many
+/// steps one takes.
+pub use wit_order::{Steps, order_steps, toposort, toposort_heap, toposort_scan};
