@@ -1,0 +1,134 @@
+-- The first fault of lists that grow.
+use Rattle.std.proofs.Common.{◌≡◌, ℕ, zero, suc, ◌+◌, ◌<◌, Bool, true, false, ◌||◌, List, [], ◌∷◌, ◌++◌, length, take, get_or, Option, Some, None, inl, inr, refl, sym, ap, ◌∙◌, append_assoc, arith}
+use Rattle.std.specs.Prelude.{slice_get, map, if◌then◌else◌}
+use Rattle.std.specs.List.{list_any}
+use Rattle.std.specs.Str.{bytes_eq}
+use Rattle.std.specs.Option.{option_or}
+use Rattle.std.proofs.lemmas.List.{append-nil, map-append, take_more, take-map}
+use Rattle.wit_type_tree.specs.declared.error.ParseError.{ParseError}
+use Rattle.wit_syntax.specs.Fault.{Fault, fault_of}
+use Rattle.wit_first.specs.First.{first_in, first_after, Reports, repeat_of, first_repeat}
+use Rattle.std.proofs.lemmas.Bool.{false_from_ne_true}
+use Rattle.wit_graph.proofs.Tables.{slice_get-take}
+use Rattle.std.proofs.lemmas.Option.{slice_get_within}
+use Rattle.wit_syntax.specs.Repeats.{IsRepeatAt, AllDiffer}
+use Rattle.wit_syntax.proofs.Lists.{map_at, at_front}
+use Rattle.wit_syntax.proofs.Names.{name_equal, name_itself}
+use Rattle.wit_syntax.proofs.Repeated.{key_at}
+
+pub or_assoc : {X : Type 0} (a b c : Option X) → option_or (option_or a b) c ≡ option_or a (option_or b c)
+or_assoc None b c = refl
+or_assoc (Some x) b c = refl
+
+pub or_none : {X : Type 0} (a : Option X) → option_or a None ≡ a
+or_none None = refl
+or_none (Some x) = refl
+
+-- an item, between those before it and those after it
+pub split_at : {X : Type 0} (xs : List X) (i : ℕ) (x : X) → slice_get xs i ≡ Some x → (rest : List X) × (xs ≡ take i xs ++ x ∷ rest)
+split_at [] i x at = absurd (let f : ⊥ = cc in f)
+split_at (y ∷ ys) zero x at = (ys, (let same : y ≡ x = cc in ap (λ z. z ∷ ys) same))
+split_at (y ∷ ys) (suc i) x at = let it = split_at ys i x at in (it.0, ap (λ (l : List _). y ∷ l) it.1)
+
+pub in-append : {X : Type 0} (w : X → Option Fault) (xs ys : List X) → first_in w (xs ++ ys) ≡ option_or (first_in w xs) (first_in w ys)
+in-append w [] ys = refl
+in-append w (x ∷ xs) ys = ap (option_or (w x)) (in-append w xs ys) ∙ sym (or_assoc (w x) (first_in w xs) (first_in w ys))
+
+pub after-append : {X : Type 0} (w : List X → X → Option Fault) (before xs ys : List X) → first_after w before (xs ++ ys) ≡ option_or (first_after w before xs) (first_after w (before ++ xs) ys)
+after-append w before [] ys = ap (λ (l : List _). first_after w l ys) (sym (append-nil before))
+after-append w before (x ∷ xs) ys =
+    ap (option_or (w before x)) (after-append w (before ++ x ∷ []) xs ys ∙ ap (λ (l : List _). option_or (first_after w (before ++ x ∷ []) xs) (first_after w l ys)) (append_assoc before (x ∷ []) xs))
+    ∙ sym (or_assoc (w before x) (first_after w (before ++ x ∷ []) xs) (first_after w (before ++ x ∷ xs) ys))
+
+-- one item more
+pub in-more : {X : Type 0} (w : X → Option Fault) (xs : List X) (x : X) → first_in w xs ≡ None → first_in w (xs ++ x ∷ []) ≡ w x
+in-more w xs x none = in-append w xs (x ∷ []) ∙ ap (λ (o : Option Fault). option_or o (option_or (w x) None)) none ∙ or_none (w x)
+
+pub after-more : {X : Type 0} (w : List X → X → Option Fault) (xs : List X) (x : X) → first_after w [] xs ≡ None → first_after w [] (xs ++ x ∷ []) ≡ w xs x
+after-more w xs x none = after-append w [] xs (x ∷ []) ∙ ap (λ (o : Option Fault). option_or o (option_or (w xs x) None)) none ∙ or_none (w xs x)
+
+-- the first item that has a fault
+pub in-at : {X : Type 0} (w : X → Option Fault) (xs : List X) (i : ℕ) (x : X) (f : Fault) → slice_get xs i ≡ Some x → first_in w (take i xs) ≡ None → w x ≡ Some f → first_in w xs ≡ Some f
+in-at w xs i x f at none wrong =
+    let it = split_at xs i x at in
+    ap (first_in w) it.1 ∙ in-append w (take i xs) (x ∷ it.0) ∙ ap (λ (o : Option Fault). option_or o (option_or (w x) (first_in w it.0))) none ∙ ap (λ (o : Option Fault). option_or o (first_in w it.0)) wrong
+
+pub after-at : {X : Type 0} (w : List X → X → Option Fault) (xs : List X) (i : ℕ) (x : X) (f : Fault) → slice_get xs i ≡ Some x → first_after w [] (take i xs) ≡ None → w (take i xs) x ≡ Some f → first_after w [] xs ≡ Some f
+after-at w xs i x f at none wrong =
+    let it = split_at xs i x at in
+    ap (first_after w []) it.1 ∙ after-append w [] (take i xs) (x ∷ it.0) ∙ ap (λ (o : Option Fault). option_or o (option_or (w (take i xs) x) (first_after w (take i xs ++ x ∷ []) it.0))) none ∙ ap (λ (o : Option Fault). option_or o (first_after w (take i xs ++ x ∷ []) it.0)) wrong
+
+-- an error that reports the fault of an item reports the first, where the items before it have none
+pub reports-in : {X : Type 0} (w : X → Option Fault) (xs : List X) (i : ℕ) (x : X) (e : ParseError) → slice_get xs i ≡ Some x → first_in w (take i xs) ≡ None → Reports (w x) e → Reports (first_in w xs) e
+reports-in w xs i x e at none report = elim report [ inl memory ↦ inl memory | inr is ↦ inr (in-at w xs i x (fault_of e) at none is) ]
+
+pub reports-after : {X : Type 0} (w : List X → X → Option Fault) (xs : List X) (i : ℕ) (x : X) (e : ParseError) → slice_get xs i ≡ Some x → first_after w [] (take i xs) ≡ None → Reports (w (take i xs) x) e → Reports (first_after w [] xs) e
+reports-after w xs i x e at none report = elim report [ inl memory ↦ inl memory | inr is ↦ inr (after-at w xs i x (fault_of e) at none is) ]
+
+-- one item more, at a place
+pub in-next : {X : Type 0} (w : X → Option Fault) (xs : List X) (i : ℕ) (x : X) → i < length xs → x ≡ get_or xs i x → first_in w (take i xs) ≡ None → w x ≡ None → first_in w (take (i + 1) xs) ≡ None
+in-next w xs i x within is none right = ap (first_in w) (take_more xs i x within ∙ ap (λ y. take i xs ++ y ∷ []) (sym is)) ∙ in-more w (take i xs) x none ∙ right
+
+pub after-next : {X : Type 0} (w : List X → X → Option Fault) (xs : List X) (i : ℕ) (x : X) → i < length xs → x ≡ get_or xs i x → first_after w [] (take i xs) ≡ None → w (take i xs) x ≡ None → first_after w [] (take (i + 1) xs) ≡ None
+after-next w xs i x within is none right = ap (first_after w []) (take_more xs i x within ∙ ap (λ y. take i xs ++ y ∷ []) (sym is)) ∙ after-more w (take i xs) x none ∙ right
+
+-- a test that one item passes, or none of them
+pub any_some : {X : Type 0} (p : X → Bool) (xs : List X) (i : ℕ) (x : X) → slice_get xs i ≡ Some x → p x ≡ true → list_any p xs ≡ true
+any_some p [] i x at passed = absurd (let f : ⊥ = cc in f)
+any_some p (y ∷ ys) zero x at passed = (let same : y ≡ x = cc in rw (ap p same ∙ passed) refl)
+any_some p (y ∷ ys) (suc i) x at passed = rw (any_some p ys i x at passed) (or_true (p y))
+  where
+    or_true : (b : Bool) → (b || true) ≡ true
+    or_true true = refl
+    or_true false = refl
+
+any_none : {X : Type 0} (p : X → Bool) (xs : List X) → ((i : ℕ) (x : X) → slice_get xs i ≡ Some x → p x ≡ false) → list_any p xs ≡ false
+any_none p [] failed = refl
+any_none p (y ∷ ys) failed = rw (failed 0 y refl) (any_none p ys (λ i x at. failed (suc i) x at))
+
+-- where all keys differ, no item is a repeat
+pub no_repeat-after : {X : Type 0} (key : X → List ℕ) (as_fault : X → Fault) (before xs : List X) → AllDiffer (map key (before ++ xs)) → first_after (repeat_of key as_fault) before xs ≡ None
+no_repeat-after key as_fault before [] d = refl
+no_repeat-after key as_fault before (x ∷ xs) d =
+    let none : list_any (λ y. bytes_eq (key y) (key x)) before ≡ false = any_none (λ y. bytes_eq (key y) (key x)) before (λ i y at. false_from_ne_true (bytes_eq (key y) (key x)) (λ same.
+    let one = key_at key (before ++ x ∷ xs) i y (at_front before (x ∷ xs) i y at) in
+    let other = key_at key (before ++ x ∷ xs) (length before) x (at_middle before x xs) in
+    let place = d.differ i (length before) (key x) (one ∙ ap Some (name_equal (key y) (key x) same)) other in
+    let within = slice_get_within before i y at in
+    (let wrong : ⊥ = omega arith in wrong))) in
+    rw none (no_repeat-after key as_fault (before ++ x ∷ []) xs (rw (append_assoc before (x ∷ []) xs) d))
+  where
+    at_middle : {X : Type 0} (xs : List X) (y : X) (ys : List X) → slice_get (xs ++ y ∷ ys) (length xs) ≡ Some y
+    at_middle [] y ys = refl
+    at_middle (z ∷ xs) y ys = at_middle xs y ys
+
+pub no_repeats : {X : Type 0} (key : X → List ℕ) (as_fault : X → Fault) (xs : List X) → AllDiffer (map key xs) → first_repeat key as_fault xs ≡ None
+no_repeats key as_fault xs d = no_repeat-after key as_fault [] xs d
+
+-- the item at the first place whose key an earlier one has
+pub repeat_first : {X : Type 0} (key : X → List ℕ) (as_fault : X → Fault) (xs : List X) (first second : ℕ) (later : X) → IsRepeatAt (map key xs) first second → AllDiffer (take second (map key xs)) → slice_get xs second ≡ Some later → first_repeat key as_fault xs ≡ Some (as_fault later)
+repeat_first key as_fault xs first second later r d at =
+    let earlier = map_at key xs first r.x r.at_first in
+    let there : Some r.x ≡ Some (key later) = sym r.at_second ∙ key_at key xs second later at in
+    let same : r.x ≡ key later = cc in
+    let found : list_any (λ y. bytes_eq (key y) (key later)) (take second xs) ≡ true = any_some (λ y. bytes_eq (key y) (key later)) (take second xs) first earlier.0 (slice_get-take xs second first r.before ∙ earlier.1) (ap (λ k. bytes_eq k (key later)) (earlier.2 ∙ same) ∙ name_itself (key later)) in
+    after-at (repeat_of key as_fault) xs second later (as_fault later) at (no_repeats key as_fault (take second xs) (rw (take-map key second xs) at d)) (rw found refl)
+
+-- items that are made of others
+any-map : {X Y : Type 0} (p : Y → Bool) (f : X → Y) (xs : List X) → list_any p (map f xs) ≡ list_any (λ (x : X). p (f x)) xs
+any-map p f [] = refl
+any-map p f (x ∷ xs) = ap (λ (b : Bool). p (f x) || b) (any-map p f xs)
+
+after-map : {X Y : Type 0} (key : Y → List ℕ) (as_fault : Y → Fault) (f : X → Y) (before xs : List X) → first_after (repeat_of key as_fault) (map f before) (map f xs) ≡ first_after (repeat_of (λ (x : X). key (f x)) (λ (x : X). as_fault (f x))) before xs
+after-map key as_fault f before [] = refl
+after-map {X} {Y} key as_fault f before (x ∷ xs) =
+    let own : repeat_of key as_fault (map f before) (f x) ≡ repeat_of (λ (y : X). key (f y)) (λ (y : X). as_fault (f y)) before x = ap (λ (b : Bool). if b then Some (as_fault (f x)) else None) (any-map (λ (y : Y). bytes_eq (key y) (key (f x))) f before) in
+    let rest : first_after (repeat_of key as_fault) (map f before ++ f x ∷ []) (map f xs) ≡ first_after (repeat_of (λ (y : X). key (f y)) (λ (y : X). as_fault (f y))) (before ++ x ∷ []) xs = ap (λ (l : List Y). first_after (repeat_of key as_fault) l (map f xs)) (sym (map-append f before (x ∷ []))) ∙ after-map key as_fault f (before ++ x ∷ []) xs in
+    ap (λ (o : Option Fault). option_or o (first_after (repeat_of key as_fault) (map f before ++ f x ∷ []) (map f xs))) own ∙ ap (option_or (repeat_of (λ (y : X). key (f y)) (λ (y : X). as_fault (f y)) before x)) rest
+
+pub repeat-map : {X Y : Type 0} (key : Y → List ℕ) (as_fault : Y → Fault) (f : X → Y) (xs : List X) → first_repeat key as_fault (map f xs) ≡ first_repeat (λ (x : X). key (f x)) (λ (x : X). as_fault (f x)) xs
+repeat-map key as_fault f xs = after-map key as_fault f [] xs
+
+-- an error reports the first fault, however that is written
+pub reports_same : {first other : Option Fault} {e : ParseError} → first ≡ other → Reports first e → Reports other e
+reports_same same report = elim report [ inl memory ↦ inl memory | inr is ↦ inr (sym same ∙ is) ]

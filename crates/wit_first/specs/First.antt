@@ -1,0 +1,34 @@
+-- The first fault, in the order in which faults are looked for.
+use Rattle.std.specs.Prelude.{◌≡◌, ◌⊎◌, ℕ, if◌then◌else◌, List, [], ◌∷◌, ◌++◌, Option, Some, None, Result, MatchResult}
+use Rattle.std.specs.List.{list_any}
+use Rattle.std.specs.Option.{option_or}
+use Rattle.std.specs.Str.{bytes_eq}
+use Rattle.wit_type_tree.specs.declared.error.ParseError.{ParseError}
+use Rattle.wit_type_tree.specs.Refusal.{IsWantOfMemory}
+use Rattle.wit_syntax.specs.Fault.{Fault, fault_of}
+
+-- the first fault of items, where each may have one
+abbrev pub first_in : {X : Type 0} → (X → Option Fault) → List X → Option Fault
+first_in wrong [] = None
+first_in wrong (x ∷ xs) = option_or (wrong x) (first_in wrong xs)
+
+-- the same, where the fault of an item depends on the items before it too; `before` is what comes before all of these
+abbrev pub first_after : {X : Type 0} → (List X → X → Option Fault) → List X → List X → Option Fault
+first_after wrong before [] = None
+first_after wrong before (x ∷ xs) = option_or (wrong before x) (first_after wrong (before ++ x ∷ []) xs)
+
+-- an error reports the first fault, or that an allocation failed
+abbrev pub Reports : Option Fault → ParseError → Type 0
+Reports first e = IsWantOfMemory e ⊎ (first ≡ Some (fault_of e))
+
+-- a call returns Ok where there is no fault, and else an error that reports the first; an allocation may fail in either case
+abbrev pub Finds : {T : Type 0} → Option Fault → Result T ParseError → Type 0
+Finds first r = MatchResult r (λ _. first ≡ None) (λ e. Reports first e)
+
+-- an item has the key of an earlier one: the fault is made of the later one
+abbrev pub repeat_of : {X : Type 0} → (X → List ℕ) → (X → Fault) → List X → X → Option Fault
+repeat_of key as_fault before x = if list_any (λ y. bytes_eq (key y) (key x)) before then Some (as_fault x) else None
+
+-- the first item that has
+abbrev pub first_repeat : {X : Type 0} → (X → List ℕ) → (X → Fault) → List X → Option Fault
+first_repeat key as_fault xs = first_after (repeat_of key as_fault) [] xs

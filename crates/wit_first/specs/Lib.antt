@@ -1,0 +1,6 @@
+pub mod First
+pub mod Attributes
+pub mod Lists
+pub mod Keys
+pub mod Names
+pub mod Laws
