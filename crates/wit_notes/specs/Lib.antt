@@ -1,4 +1,3 @@
 pub mod Indents
-pub mod Kinds
 pub mod Notes
 pub mod Plain

@@ -1,13 +1,13 @@
 //! What the attributes of an item tell: how stable it is, and its name elsewhere.
-ghost use Rattle.std.specs.Prelude.{◌≡◌, ◌≢◌, ◌⊎◌, IfErr, IfOk, None, OnOk};
+ghost use Rattle.std.specs.Prelude.{◌≡◌, ◌⊎◌, IfOk};
 ghost use Rattle.std.specs.Option.{option_copied, option_map};
 ghost use Rattle.wit_type_tree.specs.Refusal.{IsWantOfMemory};
-ghost use Rattle.wit_syntax.specs.Broken.{Refused};
-ghost use Rattle.wit_syntax.specs.Fault.{Fault, fault, fault_of};
-ghost use Rattle.wit_type_tree.specs.Attributes.{attribute_span, first_of, kind_of, told_text, told_version};
-ghost use Rattle.wit_syntax.specs.Notes.{IsBrokenStability, IsTwice, deprecation, stability_of};
+ghost use Rattle.wit_first.specs.Attributes.{each_once_fault, external_fault, number_of, repeat_fault, stability_fault, together_fault};
+ghost use Rattle.wit_first.specs.First.{Finds};
+ghost use Rattle.wit_syntax.specs.Fault.{fault, fault_of};
+ghost use Rattle.wit_type_tree.specs.Attributes.{told_text, told_version};
+ghost use Rattle.wit_syntax.specs.Notes.{deprecation, stability_of};
 ghost use Rattle.wit_type_tree.specs.declared.attribute_kind.AttributeKind.TheVariants.{ExternalId};
-ghost use Rattle.wit_notes.specs.Kinds.{IsEachOnce, IsRepeat, number_of};
 
 use semver::Version;
 use std::alloc::{AllocError, Global};
@@ -54,8 +54,7 @@ fn refuse_second(alloc: Global, kind: AttributeKind, span: Span) -> ParseError
 
 /// Refuses an attribute where an earlier one is of its kind.
 fn check_new(alloc: Global, earlier: &[Attribute<'_>], attribute: &Attribute<'_>) -> ParseResult<()>
-    ensures new { OnOk result (first_of (kind_of attribute.now) earlier.now ≡ None) }
-    ensures refused { IfErr result (Refused (IsRepeat earlier.now attribute.now)) }
+    ensures { Finds (repeat_fault earlier.now attribute.now) result }
 {
     let kind = kind_of(attribute);
     if first_of(earlier, kind).is_some() {
@@ -66,8 +65,7 @@ fn check_new(alloc: Global, earlier: &[Attribute<'_>], attribute: &Attribute<'_>
 
 /// Refuses a second attribute of a kind that tells of stability.
 fn check_each_once(alloc: Global, attributes: &[Attribute<'_>]) -> ParseResult<()>
-    ensures once { OnOk result (IsEachOnce attributes.now) }
-    ensures refused { IfErr result (Refused (IsBrokenStability attributes.now)) }
+    ensures { Finds (each_once_fault attributes.now) result }
 {
     for place in 0..attributes.len() {
         let attribute = &attributes[place];
@@ -80,8 +78,7 @@ fn check_each_once(alloc: Global, attributes: &[Attribute<'_>]) -> ParseResult<(
 
 /// Refuses a second external id; other attributes are ignored.
 pub fn check_external_once(alloc: Global, attributes: &[Attribute<'_>]) -> ParseResult<()>
-    ensures once { OnOk result ((f : Fault) → IsTwice 35 ExternalId attributes.now f → ⊥) }
-    ensures refused { IfErr result (Refused (IsTwice 35 ExternalId attributes.now)) }
+    ensures { Finds (external_fault attributes.now) result }
 {
     for place in 0..attributes.len() {
         let attribute = &attributes[place];
@@ -94,9 +91,7 @@ pub fn check_external_once(alloc: Global, attributes: &[Attribute<'_>]) -> Parse
 
 /// Refuses `@since` beside `@unstable`, and `@deprecated` without either.
 fn check_together(alloc: Global, attributes: &[Attribute<'_>]) -> ParseResult<()>
-    requires { IsEachOnce attributes.now }
-    ensures legal { OnOk result ((f : Fault) → IsBrokenStability attributes.now f → ⊥) }
-    ensures refused { IfErr result (Refused (IsBrokenStability attributes.now)) }
+    ensures { Finds (together_fault attributes.now) result }
 {
     let unstable = first_of(attributes, AttributeKind::Unstable);
     if let Some(since) = first_of(attributes, AttributeKind::Since) {
@@ -156,8 +151,7 @@ pub fn told_stability(alloc: Global, attributes: &[Attribute<'_>]) -> Result<Sta
 ///
 /// The error is that of [`stability`].
 pub fn check_stability(alloc: Global, attributes: &[Attribute<'_>]) -> ParseResult<()>
-    ensures legal { OnOk result ((f : Fault) → IsBrokenStability attributes.now f → ⊥) }
-    ensures refused { IfErr result (Refused (IsBrokenStability attributes.now)) }
+    ensures { Finds (stability_fault attributes.now) result }
 {
     if attributes.len() == 0 {
         return Ok(());
@@ -173,8 +167,7 @@ pub fn check_stability(alloc: Global, attributes: &[Attribute<'_>]) -> ParseResu
 /// `@since` beside `@unstable`, E34 at a `@deprecated` without either, or want of memory.
 pub fn stability(alloc: Global, attributes: &[Attribute<'_>]) -> ParseResult<Stability>
     ensures told { IfOk result (λ stability. stability ≡ stability_of attributes.now) }
-    ensures legal { OnOk result ((f : Fault) → IsBrokenStability attributes.now f → ⊥) }
-    ensures refused { IfErr result (Refused (IsBrokenStability attributes.now)) }
+    ensures first { Finds (stability_fault attributes.now) result }
 {
     if attributes.len() == 0 {
         return Ok(Stability::Unknown);
@@ -204,8 +197,7 @@ pub fn told_external_id(
 /// The error is E35 at a second external id, or want of memory.
 pub fn external_id(alloc: Global, attributes: &[Attribute<'_>]) -> ParseResult<Rare<Text>>
     ensures told { IfOk result (λ id. id ≡ told_text ExternalId attributes.now) }
-    ensures legal { OnOk result ((f : Fault) → IsTwice 35 ExternalId attributes.now f → ⊥) }
-    ensures refused { IfErr result (Refused (IsTwice 35 ExternalId attributes.now)) }
+    ensures first { Finds (external_fault attributes.now) result }
 {
     check_external_once(alloc, attributes)?;
     Ok(told_external_id(alloc, attributes)?)

@@ -1,8 +1,8 @@
 //! What the docs and the attributes in front of a thing tell of it.
-ghost use Rattle.std.specs.Prelude.{◌≡◌, IfErr, IfOk, OnOk};
-ghost use Rattle.wit_syntax.specs.Broken.{Refused};
-ghost use Rattle.wit_syntax.specs.Fault.{Fault};
-ghost use Rattle.wit_syntax.specs.Notes.{IsBrokenNotes, docs_of, no_docs, notes as the_notes};
+ghost use Rattle.std.specs.Prelude.{◌≡◌, IfOk};
+ghost use Rattle.wit_first.specs.Attributes.{notes_fault};
+ghost use Rattle.wit_first.specs.First.{Finds};
+ghost use Rattle.wit_syntax.specs.Notes.{docs_of, no_docs, notes as the_notes};
 ghost use Rattle.wit_notes.specs.Notes.{notes_behind};
 
 use crate::attributes::{check_external_once, check_stability, told_external_id, told_stability};
@@ -30,8 +30,7 @@ pub fn notes_of(
     attributes: &[Attribute<'_>],
 ) -> ParseResult<Notes>
     ensures told { IfOk result (λ n. notes_behind n ≡ the_notes (docs_of comments.now) attributes.now) }
-    ensures legal { OnOk result ((f : Fault) → IsBrokenNotes attributes.now f → ⊥) }
-    ensures refused { IfErr result (Refused (IsBrokenNotes attributes.now)) }
+    ensures first { Finds (notes_fault attributes.now) result }
 {
     let docs = docs(alloc, comments)?;
     if attributes.len() == 0 {
@@ -54,8 +53,7 @@ pub fn notes_of(
 /// The error is that of [`stability`](crate::stability), then that of
 /// [`external_id`](crate::external_id), or want of memory.
 pub fn check_notes(alloc: Global, attributes: &[Attribute<'_>]) -> ParseResult<()>
-    ensures legal { OnOk result ((f : Fault) → IsBrokenNotes attributes.now f → ⊥) }
-    ensures refused { IfErr result (Refused (IsBrokenNotes attributes.now)) }
+    ensures { Finds (notes_fault attributes.now) result }
 {
     if attributes.len() == 0 {
         return Ok(());
@@ -93,8 +91,7 @@ pub fn told_notes(alloc: Global, attributes: &[Attribute<'_>]) -> Result<Notes, 
 /// The error is that of [`check_notes`], or want of memory.
 pub fn use_notes(alloc: Global, attributes: &[Attribute<'_>]) -> ParseResult<Notes>
     ensures told { IfOk result (λ n. notes_behind n ≡ the_notes no_docs attributes.now) }
-    ensures legal { OnOk result ((f : Fault) → IsBrokenNotes attributes.now f → ⊥) }
-    ensures refused { IfErr result (Refused (IsBrokenNotes attributes.now)) }
+    ensures first { Finds (notes_fault attributes.now) result }
 {
     check_notes(alloc, attributes)?;
     Ok(told_notes(alloc, attributes)?)

@@ -7,6 +7,7 @@ use Rattle.wit_syntax.specs.Notes.{IsBrokenNotes}
 use Rattle.wit_syntax.specs.Shape.{all_handles}
 use Rattle.wit_arena.specs.Resolving.{env_of, IsWrongBody}
 use Rattle.wit_syntax.proofs.Refusing.{refused_weaker}
+use Rattle.wit_first.proofs.Bridge.{notes_agree, refused_by}
 use Rattle.wit_entries.proofs.Noted.{defines_noted}
 use Rattle.wit_entries.proofs.Requiring.{requires_grown}
 use Rattle.wit_definitions.proofs.definitions.define.Goals as goal
@@ -21,7 +22,7 @@ pub returns-in_err-notes-clause-refused : goal.returns-in_err-notes-clause-refus
 returns-in_err-notes-clause-refused c =
     let p = err_from_is_err_and c.from_residual.result c.from_residual.ensures.1 in
     let d = c.args.definition.now in
-    rw (p.1, p.2) (refused_weaker (IsBrokenNotes c.deref.result.now) (λ (f : Fault). IsBrokenNotes d.attributes.items f ⊎ IsWrongBody (env_of c.args.scope.now.names) c.args.types.now d.body f) _ (λ f broken. inl (subst (λ (l : List Attribute). IsBrokenNotes l f) c.deref.ensures.value broken)) c.in_err-notes.ensures.refused)
+    rw (p.1, p.2) (refused_weaker (IsBrokenNotes c.deref.result.now) (λ (f : Fault). IsBrokenNotes d.attributes.items f ⊎ IsWrongBody (env_of c.args.scope.now.names) c.args.types.now d.body f) _ (λ f broken. inl (subst (λ (l : List Attribute). IsBrokenNotes l f) c.deref.ensures.value broken)) (refused_by (notes_agree c.deref.result.now) c.in_err-notes.ensures.first))
 
 pub returns-in_err-kind-clause-refused : goal.returns-in_err-kind-clause-refused
 returns-in_err-kind-clause-refused c =
@@ -32,4 +33,4 @@ returns-in_err-kind-clause-refused c =
     rw (p.1, p.2) (refused_weaker (IsWrongBody env new d.body) (λ (f : Fault). IsBrokenNotes d.attributes.items f ⊎ IsWrongBody env new d.body f) _ (λ f wrong. inr wrong) c.in_err-kind.ensures.refused)
 
 pub returns-clause-noted : goal.returns-clause-noted
-returns-clause-noted c = subst (λ (l : List Attribute). (f : Fault) → IsBrokenNotes l f → ⊥) c.deref.ensures.value c.in_ok-notes.ensures.legal
+returns-clause-noted c = subst (λ (l : List Attribute). (f : Fault) → IsBrokenNotes l f → ⊥) c.deref.ensures.value ((notes_agree c.deref.result.now).unbroken c.in_ok-notes.ensures.first)

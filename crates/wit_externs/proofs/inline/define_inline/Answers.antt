@@ -6,6 +6,7 @@ use Rattle.wit_syntax.specs.Fault.{Fault}
 use Rattle.wit_syntax.specs.Notes.{IsBrokenNotes}
 use Rattle.wit_syntax.specs.Sides.{SideItem}
 use Rattle.wit_syntax.proofs.Refusing.{refused_weaker}
+use Rattle.wit_first.proofs.Bridge.{notes_agree, refused_by}
 use Rattle.wit_refusals.specs.Names.{Name, IsDefinedAgain}
 use Rattle.wit_sides.specs.Sides.{taken_on}
 use Rattle.wit_externs.specs.declared.held.HeldExtern.TheVariants.{Inline}
@@ -19,10 +20,10 @@ pub returns-in_err-check_notes-clause-refused : goal.returns-in_err-check_notes-
 returns-in_err-check_notes-clause-refused c =
     let p = err_from_is_err_and c.from_residual.result c.from_residual.ensures.1 in
     let i = c.args.inline.now in
-    rw (p.1, p.2) (λ linked. refused_weaker (IsBrokenNotes i.written.now.attributes.items) (IsWrongNext (λ s. taken_on s c.args.taken.now) linked (Inline i)) _ (λ f broken. NextNoted i refl broken) (rw c.deref.ensures.value at c.in_err-check_notes.ensures.refused))
+    rw (p.1, p.2) (λ linked. refused_weaker (IsBrokenNotes i.written.now.attributes.items) (IsWrongNext (λ s. taken_on s c.args.taken.now) linked (Inline i)) _ (λ f broken. NextNoted i refl broken) (rw c.deref.ensures.value at (refused_by (notes_agree c.deref.result.now) c.in_err-check_notes.ensures)))
 
 pub returns-clause-noted : goal.returns-clause-noted
-returns-clause-noted c = on_ok_weaker c.define_extern.result (λ done. rw c.deref.ensures.value at c.in_ok-check_notes.ensures.legal) c.define_extern.ensures.defined
+returns-clause-noted c = on_ok_weaker c.define_extern.result (λ done. rw c.deref.ensures.value at ((notes_agree c.deref.result.now).unbroken c.in_ok-check_notes.ensures)) c.define_extern.ensures.defined
 
 pub returns-clause-defined : goal.returns-clause-defined
 returns-clause-defined c =

@@ -6,6 +6,7 @@ use Rattle.wit_syntax.specs.Fault.{fault}
 use Rattle.wit_syntax.specs.Notes.{IsBrokenStability}
 use Rattle.wit_arena.specs.Whole.{renamed}
 use Rattle.wit_syntax.proofs.Refusing.{refused_weaker}
+use Rattle.wit_first.proofs.Bridge.{refused_by, stability_agrees}
 use Rattle.wit_links.specs.Includes.{IsLost}
 use Rattle.wit_item_names.proofs.Others.{part_visited, world_missing, world_found}
 use Rattle.wit_files.specs.FileNames.{top_at}
@@ -40,10 +41,10 @@ returns-clause-is c =
     )
 
 pub returns-clause-stable : goal.returns-clause-stable
-returns-clause-stable c = rw c.deref.ensures.value at c.in_ok-check_stability.ensures.legal
+returns-clause-stable c = rw c.deref.ensures.value at ((stability_agrees c.deref.result.now).unbroken c.in_ok-check_stability.ensures)
 
 pub returns-in_err-check_stability-clause-refused : goal.returns-in_err-check_stability-clause-refused
 returns-in_err-check_stability-clause-refused c =
     let p = err_from_is_err_and c.from_residual.result c.from_residual.ensures.1 in
     let i = c.args.include.now in
-    rw (p.1, p.2) (refused_weaker (IsBrokenStability i.attributes.items) (λ f. IsBrokenStability i.attributes.items f ⊎ IsLost c.args.files.now c.args.worlds.now.by_name (top_at c.args.files.now c.args.place) i f) _ (λ f h. inl h) (rw c.deref.ensures.value at c.in_err-check_stability.ensures.refused))
+    rw (p.1, p.2) (refused_weaker (IsBrokenStability i.attributes.items) (λ f. IsBrokenStability i.attributes.items f ⊎ IsLost c.args.files.now c.args.worlds.now.by_name (top_at c.args.files.now c.args.place) i f) _ (λ f h. inl h) (rw c.deref.ensures.value at (refused_by (stability_agrees c.deref.result.now) c.in_err-check_stability.ensures)))

@@ -4,6 +4,7 @@ use Rattle.wit_names.specs.Mangled.{is_mangled}
 use Rattle.wit_syntax.specs.Function.{SourceFunction, written_types}
 use Rattle.wit_syntax.specs.Shape.{all_handles}
 use Rattle.wit_arena.specs.Resolving.{env_of}
+use Rattle.wit_first.proofs.Bridge.{notes_agree, refused_by}
 use Rattle.wit_rules.specs.Held.{function_behind}
 use Rattle.wit_rules.specs.Signatures.{functions_behind}
 use Rattle.wit_entries.specs.Requiring.{Requires}
@@ -16,7 +17,7 @@ use Rattle.wit_signatures.proofs.functions.resolve_function.Goals as goal
 pub returns-in_err-notes-clause-refused : goal.returns-in_err-notes-clause-refused
 returns-in_err-notes-clause-refused c =
     let p = err_from_is_err_and c.from_residual.result c.from_residual.ensures.1 in
-    rw (p.1, p.2) (λ xs scope fn at. refused_notes (env_of c.args.scope.names.now) c.args.types.now xs (functions_behind c.args.scope) c.args.place fn c.attributes.result.now _ (c.attributes.ensures ∙ ap (λ (g : SourceFunction). g.attributes) (held_at c.args.scope.functions.now c.args.place c.index-scope-place.result fn c.requires.place at)) c.in_err-notes.ensures.refused)
+    rw (p.1, p.2) (λ xs scope fn at. refused_notes (env_of c.args.scope.names.now) c.args.types.now xs (functions_behind c.args.scope) c.args.place fn c.attributes.result.now _ (c.attributes.ensures ∙ ap (λ (g : SourceFunction). g.attributes) (held_at c.args.scope.functions.now c.args.place c.index-scope-place.result fn c.requires.place at)) (refused_by (notes_agree c.attributes.result.now) c.in_err-notes.ensures.first))
 
 pub resolve_signature-requires-clause-owner : goal.resolve_signature-requires-clause-owner
 resolve_signature-requires-clause-owner c = c.requires.owners.each c.args.place _ (held_here c.args.scope.functions.now c.args.place c.index-scope-place.result c.requires.place)
@@ -49,7 +50,7 @@ pub returns-clause-legal : goal.returns-clause-legal
 returns-clause-legal c = λ xs scope fn at. (
     let hs = c.args.scope.functions.now in
     let d = c.index-scope-place.result in
-    held_legal xs (functions_behind c.args.scope) c.args.place fn (function_behind (get_or hs c.args.place d)) c.attributes.result.now (held_at hs c.args.place d fn c.requires.place at) at c.attributes.ensures c.in_ok-notes.ensures.legal (c.in_ok-signature.ensures.legal xs scope))
+    held_legal xs (functions_behind c.args.scope) c.args.place fn (function_behind (get_or hs c.args.place d)) c.attributes.result.now (held_at hs c.args.place d fn c.requires.place at) at c.attributes.ensures ((notes_agree c.attributes.result.now).unbroken c.in_ok-notes.ensures.first) (c.in_ok-signature.ensures.legal xs scope))
 
 pub returns-clause-handled : goal.returns-clause-handled
 returns-clause-handled c = λ fn at. subst (λ (g : SourceFunction). Requires (env_of c.args.scope.names.now) c.resolve_signature.new.types (all_handles (written_types g)) c.args.required.now.items c.resolve_signature.new.required.items) (held_at c.args.scope.functions.now c.args.place c.index-scope-place.result fn c.requires.place at) c.in_ok-signature.ensures.handled
