@@ -2,6 +2,5 @@ pub mod Cases
 pub mod Tables
 pub mod Seeing
 pub mod Few
-pub mod Seconds
 pub mod Scoping
 pub mod Apart

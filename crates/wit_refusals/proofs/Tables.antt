@@ -1,5 +1,5 @@
 -- Maps from texts, as contracts see their entries.
-use Rattle.std.proofs.Common.{◌≡◌, ◌≢◌, ℕ, zero, suc, ◌<◌, List, [], ◌∷◌, ◌++◌, true, take, Some, None, nat_eq, inl, inr, refl, sym, ap, ◌∙◌, arith}
+use Rattle.std.proofs.Common.{◌≡◌, ◌≢◌, ℕ, zero, suc, List, [], ◌∷◌, ◌++◌, true, Some, None, nat_eq, inl, inr, refl, sym, ap, ◌∙◌}
 use Rattle.std.specs.Prelude.{slice_get}
 use Rattle.std.specs.Cmp.Lexicographic.{pointwise}
 use Rattle.std.specs.Map.{lookup}
@@ -48,10 +48,3 @@ insert_entry-last (e ∷ es) key v none = elim (name_cases key e.0) [
       f)
   | inr other ↦ (let rest = rw other at none in rw other (ap (λ l. e ∷ l) (insert_entry-last es key v rest)))
 ]
-
--- what stands below n stands in the first n
-pub in_take : {X : Type 0} (xs : List X) (n i : ℕ) (x : X) → i < n → slice_get xs i ≡ Some x → slice_get (take n xs) i ≡ Some x
-in_take xs zero i x lt h = absurd (omega arith)
-in_take [] (suc n) i x lt h = absurd (let f : ⊥ = cc in f)
-in_take (y ∷ ys) (suc n) zero x lt h = h
-in_take (y ∷ ys) (suc n) (suc i) x lt h = in_take ys n i x (omega arith) h

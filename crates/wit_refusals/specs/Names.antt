@@ -3,28 +3,7 @@ use Rattle.std.specs.Prelude.{◌≡◌, ℕ, ◌<◌, List, Some, slice_get, Is
 use Rattle.wit_names.specs.Folded.{folded_key}
 use Rattle.wit_names.specs.Setter.{getter_of, is_setter}
 use Rattle.wit_values.specs.declared.span.Span.{Span}
-use Rattle.wit_type_tree.specs.declared.leaves.Id.{Id}
-use Rattle.wit_syntax.specs.Bodies.{folded}
 use Rattle.wit_syntax.specs.Fault.{Fault, fault}
-
--- an earlier name is the one at this place once case is folded
-pub record IsSecond (names : List Id) (second : ℕ) : Type 0 where
-  pub first : ℕ
-  pub before : first < second
-  pub earlier : Id
-  pub later : Id
-  pub at_first : slice_get names first ≡ Some earlier
-  pub at_second : slice_get names second ≡ Some later
-  pub same : folded earlier.name.now ≡ folded later.name.now
-
--- the first name that is, once case is folded, an earlier one
-pub record IsFirstSecond (names : List Id) (f : Fault) : Type 0 where
-  pub place : ℕ
-  pub later : Id
-  pub at : slice_get names place ≡ Some later
-  pub second : IsSecond names place
-  pub first : (i : ℕ) → i < place → IsSecond names i → ⊥
-  pub is : f ≡ fault 25 later.span
 
 -- a name of a scope, with the place where it is written
 abbrev pub Name : Type 0

@@ -1,7 +1,7 @@
 //! Names of parts of a definition, which differ once case is folded.
-ghost use Rattle.std.specs.Prelude.{◌≡◌, ℕ, IfErr, IfOk, OnOk, map};
-ghost use Rattle.wit_syntax.specs.Broken.{Refused};
-ghost use Rattle.wit_refusals.specs.Names.{IsFirstSecond, IsSecond};
+ghost use Rattle.std.specs.Prelude.{◌≡◌, IfOk, map};
+ghost use Rattle.wit_first.specs.First.{Finds};
+ghost use Rattle.wit_first.specs.Lists.{names_fault};
 
 use crate::refusal::refuse_in;
 use crate::repeats::first_folded_repeat;
@@ -26,8 +26,7 @@ fn spelled<'a>(alloc: Global, names: &[Id<'a>]) -> Result<Vec<&'a str>, AllocErr
 ///
 /// The error is E25 at the later name, or want of memory.
 pub fn check_unique_names(alloc: Global, desc: &str, names: &[Id<'_>]) -> ParseResult<()>
-    ensures distinct { OnOk result ((i : ℕ) → IsSecond names.now i → ⊥) }
-    ensures refused { IfErr result (Refused (IsFirstSecond names.now)) }
+    ensures { Finds (names_fault names.now) result }
 {
     let texts = spelled(alloc, names)?;
     match first_folded_repeat(alloc, &texts)? {

@@ -1,2 +1,1 @@
-mod Duplicates
 mod FunctionRules

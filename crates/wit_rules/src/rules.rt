@@ -1,8 +1,8 @@
 //! The rules of types, fields, flags and cases.
-ghost use Rattle.std.specs.Prelude.{◌≡◌, ◌↔◌, ◌⊎◌, OnOk, IfOk, IfErr, IsTrue, map};
-ghost use Rattle.wit_syntax.specs.Fault.{Fault};
-ghost use Rattle.wit_syntax.specs.Bodies.{CanBeKey, IsKey, IsInvalidKey, IsEmpty, IsFlagTooMany, IsDuplicateName, AreBroken};
-ghost use Rattle.wit_syntax.specs.Broken.{Refused};
+ghost use Rattle.std.specs.Prelude.{◌≡◌, IfOk, map};
+ghost use Rattle.wit_first.specs.First.{Finds};
+ghost use Rattle.wit_first.specs.Keys.{can_be_key, is_key, key_fault};
+ghost use Rattle.wit_first.specs.Lists.{empty_fault, flag_fault, flags_fault, members_fault, names_fault};
 
 use std::alloc::{AllocError, Global};
 use wit_refusals::check_unique_names;
@@ -19,7 +19,7 @@ const INVALID_KEY: &str =
 
 /// Whether the keys of a map can be of a primitive type.
 fn can_be_key(primitive: Primitive) -> bool
-    ensures { IsTrue result ↔ CanBeKey primitive }
+    ensures { result ≡ can_be_key primitive }
 {
     !matches!(
         primitive,
@@ -29,7 +29,7 @@ fn can_be_key(primitive: Primitive) -> bool
 
 /// Whether the keys of a map can be of a type, as it is written.
 fn is_key(ty: &Type<'_>) -> bool
-    ensures { IsTrue result ↔ IsKey ty.now }
+    ensures { result ≡ is_key ty.now }
 {
     match ty {
         Type::Primitive(_, primitive) => can_be_key(*primitive),
@@ -39,8 +39,7 @@ fn is_key(ty: &Type<'_>) -> bool
 
 /// Refuses a map whose keys are of a type that is written as none for keys (E26).
 pub fn check_key(alloc: Global, span: Span, key: &Type<'_>) -> ParseResult<()>
-    ensures legal { OnOk result ((f : Fault) → IsInvalidKey key.now span f → ⊥) }
-    ensures refused { IfErr result (Refused (IsInvalidKey key.now span)) }
+    ensures { Finds (key_fault key.now span) result }
 {
     if is_key(key) {
         return Ok(());
@@ -50,8 +49,7 @@ pub fn check_key(alloc: Global, span: Span, key: &Type<'_>) -> ParseResult<()>
 
 /// Refuses a tuple without types (E22).
 pub fn check_tuple(alloc: Global, span: Span, types: &[Type<'_>]) -> ParseResult<()>
-    ensures legal { OnOk result ((f : Fault) → IsEmpty 22 types.now span f → ⊥) }
-    ensures refused { IfErr result (Refused (IsEmpty 22 types.now span)) }
+    ensures { Finds (empty_fault 22 types.now span) result }
 {
     if types.is_empty() {
         return Err(refuse(alloc, 22, span, "empty tuple"));
@@ -61,8 +59,7 @@ pub fn check_tuple(alloc: Global, span: Span, types: &[Type<'_>]) -> ParseResult
 
 /// Refuses the first of these names that is an earlier one once case is folded (E25).
 fn check_names(alloc: Global, desc: &str, names: &[Id<'_>]) -> ParseResult<()>
-    ensures distinct { OnOk result ((f : Fault) → IsDuplicateName names.now f → ⊥) }
-    ensures refused { IfErr result (Refused (IsDuplicateName names.now)) }
+    ensures { Finds (names_fault names.now) result }
 {
     check_unique_names(alloc, desc, names)?;
     Ok(())
@@ -98,8 +95,7 @@ fn enum_case_names<'a>(alloc: Global, cases: &[EnumCase<'a>]) -> Result<Vec<Id<'
 
 /// Refuses a record without fields (E19), and one with two fields of one name once case is folded (E25).
 pub fn check_record(alloc: Global, span: Span, fields: &[Field<'_>]) -> ParseResult<()>
-    ensures legal { OnOk result ((f : Fault) → AreBroken 19 (λ x. x.name) fields.now span f → ⊥) }
-    ensures refused { IfErr result (Refused (AreBroken 19 (λ x. x.name) fields.now span)) }
+    ensures { Finds (members_fault 19 (λ x. x.name) span fields.now) result }
 {
     if fields.is_empty() {
         return Err(refuse(alloc, 19, span, "empty record"));
@@ -111,8 +107,7 @@ pub fn check_record(alloc: Global, span: Span, fields: &[Field<'_>]) -> ParseRes
 
 /// Refuses the thirty-third flag (E21).
 fn check_count(alloc: Global, flags: &[Flag<'_>]) -> ParseResult<()>
-    ensures few { OnOk result ((f : Fault) → IsFlagTooMany flags.now f → ⊥) }
-    ensures refused { IfErr result (Refused (IsFlagTooMany flags.now)) }
+    ensures { Finds (flag_fault flags.now) result }
 {
     match flags.get(MOST_FLAGS) {
         Some(flag) => Err(refuse(alloc, 21, flag.name.span, "cannot have more than 32 flags")),
@@ -122,8 +117,7 @@ fn check_count(alloc: Global, flags: &[Flag<'_>]) -> ParseResult<()>
 
 /// Refuses flags without a flag (E20), the thirty-third (E21), and two of one name once case is folded (E25).
 pub fn check_flags(alloc: Global, span: Span, flags: &[Flag<'_>]) -> ParseResult<()>
-    ensures legal { OnOk result ((f : Fault) → AreBroken 20 (λ x. x.name) flags.now span f ⊎ IsFlagTooMany flags.now f → ⊥) }
-    ensures refused { IfErr result (Refused (λ f. AreBroken 20 (λ x. x.name) flags.now span f ⊎ IsFlagTooMany flags.now f)) }
+    ensures { Finds (flags_fault span flags.now) result }
 {
     if flags.is_empty() {
         return Err(refuse(alloc, 20, span, "empty flags"));
@@ -136,8 +130,7 @@ pub fn check_flags(alloc: Global, span: Span, flags: &[Flag<'_>]) -> ParseResult
 
 /// Refuses a variant without cases (E23), and one with two cases of one name once case is folded (E25).
 pub fn check_variant(alloc: Global, span: Span, cases: &[Case<'_>]) -> ParseResult<()>
-    ensures legal { OnOk result ((f : Fault) → AreBroken 23 (λ x. x.name) cases.now span f → ⊥) }
-    ensures refused { IfErr result (Refused (AreBroken 23 (λ x. x.name) cases.now span)) }
+    ensures { Finds (members_fault 23 (λ x. x.name) span cases.now) result }
 {
     if cases.is_empty() {
         return Err(refuse(alloc, 23, span, "empty variant"));
@@ -149,8 +142,7 @@ pub fn check_variant(alloc: Global, span: Span, cases: &[Case<'_>]) -> ParseResu
 
 /// Refuses an enum without cases (E24), and one with two cases of one name once case is folded (E25).
 pub fn check_enum(alloc: Global, span: Span, cases: &[EnumCase<'_>]) -> ParseResult<()>
-    ensures legal { OnOk result ((f : Fault) → AreBroken 24 (λ x. x.name) cases.now span f → ⊥) }
-    ensures refused { IfErr result (Refused (AreBroken 24 (λ x. x.name) cases.now span)) }
+    ensures { Finds (members_fault 24 (λ x. x.name) span cases.now) result }
 {
     if cases.is_empty() {
         return Err(refuse(alloc, 24, span, "empty enum"));

@@ -5,6 +5,7 @@ use Rattle.wit_type_tree.specs.Parts.{case_types}
 use Rattle.wit_syntax.specs.Bodies.{AreBroken}
 use Rattle.wit_syntax.specs.Fault.{Fault}
 use Rattle.wit_syntax.proofs.Refusing.{refused_weaker}
+use Rattle.wit_first.proofs.Bridge.{members_agree, refused_by}
 use Rattle.wit_arena.specs.Resolving.{AreWrongTypes, env_of}
 use Rattle.wit_definitions.proofs.bodies.resolve_variant.Goals as goal
 
@@ -13,4 +14,7 @@ returns-in_err-check_variant-clause-refused c =
     let p = err_from_is_err_and c.from_residual.result c.from_residual.ensures.1 in
     let broken : Fault → Type 0 = AreBroken 23 (λ (x : Case). x.name) c.args.cases.now c.args.span in
     let wrong : Fault → Type 0 = AreWrongTypes (env_of c.args.names.now) c.args.types.now (case_types c.args.cases.now) in
-    rw (p.1, p.2) (refused_weaker broken (λ f. broken f ⊎ wrong f) _ (λ f h. inl h) c.in_err-check_variant.ensures.refused)
+    rw (p.1, p.2) (refused_weaker broken (λ f. broken f ⊎ wrong f) _ (λ f h. inl h) (refused_by (members_agree 23 (λ (x : Case). x.name) c.args.span c.args.cases.now) c.in_err-check_variant.ensures))
+
+pub returns-clause-list : goal.returns-clause-list
+returns-clause-list c = (members_agree 23 (λ (x : Case). x.name) c.args.span c.args.cases.now).unbroken c.in_ok-check_variant.ensures

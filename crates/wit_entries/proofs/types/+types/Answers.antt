@@ -11,6 +11,7 @@ use Rattle.wit_syntax.specs.Bodies.{IsInvalidKey, IsEmpty, IsBrokenType}
 use Rattle.wit_arena.specs.Resolving.{env_of, IsWrongType, AreWrongTypes}
 use Rattle.wit_syntax.specs.Shape.{shape_of, handles}
 use Rattle.wit_syntax.proofs.Refusing.{refused_weaker}
+use Rattle.wit_first.proofs.Bridge.{empty_agrees, key_agrees, refused_by}
 use Rattle.wit_arena.proofs.Written.{AreLegal, legal_one, legal_more, wrong_at}
 use Rattle.wit_entries.specs.Requiring.{Requires}
 use Rattle.wit_entries.proofs.Reading.{resolved_word, read_stands, types_one, types_then}
@@ -53,7 +54,7 @@ read_form-returns-in_err-value_type-in-Map-clause-refused t c =
 pub read_form-returns-in_err-check_key-in-Map-clause-refused : goal.read_form-returns-in_err-check_key-in-Map-clause-refused
 read_form-returns-in_err-check_key-in-Map-clause-refused t c =
     let p = err_from_is_err_and c.from_residual-in_err-check_key-in-Map.result c.from_residual-in_err-check_key-in-Map.ensures.1 in
-    rw (c.in-Map.is, p.1, p.2) (refused_form (env_of c.args.names.now) _ (written.Map c.in-Map.span c.in-Map.key c.in-Map.value) (IsInvalidKey c.deref-in-Map-3.result.now c.in-Map.span) _ (λ f own. subst (λ t. IsInvalidKey t c.in-Map.span f) c.deref-in-Map-3.ensures own) c.in_err-check_key-in-Map.ensures.refused)
+    rw (c.in-Map.is, p.1, p.2) (refused_form (env_of c.args.names.now) _ (written.Map c.in-Map.span c.in-Map.key c.in-Map.value) (IsInvalidKey c.deref-in-Map-3.result.now c.in-Map.span) _ (λ f own. subst (λ t. IsInvalidKey t c.in-Map.span f) c.deref-in-Map-3.ensures own) (refused_by (key_agrees c.deref-in-Map-3.result.now c.in-Map.span) c.in_err-check_key-in-Map.ensures))
 
 pub read_form-returns-in_err-value-in-Option-clause-refused : goal.read_form-returns-in_err-value-in-Option-clause-refused
 read_form-returns-in_err-value-in-Option-clause-refused t c =
@@ -68,7 +69,7 @@ read_form-returns-in_err-outcome-in-Result-clause-refused t c =
 pub read_form-returns-in_err-check_tuple-in-Tuple-clause-refused : goal.read_form-returns-in_err-check_tuple-in-Tuple-clause-refused
 read_form-returns-in_err-check_tuple-in-Tuple-clause-refused t c =
     let p = err_from_is_err_and c.from_residual-in_err-check_tuple-in-Tuple.result c.from_residual-in_err-check_tuple-in-Tuple.ensures.1 in
-    rw (c.in-Tuple.is, p.1, p.2) (refused_form (env_of c.args.names.now) _ (written.Tuple c.in-Tuple.span c.in-Tuple.parts) (IsEmpty 22 c.deref-in-Tuple.result.now c.in-Tuple.span) _ (λ f own. subst (λ ts. IsEmpty 22 ts c.in-Tuple.span f) (c.deref-in-Tuple.ensures.value ∙ sym (tuple_types c.in-Tuple.span c.in-Tuple.parts)) own) c.in_err-check_tuple-in-Tuple.ensures.refused)
+    rw (c.in-Tuple.is, p.1, p.2) (refused_form (env_of c.args.names.now) _ (written.Tuple c.in-Tuple.span c.in-Tuple.parts) (IsEmpty 22 c.deref-in-Tuple.result.now c.in-Tuple.span) _ (λ f own. subst (λ ts. IsEmpty 22 ts c.in-Tuple.span f) (c.deref-in-Tuple.ensures.value ∙ sym (tuple_types c.in-Tuple.span c.in-Tuple.parts)) own) (refused_by (empty_agrees 22 c.deref-in-Tuple.result.now c.in-Tuple.span) c.in_err-check_tuple-in-Tuple.ensures))
 
 pub read_form-returns-in_err-types-in-Tuple-clause-refused : goal.read_form-returns-in_err-types-in-Tuple-clause-refused
 read_form-returns-in_err-types-in-Tuple-clause-refused t c =
@@ -95,7 +96,7 @@ read_form-returns-in_ok-check_key-in-Map-clause-read t c = rw c.in-Map.is (map_f
 
 pub read_form-returns-in_ok-check_key-in-Map-clause-legal : goal.read_form-returns-in_ok-check_key-in-Map-clause-legal
 read_form-returns-in_ok-check_key-in-Map-clause-legal t c = rw c.in-Map.is (legal_parts (written.Map c.in-Map.span c.in-Map.key c.in-Map.value) (c.deref-in-Map.result.now ∷ c.deref-in-Map-2.result.now ∷ [])
-    (λ f own. c.in_ok-check_key-in-Map.ensures.legal f (subst (λ t. IsInvalidKey t c.in-Map.span f) (sym c.deref-in-Map-3.ensures) own))
+    (λ f own. (key_agrees c.deref-in-Map-3.result.now c.in-Map.span).unbroken c.in_ok-check_key-in-Map.ensures f (subst (λ t. IsInvalidKey t c.in-Map.span f) (sym c.deref-in-Map-3.ensures) own))
     (ap (λ t. t ∷ c.in-Map.value.value ∷ []) (sym c.deref-in-Map.ensures) ∙ ap (λ t. c.deref-in-Map.result.now ∷ t ∷ []) (sym c.deref-in-Map-2.ensures))
     (legal_more (c.deref-in-Map.result.now ∷ []) (c.deref-in-Map-2.result.now ∷ []) (legal_one c.deref-in-Map.result.now c.in_ok-key_type-in-Map.ensures.legal) (legal_one c.deref-in-Map-2.result.now c.in_ok-value_type-in-Map.ensures.legal)))
 
@@ -114,7 +115,7 @@ read_form-returns-in_ok-types-in-Tuple-clause-read t c = rw c.in-Tuple.is (tuple
 
 pub read_form-returns-in_ok-types-in-Tuple-clause-legal : goal.read_form-returns-in_ok-types-in-Tuple-clause-legal
 read_form-returns-in_ok-types-in-Tuple-clause-legal t c = rw c.in-Tuple.is (legal_parts (written.Tuple c.in-Tuple.span c.in-Tuple.parts) c.deref-in-Tuple-2.result.now
-    (λ f own. c.in_ok-check_tuple-in-Tuple.ensures.legal f (subst (λ ts. IsEmpty 22 ts c.in-Tuple.span f) (tuple_types c.in-Tuple.span c.in-Tuple.parts ∙ sym c.deref-in-Tuple.ensures.value) own))
+    (λ f own. (empty_agrees 22 c.deref-in-Tuple.result.now c.in-Tuple.span).unbroken c.in_ok-check_tuple-in-Tuple.ensures f (subst (λ ts. IsEmpty 22 ts c.in-Tuple.span f) (tuple_types c.in-Tuple.span c.in-Tuple.parts ∙ sym c.deref-in-Tuple.ensures.value) own))
     (tuple_types c.in-Tuple.span c.in-Tuple.parts ∙ sym c.deref-in-Tuple-2.ensures.value) c.in_ok-types-in-Tuple.ensures.legal)
 
 pub read_form-returns-in_ok-value-in-Future-clause-read : goal.read_form-returns-in_ok-value-in-Future-clause-read

@@ -2,31 +2,33 @@ use Rattle.std.proofs.Common.{◌≡◌, ℕ, List, Some, inl, inr, ap, sym, sub
 use Rattle.std.specs.Prelude.{map, slice_get}
 use Rattle.std.specs.Borrow.{Bor}
 use Rattle.std.proofs.lemmas.Option.{slice_get-get_or, slice_get_within}
+use Rattle.wit_type_tree.specs.declared.leaves.Id.{Id}
+use Rattle.wit_first.proofs.First.{no_repeats, repeat_first}
 use Rattle.wit_syntax.proofs.Lists.{map_at}
 use Rattle.wit_syntax.specs.Bodies.{folded}
+use Rattle.wit_syntax.specs.Fault.{fault}
 use Rattle.wit_syntax.specs.Repeats.{IsRepeatAt, AllDiffer}
 use Rattle.wit_refusals.proofs.Cases.{names-folded}
-use Rattle.wit_refusals.proofs.Seconds.{key, second-repeat, no_second-take, no_second}
 use Rattle.wit_refusals.proofs.unique_names.check_unique_names.Goals as goal
 
-pub returns-in-Some-clause-refused : goal.returns-in-Some-clause-refused
-returns-in-Some-clause-refused c =
+pub returns-in-Some : goal.returns-in-Some
+returns-in-Some c =
     let names = c.args.names.now in
     let first : ℕ = c.in-Some.first in
     let second : ℕ = c.in-Some.second in
     let later = c.index-names-second.result in
     let keys = ap (map (λ (t : Bor (List ℕ)). folded t.now)) c.deref.ensures.value ∙ names-folded c.in_ok-texts.texts.items names c.in_ok-texts.ensures in
-    let r : IsRepeatAt (map key names) first second = subst (λ ks. IsRepeatAt ks first second) keys (rw c.in-Some.is at c.in_ok-first.ensures.some) in
-    let d : AllDiffer (take second (map key names)) = subst (λ ks. AllDiffer (take second ks)) keys (rw c.in-Some.is at c.in_ok-first.ensures.first) in
-    let x = map_at key names second r.x r.at_second in
+    let r : IsRepeatAt (map (λ (id : Id). folded id.name.now) names) first second = subst (λ ks. IsRepeatAt ks first second) keys (rw c.in-Some.is at c.in_ok-first.ensures.some) in
+    let d : AllDiffer (take second (map (λ (id : Id). folded id.name.now) names)) = subst (λ ks. AllDiffer (take second ks)) keys (rw c.in-Some.is at c.in_ok-first.ensures.first) in
+    let x = map_at (λ (id : Id). folded id.name.now) names second r.x r.at_second in
     let at : slice_get names second ≡ Some later = slice_get-get_or names second later (slice_get_within names second x.0 x.1) ∙ ap Some (sym c.index-names-second.is) in
     elim c.refuse_in.ensures.fault [
       | inl memory ↦ inl memory
-      | inr says ↦ inr (record { place = second; later = later; at = at; second = second-repeat names first second r; first = λ i lt s. no_second-take names second i d lt s; is = says })
+      | inr says ↦ inr (repeat_first (λ (id : Id). folded id.name.now) (λ (id : Id). fault 25 id.span) names first second later r d at ∙ ap Some (sym says))
     ]
 
-pub returns-clause-distinct : goal.returns-clause-distinct
-returns-clause-distinct c =
+pub returns : goal.returns
+returns c =
     let names = c.args.names.now in
     let keys = ap (map (λ (t : Bor (List ℕ)). folded t.now)) c.deref.ensures.value ∙ names-folded c.in_ok-texts.texts.items names c.in_ok-texts.ensures in
-    λ i s. no_second names i (subst AllDiffer keys (rw c.in-None.is at c.in_ok-first.ensures.none)) s
+    no_repeats (λ (id : Id). folded id.name.now) (λ (id : Id). fault 25 id.span) names (subst AllDiffer keys (rw c.in-None.is at c.in_ok-first.ensures.none))
