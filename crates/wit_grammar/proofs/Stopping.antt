@@ -10,7 +10,7 @@ use Rattle.semver.specs.Parse.{version_parts}
 use Rattle.wit_names.specs.Label.{is_label}
 use Rattle.wit_values.specs.declared.span.Span.{Span}
 use Rattle.wit_type_tree.specs.declared.types.Primitive.{Primitive}
-use Rattle.wit_type_tree.specs.Slices.{unescaped}
+use Rattle.wit_lex.specs.Words.{unescaped}
 use Rattle.wit_lex.specs.declared.fault.ReadError.{ReadError}
 use Rattle.wit_lex.specs.declared.fault.ReadError.TheVariants.{Fault, OutOfMemory}
 use Rattle.wit_lex.specs.declared.fault.ReadFault.TheVariants as fault

@@ -1,10 +1,22 @@
 -- Comments, byte by byte, and docs, comment by comment.
-use Rattle.std.proofs.Common.{◌≡◌, ℕ, zero, suc, ◌+◌, ◌-◌, ◌<◌, ◌≤◌, List, [], ◌∷◌, ◌++◌, length, ap, ◌∙◌, sym, arith, subst}
+use Rattle.std.proofs.Common.{◌≡◌, ℕ, zero, suc, ◌+◌, ◌-◌, ◌<◌, ◌≤◌, true, List, [], ◌∷◌, ◌++◌, length, ap, ◌∙◌, sym, arith, subst}
 use Rattle.std.specs.Prelude.{slice_index, slice_range}
 use denote.Ref.{Bor}
 use Rattle.wit_values.specs.declared.span.Span.{Span}
-use Rattle.wit_type_tree.specs.Comments.{IsComment, IsDocs, IsNested, IsPair, Closed, Inside, IsStretch, Start, Blank, Other, Found, stretched}
+use Rattle.wit_type_tree.specs.Comments.{IsComment, IsNested, IsPair, Closed, Inside, is_blank}
 use Rattle.wit_lex.specs.Blanks.{IsNextSlash, IsNoSlash, IsSkipped, Here, PastBlank, PastComment}
+use Rattle.wit_lex.specs.DocsLexis.{IsDocs, stretched}
+
+-- from a place up to a place there are blanks and comments alone, and these docs among them, as they are written, with a span from the first to the end of the last
+pub data IsStretch (source : List ℕ) (offset from : ℕ) : List (Bor (List ℕ)) → Span → ℕ → Type 0 where
+  Start : IsStretch source offset from [] (record { start = 0; end = 0 }) from
+  Blank : (docs : List (Bor (List ℕ))) (span : Span) (at : ℕ) → IsStretch source offset from docs span at →
+      at < length source → is_blank (slice_index source at) ≡ true → IsStretch source offset from docs span (at + 1)
+  Other : (docs : List (Bor (List ℕ))) (span : Span) (at end : ℕ) → IsStretch source offset from docs span at →
+      IsComment source at end → (IsDocs source at end → ⊥) → IsStretch source offset from docs span end
+  Found : (docs : List (Bor (List ℕ))) (span found : Span) (comment : Bor (List ℕ)) (at end : ℕ) → IsStretch source offset from docs span at →
+      IsComment source at end → IsDocs source at end → comment.now ≡ slice_range source at end → found.start ≡ offset + at → found.end ≡ offset + end →
+      IsStretch source offset from (docs ++ comment ∷ []) (stretched docs span found) end
 
 -- one comment more among docs
 pub docs_more : (source : List ℕ) (offset from : ℕ) (docs more : List (Bor (List ℕ))) (span whole found : Span) (comment : Bor (List ℕ)) (at end : ℕ) →

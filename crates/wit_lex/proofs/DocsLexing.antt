@@ -1,17 +1,17 @@
 -- The docs that the scanner finds are those that the functions of `DocsLexis` have.
-use Rattle.std.proofs.Common.{◌≡◌, ℕ, zero, suc, ◌+◌, ◌-◌, ◌<◌, ◌≤◌, List, [], ◌∷◌, ◌++◌, length, drop, ap, ◌∙◌, sym, subst, arith, refl, true, false, Bool, append_assoc, inl, inr}
-use Rattle.std.specs.Prelude.{◌==◌, ◌&&◌, nat_le, map, slice_index, slice_range}
+use Rattle.std.proofs.Common.{◌≡◌, ℕ, zero, suc, ◌+◌, ◌-◌, List, [], ◌∷◌, ◌++◌, length, drop, ap, ◌∙◌, sym, arith, refl, true, false, Bool, append_assoc, inl, inr}
+use Rattle.std.specs.Prelude.{◌==◌, ◌&&◌, map, slice_index, slice_range}
 use Rattle.std.specs.List.{filter}
 use Rattle.std.proofs.lemmas.Bool.{and_from, and_parts, cases_lt, eq-eqb, eqb-true, false_from_ne_true, le-leb, leb-true, ne_eqb}
 use Rattle.std.proofs.lemmas.List.{append-nil, drop_all, map-append}
 use Rattle.std.proofs.lemmas.List.Elements.{filter-append}
 use denote.Ref.{Bor}
 use Rattle.wit_values.specs.declared.span.Span.{Span}
-use Rattle.wit_type_tree.specs.Comments.{IsComment, IsDocs, IsStop, IsStretch, Start, Blank, Other, Found, is_blank, stretched}
+use Rattle.wit_type_tree.specs.Comments.{IsStop, is_blank}
 use Rattle.wit_type_tree.specs.declared.leaves.Docs.{Docs}
-use Rattle.wit_lex.specs.Lexis.{Mode, between, in_line, in_block, skipped}
-use Rattle.wit_lex.specs.DocsLexis.{AreDocsFrom, Range, comments, docs_from, docs_span, docs_text, is_docs, span_to}
-use Rattle.wit_lex.proofs.Comments.{stretch_skipped}
+use Rattle.wit_lex.specs.Lexis.{between, in_line, in_block}
+use Rattle.wit_lex.specs.DocsLexis.{AreDocsFrom, IsDocs, Range, comments, docs_from, docs_span, docs_text, is_docs, span_to, stretched}
+use Rattle.wit_lex.proofs.Comments.{IsStretch, Start, Blank, Other, Found, stretch_skipped}
 use Rattle.wit_lex.proofs.Lexing.{skipped_by, stopped}
 use Rattle.wit_lex.proofs.Walking.{IsWalk, blank_passed, comment_passed, more, no_pair}
 

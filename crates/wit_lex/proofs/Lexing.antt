@@ -1,15 +1,15 @@
 -- What the scanner finds is the first token of the source, or its fault, as the functions of `Lexis` have them.
-use Rattle.std.proofs.Common.{◌≡◌, ℕ, zero, suc, ◌+◌, ◌-◌, ◌<◌, ◌≤◌, ◌⊎◌, List, [], ◌∷◌, length, drop, ap, ◌∙◌, sym, subst, arith, refl, true, false, Bool, inl, inr}
-use Rattle.std.specs.Prelude.{Ok, Err, Result, ◌==◌, ◌&&◌, ◌||◌, min, slice_index, slice_range}
+use Rattle.std.proofs.Common.{◌≡◌, ℕ, zero, suc, ◌+◌, ◌-◌, ◌<◌, ◌≤◌, List, [], ◌∷◌, length, drop, ap, ◌∙◌, sym, subst, arith, refl, true, false, Bool, inl, inr}
+use Rattle.std.specs.Prelude.{Ok, Err, Result, ◌==◌, ◌&&◌, ◌||◌, slice_index, slice_range}
 use Rattle.std.specs.Char.{is_ascii_digit}
 use Rattle.std.specs.Str.{bytes_eq}
 use Rattle.std.proofs.lemmas.Bool.{cases_lt, and_parts, eqb-true, ne_eqb, false_from_ne_true, agree_below_at, or_parts, and_from, true≢false}
-use Rattle.std.proofs.lemmas.List.{drop_more, drop_all, get_or_past, length-drop}
+use Rattle.std.proofs.lemmas.List.{drop_all, get_or_past, length-drop}
 use Rattle.std.proofs.lemmas.Slice.Eq.{bytes_eq-Decides}
-use Rattle.wit_type_tree.specs.Comments.{IsComment, Line, Block, IsLine, IsNested, Opened, Deeper, Closed, Inside, IsPair, IsStop, is_blank}
+use Rattle.wit_type_tree.specs.Comments.{IsNested, IsStop, is_blank}
 use Rattle.wit_lex.specs.Blanks.{IsFirst, IsSkipped, Here, PastBlank, PastComment, IsEndless}
-use Rattle.wit_lex.specs.Faults.{IsUnended, IsUnread}
-use Rattle.wit_lex.specs.Starts.{IsEscaped, IsRun, IsStrange, is_letter, is_in_word, is_sign, width_of}
+use Rattle.wit_lex.specs.Faults.{IsUnread}
+use Rattle.wit_lex.specs.Starts.{IsEscaped, IsRun, IsStrange, is_letter, is_in_word, is_sign}
 use Rattle.wit_lex.specs.Tokens.{IsFound, IsToken}
 use Rattle.wit_lex.specs.Words.{IsPlain, word_text}
 use Rattle.wit_lex.specs.declared.fault.ReadError.{ReadError}
@@ -21,7 +21,7 @@ use Rattle.wit_lex.specs.declared.token.Token.{Token}
 use Rattle.wit_lex.specs.declared.word.Word.{Word}
 use Rattle.wit_lex.specs.declared.word.Word.TheVariants as word
 use Rattle.wit_lex.proofs.Walking.{IsWalk, blank_passed, comment_passed, left, more, nested_on, next_byte, no_pair, pair_rest}
-use Rattle.wit_lex.specs.Lexis.{Mode, between, in_line, in_block, skipped, run_end, Lexeme, words, word_among, word_kind, sign_kind, lexeme, no_token, arrow_or_escaped, word_token, token_here, token_after, first_token, Stops}
+use Rattle.wit_lex.specs.Lexis.{between, in_line, in_block, skipped, run_end, words, word_among, word_kind, sign_kind, lexeme, no_token, arrow_or_escaped, word_token, token_here, token_after, first_token}
 
 walk_blank : (at c : ℕ) (rest : List ℕ) → is_blank c ≡ true → skipped between at (c ∷ rest) ≡ skipped between (at + 1) rest
 unfolding skipped
@@ -323,12 +323,3 @@ next_unlexed source from (Fault fault.Nesting start end) u = absurd u
 next_unlexed source from (Fault fault.Version start end) u = absurd u
 next_unlexed source from (Fault fault.Number start end) u = absurd u
 next_unlexed source from OutOfMemory u = absurd u
-
-pub unended_lexed : (source : List ℕ) (from : ℕ) (e : ReadError) → IsUnended source from e → Stops (first_token source from) e
-unended_lexed source from (Fault fault.Comment start end) u = next_unlexed source from (Fault fault.Comment start end) u
-unended_lexed source from (Fault fault.Character start end) u = absurd u
-unended_lexed source from (Fault fault.Token start end) u = absurd u
-unended_lexed source from (Fault fault.Nesting start end) u = absurd u
-unended_lexed source from (Fault fault.Version start end) u = absurd u
-unended_lexed source from (Fault fault.Number start end) u = absurd u
-unended_lexed source from OutOfMemory u = tt

@@ -1,6 +1,6 @@
 -- A version's end, as the scanner finds it, is the one that the functions of `VersionLexis` have.
-use Rattle.std.proofs.Common.{◌≡◌, ℕ, ◌+◌, ◌<◌, ◌≤◌, ◌⊎◌, List, [], ◌∷◌, length, drop, ap, ◌∙◌, sym, subst, arith, refl, true, false, Bool, inl, inr}
-use Rattle.std.specs.Prelude.{Ok, Err, Result, ◌==◌, ◌&&◌, nat_lt, slice_index}
+use Rattle.std.proofs.Common.{◌≡◌, ℕ, ◌+◌, ◌<◌, List, [], ◌∷◌, length, drop, ap, ◌∙◌, sym, subst, arith, refl, true, false, inl, inr}
+use Rattle.std.specs.Prelude.{Ok, Err, ◌==◌, ◌&&◌, slice_index}
 use Rattle.std.specs.Char.{is_ascii_digit}
 use Rattle.std.proofs.lemmas.Bool.{cases_Bool, cases_lt, eq-eqb, eqb-true, false_from_ne_true, and_parts, le-ltb, lt-ltb, ne_eqb, true≢false}
 use Rattle.std.proofs.lemmas.List.{drop_all, get_or_past}

@@ -1,10 +1,9 @@
 -- Going over blanks and comments, byte by byte, whatever is gathered on the way.
-use Rattle.std.proofs.Common.{◌≡◌, ℕ, zero, suc, ◌+◌, ◌-◌, ◌<◌, ◌≤◌, List, [], ◌∷◌, length, drop, ap, ◌∙◌, sym, subst, arith, refl, true, false, inl, inr}
+use Rattle.std.proofs.Common.{◌≡◌, ℕ, zero, suc, ◌+◌, ◌-◌, ◌<◌, ◌≤◌, List, [], ◌∷◌, length, drop, ap, ◌∙◌, sym, subst, arith, true, false, inl, inr}
 use Rattle.std.specs.Prelude.{◌==◌, ◌&&◌, slice_index}
 use Rattle.std.proofs.lemmas.Bool.{and_parts, cases_lt, eqb-true, false_from_ne_true}
 use Rattle.std.proofs.lemmas.List.{drop_all, drop_more}
 use Rattle.wit_type_tree.specs.Comments.{IsComment, Line, Block, IsLine, IsNested, Opened, Deeper, Closed, Inside, IsPair, is_blank}
-use Rattle.wit_lex.specs.Blanks.{IsSkipped, Here, PastBlank, PastComment}
 use Rattle.wit_lex.specs.Lexis.{Mode, between, in_line, in_block}
 
 pub more : (source : List ℕ) (at : ℕ) → at < length source → drop at source ≡ slice_index source at ∷ drop (at + 1) source

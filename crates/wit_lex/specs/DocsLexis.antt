@@ -1,5 +1,5 @@
 -- The docs in front of a token, as a function of the text.
-use Rattle.std.specs.Prelude.{◌≡◌, ℕ, zero, suc, ◌+◌, ◌==◌, ◌&&◌, Bool, nat_le, List, [], ◌∷◌, drop, if◌then◌else◌, map, slice_index, slice_range, Ok}
+use Rattle.std.specs.Prelude.{◌≡◌, ℕ, zero, suc, ◌+◌, ◌≤◌, ◌==◌, ◌&&◌, Bool, nat_le, List, [], ◌∷◌, drop, if◌then◌else◌, length, map, slice_index, slice_range, Ok}
 use Rattle.std.specs.List.{filter}
 use Rattle.wit_values.specs.declared.span.Span.{Span}
 use denote.Ref.{Bor}
@@ -59,3 +59,12 @@ pub record AreDocsFrom (source : List ℕ) (offset from : ℕ) (docs : Docs) (to
   pub texts : map (λ (d : Bor (List ℕ)). d.now) docs.docs.items ≡ docs_text source (docs_from source from)
   pub span : docs.span ≡ docs_span offset (docs_from source from)
   pub ends : skipped between from (drop from source) ≡ Ok to
+
+-- the comment begins with `///` or `/**`
+pub record IsDocs (source : List ℕ) (at end : ℕ) : Type 0 where
+  pub long : at + 3 ≤ end
+  pub third : slice_index source (at + 2) ≡ slice_index source (at + 1)
+
+-- the span of comments where one more is found: from the first to the end of that one
+abbrev pub stretched : List (Bor (List ℕ)) → Span → Span → Span
+stretched comments span found = if length comments == 0 then found else record { start = span.start; end = found.end }

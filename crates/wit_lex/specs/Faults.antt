@@ -29,25 +29,6 @@ words_of Nesting = codes "nested too deeply"
 words_of Version = codes "invalid version"
 words_of Number = codes "number too large"
 
--- one of the faults, at a range of the source
-pub record IsFault (source : List ℕ) (offset number : ℕ) (span : Span) (message : List ℕ) : Type 0 where
-  pub fault : ReadFault
-  pub rule : number ≡ rule_of fault
-  pub words : message ≡ words_of fault
-  pub first : offset ≤ span.start
-  pub order : span.start ≤ span.end
-  pub last : span.end ≤ offset + length source
-
--- a fault of the source, or want of memory
-abbrev pub Tells : List ℕ → ℕ → ℕ → ParseErrorKind → Type 0
-Tells source offset number (Syntax span message) = IsFault source offset number span (string_bytes message)
-Tells source offset number (ItemNotFound span name kind hint) = ⊥
-Tells source offset number (TypeCycle span name kind) = ⊥
-Tells source offset number OutOfMemory = number ≡ 45
-
-pub record IsRefusal (source : List ℕ) (offset : ℕ) (e : ParseError) : Type 0 where
-  pub tells : Tells source offset e.rule e.kind
-
 -- this fault in its words, from one place to another
 pub record IsFaultAt (fault : ReadFault) (from to number : ℕ) (span : Span) (message : List ℕ) : Type 0 where
   pub rule : number ≡ rule_of fault

@@ -1,5 +1,5 @@
--- The words of the grammar, as they are written.
-use Rattle.std.specs.Prelude.{◌≡◌, ℕ, List, codes}
+-- The words of the grammar, as they are written, and names without their `%`.
+use Rattle.std.specs.Prelude.{◌≡◌, ℕ, ◌==◌, List, codes, drop, if◌then◌else◌, slice_index}
 use Rattle.wit_lex.specs.declared.word.Word.{Word}
 use Rattle.wit_lex.specs.declared.word.Word.TheVariants as word
 
@@ -50,3 +50,7 @@ word_text word.With = codes "with"
 -- the text is none of these words
 abbrev pub IsPlain : List ℕ → Type 0
 IsPlain text = (word : Word) → text ≡ word_text word → ⊥
+
+-- a front `%` taken off
+abbrev pub unescaped : List ℕ → List ℕ
+unescaped text = if slice_index text 0 == 37 then drop 1 text else text

@@ -1,6 +1,6 @@
 //! Blanks and comments.
 ghost use Rattle.std.specs.Prelude.{◌≡◌, ◌+◌, ◌-◌, ◌<◌, ◌≤◌, length, slice_index, MatchResult, IfOk, IfErr, IfNone, IfSome};
-ghost use Rattle.wit_type_tree.specs.Comments.{IsComment, IsLine, IsNested, IsPair, is_blank as is_blank_byte};
+ghost use Rattle.wit_type_tree.specs.Comments.{IsLine, IsNested, IsPair, is_blank as is_blank_byte};
 ghost use Rattle.wit_lex.specs.Blanks.{Begins, IsEndless, IsFirst, IsNextSlash, IsNoSlash, IsSkipped};
 
 use memchr::memchr;

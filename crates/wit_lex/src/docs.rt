@@ -1,8 +1,7 @@
 //! Docs: comments that document what stands behind them.
 ghost use Rattle.std.specs.Prelude.{◌≡◌, ◌+◌, ◌<◌, ◌≤◌, ◌^◌, ◌++◌, ◌∷◌, [], length, IfOk, IfErr, OnOk, MatchBool};
-ghost use Rattle.wit_type_tree.specs.Comments.{IsDocs, IsStop, IsStretch, is_blank as is_blank_byte, stretched as stretched_span};
-ghost use Rattle.wit_lex.specs.DocsLexis.{AreDocsFrom};
-ghost use Rattle.wit_lex.specs.Faults.{IsUnended, IsWithin};
+ghost use Rattle.wit_lex.specs.DocsLexis.{AreDocsFrom, IsDocs, stretched as stretched_span};
+ghost use Rattle.wit_lex.specs.Faults.{IsUnended};
 ghost use Rattle.wit_lex.specs.Lexis.{Stops, first_token};
 
 use crate::blank::{Blank, blank_at, is_blank};
@@ -58,10 +57,6 @@ pub fn docs_behind<'a>(
 ) -> ReadResult<(Docs<'a>, usize)>
     requires within { from ≤ length source.now }
     requires fits { offset + length source.now < 2 ^ 32 }
-    ensures range { IfOk result (λ found. (from ≤ found.1) × (found.1 ≤ length source.now)) }
-    ensures stretch { IfOk result (λ found. IsStretch source.now offset from found.0.docs.items found.0.span found.1) }
-    ensures stop { IfOk result (λ found. IsStop source.now found.1) }
-    ensures refused { IfErr result (IsWithin source.now) }
     ensures unended { IfErr result (IsUnended source.now from) }
     ensures lexed { IfOk result (λ found. AreDocsFrom source.now offset from found.0 found.1) }
     ensures unlexed { IfErr result (Stops (first_token source.now from)) }

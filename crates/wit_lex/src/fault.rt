@@ -1,7 +1,7 @@
 //! Why a text cannot be read.
 ghost use Rattle.std.specs.Prelude.{◌≡◌, ◌+◌, ◌<◌, ◌≤◌, ◌^◌, length};
 ghost use Rattle.wit_lex.specs.declared.fault.ReadError.TheVariants.{Fault, OutOfMemory};
-ghost use Rattle.wit_lex.specs.Faults.{IsRefusal, IsRefusalOf, IsWithin, rule_of, words_of};
+ghost use Rattle.wit_lex.specs.Faults.{IsRefusalOf, IsWithin, rule_of, words_of};
 
 use std::alloc::{AllocError, AllocFailed, Global};
 use wit_type_tree::{ParseError, ParseErrorKind};
@@ -90,13 +90,10 @@ impl ReadError {
     pub fn refusal(self, alloc: Global, source: &str, offset: u32) -> ParseError
         requires within { IsWithin source.now self }
         requires fits { offset + length source.now < 2 ^ 32 }
-        ensures refusal { IsRefusal source.now offset result }
         ensures told { IsRefusalOf self offset result }
     {
         match self {
-            ReadError::Fault(fault, start, end) => {
-                refusal(alloc, source, offset, fault, start, end)
-            }
+            ReadError::Fault(fault, start, end) => refusal(alloc, offset, fault, start, end),
             ReadError::OutOfMemory => AllocError.into(),
         }
     }
@@ -115,20 +112,11 @@ pub fn span_at(offset: u32, start: usize, end: usize) -> Span
     }
 }
 
-/// The refusal of a source for what stands at a range, or want of memory for its message.
-fn refusal(
-    alloc: Global,
-    source: &str,
-    offset: u32,
-    fault: ReadFault,
-    start: usize,
-    end: usize,
-) -> ParseError
+/// The refusal for a fault at a range, or a failed allocation for its message.
+fn refusal(alloc: Global, offset: u32, fault: ReadFault, start: usize, end: usize) -> ParseError
     requires order { start ≤ end }
-    requires within { end ≤ length source.now }
-    requires fits { offset + length source.now < 2 ^ 32 }
-    ensures refusal { IsRefusal source.now offset result }
-    ensures told { IsRefusalOf (Fault fault start end) offset result }
+    requires fits { offset + end < 2 ^ 32 }
+    ensures { IsRefusalOf (Fault fault start end) offset result }
 {
     match String::from_str(alloc, fault.message()) {
         Ok(message) => {

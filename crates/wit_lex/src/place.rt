@@ -1,5 +1,5 @@
 //! Where a span begins, as an editor shows it: a line, a column, and what the line says.
-ghost use Rattle.std.specs.Prelude.{◌≡◌, ◌+◌, ◌≤◌, length, slice_range};
+ghost use Rattle.std.specs.Prelude.{◌≡◌, ◌+◌, ◌≤◌, length};
 ghost use Rattle.std.specs.Str.{chars};
 ghost use Rattle.wit_lex.specs.Places.{IsLineEnd, IsLineStart, line_number};
 

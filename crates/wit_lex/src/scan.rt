@@ -1,7 +1,7 @@
 //! Letters, digits and the runs of them.
-ghost use Rattle.std.specs.Prelude.{◌≡◌, ◌+◌, ◌-◌, ◌<◌, ◌≤◌, true, false, length, slice_index, slice_range};
+ghost use Rattle.std.specs.Prelude.{◌≡◌, ◌+◌, ◌-◌, ◌<◌, ◌≤◌, true, length, slice_index, slice_range};
 ghost use Rattle.std.specs.Char.{is_ascii_digit, is_ascii_lowercase};
-ghost use Rattle.wit_type_tree.specs.Slices.{unescaped};
+ghost use Rattle.wit_lex.specs.Words.{unescaped};
 ghost use Rattle.wit_lex.specs.Starts.{IsRun, is_in_word, is_letter as is_letter_byte, width_of};
 
 /// A letter.

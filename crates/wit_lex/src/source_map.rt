@@ -1,5 +1,5 @@
 //! The sources of a package, one behind the other.
-ghost use Rattle.std.specs.Prelude.{◌≡◌, ◌+◌, ◌<◌, ◌≤◌, ◌++◌, ◌∷◌, [], ℕ, length, slice_get, OnOk, OnErr, IfErr, IfSome, IfNone, Some, IsTrue, ◌↔◌};
+ghost use Rattle.std.specs.Prelude.{◌≡◌, ◌+◌, ◌<◌, ◌++◌, ◌∷◌, [], ℕ, length, slice_get, OnOk, OnErr, IfErr, IfSome, IfNone, Some, IsTrue, ◌↔◌};
 ghost use Rattle.wit_lex.specs.declared.source.Source.{Source};
 ghost use Rattle.wit_lex.specs.Places.{IsPlace};
 ghost use Rattle.wit_lex.specs.Sources.{IsLocated, IsTooLarge, LiesIn, space, told};

@@ -1,8 +1,7 @@
 //! Tokens.
 ghost use Rattle.std.specs.Prelude.{◌≡◌, ◌<◌, ◌≤◌, ◌-◌, [], length, slice_index, Ok, Err, IfOk, IfErr, MatchResult, OnOk, OnErr};
 ghost use Rattle.wit_lex.specs.declared.kind.Kind.TheVariants.{End};
-ghost use Rattle.wit_lex.specs.Blanks.{IsFirst};
-ghost use Rattle.wit_lex.specs.Faults.{IsNoToken, IsUnread, IsWithin};
+ghost use Rattle.wit_lex.specs.Faults.{IsNoToken};
 ghost use Rattle.wit_lex.specs.Lexis.{first_token, lexeme};
 ghost use Rattle.wit_lex.specs.Starts.{IsEnd, IsNoStart};
 ghost use Rattle.wit_lex.specs.Tokens.{IsFound, IsToken};
@@ -73,7 +72,6 @@ fn token_at<'a>(source: &'a str, start: usize) -> ReadResult<Token<'a>>
     ensures token { IfOk result (λ t. IsToken source.now t) }
     ensures found { IfOk result (λ t. IsFound source.now t.start t.end t.text.now t.kind) }
     ensures there { IfOk result (λ t. start ≡ t.start) }
-    ensures refused { IfErr result (IsWithin source.now) }
     ensures strange { IfErr result (IsNoToken source.now start) }
 {
     let bytes = source.as_bytes();
@@ -114,10 +112,7 @@ impl<'a> Token<'a> {
         ensures token { OnOk result (IsToken source.now self.new) }
         ensures found { OnOk result (IsFound source.now self.new.start self.new.end self.new.text.now self.new.kind) }
         ensures onward { OnOk result (from ≤ self.new.start) }
-        ensures first { OnOk result (IsFirst source.now from self.new.start) }
         ensures kept { OnErr result (self.new ≡ self.old) }
-        ensures refused { IfErr result (IsWithin source.now) }
-        ensures unread { IfErr result (IsUnread source.now from) }
         ensures lexed { OnOk result (first_token source.now from ≡ Ok (lexeme self.new)) }
         ensures unlexed { IfErr result (λ e. first_token source.now from ≡ Err e) }
     {
@@ -141,9 +136,6 @@ pub fn next_token<'a>(source: &'a str, from: usize) -> ReadResult<Token<'a>>
     ensures token { IfOk result (λ t. IsToken source.now t) }
     ensures found { IfOk result (λ t. IsFound source.now t.start t.end t.text.now t.kind) }
     ensures onward { IfOk result (λ t. from ≤ t.start) }
-    ensures first { IfOk result (λ t. IsFirst source.now from t.start) }
-    ensures refused { IfErr result (IsWithin source.now) }
-    ensures unread { IfErr result (IsUnread source.now from) }
     ensures lexed { MatchResult result (λ t. first_token source.now from ≡ Ok (lexeme t)) (λ e. first_token source.now from ≡ Err e) }
 {
     let mut token = end_at(from);

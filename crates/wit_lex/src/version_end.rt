@@ -3,7 +3,7 @@ ghost use Rattle.std.specs.Prelude.{◌≡◌, ◌+◌, ◌-◌, ◌<◌, ◌≤
 ghost use Rattle.std.specs.Char.{is_ascii_digit};
 ghost use Rattle.wit_lex.specs.Starts.{IsRun};
 ghost use Rattle.wit_lex.specs.VersionLexis.{version_to};
-ghost use Rattle.wit_lex.specs.Versions.{IsDotNumber, IsLongest, IsMarked, IsNoDotNumber, IsNoNumbers, IsNumbers, IsVersionEnd};
+ghost use Rattle.wit_lex.specs.Versions.{IsDotNumber, IsLongest, IsMarked, IsNoDotNumber, IsNoNumbers, IsNumbers};
 
 use crate::scan::{digits_end, is_word_byte};
 
@@ -110,9 +110,7 @@ pub fn version_end(bytes: &[u8], from: usize) -> Result<usize, usize>
     requires { from ≤ length bytes.now }
     ensures after { IfOk result (λ end. (from < end) × (end ≤ length bytes.now)) }
     ensures ascii { IfOk result (λ end. slice_index bytes.now (end - 1) < 128) }
-    ensures found { IfOk result (IsVersionEnd bytes.now from) }
     ensures none { IfErr result (λ at. (from ≤ at) × (at ≤ length bytes.now)) }
-    ensures missing { IfErr result (IsNoNumbers bytes.now from) }
     ensures lexed { result ≡ version_to bytes.now from }
 {
     let numbers = numbers_end(bytes, from)?;

@@ -1,2 +1,1 @@
 pub mod Externs
-pub mod Marks

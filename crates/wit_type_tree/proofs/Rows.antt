@@ -1,11 +1,8 @@
 -- What is said of types in a row, and of a type that is there or not, is said of them as a list.
-use Rattle.std.proofs.Common.{◌≡◌, ◌∷◌, ◌++◌, Some, None, Option, refl, ap, Vec, Box, rules}
-use Rattle.std.specs.Prelude.{codes}
-use Rattle.std.specs.List.{flat_map}
+use Rattle.std.proofs.Common.{◌≡◌, ◌∷◌, Some, None, Option, refl, ap, Vec, Box, rules}
 use Rattle.std.specs.declared.alloc.Global.{Global}
 use Rattle.wit_values.specs.declared.span.Span.{Span}
-use Rattle.wit_type_tree.specs.declared.types.«Type».{«Type» as Written, Tuple, Future, Stream, Row_of-Type, end_of-Type, more_of-Type, items-the_row-Type, back-Type-Future-1, the_lemmas}
-use Rattle.wit_type_tree.specs.Marks.{type_marks, row_marks, boxed_marks, spelled}
+use Rattle.wit_type_tree.specs.declared.types.«Type».{«Type» as Written, Tuple, Row_of-Type, end_of-Type, more_of-Type, items-the_row-Type, back-Type-Future-1, the_lemmas}
 use Rattle.wit_type_tree.specs.Parts.{row_types, part_types, held_types, boxed_types}
 
 types_of_row : (n : _) (row : Row_of-Type n) → row_types row ≡ items-the_row-Type n row
@@ -16,24 +13,7 @@ types_of_row n (more_of-Type t rest) = ap (λ ts. t ∷ ts) (types_of_row _ rest
 pub tuple_types : (span : Span) (v : Vec Written Global) → part_types (Tuple span v) ≡ v.items
 tuple_types span v = search (rules, the_lemmas, types_of_row)
 
-marks_of_row : (n : _) (row : Row_of-Type n) → row_marks row ≡ flat_map type_marks (items-the_row-Type n row)
-marks_of_row n end_of-Type = refl
-marks_of_row n (more_of-Type t rest) = ap (λ marks. type_marks t ++ marks) (marks_of_row _ rest)
-
--- the marks of a tuple
-pub tuple_marks : (span : Span) (v : Vec Written Global) → type_marks (Tuple span v) ≡ spelled span (codes "tuple") ∷ flat_map type_marks v.items
-tuple_marks span v = search (rules, the_lemmas, marks_of_row)
-
 -- a type that is there or not
 pub types_of_held : (t : Option (Box Written Global)) → held_types (back-Type-Future-1 t) ≡ boxed_types t
 types_of_held None = refl
 types_of_held (Some b) = refl
-
--- the marks of types that are there or not
-pub future_marks : (span : Span) (t : Option (Box Written Global)) → type_marks (Future span t) ≡ spelled span (codes "future") ∷ boxed_marks t
-future_marks span None = refl
-future_marks span (Some b) = refl
-
-pub stream_marks : (span : Span) (t : Option (Box Written Global)) → type_marks (Stream span t) ≡ spelled span (codes "stream") ∷ boxed_marks t
-stream_marks span None = refl
-stream_marks span (Some b) = refl

@@ -1,7 +1,5 @@
--- Comments in a source, and which of them are docs.
-use Rattle.std.specs.Prelude.{◌≡◌, ℕ, ◌+◌, ◌-◌, ◌<◌, ◌≤◌, ◌==◌, ◌||◌, Bool, true, List, [], ◌∷◌, ◌++◌, length, slice_index, slice_range, if◌then◌else◌}
-use denote.Ref.{Bor}
-use Rattle.wit_values.specs.declared.span.Span.{Span}
+-- Blanks and comments in a source, and no docs.
+use Rattle.std.specs.Prelude.{◌≡◌, ℕ, ◌+◌, ◌-◌, ◌<◌, ◌≤◌, ◌==◌, ◌||◌, Bool, true, List, [], length, slice_index}
 use Rattle.wit_type_tree.specs.declared.leaves.Docs.{Docs}
 
 -- space, LF, tab or CR
@@ -34,41 +32,11 @@ pub data IsComment (source : List ℕ) (at end : ℕ) : Type 0 where
   Line : IsLine source at end → IsComment source at end
   Block : IsNested source at 0 end → IsComment source at end
 
--- the comment begins with `///` or `/**`
-pub record IsDocs (source : List ℕ) (at end : ℕ) : Type 0 where
-  pub long : at + 3 ≤ end
-  pub third : slice_index source (at + 2) ≡ slice_index source (at + 1)
-
 -- neither a blank nor a comment begins at the place
 pub record IsStop (source : List ℕ) (at : ℕ) : Type 0 where
   pub blank : at < length source → is_blank (slice_index source at) ≡ true → ⊥
   pub line : IsPair source at 47 47 → ⊥
   pub block : IsPair source at 47 42 → ⊥
-
--- the span of comments where one more is found: from the first to the end of that one
-abbrev pub stretched : List (Bor (List ℕ)) → Span → Span → Span
-stretched comments span found = if length comments == 0 then found else record { start = span.start; end = found.end }
-
--- from a place up to a place there are blanks and comments alone, and these docs among them, as they are written, with a span from the first to the end of the last
-pub data IsStretch (source : List ℕ) (offset from : ℕ) : List (Bor (List ℕ)) → Span → ℕ → Type 0 where
-  Start : IsStretch source offset from [] (record { start = 0; end = 0 }) from
-  Blank : (docs : List (Bor (List ℕ))) (span : Span) (at : ℕ) → IsStretch source offset from docs span at →
-      at < length source → is_blank (slice_index source at) ≡ true → IsStretch source offset from docs span (at + 1)
-  Other : (docs : List (Bor (List ℕ))) (span : Span) (at end : ℕ) → IsStretch source offset from docs span at →
-      IsComment source at end → (IsDocs source at end → ⊥) → IsStretch source offset from docs span end
-  Found : (docs : List (Bor (List ℕ))) (span found : Span) (comment : Bor (List ℕ)) (at end : ℕ) → IsStretch source offset from docs span at →
-      IsComment source at end → IsDocs source at end → comment.now ≡ slice_range source at end → found.start ≡ offset + at → found.end ≡ offset + end →
-      IsStretch source offset from (docs ++ comment ∷ []) (stretched docs span found) end
-
--- the docs among the blanks and comments behind the place `low`, up to where neither begins
-pub record IsDocumented (source : List ℕ) (offset low : ℕ) (docs : Docs) : Type 0 where
-  pub from : ℕ
-  pub to : ℕ
-  pub behind : low ≤ offset + from
-  pub order : from ≤ to
-  pub within : to ≤ length source
-  pub stretch : IsStretch source offset from docs.docs.items docs.span to
-  pub stop : IsStop source to
 
 -- no docs
 pub record IsNoDocs (docs : Docs) : Type 0 where

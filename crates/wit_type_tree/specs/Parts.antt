@@ -6,7 +6,7 @@ use Rattle.std.specs.declared.alloc.Global.{Global}
 use Rattle.wit_type_tree.specs.declared.types.Field.{Field}
 use Rattle.wit_type_tree.specs.declared.types.Case.{Case}
 use Rattle.wit_type_tree.specs.declared.types.TypeBody.{TypeBody}
-use Rattle.wit_type_tree.specs.declared.types.TypeBody.TheVariants.{Record, Flags, Variant, Enum, Resource, Plain}
+use Rattle.wit_type_tree.specs.declared.types.TypeBody.TheVariants.{Record, Variant, Plain}
 use Rattle.wit_type_tree.specs.declared.types.«Type».{«Type» as Written, List', FixedLengthList', Map', Option', Result, Tuple', Future', Stream', Held-Type-Future-1, None', Some', Row_of-Type, end_of-Type, more_of-Type}
 use Rattle.wit_type_tree.specs.declared.types.ResultTypes.{ResultTypes, Ok', Err', Both'}
 

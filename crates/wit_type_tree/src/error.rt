@@ -1,5 +1,5 @@
 //! Refusals.
-ghost use Rattle.std.specs.Prelude.{◌≡◌, None, Some};
+ghost use Rattle.std.specs.Prelude.{◌≡◌, Some};
 ghost use Rattle.wit_type_tree.specs.Refusal.{IsWantOfMemory, kind_text, span_of};
 
 use std::alloc::{AllocError, AllocFailed};

@@ -1,6 +1,5 @@
 use Rattle.std.proofs.Common.{sym, ◌∙◌, arith, refl, rules}
-use Rattle.wit_type_tree.specs.Comments.{Start, Blank, Other}
-use Rattle.wit_lex.proofs.Comments.{docs_more, stretch_skipped}
+use Rattle.wit_lex.proofs.Comments.{Start, Blank, Other, docs_more, stretch_skipped}
 use Rattle.wit_lex.proofs.DocsLexing.{docs_lexed}
 use Rattle.wit_lex.proofs.Lexing.{next_unlexed}
 use Rattle.wit_lex.proofs.docs.docs_behind.Goals as goal

@@ -1,5 +1,5 @@
 use Rattle.std.proofs.Common.{◌-◌, ◌≤◌}
-use Rattle.wit_type_tree.specs.Comments.{IsStretch}
+use Rattle.wit_lex.proofs.Comments.{IsStretch}
 use Rattle.wit_lex.proofs.docs.docs_behind.Given as goal
 
 abbrev pub invariant-loop-at : goal.invariant-loop-at
