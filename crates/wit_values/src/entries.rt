@@ -1,4 +1,4 @@
-//! What maps hold, one after another.
+//! The entries, keys and values of maps, in order.
 ghost use Rattle.std.specs.Prelude.{◌≡◌, ◌-◌, ◌==◌, is_some, length, slice_get};
 ghost use Rattle.std.specs.Map.{keys_of, lookup, values_of};
 ghost use Rattle.std.specs.Map.Iter.{deref_pair};
@@ -142,14 +142,14 @@ impl<K: Eq + Hash + Ord, V> Table<K, V> {
         }
     }
 
-    /// The entry that was put in first.
+    /// The first entry, if there is one.
     pub fn first(&self) -> Option<(&K, &V)>
         ensures { option_map deref_pair result ≡ slice_get self.now 0 }
     {
         self.get_index(0)
     }
 
-    /// The entry that was put in last.
+    /// The last entry, if there is one.
     pub fn last(&self) -> Option<(&K, &V)>
         ensures { option_map deref_pair result ≡ slice_get self.now (length self.now - 1) }
     {

@@ -31,5 +31,5 @@ pub use sought::Sought;
 pub use span::{Span, compare_spans, is_same_span};
 pub use table::Table;
 pub use text::Text;
-pub use text_entries::TextEntries;
+pub use text_entries::{TextEntries, TextKeys};
 pub use text_table::TextTable;

@@ -102,21 +102,21 @@ impl<T> Row<T> {
         self.items.iter()
     }
 
-    /// The value at a place; `None` behind the last.
+    /// The value at a place, counted from 0, if the row has one there.
     pub fn get(&self, place: usize) -> Option<&T>
         ensures { option_copied result ≡ slice_get self.now place }
     {
         self.items.get(place)
     }
 
-    /// The value in front.
+    /// The first value, if there is one.
     pub fn first(&self) -> Option<&T>
         ensures { option_copied result ≡ slice_get self.now 0 }
     {
         self.items.first()
     }
 
-    /// The value behind all others.
+    /// The last value, if there is one.
     pub fn last(&self) -> Option<&T>
         ensures { option_copied result ≡ slice_get self.now (length self.now - 1) }
     {
