@@ -4,6 +4,7 @@ ghost use Rattle.std.specs.Result.{result_ok};
 ghost use Rattle.wit_functions.specs.Abi.{abi_of, choice_for, export_of, fault_text, import_of, in_sync, mangling_named, mangling_of, waits};
 
 use crate::function::Function;
+use std::error::Error;
 use std::fmt;
 
 /// How the names of imports and exports are spelled.
@@ -56,6 +57,8 @@ impl<'a> fmt::Display for ManglingFault<'a> {
         )
     }
 }
+
+impl<'a> Error for ManglingFault<'a> {}
 
 impl Mangling {
     /// The spelling of this name: `legacy` or `standard32`. The error is any other name.

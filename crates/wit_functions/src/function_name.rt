@@ -1,5 +1,5 @@
 //! The names of functions: the name of the item, and that of an export.
-ghost use Rattle.std.specs.Prelude.{◌≡◌, IfOk, IfNone, string_bytes};
+ghost use Rattle.std.specs.Prelude.{◌≡◌, ◌↔◌, IsTrue, IfOk, IfNone, string_bytes};
 ghost use Rattle.std.specs.Cow.{IsBorrowedStr, cow_str_bytes};
 ghost use Rattle.std.specs.Result.{IsOkAnd};
 ghost use Rattle.std.specs.Option.{option_copied};
@@ -40,6 +40,23 @@ fn standard_name(alloc: Global, interface: Option<&str>, name: &str) -> Result<S
 }
 
 impl Function {
+    /// Whether the name has the mark in front of the item's name: a `]` in that of an accessor outside a
+    /// resource, a `.` in that of a method or static function. Any other name needs none.
+    ///
+    /// Where it does, [`Function::item_name`] can be called.
+    pub fn has_mark(&self) -> bool
+        ensures { IsTrue result ↔ HasMarkOf (mark_of self.now.kind) self.now.name }
+    {
+        let name = self.name.as_str().as_bytes();
+        match self.kind {
+            FunctionKind::Freestanding
+            | FunctionKind::AsyncFreestanding
+            | FunctionKind::Constructor(_) => true,
+            FunctionKind::Getter | FunctionKind::Setter => name.contains(&b']'),
+            _ => name.contains(&b'.'),
+        }
+    }
+
     /// The name of the item, without the marks of its kind: `f` of `[method]r.f`, and
     /// `constructor` of every constructor.
     ///

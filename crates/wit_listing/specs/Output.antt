@@ -1,5 +1,5 @@
 -- What a writer holds after a text was written.
-use Rattle.std.specs.Prelude.{◌≡◌, ℕ, ◌<◌, List, Option, Result, Ok, Err, length, take}
+use Rattle.std.specs.Prelude.{◌≡◌, ℕ, ◌<◌, List, Option, Result, Ok, Err, codes, length, take}
 use Rattle.std.specs.Io.KnownBytes.{Appends, Keeps}
 use Rattle.std.specs.declared.io.ErrorKind.{ErrorKind}
 use Rattle.std.specs.declared.io.ErrorKind.TheVariants as kind
@@ -10,6 +10,11 @@ use Rattle.wit_listing.specs.declared.fault.RunFault.TheVariants.{Output, Memory
 abbrev pub fault_kind : RunFault → ErrorKind
 fault_kind Output = kind.Other
 fault_kind Memory = kind.OutOfMemory
+
+-- the words of a fault
+abbrev pub fault_text : RunFault → List ℕ
+fault_text Output = codes "write failed"
+fault_text Memory = codes "out of memory"
 
 -- a beginning of the text went out, and not the whole
 abbrev pub IsCutShort : Option (List ℕ) → Option (List ℕ) → List ℕ → Type 0

@@ -1,7 +1,8 @@
 //! Why a text was not written whole.
 
 use std::alloc::AllocError;
-use std::io;
+use std::error::Error;
+use std::{fmt, io};
 
 /// Why a text was not written whole.
 #[derive(Clone, Copy, Debug, PartialEq, Eq)]
@@ -11,6 +12,22 @@ pub enum RunFault {
     /// A growth was refused.
     Memory,
 }
+
+impl fmt::Display for RunFault {
+    ghost use Rattle.std.specs.Prelude.{Some};
+    ghost use Rattle.wit_listing.specs.Output.{fault_text};
+
+    ghost output = { λ fault. Some (fault_text fault) };
+
+    fn fmt<W: fmt::Write>(&self, f: &mut fmt::Formatter<W>) -> fmt::Result {
+        match self {
+            RunFault::Output => f.write_str("write failed"),
+            RunFault::Memory => f.write_str("out of memory"),
+        }
+    }
+}
+
+impl Error for RunFault {}
 
 impl From<AllocError> for RunFault {
     ghost use Rattle.std.specs.Prelude.{◌≡◌};

@@ -3,11 +3,13 @@ ghost use Rattle.std.specs.Prelude.{◌≡◌, ◌++◌, IfOk, string_bytes};
 ghost use Rattle.std.specs.Option.{option_map};
 ghost use Rattle.semver.specs.Identifiers.{parts_of, version_text};
 ghost use Rattle.wit_names.specs.Track.{release_numbers, suffix_of, text_bytes, track_parts, track_text};
+ghost use Rattle.wit_values.specs.ReleaseText.{release_parts};
 
 use crate::package_name::PackageName;
 use semver::{BuildMetadata, Version};
 use std::alloc::{AllocError, Global};
 use wit_names::split_canonical;
+use wit_values::Release;
 
 /// The numbers of a version without a pre-release, 0 where they stand behind the track.
 fn release_numbers(version: &Version) -> (u64, u64, u64)
@@ -72,5 +74,29 @@ impl PackageName {
         ensures whole { IfOk result (λ r. string_bytes r.0 ++ text_bytes r.1 ≡ version_text version.now) }
     {
         split_canonical(alloc, version)
+    }
+    /// The same as [`PackageName::version_compat_track`], of a release as a package's name holds it.
+    pub fn release_compat_track(
+        alloc: Global,
+        release: &Release,
+    ) -> Result<(Release, Option<String>), AllocError>
+        ensures track { IfOk result (λ r. release_parts r.0 ≡ track_parts (release_parts release.now)) }
+        ensures suffix { IfOk result (λ r. option_map string_bytes r.1 ≡ suffix_of (release_parts release.now)) }
+    {
+        let version = release.clone()?.into_version();
+        let (track, suffix) = Self::version_compat_track(alloc, &version)?;
+        Ok((Release::of(alloc, &track)?, suffix))
+    }
+
+    /// The same as [`PackageName::version_compat_track_string`], of a release as a package's name holds it.
+    pub fn release_compat_track_string(
+        alloc: Global,
+        release: &Release,
+    ) -> Result<(String, Option<String>), AllocError>
+        ensures track { IfOk result (λ r. string_bytes r.0 ≡ track_text (release_parts release.now)) }
+        ensures suffix { IfOk result (λ r. option_map string_bytes r.1 ≡ suffix_of (release_parts release.now)) }
+    {
+        let version = release.clone()?.into_version();
+        Self::version_compat_track_string(alloc, &version)
     }
 }

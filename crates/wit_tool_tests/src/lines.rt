@@ -154,3 +154,14 @@ fn stops_where_a_write_fails(rt: HostRuntime) -> Result<(), Fail> {
     }
     check_room(&rt, alloc, LISTING.len(), Ok(true))
 }
+
+#[test]
+fn words_of_faults(rt: HostRuntime) -> Result<(), Fail> {
+    for (fault, wanted) in [
+        (RunFault::Output, "write failed"),
+        (RunFault::Memory, "out of memory"),
+    ] {
+        assert_eq!(rt; format!(in rt.alloc(); "{fault}")?.as_str(), wanted);
+    }
+    Ok(())
+}

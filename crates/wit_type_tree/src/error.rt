@@ -3,6 +3,7 @@ ghost use Rattle.std.specs.Prelude.{◌≡◌, Some};
 ghost use Rattle.wit_type_tree.specs.Refusal.{IsWantOfMemory, kind_text, span_of};
 
 use std::alloc::{AllocError, AllocFailed};
+use std::error::Error;
 use std::fmt;
 use wit_values::Span;
 
@@ -144,6 +145,8 @@ impl fmt::Display for ParseError {
         }
     }
 }
+
+impl Error for ParseError {}
 
 impl From<AllocError> for ParseError {
     ghost from_gives = { λ _ e. IsWantOfMemory e };

@@ -1,6 +1,7 @@
 //! Ids and arenas: an arena is a list, an id a place in it.
-ghost use Rattle.std.specs.Prelude.{◌≡◌, ◌+◌, ◌<◌, ◌^◌, List, [], ◌∷◌, ◌++◌, ℕ, length, slice_get, slice_set, IfOk, OnErr, IfErr, SomeIff, OnOk, IsTrue};
+ghost use Rattle.std.specs.Prelude.{◌≡◌, ◌==◌, ◌+◌, ◌<◌, ◌^◌, List, [], ◌∷◌, ◌++◌, ℕ, length, slice_get, slice_set, IfOk, OnErr, IfErr, SomeIff, OnOk, IsTrue};
 ghost use Rattle.std.specs.List.{AllZip};
+ghost use Rattle.std.specs.Option.{option_copied};
 ghost use Rattle.std.specs.Cmp.Lexicographic.{pointwise};
 ghost use Rattle.std.specs.Cmp.Rules.{comparing};
 ghost use Rattle.std.proofs.Common.{rules};
@@ -33,6 +34,16 @@ impl<T> Model for Id<T> {
 }
 
 impl<T> Id<T> {
+    /// The id of a place.
+    pub(crate) fn at(place: usize) -> Id<T>
+        ensures { result ≡ place }
+    {
+        Id {
+            place,
+            of: PhantomData,
+        }
+    }
+
     /// The place.
     pub fn index(self) -> usize
         ensures { result ≡ self }
@@ -188,6 +199,13 @@ impl<T, M> Arena<T, M> {
         &self.items[id.place]
     }
 
+    /// The value at an id, if the arena has one there.
+    pub fn find(&self, id: Id<M>) -> Option<&T>
+        ensures { option_copied result ≡ slice_get self.now id }
+    {
+        self.items.get(id.place)
+    }
+
     /// The value at an id of this arena, to be written.
     pub fn get_mut(&mut self, id: Id<M>) -> &mut T
         requires { id < length self.old }
@@ -202,6 +220,21 @@ impl<T, M> Arena<T, M> {
         ensures { result.now ≡ self.now }
     {
         self.items.as_slice()
+    }
+
+    /// Whether there is no value.
+    pub fn is_empty(&self) -> bool
+        ensures { result ≡ (length self.now == 0) }
+    {
+        self.items.is_empty()
+    }
+
+    /// The values, moved out of the arena.
+    pub fn into_values(self) -> Vec<T>
+        ensures { result.items ≡ self }
+    {
+        let Arena { items, of: _ } = self;
+        items
     }
 
     /// The values in order.

@@ -9,6 +9,7 @@ pub mod arena;
 pub mod backward;
 mod clones;
 pub mod docs;
+pub mod entries;
 pub mod equality;
 pub mod ids;
 pub mod int;
@@ -22,6 +23,7 @@ pub mod types;
 pub use arena::{Arena, Id};
 pub use backward::is_backward;
 pub use docs::Docs;
+pub use entries::ArenaEntries;
 pub use equality::is_same_kind;
 pub use ids::{
     InterfaceId, InterfacePlace, PackageId, PackagePlace, TypeId, TypePlace, WorldId, WorldPlace,

@@ -4,7 +4,7 @@ use Rattle.std.proofs.lemmas.Bool.{cases_Bool}
 use Rattle.std.proofs.lemmas.List.{length-map}
 use Rattle.std.specs.Cmp.Lexicographic.{pointwise}
 use Rattle.std.specs.Str.{bytes_eq}
-use Rattle.std.specs.Map.{lookup, lookup_entry, keys_of}
+use Rattle.std.specs.Map.{lookup, lookup_entry, keys_of, values_of}
 use Rattle.std.specs.HashMap.{entries_eq}
 use Rattle.std.specs.List.{AllZip, list_all, position_or_len}
 use Rattle.std.specs.Option.{option_eq, option_map}
@@ -15,6 +15,10 @@ use Rattle.wit_values.specs.TextEntries.{text_entries}
 pub length-text_entries : {V : Type 0} (es : List (String Global × V)) → length (text_entries es) ≡ length es
 length-text_entries [] = refl
 length-text_entries (e ∷ es) = ap suc (length-text_entries es)
+
+pub values_of-text_entries : {V : Type 0} (es : List (String Global × V)) → values_of (text_entries es) ≡ values_of es
+values_of-text_entries [] = refl
+values_of-text_entries (e ∷ es) = ap (λ vs. e.1 ∷ vs) (values_of-text_entries es)
 
 pub lookup-text_entries : {V : Type 0} (bs : List ℕ) (es : List (String Global × V)) → lookup (λ k. bytes_eq bs (string_bytes k)) es ≡ lookup (pointwise nat_eq bs) (text_entries es)
 lookup-text_entries bs [] = refl

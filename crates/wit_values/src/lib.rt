@@ -5,6 +5,7 @@
 #![tactic(auto)]
 
 pub mod accessor;
+pub mod entries;
 pub mod holding;
 mod index;
 pub mod laws;
@@ -17,9 +18,11 @@ pub mod sought;
 pub mod span;
 pub mod table;
 pub mod text;
+pub mod text_entries;
 pub mod text_table;
 
 pub use accessor::AccessorKind;
+pub use entries::{Entries, Keys, Values};
 pub use holding::{beside, fitted, push};
 pub use rare::Rare;
 pub use release::{BuildText, PreText, Release};
@@ -28,4 +31,5 @@ pub use sought::Sought;
 pub use span::{Span, compare_spans, is_same_span};
 pub use table::Table;
 pub use text::Text;
+pub use text_entries::{TextEntries, TextKeys};
 pub use text_table::TextTable;

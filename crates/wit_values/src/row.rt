@@ -1,6 +1,9 @@
 //! Lists of values, which contracts see as plain lists.
-ghost use Rattle.std.specs.Prelude.{◌≡◌, ◌<◌, ◌++◌, ◌∷◌, IfOk, OnOk, OnErr, IfErr, Some, [], length, slice_get, slice_set};
+ghost use Rattle.std.specs.Prelude.{◌≡◌, ◌<◌, ◌-◌, ◌==◌, ◌++◌, ◌∷◌, IfOk, OnOk, OnErr, IfErr, Some, [], length, slice_get, slice_set};
 ghost use Rattle.std.specs.List.{AllZip};
+ghost use Rattle.std.specs.Option.{option_copied};
+ghost use Rattle.std.specs.Slice.Iter.{iter_rest};
+ghost use Rattle.std.specs.Iterator.Adapters.{IterYieldsInOrder};
 ghost use Rattle.std.specs.Vec.{vec_capacity, vec_len};
 ghost use Rattle.std.specs.Cmp.Lexicographic.{lists_agrees, lists_equiv, lists_po, lists_ties, lists_total, pointwise, slice_cmp, slice_partial_cmp};
 ghost use Rattle.std.specs.Cmp.{partial_equiv_from_equiv};
@@ -11,9 +14,10 @@ ghost use Rattle.std.specs.Cmp.Rules.{comparing, hashing};
 
 use std::alloc::{AllocError, AllocFailed, Global};
 use std::cmp::Ordering;
-use std::fmt;
 use std::hash::{Hash, Hasher};
 use std::marker::Model;
+use std::ops::Index;
+use std::{fmt, slice};
 
 /// Values in order, which contracts see as a list.
 ///
@@ -83,6 +87,42 @@ impl<T> Row<T> {
         self.items.as_slice()
     }
 
+    /// Whether there is no value.
+    pub fn is_empty(&self) -> bool
+        ensures { result ≡ (length self.now == 0) }
+    {
+        self.items.is_empty()
+    }
+
+    /// The values in order.
+    pub fn iter(&self) -> slice::Iter<'_, T>
+        ensures rest { iter_rest result ≡ self.now }
+        ensures runs { IterYieldsInOrder T }
+    {
+        self.items.iter()
+    }
+
+    /// The value at a place, counted from 0, if the row has one there.
+    pub fn get(&self, place: usize) -> Option<&T>
+        ensures { option_copied result ≡ slice_get self.now place }
+    {
+        self.items.get(place)
+    }
+
+    /// The first value, if there is one.
+    pub fn first(&self) -> Option<&T>
+        ensures { option_copied result ≡ slice_get self.now 0 }
+    {
+        self.items.first()
+    }
+
+    /// The last value, if there is one.
+    pub fn last(&self) -> Option<&T>
+        ensures { option_copied result ≡ slice_get self.now (length self.now - 1) }
+    {
+        self.items.last()
+    }
+
     /// The value at a place, to be written; nothing else of the row changes.
     pub fn get_mut(&mut self, place: usize) -> &mut T
         requires { place < length self.old }
@@ -112,6 +152,30 @@ impl<T> Row<T> {
     {
         let Row { items } = self;
         items
+    }
+}
+
+impl<T> Index<usize> for Row<T> {
+    type Output = T;
+
+    ghost can_index = { λ row place. place < length row };
+
+    ghost index_gives = { λ row place x. slice_get row place ≡ Some x };
+
+    fn index(&self, place: usize) -> &T {
+        &self.items[place]
+    }
+}
+
+impl<'t, T> IntoIterator for &'t Row<T> {
+    type Item = &'t T;
+
+    type IntoIter = slice::Iter<'t, T>;
+
+    ghost into_iter_gives = { λ row it. (iter_rest it ≡ row.now) × IterYieldsInOrder T };
+
+    fn into_iter(self) -> slice::Iter<'t, T> {
+        self.iter()
     }
 }
 

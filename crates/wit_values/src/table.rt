@@ -97,6 +97,13 @@ impl<K: Eq + Hash + Ord, V> Table<K, V> {
         self.entries.len()
     }
 
+    /// The entries, in their order.
+    pub(crate) fn as_slice(&self) -> &[(K, V)]
+        ensures { result.now ≡ self.now }
+    {
+        self.entries.as_slice()
+    }
+
     /// The place of what stands for a key, counted from 0 in insertion order, if it has one.
     pub fn get_index_of<Q: Sought<K>>(&self, key: Q) -> Option<usize>
         ensures { result ≡ position (Q.equivalent key) (map (λ e. e.0) self.now) }

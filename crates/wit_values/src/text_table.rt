@@ -68,6 +68,13 @@ impl<V> TextTable<V> {
         self.table.len()
     }
 
+    /// The same, by texts of its own.
+    pub(crate) fn table(&self) -> &Table<String, V>
+        ensures { text_entries result.now ≡ self.now }
+    {
+        &self.table
+    }
+
     /// The place of a text, counted from 0 in insertion order, if it has one.
     pub fn get_index_of(&self, key: &str) -> Option<usize>
         ensures { result ≡ position (pointwise nat_eq key.now) (map (λ e. e.0) self.now) }
