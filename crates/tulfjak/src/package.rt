@@ -20,8 +20,8 @@ pub use wit_model::{
 pub use wit_package_names::PackageName;
 /// Ids and arenas.
 pub use wit_types::{
-    Arena, Id, InterfaceId, InterfacePlace, PackageId, PackagePlace, TypeId, TypePlace, WorldId,
-    WorldPlace,
+    Arena, ArenaEntries, Id, InterfaceId, InterfacePlace, PackageId, PackagePlace, TypeId,
+    TypePlace, WorldId, WorldPlace,
 };
 /// Types, and what they are made of.
 pub use wit_types::{
@@ -34,6 +34,8 @@ pub use wit_types::{Docs, HasSpans, Stability};
 pub use wit_values::{AccessorKind, BuildText, PreText, Release, Span};
 /// Texts, lists, maps, and values that few have.
 pub use wit_values::{Rare, Row, Table, Text, TextTable};
+/// Iterators over maps.
+pub use wit_values::{Entries, Keys, TextEntries, TextKeys, Values};
 
 /// The arena of interfaces.
 pub type Interfaces = Arena<Interface, InterfacePlace>;

@@ -1,12 +1,13 @@
 //! How functions are called across a component's border.
-use crate::shared::{check, check_text};
+use crate::shared::{SPAN, check, check_text, function};
 use std::alloc::Global;
 use std::process::Abort;
 use std::test::Fail;
 use wit_model::laws::equality::{
     is_same_abi, is_same_abi_variant, is_same_mangling, is_same_mangling_and_abi,
 };
-use wit_model::{AbiVariant, LiftLowerAbi, Mangling, ManglingAndAbi};
+use wit_model::{AbiVariant, FunctionKind, LiftLowerAbi, Mangling, ManglingAndAbi};
+use wit_values::{Row, Text};
 
 fn manglings(rt: &impl Abort, alloc: Global) -> Result<(), Fail> {
     check(rt, "legacy", Mangling::from_str("legacy").is_ok());
@@ -50,5 +51,23 @@ fn calls_across_the_border(rt: HostRuntime) -> Result<(), Fail> {
     manglings(&rt, rt.alloc())?;
     variants(&rt);
     choices(&rt);
+    Ok(())
+}
+
+// Whether the name of a getter has its mark, and whether the name after it is `f`.
+fn is_getter_of_f(alloc: Global, name: &str) -> Result<(bool, bool), Fail> {
+    let name = Text::from_str(alloc, name)?;
+    let getter = function(name, FunctionKind::Getter, Row::new(alloc), SPAN);
+    if getter.has_mark() {
+        return Ok((true, getter.item_name() == "f"));
+    }
+    Ok((false, false))
+}
+
+#[test]
+fn marks_of_names(rt: HostRuntime) -> Result<(), Fail> {
+    let alloc = rt.alloc();
+    assert!(rt; is_getter_of_f(alloc, "[get]f")? == (true, true));
+    assert!(rt; is_getter_of_f(alloc, "f")? == (false, false));
     Ok(())
 }

@@ -5,6 +5,8 @@
 #[cfg(test)]
 mod calling;
 #[cfg(test)]
+mod calls;
+#[cfg(test)]
 mod interning;
 #[cfg(test)]
 mod kinds;

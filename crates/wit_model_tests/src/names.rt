@@ -28,6 +28,10 @@ fn labels(rt: HostRuntime) -> Result<(), Fail> {
     assert!(rt; validate_id(label.as_str()).is_ok());
     let other = "ab-c-".repeat(rt.alloc(), 2_000)?;
     assert!(rt; validate_id(other.as_str()).is_err());
+    if let Err(fault) = validate_id(other.as_str()) {
+        let words = format!(in rt.alloc(); "{fault}")?;
+        assert_eq!(rt; words.as_str(), "not a label");
+    }
     Ok(())
 }
 

@@ -4,6 +4,7 @@ use std::alloc::Global;
 use std::test::Fail;
 use wit_model::laws;
 use wit_package_names::PackageName;
+use wit_values::Release;
 
 /// A version a line, its track version, its track, and what stands behind this.
 const CASES: &str = "1.2.3|1.0.0|1|.2.3
@@ -39,6 +40,19 @@ fn has_track_version(alloc: Global, text: &str, track: &str, suffix: &str) -> Re
     Ok(told == Version::parse(alloc, track)? && is_suffix(&behind, suffix))
 }
 
+fn has_release_track(alloc: Global, text: &str, track: &str, suffix: &str) -> Result<bool, Fail> {
+    let release = Release::of(alloc, &Version::parse(alloc, text)?)?;
+    let (told, behind) = PackageName::release_compat_track(alloc, &release)?;
+    let wanted = Version::parse(alloc, track)?;
+    Ok(told.into_version() == wanted && is_suffix(&behind, suffix))
+}
+
+fn has_release_text(alloc: Global, text: &str, track: &str, suffix: &str) -> Result<bool, Fail> {
+    let release = Release::of(alloc, &Version::parse(alloc, text)?)?;
+    let (told, behind) = PackageName::release_compat_track_string(alloc, &release)?;
+    Ok(told.as_str() == track && is_suffix(&behind, suffix))
+}
+
 #[test]
 fn tracks_of_versions(rt: HostRuntime) -> Result<(), Fail> {
     let alloc = rt.alloc();
@@ -48,6 +62,8 @@ fn tracks_of_versions(rt: HostRuntime) -> Result<(), Fail> {
         let (track, suffix) = told.split_once('|').expect(&rt, "its track");
         assert!(rt; has_track(alloc, text, track, suffix)?, "{text}");
         assert!(rt; has_track_version(alloc, text, version, suffix)?, "{text}");
+        assert!(rt; has_release_text(alloc, text, track, suffix)?, "{text}");
+        assert!(rt; has_release_track(alloc, text, version, suffix)?, "{text}");
     }
     Ok(())
 }
