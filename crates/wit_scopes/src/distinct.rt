@@ -1,10 +1,9 @@
 //! Names of a scope that stand twice.
-ghost use Rattle.std.specs.Prelude.{◌≡◌, ◌++◌, map, IfOk, IfErr, OnOk};
+ghost use Rattle.std.specs.Prelude.{◌≡◌, ◌++◌, map, IfOk, OnOk};
 ghost use Rattle.wit_syntax.specs.Source.{local_id as the_local_id};
-ghost use Rattle.wit_syntax.specs.Broken.{Refused};
+ghost use Rattle.wit_first.specs.First.{Finds};
+ghost use Rattle.wit_first.specs.Names.{local_names_fault};
 ghost use Rattle.wit_scopes.specs.Held.{use_behind, definition_behind};
-ghost use Rattle.wit_scopes.specs.Between.{IsRepeatedId};
-ghost use Rattle.wit_syntax.specs.Repeats.{AllDiffer};
 
 use crate::scope_name::{DefinedName, UsedName, local_of};
 use std::alloc::{AllocError, Global};
@@ -55,8 +54,7 @@ fn texts<'a>(alloc: Global, ids: &[Id<'a>]) -> Result<Vec<&'a str>, AllocError>
 
 /// Refuses a name that an earlier one has.
 pub fn check_unique_names(alloc: Global, ids: &[Id<'_>]) -> ParseResult<()>
-    ensures legal { OnOk result (AllDiffer (map (λ id. id.name.now) ids.now)) }
-    ensures refused { IfErr result (Refused (IsRepeatedId 14 (λ id. id.name.now) ids.now)) }
+    ensures { Finds (local_names_fault ids.now) result }
 {
     if ids.len() < 2 {
         return Ok(());

@@ -14,10 +14,9 @@ use Rattle.wit_type_tree.specs.declared.leaves.Id.{Id}
 use Rattle.wit_tree.specs.declared.tree.UsePath.{UsePath}
 use Rattle.wit_tree.specs.declared.tree.PackageFile.{PackageFile}
 use Rattle.wit_graph.specs.Table.{place_of}
-use Rattle.wit_syntax.specs.Source.{TopName, Target, leads, declared_items, top_names, top_text, Item, file_items, all_items, item_name, item_named, about}
+use Rattle.wit_syntax.specs.Source.{TopName, Target, leads, declared_items, top_names, top_text, Item, file_items, all_items, item_name, item_named}
 use Rattle.wit_syntax.specs.Scope.{local_target, item_row, needed_paths}
-use Rattle.wit_syntax.specs.Fault.{Fault, fault}
-use Rattle.wit_syntax.specs.Bodies.{IsSecond}
+use Rattle.wit_syntax.specs.Fault.{Fault}
 use Rattle.wit_syntax.specs.Broken.{IsBrokenItems, DuplicateTopName, MissingItem, IsWrongTop, AttributedUse, LostUse}
 use Rattle.wit_syntax.specs.Repeats.{AllDiffer}
 use Rattle.wit_syntax.proofs.Lists.{at_front, at_back, at_either, map_at}
@@ -25,8 +24,7 @@ use Rattle.wit_syntax.proofs.Names.{name_itself}
 use Rattle.wit_syntax.proofs.Tables.{place_of-Some, none_if}
 use Rattle.wit_syntax.proofs.Found.{contains_at, at_contains}
 use Rattle.wit_syntax.proofs.Rows.{item_row_at}
-use Rattle.wit_top_names.specs.Tops.{item_top}
-use Rattle.wit_top_names.specs.Checks.{AreDistinctTops, AreRightUses, AreRightTops, IsRightUse, IsRepeatedName, IsLostTarget, IsLostAmong, IsWrongFile, WrongTop, WrongPath, IsWrongUse, Attributed, Lost}
+use Rattle.wit_top_names.specs.Checks.{AreDistinctTops, AreRightUses, AreRightTops, IsRightUse, IsLostTarget, IsLostAmong, IsWrongFile, WrongTop, WrongPath, IsWrongUse, Attributed, Lost}
 use Rattle.wit_top_names.proofs.FirstNames.{find_none}
 
 -- what stands in a part stands in the whole
@@ -90,17 +88,6 @@ uses_right_more is ds d uses one = record {
     | inr new ↦ one u (sym new.1)
   ];
 }
-
--- an item whose name stands twice
-pub duplicate_item : (is : List Item) (f : Fault) → IsRepeatedName 5 (map item_top is) f → IsSecond item_name (λ (i : Item). fault 5 (about i.declared).id.span) is f
-duplicate_item is f h =
-    let r = h.1 in
-    let a = map_at item_top is r.0 r.3 r.4 in
-    let b = map_at item_top is r.1 h.0 r.5 in (
-      b.0,
-      (r.0, r.1, r.2, a.0, a.1, b.1, ap top_text a.2 ∙ r.6 ∙ sym (ap top_text b.2)),
-      h.2 ∙ ap (λ (t : TopName). fault 5 t.id.span) (sym b.2),
-    )
 
 -- what is wrong with a `use` at the top of a file is wrong there
 pub wrong_top : (is : List Item) (ds : List AstItem) (i : ℕ) (u : ToplevelUse) (f : Fault) → slice_get ds i ≡ Some (ToplevelItem u) → IsWrongUse is u f → IsWrongTop is ds f

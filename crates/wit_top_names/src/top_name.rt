@@ -1,11 +1,13 @@
 //! Names at the top of files, and what paths lead to.
 ghost use Rattle.std.specs.Prelude.{◌≡◌, ◌++◌, List, [], IsSome, map, IfOk, IfErr, OnOk, codes, string_bytes};
-ghost use Rattle.wit_syntax.specs.Source.{TopName as Top, Item, itself as the_itself, top_name as the_name, top_names as the_names, top_text, leads as the_leads, file_items, all_items, item_name, item_named};
+ghost use Rattle.wit_syntax.specs.Source.{TopName as Top, Item, itself as the_itself, top_name as the_name, top_names as the_names, top_text, leads as the_leads, file_items, all_items, item_named};
 ghost use Rattle.wit_syntax.specs.Scope.{local_target};
-ghost use Rattle.wit_syntax.specs.Broken.{IsBrokenItems, IsWrongTop, Refused};
-ghost use Rattle.wit_syntax.specs.Repeats.{AllDiffer};
+ghost use Rattle.wit_syntax.specs.Broken.{IsWrongTop, Refused};
+ghost use Rattle.wit_syntax.specs.Fault.{fault};
+ghost use Rattle.wit_first.specs.First.{Finds, first_repeat};
+ghost use Rattle.wit_first.specs.Names.{item_names_fault, top_names_fault};
 ghost use Rattle.wit_top_names.specs.Tops.{target_behind, top_behind, item_top, AreNamed, AreDeclared};
-ghost use Rattle.wit_top_names.specs.Checks.{AreRightUses, IsDeclaredTarget, IsRepeatedName, IsRightUse, IsUndeclared, IsLostTarget, IsWrongUse};
+ghost use Rattle.wit_top_names.specs.Checks.{AreRightUses, IsDeclaredTarget, IsRightUse, IsUndeclared, IsLostTarget, IsWrongUse};
 
 use crate::declaration::declarations;
 use std::alloc::{AllocError, Global};
@@ -138,8 +140,7 @@ fn unique_names<'f, 'a>(
     names: &[TopName<'f, 'a>],
 ) -> ParseResult<Table<&'a str, Target<'f, 'a>>>
     ensures named { IfOk result (AreNamed (map top_behind names.now)) }
-    ensures distinct { OnOk result (AllDiffer (map top_text (map top_behind names.now))) }
-    ensures refused { IfErr result (Refused (IsRepeatedName rule (map top_behind names.now))) }
+    ensures first { Finds (first_repeat top_text (λ n. fault rule n.id.span) (map top_behind names.now)) result }
 {
     let mut found = Table::with_capacity(alloc, names.len())?;
     for name in names {
@@ -160,8 +161,7 @@ pub fn file_names<'f, 'a>(
     file: &'f PackageFile<'a>,
 ) -> ParseResult<Table<&'a str, Target<'f, 'a>>>
     ensures named { IfOk result (AreNamed (the_names file.now)) }
-    ensures distinct { OnOk result (AllDiffer (map top_text (the_names file.now))) }
-    ensures refused { IfErr result (Refused (IsRepeatedName 6 (the_names file.now))) }
+    ensures first { Finds (top_names_fault file.now) result }
 {
     let names = top_names(alloc, &file.decl_list.items)?;
     Ok(unique_names(alloc, 6, "duplicate name ", " in this file", &names)?)
@@ -173,8 +173,7 @@ pub fn item_names<'f, 'a>(
     files: &'f [PackageFile<'a>],
 ) -> ParseResult<Table<&'a str, Target<'f, 'a>>>
     ensures declared { IfOk result (AreDeclared (all_items files.now)) }
-    ensures distinct { OnOk result (AllDiffer (map item_name (all_items files.now))) }
-    ensures refused { IfErr result (Refused (IsBrokenItems files.now)) }
+    ensures first { Finds (item_names_fault files.now) result }
 {
     let names = declared_names(alloc, files)?;
     Ok(unique_names(alloc, 5, "duplicate item named ", "", &names)?)

@@ -8,6 +8,7 @@ use Rattle.wit_syntax.specs.Broken.{IsBrokenScope}
 use Rattle.wit_arena.specs.Resolving.{env_of, AreLegalBodies, AreLegalNotes, names_in}
 use Rattle.wit_syntax.proofs.Refusing.{refused_weaker}
 use Rattle.wit_syntax.proofs.Turns.{distinct_names}
+use Rattle.wit_first.proofs.Bridge.{local_names_agree, local_names_differ, refused_by}
 use Rattle.wit_scopes.specs.Held.{name_behind, definition_behind}
 use Rattle.wit_scopes.specs.Between.{AreOrdered, IsBrokenAmong, IsRepeatedId}
 use Rattle.wit_item_entries.specs.Between.{IsWrongHandleIn, IsWrongHandleTurn}
@@ -20,14 +21,14 @@ returns-in_err-check_unique_names-clause-refused c =
     let xs = map name_behind c.args.names.now in
     let ids : List Id = c.deref.result.now in
     let are : ids ≡ map local_id (used xs ++ defined xs) = c.deref.ensures.value ∙ c.in_ok-written.ensures.names in
-    rw (p.1, p.2) (refused_weaker (IsRepeatedId 14 (λ id. id.name.now) ids) (λ f. ((fns : List SourceFunction) → IsBrokenScope xs fns f) ⊎ IsWrongHandleTurn c.args.types.now c.args.scope.now.owner c.args.scope.now.names xs f) _ (λ f h. inl (broken_twice xs ids f are h)) c.in_err-check_unique_names.ensures.refused)
+    rw (p.1, p.2) (refused_weaker (IsRepeatedId 14 (λ id. id.name.now) ids) (λ f. ((fns : List SourceFunction) → IsBrokenScope xs fns f) ⊎ IsWrongHandleTurn c.args.types.now c.args.scope.now.owner c.args.scope.now.names xs f) _ (λ f h. inl (broken_twice xs ids f are h)) (refused_by (local_names_agree ids) c.in_err-check_unique_names.ensures))
 
 pub ordered_turn-requires-clause-distinct : goal.ordered_turn-requires-clause-distinct
 ordered_turn-requires-clause-distinct c =
     let xs = map name_behind c.args.names.now in
     let ids : List Id = c.deref.result.now in
     let are : ids ≡ map local_id (used xs ++ defined xs) = c.deref.ensures.value ∙ c.in_ok-written.ensures.names in
-    distinct_names xs (differ_names xs ids are c.in_ok-check_unique_names.ensures.legal)
+    distinct_names xs (differ_names xs ids are (local_names_differ ids c.in_ok-check_unique_names.ensures))
 
 pub returns-in_err-turn-clause-refused : goal.returns-in_err-turn-clause-refused
 returns-in_err-turn-clause-refused c =
@@ -42,7 +43,7 @@ define_all-requires c =
     let o : AreOrdered xs ds = subst (λ l. AreOrdered xs (map definition_behind l)) (sym c.deref-2.ensures.value) c.in_ok-turn.ensures.turn.ordered in
     let ids : List Id = c.deref.result.now in
     let are : ids ≡ map local_id (used xs ++ defined xs) = c.deref.ensures.value ∙ c.in_ok-written.ensures.names in
-    let distinct : AreDistinct xs = distinct_names xs (differ_names xs ids are c.in_ok-check_unique_names.ensures.legal) in
+    let distinct : AreDistinct xs = distinct_names xs (differ_names xs ids are (local_names_differ ids c.in_ok-check_unique_names.ensures)) in
     record {
       turn = in_their_turn xs ds (env_of c.args.scope.now.names) (own_held c.args.names.now) o c.requires.has;
       differ = turn_differs xs ds (names_in c.args.scope.now.names) o c.requires.listed distinct;
@@ -59,7 +60,7 @@ returns-in_err-define_all-clause-refused c =
     let o : AreOrdered xs ds = subst (λ l. AreOrdered xs (map definition_behind l)) (sym c.deref-2.ensures.value) c.in_ok-turn.ensures.turn.ordered in
     let ids : List Id = c.deref.result.now in
     let are : ids ≡ map local_id (used xs ++ defined xs) = c.deref.ensures.value ∙ c.in_ok-written.ensures.names in
-    let distinct : AreDistinct xs = distinct_names xs (differ_names xs ids are c.in_ok-check_unique_names.ensures.legal) in
+    let distinct : AreDistinct xs = distinct_names xs (differ_names xs ids are (local_names_differ ids c.in_ok-check_unique_names.ensures)) in
     rw (p.1, p.2) (refused_weaker (λ f. IsBrokenAmong ds f ⊎ IsWrongHandleIn old owner names ds f) (λ f. ((fns : List SourceFunction) → IsBrokenScope xs fns f) ⊎ IsWrongHandleTurn old owner names xs f) _ (λ f h. elim h [
       | inl broken ↦ inl (broken_definition xs ds f o broken)
       | inr wrong ↦ inr (record { order = o.order; least = o.least; distinct = distinct; wrong = subst (λ l. IsWrongHandleIn old owner names l f) o.are wrong })
@@ -73,7 +74,7 @@ returns-clause-legal c =
     let are : ids ≡ map local_id (used xs ++ defined xs) = c.deref.ensures.value ∙ c.in_ok-written.ensures.names in
     let notes : AreLegalNotes ds = rw c.deref-2.ensures.value at c.in_ok-define_all.ensures.noted in
     let bodies : AreLegalBodies ds = rw c.deref-2.ensures.value at c.in_ok-define_all.ensures.legal in
-    legal_unfolded xs ds ids c.in_ok-turn.ensures.turn.ordered are c.in_ok-check_unique_names.ensures.legal notes bodies
+    legal_unfolded xs ds ids c.in_ok-turn.ensures.turn.ordered are (local_names_differ ids c.in_ok-check_unique_names.ensures) notes bodies
 
 pub returns-clause-defines : goal.returns-clause-defines
 returns-clause-defines c =
@@ -86,7 +87,7 @@ returns-clause-defines c =
       all = record {
         order = o.order;
         least = o.least;
-        distinct = distinct_names xs (differ_names xs ids are c.in_ok-check_unique_names.ensures.legal);
+        distinct = distinct_names xs (differ_names xs ids are (local_names_differ ids c.in_ok-check_unique_names.ensures));
         defines = rw (c.deref-2.ensures.value, o.are) at c.in_ok-define_all.ensures.defines;
       };
       turn = turn.names ∙ ap (λ l. map local_id (used xs ++ l)) o.are;

@@ -1,23 +1,42 @@
-use Rattle.std.proofs.Common.{◌≡◌, map, inl, inr, ap, ◌∙◌, subst}
+use Rattle.std.proofs.Common.{◌≡◌, ℕ, List, Some, inl, inr, map, take, ap, sym, ◌∙◌, subst}
+use Rattle.std.specs.Prelude.{slice_get}
+use Rattle.std.proofs.lemmas.Option.{slice_get-get_or, slice_get_within}
+use Rattle.wit_type_tree.specs.declared.leaves.Id.{Id}
+use Rattle.wit_syntax.specs.Fault.{Fault, fault}
 use Rattle.wit_syntax.specs.Repeats.{IsRepeatAt, AllDiffer}
-use Rattle.wit_scopes.proofs.Repeating.{few_differ, named_twice}
+use Rattle.wit_syntax.proofs.Lists.{map_at}
+use Rattle.wit_first.proofs.First.{no_repeats, repeat_first}
+use Rattle.wit_scopes.proofs.Repeating.{few_differ}
 use Rattle.wit_scopes.proofs.distinct.check_unique_names.Goals as goal
 
-pub returns-in-Some-clause-refused : goal.returns-in-Some-clause-refused
-returns-in-Some-clause-refused c =
+abbrev text : Id → List ℕ
+text id = id.name.now
+
+abbrev as_fault : Id → Fault
+as_fault id = fault 14 id.span
+
+pub returns-in-Some : goal.returns-in-Some
+returns-in-Some c =
+    let ids = c.args.ids.now in
+    let first : ℕ = c.in-Some.field-0-0 in
+    let second : ℕ = c.in-Some.second in
+    let later = c.index-ids-second.result in
     let keys = map (λ t. t.now) c.deref.result.now in
-    let keyed : keys ≡ map (λ id. id.name.now) c.args.ids.now = ap (map (λ t. t.now)) c.deref.ensures.value ∙ c.in_ok-texts.ensures in
-    let r : IsRepeatAt keys c.in-Some.field-0-0 c.in-Some.second = rw c.in-Some.is at c.in_ok-second.ensures.some in
+    let keyed : keys ≡ map text ids = ap (map (λ t. t.now)) c.deref.ensures.value ∙ c.in_ok-texts.ensures in
+    let r : IsRepeatAt (map text ids) first second = subst (λ ks. IsRepeatAt ks first second) keyed (rw c.in-Some.is at c.in_ok-second.ensures.some) in
+    let d : AllDiffer (take second (map text ids)) = subst (λ ks. AllDiffer (take second ks)) keyed (rw c.in-Some.is at c.in_ok-second.ensures.first) in
+    let x = map_at text ids second r.x r.at_second in
+    let at : slice_get ids second ≡ Some later = slice_get-get_or ids second later (slice_get_within ids second x.0 x.1) ∙ ap Some (sym c.index-ids-second.is) in
     elim c.refuse.ensures [
       | inl memory ↦ inl memory
-      | inr says ↦ inr (c.index-ids-second.result, named_twice (λ id. id.name.now) c.args.ids.now keys c.in-Some.field-0-0 c.in-Some.second c.index-ids-second.result keyed r c.index-ids-second.is, says)
+      | inr says ↦ inr (repeat_first text as_fault ids first second later r d at ∙ ap Some (sym says))
     ]
 
-pub returns-clause-legal : goal.returns-clause-legal
-returns-clause-legal c =
+pub returns : goal.returns
+returns c =
     let keys = map (λ t. t.now) c.deref.result.now in
-    let keyed : keys ≡ map (λ id. id.name.now) c.args.ids.now = ap (map (λ t. t.now)) c.deref.ensures.value ∙ c.in_ok-texts.ensures in
-    subst AllDiffer keyed (rw c.in-None.is at c.in_ok-second.ensures.none)
+    let keyed : keys ≡ map text c.args.ids.now = ap (map (λ t. t.now)) c.deref.ensures.value ∙ c.in_ok-texts.ensures in
+    no_repeats text as_fault c.args.ids.now (subst AllDiffer keyed (rw c.in-None.is at c.in_ok-second.ensures.none))
 
-pub returns-then-ids-lt2-clause-legal : goal.returns-then-ids-lt2-clause-legal
-returns-then-ids-lt2-clause-legal c = few_differ (λ id. id.name.now) c.args.ids.now c.if-ids-lt2.true
+pub returns-then-ids-lt2 : goal.returns-then-ids-lt2
+returns-then-ids-lt2 c = no_repeats text as_fault c.args.ids.now (few_differ text c.args.ids.now c.if-ids-lt2.true)

@@ -1,29 +1,28 @@
-use Rattle.std.proofs.Common.{◌≡◌, List, map, ap, ◌∙◌, subst}
+use Rattle.std.proofs.Common.{◌≡◌, List, map, sym, ap, ◌∙◌, subst}
 use Rattle.std.proofs.lemmas.Result.{err_from_is_err_and}
+use Rattle.wit_syntax.specs.Fault.{Fault, fault}
 use Rattle.wit_syntax.specs.Source.{TopName, top_text, all_items}
-use Rattle.wit_syntax.specs.Broken.{IsBrokenItems, DuplicateItem}
-use Rattle.wit_syntax.specs.Repeats.{AllDiffer}
-use Rattle.wit_syntax.proofs.Lists.{map_map}
-use Rattle.wit_syntax.proofs.Refusing.{refused_weaker}
+use Rattle.wit_first.specs.First.{first_repeat}
+use Rattle.wit_first.proofs.First.{repeat-map, reports_same}
 use Rattle.wit_top_names.specs.Tops.{top_behind, item_top, AreNamed}
-use Rattle.wit_top_names.specs.Checks.{IsRepeatedName}
 use Rattle.wit_top_names.proofs.FirstNames.{named_items}
-use Rattle.wit_top_names.proofs.Lost.{duplicate_item}
 use Rattle.wit_top_names.proofs.top_name.item_names.Goals as goal
 
-pub returns-in_err-unique_names-clause-refused : goal.returns-in_err-unique_names-clause-refused
-returns-in_err-unique_names-clause-refused c =
-    let q = err_from_is_err_and c.from_residual-in_err-unique_names.result c.from_residual-in_err-unique_names.ensures.1 in
-    let held = map top_behind c.deref.result.now in
-    let is = all_items c.args.files.now in
-    let are : held ≡ map item_top is = ap (map top_behind) c.deref.ensures.value ∙ c.in_ok-names.ensures in
-    rw (q.1, q.2) (refused_weaker (IsRepeatedName 5 held) (IsBrokenItems c.args.files.now) _ (λ f h. DuplicateItem (duplicate_item is f (subst (λ (l : List TopName). IsRepeatedName 5 l f) are h))) c.in_err-unique_names.ensures.refused)
+abbrev as_fault : TopName → Fault
+as_fault n = fault 5 n.id.span
 
-pub returns-clause-distinct : goal.returns-clause-distinct
-returns-clause-distinct c =
+pub returns-in_err-unique_names-clause-first : goal.returns-in_err-unique_names-clause-first
+returns-in_err-unique_names-clause-first c =
+    let q = err_from_is_err_and c.from_residual-in_err-unique_names.result c.from_residual-in_err-unique_names.ensures.1 in
     let is = all_items c.args.files.now in
     let are : map top_behind c.deref.result.now ≡ map item_top is = ap (map top_behind) c.deref.ensures.value ∙ c.in_ok-names.ensures in
-    subst AllDiffer (ap (map top_text) are ∙ map_map top_text item_top is) c.in_ok-unique_names.ensures.distinct
+    rw (q.1, q.2) (reports_same (ap (first_repeat top_text as_fault) are ∙ repeat-map top_text as_fault item_top is) c.in_err-unique_names.ensures.first)
+
+pub returns-clause-first : goal.returns-clause-first
+returns-clause-first c =
+    let is = all_items c.args.files.now in
+    let are : map top_behind c.deref.result.now ≡ map item_top is = ap (map top_behind) c.deref.ensures.value ∙ c.in_ok-names.ensures in
+    sym (ap (first_repeat top_text as_fault) are ∙ repeat-map top_text as_fault item_top is) ∙ c.in_ok-unique_names.ensures.first
 
 pub returns-clause-declared : goal.returns-clause-declared
 returns-clause-declared c =

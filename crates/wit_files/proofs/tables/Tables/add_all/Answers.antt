@@ -2,16 +2,23 @@ use Rattle.std.proofs.Common.{subst, ◌⊎◌}
 use Rattle.std.proofs.lemmas.Result.{err_from_is_err_and}
 use Rattle.wit_graph.specs.Table.{rows, IsOrder}
 use Rattle.wit_syntax.specs.Scope.{item_rows}
-use Rattle.wit_syntax.specs.Fault.{missing_at, item_word}
-use Rattle.wit_syntax.specs.Broken.{IsMissingEdge, IsCyclicEdge, IsBrokenItems}
+use Rattle.wit_syntax.specs.Bodies.{IsSecond}
+use Rattle.wit_syntax.specs.Fault.{fault, missing_at, item_word}
+use Rattle.wit_syntax.specs.Source.{Item, item_name, all_items, about}
+use Rattle.wit_syntax.specs.Broken.{IsMissingEdge, IsCyclicEdge, IsBrokenItems, DuplicateItem}
 use Rattle.wit_syntax.proofs.Refusing.{refused_weaker}
+use Rattle.wit_first.proofs.Bridge.{item_names_agree, item_names_differ, refused_by}
 use Rattle.wit_files.proofs.Gathering.{broken_order, legal_items}
 use Rattle.wit_files.proofs.tables.Tables.add_all.Goals as goal
 
 pub returns-in_err-declared-clause-refused : goal.returns-in_err-declared-clause-refused
 returns-in_err-declared-clause-refused c =
     let p = err_from_is_err_and c.from_residual.result c.from_residual.ensures.1 in
-    rw (p.1, p.2) c.in_err-declared.ensures.refused
+    let files = c.args.files.now in
+    rw (p.1, p.2) (refused_weaker (IsSecond item_name (λ (i : Item). fault 5 (about i.declared).id.span) (all_items files)) (IsBrokenItems files) _ (λ f h. DuplicateItem h) (refused_by (item_names_agree files) c.in_err-declared.ensures.first))
+
+pub add_files-requires-clause-distinct : goal.add_files-requires-clause-distinct
+add_files-requires-clause-distinct c = item_names_differ c.args.files.now c.in_ok-declared.ensures.first
 
 pub returns-in_err-add_files-clause-refused : goal.returns-in_err-add_files-clause-refused
 returns-in_err-add_files-clause-refused c =
@@ -36,4 +43,4 @@ returns-clause-legal c =
     let files = c.args.files.now in
     let places = c.in_ok-names.field-0.items in
     let order : IsOrder (item_rows files) places = subst (λ rs. IsOrder rs places) c.in_ok-add_files.ensures.names.items c.in_ok-names.ensures.order in
-    legal_items files places c.in_ok-declared.ensures.distinct c.in_ok-add_files.ensures.distinct order
+    legal_items files places (item_names_differ files c.in_ok-declared.ensures.first) c.in_ok-add_files.ensures.distinct order
