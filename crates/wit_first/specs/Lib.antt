@@ -3,4 +3,5 @@ pub mod Attributes
 pub mod Lists
 pub mod Keys
 pub mod Names
+pub mod Functions
 pub mod Laws

@@ -1,26 +1,29 @@
--- Rules of functions: their parameters by name, and what setters and constructors give.
-use Rattle.std.proofs.Common.{◌≡◌, ℕ, ◌<◌, List, ◌++◌, length, arith, inl, inr, sym, ap, ◌∙◌}
-use Rattle.std.specs.Prelude.{map, Result, Ok, Err, OnOk}
+-- Rules of functions: their parameters by name, and that no constructor is a setter.
+use Rattle.std.proofs.Common.{◌≡◌, ℕ, ◌<◌, List, [], ◌∷◌, ◌++◌, Option, Some, None, length, arith, refl, sym, ap, ◌∙◌}
+use Rattle.std.specs.Prelude.{map, slice_get}
 use Rattle.std.proofs.lemmas.List.{map-append}
-use Rattle.std.proofs.lemmas.Option.{slice_get_within}
+use Rattle.std.specs.Option.{option_copied}
+use Rattle.std.specs.Slice.{IsItemAt}
+use Rattle.std.proofs.lemmas.Bool.{ltb-true, ltb-false}
+use Rattle.std.proofs.lemmas.Option.{slice_get_past, slice_get_read, slice_get_within}
 use denote.Ref.{Bor}
 use Rattle.wit_type_tree.specs.declared.leaves.Id.{Id}
+use Rattle.wit_values.specs.declared.span.Span.{Span}
+use Rattle.wit_type_tree.specs.declared.types.FuncForm.{FuncForm}
 use Rattle.wit_type_tree.specs.declared.types.FuncForm.TheVariants as form
 use Rattle.wit_type_tree.specs.declared.types.Param.{Param}
 use Rattle.wit_type_tree.specs.declared.types.ResourceFunc.{ResourceFunc}
 use Rattle.wit_type_tree.specs.declared.types.ResourceFunc.TheVariants as resource
-use Rattle.wit_type_tree.specs.declared.types.«Type».{«Type» as Written}
 use Rattle.wit_syntax.specs.Bodies.{folded, IsRepeated}
-use Rattle.wit_syntax.specs.Fault.{Fault}
+use Rattle.wit_syntax.specs.Fault.{fault}
 use Rattle.wit_syntax.specs.Function.{Freestanding, Method, Static, Constructor, OnSide, SourceFunction, SourceParam, written_param, resource_function}
 use Rattle.wit_syntax.specs.Repeats.{IsRepeatAt}
-use Rattle.wit_syntax.specs.Signature.{IsConstructorWithoutResult, IsConstructorOfOther}
-use Rattle.wit_syntax.specs.Source.{ScopeName}
 use Rattle.wit_syntax.proofs.Lists.{map_at, map_map}
+use Rattle.wit_first.specs.Functions.{given_fault, params_fault}
 use Rattle.wit_rules.specs.declared.held.HeldFunction.{HeldFunction}
 use Rattle.wit_rules.specs.declared.held.HeldFunction.TheVariants as held
 use Rattle.wit_rules.specs.Held.{function_behind}
-use Rattle.wit_rules.specs.Signatures.{AreResults, IsRepeatedAt, IsBrokenResult}
+use Rattle.wit_rules.specs.Signatures.{IsRepeatedAt}
 
 -- the names of parameters, of which some are written
 pub names-append : (given params : List SourceParam) (written : List Param) → map written_param written ≡ params → map (λ p. p.name) (given ++ params) ≡ map (λ p. p.name) given ++ map (λ p. p.name.name.now) written
@@ -47,20 +50,34 @@ too_few key xs later few r =
     omega arith
 
 -- no constructor is a setter
-pub no_setter : {A : Type 0} (h : HeldFunction) (of : Id) → (function_behind h).role ≡ Constructor of → (function_behind h).func.form ≡ form.Setter → A
+pub no_setter : (h : HeldFunction) (of : Id) → (function_behind h).role ≡ Constructor of → (function_behind h).func.form ≡ form.Setter → ⊥
 no_setter (held.Free f) of is setter = (let wrong : Freestanding f.now.name f.now.func.form ≡ Constructor of = is in cc)
 no_setter (held.Across side docs attributes name f) of is setter = (let wrong : OnSide side name f.now.form ≡ Constructor of = is in cc)
 no_setter (held.Of r f) of is setter = by f.now is setter
   where
-    by : {A : Type 0} (g : ResourceFunc) → (resource_function r g).role ≡ Constructor of → (resource_function r g).func.form ≡ form.Setter → A
+    by : (g : ResourceFunc) → (resource_function r g).role ≡ Constructor of → (resource_function r g).func.form ≡ form.Setter → ⊥
     by (resource.Method m) is setter = (let wrong : Method r m.func.form ≡ Constructor of = is in cc)
     by (resource.Static m) is setter = (let wrong : Static r m.func.form ≡ Constructor of = is in cc)
     by (resource.Constructor docs attributes span params result) is setter = (let wrong : form.Plain ≡ form.Setter = setter in cc)
 
--- what is no setter's, and is legal as what a constructor gives
-pub legal_made : {T E : Type 0} (results : List (List ℕ × Bor Written)) (fn : SourceFunction) (r : Result T E) → (fn.func.form ≡ form.Setter → ⊥) → OnOk r ((xs : List ScopeName) → AreResults results xs → (f : Fault) → IsConstructorWithoutResult xs fn f → ⊥) → OnOk r ((xs : List ScopeName) → AreResults results xs → (f : Fault) → IsConstructorOfOther xs fn f → ⊥) → OnOk r ((xs : List ScopeName) → AreResults results xs → (f : Fault) → IsBrokenResult xs fn f → ⊥)
-legal_made results fn (Ok x) other without of = λ xs are f broken. elim broken [
-  | inl setter ↦ other setter.0
-  | inr made ↦ elim made [ inl h ↦ without xs are f h | inr h ↦ of xs are f h ]
-]
-legal_made results fn (Err e) other without of = tt
+-- the first fault of what a setter is given: at the second parameter, or where there is none
+second_param : (params : List Param) (span : Span) (second : Param) → slice_get params 1 ≡ Some second → params_fault form.Setter params span ≡ Some (fault 37 second.name.span)
+second_param [] span second at = absurd (let f : ⊥ = cc in f)
+second_param (x ∷ []) span second at = absurd (let f : ⊥ = cc in f)
+second_param (x ∷ y ∷ rest) span second at = (let same : y ≡ second = cc in ap (λ (p : Param). Some (fault 37 p.name.span)) same)
+
+no_param : (params : List Param) (span : Span) → (length params ≡ 1 → ⊥) → slice_get params 1 ≡ None → params_fault form.Setter params span ≡ Some (fault 37 span)
+no_param [] span other none = refl
+no_param (x ∷ []) span other none = absurd (other refl)
+no_param (x ∷ y ∷ rest) span other none = absurd (let f : ⊥ = cc in f)
+
+pub setter_second : (fn : SourceFunction) (second : Param) → fn.func.form ≡ form.Setter → slice_get fn.func.params.items 1 ≡ Some second → given_fault fn ≡ Some (fault 37 second.name.span)
+setter_second fn second is at = ap (λ (w : FuncForm). params_fault w fn.func.params.items fn.func.span) is ∙ second_param fn.func.params.items fn.func.span second at
+
+pub setter_alone : (fn : SourceFunction) → fn.func.form ≡ form.Setter → (length fn.func.params.items ≡ 1 → ⊥) → slice_get fn.func.params.items 1 ≡ None → given_fault fn ≡ Some (fault 37 fn.func.span)
+setter_alone fn is other none = ap (λ (w : FuncForm). params_fault w fn.func.params.items fn.func.span) is ∙ no_param fn.func.params.items fn.func.span other none
+
+-- what is read at a place of a list stands there
+pub got_at : {X : Type 0} (xs : List X) (i : ℕ) (r : Option (Bor X)) → IsItemAt xs i r → option_copied r ≡ slice_get xs i
+got_at xs i None h = sym (slice_get_past xs i (ltb-false i (length xs) (sym h.0)))
+got_at xs i (Some x) h = sym (slice_get_read xs (length xs) i x.now refl (ltb-true i (length xs) (sym h.0)) h.1)

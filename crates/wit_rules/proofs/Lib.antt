@@ -1,1 +1,1 @@
-mod FunctionRules
+pub mod FunctionRules

@@ -1,15 +1,16 @@
 //! The rules of functions: of their parameters and of their results.
-ghost use Rattle.std.specs.Prelude.{◌≡◌, ◌⊎◌, ◌↔◌, List, Some, None, IfErr, IfNone, IfOk, IfSome, IsTrue, OnOk, map};
+ghost use Rattle.std.specs.Prelude.{◌≡◌, ◌⊎◌, List, Some, IfNone, IfOk, IfSome, map};
 ghost use Rattle.wit_type_tree.specs.Refusal.{IsWantOfMemory};
 ghost use Rattle.wit_type_tree.specs.declared.types.FuncForm.TheVariants.{Getter, Setter};
 ghost use Rattle.wit_syntax.specs.Bodies.{folded};
 ghost use Rattle.wit_syntax.specs.Fault.{Fault, fault, fault_of};
+ghost use Rattle.wit_first.specs.First.{Finds};
+ghost use Rattle.wit_first.specs.Functions.{given_fault, gives_fault, is_written_as, made_fault, no_result_fault, setter_fault};
 ghost use Rattle.wit_syntax.specs.Source.{ScopeName};
-ghost use Rattle.wit_syntax.specs.Broken.{Refused};
-ghost use Rattle.wit_syntax.specs.Function.{all_params, Constructor};
-ghost use Rattle.wit_syntax.specs.Signature.{ok_span as the_ok_span, IsWrittenAs, IsGetterGiven, IsSetterGiven, IsDuplicateParam, IsGetterWithoutResult, IsSetterWithResult, IsConstructorWithoutResult, IsConstructorOfOther};
+ghost use Rattle.wit_syntax.specs.Function.{all_params};
+ghost use Rattle.wit_syntax.specs.Signature.{IsDuplicateParam, ok_span as the_ok_span, result_ok as the_result_ok};
 ghost use Rattle.wit_rules.specs.Held.{function_behind};
-ghost use Rattle.wit_rules.specs.Signatures.{AreResults, IsRepeatedAt, IsBrokenResult};
+ghost use Rattle.wit_rules.specs.Signatures.{AreResults, IsRepeatedAt};
 
 use crate::function_scope::{result_ok, span_of};
 use crate::held::HeldFunction;
@@ -28,14 +29,16 @@ const SETTER_RESULT: &str =
 /// What is said of a constructor whose result is no `result`.
 const CONSTRUCTOR_RESULT: &str = "if a constructor return type is declared it must be a `result`";
 
+/// What is said of a setter that has not just one parameter.
+const SETTER_PARAMS: &str = "setters must have exactly one parameter";
+
 /// What is said of a constructor of something else than its resource.
 const CONSTRUCTOR_OK: &str = "the `ok` type must be the resource being constructed";
 
 /// Refuses a getter with a parameter (E36).
 fn check_getter(alloc: Global, function: HeldFunction<'_, '_>) -> ParseResult<()>
     requires { (function_behind function).func.form ≡ Getter }
-    ensures legal { OnOk result ((f : Fault) → IsGetterGiven (function_behind function.entry) f → ⊥) }
-    ensures refused { IfErr result (Refused (IsGetterGiven (function_behind function.entry))) }
+    ensures { Finds (given_fault (function_behind function.entry)) result }
 {
     match function.params().first() {
         Some(first) => {
@@ -49,25 +52,21 @@ fn check_getter(alloc: Global, function: HeldFunction<'_, '_>) -> ParseResult<()
 /// Refuses a setter that has not just one parameter (E37).
 fn check_setter(alloc: Global, function: HeldFunction<'_, '_>) -> ParseResult<()>
     requires { (function_behind function).func.form ≡ Setter }
-    ensures legal { OnOk result ((f : Fault) → IsSetterGiven (function_behind function.entry) f → ⊥) }
-    ensures refused { IfErr result (Refused (IsSetterGiven (function_behind function.entry))) }
+    ensures { Finds (given_fault (function_behind function.entry)) result }
 {
     let params = function.params();
     if params.len() == 1 {
         return Ok(());
     }
-    let span = match params.get(1) {
-        Some(second) => second.name.span,
-        None => function.word(),
-    };
-    Err(refuse(alloc, 37, span, "setters must have exactly one parameter"))
+    match params.get(1) {
+        Some(second) => Err(refuse(alloc, 37, second.name.span, SETTER_PARAMS)),
+        None => Err(refuse(alloc, 37, function.word(), SETTER_PARAMS)),
+    }
 }
 
 /// Refuses a getter with a parameter (E36), and a setter that has not just one (E37).
 pub fn check_given(alloc: Global, function: HeldFunction<'_, '_>) -> ParseResult<()>
-    ensures getter { OnOk result ((f : Fault) → IsGetterGiven (function_behind function.entry) f → ⊥) }
-    ensures setter { OnOk result ((f : Fault) → IsSetterGiven (function_behind function.entry) f → ⊥) }
-    ensures refused { IfErr result (Refused (λ f. IsGetterGiven (function_behind function.entry) f ⊎ IsSetterGiven (function_behind function.entry) f)) }
+    ensures { Finds (given_fault (function_behind function.entry)) result }
 {
     match function.form() {
         FuncForm::Getter => check_getter(alloc, function),
@@ -121,9 +120,7 @@ pub fn refuse_param(alloc: Global, name: Id<'_>) -> ParseError
 
 /// Refuses a getter without a result (E39).
 pub fn check_returns(alloc: Global, function: HeldFunction<'_, '_>) -> ParseResult<()>
-    requires { (function_behind function).func.result ≡ None }
-    ensures legal { OnOk result ((f : Fault) → IsGetterWithoutResult (function_behind function.entry) f → ⊥) }
-    ensures refused { IfErr result (Refused (IsGetterWithoutResult (function_behind function.entry))) }
+    ensures { Finds (no_result_fault (function_behind function.entry)) result }
 {
     match function.form() {
         FuncForm::Getter => {
@@ -138,13 +135,9 @@ pub fn check_returns(alloc: Global, function: HeldFunction<'_, '_>) -> ParseResu
 fn check_setter_result<'t, 'a>(
     alloc: Global,
     results: &TextTable<&'t Type<'a>>,
-    function: HeldFunction<'t, 'a>,
     ty: &'t Type<'a>,
 ) -> ParseResult<()>
-    requires form { (function_behind function).func.form ≡ Setter }
-    requires result { (function_behind function).func.result ≡ Some ty.now }
-    ensures legal { OnOk result ((xs : List ScopeName) → AreResults results.now xs → (f : Fault) → IsSetterWithResult xs (function_behind function.entry) f → ⊥) }
-    ensures refused { IfErr result (λ e. (xs : List ScopeName) → AreResults results.now xs → Refused (IsSetterWithResult xs (function_behind function.entry)) e) }
+    ensures { (xs : List ScopeName) → AreResults results.now xs → Finds (setter_fault ty.now (the_result_ok xs ty.now)) result }
 {
     match result_ok(results, ty) {
         Some(None) => Ok(()),
@@ -154,7 +147,7 @@ fn check_setter_result<'t, 'a>(
 
 /// Whether a type is written as a name, or as a handle that owns it.
 fn is_written_as(name: Id<'_>, ty: &Type<'_>) -> bool
-    ensures { IsTrue result ↔ IsWrittenAs name.entry ty.now }
+    ensures { result ≡ is_written_as name.entry (Some ty.now) }
 {
     match ty {
         Type::Name(id) | Type::Own(_, id) => id.name == name.name,
@@ -180,15 +173,10 @@ fn ok_span(ty: &Type<'_>) -> Span
 fn check_made<'t, 'a>(
     alloc: Global,
     results: &TextTable<&'t Type<'a>>,
-    function: HeldFunction<'t, 'a>,
     resource: Id<'a>,
     ty: &'t Type<'a>,
 ) -> ParseResult<()>
-    requires role { (function_behind function).role ≡ Constructor resource }
-    requires result { (function_behind function).func.result ≡ Some ty.now }
-    ensures result { OnOk result ((xs : List ScopeName) → AreResults results.now xs → (f : Fault) → IsConstructorWithoutResult xs (function_behind function.entry) f → ⊥) }
-    ensures ok { OnOk result ((xs : List ScopeName) → AreResults results.now xs → (f : Fault) → IsConstructorOfOther xs (function_behind function.entry) f → ⊥) }
-    ensures refused { IfErr result (λ e. (xs : List ScopeName) → AreResults results.now xs → Refused (λ f. IsConstructorWithoutResult xs (function_behind function.entry) f ⊎ IsConstructorOfOther xs (function_behind function.entry) f) e) }
+    ensures { (xs : List ScopeName) → AreResults results.now xs → Finds (made_fault resource.entry ty.now (the_result_ok xs ty.now)) result }
 {
     let Some(ok) = result_ok(results, ty) else {
         return Err(refuse(alloc, 41, span_of(ty), CONSTRUCTOR_RESULT));
@@ -207,15 +195,13 @@ pub fn check_result<'t, 'a>(
     function: HeldFunction<'t, 'a>,
     ty: &'t Type<'a>,
 ) -> ParseResult<()>
-    requires { (function_behind function).func.result ≡ Some ty.now }
-    ensures legal { OnOk result ((xs : List ScopeName) → AreResults results.now xs → (f : Fault) → IsBrokenResult xs (function_behind function.entry) f → ⊥) }
-    ensures refused { IfErr result (λ e. (xs : List ScopeName) → AreResults results.now xs → Refused (IsBrokenResult xs (function_behind function.entry)) e) }
+    ensures { (xs : List ScopeName) → AreResults results.now xs → Finds (gives_fault xs (function_behind function.entry) ty.now) result }
 {
     if let FuncForm::Setter = function.form() {
-        return check_setter_result(alloc, results, function, ty);
+        return check_setter_result(alloc, results, ty);
     }
     match function.made() {
-        Some(resource) => check_made(alloc, results, function, resource, ty),
+        Some(resource) => check_made(alloc, results, resource, ty),
         None => Ok(()),
     }
 }

@@ -4,11 +4,14 @@ use Rattle.std.proofs.lemmas.Option.{none-some}
 use Rattle.std.proofs.lemmas.Result.{err_from_is_err_and, on_ok_weaker}
 use Rattle.wit_type_tree.specs.declared.types.«Type».{«Type» as Written}
 use Rattle.wit_syntax.specs.Fault.{Fault}
+use Rattle.wit_first.proofs.Bridge.{refused_by}
+use Rattle.wit_first.proofs.Functions.{gives_agrees}
 use Rattle.wit_arena.specs.Resolving.{env_of}
 use Rattle.wit_syntax.proofs.Refusing.{refused_weaker}
 use Rattle.wit_syntax.proofs.Found.{contains_at}
 use Rattle.wit_arena.proofs.Written.{AreLegal, legal_one}
 use Rattle.wit_rules.specs.Held.{function_behind}
+use Rattle.wit_rules.proofs.FunctionRules.{no_setter}
 use Rattle.wit_rules.specs.Signatures.{functions_behind, IsWrongInSignature, IsWrongInSignatures, IsBrokenResult, IsBrokenReturn}
 use Rattle.wit_signatures.proofs.FunctionParts.{result_behind, no_result}
 use Rattle.wit_signatures.proofs.SignatureTypes.{option_has}
@@ -29,7 +32,7 @@ pub returns-in_err-check_result-in-Some-clause-refused : goal.returns-in_err-che
 returns-in_err-check_result-in-Some-clause-refused c =
     let p = err_from_is_err_and c.from_residual-in_err-check_result-in-Some.result c.from_residual-in_err-check_result-in-Some.ensures.1 in
     let fn = function_behind c.args.function in
-    rw (p.1, p.2) (λ xs scope. refused_weaker (IsBrokenResult xs fn) (λ (f : Fault). IsBrokenReturn xs fn f ⊎ IsWrongInSignatures (env_of c.args.scope.names.now) c.resolve_in_signature.new.types (functions_behind c.args.scope) c.args.place (option_to_list fn.func.result) f) _ (λ f wrong. inl (inr wrong)) (c.in_err-check_result-in-Some.ensures.refused xs scope.results))
+    rw (p.1, p.2) (λ xs scope. refused_weaker (IsBrokenResult xs fn) (λ (f : Fault). IsBrokenReturn xs fn f ⊎ IsWrongInSignatures (env_of c.args.scope.names.now) c.resolve_in_signature.new.types (functions_behind c.args.scope) c.args.place (option_to_list fn.func.result) f) _ (λ f wrong. inl (inr wrong)) (refused_by (gives_agrees xs fn c.in-Some.written.now (sym c.in-Some.ensures) (no_setter c.args.function)) (c.in_err-check_result-in-Some.ensures xs scope.results)))
 
 pub returns-in_ok-check_result-in-Some-clause-result : goal.returns-in_ok-check_result-in-Some-clause-result
 returns-in_ok-check_result-in-Some-clause-result c = result_behind c.args.types.now c.resolve_in_signature.new.types (env_of c.args.scope.names.now) c.args.function c.in-Some.written.now c.in_ok-ty-in-Some.ty (sym c.in-Some.ensures) c.in_ok-ty-in-Some.ensures.resolved
@@ -37,7 +40,7 @@ returns-in_ok-check_result-in-Some-clause-result c = result_behind c.args.types.
 pub returns-in_ok-check_result-in-Some-clause-returns : goal.returns-in_ok-check_result-in-Some-clause-returns
 returns-in_ok-check_result-in-Some-clause-returns c = λ xs scope f wrong. elim wrong [
   | inl getter ↦ none-some c.in-Some.written.now (sym getter.1 ∙ sym c.in-Some.ensures)
-  | inr result ↦ c.in_ok-check_result-in-Some.ensures.legal xs scope.results f result
+  | inr result ↦ (gives_agrees xs (function_behind c.args.function) c.in-Some.written.now (sym c.in-Some.ensures) (no_setter c.args.function)).unbroken (c.in_ok-check_result-in-Some.ensures xs scope.results) f result
 ]
 
 pub returns-in_ok-check_result-in-Some-clause-legal : goal.returns-in_ok-check_result-in-Some-clause-legal

@@ -1,7 +1,9 @@
-use Rattle.std.proofs.Common.{map, sym, subst}
+use Rattle.std.proofs.Common.{map, inl, inr, sym, subst}
 use Rattle.std.specs.Option.{option_to_list}
 use Rattle.std.proofs.lemmas.Result.{err_from_is_err_and}
 use Rattle.wit_syntax.specs.Function.{all_params}
+use Rattle.wit_first.proofs.Bridge.{refused_by}
+use Rattle.wit_first.proofs.Functions.{given_agrees}
 use Rattle.wit_arena.specs.Resolving.{env_of}
 use Rattle.wit_arena.proofs.Written.{legal_more}
 use Rattle.wit_rules.specs.Held.{function_behind}
@@ -13,7 +15,7 @@ use Rattle.wit_signatures.proofs.functions.resolve_signature.Goals as goal
 pub returns-in_err-check_given-clause-refused : goal.returns-in_err-check_given-clause-refused
 returns-in_err-check_given-clause-refused c =
     let p = err_from_is_err_and c.from_residual.result c.from_residual.ensures.1 in
-    rw (p.1, p.2) (λ xs scope. refused_given (env_of c.args.scope.names.now) c.args.types.now xs (functions_behind c.args.scope) c.args.place (function_behind c.args.function) _ c.in_err-check_given.ensures.refused)
+    rw (p.1, p.2) (λ xs scope. refused_given (env_of c.args.scope.names.now) c.args.types.now xs (functions_behind c.args.scope) c.args.place (function_behind c.args.function) _ (refused_by (given_agrees (function_behind c.args.function)) c.in_err-check_given.ensures))
 
 pub returns-in_err-params-clause-refused : goal.returns-in_err-params-clause-refused
 returns-in_err-params-clause-refused c =
@@ -36,8 +38,8 @@ pub returns-clause-legal : goal.returns-clause-legal
 returns-clause-legal c = λ xs scope.
     let fn = function_behind c.args.function in
     record {
-      getter = c.in_ok-check_given.ensures.getter;
-      setter = c.in_ok-check_given.ensures.setter;
+      getter = λ f broken. (given_agrees fn).unbroken c.in_ok-check_given.ensures f (inl broken);
+      setter = λ f broken. (given_agrees fn).unbroken c.in_ok-check_given.ensures f (inr broken);
       distinct = c.in_ok-params.ensures.distinct;
       types = legal_more (map (λ p. p.ty) fn.func.params.items) (option_to_list fn.func.result) c.in_ok-params.ensures.legal c.in_ok-result.ensures.legal;
       returns = c.in_ok-result.ensures.returns xs scope;
