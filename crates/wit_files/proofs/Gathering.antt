@@ -25,8 +25,10 @@ use Rattle.wit_syntax.proofs.Repeated.{no_repeat}
 use Rattle.wit_syntax.proofs.Tables.{place_of-Some, none_if}
 use Rattle.wit_syntax.proofs.Found.{at_contains, contains_at}
 use Rattle.wit_syntax.proofs.Legal.{no_missing_edge, no_cyclic_edge}
+use Rattle.wit_first.specs.Files.{visits_fault}
+use Rattle.wit_first.proofs.Files.{visits_agree}
 use Rattle.wit_top_names.specs.Tops.{Named, AreNamed, AreDeclared}
-use Rattle.wit_top_names.specs.Checks.{AreDistinctTops, AreRightTops, IsBrokenVisit, AreLegalVisits}
+use Rattle.wit_top_names.specs.Checks.{AreDistinctTops, AreRightTops}
 use Rattle.wit_files.specs.FileNames.{AreTopsOf, AreTablesOf, AddsTop, names_at_top, top_at}
 use Rattle.wit_files.specs.declared.tables.Tables.{Tables}
 use Rattle.wit_top_names.proofs.FirstNames.{rows_items}
@@ -141,17 +143,14 @@ legal_items files places differ tops order f (CyclicItem h) = no_cyclic_edge 8 i
 pub names_declared : (files : List PackageFile) (names : Tables) → AreTablesOf files names → AreDeclared (all_items files) names.items
 names_declared files names are = record { finds = λ name. rows_items (all_items files) names.items name are.declared.items }
 
--- what is wrong with attributes in front of a path to another package, and at the top of a file, is wrong with names
-pub broken_visit : (files : List PackageFile) (f : Fault) → IsBrokenVisit (foreign_visits files) f → IsBrokenNames files f
-broken_visit files f h = ForeignStability h.visit h.among h.broken
-
+-- what is wrong at the top of a file is wrong with names
 pub broken_top : (files : List PackageFile) (i : ℕ) (file : PackageFile) (f : Fault) → slice_get files i ≡ Some file → IsWrongTop (all_items files) file.decl_list.items.items f → IsBrokenNames files f
 broken_top files i file f at h = TopUse file (contains_at files i file at) h
 
 -- no rule about names is broken where none about items is, and where nothing is wrong with those attributes and at the top of a file
-pub legal_names : (files : List PackageFile) → ((f : Fault) → IsBrokenItems files f → ⊥) → AreLegalVisits (foreign_visits files) → AreRightTops (all_items files) files → (f : Fault) → IsBrokenNames files f → ⊥
+pub legal_names : (files : List PackageFile) → ((f : Fault) → IsBrokenItems files f → ⊥) → visits_fault (foreign_visits files) ≡ None → AreRightTops (all_items files) files → (f : Fault) → IsBrokenNames files f → ⊥
 legal_names files legal visits tops f (Items h) = legal f h
-legal_names files legal visits tops f (ForeignStability v among h) = (let p = at_contains (foreign_visits files) v among in visits.each p.0 v p.1 f h)
+legal_names files legal visits tops f (ForeignStability v among h) = (visits_agree (foreign_visits files)).unbroken visits f (v, among, h)
 legal_names files legal visits tops f (TopUse file among h) = (let p = at_contains files file among in tops.each p.0 file p.1 f h)
 
 -- the place of a name among the keys is that of the item which an edge of this name leads to

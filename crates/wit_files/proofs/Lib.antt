@@ -1,4 +1,3 @@
 pub mod Refusals
 pub mod Others
-pub mod Unbroken
 pub mod Gathering

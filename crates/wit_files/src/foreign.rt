@@ -1,10 +1,10 @@
 //! Paths to items of other packages, and those items.
-ghost use Rattle.std.specs.Prelude.{◌≡◌, ◌++◌, List, [], ◌∷◌, map, position, IfErr, IfOk, OnOk};
+ghost use Rattle.std.specs.Prelude.{◌≡◌, ◌++◌, List, [], ◌∷◌, map, position, IfOk, OnOk};
 ghost use Rattle.wit_syntax.specs.Address.{ForeignNamed, package_of, release_of, same_address};
 ghost use Rattle.wit_syntax.specs.Foreign.{ForeignVisit as TheVisit, path_visits, file_visits, foreign_visits as the_visits, visited, same_item};
-ghost use Rattle.wit_syntax.specs.Broken.{Refused};
 ghost use Rattle.wit_syntax.specs.Repeats.{firsts};
-ghost use Rattle.wit_top_names.specs.Checks.{AreLegalVisits, IsBrokenVisit};
+ghost use Rattle.wit_first.specs.Files.{visits_fault};
+ghost use Rattle.wit_first.specs.First.{Finds};
 ghost use Rattle.wit_files.specs.Foreign.{foreign_behind, wants_world, key_release, key_address, AreItemsOf};
 
 use crate::visit::{Visit, Wanted, visits};
@@ -142,8 +142,7 @@ pub fn foreign_visits<'f, 'a>(
 
 /// Refuses attributes in front of a path with a package that break a rule of stability.
 pub fn check_visits(alloc: Global, visits: &[ForeignVisit<'_, '_>]) -> ParseResult<()>
-    ensures legal { OnOk result (AreLegalVisits (map foreign_behind visits.now)) }
-    ensures refused { IfErr result (Refused (IsBrokenVisit (map foreign_behind visits.now))) }
+    ensures { Finds (visits_fault (map foreign_behind visits.now)) result }
 {
     for visit in visits {
         check_stability(alloc, visit.attributes)?;

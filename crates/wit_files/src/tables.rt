@@ -1,5 +1,5 @@
 //! The tables of the names of files: of the items that they declare, and those at the top of each.
-ghost use Rattle.std.specs.Prelude.{◌≡◌, ◌++◌, [], List, map, IfOk, IfErr, OnOk};
+ghost use Rattle.std.specs.Prelude.{◌≡◌, ◌++◌, [], List, map, None, IfOk, IfErr, OnOk};
 ghost use Rattle.wit_tree.specs.declared.tree.PackageFile.{PackageFile as TheFile};
 ghost use Rattle.wit_graph.specs.Table.{rows, IsOrder};
 ghost use Rattle.wit_syntax.specs.Source.{Item as TheItem, top_names, top_text, file_items, all_items, item_name, is_world as is_the_world};
@@ -8,8 +8,10 @@ ghost use Rattle.wit_syntax.specs.Fault.{Fault};
 ghost use Rattle.wit_syntax.specs.Broken.{IsBrokenItems, IsBrokenNames, IsWrongTop, Refused};
 ghost use Rattle.wit_syntax.specs.Repeats.{AllDiffer};
 ghost use Rattle.wit_syntax.specs.Foreign.{foreign_visits as the_visits};
+ghost use Rattle.wit_first.specs.Files.{visits_fault};
+ghost use Rattle.wit_first.specs.First.{Finds};
 ghost use Rattle.wit_top_names.specs.Tops.{AreDeclared};
-ghost use Rattle.wit_top_names.specs.Checks.{AreDistinctTops, AreLegalVisits, AreRightTops, IsBrokenVisit, IsWrongFile};
+ghost use Rattle.wit_top_names.specs.Checks.{AreDistinctTops, AreRightTops, IsWrongFile};
 ghost use Rattle.wit_files.specs.Foreign.{foreign_behind, AreItemsOf};
 ghost use Rattle.wit_files.specs.FileNames.{AddsTop, AreTablesOf, AreDeclarationsOf};
 
@@ -47,8 +49,7 @@ impl<'f, 'a> Tables<'f, 'a> {
         ensures items { IfOk result (λ names. rows names.items ≡ []) }
         ensures kinds { IfOk result (λ names. names.kinds.items ≡ []) }
         ensures tops { IfOk result (λ names. names.tops.items ≡ []) }
-        ensures legal { OnOk result (AreLegalVisits (the_visits files.now)) }
-        ensures refused { IfErr result (Refused (IsBrokenVisit (the_visits files.now))) }
+        ensures first { Finds (visits_fault (the_visits files.now)) result }
     {
         let visits = foreign_visits(alloc, files)?;
         check_visits(alloc, &visits)?;
@@ -139,7 +140,7 @@ impl<'f, 'a> Tables<'f, 'a> {
 
     /// The tables of files, whatever the `use`s at the top of files name.
     fn gather_items(alloc: Global, files: &'f [PackageFile<'a>]) -> ParseResult<Tables<'f, 'a>>
-        ensures visits { OnOk result (AreLegalVisits (the_visits files.now)) }
+        ensures visits { OnOk result (visits_fault (the_visits files.now) ≡ None) }
         ensures legal { OnOk result ((f : Fault) → IsBrokenItems files.now f → ⊥) }
         ensures tables { IfOk result (AreTablesOf files.now) }
         ensures refused { IfErr result (Refused (IsBrokenNames files.now)) }

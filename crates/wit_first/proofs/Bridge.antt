@@ -1,6 +1,6 @@
 -- The first fault is a broken rule; and where there is no first fault, no rule is broken.
 use Rattle.std.proofs.Common.{◌≡◌, ◌≢◌, ℕ, zero, suc, ◌<◌, Bool, true, false, List, [], ◌∷◌, ◌++◌, take, Option, Some, None, ◌⊎◌, inl, inr, refl, sym, ap, ◌∙◌, subst, append_assoc, arith}
-use Rattle.std.specs.Prelude.{slice_get, not, map}
+use Rattle.std.specs.Prelude.{Contains, slice_get, not, map}
 use Rattle.std.specs.Option.{option_or}
 use Rattle.std.specs.List.{list_any}
 use Rattle.std.specs.Str.{bytes_eq}
@@ -32,6 +32,7 @@ use Rattle.wit_syntax.specs.Fault.{Fault, fault}
 use Rattle.wit_syntax.specs.Notes.{IsTwice, IsBrokenStability, IsBrokenNotes, SinceTwice, DeprecatedTwice, UnstableTwice, SinceAndUnstable, DeprecatedAlone}
 use Rattle.wit_syntax.specs.Repeats.{AllDiffer}
 use Rattle.wit_syntax.specs.Source.{TopName, top_text, top_names, Item, item_name, all_items, about}
+use Rattle.wit_syntax.proofs.Found.{at_contains, contains_at}
 use Rattle.wit_syntax.proofs.Lists.{at_take, map_at}
 use Rattle.wit_syntax.proofs.Names.{name_equal, name_itself}
 use Rattle.wit_first.specs.Attributes.{number_of, repeat_fault, counted_fault, each_once_fault, kinds_fault, together_fault, stability_fault, external_fault, notes_fault}
@@ -67,6 +68,12 @@ pub in_only : {X : Type 0} (w : X → Option Fault) (xs : List X) → first_in w
 in_only w [] h i x at = absurd (let g : ⊥ = cc in g)
 in_only w (y ∷ ys) h zero x at = (let both = or_none_both (w y) (first_in w ys) h in let same : y ≡ x = cc in ap w (sym same) ∙ both.0)
 in_only w (y ∷ ys) h (suc i) x at = in_only w ys (or_none_both (w y) (first_in w ys) h).1 i x at
+
+pub in_agrees : {X : Type 0} (w : X → Option Fault) (Broken : X → Fault → Type 0) (xs : List X) → ((x : X) → Agrees (w x) (Broken x)) → Agrees (first_in w xs) (λ f. (x : X) × Contains xs x × Broken x f)
+in_agrees w Broken xs each = record {
+  broken = λ f h. (let it = in_some w xs f h in (it.1, contains_at xs it.0 it.1 it.2, (each it.1).broken f it.3));
+  unbroken = λ none f h. (let it = at_contains xs h.0 h.1 in (each h.0).unbroken (in_only w xs none it.0 h.0 it.1) f h.2);
+}
 
 -- of items, each beside those before it
 pub after_some : {X : Type 0} (w : List X → X → Option Fault) (before xs : List X) (f : Fault) → first_after w before xs ≡ Some f → (i : ℕ) × (x : X) × (slice_get xs i ≡ Some x) × (w (before ++ take i xs) x ≡ Some f)

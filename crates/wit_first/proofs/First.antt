@@ -1,10 +1,10 @@
 -- The first fault of lists that grow.
-use Rattle.std.proofs.Common.{◌≡◌, ℕ, zero, suc, ◌+◌, ◌<◌, Bool, true, false, ◌||◌, List, [], ◌∷◌, ◌++◌, length, take, get_or, Option, Some, None, inl, inr, refl, sym, ap, ◌∙◌, append_assoc, arith}
+use Rattle.std.proofs.Common.{◌≡◌, ℕ, zero, suc, ◌+◌, ◌<◌, ◌≤◌, Bool, true, false, ◌||◌, List, [], ◌∷◌, ◌++◌, length, take, get_or, Option, Some, None, inl, inr, refl, sym, ap, ◌∙◌, append_assoc, arith}
 use Rattle.std.specs.Prelude.{slice_get, map, if◌then◌else◌}
-use Rattle.std.specs.List.{list_any}
+use Rattle.std.specs.List.{flat_map, list_any}
 use Rattle.std.specs.Str.{bytes_eq}
 use Rattle.std.specs.Option.{option_or}
-use Rattle.std.proofs.lemmas.List.{append-nil, map-append, take_more, take-map}
+use Rattle.std.proofs.lemmas.List.{append-nil, map-append, take_all, take_more, take-map}
 use Rattle.wit_type_tree.specs.declared.error.ParseError.{ParseError}
 use Rattle.wit_syntax.specs.Fault.{Fault, fault_of}
 use Rattle.wit_first.specs.First.{first_in, first_after, Reports, repeat_of, first_repeat}
@@ -71,6 +71,19 @@ in-next w xs i x within is none right = ap (first_in w) (take_more xs i x within
 
 pub after-next : {X : Type 0} (w : List X → X → Option Fault) (xs : List X) (i : ℕ) (x : X) → i < length xs → x ≡ get_or xs i x → first_after w [] (take i xs) ≡ None → w (take i xs) x ≡ None → first_after w [] (take (i + 1) xs) ≡ None
 after-next w xs i x within is none right = ap (first_after w []) (take_more xs i x within ∙ ap (λ y. take i xs ++ y ∷ []) (sym is)) ∙ after-more w (take i xs) x none ∙ right
+
+-- all items, from a place past the last on
+pub in-all : {X : Type 0} (w : X → Option Fault) (xs : List X) (i : ℕ) → length xs ≤ i → first_in w (take i xs) ≡ None → first_in w xs ≡ None
+in-all w xs i past none = ap (first_in w) (sym (take_all i xs past)) ∙ none
+
+-- items that are made of others, and items that others bring
+pub in-map : {X Y : Type 0} (w : Y → Option Fault) (f : X → Y) (xs : List X) → first_in w (map f xs) ≡ first_in (λ (x : X). w (f x)) xs
+in-map w f [] = refl
+in-map w f (x ∷ xs) = ap (option_or (w (f x))) (in-map w f xs)
+
+pub in-flat : {X Y : Type 0} (w : Y → Option Fault) (f : X → List Y) (xs : List X) → first_in w (flat_map f xs) ≡ first_in (λ (x : X). first_in w (f x)) xs
+in-flat w f [] = refl
+in-flat w f (x ∷ xs) = in-append w (f x) (flat_map f xs) ∙ ap (option_or (first_in w (f x))) (in-flat w f xs)
 
 -- a test that one item passes, or none of them
 pub any_some : {X : Type 0} (p : X → Bool) (xs : List X) (i : ℕ) (x : X) → slice_get xs i ≡ Some x → p x ≡ true → list_any p xs ≡ true

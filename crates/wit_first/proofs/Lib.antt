@@ -1,3 +1,4 @@
 pub mod First
 pub mod Bridge
 pub mod Functions
+pub mod Files

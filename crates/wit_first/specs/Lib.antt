@@ -4,4 +4,5 @@ pub mod Lists
 pub mod Keys
 pub mod Names
 pub mod Functions
+pub mod Files
 pub mod Laws

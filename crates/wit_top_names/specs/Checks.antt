@@ -12,8 +12,6 @@ use Rattle.wit_syntax.specs.Scope.{needed_paths, local_target}
 use Rattle.wit_syntax.specs.Fault.{Fault, fault, missing_at, item_word}
 use Rattle.wit_syntax.specs.Bodies.{IsSecond}
 use Rattle.wit_syntax.specs.Broken.{IsWrongTop}
-use Rattle.wit_syntax.specs.Foreign.{ForeignVisit}
-use Rattle.wit_syntax.specs.Notes.{IsBrokenStability}
 use Rattle.wit_syntax.specs.Repeats.{AllDiffer}
 
 -- an earlier one of these names at the top of a file is the same
@@ -71,13 +69,3 @@ pub record AreRightUses (is : List Item) (declarations : List AstItem) : Type 0 
 -- nothing is wrong with those of each file
 pub record AreRightTops (is : List Item) (files : List PackageFile) : Type 0 where
   pub each : (i : ℕ) (file : PackageFile) → slice_get files i ≡ Some file → (f : Fault) → IsWrongTop is file.decl_list.items.items f → ⊥
-
--- the attributes in front of one of these paths break a rule
-pub record IsBrokenVisit (visits : List ForeignVisit) (f : Fault) : Type 0 where
-  pub visit : ForeignVisit
-  pub among : Contains visits visit
-  pub broken : IsBrokenStability visit.attributes f
-
--- those in front of none do
-pub record AreLegalVisits (visits : List ForeignVisit) : Type 0 where
-  pub each : (i : ℕ) (visit : ForeignVisit) → slice_get visits i ≡ Some visit → (f : Fault) → IsBrokenStability visit.attributes f → ⊥

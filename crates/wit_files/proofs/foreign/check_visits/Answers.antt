@@ -1,38 +1,34 @@
-use Rattle.std.proofs.Common.{◌≡◌, ◌+◌, ◌++◌, ◌∷◌, [], Some, map, take, sym, ap, ◌∙◌, subst}
+use Rattle.std.proofs.Common.{◌≡◌, Option, Some, sym, ap, ◌∙◌}
 use Rattle.std.specs.Prelude.{slice_get}
-use Rattle.std.proofs.lemmas.List.{map-append, take_more, take_all}
 use Rattle.std.proofs.lemmas.Option.{slice_get-get_or}
 use Rattle.std.proofs.lemmas.Result.{err_from_is_err_and}
-use Rattle.wit_syntax.specs.Notes.{IsBrokenStability}
-use Rattle.wit_syntax.proofs.Refusing.{refused_weaker}
-use Rattle.wit_first.proofs.Bridge.{refused_by, stability_agrees}
+use Rattle.wit_syntax.specs.Fault.{Fault}
+use Rattle.wit_syntax.specs.Foreign.{ForeignVisit}
+use Rattle.wit_first.specs.Attributes.{stability_fault}
+use Rattle.wit_first.proofs.First.{in-all, in-map, in-next, reports-in, reports_same}
 use Rattle.wit_files.specs.Foreign.{foreign_behind}
-use Rattle.wit_top_names.specs.Checks.{AreLegalVisits, IsBrokenVisit}
-use Rattle.wit_files.proofs.Unbroken.{visits_legal_none, visits_legal_more, visit_broken}
+use Rattle.wit_files.specs.declared.foreign.ForeignVisit.{ForeignVisit as Held}
 use Rattle.wit_files.proofs.foreign.check_visits.Goals as goal
 
-pub loop-visit-init : goal.loop-visit-init
-loop-visit-init c = visits_legal_none
+abbrev own : ForeignVisit → Option Fault
+own v = stability_fault v.attributes
 
-pub returns-in_err-check_stability-clause-refused : goal.returns-in_err-check_stability-clause-refused
-returns-in_err-check_stability-clause-refused c =
+abbrev held : Held → Option Fault
+held v = stability_fault v.attributes.now
+
+pub returns-in_err-check_stability : goal.returns-in_err-check_stability
+returns-in_err-check_stability c =
     let q = err_from_is_err_and c.from_residual.result c.from_residual.ensures.1 in
     let vs = c.args.visits.now in
     let i = c.loop-visit.visit-index in
     let v = c.visit-item.result in
     let at : slice_get vs i ≡ Some v = slice_get-get_or vs i v c.loop-visit-test.true ∙ ap Some (sym c.visit-item.is) in
-    rw (q.1, q.2) (refused_weaker (IsBrokenStability v.attributes.now) (IsBrokenVisit (map foreign_behind vs)) _ (λ f h. visit_broken vs i v f at h) (refused_by (stability_agrees v.attributes.now) c.in_err-check_stability.ensures))
+    rw (q.1, q.2) (reports_same (sym (in-map own foreign_behind vs)) (reports-in held vs i v _ at c.loop-visit.invariant c.in_err-check_stability.ensures))
 
 pub loop-visit-preserved : goal.loop-visit-preserved
-loop-visit-preserved c =
-    let vs = c.args.visits.now in
-    let i = c.loop-visit.visit-index in
-    let v = c.visit-item.result in
-    let more : take (i + 1) vs ≡ take i vs ++ v ∷ [] = take_more vs i v c.loop-visit-test.true ∙ ap (λ y. take i vs ++ y ∷ []) (sym c.visit-item.is) in
-    let mapped : map foreign_behind (take (i + 1) vs) ≡ map foreign_behind (take i vs) ++ foreign_behind v ∷ [] = ap (map foreign_behind) more ∙ map-append foreign_behind (take i vs) (v ∷ []) in
-    rw mapped (visits_legal_more (map foreign_behind (take i vs)) (foreign_behind v) c.loop-visit.invariant ((stability_agrees v.attributes.now).unbroken c.in_ok-check_stability.ensures))
+loop-visit-preserved c = in-next held c.args.visits.now c.loop-visit.visit-index c.visit-item.result c.loop-visit-test.true c.visit-item.is c.loop-visit.invariant c.in_ok-check_stability.ensures
 
-pub returns-clause-legal : goal.returns-clause-legal
-returns-clause-legal c =
+pub returns : goal.returns
+returns c =
     let vs = c.args.visits.now in
-    subst (λ l. AreLegalVisits (map foreign_behind l)) (take_all c.loop-visit.visit-index vs c.loop-visit-test.false) c.loop-visit.invariant
+    in-map own foreign_behind vs ∙ in-all held vs c.loop-visit.visit-index c.loop-visit-test.false c.loop-visit.invariant
