@@ -16,19 +16,19 @@ use Rattle.wit_graph.proofs.Tables.{place_by_key}
 use Rattle.wit_syntax.specs.Source.{TopName, top_names, top_text, declared_items, Item, file_items, all_items, item_name}
 use Rattle.wit_syntax.specs.Scope.{item_row, item_rows}
 use Rattle.wit_syntax.specs.Fault.{Fault, missing_at, item_word}
-use Rattle.wit_syntax.specs.Broken.{IsMissingEdge, IsCyclicEdge, IsBrokenItems, DuplicateItem, DuplicateTopName, MissingItem, CyclicItem, IsBrokenNames, Items, ForeignStability, IsWrongTop, TopUse}
+use Rattle.wit_syntax.specs.Broken.{IsMissingEdge, IsCyclicEdge, IsBrokenItems, DuplicateItem, DuplicateTopName, MissingItem, CyclicItem, IsBrokenNames, Items, ForeignStability, TopUse}
 use Rattle.wit_syntax.specs.Foreign.{foreign_visits}
 use Rattle.wit_syntax.specs.Repeats.{AllDiffer}
 use Rattle.wit_syntax.proofs.Lists.{at_front, at_back, at_either, map_map}
 use Rattle.wit_syntax.proofs.Orders.{take_next}
 use Rattle.wit_syntax.proofs.Repeated.{no_repeat}
 use Rattle.wit_syntax.proofs.Tables.{place_of-Some, none_if}
-use Rattle.wit_syntax.proofs.Found.{at_contains, contains_at}
+use Rattle.wit_syntax.proofs.Found.{at_contains}
 use Rattle.wit_syntax.proofs.Legal.{no_missing_edge, no_cyclic_edge}
-use Rattle.wit_first.specs.Files.{visits_fault}
-use Rattle.wit_first.proofs.Files.{visits_agree}
+use Rattle.wit_first.specs.Files.{tops_fault, visits_fault}
+use Rattle.wit_first.proofs.Files.{tops_agree, visits_agree}
 use Rattle.wit_top_names.specs.Tops.{Named, AreNamed, AreDeclared}
-use Rattle.wit_top_names.specs.Checks.{AreDistinctTops, AreRightTops}
+use Rattle.wit_top_names.specs.Checks.{AreDistinctTops}
 use Rattle.wit_files.specs.FileNames.{AreTopsOf, AreTablesOf, AddsTop, names_at_top, top_at}
 use Rattle.wit_files.specs.declared.tables.Tables.{Tables}
 use Rattle.wit_top_names.proofs.FirstNames.{rows_items}
@@ -143,15 +143,11 @@ legal_items files places differ tops order f (CyclicItem h) = no_cyclic_edge 8 i
 pub names_declared : (files : List PackageFile) (names : Tables) → AreTablesOf files names → AreDeclared (all_items files) names.items
 names_declared files names are = record { finds = λ name. rows_items (all_items files) names.items name are.declared.items }
 
--- what is wrong at the top of a file is wrong with names
-pub broken_top : (files : List PackageFile) (i : ℕ) (file : PackageFile) (f : Fault) → slice_get files i ≡ Some file → IsWrongTop (all_items files) file.decl_list.items.items f → IsBrokenNames files f
-broken_top files i file f at h = TopUse file (contains_at files i file at) h
-
 -- no rule about names is broken where none about items is, and where nothing is wrong with those attributes and at the top of a file
-pub legal_names : (files : List PackageFile) → ((f : Fault) → IsBrokenItems files f → ⊥) → visits_fault (foreign_visits files) ≡ None → AreRightTops (all_items files) files → (f : Fault) → IsBrokenNames files f → ⊥
+pub legal_names : (files : List PackageFile) → ((f : Fault) → IsBrokenItems files f → ⊥) → visits_fault (foreign_visits files) ≡ None → tops_fault files ≡ None → (f : Fault) → IsBrokenNames files f → ⊥
 legal_names files legal visits tops f (Items h) = legal f h
 legal_names files legal visits tops f (ForeignStability v among h) = (visits_agree (foreign_visits files)).unbroken visits f (v, among, h)
-legal_names files legal visits tops f (TopUse file among h) = (let p = at_contains files file among in tops.each p.0 file p.1 f h)
+legal_names files legal visits tops f (TopUse file among h) = (tops_agree files).unbroken tops f (file, among, h)
 
 -- the place of a name among the keys is that of the item which an edge of this name leads to
 pub item_place : (files : List PackageFile) (es : List (Bor (List ℕ) × Vec Id Global)) (name : List ℕ) (edge : Id) → rows es ≡ item_rows files → name ≡ edge.name.now → position (λ (k : Bor (List ℕ)). bytes_eq name k.now) (map (λ e. e.0) es) ≡ target (item_rows files) edge

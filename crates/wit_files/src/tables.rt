@@ -5,13 +5,13 @@ ghost use Rattle.wit_graph.specs.Table.{rows, IsOrder};
 ghost use Rattle.wit_syntax.specs.Source.{Item as TheItem, top_names, top_text, file_items, all_items, item_name, is_world as is_the_world};
 ghost use Rattle.wit_syntax.specs.Scope.{item_row, item_rows};
 ghost use Rattle.wit_syntax.specs.Fault.{Fault};
-ghost use Rattle.wit_syntax.specs.Broken.{IsBrokenItems, IsBrokenNames, IsWrongTop, Refused};
+ghost use Rattle.wit_syntax.specs.Broken.{IsBrokenItems, IsBrokenNames, Refused};
 ghost use Rattle.wit_syntax.specs.Repeats.{AllDiffer};
 ghost use Rattle.wit_syntax.specs.Foreign.{foreign_visits as the_visits};
-ghost use Rattle.wit_first.specs.Files.{visits_fault};
+ghost use Rattle.wit_first.specs.Files.{file_tops_fault, tops_fault, visits_fault};
 ghost use Rattle.wit_first.specs.First.{Finds};
 ghost use Rattle.wit_top_names.specs.Tops.{AreDeclared};
-ghost use Rattle.wit_top_names.specs.Checks.{AreDistinctTops, AreRightTops, IsWrongFile};
+ghost use Rattle.wit_top_names.specs.Checks.{AreDistinctTops, IsWrongFile};
 ghost use Rattle.wit_files.specs.Foreign.{foreign_behind, AreItemsOf};
 ghost use Rattle.wit_files.specs.FileNames.{AddsTop, AreTablesOf, AreDeclarationsOf};
 
@@ -156,8 +156,7 @@ impl<'f, 'a> Tables<'f, 'a> {
         file: &'f PackageFile<'a>,
         names: &Tables<'f, 'a>,
     ) -> ParseResult<()>
-        ensures legal { OnOk result ((files : List TheFile) → AreTablesOf files names.now → (f : Fault) → IsWrongTop (all_items files) file.now.decl_list.items.items f → ⊥) }
-        ensures refused { IfErr result (λ e. (files : List TheFile) → AreTablesOf files names.now → Refused (IsWrongTop (all_items files) file.now.decl_list.items.items) e) }
+        ensures { (files : List TheFile) → AreTablesOf files names.now → Finds (file_tops_fault (all_items files) file.now) result }
     {
         Ok(check_top_uses(alloc, file, &names.items)?)
     }
@@ -169,8 +168,7 @@ impl<'f, 'a> Tables<'f, 'a> {
         names: &Tables<'f, 'a>,
     ) -> ParseResult<()>
         requires { AreTablesOf files.now names.now }
-        ensures right { OnOk result (AreRightTops (all_items files.now) files.now) }
-        ensures refused { IfErr result (Refused (IsBrokenNames files.now)) }
+        ensures { Finds (tops_fault files.now) result }
     {
         for file in files {
             Tables::check_top(alloc, file, names)?;

@@ -1,12 +1,90 @@
 -- The first fault of the names of files is a broken rule; and where there is none, no rule about them is broken.
-use Rattle.std.specs.Prelude.{List, Contains}
+use Rattle.std.proofs.Common.{◌≡◌, ◌≢◌, ℕ, List, [], ◌∷◌, Option, Some, None, inl, inr, refl, ap, ◌∙◌}
+use Rattle.std.specs.Prelude.{slice_get, Contains}
+use Rattle.wit_values.specs.declared.span.Span.{Span}
+use Rattle.wit_type_tree.specs.declared.leaves.Attribute.{Attribute}
+use Rattle.wit_type_tree.specs.declared.leaves.Id.{Id}
+use Rattle.wit_tree.specs.declared.tree.AstItem.{AstItem}
+use Rattle.wit_tree.specs.declared.tree.AstItem.TheVariants as ast
+use Rattle.wit_tree.specs.declared.tree.PackageFile.{PackageFile}
+use Rattle.wit_syntax.specs.Broken.{IsWrongTop, AttributedUse, LostUse}
+use Rattle.wit_syntax.specs.Fault.{Fault, fault, missing_at, item_word}
 use Rattle.wit_syntax.specs.Foreign.{ForeignVisit}
 use Rattle.wit_syntax.specs.Notes.{IsBrokenStability}
+use Rattle.wit_syntax.specs.Source.{Target, Local, Foreign, leads, Item, all_items, item_named}
+use Rattle.wit_syntax.proofs.Found.{at_contains, contains_at}
 use Rattle.wit_first.specs.Attributes.{stability_fault}
-use Rattle.wit_first.specs.Files.{visits_fault}
+use Rattle.wit_first.specs.First.{first_in}
+use Rattle.wit_first.specs.Files.{visits_fault, lost_fault, attributed_fault, top_fault, file_tops_fault, tops_fault}
 use Rattle.wit_first.specs.Laws.{Agrees}
-use Rattle.wit_first.proofs.Bridge.{in_agrees, stability_agrees}
+use Rattle.wit_first.proofs.Bridge.{in_agrees, in_only, in_some, or_none_both, or_some, stability_agrees}
 
 -- in front of a path with a package
 pub visits_agree : (visits : List ForeignVisit) → Agrees (visits_fault visits) (λ f. (v : ForeignVisit) × Contains visits v × IsBrokenStability v.attributes f)
 visits_agree visits = in_agrees (λ (v : ForeignVisit). stability_fault v.attributes) (λ (v : ForeignVisit). IsBrokenStability v.attributes) visits (λ v. stability_agrees v.attributes)
+
+-- at a path that leads to a name which is no item's
+pub record IsLost (all : List Item) (to : Target) (f : Fault) : Type 0 where
+  pub id : Id
+  pub local : to ≡ Local id
+  pub missing : item_named all id.name.now ≡ None
+  pub is : f ≡ missing_at 7 item_word id
+
+lost_by : (all : List Item) (id : Id) (f : Fault) (o : Option Item) → item_named all id.name.now ≡ o → lost_fault all (Local id) ≡ Some f → IsLost all (Local id) f
+lost_by all id f None none h = (let same : Some (missing_at 7 item_word id) ≡ Some f = rw none at h in record { id = id; local = refl; missing = none; is = (let is : f ≡ missing_at 7 item_word id = cc in is) })
+lost_by all id f (Some i) some h = (let wrong : None ≡ Some f = rw some at h in let g : ⊥ = cc in absurd g)
+
+lost_broken : (all : List Item) (to : Target) (f : Fault) → lost_fault all to ≡ Some f → IsLost all to f
+lost_broken all (Local id) f h = lost_by all id f (item_named all id.name.now) refl h
+lost_broken all (Foreign p id) f h = absurd (let g : ⊥ = cc in g)
+
+lost_unbroken : (all : List Item) (to : Target) → lost_fault all to ≡ None → (f : Fault) → IsLost all to f → ⊥
+lost_unbroken all (Local id) none f lost =
+    let local : Local id ≡ Local lost.id = lost.local in
+    let same : id ≡ lost.id = cc in
+    let missing : item_named all id.name.now ≡ None = ap (λ (i : Id). item_named all i.name.now) same ∙ lost.missing in
+    let wrong : Some (missing_at 7 item_word id) ≡ None = rw missing at none in
+    (let g : ⊥ = cc in g)
+lost_unbroken all (Foreign p id) none f lost =
+    let local : Foreign p id ≡ Local lost.id = lost.local in
+    (let g : ⊥ = cc in g)
+
+pub lost_agrees : (all : List Item) (to : Target) → Agrees (lost_fault all to) (IsLost all to)
+lost_agrees all to = record { broken = lost_broken all to; unbroken = lost_unbroken all to }
+
+-- at a `use` at the top of a file
+attributed_broken : (xs : List Attribute) (span : Span) (f : Fault) → attributed_fault xs span ≡ Some f → (xs ≢ []) × (f ≡ fault 9 span)
+attributed_broken [] span f h = absurd (let g : ⊥ = cc in g)
+attributed_broken (a ∷ xs) span f h = ((λ none. (let g : ⊥ = cc in g)), (let same : Some (fault 9 span) ≡ Some f = h in let is : f ≡ fault 9 span = cc in is))
+
+attributed_unbroken : (xs : List Attribute) (span : Span) → attributed_fault xs span ≡ None → xs ≢ [] → ⊥
+attributed_unbroken [] span h some = some refl
+attributed_unbroken (a ∷ xs) span h some = (let g : ⊥ = cc in g)
+
+top_broken : (all : List Item) (ds : List AstItem) (i : ℕ) (d : AstItem) (f : Fault) → slice_get ds i ≡ Some d → top_fault all d ≡ Some f → IsWrongTop all ds f
+top_broken all ds i (ast.Use u) f at h = elim (or_some (attributed_fault u.attributes.items u.span) (lost_fault all (leads [] u.item)) f h) [
+  | inl own ↦ (let it = attributed_broken u.attributes.items u.span f own in AttributedUse u (contains_at ds i (ast.Use u) at) it.0 it.1)
+  | inr far ↦ (let it = lost_broken all (leads [] u.item) f far.1 in LostUse u (contains_at ds i (ast.Use u) at) it.id it.local it.missing it.is)
+]
+top_broken all ds i (ast.Interface x) f at h = absurd (let g : ⊥ = cc in g)
+top_broken all ds i (ast.World x) f at h = absurd (let g : ⊥ = cc in g)
+
+top_unbroken : (all : List Item) (ds : List AstItem) → first_in (top_fault all) ds ≡ None → (f : Fault) → IsWrongTop all ds f → ⊥
+top_unbroken all ds none f (AttributedUse u among some says) =
+    let k = at_contains ds (ast.Use u) among in
+    let both = or_none_both (attributed_fault u.attributes.items u.span) (lost_fault all (leads [] u.item)) (in_only (top_fault all) ds none k.0 (ast.Use u) k.1) in
+    attributed_unbroken u.attributes.items u.span both.0 some
+top_unbroken all ds none f (LostUse u among id local missing says) =
+    let k = at_contains ds (ast.Use u) among in
+    let both = or_none_both (attributed_fault u.attributes.items u.span) (lost_fault all (leads [] u.item)) (in_only (top_fault all) ds none k.0 (ast.Use u) k.1) in
+    lost_unbroken all (leads [] u.item) both.1 f (record { id = id; local = local; missing = missing; is = says })
+
+pub file_tops_agree : (all : List Item) (file : PackageFile) → Agrees (file_tops_fault all file) (IsWrongTop all file.decl_list.items.items)
+file_tops_agree all file = record {
+  broken = λ f h. (let ds = file.decl_list.items.items in let it = in_some (top_fault all) ds f h in top_broken all ds it.0 it.1 f it.2 it.3);
+  unbroken = top_unbroken all file.decl_list.items.items;
+}
+
+-- at the tops of files
+pub tops_agree : (files : List PackageFile) → Agrees (tops_fault files) (λ f. (file : PackageFile) × Contains files file × IsWrongTop (all_items files) file.decl_list.items.items f)
+tops_agree files = in_agrees (file_tops_fault (all_items files)) (λ (file : PackageFile). IsWrongTop (all_items files) file.decl_list.items.items) files (file_tops_agree (all_items files))

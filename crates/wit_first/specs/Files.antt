@@ -1,10 +1,43 @@
--- The first fault of the names of files, as they are gathered: E30 to E34 in front of paths with a package.
-use Rattle.std.specs.Prelude.{List, Option}
-use Rattle.wit_syntax.specs.Fault.{Fault}
+-- The first fault of the names of files, as they are gathered: E30 to E34 in front of paths with a package, and E7 and E9 at the tops of files.
+use Rattle.std.specs.Prelude.{if◌then◌else◌, List, [], ◌∷◌, Option, None, Some, is_none}
+use Rattle.std.specs.Option.{option_or}
+use Rattle.wit_values.specs.declared.span.Span.{Span}
+use Rattle.wit_type_tree.specs.declared.leaves.Attribute.{Attribute}
+use Rattle.wit_tree.specs.declared.tree.ToplevelUse.{ToplevelUse}
+use Rattle.wit_tree.specs.declared.tree.AstItem.{AstItem}
+use Rattle.wit_tree.specs.declared.tree.AstItem.TheVariants as ast
+use Rattle.wit_tree.specs.declared.tree.PackageFile.{PackageFile}
+use Rattle.wit_syntax.specs.Fault.{Fault, fault, missing_at, item_word}
 use Rattle.wit_syntax.specs.Foreign.{ForeignVisit}
+use Rattle.wit_syntax.specs.Source.{Target, Local, Foreign, leads, Item, all_items, item_named}
 use Rattle.wit_first.specs.Attributes.{stability_fault}
 use Rattle.wit_first.specs.First.{first_in}
 
 -- of the attributes in front of paths with a package, path by path
 abbrev pub visits_fault : List ForeignVisit → Option Fault
 visits_fault visits = first_in (λ (v : ForeignVisit). stability_fault v.attributes) visits
+
+-- a path leads to a name that is no item's
+abbrev pub lost_fault : List Item → Target → Option Fault
+lost_fault is (Local id) = if is_none (item_named is id.name.now) then Some (missing_at 7 item_word id) else None
+lost_fault is (Foreign p id) = None
+
+-- a `use` at the top of a file has attributes, or else its path, by itself, leads to a name that is no item's
+abbrev pub attributed_fault : List Attribute → Span → Option Fault
+attributed_fault [] span = None
+attributed_fault (a ∷ attributes) span = Some (fault 9 span)
+
+abbrev pub top_use_fault : List Item → ToplevelUse → Option Fault
+top_use_fault is u = option_or (attributed_fault u.attributes.items u.span) (lost_fault is (leads [] u.item))
+
+abbrev pub top_fault : List Item → AstItem → Option Fault
+top_fault is (ast.Use u) = top_use_fault is u
+top_fault is (ast.Interface i) = None
+top_fault is (ast.World w) = None
+
+-- of the uses at the top of a file, and of those at the tops of files
+abbrev pub file_tops_fault : List Item → PackageFile → Option Fault
+file_tops_fault is file = first_in (top_fault is) file.decl_list.items.items
+
+abbrev pub tops_fault : List PackageFile → Option Fault
+tops_fault files = first_in (file_tops_fault (all_items files)) files

@@ -1,5 +1,5 @@
 -- What is wrong with a file by itself is wrong with the files, and what is right in each is right in one more.
-use Rattle.std.proofs.Common.{◌≡◌, ℕ, zero, suc, ◌+◌, List, [], ◌∷◌, ◌++◌, length, map, Option, Some, None, IsSome, inl, inr, refl, sym, ap, ◌∙◌, subst, lit<}
+use Rattle.std.proofs.Common.{◌≡◌, ℕ, zero, suc, ◌+◌, List, [], ◌∷◌, ◌++◌, length, map, Some, None, inl, inr, refl, sym, ap, ◌∙◌, subst, lit<}
 use Rattle.std.specs.Prelude.{slice_get}
 use Rattle.std.specs.List.{flat_map}
 use Rattle.std.specs.Option.{option_map}
@@ -7,9 +7,7 @@ use Rattle.std.specs.Str.{bytes_eq}
 use Rattle.std.proofs.lemmas.Option.{slice_get-map}
 use Rattle.std.proofs.lemmas.Grind.{flat_map-append}
 use Rattle.std.proofs.lemmas.List.{append-nil}
-use Rattle.wit_tree.specs.declared.tree.ToplevelUse.{ToplevelUse}
 use Rattle.wit_tree.specs.declared.tree.AstItem.{AstItem}
-use Rattle.wit_tree.specs.declared.tree.AstItem.TheVariants.{Use as ToplevelItem}
 use Rattle.wit_type_tree.specs.declared.leaves.Id.{Id}
 use Rattle.wit_tree.specs.declared.tree.UsePath.{UsePath}
 use Rattle.wit_tree.specs.declared.tree.PackageFile.{PackageFile}
@@ -17,14 +15,14 @@ use Rattle.wit_graph.specs.Table.{place_of}
 use Rattle.wit_syntax.specs.Source.{TopName, Target, leads, declared_items, top_names, top_text, Item, file_items, all_items, item_name, item_named}
 use Rattle.wit_syntax.specs.Scope.{local_target, item_row, needed_paths}
 use Rattle.wit_syntax.specs.Fault.{Fault}
-use Rattle.wit_syntax.specs.Broken.{IsBrokenItems, DuplicateTopName, MissingItem, IsWrongTop, AttributedUse, LostUse}
+use Rattle.wit_syntax.specs.Broken.{IsBrokenItems, DuplicateTopName, MissingItem}
 use Rattle.wit_syntax.specs.Repeats.{AllDiffer}
 use Rattle.wit_syntax.proofs.Lists.{at_front, at_back, at_either, map_at}
 use Rattle.wit_syntax.proofs.Names.{name_itself}
 use Rattle.wit_syntax.proofs.Tables.{place_of-Some, none_if}
 use Rattle.wit_syntax.proofs.Found.{contains_at, at_contains}
 use Rattle.wit_syntax.proofs.Rows.{item_row_at}
-use Rattle.wit_top_names.specs.Checks.{AreDistinctTops, AreRightUses, AreRightTops, IsRightUse, IsLostTarget, IsLostAmong, IsWrongFile, WrongTop, WrongPath, IsWrongUse, Attributed, Lost}
+use Rattle.wit_top_names.specs.Checks.{AreDistinctTops, IsLostTarget, IsLostAmong, IsWrongFile, WrongTop, WrongPath}
 use Rattle.wit_top_names.proofs.FirstNames.{find_none}
 
 -- what stands in a part stands in the whole
@@ -67,42 +65,6 @@ tops_more files file tops one = record {
     | inr new ↦ subst (λ (x : PackageFile). AllDiffer (map top_text (top_names x))) (sym new.1) one
   ];
 }
-
--- nothing is wrong at the top of no file, and of one more
-pub tops_right_none : (is : List Item) → AreRightTops is []
-tops_right_none is = record { each = λ i file at. absurd (let f : ⊥ = cc in f) }
-
-pub tops_right_more : (is : List Item) (files : List PackageFile) (file : PackageFile) → AreRightTops is files → ((f : Fault) → IsWrongTop is file.decl_list.items.items f → ⊥) → AreRightTops is (files ++ file ∷ [])
-tops_right_more is files file tops one = record {
-  each = λ i g at. elim (at_either files file i g at) [
-    | inl old ↦ tops.each i g old
-    | inr new ↦ subst (λ (x : PackageFile). (f : Fault) → IsWrongTop is x.decl_list.items.items f → ⊥) (sym new.1) one
-  ];
-}
-
--- a declaration more
-pub uses_right_more : (is : List Item) (ds : List AstItem) (d : AstItem) → AreRightUses is ds → ((u : ToplevelUse) → d ≡ ToplevelItem u → IsRightUse is u) → AreRightUses is (ds ++ d ∷ [])
-uses_right_more is ds d uses one = record {
-  each = λ k u at. elim (at_either ds d k (ToplevelItem u) at) [
-    | inl old ↦ uses.each k u old
-    | inr new ↦ one u (sym new.1)
-  ];
-}
-
--- what is wrong with a `use` at the top of a file is wrong there
-pub wrong_top : (is : List Item) (ds : List AstItem) (i : ℕ) (u : ToplevelUse) (f : Fault) → slice_get ds i ≡ Some (ToplevelItem u) → IsWrongUse is u f → IsWrongTop is ds f
-wrong_top is ds i u f at (Attributed some says) = AttributedUse u (contains_at ds i (ToplevelItem u) at) some says
-wrong_top is ds i u f at (Lost lost) = LostUse u (contains_at ds i (ToplevelItem u) at) lost.id lost.local lost.undeclared.missing lost.undeclared.is
-
--- where each `use` is right, nothing is wrong with one
-pub no_wrong_top : (is : List Item) (ds : List AstItem) (f : Fault) → AreRightUses is ds → IsWrongTop is ds f → ⊥
-no_wrong_top is ds f uses (AttributedUse u among attributed says) =
-    let k = at_contains ds (ToplevelItem u) among in
-    attributed (uses.each k.0 u k.1).plain
-no_wrong_top is ds f uses (LostUse u among id local missing says) =
-    let k = at_contains ds (ToplevelItem u) among in
-    let wrong : IsSome {T = Item} None = subst (λ (o : Option Item). IsSome o) missing ((uses.each k.0 u k.1).declared id local) in
-    cc
 
 -- a path that leads nowhere, alone
 pub lost_one : (is : List Item) (top : List TopName) (path : UsePath) (f : Fault) → IsLostTarget is (leads top path) f → IsLostAmong is top (path ∷ []) f

@@ -1,17 +1,13 @@
 -- What is right and what is wrong with the names of files, one file, one declaration or one path at a time.
 use Rattle.std.specs.List.{flat_map}
-use Rattle.std.specs.Prelude.{◌≡◌, ◌≢◌, ℕ, List, [], map, Some, None, IsSome, Contains, slice_get}
+use Rattle.std.specs.Prelude.{◌≡◌, ℕ, List, map, Some, None, Contains, slice_get}
 use Rattle.wit_type_tree.specs.declared.leaves.Id.{Id}
 use Rattle.wit_tree.specs.declared.tree.UsePath.{UsePath}
-use Rattle.wit_tree.specs.declared.tree.ToplevelUse.{ToplevelUse}
-use Rattle.wit_tree.specs.declared.tree.AstItem.{AstItem}
-use Rattle.wit_tree.specs.declared.tree.AstItem.TheVariants.{Use as ToplevelItem}
 use Rattle.wit_tree.specs.declared.tree.PackageFile.{PackageFile}
 use Rattle.wit_syntax.specs.Source.{TopName, Target, Local, leads, top_names, top_text, Item, file_items, item_named}
 use Rattle.wit_syntax.specs.Scope.{needed_paths, local_target}
 use Rattle.wit_syntax.specs.Fault.{Fault, fault, missing_at, item_word}
 use Rattle.wit_syntax.specs.Bodies.{IsSecond}
-use Rattle.wit_syntax.specs.Broken.{IsWrongTop}
 use Rattle.wit_syntax.specs.Repeats.{AllDiffer}
 
 -- an earlier one of these names at the top of a file is the same
@@ -47,25 +43,3 @@ pub data IsWrongFile (is : List Item) (file : PackageFile) (f : Fault) : Type 0 
 -- the names at the top of each file differ
 pub record AreDistinctTops (files : List PackageFile) : Type 0 where
   pub differ : (i : ℕ) (file : PackageFile) → slice_get files i ≡ Some file → AllDiffer (map top_text (top_names file))
-
--- where a path leads to a name, that is the name of one of these items
-abbrev pub IsDeclaredTarget : List Item → Target → Type 0
-IsDeclaredTarget is target = (id : Id) → target ≡ Local id → IsSome (item_named is id.name.now)
-
--- a `use` at the top of a file has no attributes, and its path, by itself, is declared where it leads to a name
-pub record IsRightUse (is : List Item) (u : ToplevelUse) : Type 0 where
-  pub plain : u.attributes.items ≡ []
-  pub declared : IsDeclaredTarget is (leads [] u.item)
-
--- it has attributes, or its path is lost
-pub data IsWrongUse (is : List Item) (u : ToplevelUse) (f : Fault) : Type 0 where
-  Attributed : u.attributes.items ≢ [] → f ≡ fault 9 u.span → IsWrongUse is u f
-  Lost : IsLostTarget is (leads [] u.item) f → IsWrongUse is u f
-
--- each `use` among these declarations is right
-pub record AreRightUses (is : List Item) (declarations : List AstItem) : Type 0 where
-  pub each : (k : ℕ) (u : ToplevelUse) → slice_get declarations k ≡ Some (ToplevelItem u) → IsRightUse is u
-
--- nothing is wrong with those of each file
-pub record AreRightTops (is : List Item) (files : List PackageFile) : Type 0 where
-  pub each : (i : ℕ) (file : PackageFile) → slice_get files i ≡ Some file → (f : Fault) → IsWrongTop is file.decl_list.items.items f → ⊥

@@ -1,13 +1,14 @@
 //! Names at the top of files, and what paths lead to.
-ghost use Rattle.std.specs.Prelude.{◌≡◌, ◌++◌, List, [], IsSome, map, IfOk, IfErr, OnOk, codes, string_bytes};
-ghost use Rattle.wit_syntax.specs.Source.{TopName as Top, Item, itself as the_itself, top_name as the_name, top_names as the_names, top_text, leads as the_leads, file_items, all_items, item_named};
+ghost use Rattle.std.specs.Prelude.{◌≡◌, ◌++◌, List, [], map, IfOk, IfErr, OnOk, codes, string_bytes};
+ghost use Rattle.wit_syntax.specs.Source.{Local as TheLocal, TopName as Top, Item, itself as the_itself, top_name as the_name, top_names as the_names, top_text, leads as the_leads, file_items, all_items};
 ghost use Rattle.wit_syntax.specs.Scope.{local_target};
-ghost use Rattle.wit_syntax.specs.Broken.{IsWrongTop, Refused};
+ghost use Rattle.wit_syntax.specs.Broken.{Refused};
 ghost use Rattle.wit_syntax.specs.Fault.{fault};
+ghost use Rattle.wit_first.specs.Files.{file_tops_fault, lost_fault, top_use_fault};
 ghost use Rattle.wit_first.specs.First.{Finds, first_repeat};
 ghost use Rattle.wit_first.specs.Names.{item_names_fault, top_names_fault};
 ghost use Rattle.wit_top_names.specs.Tops.{target_behind, top_behind, item_top, AreNamed, AreDeclared};
-ghost use Rattle.wit_top_names.specs.Checks.{AreRightUses, IsDeclaredTarget, IsRightUse, IsUndeclared, IsLostTarget, IsWrongUse};
+ghost use Rattle.wit_top_names.specs.Checks.{IsLostTarget};
 
 use crate::declaration::declarations;
 use std::alloc::{AllocError, Global};
@@ -181,8 +182,7 @@ pub fn item_names<'f, 'a>(
 
 /// Refuses a name that is no declared item's.
 fn check_declared<V>(alloc: Global, declared: &Table<&str, V>, id: Id<'_>) -> ParseResult<()>
-    ensures declared { OnOk result ((is : List Item) → AreDeclared is declared.now → IsSome (item_named is id.entry.name.now)) }
-    ensures refused { IfErr result (λ e. (is : List Item) → AreDeclared is declared.now → Refused (IsUndeclared is id.entry) e) }
+    ensures { (is : List Item) → AreDeclared is declared.now → Finds (lost_fault is (TheLocal id.entry)) result }
 {
     if declared.get_by(id.name).is_none() {
         return Err(refuse_missing(alloc, 7, "interface or world", id));
@@ -245,8 +245,7 @@ fn check_original<V>(
     declared: &Table<&str, V>,
     path: &UsePath<'_>,
 ) -> ParseResult<()>
-    ensures declared { OnOk result ((is : List Item) → AreDeclared is declared.now → IsDeclaredTarget is (the_leads [] path.now)) }
-    ensures refused { IfErr result (λ e. (is : List Item) → AreDeclared is declared.now → Refused (IsLostTarget is (the_leads [] path.now)) e) }
+    ensures { (is : List Item) → AreDeclared is declared.now → Finds (lost_fault is (the_leads [] path.now)) result }
 {
     match path {
         UsePath::Id(id) => check_declared(alloc, declared, *id)?,
@@ -262,8 +261,7 @@ fn check_top_use<V>(
     declared: &Table<&str, V>,
     used: &ToplevelUse<'_>,
 ) -> ParseResult<()>
-    ensures right { OnOk result ((is : List Item) → AreDeclared is declared.now → IsRightUse is used.now) }
-    ensures refused { IfErr result (λ e. (is : List Item) → AreDeclared is declared.now → Refused (IsWrongUse is used.now) e) }
+    ensures { (is : List Item) → AreDeclared is declared.now → Finds (top_use_fault is used.now) result }
 {
     if !used.attributes.is_empty() {
         let words = "attributes not allowed on top-level use";
@@ -280,8 +278,7 @@ pub fn check_top_uses<V>(
     file: &PackageFile<'_>,
     declared: &Table<&str, V>,
 ) -> ParseResult<()>
-    ensures right { OnOk result ((is : List Item) → AreDeclared is declared.now → AreRightUses is file.now.decl_list.items.items) }
-    ensures refused { IfErr result (λ e. (is : List Item) → AreDeclared is declared.now → Refused (IsWrongTop is file.now.decl_list.items.items) e) }
+    ensures { (is : List Item) → AreDeclared is declared.now → Finds (file_tops_fault is file.now) result }
 {
     let items = declarations(file);
     for item in items {

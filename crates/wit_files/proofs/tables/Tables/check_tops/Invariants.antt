@@ -1,7 +1,8 @@
-use Rattle.std.proofs.Common.{take}
+use Rattle.std.proofs.Common.{◌≡◌, None, take}
 use Rattle.wit_syntax.specs.Source.{all_items}
-use Rattle.wit_top_names.specs.Checks.{AreRightTops}
+use Rattle.wit_first.specs.Files.{file_tops_fault}
+use Rattle.wit_first.specs.First.{first_in}
 use Rattle.wit_files.proofs.tables.Tables.check_tops.Given as goal
 
 abbrev pub invariant-loop-file : goal.invariant-loop-file
-invariant-loop-file l = AreRightTops (all_items l.files) (take l.file-index l.files)
+invariant-loop-file l = first_in (file_tops_fault (all_items l.files)) (take l.file-index l.files) ≡ None

@@ -1,0 +1,18 @@
+use Rattle.std.proofs.Common.{rules, ◌≡◌, List, [], ◌∷◌, Option, Some, inl, inr, refl, sym, ap, ◌∙◌}
+use Rattle.std.specs.Option.{option_or}
+use Rattle.wit_values.specs.declared.span.Span.{Span}
+use Rattle.wit_type_tree.specs.declared.leaves.Attribute.{Attribute}
+use Rattle.wit_syntax.specs.Fault.{Fault, fault}
+use Rattle.wit_syntax.specs.Source.{leads}
+use Rattle.wit_first.specs.Files.{attributed_fault, lost_fault}
+use Rattle.wit_top_names.proofs.top_name.check_top_use.Goals as goal
+
+some_attributed : (xs : List Attribute) (span : Span) (o : Option Fault) → (xs ≡ [] → ⊥) → option_or (attributed_fault xs span) o ≡ Some (fault 9 span)
+some_attributed [] span o some = absurd (some refl)
+some_attributed (a ∷ xs) span o some = refl
+
+pub returns-then-not-is_empty : goal.returns-then-not-is_empty
+returns-then-not-is_empty g c = λ is named. elim c.refuse.ensures [
+  | inl want ↦ inl want
+  | inr told ↦ inr (some_attributed c.args.used.now.attributes.items c.args.used.now.span (lost_fault is (leads [] c.args.used.now.item)) (λ none. (let wrong : ⊥ = search rules in wrong)) ∙ ap Some (sym told))
+]
