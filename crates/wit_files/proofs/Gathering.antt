@@ -4,7 +4,7 @@ use Rattle.std.specs.Prelude.{slice_get, position}
 use Rattle.std.specs.List.{flat_map}
 use Rattle.std.specs.Option.{option_map}
 use Rattle.std.specs.Str.{bytes_eq}
-use Rattle.std.proofs.lemmas.List.{map-append}
+use Rattle.std.proofs.lemmas.List.{append-nil, map-append}
 use Rattle.std.proofs.lemmas.Option.{slice_get-map, slice_get_within, slice_get_cases}
 use Rattle.indexmap.specs.IndexMap.{insert_entry}
 use Rattle.wit_type_tree.specs.declared.leaves.Id.{Id}
@@ -13,7 +13,7 @@ use Rattle.wit_tree.specs.declared.tree.PackageFile.{PackageFile}
 use Rattle.wit_graph.specs.Table.{Row, entry_row, rows, place_of, target, IsOrder}
 use Rattle.wit_graph.proofs.Rows.{key_eq, rows-insert}
 use Rattle.wit_graph.proofs.Tables.{place_by_key}
-use Rattle.wit_syntax.specs.Source.{TopName, top_names, top_text, declared_items, Item, file_items, all_items, item_name}
+use Rattle.wit_syntax.specs.Source.{TopName, top_names, declared_items, Item, file_items, all_items, item_name}
 use Rattle.wit_syntax.specs.Scope.{item_row, item_rows}
 use Rattle.wit_syntax.specs.Fault.{Fault, missing_at, item_word}
 use Rattle.wit_syntax.specs.Broken.{IsMissingEdge, IsCyclicEdge, IsBrokenItems, DuplicateItem, DuplicateTopName, MissingItem, CyclicItem, IsBrokenNames, Items, ForeignStability, TopUse}
@@ -21,14 +21,15 @@ use Rattle.wit_syntax.specs.Foreign.{foreign_visits}
 use Rattle.wit_syntax.specs.Repeats.{AllDiffer}
 use Rattle.wit_syntax.proofs.Lists.{at_front, at_back, at_either, map_map}
 use Rattle.wit_syntax.proofs.Orders.{take_next}
-use Rattle.wit_syntax.proofs.Repeated.{no_repeat}
 use Rattle.wit_syntax.proofs.Tables.{place_of-Some, none_if}
 use Rattle.wit_syntax.proofs.Found.{at_contains}
 use Rattle.wit_syntax.proofs.Legal.{no_missing_edge, no_cyclic_edge}
-use Rattle.wit_first.specs.Files.{tops_fault, visits_fault}
+use Rattle.wit_first.specs.Files.{file_fault, files_fault, paths_fault, tops_fault, visits_fault}
+use Rattle.wit_first.specs.First.{first_in}
+use Rattle.wit_first.specs.Names.{item_names_fault, top_names_fault}
+use Rattle.wit_first.proofs.Bridge.{in_only, item_names_agree, or_none_both, top_names_agree}
 use Rattle.wit_first.proofs.Files.{tops_agree, visits_agree}
 use Rattle.wit_top_names.specs.Tops.{Named, AreNamed, AreDeclared}
-use Rattle.wit_top_names.specs.Checks.{AreDistinctTops}
 use Rattle.wit_files.specs.FileNames.{AreTopsOf, AreTablesOf, AddsTop, names_at_top, top_at}
 use Rattle.wit_files.specs.declared.tables.Tables.{Tables}
 use Rattle.wit_top_names.proofs.FirstNames.{rows_items}
@@ -94,6 +95,12 @@ item_added top old ds i d w es new k v at one differ same inserted name needs =
     let split : items ds ≡ before ++ (w ∷ rest.0) = rest.1 ∙ ap (λ l. before ++ (l ++ rest.0)) one in
     row_added old before (items (take (i + 1) ds)) w es new k v same more (fresh_item old before rest.0 (items ds) w split differ) inserted name needs
 
+-- and a declaration that makes no item adds none
+pub item_skipped : (top : List TopName) (ds : List AstItem) (i : ℕ) (d : AstItem) → slice_get ds i ≡ Some d → declared_items top d ≡ [] → flat_map (declared_items top) (take (i + 1) ds) ≡ flat_map (declared_items top) (take i ds)
+item_skipped top ds i d at none =
+    let before = flat_map (declared_items top) (take i ds) in
+    flat_more (declared_items top) (take i ds) (take (i + 1) ds) d (take_next ds i d at) ∙ ap (λ l. before ++ l) none ∙ append-nil before
+
 -- so the names of the items of a file differ from those of the files before it
 pub fresh_file : (rs : List Row) (files : List PackageFile) (i : ℕ) (file : PackageFile) → rs ≡ item_rows (take i files) → AllDiffer (map item_name (all_items files)) → slice_get files i ≡ Some file → AllDiffer (row_names rs ++ map item_name (file_items file))
 fresh_file rs files i file same differ at =
@@ -130,14 +137,15 @@ pub broken_order : (files : List PackageFile) (rs : List Row) → rs ≡ item_ro
 broken_order files rs same f (inl h) = MissingItem (subst (λ (l : List Row). IsMissingEdge (missing_at 7 item_word) l f) same h)
 broken_order files rs same f (inr h) = CyclicItem (subst (λ (l : List Row). IsCyclicEdge 8 item_word l f) same h)
 
--- where names differ and the items have an order, no rule about items is broken
-pub legal_items : (files : List PackageFile) (places : List ℕ) → AllDiffer (map item_name (all_items files)) → AreDistinctTops files → IsOrder (item_rows files) places → (f : Fault) → IsBrokenItems files f → ⊥
-legal_items files places differ tops order f (DuplicateItem h) = no_repeat item_name (all_items files) h.0 differ h.1
-legal_items files places differ tops order f (DuplicateTopName file among h) =
+-- where no name repeats, no path is lost and the items have an order, no rule about items is broken
+pub legal_items : (files : List PackageFile) (places : List ℕ) → item_names_fault files ≡ None → files_fault files ≡ None → IsOrder (item_rows files) places → (f : Fault) → IsBrokenItems files f → ⊥
+legal_items files places items each order f (DuplicateItem h) = (item_names_agree files).unbroken items f h
+legal_items files places items each order f (DuplicateTopName file among h) =
     let p = at_contains files file among in
-    no_repeat top_text (top_names file) h.0 (tops.differ p.0 file p.1) h.1
-legal_items files places differ tops order f (MissingItem h) = no_missing_edge (missing_at 7 item_word) (item_rows files) places f order h
-legal_items files places differ tops order f (CyclicItem h) = no_cyclic_edge 8 item_word (item_rows files) places f order h
+    let own = in_only (file_fault (all_items files)) files each p.0 file p.1 in
+    (top_names_agree file).unbroken (or_none_both (top_names_fault file) (first_in (paths_fault (all_items files)) (file_items file)) own).0 f h
+legal_items files places items each order f (MissingItem h) = no_missing_edge (missing_at 7 item_word) (item_rows files) places f order h
+legal_items files places items each order f (CyclicItem h) = no_cyclic_edge 8 item_word (item_rows files) places f order h
 
 -- the table of the items of files finds them
 pub names_declared : (files : List PackageFile) (names : Tables) → AreTablesOf files names → AreDeclared (all_items files) names.items

@@ -8,7 +8,9 @@ ghost use Rattle.wit_syntax.specs.Fault.{missing_at, item_word};
 ghost use Rattle.wit_syntax.specs.Broken.{IsMissingEdge, IsCyclicEdge, Refused};
 ghost use Rattle.wit_syntax.specs.Repeats.{AllDiffer};
 ghost use Rattle.wit_top_names.specs.Tops.{AreNamed, AreDeclared};
-ghost use Rattle.wit_top_names.specs.Checks.{edges_of, IsLostAmong, IsWrongFile};
+ghost use Rattle.wit_first.specs.Files.{paths_fault, unnamed_fault};
+ghost use Rattle.wit_first.specs.First.{Finds, first_in};
+ghost use Rattle.wit_top_names.specs.Checks.{edges_of};
 
 use crate::order_refusal::refuse_item_order;
 use std::alloc::{AllocError, Global};
@@ -27,7 +29,7 @@ fn add_use<'a>(
     part: &InterfaceItem<'a>,
 ) -> ParseResult<()>
     ensures edges { OnOk result ((top : List Top) → AreNamed top paths.entry.top.now → edges.new.items ≡ edges.old.items ++ edges_of top (use_path (interface_part part.now))) }
-    ensures refused { IfErr result (λ e. (top : List Top) (is : List Item) → AreNamed top paths.entry.top.now → AreDeclared is paths.entry.declared.now → Refused (IsLostAmong is top (use_path (interface_part part.now))) e) }
+    ensures first { (top : List Top) (is : List Item) → AreNamed top paths.entry.top.now → AreDeclared is paths.entry.declared.now → Finds (first_in (unnamed_fault is top) (use_path (interface_part part.now))) result }
 {
     match part {
         InterfaceItem::TypeDef(_) | InterfaceItem::Func(_) => {}
@@ -45,7 +47,7 @@ fn interface_edges<'a>(
     interface: &Interface<'a>,
 ) -> ParseResult<Vec<Id<'a>>>
     ensures edges { IfOk result (λ edges. (top : List Top) → AreNamed top paths.entry.top.now → edges.items ≡ edges_of top (flat_map use_path (map interface_part interface.now.items.items))) }
-    ensures refused { IfErr result (λ e. (top : List Top) (is : List Item) → AreNamed top paths.entry.top.now → AreDeclared is paths.entry.declared.now → Refused (IsLostAmong is top (flat_map use_path (map interface_part interface.now.items.items))) e) }
+    ensures first { (top : List Top) (is : List Item) → AreNamed top paths.entry.top.now → AreDeclared is paths.entry.declared.now → Finds (first_in (unnamed_fault is top) (flat_map use_path (map interface_part interface.now.items.items))) result }
 {
     let mut edges = Vec::new(alloc);
     for part in interface_items(interface) {
@@ -62,7 +64,7 @@ fn add_include<'a>(
     part: &WorldItem<'a>,
 ) -> ParseResult<()>
     ensures edges { OnOk result ((top : List Top) → AreNamed top paths.entry.top.now → edges.new.items ≡ edges.old.items ++ edges_of top (include_path (world_part part.now))) }
-    ensures refused { IfErr result (λ e. (top : List Top) (is : List Item) → AreNamed top paths.entry.top.now → AreDeclared is paths.entry.declared.now → Refused (IsLostAmong is top (include_path (world_part part.now))) e) }
+    ensures first { (top : List Top) (is : List Item) → AreNamed top paths.entry.top.now → AreDeclared is paths.entry.declared.now → Finds (first_in (unnamed_fault is top) (include_path (world_part part.now))) result }
 {
     match part {
         WorldItem::TypeDef(_) | WorldItem::Use(_) | WorldItem::Extern(_) => {}
@@ -80,7 +82,7 @@ fn world_edges<'a>(
     paths: Paths<'_, '_, 'a>,
 ) -> ParseResult<Vec<Id<'a>>>
     ensures edges { IfOk result (λ edges. (top : List Top) → AreNamed top paths.entry.top.now → edges.items ≡ edges_of top (flat_map include_path (map world_part world.now.items.items))) }
-    ensures refused { IfErr result (λ e. (top : List Top) (is : List Item) → AreNamed top paths.entry.top.now → AreDeclared is paths.entry.declared.now → Refused (IsLostAmong is top (flat_map include_path (map world_part world.now.items.items))) e) }
+    ensures first { (top : List Top) (is : List Item) → AreNamed top paths.entry.top.now → AreDeclared is paths.entry.declared.now → Finds (first_in (unnamed_fault is top) (flat_map include_path (map world_part world.now.items.items))) result }
 {
     let mut edges = Vec::new(alloc);
     for part in world_items(world) {
@@ -100,7 +102,7 @@ pub(crate) fn add_items<'a>(
     requires named { AreNamed (top_names file.now) paths.top.now }
     requires distinct { AllDiffer (map (λ row. row.name) (rows table.old) ++ map item_name (file_items file.now)) }
     ensures rows { OnOk result (rows table.new ≡ rows table.old ++ map item_row (file_items file.now)) }
-    ensures refused { IfErr result (λ e. (is : List Item) → AreDeclared is paths.entry.declared.now → Refused (IsWrongFile is file.now) e) }
+    ensures first { (is : List Item) → AreDeclared is paths.entry.declared.now → Finds (first_in (paths_fault is) (file_items file.now)) result }
 {
     let items = declarations(file);
     for item in items {

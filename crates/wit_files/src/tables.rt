@@ -2,16 +2,15 @@
 ghost use Rattle.std.specs.Prelude.{◌≡◌, ◌++◌, [], List, map, None, IfOk, IfErr, OnOk};
 ghost use Rattle.wit_tree.specs.declared.tree.PackageFile.{PackageFile as TheFile};
 ghost use Rattle.wit_graph.specs.Table.{rows, IsOrder};
-ghost use Rattle.wit_syntax.specs.Source.{Item as TheItem, top_names, top_text, file_items, all_items, item_name, is_world as is_the_world};
+ghost use Rattle.wit_syntax.specs.Source.{Item as TheItem, file_items, all_items, item_name, is_world as is_the_world};
 ghost use Rattle.wit_syntax.specs.Scope.{item_row, item_rows};
 ghost use Rattle.wit_syntax.specs.Fault.{Fault};
 ghost use Rattle.wit_syntax.specs.Broken.{IsBrokenItems, IsBrokenNames, Refused};
 ghost use Rattle.wit_syntax.specs.Repeats.{AllDiffer};
 ghost use Rattle.wit_syntax.specs.Foreign.{foreign_visits as the_visits};
-ghost use Rattle.wit_first.specs.Files.{file_tops_fault, tops_fault, visits_fault};
+ghost use Rattle.wit_first.specs.Files.{file_fault, file_tops_fault, files_fault, tops_fault, visits_fault};
 ghost use Rattle.wit_first.specs.First.{Finds};
 ghost use Rattle.wit_top_names.specs.Tops.{AreDeclared};
-ghost use Rattle.wit_top_names.specs.Checks.{AreDistinctTops, IsWrongFile};
 ghost use Rattle.wit_files.specs.Foreign.{foreign_behind, AreItemsOf};
 ghost use Rattle.wit_files.specs.FileNames.{AddsTop, AreTablesOf, AreDeclarationsOf};
 
@@ -75,10 +74,9 @@ impl<'f, 'a> Tables<'f, 'a> {
         ensures items { OnOk result (rows names.new.items ≡ rows names.old.items ++ map item_row (file_items file.now)) }
         ensures kinds { OnOk result (names.new.kinds.items ≡ names.old.kinds.items ++ map is_the_world (file_items file.now)) }
         ensures tops { OnOk result (AddsTop file.now names.old.tops.items names.new.tops.items) }
-        ensures distinct { OnOk result (AllDiffer (map top_text (top_names file.now))) }
         ensures visits { OnOk result (names.new.visits ≡ names.old.visits) }
         ensures foreign { OnOk result (names.new.foreign ≡ names.old.foreign) }
-        ensures refused { IfErr result (λ e. (is : List TheItem) → AreDeclared is declared.now → Refused (IsWrongFile is file.now) e) }
+        ensures first { (is : List TheItem) → AreDeclared is declared.now → Finds (file_fault is file.now) result }
     {
         add_kinds(file, &mut names.kinds)?;
         let top = file_names(alloc, file)?;
@@ -104,10 +102,9 @@ impl<'f, 'a> Tables<'f, 'a> {
         requires declared { AreDeclared (all_items files.now) declared.now }
         requires distinct { AllDiffer (map item_name (all_items files.now)) }
         ensures names { OnOk result (AreDeclarationsOf files.now names.new) }
-        ensures distinct { OnOk result (AreDistinctTops files.now) }
         ensures visits { OnOk result (names.new.visits ≡ names.old.visits) }
         ensures foreign { OnOk result (names.new.foreign ≡ names.old.foreign) }
-        ensures refused { IfErr result (Refused (IsBrokenItems files.now)) }
+        ensures first { Finds (files_fault files.now) result }
     {
         for file in files {
             Tables::add_file(alloc, file, declared, names)?;

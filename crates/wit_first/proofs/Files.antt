@@ -1,9 +1,13 @@
 -- The first fault of the names of files is a broken rule; and where there is none, no rule about them is broken.
 use Rattle.std.proofs.Common.{◌≡◌, ◌≢◌, ℕ, List, [], ◌∷◌, Option, Some, None, inl, inr, refl, ap, ◌∙◌}
-use Rattle.std.specs.Prelude.{slice_get, Contains}
+use Rattle.std.specs.Prelude.{slice_get, find, Contains}
+use Rattle.std.specs.Option.{option_map_or}
+use Rattle.std.specs.Str.{bytes_eq}
 use Rattle.wit_values.specs.declared.span.Span.{Span}
 use Rattle.wit_type_tree.specs.declared.leaves.Attribute.{Attribute}
 use Rattle.wit_type_tree.specs.declared.leaves.Id.{Id}
+use Rattle.wit_tree.specs.declared.tree.UsePath.{UsePath}
+use Rattle.wit_tree.specs.declared.tree.UsePath.TheVariants as path
 use Rattle.wit_tree.specs.declared.tree.AstItem.{AstItem}
 use Rattle.wit_tree.specs.declared.tree.AstItem.TheVariants as ast
 use Rattle.wit_tree.specs.declared.tree.PackageFile.{PackageFile}
@@ -11,11 +15,11 @@ use Rattle.wit_syntax.specs.Broken.{IsWrongTop, AttributedUse, LostUse}
 use Rattle.wit_syntax.specs.Fault.{Fault, fault, missing_at, item_word}
 use Rattle.wit_syntax.specs.Foreign.{ForeignVisit}
 use Rattle.wit_syntax.specs.Notes.{IsBrokenStability}
-use Rattle.wit_syntax.specs.Source.{Target, Local, Foreign, leads, Item, all_items, item_named}
+use Rattle.wit_syntax.specs.Source.{TopName, top_text, Target, Local, Foreign, leads, Item, all_items, item_named}
 use Rattle.wit_syntax.proofs.Found.{at_contains, contains_at}
 use Rattle.wit_first.specs.Attributes.{stability_fault}
 use Rattle.wit_first.specs.First.{first_in}
-use Rattle.wit_first.specs.Files.{visits_fault, lost_fault, attributed_fault, top_fault, file_tops_fault, tops_fault}
+use Rattle.wit_first.specs.Files.{visits_fault, lost_fault, unless_named, unnamed_fault, attributed_fault, top_fault, file_tops_fault, tops_fault}
 use Rattle.wit_first.specs.Laws.{Agrees}
 use Rattle.wit_first.proofs.Bridge.{in_agrees, in_only, in_some, or_none_both, or_some, stability_agrees}
 
@@ -51,6 +55,15 @@ lost_unbroken all (Foreign p id) none f lost =
 
 pub lost_agrees : (all : List Item) (to : Target) → Agrees (lost_fault all to) (IsLost all to)
 lost_agrees all to = record { broken = lost_broken all to; unbroken = lost_unbroken all to }
+
+-- at a path that is no name at the top of its file
+unnamed_by : (all : List Item) (id : Id) (f : Fault) (o : Option TopName) → unless_named o (lost_fault all (Local id)) ≡ Some f → IsLost all (option_map_or (λ (t : TopName). t.target) o (Local id)) f
+unnamed_by all id f None h = lost_broken all (Local id) f h
+unnamed_by all id f (Some t) h = absurd (let g : ⊥ = cc in g)
+
+pub unnamed_broken : (all : List Item) (top : List TopName) (from : UsePath) (f : Fault) → unnamed_fault all top from ≡ Some f → IsLost all (leads top from) f
+unnamed_broken all top (path.Id id) f h = unnamed_by all id f (find (λ t. bytes_eq (top_text t) id.name.now) top) h
+unnamed_broken all top (path.Package p id) f h = absurd (let g : ⊥ = cc in g)
 
 -- at a `use` at the top of a file
 attributed_broken : (xs : List Attribute) (span : Span) (f : Fault) → attributed_fault xs span ≡ Some f → (xs ≢ []) × (f ≡ fault 9 span)

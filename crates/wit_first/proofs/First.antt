@@ -85,6 +85,9 @@ pub in-flat : {X Y : Type 0} (w : Y → Option Fault) (f : X → List Y) (xs : L
 in-flat w f [] = refl
 in-flat w f (x ∷ xs) = in-append w (f x) (flat_map f xs) ∙ ap (option_or (first_in w (f x))) (in-flat w f xs)
 
+pub in-parts : {X Y Z : Type 0} (w : Z → Option Fault) (g : Y → List Z) (f : X → Y) (xs : List X) → first_in w (flat_map g (map f xs)) ≡ first_in (λ (x : X). first_in w (g (f x))) xs
+in-parts w g f xs = in-flat w g (map f xs) ∙ in-map (λ y. first_in w (g y)) f xs
+
 -- a test that one item passes, or none of them
 pub any_some : {X : Type 0} (p : X → Bool) (xs : List X) (i : ℕ) (x : X) → slice_get xs i ≡ Some x → p x ≡ true → list_any p xs ≡ true
 any_some p [] i x at passed = absurd (let f : ⊥ = cc in f)
@@ -145,3 +148,13 @@ repeat-map key as_fault f xs = after-map key as_fault f [] xs
 -- an error reports the first fault, however that is written
 pub reports_same : {first other : Option Fault} {e : ParseError} → first ≡ other → Reports first e → Reports other e
 reports_same same report = elim report [ inl memory ↦ inl memory | inr is ↦ inr (sym same ∙ is) ]
+
+-- an error that reports the first of two faults, or the second where there is no first
+pub reports_front : {first : Option Fault} {e : ParseError} (second : Option Fault) → Reports first e → Reports (option_or first second) e
+reports_front second report = elim report [ inl memory ↦ inl memory | inr is ↦ inr (ap (λ (o : Option Fault). option_or o second) is) ]
+
+pub reports_back : {first second : Option Fault} {e : ParseError} → first ≡ None → Reports second e → Reports (option_or first second) e
+reports_back {first} {second} none report = reports_same (sym (ap (λ (o : Option Fault). option_or o second) none)) report
+
+pub none_both : {first second : Option Fault} → first ≡ None → second ≡ None → option_or first second ≡ None
+none_both {first} {second} none both = ap (λ (o : Option Fault). option_or o second) none ∙ both

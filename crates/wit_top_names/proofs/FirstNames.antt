@@ -22,6 +22,7 @@ use Rattle.wit_syntax.proofs.Found.{find_passes, find_at}
 use Rattle.wit_graph.specs.Table.{Row, entry_row}
 use Rattle.wit_syntax.specs.Scope.{item_row}
 use Rattle.wit_top_names.specs.declared.top_name.Target.{Target as Held}
+use Rattle.wit_first.specs.Files.{lost_fault, unless_named, unnamed_fault}
 use Rattle.wit_top_names.specs.Tops.{target_behind, item_top, Named}
 
 abbrev pub found : List ℕ → Named → Option Held
@@ -147,6 +148,17 @@ leads_none top es id finds none = go (find (λ (each : TopName). bytes_eq (top_t
     go : (o : Option TopName) → option_map (λ (t : TopName). t.target) o ≡ None → Local id ≡ option_map_or (λ (t : TopName). t.target) o (Local id)
     go None h = refl
     go (Some t) h = absurd (none-some (t.target) (sym h))
+
+-- a path that is a name is looked at later where it is found, and else where it says
+pub named_later : (is : List Item) (top : List TopName) (es : Named) (id : Id) (v : Held) → Finds top es → found id.name.now es ≡ Some v → unnamed_fault is top (path.Id id) ≡ None
+named_later is top es id v finds some =
+    let t = unmapped_some (λ (t : TopName). t.target) (find (λ (each : TopName). bytes_eq (top_text each) id.name.now) top) (target_behind v) (sym (finds id.name.now) ∙ ap (option_map target_behind) some) in
+    ap (λ (o : Option TopName). unless_named o (lost_fault is (Local id))) t.1
+
+pub named_nowhere : (is : List Item) (top : List TopName) (es : Named) (id : Id) → Finds top es → found id.name.now es ≡ None → unnamed_fault is top (path.Id id) ≡ lost_fault is (Local id)
+named_nowhere is top es id finds none =
+    let missing = unmapped_none (λ (t : TopName). t.target) (find (λ (each : TopName). bytes_eq (top_text each) id.name.now) top) (sym (finds id.name.now) ∙ ap (option_map target_behind) none) in
+    ap (λ (o : Option TopName). unless_named o (lost_fault is (Local id))) missing
 
 mapped_some : {X Y : Type 0} (f : X → Y) (o : Option X) → is_some (option_map f o) ≡ is_some o
 mapped_some f None = refl

@@ -1,14 +1,12 @@
 //! Names at the top of files, and what paths lead to.
-ghost use Rattle.std.specs.Prelude.{◌≡◌, ◌++◌, List, [], map, IfOk, IfErr, OnOk, codes, string_bytes};
+ghost use Rattle.std.specs.Prelude.{◌≡◌, ◌++◌, List, [], map, IfOk, OnOk, codes, string_bytes};
 ghost use Rattle.wit_syntax.specs.Source.{Local as TheLocal, TopName as Top, Item, itself as the_itself, top_name as the_name, top_names as the_names, top_text, leads as the_leads, file_items, all_items};
 ghost use Rattle.wit_syntax.specs.Scope.{local_target};
-ghost use Rattle.wit_syntax.specs.Broken.{Refused};
 ghost use Rattle.wit_syntax.specs.Fault.{fault};
-ghost use Rattle.wit_first.specs.Files.{file_tops_fault, lost_fault, top_use_fault};
+ghost use Rattle.wit_first.specs.Files.{file_tops_fault, lost_fault, top_use_fault, unnamed_fault};
 ghost use Rattle.wit_first.specs.First.{Finds, first_repeat};
 ghost use Rattle.wit_first.specs.Names.{item_names_fault, top_names_fault};
 ghost use Rattle.wit_top_names.specs.Tops.{target_behind, top_behind, item_top, AreNamed, AreDeclared};
-ghost use Rattle.wit_top_names.specs.Checks.{IsLostTarget};
 
 use crate::declaration::declarations;
 use std::alloc::{AllocError, Global};
@@ -224,7 +222,7 @@ pub fn add_edge<'a>(
     path: &UsePath<'a>,
 ) -> ParseResult<()>
     ensures edges { OnOk result ((top : List Top) → AreNamed top paths.entry.top.now → edges.new.items ≡ edges.old.items ++ local_target (the_leads top path.now)) }
-    ensures refused { IfErr result (λ e. (top : List Top) (is : List Item) → AreNamed top paths.entry.top.now → AreDeclared is paths.entry.declared.now → Refused (IsLostTarget is (the_leads top path.now)) e) }
+    ensures first { (top : List Top) (is : List Item) → AreNamed top paths.entry.top.now → AreDeclared is paths.entry.declared.now → Finds (unnamed_fault is top path.now) result }
 {
     match path {
         UsePath::Id(id) => match paths.top.get_by(id.name) {

@@ -1,22 +1,50 @@
-use Rattle.std.proofs.Common.{◌≡◌, Some, map, sym, ap, ◌∙◌}
-use Rattle.std.specs.Prelude.{slice_get, List}
+use Rattle.std.proofs.Common.{◌≡◌, List, ◌++◌, Option, Some, map, sym, ap, ◌∙◌}
+use Rattle.std.specs.Prelude.{slice_get}
 use Rattle.std.specs.List.{flat_map}
 use Rattle.std.proofs.lemmas.Option.{slice_get-get_or}
 use Rattle.std.proofs.lemmas.Result.{err_from_is_err_and}
+use Rattle.wit_type_tree.specs.declared.leaves.Id.{Id}
 use Rattle.wit_tree.specs.declared.tree.InterfaceItem.{InterfaceItem}
-use Rattle.wit_syntax.specs.Source.{interface_part}
+use Rattle.wit_syntax.specs.Fault.{Fault}
+use Rattle.wit_syntax.specs.Source.{TopName, Item, interface_part}
 use Rattle.wit_syntax.specs.Scope.{use_path}
-use Rattle.wit_syntax.proofs.Refusing.{refused_weaker}
-use Rattle.wit_top_names.specs.Checks.{IsLostAmong}
-use Rattle.wit_top_names.proofs.Lost.{lost_part}
+use Rattle.wit_first.specs.Files.{unnamed_fault}
+use Rattle.wit_first.specs.First.{first_in}
+use Rattle.wit_first.proofs.First.{in-all, in-next, in-parts, reports-in, reports_same}
+use Rattle.wit_top_names.specs.Checks.{edges_of}
+use Rattle.wit_top_names.proofs.Lost.{edges_more}
 use Rattle.wit_files.proofs.item_table.interface_edges.Goals as goal
 
-pub returns-in_err-add_use-clause-refused : goal.returns-in_err-add_use-clause-refused
-returns-in_err-add_use-clause-refused c =
+-- of the paths of a part
+abbrev wrong : List Item → List TopName → InterfaceItem → Option Fault
+wrong is top p = first_in (unnamed_fault is top) (use_path (interface_part p))
+
+-- of those of parts that are read
+whole : (is : List Item) (top : List TopName) (xs parts : List InterfaceItem) → xs ≡ parts → first_in (wrong is top) xs ≡ first_in (unnamed_fault is top) (flat_map use_path (map interface_part parts))
+whole is top xs parts same = ap (first_in (wrong is top)) same ∙ sym (in-parts (unnamed_fault is top) use_path interface_part parts)
+
+pub returns-in_err-add_use-clause-first : goal.returns-in_err-add_use-clause-first
+returns-in_err-add_use-clause-first c =
     let p = err_from_is_err_and c.from_residual.result c.from_residual.ensures.1 in
-    let parts = c.args.interface.now.items.items in
     let xs = c.interface_items-part-items.result.now in
     let i = c.loop-part.part-index in
     let x = c.part-item.result in
-    let at : slice_get parts i ≡ Some x = ap (λ (l : List InterfaceItem). slice_get l i) (sym c.interface_items-part-items.ensures) ∙ slice_get-get_or xs i x c.loop-part-test.true ∙ ap Some (sym c.part-item.is) in
-    rw (p.1, p.2) (λ top is named all. refused_weaker (IsLostAmong is top (use_path (interface_part x))) (IsLostAmong is top (flat_map use_path (map interface_part parts))) _ (λ f h. lost_part use_path interface_part is top parts i x f at h) (c.in_err-add_use.ensures.refused top is named all))
+    let at : slice_get xs i ≡ Some x = slice_get-get_or xs i x c.loop-part-test.true ∙ ap Some (sym c.part-item.is) in
+    rw (p.1, p.2) (λ top is named all. reports_same (whole is top xs c.args.interface.now.items.items c.interface_items-part-items.ensures) (reports-in (wrong is top) xs i x _ at (c.loop-part.invariant.none top is named all) (c.in_err-add_use.ensures.first top is named all)))
+
+pub loop-part-preserved : goal.loop-part-preserved
+loop-part-preserved c =
+    let xs = c.interface_items-part-items.result.now in
+    let i = c.loop-part.part-index in
+    let x = c.part-item.result in
+    let was = c.loop-part.invariant in
+    let own = c.in_ok-add_use.ensures in
+    record {
+      edges = λ top named. own.edges top named ∙ ap (λ (l : List Id). l ++ edges_of top (use_path (interface_part x))) (was.edges top named) ∙ sym (edges_more use_path interface_part top xs i x c.loop-part-test.true c.part-item.is);
+      none = λ top is named all. in-next (wrong is top) xs i x c.loop-part-test.true c.part-item.is (was.none top is named all) (own.first top is named all);
+    }
+
+pub returns-clause-first : goal.returns-clause-first
+returns-clause-first c = λ top is named all. (
+    let xs = c.interface_items-part-items.result.now in
+    sym (whole is top xs c.args.interface.now.items.items c.interface_items-part-items.ensures) ∙ in-all (wrong is top) xs c.loop-part.part-index c.loop-part-test.false (c.loop-part.invariant.none top is named all))

@@ -3,22 +3,29 @@ use Rattle.std.specs.Option.{option_copied}
 use Rattle.std.proofs.lemmas.Result.{err_from_is_err_and}
 use Rattle.std.proofs.lemmas.List.{append-nil}
 use Rattle.wit_type_tree.specs.declared.leaves.Id.{Id}
-use Rattle.wit_syntax.specs.Source.{Target, Local, leads}
+use Rattle.wit_syntax.specs.Source.{Target, leads}
 use Rattle.wit_syntax.specs.Scope.{local_target}
-use Rattle.wit_syntax.proofs.Refusing.{refused_weaker}
-use Rattle.wit_first.proofs.Bridge.{refused_by}
-use Rattle.wit_first.proofs.Files.{IsLost, lost_agrees}
-use Rattle.wit_top_names.specs.Checks.{IsLostTarget}
-use Rattle.wit_top_names.proofs.FirstNames.{leads_some, leads_none}
+use Rattle.wit_first.specs.Files.{unnamed_fault}
+use Rattle.wit_first.proofs.First.{reports_same}
+use Rattle.wit_top_names.proofs.FirstNames.{leads_some, leads_none, named_later, named_nowhere}
 use Rattle.wit_top_names.proofs.top_name.add_edge.Goals.{in-Id+in-Some+in_ok-add_local-in-Some, in-Id+in-None+in_ok-check_declared-in-None+in_ok-push-in-None, in-Package}
 use Rattle.wit_top_names.proofs.top_name.add_edge.Goals as goal
 
-pub returns-in_err-check_declared-in-None-clause-refused : goal.returns-in_err-check_declared-in-None-clause-refused
-returns-in_err-check_declared-in-None-clause-refused c =
+pub returns-in_err-check_declared-in-None-clause-first : goal.returns-in_err-check_declared-in-None-clause-first
+returns-in_err-check_declared-in-None-clause-first c =
     let p = err_from_is_err_and c.from_residual-in_err-check_declared-in-None.result c.from_residual-in_err-check_declared-in-None.ensures.1 in
     rw (p.1, p.2) (λ top is named all. (
-    let local = leads_none top c.args.paths.top.now c.in-Id.id named.finds (sym c.get_by.ensures ∙ ap option_copied c.in-None.is) in
-    refused_weaker (IsLost is (Local c.in-Id.id)) (IsLostTarget is (leads top c.args.path.now)) _ (λ f h. record { id = h.id; local = ap (leads top) c.in-Id.is ∙ sym local ∙ h.local; undeclared = record { missing = h.missing; is = h.is } }) (refused_by (lost_agrees is (Local c.in-Id.id)) (c.in_err-check_declared-in-None.ensures is all))))
+    let own = named_nowhere is top c.args.paths.top.now c.in-Id.id named.finds (sym c.get_by.ensures ∙ ap option_copied c.in-None.is) in
+    reports_same (sym own ∙ ap (unnamed_fault is top) (sym c.in-Id.is)) (c.in_err-check_declared-in-None.ensures is all)))
+
+pub returns-clause-first : goal.returns-clause-first
+returns-clause-first c = λ top is named all. (
+    let es = c.args.paths.top.now in
+    elim c.match-path.branch [
+      | in-Id+in-Some+in_ok-add_local-in-Some w ↦ ap (unnamed_fault is top) w.in-Id.is ∙ named_later is top es w.in-Id.id w.in-Some.target.now named.finds (sym w.get_by.ensures ∙ ap option_copied w.in-Some.is)
+      | in-Id+in-None+in_ok-check_declared-in-None+in_ok-push-in-None w ↦ ap (unnamed_fault is top) w.in-Id.is ∙ named_nowhere is top es w.in-Id.id named.finds (sym w.get_by.ensures ∙ ap option_copied w.in-None.is) ∙ w.in_ok-check_declared-in-None.ensures is all
+      | in-Package w ↦ ap (unnamed_fault is top) w.in-Package.is
+    ])
 
 pub returns-clause-edges : goal.returns-clause-edges
 returns-clause-edges c = λ top named. (

@@ -1,4 +1,4 @@
-use Rattle.std.proofs.Common.{subst, ◌⊎◌}
+use Rattle.std.proofs.Common.{subst, ◌⊎◌, inl, inr}
 use Rattle.std.proofs.lemmas.Result.{err_from_is_err_and}
 use Rattle.wit_graph.specs.Table.{rows, IsOrder}
 use Rattle.wit_syntax.specs.Scope.{item_rows}
@@ -8,6 +8,7 @@ use Rattle.wit_syntax.specs.Source.{Item, item_name, all_items, about}
 use Rattle.wit_syntax.specs.Broken.{IsMissingEdge, IsCyclicEdge, IsBrokenItems, DuplicateItem}
 use Rattle.wit_syntax.proofs.Refusing.{refused_weaker}
 use Rattle.wit_first.proofs.Bridge.{item_names_agree, item_names_differ, refused_by}
+use Rattle.wit_top_names.proofs.Lost.{files_broken}
 use Rattle.wit_files.proofs.Gathering.{broken_order, legal_items}
 use Rattle.wit_files.proofs.tables.Tables.add_all.Goals as goal
 
@@ -23,7 +24,8 @@ add_files-requires-clause-distinct c = item_names_differ c.args.files.now c.in_o
 pub returns-in_err-add_files-clause-refused : goal.returns-in_err-add_files-clause-refused
 returns-in_err-add_files-clause-refused c =
     let p = err_from_is_err_and c.from_residual-in_err-add_files.result c.from_residual-in_err-add_files.ensures.1 in
-    rw (p.1, p.2) c.in_err-add_files.ensures.refused
+    let files = c.args.files.now in
+    rw (p.1, p.2) (elim c.in_err-add_files.ensures.first [ inl memory ↦ inl memory | inr is ↦ inr (files_broken files _ is) ])
 
 pub returns-in_err-names-clause-refused : goal.returns-in_err-names-clause-refused
 returns-in_err-names-clause-refused c =
@@ -43,4 +45,4 @@ returns-clause-legal c =
     let files = c.args.files.now in
     let places = c.in_ok-names.field-0.items in
     let order : IsOrder (item_rows files) places = subst (λ rs. IsOrder rs places) c.in_ok-add_files.ensures.names.items c.in_ok-names.ensures.order in
-    legal_items files places (item_names_differ files c.in_ok-declared.ensures.first) c.in_ok-add_files.ensures.distinct order
+    legal_items files places c.in_ok-declared.ensures.first c.in_ok-add_files.ensures.first order

@@ -6,21 +6,20 @@ use Rattle.std.proofs.lemmas.Result.{err_from_is_err_and}
 use Rattle.wit_graph.specs.Table.{rows}
 use Rattle.wit_syntax.specs.Source.{file_items, all_items, is_world}
 use Rattle.wit_syntax.specs.Scope.{item_row}
-use Rattle.wit_syntax.specs.Broken.{IsBrokenItems}
-use Rattle.wit_syntax.proofs.Refusing.{refused_weaker}
-use Rattle.wit_top_names.specs.Checks.{IsWrongFile}
-use Rattle.wit_top_names.proofs.Lost.{broken_file, tops_more, flat_more}
+use Rattle.wit_first.specs.Files.{file_fault}
+use Rattle.wit_first.proofs.First.{in-all, in-next, reports-in}
+use Rattle.wit_top_names.proofs.Lost.{flat_more}
 use Rattle.wit_files.proofs.Gathering.{fresh_file, tops_added}
 use Rattle.wit_files.proofs.tables.Tables.add_files.Goals as goal
 
-pub returns-in_err-add_file-clause-refused : goal.returns-in_err-add_file-clause-refused
-returns-in_err-add_file-clause-refused c =
+pub returns-in_err-add_file-clause-first : goal.returns-in_err-add_file-clause-first
+returns-in_err-add_file-clause-first c =
     let p = err_from_is_err_and c.from_residual.result c.from_residual.ensures.1 in
     let files = c.args.files.now in
     let i = c.loop-file.file-index in
     let file = c.file-item.result in
     let at : slice_get files i ≡ Some file = slice_get-get_or files i file c.loop-file-test.true ∙ ap Some (sym c.file-item.is) in
-    rw (p.1, p.2) (refused_weaker (IsWrongFile (all_items files) file) (IsBrokenItems files) _ (λ f h. broken_file files i file f at h) (c.in_err-add_file.ensures.refused (all_items files) c.requires.declared))
+    rw (p.1, p.2) (reports-in (file_fault (all_items files)) files i file _ at c.loop-file.invariant.none (c.in_err-add_file.ensures.first (all_items files) c.requires.declared))
 
 pub add_file-requires : goal.add_file-requires
 add_file-requires c =
@@ -45,7 +44,12 @@ loop-file-preserved c =
       items = e.items ∙ ap (λ l. l ++ map item_row own) was.items ∙ sym (map-append item_row before own) ∙ ap (map item_row) (sym grown);
       kinds = e.kinds ∙ ap (λ l. l ++ map is_world own) was.kinds ∙ sym (map-append is_world before own) ∙ ap (map is_world) (sym grown);
       tops = rw more (tops_added (take i files) file c.loop-file.names.tops.items c.add_file.new.names.tops.items was.tops e.tops);
-      distinct = rw more (tops_more (take i files) file was.distinct e.distinct);
+      none = in-next (file_fault (all_items files)) files i file c.loop-file-test.true c.file-item.is was.none (e.first (all_items files) c.requires.declared);
       visits = e.visits ∙ was.visits;
       foreign = e.foreign ∙ was.foreign;
     }
+
+pub returns-clause-first : goal.returns-clause-first
+returns-clause-first c =
+    let files = c.args.files.now in
+    in-all (file_fault (all_items files)) files c.loop-file.file-index c.loop-file-test.false c.loop-file.invariant.none
