@@ -1,8 +1,8 @@
 -- What is gathered from files, one file and one item at a time.
-use Rattle.std.proofs.Common.{◌≡◌, ◌<◌, ℕ, zero, suc, ◌+◌, List, [], ◌∷◌, ◌++◌, ◌⊎◌, length, map, take, Some, None, inl, inr, refl, sym, ap, ◌∙◌, subst, arith, append_assoc, length-append, Vec, Global, Bor}
+use Rattle.std.proofs.Common.{◌≡◌, ◌<◌, ℕ, zero, suc, ◌+◌, List, [], ◌∷◌, ◌++◌, length, map, take, Option, Some, None, inl, inr, refl, sym, ap, ◌∙◌, subst, arith, append_assoc, length-append, Vec, Global, Bor}
 use Rattle.std.specs.Prelude.{slice_get, position}
 use Rattle.std.specs.List.{flat_map}
-use Rattle.std.specs.Option.{option_map}
+use Rattle.std.specs.Option.{option_map, option_or}
 use Rattle.std.specs.Str.{bytes_eq}
 use Rattle.std.proofs.lemmas.List.{append-nil, map-append}
 use Rattle.std.proofs.lemmas.Option.{slice_get-map, slice_get_within, slice_get_cases}
@@ -10,13 +10,14 @@ use Rattle.indexmap.specs.IndexMap.{insert_entry}
 use Rattle.wit_type_tree.specs.declared.leaves.Id.{Id}
 use Rattle.wit_tree.specs.declared.tree.AstItem.{AstItem}
 use Rattle.wit_tree.specs.declared.tree.PackageFile.{PackageFile}
+use Rattle.wit_graph.specs.Laws.{AreAccepted}
 use Rattle.wit_graph.specs.Table.{Row, entry_row, rows, place_of, target, IsOrder}
 use Rattle.wit_graph.proofs.Rows.{key_eq, rows-insert}
 use Rattle.wit_graph.proofs.Tables.{place_by_key}
 use Rattle.wit_syntax.specs.Source.{TopName, top_names, declared_items, Item, file_items, all_items, item_name}
 use Rattle.wit_syntax.specs.Scope.{item_row, item_rows}
 use Rattle.wit_syntax.specs.Fault.{Fault, missing_at, item_word}
-use Rattle.wit_syntax.specs.Broken.{IsMissingEdge, IsCyclicEdge, IsBrokenItems, DuplicateItem, DuplicateTopName, MissingItem, CyclicItem, IsBrokenNames, Items, ForeignStability, TopUse}
+use Rattle.wit_syntax.specs.Broken.{IsBrokenItems, DuplicateItem, DuplicateTopName, MissingItem, CyclicItem, IsBrokenNames, Items, ForeignStability, TopUse}
 use Rattle.wit_syntax.specs.Foreign.{foreign_visits}
 use Rattle.wit_syntax.specs.Repeats.{AllDiffer}
 use Rattle.wit_syntax.proofs.Lists.{at_front, at_back, at_either, map_map}
@@ -25,15 +26,18 @@ use Rattle.wit_syntax.proofs.Tables.{place_of-Some, none_if}
 use Rattle.wit_syntax.proofs.Found.{at_contains}
 use Rattle.wit_syntax.proofs.Legal.{no_missing_edge, no_cyclic_edge}
 use Rattle.wit_first.specs.Files.{file_fault, files_fault, paths_fault, tops_fault, visits_fault}
-use Rattle.wit_first.specs.First.{first_in}
+use Rattle.wit_first.specs.First.{IsOr, first_in}
+use Rattle.wit_first.specs.Laws.{AgreesBy}
 use Rattle.wit_first.specs.Names.{item_names_fault, top_names_fault}
-use Rattle.wit_first.proofs.Bridge.{in_only, item_names_agree, or_none_both, top_names_agree}
+use Rattle.wit_first.specs.Orders.{IsItemOrderFault, IsNamesFault, IsOrderedFault, items_front, names_front}
+use Rattle.wit_first.proofs.Bridge.{in_only, item_names_agree, or_none_both, or_some, top_names_agree}
 use Rattle.wit_first.proofs.Files.{tops_agree, visits_agree}
+use Rattle.wit_first.proofs.Orders.{or_back, or_front, or_is, or_neither, order_broken}
 use Rattle.wit_top_names.specs.Tops.{Named, AreNamed, AreDeclared}
 use Rattle.wit_files.specs.FileNames.{AreTopsOf, AreTablesOf, AddsTop, names_at_top, top_at}
 use Rattle.wit_files.specs.declared.tables.Tables.{Tables}
 use Rattle.wit_top_names.proofs.FirstNames.{rows_items}
-use Rattle.wit_top_names.proofs.Lost.{flat_more}
+use Rattle.wit_top_names.proofs.Lost.{files_broken, flat_more}
 
 -- what one of these gives stands behind what those before it give
 pub flat_split : {X A : Type 0} (f : X → List A) (xs : List X) (i : ℕ) (x : X) → slice_get xs i ≡ Some x → (rest : List A) × (flat_map f xs ≡ flat_map f (take i xs) ++ (f x ++ rest))
@@ -132,13 +136,12 @@ tops_added files file old new tops more = record {
       ]);
 }
 
--- what is wrong with the order of a table is wrong with the items that it has
-pub broken_order : (files : List PackageFile) (rs : List Row) → rs ≡ item_rows files → (f : Fault) → IsMissingEdge (missing_at 7 item_word) rs f ⊎ IsCyclicEdge 8 item_word rs f → IsBrokenItems files f
-broken_order files rs same f (inl h) = MissingItem (subst (λ (l : List Row). IsMissingEdge (missing_at 7 item_word) l f) same h)
-broken_order files rs same f (inr h) = CyclicItem (subst (λ (l : List Row). IsCyclicEdge 8 item_word l f) same h)
+-- the table of the items of files finds them
+pub names_declared : (files : List PackageFile) (names : Tables) → AreTablesOf files names → AreDeclared (all_items files) names.items
+names_declared files names are = record { finds = λ name. rows_items (all_items files) names.items name are.declared.items }
 
 -- where no name repeats, no path is lost and the items have an order, no rule about items is broken
-pub legal_items : (files : List PackageFile) (places : List ℕ) → item_names_fault files ≡ None → files_fault files ≡ None → IsOrder (item_rows files) places → (f : Fault) → IsBrokenItems files f → ⊥
+legal_items : (files : List PackageFile) (places : List ℕ) → item_names_fault files ≡ None → files_fault files ≡ None → IsOrder (item_rows files) places → (f : Fault) → IsBrokenItems files f → ⊥
 legal_items files places items each order f (DuplicateItem h) = (item_names_agree files).unbroken items f h
 legal_items files places items each order f (DuplicateTopName file among h) =
     let p = at_contains files file among in
@@ -147,15 +150,60 @@ legal_items files places items each order f (DuplicateTopName file among h) =
 legal_items files places items each order f (MissingItem h) = no_missing_edge (missing_at 7 item_word) (item_rows files) places f order h
 legal_items files places items each order f (CyclicItem h) = no_cyclic_edge 8 item_word (item_rows files) places f order h
 
--- the table of the items of files finds them
-pub names_declared : (files : List PackageFile) (names : Tables) → AreTablesOf files names → AreDeclared (all_items files) names.items
-names_declared files names are = record { finds = λ name. rows_items (all_items files) names.items name are.declared.items }
+-- the first fault, where there is none in front of paths with a package
+pub behind_visits : (files : List PackageFile) (first : Option Fault) → visits_fault (foreign_visits files) ≡ None → IsOr (items_front files) (IsItemOrderFault files) first → IsOr (names_front files) (IsItemOrderFault files) first
+behind_visits files first none h = subst (λ (o : Option Fault). IsOr (option_or o (items_front files)) (IsItemOrderFault files) first) (sym none) h
 
--- no rule about names is broken where none about items is, and where nothing is wrong with those attributes and at the top of a file
-pub legal_names : (files : List PackageFile) → ((f : Fault) → IsBrokenItems files f → ⊥) → visits_fault (foreign_visits files) ≡ None → tops_fault files ≡ None → (f : Fault) → IsBrokenNames files f → ⊥
-legal_names files legal visits tops f (Items h) = legal f h
-legal_names files legal visits tops f (ForeignStability v among h) = (visits_agree (foreign_visits files)).unbroken visits f (v, among, h)
-legal_names files legal visits tops f (TopUse file among h) = (tops_agree files).unbroken tops f (file, among, h)
+-- that of the items of files, and then that of the uses at their tops
+pub items_first : (files : List PackageFile) (f : Fault) → IsOr (names_front files) (IsItemOrderFault files) (Some f) → IsNamesFault files (Some f)
+items_first files f h = elim (or_is (IsItemOrderFault files) (names_front files) f h) [
+  | inl front ↦ or_front (IsOrderedFault files) (names_front files) f front
+  | inr order ↦ or_back (IsOrderedFault files) (names_front files) (Some f) order.0 (Some f, order.1, refl)
+]
+
+pub tops_first : (files : List PackageFile) (first : Option Fault) → IsOr (names_front files) (IsItemOrderFault files) None → tops_fault files ≡ first → IsNamesFault files first
+tops_first files first h tops =
+    let it = or_neither (IsItemOrderFault files) (names_front files) h in
+    or_back (IsOrderedFault files) (names_front files) first it.0 (None, it.1, tops)
+
+-- the first fault of the names of files is a broken rule
+front_broken : (files : List PackageFile) (f : Fault) → names_front files ≡ Some f → IsBrokenNames files f
+front_broken files f h = elim (or_some (visits_fault (foreign_visits files)) (items_front files) f h) [
+  | inl visits ↦ (let it = (visits_agree (foreign_visits files)).broken f visits in ForeignStability it.0 it.1 it.2)
+  | inr far ↦ elim (or_some (item_names_fault files) (files_fault files) f far.1) [
+    | inl items ↦ Items (DuplicateItem ((item_names_agree files).broken f items))
+    | inr each ↦ Items (files_broken files f each.1)
+  ]
+]
+
+ordered_broken : (files : List PackageFile) (f : Fault) (order : Option Fault) → IsItemOrderFault files order → option_or order (tops_fault files) ≡ Some f → IsBrokenNames files f
+ordered_broken files f None accepted is = (let it = (tops_agree files).broken f is in TopUse it.0 it.1 it.2)
+ordered_broken files f (Some g) wrong is =
+    let same : g ≡ f = cc in
+    Items (subst (IsBrokenItems files) same (elim (order_broken (missing_at 7 item_word) 8 item_word (item_rows files) g wrong) [ inl missing ↦ MissingItem missing | inr cyclic ↦ CyclicItem cyclic ]))
+
+names_broken : (files : List PackageFile) (f : Fault) → IsNamesFault files (Some f) → IsBrokenNames files f
+names_broken files f h = elim (or_is (IsOrderedFault files) (names_front files) f h) [
+  | inl front ↦ front_broken files f front
+  | inr ordered ↦ ordered_broken files f ordered.1.0 ordered.1.1 ordered.1.2
+]
+
+-- and where there is none, no rule about names is broken
+none_broken : (files : List PackageFile) → AreAccepted (item_rows files) → visits_fault (foreign_visits files) ≡ None → item_names_fault files ≡ None → files_fault files ≡ None → tops_fault files ≡ None → (f : Fault) → IsBrokenNames files f → ⊥
+none_broken files accepted visits items each tops f (Items h) = legal_items files accepted.0 items each accepted.1 f h
+none_broken files accepted visits items each tops f (ForeignStability v among h) = (visits_agree (foreign_visits files)).unbroken visits f (v, among, h)
+none_broken files accepted visits items each tops f (TopUse file among h) = (tops_agree files).unbroken tops f (file, among, h)
+
+names_unbroken : (files : List PackageFile) → IsNamesFault files None → (f : Fault) → IsBrokenNames files f → ⊥
+names_unbroken files none f broken =
+    let it = or_neither (IsOrderedFault files) (names_front files) none in
+    let front = or_none_both (visits_fault (foreign_visits files)) (items_front files) it.0 in
+    let items = or_none_both (item_names_fault files) (files_fault files) front.1 in
+    let last = or_none_both it.1.0 (tops_fault files) it.1.2 in
+    none_broken files (subst (IsItemOrderFault files) last.0 it.1.1) front.0 items.0 items.1 last.1 f broken
+
+pub names_agree : (files : List PackageFile) → AgreesBy (IsNamesFault files) (IsBrokenNames files)
+names_agree files = record { broken = names_broken files; unbroken = names_unbroken files }
 
 -- the place of a name among the keys is that of the item which an edge of this name leads to
 pub item_place : (files : List PackageFile) (es : List (Bor (List ℕ) × Vec Id Global)) (name : List ℕ) (edge : Id) → rows es ≡ item_rows files → name ≡ edge.name.now → position (λ (k : Bor (List ℕ)). bytes_eq name k.now) (map (λ e. e.0) es) ≡ target (item_rows files) edge

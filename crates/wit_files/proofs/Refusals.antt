@@ -6,8 +6,8 @@ use Rattle.wit_type_tree.specs.declared.error.ParseError.{ParseError}
 use Rattle.wit_type_tree.specs.Refusal.{IsWantOfMemory}
 use Rattle.wit_graph.specs.Table.{Row, IsEdge}
 use Rattle.wit_graph.specs.Faults.{IsFirstMissing, IsFirstCyclic}
-use Rattle.wit_syntax.specs.Fault.{Fault, fault_of, cyclic_at}
-use Rattle.wit_syntax.specs.Broken.{IsMissingEdge, IsCyclicEdge, Refused}
+use Rattle.wit_syntax.specs.Fault.{Fault, fault_of}
+use Rattle.wit_first.specs.Orders.{IsOrderFault}
 
 -- one place and index have one edge
 same_edge : (rs : List Row) (i k : ℕ) (a b : Id) → IsEdge rs i k a → IsEdge rs i k b → a ≡ b
@@ -17,14 +17,14 @@ same_edge rs i k a b x y =
     let ids : Some a ≡ Some b = sym x.2 ∙ ap (λ (r : Row). slice_get r.needs k) row ∙ y.2 in
     cc
 
-pub missing_edge : (told : Id → Fault) (other : ℕ) (sort : List ℕ) (rs : List Row) (i k : ℕ) (id : Id) (e : ParseError) → IsFirstMissing rs i k → IsEdge rs i k id → IsWantOfMemory e ⊎ (fault_of e ≡ told id) → Refused (λ f. IsMissingEdge told rs f ⊎ IsCyclicEdge other sort rs f) e
-missing_edge told other sort rs i k id e f edge says = elim says [
+pub missing_edge : (lost round : Id → Fault) (rs : List Row) (i k : ℕ) (id : Id) (e : ParseError) → IsFirstMissing rs i k → IsEdge rs i k id → IsWantOfMemory e ⊎ (fault_of e ≡ lost id) → IsWantOfMemory e ⊎ IsOrderFault lost round rs (Some (fault_of e))
+missing_edge lost round rs i k id e f edge says = elim says [
   | inl memory ↦ inl memory
-  | inr is ↦ inr (inl (i, k, f.id, f.first.is, f.first.holds, is ∙ ap told (same_edge rs i k id f.id edge f.first.is)))
+  | inr is ↦ inr (inl (i, k, f, is ∙ ap lost (same_edge rs i k id f.id edge f.first.is)))
 ]
 
-pub cyclic_edge : (number : ℕ) (sort : List ℕ) (told : Id → Fault) (rs : List Row) (i k : ℕ) (id : Id) (e : ParseError) → IsFirstCyclic rs i k → IsEdge rs i k id → IsWantOfMemory e ⊎ (fault_of e ≡ cyclic_at number sort id) → Refused (λ f. IsMissingEdge told rs f ⊎ IsCyclicEdge number sort rs f) e
-cyclic_edge number sort told rs i k id e f edge says = elim says [
+pub cyclic_edge : (lost round : Id → Fault) (rs : List Row) (i k : ℕ) (id : Id) (e : ParseError) → IsFirstCyclic rs i k → IsEdge rs i k id → IsWantOfMemory e ⊎ (fault_of e ≡ round id) → IsWantOfMemory e ⊎ IsOrderFault lost round rs (Some (fault_of e))
+cyclic_edge lost round rs i k id e f edge says = elim says [
   | inl memory ↦ inl memory
-  | inr is ↦ inr (inr (i, k, f.first.holds.1.0, f.id, f.first.is, f.first.holds.1.1, f.first.holds.0, f.first.holds.1.2, is ∙ ap (cyclic_at number sort) (same_edge rs i k id f.id edge f.first.is)))
+  | inr is ↦ inr (inr (i, k, f, is ∙ ap round (same_edge rs i k id f.id edge f.first.is)))
 ]

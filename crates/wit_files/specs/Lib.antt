@@ -1,3 +1,4 @@
 pub mod Foreign
 pub mod FileNames
 pub mod Visits
+pub mod Laws

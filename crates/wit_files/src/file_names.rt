@@ -1,11 +1,11 @@
 //! The names of files: of the items that they declare, and those at the top of each.
-ghost use Rattle.std.specs.Prelude.{◌≡◌, ◌<◌, Some, length, map, slice_get, IfOk, IfErr, OnOk};
+ghost use Rattle.std.specs.Prelude.{◌≡◌, ◌<◌, Some, length, map, slice_get, IfOk};
 ghost use Rattle.wit_graph.specs.Table.{IsOrder};
 ghost use Rattle.wit_syntax.specs.Source.{leads as the_leads, all_items, is_world as is_the_world};
 ghost use Rattle.wit_syntax.specs.Scope.{item_rows};
-ghost use Rattle.wit_syntax.specs.Fault.{Fault};
-ghost use Rattle.wit_syntax.specs.Broken.{IsBrokenNames, Refused};
 ghost use Rattle.wit_syntax.specs.Foreign.{foreign_visits as the_visits, foreign_items};
+ghost use Rattle.wit_first.specs.First.{FindsBy};
+ghost use Rattle.wit_first.specs.Orders.{IsNamesFault};
 ghost use Rattle.wit_top_names.specs.Tops.{target_behind};
 ghost use Rattle.wit_files.specs.Foreign.{foreign_behind};
 ghost use Rattle.wit_files.specs.FileNames.{AreTablesOf, found_at, top_at};
@@ -100,8 +100,7 @@ impl<'f, 'a> FileNames<'f, 'a> {
     /// - 45: a growth was refused.
     pub fn gather(alloc: Global, files: &'f [PackageFile<'a>]) -> ParseResult<FileNames<'f, 'a>>
         ensures files { IfOk result (λ names. names ≡ files.now) }
-        ensures legal { OnOk result ((f : Fault) → IsBrokenNames files.now f → ⊥) }
-        ensures refused { IfErr result (Refused (IsBrokenNames files.now)) }
+        ensures first { FindsBy (IsNamesFault files.now) result }
     {
         let tables = Tables::gather(alloc, files)?;
         Ok(FileNames::of(files, tables))

@@ -1,15 +1,15 @@
 //! The table of the items that files declare, and its order.
-ghost use Rattle.std.specs.Prelude.{◌≡◌, ◌++◌, ◌⊎◌, List, map, IfOk, IfErr, OnOk};
+ghost use Rattle.std.specs.Prelude.{◌≡◌, ◌++◌, List, map, IfOk, OnOk};
 ghost use Rattle.std.specs.List.{flat_map};
 ghost use Rattle.wit_graph.specs.Table.{rows, IsOrder};
 ghost use Rattle.wit_syntax.specs.Source.{TopName as Top, Item, interface_part, world_part, top_names, file_items, item_name, is_world};
 ghost use Rattle.wit_syntax.specs.Scope.{use_path, include_path, item_row};
-ghost use Rattle.wit_syntax.specs.Fault.{missing_at, item_word};
-ghost use Rattle.wit_syntax.specs.Broken.{IsMissingEdge, IsCyclicEdge, Refused};
+ghost use Rattle.wit_syntax.specs.Fault.{cyclic_at, missing_at, item_word};
 ghost use Rattle.wit_syntax.specs.Repeats.{AllDiffer};
 ghost use Rattle.wit_top_names.specs.Tops.{AreNamed, AreDeclared};
 ghost use Rattle.wit_first.specs.Files.{paths_fault, unnamed_fault};
-ghost use Rattle.wit_first.specs.First.{Finds, first_in};
+ghost use Rattle.wit_first.specs.First.{Finds, FindsBy, first_in};
+ghost use Rattle.wit_first.specs.Orders.{IsOrderFault};
 ghost use Rattle.wit_top_names.specs.Checks.{edges_of};
 
 use crate::order_refusal::refuse_item_order;
@@ -140,7 +140,7 @@ pub(crate) fn table_order<'a>(
     table: &Table<&'a str, Vec<Id<'a>>>,
 ) -> ParseResult<Vec<usize>>
     ensures order { IfOk result (λ places. IsOrder (rows table.now) places.items) }
-    ensures refused { IfErr result (Refused (λ f. IsMissingEdge (missing_at 7 item_word) (rows table.now) f ⊎ IsCyclicEdge 8 item_word (rows table.now) f)) }
+    ensures first { FindsBy (IsOrderFault (missing_at 7 item_word) (cyclic_at 8 item_word) (rows table.now)) result }
 {
     match order_places(alloc, table) {
         Ok(places) => Ok(places),

@@ -4,6 +4,7 @@
 pub mod file_names;
 pub mod foreign;
 mod item_table;
+pub mod laws;
 pub mod order_refusal;
 mod tables;
 pub mod visit;

@@ -1,10 +1,11 @@
 //! Refusals of tables that have no order.
-ghost use Rattle.std.specs.Prelude.{◌⊎◌};
+ghost use Rattle.std.specs.Prelude.{◌⊎◌, Some};
 ghost use Rattle.wit_type_tree.specs.declared.leaves.Id.{Id as TheId};
+ghost use Rattle.wit_type_tree.specs.Refusal.{IsWantOfMemory};
 ghost use Rattle.wit_graph.specs.Table.{rows, IsEdge};
 ghost use Rattle.wit_graph.specs.Faults.{IsFaultOf};
-ghost use Rattle.wit_syntax.specs.Fault.{missing_at, missing_type_at, item_word, type_word};
-ghost use Rattle.wit_syntax.specs.Broken.{IsMissingEdge, IsCyclicEdge, Refused};
+ghost use Rattle.wit_syntax.specs.Fault.{cyclic_at, fault_of, missing_at, missing_type_at, item_word, type_word};
+ghost use Rattle.wit_first.specs.Orders.{IsOrderFault};
 
 use std::alloc::Global;
 use wit_order::OrderFault;
@@ -29,7 +30,7 @@ pub fn refuse_item_order<'a>(
     fault: OrderFault,
 ) -> ParseError
     requires { IsFaultOf (rows table.now) fault }
-    ensures { Refused (λ f. IsMissingEdge (missing_at 7 item_word) (rows table.now) f ⊎ IsCyclicEdge 8 item_word (rows table.now) f) result }
+    ensures { IsWantOfMemory result ⊎ IsOrderFault (missing_at 7 item_word) (cyclic_at 8 item_word) (rows table.now) (Some (fault_of result)) }
 {
     match fault {
         OrderFault::Missing { place, index } => {
@@ -49,7 +50,7 @@ pub fn refuse_type_order<'a>(
     fault: OrderFault,
 ) -> ParseError
     requires { IsFaultOf (rows table.now) fault }
-    ensures { Refused (λ f. IsMissingEdge missing_type_at (rows table.now) f ⊎ IsCyclicEdge 16 type_word (rows table.now) f) result }
+    ensures { IsWantOfMemory result ⊎ IsOrderFault missing_type_at (cyclic_at 16 type_word) (rows table.now) (Some (fault_of result)) }
 {
     match fault {
         OrderFault::Missing { place, index } => {

@@ -1,15 +1,14 @@
 //! The tables of the names of files: of the items that they declare, and those at the top of each.
-ghost use Rattle.std.specs.Prelude.{◌≡◌, ◌++◌, [], List, map, None, IfOk, IfErr, OnOk};
+ghost use Rattle.std.specs.Prelude.{◌≡◌, ◌++◌, [], List, map, IfOk, OnOk};
 ghost use Rattle.wit_tree.specs.declared.tree.PackageFile.{PackageFile as TheFile};
 ghost use Rattle.wit_graph.specs.Table.{rows, IsOrder};
 ghost use Rattle.wit_syntax.specs.Source.{Item as TheItem, file_items, all_items, item_name, is_world as is_the_world};
 ghost use Rattle.wit_syntax.specs.Scope.{item_row, item_rows};
-ghost use Rattle.wit_syntax.specs.Fault.{Fault};
-ghost use Rattle.wit_syntax.specs.Broken.{IsBrokenItems, IsBrokenNames, Refused};
 ghost use Rattle.wit_syntax.specs.Repeats.{AllDiffer};
 ghost use Rattle.wit_syntax.specs.Foreign.{foreign_visits as the_visits};
 ghost use Rattle.wit_first.specs.Files.{file_fault, file_tops_fault, files_fault, tops_fault, visits_fault};
-ghost use Rattle.wit_first.specs.First.{Finds};
+ghost use Rattle.wit_first.specs.First.{Finds, FindsBy, IsOr};
+ghost use Rattle.wit_first.specs.Orders.{IsItemOrderFault, IsNamesFault, items_front, names_front};
 ghost use Rattle.wit_top_names.specs.Tops.{AreDeclared};
 ghost use Rattle.wit_files.specs.Foreign.{foreign_behind, AreItemsOf};
 ghost use Rattle.wit_files.specs.FileNames.{AddsTop, AreTablesOf, AreDeclarationsOf};
@@ -121,12 +120,11 @@ impl<'f, 'a> Tables<'f, 'a> {
         requires empty { rows names.old.items ≡ [] }
         requires kindless { names.old.kinds.items ≡ [] }
         requires none { names.old.tops.items ≡ [] }
-        ensures legal { OnOk result ((f : Fault) → IsBrokenItems files.now f → ⊥) }
         ensures names { OnOk result (AreDeclarationsOf files.now names.new) }
         ensures order { OnOk result (IsOrder (item_rows files.now) names.new.order.items) }
         ensures visits { OnOk result (names.new.visits ≡ names.old.visits) }
         ensures foreign { OnOk result (names.new.foreign ≡ names.old.foreign) }
-        ensures refused { IfErr result (Refused (IsBrokenItems files.now)) }
+        ensures first { FindsBy (IsOr (items_front files.now) (IsItemOrderFault files.now)) result }
     {
         let declared = item_names(alloc, files)?;
         Tables::add_files(alloc, files, &declared, names)?;
@@ -137,10 +135,8 @@ impl<'f, 'a> Tables<'f, 'a> {
 
     /// The tables of files, whatever the `use`s at the top of files name.
     fn gather_items(alloc: Global, files: &'f [PackageFile<'a>]) -> ParseResult<Tables<'f, 'a>>
-        ensures visits { OnOk result (visits_fault (the_visits files.now) ≡ None) }
-        ensures legal { OnOk result ((f : Fault) → IsBrokenItems files.now f → ⊥) }
         ensures tables { IfOk result (AreTablesOf files.now) }
-        ensures refused { IfErr result (Refused (IsBrokenNames files.now)) }
+        ensures first { FindsBy (IsOr (names_front files.now) (IsItemOrderFault files.now)) result }
     {
         let mut names = Tables::of_others(alloc, files)?;
         Tables::add_all(alloc, files, &mut names)?;
@@ -175,9 +171,8 @@ impl<'f, 'a> Tables<'f, 'a> {
 
     /// The tables of files, which break no rule about names.
     pub fn gather(alloc: Global, files: &'f [PackageFile<'a>]) -> ParseResult<Tables<'f, 'a>>
-        ensures legal { OnOk result ((f : Fault) → IsBrokenNames files.now f → ⊥) }
         ensures tables { IfOk result (AreTablesOf files.now) }
-        ensures refused { IfErr result (Refused (IsBrokenNames files.now)) }
+        ensures first { FindsBy (IsNamesFault files.now) result }
     {
         let names = Tables::gather_items(alloc, files)?;
         Tables::check_tops(alloc, files, &names)?;

@@ -2,3 +2,4 @@ pub mod First
 pub mod Bridge
 pub mod Functions
 pub mod Files
+pub mod Orders

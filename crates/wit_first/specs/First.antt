@@ -25,6 +25,15 @@ Reports first e = IsWantOfMemory e ⊎ (first ≡ Some (fault_of e))
 abbrev pub Finds : {T : Type 0} → Option Fault → Result T ParseError → Type 0
 Finds first r = MatchResult r (λ _. first ≡ None) (λ e. Reports first e)
 
+-- the first fault, where a relation says which it is: an earlier one, or else the one that the relation says
+abbrev pub IsOr : Option Fault → (Option Fault → Type 0) → Option Fault → Type 0
+IsOr None IsLater first = IsLater first
+IsOr (Some f) IsLater first = first ≡ Some f
+
+-- a call returns Ok where that is none, and else an error that reports it; an allocation may fail in either case
+abbrev pub FindsBy : {T : Type 0} → (Option Fault → Type 0) → Result T ParseError → Type 0
+FindsBy IsFirst r = MatchResult r (λ _. IsFirst None) (λ e. IsWantOfMemory e ⊎ IsFirst (Some (fault_of e)))
+
 -- an item has the key of an earlier one: the fault is made of the later one
 abbrev pub repeat_of : {X : Type 0} → (X → List ℕ) → (X → Fault) → List X → X → Option Fault
 repeat_of key as_fault before x = if list_any (λ y. bytes_eq (key y) (key x)) before then Some (as_fault x) else None

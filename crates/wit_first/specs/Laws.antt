@@ -16,6 +16,11 @@ pub record Agrees (first : Option Fault) (Broken : Fault → Type 0) : Type 0 wh
   pub broken : (f : Fault) → first ≡ Some f → Broken f
   pub unbroken : first ≡ None → (f : Fault) → Broken f → ⊥
 
+-- the same, where a relation says which fault is the first
+pub record AgreesBy (IsFirst : Option Fault → Type 0) (Broken : Fault → Type 0) : Type 0 where
+  pub broken : (f : Fault) → IsFirst (Some f) → Broken f
+  pub unbroken : IsFirst None → (f : Fault) → Broken f → ⊥
+
 abbrev pub StabilityAgrees : Type 0
 StabilityAgrees = (xs : List Attribute) → Agrees (stability_fault xs) (IsBrokenStability xs)
 

@@ -5,4 +5,5 @@ pub mod Keys
 pub mod Names
 pub mod Functions
 pub mod Files
+pub mod Orders
 pub mod Laws

@@ -1,5 +1,5 @@
 use Rattle.wit_graph.specs.Table.{rows}
-use Rattle.wit_syntax.specs.Fault.{missing_at, item_word}
+use Rattle.wit_syntax.specs.Fault.{cyclic_at, missing_at, item_word}
 use Rattle.wit_files.proofs.Refusals.{missing_edge, cyclic_edge}
 use Rattle.wit_files.proofs.order_refusal.refuse_item_order.Goals as goal
 
@@ -10,7 +10,7 @@ pub needed-requires-in-Cyclic : goal.needed-requires-in-Cyclic
 needed-requires-in-Cyclic c = (let f = rw c.in-Cyclic.is at c.requires in (f.id, f.first.is))
 
 pub returns-in-Missing : goal.returns-in-Missing
-returns-in-Missing c = missing_edge (missing_at 7 item_word) 8 item_word (rows c.args.table.now) c.in-Missing.place c.in-Missing.index c.needed.result c.refuse_missing.result (rw c.in-Missing.is at c.requires) c.needed.ensures c.refuse_missing.ensures
+returns-in-Missing c = missing_edge (missing_at 7 item_word) (cyclic_at 8 item_word) (rows c.args.table.now) c.in-Missing.place c.in-Missing.index c.needed.result c.refuse_missing.result (rw c.in-Missing.is at c.requires) c.needed.ensures c.refuse_missing.ensures
 
 pub returns-in-Cyclic : goal.returns-in-Cyclic
-returns-in-Cyclic c = cyclic_edge 8 item_word (missing_at 7 item_word) (rows c.args.table.now) c.in-Cyclic.place c.in-Cyclic.index c.needed-in-Cyclic.result c.refuse_cycle.result (rw c.in-Cyclic.is at c.requires) c.needed-in-Cyclic.ensures c.refuse_cycle.ensures
+returns-in-Cyclic c = cyclic_edge (missing_at 7 item_word) (cyclic_at 8 item_word) (rows c.args.table.now) c.in-Cyclic.place c.in-Cyclic.index c.needed-in-Cyclic.result c.refuse_cycle.result (rw c.in-Cyclic.is at c.requires) c.needed-in-Cyclic.ensures c.refuse_cycle.ensures

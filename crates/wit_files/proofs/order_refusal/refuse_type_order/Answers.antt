@@ -1,5 +1,5 @@
 use Rattle.wit_graph.specs.Table.{rows}
-use Rattle.wit_syntax.specs.Fault.{missing_type_at, type_word}
+use Rattle.wit_syntax.specs.Fault.{cyclic_at, missing_type_at, type_word}
 use Rattle.wit_files.proofs.Refusals.{missing_edge, cyclic_edge}
 use Rattle.wit_files.proofs.order_refusal.refuse_type_order.Goals as goal
 
@@ -10,7 +10,7 @@ pub needed-requires-in-Cyclic : goal.needed-requires-in-Cyclic
 needed-requires-in-Cyclic c = (let f = rw c.in-Cyclic.is at c.requires in (f.id, f.first.is))
 
 pub returns-in-Missing : goal.returns-in-Missing
-returns-in-Missing c = missing_edge missing_type_at 16 type_word (rows c.args.table.now) c.in-Missing.place c.in-Missing.index c.needed.result c.refuse_missing_type.result (rw c.in-Missing.is at c.requires) c.needed.ensures c.refuse_missing_type.ensures
+returns-in-Missing c = missing_edge missing_type_at (cyclic_at 16 type_word) (rows c.args.table.now) c.in-Missing.place c.in-Missing.index c.needed.result c.refuse_missing_type.result (rw c.in-Missing.is at c.requires) c.needed.ensures c.refuse_missing_type.ensures
 
 pub returns-in-Cyclic : goal.returns-in-Cyclic
-returns-in-Cyclic c = cyclic_edge 16 type_word missing_type_at (rows c.args.table.now) c.in-Cyclic.place c.in-Cyclic.index c.needed-in-Cyclic.result c.refuse_cycle.result (rw c.in-Cyclic.is at c.requires) c.needed-in-Cyclic.ensures c.refuse_cycle.ensures
+returns-in-Cyclic c = cyclic_edge missing_type_at (cyclic_at 16 type_word) (rows c.args.table.now) c.in-Cyclic.place c.in-Cyclic.index c.needed-in-Cyclic.result c.refuse_cycle.result (rw c.in-Cyclic.is at c.requires) c.needed-in-Cyclic.ensures c.refuse_cycle.ensures

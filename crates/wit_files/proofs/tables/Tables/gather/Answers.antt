@@ -1,24 +1,17 @@
+use Rattle.std.proofs.Common.{None, inl, inr}
 use Rattle.std.proofs.lemmas.Result.{err_from_is_err_and}
-use Rattle.std.specs.Prelude.{Contains}
-use Rattle.wit_tree.specs.declared.tree.PackageFile.{PackageFile}
-use Rattle.wit_syntax.specs.Broken.{IsBrokenNames, IsWrongTop, TopUse}
-use Rattle.wit_syntax.specs.Source.{all_items}
-use Rattle.wit_syntax.proofs.Refusing.{refused_weaker}
-use Rattle.wit_first.proofs.Bridge.{refused_by}
-use Rattle.wit_first.proofs.Files.{tops_agree}
-use Rattle.wit_files.proofs.Gathering.{legal_names}
+use Rattle.wit_files.proofs.Gathering.{items_first, tops_first}
 use Rattle.wit_files.proofs.tables.Tables.gather.Goals as goal
 
-pub returns-in_err-names-clause-refused : goal.returns-in_err-names-clause-refused
-returns-in_err-names-clause-refused c =
+pub returns-in_err-names-clause-first : goal.returns-in_err-names-clause-first
+returns-in_err-names-clause-first c =
     let q = err_from_is_err_and c.from_residual.result c.from_residual.ensures.1 in
-    rw (q.1, q.2) c.in_err-names.ensures.refused
+    rw (q.1, q.2) (elim c.in_err-names.ensures.first [ inl memory ↦ inl memory | inr is ↦ inr (items_first c.args.files.now _ is) ])
 
-pub returns-in_err-check_tops-clause-refused : goal.returns-in_err-check_tops-clause-refused
-returns-in_err-check_tops-clause-refused c =
+pub returns-in_err-check_tops-clause-first : goal.returns-in_err-check_tops-clause-first
+returns-in_err-check_tops-clause-first c =
     let q = err_from_is_err_and c.from_residual-in_err-check_tops.result c.from_residual-in_err-check_tops.ensures.1 in
-    let files = c.args.files.now in
-    rw (q.1, q.2) (refused_weaker (λ f. (file : PackageFile) × Contains files file × IsWrongTop (all_items files) file.decl_list.items.items f) (IsBrokenNames files) _ (λ f h. TopUse h.0 h.1 h.2) (refused_by (tops_agree files) c.in_err-check_tops.ensures))
+    rw (q.1, q.2) (elim c.in_err-check_tops.ensures [ inl memory ↦ inl memory | inr is ↦ inr (tops_first c.args.files.now _ c.in_ok-names.ensures.first is) ])
 
-pub returns-clause-legal : goal.returns-clause-legal
-returns-clause-legal c = legal_names c.args.files.now c.in_ok-names.ensures.legal c.in_ok-names.ensures.visits c.in_ok-check_tops.ensures
+pub returns-clause-first : goal.returns-clause-first
+returns-clause-first c = tops_first c.args.files.now None c.in_ok-names.ensures.first c.in_ok-check_tops.ensures
