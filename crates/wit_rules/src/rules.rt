@@ -2,7 +2,7 @@
 ghost use Rattle.std.specs.Prelude.{◌≡◌, IfOk, map};
 ghost use Rattle.wit_first.specs.First.{Finds};
 ghost use Rattle.wit_first.specs.Keys.{can_be_key, is_key, key_fault};
-ghost use Rattle.wit_first.specs.Lists.{empty_fault, flag_fault, flags_fault, members_fault, names_fault};
+ghost use Rattle.wit_first.specs.Lists.{empty_fault, flag_fault, flags_fault, members_fault};
 
 use std::alloc::{AllocError, Global};
 use wit_refusals::check_unique_names;
@@ -57,14 +57,6 @@ pub fn check_tuple(alloc: Global, span: Span, types: &[Type<'_>]) -> ParseResult
     Ok(())
 }
 
-/// Refuses the first of these names that is an earlier one once case is folded (E25).
-fn check_names(alloc: Global, desc: &str, names: &[Id<'_>]) -> ParseResult<()>
-    ensures { Finds (names_fault names.now) result }
-{
-    check_unique_names(alloc, desc, names)?;
-    Ok(())
-}
-
 /// The names of fields.
 fn field_names<'a>(alloc: Global, fields: &[Field<'a>]) -> Result<Vec<Id<'a>>, AllocError>
     ensures { IfOk result (λ names. names.items ≡ map (λ f. f.name) fields.now) }
@@ -101,7 +93,7 @@ pub fn check_record(alloc: Global, span: Span, fields: &[Field<'_>]) -> ParseRes
         return Err(refuse(alloc, 19, span, "empty record"));
     }
     let names = field_names(alloc, fields)?;
-    check_names(alloc, "field", &names)?;
+    check_unique_names(alloc, "field", &names)?;
     Ok(())
 }
 
@@ -124,7 +116,7 @@ pub fn check_flags(alloc: Global, span: Span, flags: &[Flag<'_>]) -> ParseResult
     }
     check_count(alloc, flags)?;
     let names = flag_names(alloc, flags)?;
-    check_names(alloc, "flag", &names)?;
+    check_unique_names(alloc, "flag", &names)?;
     Ok(())
 }
 
@@ -136,7 +128,7 @@ pub fn check_variant(alloc: Global, span: Span, cases: &[Case<'_>]) -> ParseResu
         return Err(refuse(alloc, 23, span, "empty variant"));
     }
     let names = case_names(alloc, cases)?;
-    check_names(alloc, "case", &names)?;
+    check_unique_names(alloc, "case", &names)?;
     Ok(())
 }
 
@@ -148,6 +140,6 @@ pub fn check_enum(alloc: Global, span: Span, cases: &[EnumCase<'_>]) -> ParseRes
         return Err(refuse(alloc, 24, span, "empty enum"));
     }
     let names = enum_case_names(alloc, cases)?;
-    check_names(alloc, "case", &names)?;
+    check_unique_names(alloc, "case", &names)?;
     Ok(())
 }
