@@ -1,11 +1,11 @@
 //! The order in which the definitions of a scope are resolved.
-ghost use Rattle.std.specs.Prelude.{◌≡◌, ◌++◌, List, map, IfOk, IfErr};
+ghost use Rattle.std.specs.Prelude.{◌≡◌, ◌++◌, map, IfOk};
 ghost use Rattle.std.specs.Bool.{MatchBool};
 ghost use Rattle.wit_graph.specs.Table.{rows, IsOrder};
 ghost use Rattle.wit_syntax.specs.Scope.{needed_ids as the_needed, rows_of, used, AreDistinct};
 ghost use Rattle.wit_syntax.specs.Source.{local_id as the_local_id};
-ghost use Rattle.wit_syntax.specs.Function.{SourceFunction};
-ghost use Rattle.wit_syntax.specs.Broken.{IsBrokenScope, Refused};
+ghost use Rattle.wit_first.specs.First.{FindsBy};
+ghost use Rattle.wit_first.specs.Orders.{IsTypeOrderFault};
 ghost use Rattle.wit_scopes.specs.Held.{name_behind, use_behind, definition_behind};
 ghost use Rattle.wit_scopes.specs.Between.{AreOrdered, IsTurnOf, IsWritten, NeedNone};
 
@@ -50,7 +50,7 @@ fn scope_table<'a>(
 fn scope_order(alloc: Global, names: &[ScopeName<'_, '_>]) -> ParseResult<Vec<usize>>
     requires distinct { AreDistinct (map name_behind names.now) }
     ensures order { IfOk result (λ places. IsOrder (rows_of (map name_behind names.now)) places.items) }
-    ensures refused { IfErr result (Refused (λ f. (fns : List SourceFunction) → IsBrokenScope (map name_behind names.now) fns f)) }
+    ensures first { FindsBy (IsTypeOrderFault (map name_behind names.now)) result }
 {
     let table = scope_table(alloc, names)?;
     match order_places(alloc, &table) {
@@ -101,7 +101,7 @@ fn sorted_definitions<'t, 'a>(
 ) -> ParseResult<Vec<DefinedName<'t, 'a>>>
     requires distinct { AreDistinct (map name_behind names.now) }
     ensures ordered { IfOk result (λ ordered. AreOrdered (map name_behind names.now) (map definition_behind ordered.items)) }
-    ensures refused { IfErr result (Refused (λ f. (fns : List SourceFunction) → IsBrokenScope (map name_behind names.now) fns f)) }
+    ensures first { FindsBy (IsTypeOrderFault (map name_behind names.now)) result }
 {
     let places = scope_order(alloc, names)?;
     let ordered = in_order(alloc, names, &places)?;
@@ -133,7 +133,7 @@ pub fn ordered_turn<'t, 'a>(
     requires uses { map use_behind uses.now ≡ used (map name_behind names.now) }
     requires written { IsWritten (map name_behind names.now) (map definition_behind written.definitions.items) written.ids.items }
     ensures turn { IfOk result (λ turn. IsTurnOf (map name_behind names.now) (map definition_behind turn.definitions.items) turn.ids.items) }
-    ensures refused { IfErr result (Refused (λ f. (fns : List SourceFunction) → IsBrokenScope (map name_behind names.now) fns f)) }
+    ensures first { FindsBy (IsTypeOrderFault (map name_behind names.now)) result }
 {
     if need_none(alloc, names)? {
         return Ok(written);

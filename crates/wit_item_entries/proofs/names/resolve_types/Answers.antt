@@ -2,13 +2,15 @@ use Rattle.std.proofs.Common.{◌≡◌, ◌⊎◌, ◌++◌, List, map, inl, in
 use Rattle.std.proofs.lemmas.Result.{err_from_is_err_and}
 use Rattle.wit_type_tree.specs.declared.leaves.Id.{Id}
 use Rattle.wit_syntax.specs.Source.{local_id}
-use Rattle.wit_syntax.specs.Scope.{used, defined, AreDistinct}
+use Rattle.wit_syntax.specs.Scope.{rows_of, used, defined, AreDistinct}
 use Rattle.wit_syntax.specs.Function.{SourceFunction}
-use Rattle.wit_syntax.specs.Broken.{IsBrokenScope}
+use Rattle.wit_syntax.specs.Broken.{IsBrokenScope, MissingType, CyclicType}
+use Rattle.wit_syntax.specs.Fault.{missing_type_at, type_word}
 use Rattle.wit_arena.specs.Resolving.{env_of, AreLegalBodies, AreLegalNotes, names_in}
 use Rattle.wit_syntax.proofs.Refusing.{refused_weaker}
 use Rattle.wit_syntax.proofs.Turns.{distinct_names}
 use Rattle.wit_first.proofs.Bridge.{local_names_agree, local_names_differ, refused_by}
+use Rattle.wit_first.proofs.Orders.{order_broken}
 use Rattle.wit_scopes.specs.Held.{name_behind, definition_behind}
 use Rattle.wit_scopes.specs.Between.{AreOrdered, IsBrokenAmong, IsRepeatedId}
 use Rattle.wit_item_entries.specs.Between.{IsWrongHandleIn, IsWrongHandleTurn}
@@ -34,7 +36,13 @@ pub returns-in_err-turn-clause-refused : goal.returns-in_err-turn-clause-refused
 returns-in_err-turn-clause-refused c =
     let p = err_from_is_err_and c.from_residual-in_err-turn.result c.from_residual-in_err-turn.ensures.1 in
     let xs = map name_behind c.args.names.now in
-    rw (p.1, p.2) (refused_weaker (λ f. (fns : List SourceFunction) → IsBrokenScope xs fns f) (λ f. ((fns : List SourceFunction) → IsBrokenScope xs fns f) ⊎ IsWrongHandleTurn c.args.types.now c.args.scope.now.owner c.args.scope.now.names xs f) _ (λ f h. inl h) c.in_err-turn.ensures.refused)
+    rw (p.1, p.2) (elim c.in_err-turn.ensures.first [
+      | inl memory ↦ inl memory
+      | inr wrong ↦ inr (inl (λ fns. elim (order_broken missing_type_at 16 type_word (rows_of xs) _ wrong) [
+        | inl missing ↦ MissingType missing
+        | inr cyclic ↦ CyclicType cyclic
+      ]))
+    ])
 
 pub define_all-requires : goal.define_all-requires
 define_all-requires c =

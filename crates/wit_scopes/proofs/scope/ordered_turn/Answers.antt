@@ -12,7 +12,17 @@ returns-then-branch-clause-turn c =
     let written = c.args.written in
     written_in_turn xs (map definition_behind written.definitions.items) written.ids.items c.requires.written (MatchBool-at_true (NeedNone xs) (NeedNone xs → ⊥) c.if-branch.true c.in_ok-need_none.ensures)
 
-pub returns-in_err-ordered-clause-refused : goal.returns-in_err-ordered-clause-refused
-returns-in_err-ordered-clause-refused c =
+pub returns-then-branch-clause-first : goal.returns-then-branch-clause-first
+returns-then-branch-clause-first c =
+    let xs = map name_behind c.args.names.now in
+    let written = c.args.written in
+    let turn = written_in_turn xs (map definition_behind written.definitions.items) written.ids.items c.requires.written (MatchBool-at_true (NeedNone xs) (NeedNone xs → ⊥) c.if-branch.true c.in_ok-need_none.ensures) in
+    (turn.ordered.order, turn.ordered.least)
+
+pub returns-in_err-ordered-clause-first : goal.returns-in_err-ordered-clause-first
+returns-in_err-ordered-clause-first c =
     let p = err_from_is_err_and c.from_residual-in_err-ordered.result c.from_residual-in_err-ordered.ensures.1 in
-    rw (p.1, p.2) c.in_err-ordered.ensures.refused
+    rw (p.1, p.2) c.in_err-ordered.ensures.first
+
+pub returns-clause-first : goal.returns-clause-first
+returns-clause-first c = c.in_ok-ordered.ensures.first

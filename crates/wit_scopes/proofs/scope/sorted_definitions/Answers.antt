@@ -29,7 +29,10 @@ returns-clause-ordered c =
       are = c.in_ok-definitions.ensures ∙ ap (λ l. defined (map name_behind l)) (c.deref-2.ensures.value ∙ are) ∙ ap defined (map-in_order name_behind names places);
     }
 
-pub returns-in_err-places-clause-refused : goal.returns-in_err-places-clause-refused
-returns-in_err-places-clause-refused c =
+pub returns-in_err-places-clause-first : goal.returns-in_err-places-clause-first
+returns-in_err-places-clause-first c =
     let p = err_from_is_err_and c.from_residual.result c.from_residual.ensures.1 in
-    rw (p.1, p.2) c.in_err-places.ensures.refused
+    rw (p.1, p.2) c.in_err-places.ensures.first
+
+pub returns-clause-first : goal.returns-clause-first
+returns-clause-first c = c.in_ok-places.ensures.first
