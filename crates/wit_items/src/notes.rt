@@ -1,8 +1,8 @@
 //! What is told of a declared item: its docs, and how stable it is.
-ghost use Rattle.std.specs.Prelude.{◌≡◌, IfErr, IfOk, OnOk};
-ghost use Rattle.wit_syntax.specs.Broken.{Refused};
-ghost use Rattle.wit_syntax.specs.Fault.{Fault};
-ghost use Rattle.wit_syntax.specs.Notes.{IsBrokenStability, docs_of, stability_of};
+ghost use Rattle.std.specs.Prelude.{◌≡◌, IfOk};
+ghost use Rattle.wit_first.specs.Attributes.{stability_fault};
+ghost use Rattle.wit_first.specs.First.{Finds};
+ghost use Rattle.wit_syntax.specs.Notes.{docs_of, stability_of};
 ghost use Rattle.wit_syntax.specs.Source.{declared_notes, about};
 ghost use Rattle.wit_items.specs.Items.{declared_behind};
 ghost use Rattle.wit_items.specs.Told.{AreOf};
@@ -29,8 +29,7 @@ fn told(
 ) -> ParseResult<ItemNotes>
     ensures docs { IfOk result (λ n. n.docs ≡ docs_of comments.now) }
     ensures stability { IfOk result (λ n. n.stability ≡ stability_of attributes.now) }
-    ensures legal { OnOk result ((f : Fault) → IsBrokenStability attributes.now f → ⊥) }
-    ensures refused { IfErr result (Refused (IsBrokenStability attributes.now)) }
+    ensures first { Finds (stability_fault attributes.now) result }
 {
     let stability = stability(alloc, attributes)?;
     let docs = docs(alloc, comments)?;
@@ -40,8 +39,7 @@ fn told(
 /// What is told of an item; refuses attributes that break a rule of stability.
 pub fn item_notes(alloc: Global, declared: &Declared<'_, '_>) -> ParseResult<ItemNotes>
     ensures told { IfOk result (AreOf (declared_notes (declared_behind declared.now))) }
-    ensures legal { OnOk result ((f : Fault) → IsBrokenStability (about (declared_behind declared.now)).attributes f → ⊥) }
-    ensures refused { IfErr result (Refused (IsBrokenStability (about (declared_behind declared.now)).attributes)) }
+    ensures first { Finds (stability_fault (about (declared_behind declared.now)).attributes) result }
 {
     match declared {
         Declared::Interface(interface) => told(alloc, &interface.docs, &interface.attributes),

@@ -3,6 +3,7 @@ use Rattle.std.proofs.lemmas.Result.{err_from_is_err_and}
 use Rattle.wit_syntax.specs.Notes.{IsBrokenStability}
 use Rattle.wit_syntax.specs.Source.{scope_names, about}
 use Rattle.wit_syntax.proofs.Refusing.{refused_weaker}
+use Rattle.wit_first.proofs.Bridge.{refused_by, stability_agrees}
 use Rattle.wit_scopes.specs.Front.{AreNamesPlaced}
 use Rattle.wit_scopes.specs.Held.{name_behind}
 use Rattle.wit_items.specs.Items.{item_behind}
@@ -18,7 +19,10 @@ returns-in_err-notes-clause-refused c =
     let p = err_from_is_err_and c.from_residual.result c.from_residual.ensures.1 in
     let is = c.args.interfaces.now in
     let item = item_behind c.args.item.now in
-    rw (p.1, p.2) (refused_weaker (IsBrokenStability (about item.declared).attributes) (IsWrongBody c.args.types.now (cells_of is) is.by_name c.args.owner item) _ (λ f h. WrongNotes h) c.in_err-notes.ensures.refused)
+    rw (p.1, p.2) (refused_weaker (IsBrokenStability (about item.declared).attributes) (IsWrongBody c.args.types.now (cells_of is) is.by_name c.args.owner item) _ (λ f h. WrongNotes h) (refused_by (stability_agrees (about item.declared).attributes) c.in_err-notes.ensures.first))
+
+pub returns-clause-stable : goal.returns-clause-stable
+returns-clause-stable c = (stability_agrees (about (item_behind c.args.item.now).declared).attributes).unbroken c.in_ok-notes.ensures.first
 
 pub resolve_names-requires-clause-placed : goal.resolve_names-requires-clause-placed
 resolve_names-requires-clause-placed c =
