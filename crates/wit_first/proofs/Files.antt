@@ -53,6 +53,10 @@ lost_unbroken all (Foreign p id) none f lost =
     let local : Foreign p id ≡ Local lost.id = lost.local in
     (let g : ⊥ = cc in g)
 
+-- at a name that is none
+pub lost_at : (all : List Item) (id : Id) → item_named all id.name.now ≡ None → lost_fault all (Local id) ≡ Some (missing_at 7 item_word id)
+lost_at all id missing = rw missing refl
+
 pub lost_agrees : (all : List Item) (to : Target) → Agrees (lost_fault all to) (IsLost all to)
 lost_agrees all to = record { broken = lost_broken all to; unbroken = lost_unbroken all to }
 

@@ -14,6 +14,7 @@ use Rattle.std.proofs.lemmas.Option.{slice_get_within}
 use Rattle.wit_syntax.specs.Repeats.{IsRepeatAt, AllDiffer}
 use Rattle.wit_syntax.proofs.Lists.{map_at, at_front}
 use Rattle.wit_syntax.proofs.Names.{name_equal, name_itself}
+use Rattle.wit_syntax.proofs.Orders.{take_next}
 use Rattle.wit_syntax.proofs.Repeated.{key_at}
 
 pub or_assoc : {X : Type 0} (a b c : Option X) → option_or (option_or a b) c ≡ option_or a (option_or b c)
@@ -71,6 +72,9 @@ in-next w xs i x within is none right = ap (first_in w) (take_more xs i x within
 
 pub after-next : {X : Type 0} (w : List X → X → Option Fault) (xs : List X) (i : ℕ) (x : X) → i < length xs → x ≡ get_or xs i x → first_after w [] (take i xs) ≡ None → w (take i xs) x ≡ None → first_after w [] (take (i + 1) xs) ≡ None
 after-next w xs i x within is none right = ap (first_after w []) (take_more xs i x within ∙ ap (λ y. take i xs ++ y ∷ []) (sym is)) ∙ after-more w (take i xs) x none ∙ right
+
+pub in-following : {X : Type 0} (w : X → Option Fault) (xs : List X) (i : ℕ) (x : X) → slice_get xs i ≡ Some x → first_in w (take i xs) ≡ None → w x ≡ None → first_in w (take (i + 1) xs) ≡ None
+in-following w xs i x at none right = ap (first_in w) (take_next xs i x at) ∙ in-more w (take i xs) x none ∙ right
 
 -- all items, from a place past the last on
 pub in-all : {X : Type 0} (w : X → Option Fault) (xs : List X) (i : ℕ) → length xs ≤ i → first_in w (take i xs) ≡ None → first_in w xs ≡ None

@@ -6,4 +6,5 @@ pub mod Names
 pub mod Functions
 pub mod Files
 pub mod Orders
+pub mod Uses
 pub mod Laws

@@ -1,6 +1,6 @@
 -- Paths to items of other packages, and the entries of those items.
 use Rattle.std.proofs.Common.{◌≡◌, ℕ, zero, suc, ◌+◌, ◌≤◌, Bool, true, false, not, cond, List, [], ◌∷◌, length, Option, Some, None, inl, inr, refl, sym, ap, ◌∙◌, arith}
-use Rattle.std.specs.Prelude.{slice_get, map, find}
+use Rattle.std.specs.Prelude.{Contains, slice_get, map, find}
 use Rattle.std.specs.List.{flat_map}
 use Rattle.std.specs.Option.{option_map}
 use Rattle.std.proofs.lemmas.Bool.{cases_Bool}
@@ -224,10 +224,12 @@ wanted_in files q w m (Crossing x) j from p id at part here lead =
       | inr own ↦ path_among files q w x.attributes.items false from p id at (λ v first. crossing_visited (parts w) m x own.0 from v part own.2 first) lead
     ]
 
-pub wanted_visited : (files : List PackageFile) (place : ℕ) (from : UsePath) → HasPath files place from → (p : PackageName) (id : Id) → leads (top_at files place) from ≡ Foreign p id → (v : ForeignVisit) × (foreign_at files (ForeignNamed p id.name.now) ≡ Some v)
-wanted_visited files place from h p id lead =
-    let item : Item = record { top = top_at files place; declared = h.declared } in
-    let q = at_contains (all_items files) item h.item.among in
-    let k = at_contains _ from h.among in
+pub used_visited : (files : List PackageFile) (item : Item) (from : UsePath) → Contains (all_items files) item → Contains (flat_map use_path (parts item)) from → (p : PackageName) (id : Id) → leads item.top from ≡ Foreign p id → (v : ForeignVisit) × (foreign_at files (ForeignNamed p id.name.now) ≡ Some v)
+used_visited files item from here among p id lead =
+    let q = at_contains (all_items files) item here in
+    let k = at_contains _ from among in
     let m = flat_map_at use_path (parts item) k.0 from k.1 in
     visited_here files p id (wanted_in files q.0 item m.0 m.1 m.3.0 from p id q.1 m.2 m.3.1 lead)
+
+pub wanted_visited : (files : List PackageFile) (place : ℕ) (from : UsePath) → HasPath files place from → (p : PackageName) (id : Id) → leads (top_at files place) from ≡ Foreign p id → (v : ForeignVisit) × (foreign_at files (ForeignNamed p id.name.now) ≡ Some v)
+wanted_visited files place from h p id lead = used_visited files (record { top = top_at files place; declared = h.declared }) from h.item.among h.among p id lead

@@ -1,4 +1,4 @@
--- What is wrong with uses, part by part, item by item and file by file.
+-- The paths of uses, part by part.
 use Rattle.std.proofs.Common.{◌≡◌, ℕ, zero, suc, List, [], ◌∷◌, ◌++◌, Some, inl, inr, refl, sym, ap, ◌∙◌, subst, arith, Contains}
 use Rattle.std.specs.Prelude.{slice_get, map}
 use Rattle.std.specs.List.{flat_map}
@@ -16,31 +16,12 @@ use Rattle.wit_syntax.specs.Fault.{Fault}
 use Rattle.wit_syntax.proofs.Lists.{at_front, flat_map_at, flat_map_has}
 use Rattle.wit_syntax.proofs.Found.{at_contains, contains_at}
 use Rattle.wit_top_names.proofs.Lost.{at_flat, flat_more}
-use Rattle.wit_item_names.specs.Items.{HasItem, HasPart, HasPath, IsSound, IsUnsound, AreSound, IsUnsoundAmong}
+use Rattle.wit_item_names.specs.Items.{HasItem, HasPart, HasPath}
 
 -- what stands in a list of one is that one
 pub contains_one : {X : Type 0} (x y : X) → Contains (x ∷ []) y → x ≡ y
 contains_one x y (zero, lt, is) = is
 contains_one x y (suc k, lt, is) = absurd (let f : ⊥ = omega arith in f)
-
--- uses that are none, one, or more are sound
-pub sound_none : (files : List PackageFile) (top : List TopName) → AreSound files top []
-sound_none files top = record { each = λ u h. absurd (let lt = h.1 in let f : ⊥ = omega arith in f) }
-
-pub sound_one : (files : List PackageFile) (top : List TopName) (u : WrittenUse) → IsSound files top u → AreSound files top (u ∷ [])
-sound_one files top u sound = record { each = λ v h. subst (IsSound files top) (contains_one u v h) sound }
-
-pub sound_append : (files : List PackageFile) (top : List TopName) (us vs all : List WrittenUse) → all ≡ us ++ vs → AreSound files top us → AreSound files top vs → AreSound files top all
-sound_append files top us vs all whole front back = rw whole (record {
-  each = λ u h. elim (Contains-append_cases us vs u h) [
-    | inl early ↦ front.each u early
-    | inr late ↦ back.each u late
-  ];
-})
-
--- one that is not is one of those
-pub unsound_one : (files : List PackageFile) (top : List TopName) (u : WrittenUse) (f : Fault) → IsUnsound files top u f → IsUnsoundAmong files top (u ∷ []) f
-unsound_one files top u f h = record { u = u; among = contains_at (u ∷ []) 0 u refl; broken = h }
 
 -- what one of a list brings is among what the list brings
 pub among_flat : {X A : Type 0} (of : X → List A) (xs : List X) (i : ℕ) (x : X) (a : A) → slice_get xs i ≡ Some x → Contains (of x) a → Contains (flat_map of xs) a
@@ -52,10 +33,6 @@ among_flat of xs i x a at among =
 -- what parts bring, one more
 pub parts_more : {X A : Type 0} (of : Part → List A) (part : X → Part) (xs ys : List X) (x : X) (p : Part) → ys ≡ xs ++ x ∷ [] → p ≡ part x → flat_map of (map part ys) ≡ flat_map of (map part xs) ++ of p
 parts_more of part xs ys x p grown is = flat_more of (map part xs) (map part ys) (part x) (ap (map part) grown ∙ map-append part xs (x ∷ [])) ∙ ap (λ q. flat_map of (map part xs) ++ of q) (sym is)
-
--- a use that one of a list brings is one of those that the list brings
-pub unsound_among : {X : Type 0} (files : List PackageFile) (top : List TopName) (of : X → List WrittenUse) (xs : List X) (i : ℕ) (x : X) (f : Fault) → slice_get xs i ≡ Some x → IsUnsoundAmong files top (of x) f → IsUnsoundAmong files top (flat_map of xs) f
-unsound_among files top of xs i x f at h = record { u = h.u; among = among_flat of xs i x h.u at h.among; broken = h.broken }
 
 -- the path of a `use` is one of its part, and so of its item
 use_path_of : (p : Part) (j : ℕ) (u : WrittenUse) → slice_get (part_uses p) j ≡ Some u → slice_get (use_path p) j ≡ Some u.from

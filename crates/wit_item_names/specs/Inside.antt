@@ -1,13 +1,14 @@
 -- The names of interfaces that are written in worlds.
 use Rattle.std.specs.Prelude.{if◌then◌else◌, List, [], ◌∷◌, map}
 use Rattle.std.specs.List.{flat_map}
+use Rattle.wit_tree.specs.declared.tree.Extern.{Extern}
 use Rattle.wit_tree.specs.declared.tree.ExternKind.{ExternKind}
 use Rattle.wit_tree.specs.declared.tree.ExternKind.TheVariants as extern
 use Rattle.wit_tree.specs.declared.tree.InterfaceItem.{InterfaceItem}
 use Rattle.wit_tree.specs.declared.tree.Use.{Use}
 use Rattle.wit_tree.specs.declared.tree.WorldSide.{WorldSide}
 use Rattle.wit_syntax.specs.Crossing.{same_side, inline_uses}
-use Rattle.wit_syntax.specs.Source.{TopName, interface_part, part_names, Part, Defining, Using, Including, Doing, Crossing, ScopeName}
+use Rattle.wit_syntax.specs.Source.{TopName, at_side, interface_part, part_names, Part, Defining, Using, Including, Doing, Crossing, ScopeName}
 use Rattle.wit_syntax.specs.Sides.{SideItem, SideFunction, SideLink, SideInline}
 
 -- the names of the interface that it is, if it is written there
@@ -33,8 +34,4 @@ written_items side (Crossing x) = if same_side side x.side then kind_items x.kin
 
 -- the uses of the interface that is written in a part, if it stands on a side
 abbrev pub side_uses : WorldSide → Part → List Use
-side_uses side (Defining d) = []
-side_uses side (Using u) = []
-side_uses side (Including i) = []
-side_uses side (Doing f) = []
-side_uses side (Crossing x) = if same_side side x.side then inline_uses x.kind else []
+side_uses side part = at_side (λ (x : Extern). inline_uses x.kind) side part

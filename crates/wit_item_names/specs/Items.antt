@@ -13,7 +13,7 @@ use Rattle.wit_syntax.specs.Source.{Target, Local, Foreign, leads, path_id, path
 use Rattle.wit_syntax.specs.Scope.{use_path, uses}
 use Rattle.wit_syntax.specs.Foreign.{visited, foreign_at, foreign_items, foreign_interfaces}
 use Rattle.wit_arena.specs.Whole.{foreign_entry}
-use Rattle.wit_syntax.specs.Fault.{Fault, fault, missing_at, item_word}
+use Rattle.wit_syntax.specs.Fault.{Fault}
 use Rattle.wit_syntax.specs.Notes.{IsBrokenNotes}
 use Rattle.wit_arena.specs.Resolving.{Names, env_of}
 use Rattle.wit_syntax.specs.Broken.{is_world_at}
@@ -33,14 +33,6 @@ part_behind (held_part.Using u) = Using u.now
 part_behind (held_part.Including i) = Including i.now
 part_behind (held_part.Doing f) = Doing f.now
 part_behind (held_part.Crossing x) = Crossing x.now
-
--- the uses of a part that are its own: those of an interface that is written in a world are that one's
-abbrev pub own_uses : Part → List Use
-own_uses (Defining d) = []
-own_uses (Using u) = u ∷ []
-own_uses (Including i) = []
-own_uses (Doing f) = []
-own_uses (Crossing x) = []
 
 -- this is an item that the file at a place declares
 pub record HasItem (files : List PackageFile) (place : ℕ) (d : Declared) : Type 0 where
@@ -106,39 +98,11 @@ IsReached files top path (reached.Interface source) = (source_behind source ≡ 
 IsReached files top path reached.World = is_world_at files (leads top path) ≡ Some true
 IsReached files top path (reached.Nothing id) = (leads top path ≡ Local id) × (item_named (all_items files) id.name.now ≡ None)
 
--- a path that wants an interface leads to no item
-pub record IsNowhere (files : List PackageFile) (top : List TopName) (path : UsePath) (f : Fault) : Type 0 where
-  pub id : Id
-  pub local : leads top path ≡ Local id
-  pub missing : item_named (all_items files) id.name.now ≡ None
-  pub is : f ≡ missing_at 7 item_word id
-
--- it leads to a world
-pub record IsAtWorld (files : List PackageFile) (top : List TopName) (path : UsePath) (f : Fault) : Type 0 where
-  pub other : is_world_at files (leads top path) ≡ Some true
-  pub is : f ≡ fault 10 (path_id path).span
-
--- what is wrong with where it leads
-pub data IsUnusable (files : List PackageFile) (top : List TopName) (path : UsePath) (f : Fault) : Type 0 where
-  Nowhere : IsNowhere files top path f → IsUnusable files top path f
-  AtWorld : IsAtWorld files top path f → IsUnusable files top path f
-
 -- the attributes of a `use` break no rule, and its path leads to an interface
 pub record IsSound (files : List PackageFile) (top : List TopName) (u : Use) : Type 0 where
   pub noted : (f : Fault) → IsBrokenNotes u.attributes.items f → ⊥
   pub usable : IsUsable files top u.from
 
--- what is wrong with a `use`: with its attributes, or with where it leads
-pub data IsUnsound (files : List PackageFile) (top : List TopName) (u : Use) (f : Fault) : Type 0 where
-  BrokenNotes : IsBrokenNotes u.attributes.items f → IsUnsound files top u f
-  Unusable : IsUnusable files top u.from f → IsUnsound files top u f
-
 -- nothing is wrong with these
 pub record AreSound (files : List PackageFile) (top : List TopName) (us : List Use) : Type 0 where
   pub each : (u : Use) → Contains us u → IsSound files top u
-
--- something is wrong with one of these
-pub record IsUnsoundAmong (files : List PackageFile) (top : List TopName) (us : List Use) (f : Fault) : Type 0 where
-  pub u : Use
-  pub among : Contains us u
-  pub broken : IsUnsound files top u f

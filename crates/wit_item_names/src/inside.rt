@@ -1,13 +1,14 @@
 //! The names of the interfaces that are written in a world.
-ghost use Rattle.std.specs.Prelude.{◌≡◌, All, map, IfOk, IfErr, OnOk};
+ghost use Rattle.std.specs.Prelude.{◌≡◌, All, map, IfOk};
 ghost use Rattle.std.specs.List.{flat_map};
 ghost use Rattle.std.specs.Option.{option_copied, option_to_list};
 ghost use Rattle.wit_syntax.specs.Source.{TheWorld, world_part as the_world_part};
 ghost use Rattle.wit_syntax.specs.Sides.{items_on, part_items};
 ghost use Rattle.wit_syntax.specs.Foreign.{visited, foreign_interfaces};
-ghost use Rattle.wit_syntax.specs.Broken.{Refused};
+ghost use Rattle.wit_first.specs.First.{Finds};
+ghost use Rattle.wit_first.specs.Uses.{uses_fault};
 ghost use Rattle.wit_files.specs.FileNames.{top_at};
-ghost use Rattle.wit_item_names.specs.Items.{HasItem, AreEntriesOf, AreSound, IsUnsoundAmong};
+ghost use Rattle.wit_item_names.specs.Items.{HasItem, AreEntriesOf};
 ghost use Rattle.wit_item_names.specs.Inside.{inline_names, kind_items, side_uses, written_items};
 ghost use Rattle.wit_scopes.specs.Held.{name_behind};
 ghost use Rattle.wit_scopes.specs.Front.{AreNamesPlaced};
@@ -62,8 +63,7 @@ pub fn names_inside<'f, 'a>(
     requires entries { AreEntriesOf files.now entries.now }
     ensures names { IfOk result (λ inside. map (λ ns. map name_behind ns.items) inside.items ≡ flat_map (inline_names (top_at files.now place)) (items_on side (flat_map part_items (map the_world_part world.now.items.items)))) }
     ensures placed { IfOk result (λ inside. All (λ ns. AreNamesPlaced (map visited (foreign_interfaces files.now)) ns.items) inside.items) }
-    ensures sound { OnOk result (AreSound files.now (top_at files.now place) (flat_map (side_uses side) (map the_world_part world.now.items.items))) }
-    ensures refused { IfErr result (Refused (IsUnsoundAmong files.now (top_at files.now place) (flat_map (side_uses side) (map the_world_part world.now.items.items)))) }
+    ensures first { Finds (uses_fault files.now (top_at files.now place) (flat_map (side_uses side) (map the_world_part world.now.items.items))) result }
 {
     let mut inside = Vec::new(alloc);
     for part in world_items(world) {

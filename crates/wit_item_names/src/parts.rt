@@ -1,14 +1,15 @@
 //! The names that the parts of an item bring.
-ghost use Rattle.std.specs.Prelude.{◌≡◌, ◌++◌, Contains, map, IfOk, IfErr, OnOk};
+ghost use Rattle.std.specs.Prelude.{◌≡◌, ◌++◌, Contains, map, IfOk, OnOk};
 ghost use Rattle.std.specs.List.{flat_map};
 ghost use Rattle.wit_tree.specs.declared.tree.Use.{Use as TheUse};
 ghost use Rattle.wit_syntax.specs.Crossing.{item_uses};
 ghost use Rattle.wit_syntax.specs.Source.{TheWorld, interface_part as the_interface_part, world_part as the_world_part, part_names, path_scope};
 ghost use Rattle.wit_syntax.specs.Foreign.{visited, foreign_interfaces};
-ghost use Rattle.wit_syntax.specs.Broken.{Refused};
+ghost use Rattle.wit_first.specs.First.{Finds};
+ghost use Rattle.wit_first.specs.Uses.{own_uses, use_fault, uses_fault};
 ghost use Rattle.wit_files.specs.FileNames.{top_at};
 ghost use Rattle.wit_scopes.specs.Held.{source_behind, name_behind, IsPlaced};
-ghost use Rattle.wit_item_names.specs.Items.{part_behind, own_uses, HasItem, HasPath, AreEntriesOf, IsSound, IsUnsound, AreSound, IsUnsoundAmong};
+ghost use Rattle.wit_item_names.specs.Items.{part_behind, HasItem, HasPath, AreEntriesOf};
 ghost use Rattle.wit_scopes.specs.Front.{AreNamesPlaced};
 
 use crate::reached::path_source;
@@ -67,8 +68,7 @@ fn sound_source<'f, 'a>(
     requires entries { AreEntriesOf files.now entries.now }
     ensures source { IfOk result (λ source. source_behind source ≡ path_scope (top_at files.now place) used.now.from) }
     ensures placed { IfOk result (λ source. IsPlaced (map visited (foreign_interfaces files.now)) source) }
-    ensures sound { OnOk result (IsSound files.now (top_at files.now place) used.now) }
-    ensures refused { IfErr result (Refused (IsUnsound files.now (top_at files.now place) used.now)) }
+    ensures first { Finds (use_fault files.now (top_at files.now place) used.now) result }
 {
     check_notes(alloc, &used.attributes)?;
     let source = path_source(alloc, files, entries, place, &used.from)?;
@@ -88,8 +88,7 @@ fn add_part<'f, 'a>(
     requires entries { AreEntriesOf files.now entries.now }
     ensures names { OnOk result (map name_behind names.new.items ≡ map name_behind names.old.items ++ part_names (top_at files.now place) (part_behind part.entry)) }
     ensures placed { OnOk result (AreNamesPlaced (map visited (foreign_interfaces files.now)) names.old.items → AreNamesPlaced (map visited (foreign_interfaces files.now)) names.new.items) }
-    ensures sound { OnOk result (AreSound files.now (top_at files.now place) (own_uses (part_behind part.entry))) }
-    ensures refused { IfErr result (Refused (IsUnsoundAmong files.now (top_at files.now place) (own_uses (part_behind part.entry)))) }
+    ensures first { Finds (uses_fault files.now (top_at files.now place) (own_uses (part_behind part.entry))) result }
 {
     match part {
         Part::Defining(definition) => {
@@ -147,8 +146,7 @@ pub fn interface_names<'f, 'a>(
     requires entries { AreEntriesOf files.now entries.now }
     ensures names { IfOk result (λ names. map name_behind names.items ≡ flat_map (part_names (top_at files.now place)) (map the_interface_part items.now)) }
     ensures placed { IfOk result (λ names. AreNamesPlaced (map visited (foreign_interfaces files.now)) names.items) }
-    ensures sound { OnOk result (AreSound files.now (top_at files.now place) (flat_map item_uses items.now)) }
-    ensures refused { IfErr result (Refused (IsUnsoundAmong files.now (top_at files.now place) (flat_map item_uses items.now))) }
+    ensures first { Finds (uses_fault files.now (top_at files.now place) (flat_map item_uses items.now)) result }
 {
     let mut names = Vec::with_capacity(alloc, interface_room(items))?;
     for part in items {
@@ -176,8 +174,7 @@ pub fn world_names<'f, 'a>(
     requires entries { AreEntriesOf files.now entries.now }
     ensures names { IfOk result (λ names. map name_behind names.items ≡ flat_map (part_names (top_at files.now place)) (map the_world_part world.now.items.items)) }
     ensures placed { IfOk result (λ names. AreNamesPlaced (map visited (foreign_interfaces files.now)) names.items) }
-    ensures sound { OnOk result (AreSound files.now (top_at files.now place) (flat_map own_uses (map the_world_part world.now.items.items))) }
-    ensures refused { IfErr result (Refused (IsUnsoundAmong files.now (top_at files.now place) (flat_map own_uses (map the_world_part world.now.items.items)))) }
+    ensures first { Finds (uses_fault files.now (top_at files.now place) (flat_map own_uses (map the_world_part world.now.items.items))) result }
 {
     let written = world_items(world);
     let mut names = Vec::with_capacity(alloc, world_room(written))?;

@@ -1,13 +1,14 @@
 //! What a path of an item leads to that wants an interface.
-ghost use Rattle.std.specs.Prelude.{◌≡◌, ◌<◌, length, map, IfOk, IfErr, OnOk};
+ghost use Rattle.std.specs.Prelude.{◌≡◌, ◌<◌, length, map, IfOk};
 ghost use Rattle.std.specs.Option.{option_copied};
 ghost use Rattle.wit_syntax.specs.Source.{Local, leads, path_scope};
 ghost use Rattle.wit_syntax.specs.Foreign.{visited, foreign_interfaces};
-ghost use Rattle.wit_syntax.specs.Broken.{Refused};
+ghost use Rattle.wit_first.specs.First.{Finds};
+ghost use Rattle.wit_first.specs.Uses.{path_fault};
 ghost use Rattle.wit_top_names.specs.Tops.{target_behind};
 ghost use Rattle.wit_files.specs.FileNames.{top_at};
 ghost use Rattle.wit_scopes.specs.Held.{source_behind, IsPlaced};
-ghost use Rattle.wit_item_names.specs.Items.{HasPath, AreEntriesOf, item_place as the_item_place, other_place as the_other_place, entry_at, interface_entry, IsReached, IsUsable, IsUnusable};
+ghost use Rattle.wit_item_names.specs.Items.{HasPath, AreEntriesOf, item_place as the_item_place, other_place as the_other_place, entry_at, interface_entry, IsReached};
 
 use std::alloc::Global;
 use wit_files::{FileNames, Found};
@@ -154,8 +155,7 @@ pub fn path_source<'f, 'a>(
     requires entries { AreEntriesOf files.now entries.now }
     ensures source { IfOk result (λ source. source_behind source ≡ path_scope (top_at files.now place) path.now) }
     ensures placed { IfOk result (λ source. IsPlaced (map visited (foreign_interfaces files.now)) source) }
-    ensures usable { OnOk result (IsUsable files.now (top_at files.now place) path.now) }
-    ensures refused { IfErr result (Refused (IsUnusable files.now (top_at files.now place) path.now)) }
+    ensures first { Finds (path_fault files.now (top_at files.now place) path.now) result }
 {
     match reach(files, entries, place, path) {
         Reached::Interface(source) => Ok(source),

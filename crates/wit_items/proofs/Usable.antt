@@ -1,39 +1,37 @@
--- What is wrong with uses, part by part, item by item and file by file.
-use Rattle.std.proofs.Common.{◌≡◌, ℕ, List, [], ◌∷◌, ◌++◌, Some, inl, inr, sym, ap, subst, Contains}
+-- Items of files, and the first fault of their uses.
+use Rattle.std.proofs.Common.{◌≡◌, ℕ, Bool, true, false, List, [], ◌∷◌, ◌++◌, Option, Some, None, inl, inr, refl, sym, ap, ◌∙◌, subst, Contains}
 use Rattle.std.specs.Prelude.{slice_get}
 use Rattle.std.specs.List.{flat_map}
+use Rattle.std.specs.Option.{option_map}
 use Rattle.std.proofs.lemmas.Option.{slice_get_within}
-use Rattle.std.proofs.lemmas.List.Elements.{Contains-append_cases}
-use Rattle.wit_tree.specs.declared.tree.Use.{Use as WrittenUse}
+use Rattle.wit_values.specs.declared.span.Span.{Span}
+use Rattle.wit_type_tree.specs.declared.leaves.Id.{Id}
+use Rattle.wit_tree.specs.declared.tree.Extern.{Extern}
 use Rattle.wit_tree.specs.declared.tree.UsePath.{UsePath}
 use Rattle.wit_tree.specs.declared.tree.PackageFile.{PackageFile}
-use Rattle.wit_syntax.specs.Source.{TopName, top_names, Declared, Item, parts, file_items, all_items}
+use Rattle.wit_package_names.specs.declared.package_name.PackageName.{PackageName}
+use Rattle.wit_syntax.specs.Address.{ForeignNamed}
+use Rattle.wit_syntax.specs.Broken.{is_world_at, IsBrokenUse, MissingUse, WorldUsed, IsBroken, UseNotes, Use}
+use Rattle.wit_syntax.specs.Crossing.{inline_uses}
+use Rattle.wit_syntax.specs.Fault.{Fault, fault, missing_at, item_word}
+use Rattle.wit_syntax.specs.Foreign.{ForeignVisit, foreign_at}
+use Rattle.wit_syntax.specs.Source.{Target, Local, Foreign, leads, path_id, top_names, Declared, Item, item_named, is_world, parts, file_items, all_items, walk}
 use Rattle.wit_syntax.specs.Scope.{use_paths, uses}
-use Rattle.wit_syntax.specs.Fault.{Fault}
-use Rattle.wit_syntax.specs.Broken.{IsBrokenUse, MissingUse, WorldUsed, IsBroken, UseNotes, Use}
 use Rattle.wit_syntax.proofs.Lists.{at_either}
 use Rattle.wit_syntax.proofs.Found.{at_contains, contains_at}
-use Rattle.wit_top_names.proofs.Lost.{at_flat, flat_more}
+use Rattle.wit_first.specs.Attributes.{notes_fault}
+use Rattle.wit_first.specs.Files.{lost_fault}
+use Rattle.wit_first.specs.Uses.{all_uses_fault, item_uses_fault, own_uses, path_fault, reached_fault, use_fault}
+use Rattle.wit_first.proofs.Bridge.{in_only, in_some, notes_agree, or_none_both, or_some}
+use Rattle.wit_first.proofs.Files.{lost_agrees, lost_at}
+use Rattle.wit_top_names.proofs.Lost.{at_flat}
 use Rattle.wit_files.specs.FileNames.{names_at_top}
 use Rattle.wit_items.specs.declared.items.Item.{Item as Held}
-use Rattle.wit_item_names.specs.Items.{HasItem, IsUnusable, Nowhere, AtWorld, IsUnsound, BrokenNotes, Unusable, AreSound, IsUnsoundAmong}
-use Rattle.wit_items.specs.Items.{declared_behind, IsFiled, AreFiled, HaveSoundUses, HasUnsoundUse}
-use Rattle.wit_item_names.proofs.Usable.{contains_one, path_of_use}
-
-pub sound_same : (files : List PackageFile) (top : List TopName) (us vs : List WrittenUse) → us ≡ vs → AreSound files top us → AreSound files top vs
-sound_same files top us vs same sound = subst (AreSound files top) same sound
-
--- so is one that each of which is among what others bring
-pub unsound_wider : (files : List PackageFile) (top : List TopName) (us vs : List WrittenUse) (f : Fault) → ((u : WrittenUse) → Contains us u → Contains vs u) → IsUnsoundAmong files top us f → IsUnsoundAmong files top vs f
-unsound_wider files top us vs f wider h = record { u = h.u; among = wider h.u h.among; broken = h.broken }
-
-pub sound_items_more : (files : List PackageFile) (own all : List Item) (w : Item) → all ≡ own ++ w ∷ [] → HaveSoundUses files own → AreSound files w.top (uses w) → HaveSoundUses files all
-sound_items_more files own all w whole sound one = rw whole (record {
-  each = λ i h. elim (Contains-append_cases own (w ∷ []) i h) [
-    | inl early ↦ sound.each i early
-    | inr last ↦ subst (λ (v : Item). AreSound files v.top (uses v)) (contains_one w i last) one
-  ];
-})
+use Rattle.wit_item_names.specs.Items.{HasItem}
+use Rattle.wit_items.specs.Items.{declared_behind, IsFiled, AreFiled, HaveSoundUses}
+use Rattle.wit_item_names.proofs.Others.{used_visited}
+use Rattle.wit_item_names.proofs.Usable.{path_of_use}
+use Rattle.wit_items.proofs.Written.{right_use, walked}
 
 -- items of files, one more
 pub filed_more : (files : List PackageFile) (items new : List Held) (x : Held) → new ≡ items ++ x ∷ [] → AreFiled files items → IsFiled files x → AreFiled files new
@@ -54,23 +52,11 @@ filed_item files i filed = record {
   among = rw (ap names_at_top filed.file) filed.among;
 }
 
--- one that leads to no interface breaks a rule
-pub unusable_use : (files : List PackageFile) (i : Item) (path : UsePath) (f : Fault) → Contains (use_paths i) path → IsUnusable files i.top path f → IsBrokenUse files i f
-unusable_use files i path f among (Nowhere h) = MissingUse path h.id among h.local h.missing h.is
-unusable_use files i path f among (AtWorld h) = WorldUsed path among h.other h.is
-
 -- what one of a list alone brings is among what the list brings
 pub declared_among : {X A : Type 0} (of : X → List A) (xs : List X) (i : ℕ) (x : X) (a : A) → slice_get xs i ≡ Some x → of x ≡ a ∷ [] → Contains (flat_map of xs) a
 declared_among of xs i x a at only =
     let it = at_flat of xs i 0 x a at (ap (λ l. slice_get l 0) only) in
     contains_at (flat_map of xs) it.0 a it.1
-
--- what holds of all that the items of files were made from, one file more
-pub items_held : (P : Item → Type 0) (files all : List PackageFile) (file : PackageFile) → all ≡ files ++ file ∷ [] → ((i : Item) → Contains (all_items files) i → P i) → ((i : Item) → Contains (file_items file) i → P i) → (i : Item) → Contains (all_items all) i → P i
-items_held P files all file whole front last i among = elim (Contains-append_cases (all_items files) (file_items file) i (rw (flat_more file_items files all file whole) at among)) [
-  | inl early ↦ front i early
-  | inr late ↦ last i late
-]
 
 -- an item of a file is one of all files
 pub item_among : (files : List PackageFile) (k : ℕ) (file : PackageFile) (i : Item) → slice_get files k ≡ Some file → Contains (file_items file) i → Contains (all_items files) i
@@ -85,10 +71,57 @@ item_here files place file d at among = record {
   among = rw (ap names_at_top at) (item_among files place file (record { top = top_names file; declared = d }) at among);
 }
 
--- a use that is not sound breaks a rule of the files
-unsound_use : (files : List PackageFile) (i : Item) (u : WrittenUse) (f : Fault) → Contains (all_items files) i → Contains (uses i) u → IsUnsound files i.top u f → IsBroken files f
-unsound_use files i u f here among (BrokenNotes h) = UseNotes i here u among h
-unsound_use files i u f here among (Unusable h) = Use i here (unusable_use files i u.from f (path_of_use (parts i) u among) h)
+-- the first fault of where a path leads is a broken rule of its item
+path_broken : (files : List PackageFile) (i : Item) (from : UsePath) (f : Fault) → Contains (use_paths i) from → path_fault files i.top from ≡ Some f → IsBrokenUse files i f
+path_broken files i from f among h = by (is_world_at files (leads i.top from)) refl h
+  where
+    by : (o : Option Bool) → is_world_at files (leads i.top from) ≡ o → reached_fault o (path_id from).span (lost_fault (all_items files) (leads i.top from)) ≡ Some f → IsBrokenUse files i f
+    by None is h = (let lost = (lost_agrees (all_items files) (leads i.top from)).broken f h in MissingUse from lost.id among lost.local lost.missing lost.is)
+    by (Some true) is h = (let same : Some (fault 10 (path_id from).span) ≡ Some f = h in WorldUsed from among is (let says : f ≡ fault 10 (path_id from).span = cc in says))
+    by (Some false) is h = absurd (let wrong : None ≡ Some f = h in let g : ⊥ = cc in g)
 
-pub unsound_broken : (files : List PackageFile) (k : ℕ) (file : PackageFile) → slice_get files k ≡ Some file → (f : Fault) → HasUnsoundUse files (file_items file) f → IsBroken files f
-unsound_broken files k file at f h = unsound_use files h.i h.broken.u f (item_among files k file h.i at h.among) h.broken.among h.broken.broken
+-- that of the uses of items is a broken rule
+pub uses_broken : (files : List PackageFile) (f : Fault) → all_uses_fault files ≡ Some f → IsBroken files f
+uses_broken files f h =
+    let own = in_some (item_uses_fault files) (all_items files) f h in
+    let i = own.1 in
+    let walked_uses = walk own_uses (λ (x : Extern). inline_uses x.kind) (parts i) in
+    let it = in_some (use_fault files i.top) walked_uses f own.3 in
+    let u = it.1 in
+    let here = contains_at (all_items files) own.0 i own.2 in
+    let among : Contains (uses i) u = walked i u (contains_at walked_uses it.0 u it.2) in
+    elim (or_some (notes_fault u.attributes.items) (path_fault files i.top u.from) f it.3) [
+      | inl noted ↦ UseNotes i here u among ((notes_agree u.attributes.items).broken f noted)
+      | inr far ↦ Use i here (path_broken files i u.from f (path_of_use (parts i) u among) far.1)
+    ]
+
+-- where there is none, each path leads to an interface
+none_mapped : (o : Option Item) → option_map is_world o ≡ None → o ≡ None
+none_mapped None h = refl
+none_mapped (Some i) h = absurd (let f : ⊥ = cc in f)
+
+usable_by : (files : List PackageFile) (to : Target) (span : Span) (o : Option Bool) → is_world_at files to ≡ o → ((p : PackageName) (id : Id) → to ≡ Foreign p id → (v : ForeignVisit) × (foreign_at files (ForeignNamed p id.name.now) ≡ Some v)) → reached_fault o span (lost_fault (all_items files) to) ≡ None → is_world_at files to ≡ Some false
+usable_by files to span (Some false) is visited none = is
+usable_by files to span (Some true) is visited none = absurd (let f : ⊥ = cc in f)
+usable_by files (Local id) span None is visited none =
+    let lost = lost_at (all_items files) id (none_mapped (item_named (all_items files) id.name.now) is) in
+    let wrong : None ≡ Some (missing_at 7 item_word id) = sym none ∙ lost in
+    absurd (let f : ⊥ = cc in f)
+usable_by files (Foreign p id) span None is visited none =
+    let v = visited p id refl in
+    let wrong : None ≡ Some v.0.wants_world = sym is ∙ ap (option_map (λ (w : ForeignVisit). w.wants_world)) v.1 in
+    absurd (let f : ⊥ = cc in f)
+
+pub uses_sound : (files : List PackageFile) → all_uses_fault files ≡ None → HaveSoundUses files (all_items files)
+uses_sound files none = record {
+  each = λ i here. record {
+    each = λ u among. (
+        let k = at_contains (all_items files) i here in
+        let right = right_use files i.top (parts i) (in_only (item_uses_fault files) (all_items files) none k.0 i k.1) u among in
+        let both = or_none_both (notes_fault u.attributes.items) (path_fault files i.top u.from) right in
+        record {
+          noted = (notes_agree u.attributes.items).unbroken both.0;
+          usable = usable_by files (leads i.top u.from) (path_id u.from).span (is_world_at files (leads i.top u.from)) refl (used_visited files i u.from here (path_of_use (parts i) u among)) both.1;
+        });
+  };
+}

@@ -1,7 +1,11 @@
 -- The uses and the names of interfaces that are written in a world: those of its parts on each side.
-use Rattle.std.proofs.Common.{◌≡◌, ℕ, List, [], ◌∷◌, Some, refl, ap, ◌∙◌, Contains}
+use Rattle.std.proofs.Common.{◌≡◌, ℕ, List, [], ◌∷◌, ◌++◌, Some, None, inl, inr, refl, sym, ap, ◌∙◌, Contains}
 use Rattle.std.specs.Prelude.{slice_get, map}
 use Rattle.std.specs.List.{flat_map}
+use Rattle.std.specs.Option.{option_or}
+use Rattle.std.proofs.lemmas.List.{append-nil}
+use Rattle.std.proofs.lemmas.List.Elements.{Contains-append_cases}
+use Rattle.wit_tree.specs.declared.tree.Extern.{Extern}
 use Rattle.wit_tree.specs.declared.tree.Interface.{Interface}
 use Rattle.wit_tree.specs.declared.tree.InterfaceItem.{InterfaceItem}
 use Rattle.wit_tree.specs.declared.tree.InterfaceItem.TheVariants as interface_item
@@ -9,19 +13,21 @@ use Rattle.wit_tree.specs.declared.tree.PackageFile.{PackageFile}
 use Rattle.wit_tree.specs.declared.tree.Use.{Use as WrittenUse}
 use Rattle.wit_tree.specs.declared.tree.WorldSide.{WorldSide}
 use Rattle.wit_tree.specs.declared.tree.WorldSide.TheVariants.{Imported, Exported}
-use Rattle.wit_syntax.specs.Crossing.{item_uses}
-use Rattle.wit_syntax.specs.Source.{TopName, TheInterface, interface_part, Item, Part, Defining, Using, Including, Doing, Crossing}
-use Rattle.wit_syntax.specs.Scope.{part_uses}
+use Rattle.wit_syntax.specs.Crossing.{inline_uses, item_uses}
+use Rattle.wit_syntax.specs.Source.{TopName, TheInterface, interface_part, Item, Part, Defining, Using, Including, Doing, Crossing, parts, walk}
+use Rattle.wit_syntax.specs.Scope.{part_uses, uses}
 use Rattle.wit_syntax.proofs.Addresses.{side_itself}
 use Rattle.wit_syntax.proofs.Lists.{flat_map_at}
 use Rattle.wit_syntax.proofs.Found.{at_contains, contains_at}
-use Rattle.wit_item_names.specs.Items.{own_uses, IsSound, AreSound}
+use Rattle.wit_first.specs.Uses.{item_uses_fault, own_uses, use_fault, uses_fault}
+use Rattle.wit_first.proofs.Bridge.{in_only, or_none_both}
+use Rattle.wit_first.proofs.First.{in-append}
 use Rattle.wit_scopes.specs.Held.{name_behind}
 use Rattle.wit_items.specs.declared.items.Item.{Item as Held}
 use Rattle.wit_item_names.specs.Inside.{written_items, side_uses}
 use Rattle.wit_items.specs.Inside.{names_written, inside_behind}
 use Rattle.wit_item_names.proofs.Usable.{among_flat}
-use Rattle.wit_item_names.proofs.Written.{items_names, names_written_in}
+use Rattle.wit_item_names.proofs.Written.{items_names, names_written_in, own_among, side_among}
 
 pub items_uses : (xs : List InterfaceItem) → flat_map part_uses (map interface_part xs) ≡ flat_map item_uses xs
 items_uses [] = refl
@@ -36,29 +42,73 @@ among_wider f g ps a wider among =
     let p = flat_map_at f ps k.0 a k.1 in
     among_flat g ps p.0 p.1 a p.2 (wider p.1 (contains_at (f p.1) p.3.0 a p.3.1))
 
--- nothing is wrong with the uses of parts, where nothing is wrong with their own, nor with those that are written on either side
-module _ (files : List PackageFile) (top : List TopName) (ps : List Part) (own : AreSound files top (flat_map own_uses ps)) (imported : AreSound files top (flat_map (side_uses Imported) ps)) (exported : AreSound files top (flat_map (side_uses Exported) ps)) where
-  on_side : (side : WorldSide) → AreSound files top (flat_map (side_uses side) ps)
-  on_side Imported = imported
-  on_side Exported = exported
+-- of an interface, whose parts bring nothing on a side, those of an item are those of its parts
+own_items : (xs : List InterfaceItem) → flat_map own_uses (map interface_part xs) ≡ flat_map item_uses xs
+own_items [] = refl
+own_items (interface_item.TypeDef d ∷ xs) = own_items xs
+own_items (interface_item.Use u ∷ xs) = ap (λ l. u ∷ l) (own_items xs)
+own_items (interface_item.Func f ∷ xs) = own_items xs
 
-  pub sound_uses : AreSound files top (flat_map part_uses ps)
-  sound_uses = record {
-    each = λ u among. (
-        let k = at_contains (flat_map part_uses ps) u among in
-        let p = flat_map_at part_uses ps k.0 u k.1 in
-        by_part p.0 p.1 u p.2 (contains_at (part_uses p.1) p.3.0 u p.3.1));
-  }
+none_on : (side : WorldSide) (xs : List InterfaceItem) → flat_map (side_uses side) (map interface_part xs) ≡ []
+none_on side [] = refl
+none_on side (interface_item.TypeDef d ∷ xs) = none_on side xs
+none_on side (interface_item.Use u ∷ xs) = none_on side xs
+none_on side (interface_item.Func f ∷ xs) = none_on side xs
+
+pub interface_uses : (files : List PackageFile) (top : List TopName) (i : Interface) → item_uses_fault files (record { top = top; declared = TheInterface i }) ≡ uses_fault files top (flat_map item_uses i.items.items)
+interface_uses files top i =
+    let ps = map interface_part i.items.items in
+    let own = flat_map own_uses ps in
+    ap (λ l. uses_fault files top (own ++ (l ++ flat_map (side_uses Exported) ps))) (none_on Imported i.items.items)
+    ∙ ap (λ l. uses_fault files top (own ++ l)) (none_on Exported i.items.items)
+    ∙ ap (uses_fault files top) (append-nil own ∙ own_items i.items.items)
+
+-- of a world: its own, and then those on either side
+pub world_uses : (files : List PackageFile) (top : List TopName) (ps : List Part) → uses_fault files top (walk own_uses (λ (x : Extern). inline_uses x.kind) ps) ≡ option_or (uses_fault files top (flat_map own_uses ps)) (option_or (uses_fault files top (flat_map (side_uses Imported) ps)) (uses_fault files top (flat_map (side_uses Exported) ps)))
+world_uses files top ps =
+    in-append (use_fault files top) (flat_map own_uses ps) (flat_map (side_uses Imported) ps ++ flat_map (side_uses Exported) ps)
+    ∙ ap (option_or (uses_fault files top (flat_map own_uses ps))) (in-append (use_fault files top) (flat_map (side_uses Imported) ps) (flat_map (side_uses Exported) ps))
+
+-- these are the uses of the item, in another order
+walk_among : (ps : List Part) (u : WrittenUse) → Contains (walk own_uses (λ (x : Extern). inline_uses x.kind) ps) u → Contains (flat_map part_uses ps) u
+walk_among ps u among = elim (Contains-append_cases (flat_map own_uses ps) (flat_map (side_uses Imported) ps ++ flat_map (side_uses Exported) ps) u among) [
+  | inl own ↦ among_wider own_uses part_uses ps u (λ p. own_among p u) own
+  | inr sides ↦ elim (Contains-append_cases (flat_map (side_uses Imported) ps) (flat_map (side_uses Exported) ps) u sides) [
+    | inl imported ↦ among_wider (side_uses Imported) part_uses ps u (λ p. side_among Imported p u) imported
+    | inr exported ↦ among_wider (side_uses Exported) part_uses ps u (λ p. side_among Exported p u) exported
+  ]
+]
+
+pub walked : (i : Item) (u : WrittenUse) → Contains (walk own_uses (λ (x : Extern). inline_uses x.kind) (parts i)) u → Contains (uses i) u
+walked i u among = walk_among (parts i) u among
+
+-- nothing is wrong with a `use` of parts, where nothing is wrong with their own, nor with those that are written on either side
+module _ (files : List PackageFile) (top : List TopName) (ps : List Part) (none : uses_fault files top (walk own_uses (λ (x : Extern). inline_uses x.kind) ps) ≡ None) where
+  both : (uses_fault files top (flat_map own_uses ps) ≡ None) × (option_or (uses_fault files top (flat_map (side_uses Imported) ps)) (uses_fault files top (flat_map (side_uses Exported) ps)) ≡ None)
+  both = or_none_both (uses_fault files top (flat_map own_uses ps)) (option_or (uses_fault files top (flat_map (side_uses Imported) ps)) (uses_fault files top (flat_map (side_uses Exported) ps))) (sym (world_uses files top ps) ∙ none)
+
+  on_side : (side : WorldSide) → uses_fault files top (flat_map (side_uses side) ps) ≡ None
+  on_side Imported = (or_none_both (uses_fault files top (flat_map (side_uses Imported) ps)) (uses_fault files top (flat_map (side_uses Exported) ps)) both.1).0
+  on_side Exported = (or_none_both (uses_fault files top (flat_map (side_uses Imported) ps)) (uses_fault files top (flat_map (side_uses Exported) ps)) both.1).1
+
+  right_in : (us : List WrittenUse) (u : WrittenUse) → uses_fault files top us ≡ None → Contains us u → use_fault files top u ≡ None
+  right_in us u right among = (let it = at_contains us u among in in_only (use_fault files top) us right it.0 u it.1)
+
+  pub right_use : (u : WrittenUse) → Contains (flat_map part_uses ps) u → use_fault files top u ≡ None
+  right_use u among =
+      let k = at_contains (flat_map part_uses ps) u among in
+      let p = flat_map_at part_uses ps k.0 u k.1 in
+      by_part p.0 p.1 p.2 (contains_at (part_uses p.1) p.3.0 u p.3.1)
     where
-      none : (u : WrittenUse) → Contains [] u → IsSound files top u
-      none u among = absurd (let at = (at_contains [] u among).1 in let f : ⊥ = cc in f)
+      nothing : Contains [] u → use_fault files top u ≡ None
+      nothing among = absurd (let at = (at_contains [] u among).1 in let f : ⊥ = cc in f)
 
-      by_part : (m : ℕ) (p : Part) (u : WrittenUse) → slice_get ps m ≡ Some p → Contains (part_uses p) u → IsSound files top u
-      by_part m (Defining d) u at among = none u among
-      by_part m (Using v) u at among = own.each u (among_flat own_uses ps m (Using v) u at among)
-      by_part m (Including i) u at among = none u among
-      by_part m (Doing f) u at among = none u among
-      by_part m (Crossing x) u at among = (on_side x.side).each u (among_flat (side_uses x.side) ps m (Crossing x) u at (rw (side_itself x.side) among))
+      by_part : (m : ℕ) (p : Part) → slice_get ps m ≡ Some p → Contains (part_uses p) u → use_fault files top u ≡ None
+      by_part m (Defining d) at among = nothing among
+      by_part m (Using v) at among = right_in (flat_map own_uses ps) u both.0 (among_flat own_uses ps m (Using v) u at among)
+      by_part m (Including i) at among = nothing among
+      by_part m (Doing f) at among = nothing among
+      by_part m (Crossing x) at among = right_in (flat_map (side_uses x.side) ps) u (on_side x.side) (among_flat (side_uses x.side) ps m (Crossing x) u at (rw (side_itself x.side) among))
 
 -- none is written in an interface
 pub interface_unwritten : (side : WorldSide) (xs : List InterfaceItem) → flat_map (written_items side) (map interface_part xs) ≡ []

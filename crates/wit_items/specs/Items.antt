@@ -5,13 +5,12 @@ use Rattle.wit_syntax.specs.Address.{Address}
 use Rattle.wit_syntax.specs.Source.{top_names, Declared, TheInterface, TheWorld, TheInline, Item, all_items, ScopeName}
 use Rattle.wit_syntax.specs.Scope.{uses}
 use Rattle.wit_syntax.specs.Foreign.{visited, foreign_worlds}
-use Rattle.wit_syntax.specs.Fault.{Fault}
 use Rattle.wit_items.specs.declared.items.Declared.{Declared as HeldDeclared}
 use Rattle.wit_items.specs.declared.items.Declared.TheVariants as held_item
 use Rattle.wit_items.specs.declared.items.Item.{Item as Held}
 use Rattle.wit_items.specs.declared.items.ItemScope.{ItemScope as HeldScope}
 use Rattle.wit_scopes.specs.Held.{name_behind}
-use Rattle.wit_item_names.specs.Items.{AreSound, IsUnsoundAmong}
+use Rattle.wit_item_names.specs.Items.{AreSound}
 
 -- the interface or the world that is held
 abbrev pub declared_behind : HeldDeclared → Declared
@@ -47,9 +46,3 @@ others_of files = map visited (foreign_worlds files)
 -- nothing is wrong with the uses of these items
 pub record HaveSoundUses (files : List PackageFile) (own : List Item) : Type 0 where
   pub each : (i : Item) → Contains own i → AreSound files i.top (uses i)
-
--- something is wrong with a `use` of one of these items
-pub record HasUnsoundUse (files : List PackageFile) (own : List Item) (f : Fault) : Type 0 where
-  pub i : Item
-  pub among : Contains own i
-  pub broken : IsUnsoundAmong files i.top (uses i) f

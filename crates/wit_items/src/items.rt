@@ -1,12 +1,13 @@
 //! The declared items of all files, each with the names of its scope.
-ghost use Rattle.std.specs.Prelude.{◌≡◌, ◌++◌, Some, map, slice_get, IfOk, IfErr, OnOk};
+ghost use Rattle.std.specs.Prelude.{◌≡◌, ◌++◌, Some, map, slice_get, IfOk, OnOk};
 ghost use Rattle.wit_tree.specs.declared.tree.WorldSide.{WorldSide as TheSide};
 ghost use Rattle.wit_syntax.specs.Source.{scope_names, file_items, all_items};
 ghost use Rattle.wit_syntax.specs.Foreign.{visited, foreign_interfaces};
-ghost use Rattle.wit_syntax.specs.Broken.{IsBroken, Refused};
+ghost use Rattle.wit_first.specs.First.{Finds, first_in};
+ghost use Rattle.wit_first.specs.Uses.{all_uses_fault, item_uses_fault};
 ghost use Rattle.wit_scopes.specs.Held.{name_behind};
 ghost use Rattle.wit_item_names.specs.Items.{AreEntriesOf};
-ghost use Rattle.wit_items.specs.Items.{item_behind, names_behind, scope_item, AreFiled, HaveSoundUses, HasUnsoundUse};
+ghost use Rattle.wit_items.specs.Items.{item_behind, names_behind, scope_item, AreFiled};
 ghost use Rattle.wit_items.specs.Inside.{inside_behind, names_written};
 ghost use Rattle.wit_items.specs.Front.{AreItemsPlaced};
 
@@ -116,8 +117,7 @@ fn add_items<'f, 'a>(
     ensures inside { OnOk result ((side : TheSide) → map (inside_behind side) items.new.items ≡ map (inside_behind side) items.old.items ++ map (names_written side) (file_items file.now)) }
     ensures filed { OnOk result (AreFiled files.now items.old.items → AreFiled files.now items.new.items) }
     ensures placed { OnOk result (AreItemsPlaced (map visited (foreign_interfaces files.now)) items.old.items → AreItemsPlaced (map visited (foreign_interfaces files.now)) items.new.items) }
-    ensures sound { OnOk result (HaveSoundUses files.now (file_items file.now)) }
-    ensures refused { IfErr result (Refused (HasUnsoundUse files.now (file_items file.now))) }
+    ensures first { Finds (first_in (item_uses_fault files.now) (file_items file.now)) result }
 {
     let declared = declarations(file);
     for item in declared {
@@ -182,8 +182,7 @@ pub fn declared_items<'f, 'a>(
     ensures inside { IfOk result (λ items. (side : TheSide) → map (inside_behind side) items.items ≡ map (names_written side) (all_items names.now)) }
     ensures filed { IfOk result (λ items. AreFiled names.now items.items) }
     ensures placed { IfOk result (λ items. AreItemsPlaced (map visited (foreign_interfaces names.now)) items.items) }
-    ensures sound { OnOk result (HaveSoundUses names.now (all_items names.now)) }
-    ensures refused { IfErr result (Refused (IsBroken names.now)) }
+    ensures first { Finds (all_uses_fault names.now) result }
 {
     let mut items = Vec::with_capacity(alloc, names.item_order().len())?;
     for (place, file) in files.iter().enumerate() {

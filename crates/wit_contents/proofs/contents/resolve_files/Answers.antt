@@ -1,4 +1,4 @@
-use Rattle.std.proofs.Common.{◌≡◌, List, ◌++◌, map, refl, sym, ap, ◌∙◌, subst}
+use Rattle.std.proofs.Common.{◌≡◌, List, ◌++◌, map, inl, inr, refl, sym, ap, ◌∙◌, subst}
 use Rattle.std.specs.List.{flat_map}
 use Rattle.std.proofs.lemmas.Result.{err_from_is_err_and}
 use Rattle.wit_syntax.specs.Address.{Address}
@@ -13,6 +13,7 @@ use Rattle.wit_syntax.proofs.Refusing.{refused_weaker}
 use Rattle.wit_arena.proofs.LegalScopes.{distinct_items}
 use Rattle.wit_arena.proofs.Finished.{broken_now, broken_world_now}
 use Rattle.wit_items.specs.Items.{item_behind, others_of}
+use Rattle.wit_items.proofs.Usable.{uses_broken, uses_sound}
 use Rattle.wit_item_names.specs.Interfaces.{front_of}
 use Rattle.wit_front.specs.Front.{IsFront}
 use Rattle.wit_uses.specs.Between.{Emits}
@@ -23,6 +24,12 @@ use Rattle.wit_uses.proofs.Telling.{stability_both}
 use Rattle.wit_contents.proofs.Files.{sided_both, sound_both, uses_usable, held_within}
 use Rattle.wit_contents.proofs.Fronting.{front_started, front_taken, lent_front, lent_placed, lent_enough, lent_index, worlds_enough, worlds_index}
 use Rattle.wit_contents.proofs.contents.resolve_files.Goals as goal
+
+pub returns-in_err-items-clause-refused : goal.returns-in_err-items-clause-refused
+returns-in_err-items-clause-refused c =
+    let p = err_from_is_err_and c.from_residual-in_err-items.result c.from_residual-in_err-items.ensures.1 in
+    let files = c.args.names.now in
+    rw (p.1, p.2) (elim c.in_err-items.ensures.first [ inl memory ↦ inl memory | inr is ↦ inr (uses_broken files _ is) ])
 
 pub take_all-requires : goal.take_all-requires
 take_all-requires c =
@@ -102,7 +109,7 @@ returns-in_err-resolve_interfaces-clause-refused c =
     let order = c.item_order-order.ensures in
     let differ = distinct_items files c.requires.legal in
     let same = lent_front files types a front held c.deref-2.ensures.value in
-    rw (p.1, p.2) (refused_weaker (IsWrongNow (front_of held) types a.interfaces (map item_behind items) places) (IsBroken files) _ (λ f h. broken_now files places order differ (uses_usable files e.sound) types a.interfaces a.worlds front.adds f (subst (λ (l : List Item). IsWrongNow (map visited (foreign_interfaces files)) types a.interfaces l places f) all (subst (λ (ss : List Address). IsWrongNow ss types a.interfaces (map item_behind items) places f) same h))) c.in_err-resolve_interfaces.ensures.refused)
+    rw (p.1, p.2) (refused_weaker (IsWrongNow (front_of held) types a.interfaces (map item_behind items) places) (IsBroken files) _ (λ f h. broken_now files places order differ (uses_usable files (uses_sound files e.first)) types a.interfaces a.worlds front.adds f (subst (λ (l : List Item). IsWrongNow (map visited (foreign_interfaces files)) types a.interfaces l places f) all (subst (λ (ss : List Address). IsWrongNow ss types a.interfaces (map item_behind items) places f) same h))) c.in_err-resolve_interfaces.ensures.refused)
 
 pub returns-in_err-resolve_worlds-clause-refused : goal.returns-in_err-resolve_worlds-clause-refused
 returns-in_err-resolve_worlds-clause-refused c =
@@ -124,7 +131,7 @@ returns-in_err-resolve_worlds-clause-refused c =
     let items = c.deref_mut-lent.result.now in
     let index : IsIndex (cells (map visited (foreign_interfaces files)) now.arena) now.by_name = subst (λ (ss : List Address). IsIndex (cells ss now.arena) now.by_name) kept c.in_ok-resolve_interfaces.ensures.index in
     let differ = distinct_items files c.requires.legal in
-    rw (p.1, p.2) (refused_weaker (IsWrongWorldNow files (front_of now.foreign.now) (others_of files) middle now.arena now.by_name a.worlds (map item_behind items) places) (IsBroken files) _ (λ f h. broken_world_now files places c.item_order-order.ensures differ (uses_usable files e.sound) types a.interfaces a.worlds front.adds middle now.arena from.own added now.by_name index f (
+    rw (p.1, p.2) (refused_weaker (IsWrongWorldNow files (front_of now.foreign.now) (others_of files) middle now.arena now.by_name a.worlds (map item_behind items) places) (IsBroken files) _ (λ f h. broken_world_now files places c.item_order-order.ensures differ (uses_usable files (uses_sound files e.first)) types a.interfaces a.worlds front.adds middle now.arena from.own added now.by_name index f (
     subst (λ (l : List Item). IsWrongWorldNow files (map visited (foreign_interfaces files)) (map visited (foreign_worlds files)) middle now.arena now.by_name a.worlds l places f) all (
     subst (λ (ss : List Address). IsWrongWorldNow files ss (others_of files) middle now.arena now.by_name a.worlds (map item_behind items) places f) kept h))) c.in_err-resolve_worlds.ensures.refused)
 
@@ -159,8 +166,8 @@ returns-clause-added c =
       places = places;
       order = c.item_order-order.ensures;
       names = c.requires.legal;
-      uses = uses_usable files e.sound;
-      noted = λ i among u used. ((e.sound.each i among).each u used).noted;
+      uses = uses_usable files (uses_sound files e.first);
+      noted = λ i among u used. (((uses_sound files e.first).each i among).each u used).noted;
       first = types;
       front = a.interfaces;
       worlds_front = a.worlds;

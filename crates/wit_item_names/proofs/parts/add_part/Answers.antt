@@ -5,12 +5,11 @@ use Rattle.wit_tree.specs.declared.tree.Use.{Use}
 use Rattle.wit_syntax.specs.Address.{Address}
 use Rattle.wit_syntax.specs.Source.{Used}
 use Rattle.wit_syntax.proofs.Found.{contains_at}
-use Rattle.wit_syntax.proofs.Refusing.{refused_weaker}
+use Rattle.wit_first.specs.Uses.{use_fault}
+use Rattle.wit_first.proofs.First.{or_none, reports_same}
 use Rattle.wit_scopes.specs.Held.{name_behind}
-use Rattle.wit_item_names.specs.Items.{IsUnsound, IsUnsoundAmong}
 use Rattle.wit_syntax.specs.Foreign.{visited, foreign_interfaces}
 use Rattle.wit_scopes.proofs.Placed.{names_more}
-use Rattle.wit_item_names.proofs.Usable.{sound_none, sound_one, unsound_one}
 use Rattle.wit_item_names.proofs.parts.add_part.Goals.{in-Defining+in_ok-push-in-Defining, in-Using+in_ok-from-in-Using+in_ok-add_used_names-in-Using, in-Including, in-Doing, in-Crossing}
 use Rattle.wit_files.specs.FileNames.{top_at}
 use Rattle.wit_item_names.proofs.parts.add_part.Goals as goal
@@ -18,14 +17,12 @@ use Rattle.wit_item_names.proofs.parts.add_part.Goals as goal
 pub sound_source-requires-clause-path : goal.sound_source-requires-clause-path
 sound_source-requires-clause-path c = let u : Use = c.in-Using.used.now in (rw c.in-Using.is at c.requires.paths) u (contains_at (u ∷ []) 0 u refl)
 
-pub returns-in_err-from-in-Using-clause-refused :
-    goal.returns-in_err-from-in-Using-clause-refused
-returns-in_err-from-in-Using-clause-refused c =
+pub returns-in_err-from-in-Using-clause-first : goal.returns-in_err-from-in-Using-clause-first
+returns-in_err-from-in-Using-clause-first c =
     let files = c.args.files.now in
     let top = top_at files c.args.place in
     let p = err_from_is_err_and c.from_residual-in_err-from-in-Using.result c.from_residual-in_err-from-in-Using.ensures.1 in
-    let u : Use = c.in-Using.used.now in
-    rw (c.in-Using.is, p.1, p.2) (refused_weaker (IsUnsound files top u) (IsUnsoundAmong files top (u ∷ [])) _ (λ f h. unsound_one files top u f h) c.in_err-from-in-Using.ensures.refused)
+    rw (c.in-Using.is, p.1, p.2) (reports_same (sym (or_none (use_fault files top c.in-Using.used.now))) c.in_err-from-in-Using.ensures.first)
 
 pub returns-clause-names : goal.returns-clause-names
 returns-clause-names c = elim c.match-part.branch [
@@ -38,13 +35,13 @@ returns-clause-names c = elim c.match-part.branch [
   | in-Crossing b ↦ rw (b.names-is, b.in-Crossing.is) (sym (append-nil (map name_behind c.args.names.now.items)))
 ]
 
-pub returns-clause-sound : goal.returns-clause-sound
-returns-clause-sound c = elim c.match-part.branch [
-  | in-Defining+in_ok-push-in-Defining b ↦ rw b.in-Defining.is (sound_none _ _)
-  | in-Using+in_ok-from-in-Using+in_ok-add_used_names-in-Using b ↦ rw b.in-Using.is (sound_one _ _ b.in-Using.used.now b.in_ok-from-in-Using.ensures.sound)
-  | in-Including b ↦ rw b.in-Including.is (sound_none _ _)
-  | in-Doing b ↦ rw b.in-Doing.is (sound_none _ _)
-  | in-Crossing b ↦ rw b.in-Crossing.is (sound_none _ _)
+pub returns-clause-first : goal.returns-clause-first
+returns-clause-first c = elim c.match-part.branch [
+  | in-Defining+in_ok-push-in-Defining b ↦ rw b.in-Defining.is refl
+  | in-Using+in_ok-from-in-Using+in_ok-add_used_names-in-Using b ↦ rw b.in-Using.is (or_none (use_fault c.args.files.now (top_at c.args.files.now c.args.place) b.in-Using.used.now) ∙ b.in_ok-from-in-Using.ensures.first)
+  | in-Including b ↦ rw b.in-Including.is refl
+  | in-Doing b ↦ rw b.in-Doing.is refl
+  | in-Crossing b ↦ rw b.in-Crossing.is refl
 ]
 
 pub returns-clause-placed : goal.returns-clause-placed

@@ -1,26 +1,34 @@
-use Rattle.std.proofs.Common.{◌≡◌, ◌+◌, ◌++◌, ◌∷◌, [], Some, map, take, refl, sym, ap, ◌∙◌, subst}
+use Rattle.std.proofs.Common.{◌≡◌, ◌+◌, ◌++◌, List, ◌∷◌, [], Option, Some, map, take, refl, sym, ap, ◌∙◌}
 use Rattle.std.specs.List.{flat_map}
 use Rattle.std.specs.Prelude.{slice_get}
 use Rattle.std.proofs.lemmas.List.{take_more, take_all}
 use Rattle.std.proofs.lemmas.Option.{slice_get_read, slice_get-map}
 use Rattle.std.proofs.lemmas.Result.{err_from_is_err_and}
 use Rattle.std.specs.Option.{option_map}
-use Rattle.wit_syntax.specs.Source.{TheWorld, world_part, part_names}
+use Rattle.wit_tree.specs.declared.tree.WorldItem.{WorldItem}
+use Rattle.wit_tree.specs.declared.tree.PackageFile.{PackageFile}
+use Rattle.wit_syntax.specs.Fault.{Fault}
+use Rattle.wit_syntax.specs.Source.{TopName, TheWorld, world_part, part_names}
 use Rattle.wit_syntax.specs.Scope.{part_uses}
-use Rattle.wit_syntax.proofs.Refusing.{refused_weaker}
-use Rattle.wit_item_names.specs.Items.{part_behind, own_uses, AreSound, IsUnsoundAmong}
+use Rattle.wit_first.specs.Uses.{own_uses, use_fault, uses_fault}
+use Rattle.wit_first.proofs.First.{in-all, in-following, in-parts, reports-in, reports_same}
+use Rattle.wit_item_names.specs.Items.{part_behind}
 use Rattle.wit_syntax.specs.Foreign.{visited, foreign_interfaces}
 use Rattle.wit_item_names.proofs.Placed.{names_none}
 use Rattle.wit_item_names.proofs.Written.{own_among}
-use Rattle.wit_item_names.proofs.Usable.{sound_none, sound_append, among_flat, parts_more, unsound_among, use_has_path}
+use Rattle.wit_item_names.proofs.Usable.{among_flat, parts_more, use_has_path}
 use Rattle.wit_files.specs.FileNames.{top_at}
 use Rattle.wit_item_names.proofs.parts.world_names.Goals as goal
+
+-- of the uses of a part
+abbrev wrong : List PackageFile → List TopName → WorldItem → Option Fault
+wrong files top x = uses_fault files top (own_uses (world_part x))
 
 pub loop-part-init : goal.loop-part-init
 loop-part-init c = rw c.in_ok-names.ensures.items (record {
   names = refl;
   placed = names_none (map visited (foreign_interfaces c.args.files.now));
-  sound = sound_none _ _;
+  none = refl;
 })
 
 pub add_part-requires-clause-paths : goal.add_part-requires-clause-paths
@@ -31,17 +39,17 @@ add_part-requires-clause-paths c = λ u among. (
     let at : slice_get (map world_part xs) i ≡ Some q = slice_get-map world_part xs i ∙ ap (option_map world_part) (slice_get_read xs _ i c.part-item.result refl c.loop-part-test.true c.part-item.is) ∙ ap Some (sym c.world_part.ensures) in
     use_has_path c.args.files.now c.args.place (TheWorld c.args.world.now) u c.requires.item (rw c.world_items-written.ensures at (among_flat part_uses (map world_part xs) i q u at (own_among q u among))))
 
-pub returns-in_err-add_part-clause-refused : goal.returns-in_err-add_part-clause-refused
-returns-in_err-add_part-clause-refused c =
+pub returns-in_err-add_part-clause-first : goal.returns-in_err-add_part-clause-first
+returns-in_err-add_part-clause-first c =
     let files = c.args.files.now in
     let top = top_at files c.args.place in
     let p = err_from_is_err_and c.from_residual-in_err-add_part.result c.from_residual-in_err-add_part.ensures.1 in
     let xs = c.world_items-written.result.now in
     let i = c.loop-part.part-index in
     let x = c.part-item.result in
-    let q = part_behind c.world_part.result in
-    let at : slice_get (map world_part xs) i ≡ Some q = slice_get-map world_part xs i ∙ ap (option_map world_part) (slice_get_read xs _ i x refl c.loop-part-test.true c.part-item.is) ∙ ap Some (sym c.world_part.ensures) in
-    rw (p.1, p.2, sym c.world_items-written.ensures) (refused_weaker (IsUnsoundAmong files top (own_uses q)) (IsUnsoundAmong files top (flat_map own_uses (map world_part xs))) _ (λ f h. unsound_among files top own_uses (map world_part xs) i q f at h) c.in_err-add_part.ensures.refused)
+    let own = ap own_uses c.world_part.ensures in
+    let at : slice_get xs i ≡ Some x = slice_get_read xs _ i x refl c.loop-part-test.true c.part-item.is in
+    rw (p.1, p.2, sym c.world_items-written.ensures) (reports_same (sym (in-parts (use_fault files top) own_uses world_part xs)) (reports-in (wrong files top) xs i x _ at c.loop-part.invariant.none (rw own at c.in_err-add_part.ensures.first)))
 
 pub loop-part-preserved : goal.loop-part-preserved
 loop-part-preserved c =
@@ -57,11 +65,15 @@ loop-part-preserved c =
     record {
       names = e.names ∙ ap (λ l. l ++ part_names top q) was.names ∙ sym (parts_more (part_names top) world_part (take i xs) (take (i + 1) xs) x q more c.world_part.ensures);
       placed = e.placed was.placed;
-      sound = sound_append files top (flat_map own_uses (map world_part (take i xs))) (own_uses q) (flat_map own_uses (map world_part (take (i + 1) xs))) (parts_more own_uses world_part (take i xs) (take (i + 1) xs) x q more c.world_part.ensures) was.sound e.sound;
+      none = in-following (wrong files top) xs i x (slice_get_read xs _ i x refl c.loop-part-test.true c.part-item.is) was.none (rw (ap own_uses c.world_part.ensures) at e.first);
     }
 
 pub returns-clause-names : goal.returns-clause-names
 returns-clause-names c = rw (sym c.world_items-written.ensures) (c.loop-part.invariant.names ∙ ap (λ l. flat_map (part_names (top_at c.args.files.now c.args.place)) (map world_part l)) (take_all c.loop-part.part-index c.world_items-written.result.now c.loop-part-test.false))
 
-pub returns-clause-sound : goal.returns-clause-sound
-returns-clause-sound c = rw (sym c.world_items-written.ensures) (subst (λ l. AreSound c.args.files.now (top_at c.args.files.now c.args.place) (flat_map own_uses (map world_part l))) (take_all c.loop-part.part-index c.world_items-written.result.now c.loop-part-test.false) c.loop-part.invariant.sound)
+pub returns-clause-first : goal.returns-clause-first
+returns-clause-first c =
+    let files = c.args.files.now in
+    let top = top_at files c.args.place in
+    let xs = c.world_items-written.result.now in
+    rw (sym c.world_items-written.ensures) (in-parts (use_fault files top) own_uses world_part xs ∙ in-all (wrong files top) xs c.loop-part.part-index c.loop-part-test.false c.loop-part.invariant.none)

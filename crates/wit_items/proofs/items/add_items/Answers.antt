@@ -1,5 +1,6 @@
-use Rattle.std.proofs.Common.{◌≡◌, ◌+◌, ◌++◌, ◌∷◌, [], Some, Contains, map, take, refl, sym, ap, ◌∙◌, subst}
+use Rattle.std.proofs.Common.{◌≡◌, ◌+◌, ◌++◌, List, ◌∷◌, [], Option, Some, Contains, map, take, refl, sym, ap, ◌∙◌}
 use Rattle.std.specs.List.{flat_map}
+use Rattle.std.specs.Option.{option_or}
 use Rattle.std.specs.Prelude.{slice_get}
 use Rattle.std.proofs.lemmas.List.{map-append, take_more, append-nil}
 use Rattle.std.proofs.lemmas.Option.{slice_get_read}
@@ -7,70 +8,95 @@ use Rattle.std.proofs.lemmas.Result.{err_from_is_err_and}
 use Rattle.wit_tree.specs.declared.tree.AstItem.{AstItem}
 use Rattle.wit_tree.specs.declared.tree.AstItem.TheVariants as ast
 use Rattle.wit_tree.specs.declared.tree.WorldSide.TheVariants.{Imported, Exported}
-use Rattle.wit_syntax.specs.Crossing.{item_uses}
-use Rattle.wit_syntax.specs.Source.{TheInterface, TheWorld, Item, parts, top_names, declared_items, file_items, scope_names}
-use Rattle.wit_syntax.specs.Scope.{part_uses, uses}
+use Rattle.wit_tree.specs.declared.tree.PackageFile.{PackageFile}
+use Rattle.wit_syntax.specs.Fault.{Fault}
+use Rattle.wit_syntax.specs.Source.{TopName, TheInterface, TheWorld, Item, parts, top_names, declared_items, file_items, scope_names}
 use Rattle.wit_syntax.specs.Foreign.{visited, foreign_interfaces}
-use Rattle.wit_syntax.proofs.Refusing.{refused_weaker}
+use Rattle.wit_first.specs.First.{first_in}
+use Rattle.wit_first.specs.Uses.{item_uses_fault, uses_fault}
+use Rattle.wit_first.proofs.First.{in-all, in-flat, in-following, none_both, or_none, reports_back, reports_front, reports-in, reports_same}
 use Rattle.wit_files.specs.FileNames.{names_at_top}
 use Rattle.wit_top_names.proofs.Lost.{flat_more}
 use Rattle.wit_scopes.specs.Front.{AreNamesPlaced}
 use Rattle.wit_scopes.proofs.Declaring.{one_more}
-use Rattle.wit_item_names.specs.Items.{own_uses, IsUnsoundAmong}
-use Rattle.wit_items.specs.Items.{item_behind, names_behind, HasUnsoundUse}
+use Rattle.wit_items.specs.Items.{item_behind, names_behind}
 use Rattle.wit_item_names.specs.Inside.{side_uses}
 use Rattle.wit_items.specs.Inside.{inside_behind, names_written}
 use Rattle.wit_items.proofs.Placed.{item_placed, none_all, items_more}
 use Rattle.wit_item_names.proofs.Usable.{use_has_path}
-use Rattle.wit_items.proofs.Usable.{declared_among, item_among, item_here, sound_items_more, sound_same, filed_more, unsound_wider}
-use Rattle.wit_item_names.proofs.Written.{own_among, side_among}
-use Rattle.wit_items.proofs.Written.{among_wider, items_uses, sound_uses, interface_inside, inside_is}
+use Rattle.wit_items.proofs.Usable.{declared_among, item_among, item_here, filed_more}
+use Rattle.wit_items.proofs.Written.{items_uses, interface_uses, world_uses, interface_inside, inside_is}
 use Rattle.wit_items.proofs.items.add_items.Goals.{in-Interface+in_ok-interface_names-in-Interface+in_ok-push-in-Interface, in-World+in_ok-world_names-in-World+in_ok-names_inside-in-World+in_ok-names_inside-in-World-2+in_ok-push-in-World, in-Use}
 use Rattle.wit_items.proofs.items.add_items.Goals as goal
 
-pub returns-in_err-interface_names-in-Interface-clause-refused : goal.returns-in_err-interface_names-in-Interface-clause-refused
-returns-in_err-interface_names-in-Interface-clause-refused c =
+-- of the uses of the item that a declaration makes
+abbrev wrong : List PackageFile → List TopName → AstItem → Option Fault
+wrong files top d = first_in (item_uses_fault files) (declared_items top d)
+
+-- of those of declarations that are read
+whole : (files : List PackageFile) (top : List TopName) (xs ds : List AstItem) → xs ≡ ds → first_in (wrong files top) xs ≡ first_in (item_uses_fault files) (flat_map (declared_items top) ds)
+whole files top xs ds same = ap (first_in (wrong files top)) same ∙ sym (in-flat (item_uses_fault files) (declared_items top) ds)
+
+pub returns-in_err-interface_names-in-Interface-clause-first : goal.returns-in_err-interface_names-in-Interface-clause-first
+returns-in_err-interface_names-in-Interface-clause-first c =
     let p = err_from_is_err_and c.from_residual.result c.from_residual.ensures.1 in
     let file = c.args.file.now in
-    let xs = c.declarations-declared.result.now in
-    let w : Item = record { top = top_names file; declared = TheInterface c.in-Interface.interface } in
-    let at : slice_get xs c.loop-item.item-index ≡ Some (ast.Interface c.in-Interface.interface) = slice_get_read xs _ c.loop-item.item-index c.item-item.result refl c.loop-item-test.true c.item-item.is ∙ ap Some c.in-Interface.is in
-    let among : Contains (file_items file) w = rw c.declarations-declared.ensures at (declared_among (declared_items (top_names file)) xs c.loop-item.item-index _ w at refl) in
     let files = c.args.files.now in
-    rw (p.1, p.2) (refused_weaker (IsUnsoundAmong files w.top (flat_map item_uses c.deref.result.now)) (HasUnsoundUse files (file_items file)) _ (λ f h. record { i = w; among = among; broken = subst (λ us. IsUnsoundAmong files w.top us f) (ap (flat_map item_uses) c.deref.ensures.value ∙ sym (items_uses c.in-Interface.interface.items.items)) h }) (rw (ap names_at_top c.requires.file) at c.in_err-interface_names-in-Interface.ensures.refused))
+    let top = top_names file in
+    let top_is = ap names_at_top c.requires.file in
+    let xs = c.declarations-declared.result.now in
+    let i = c.loop-item.item-index in
+    let w : Item = record { top = top; declared = TheInterface c.in-Interface.interface } in
+    let at : slice_get xs i ≡ Some (ast.Interface c.in-Interface.interface) = slice_get_read xs _ i c.item-item.result refl c.loop-item-test.true c.item-item.is ∙ ap Some c.in-Interface.is in
+    rw (p.1, p.2) (reports_same (whole files top xs file.decl_list.items.items c.declarations-declared.ensures) (reports-in (wrong files top) xs i (ast.Interface c.in-Interface.interface) _ at c.loop-item.invariant.none (reports_same (sym (or_none (item_uses_fault files w) ∙ interface_uses files top c.in-Interface.interface)) (rw (c.deref.ensures.value, top_is) at c.in_err-interface_names-in-Interface.ensures.first))))
 
-pub returns-in_err-world_names-in-World-clause-refused : goal.returns-in_err-world_names-in-World-clause-refused
-returns-in_err-world_names-in-World-clause-refused c =
+pub returns-in_err-world_names-in-World-clause-first : goal.returns-in_err-world_names-in-World-clause-first
+returns-in_err-world_names-in-World-clause-first c =
     let p = err_from_is_err_and c.from_residual-in_err-world_names-in-World.result c.from_residual-in_err-world_names-in-World.ensures.1 in
     let file = c.args.file.now in
-    let xs = c.declarations-declared.result.now in
-    let w : Item = record { top = top_names file; declared = TheWorld c.in-World.world } in
-    let at : slice_get xs c.loop-item.item-index ≡ Some (ast.World c.in-World.world) = slice_get_read xs _ c.loop-item.item-index c.item-item.result refl c.loop-item-test.true c.item-item.is ∙ ap Some c.in-World.is in
-    let among : Contains (file_items file) w = rw c.declarations-declared.ensures at (declared_among (declared_items (top_names file)) xs c.loop-item.item-index _ w at refl) in
     let files = c.args.files.now in
-    rw (p.1, p.2) (refused_weaker (IsUnsoundAmong files w.top (flat_map own_uses (parts w))) (HasUnsoundUse files (file_items file)) _ (λ f h. record { i = w; among = among; broken = unsound_wider files w.top (flat_map own_uses (parts w)) (uses w) f (λ u. among_wider own_uses part_uses (parts w) u (λ q. own_among q u)) h }) (rw (ap names_at_top c.requires.file) at c.in_err-world_names-in-World.ensures.refused))
+    let top = top_names file in
+    let top_is = ap names_at_top c.requires.file in
+    let xs = c.declarations-declared.result.now in
+    let i = c.loop-item.item-index in
+    let w : Item = record { top = top; declared = TheWorld c.in-World.world } in
+    let ps = parts w in
+    let at : slice_get xs i ≡ Some (ast.World c.in-World.world) = slice_get_read xs _ i c.item-item.result refl c.loop-item-test.true c.item-item.is ∙ ap Some c.in-World.is in
+    let imported = uses_fault files top (flat_map (side_uses Imported) ps) in
+    let exported = uses_fault files top (flat_map (side_uses Exported) ps) in
+    rw (p.1, p.2) (reports_same (whole files top xs file.decl_list.items.items c.declarations-declared.ensures) (reports-in (wrong files top) xs i (ast.World c.in-World.world) _ at c.loop-item.invariant.none (reports_same (sym (or_none (item_uses_fault files w) ∙ world_uses files top ps)) (reports_front (option_or imported exported) (rw top_is at c.in_err-world_names-in-World.ensures.first)))))
 
-pub returns-in_err-names_inside-in-World-clause-refused : goal.returns-in_err-names_inside-in-World-clause-refused
-returns-in_err-names_inside-in-World-clause-refused c =
+pub returns-in_err-names_inside-in-World-clause-first : goal.returns-in_err-names_inside-in-World-clause-first
+returns-in_err-names_inside-in-World-clause-first c =
     let p = err_from_is_err_and c.from_residual-in_err-names_inside-in-World.result c.from_residual-in_err-names_inside-in-World.ensures.1 in
     let file = c.args.file.now in
-    let xs = c.declarations-declared.result.now in
-    let w : Item = record { top = top_names file; declared = TheWorld c.in-World.world } in
-    let at : slice_get xs c.loop-item.item-index ≡ Some (ast.World c.in-World.world) = slice_get_read xs _ c.loop-item.item-index c.item-item.result refl c.loop-item-test.true c.item-item.is ∙ ap Some c.in-World.is in
-    let among : Contains (file_items file) w = rw c.declarations-declared.ensures at (declared_among (declared_items (top_names file)) xs c.loop-item.item-index _ w at refl) in
     let files = c.args.files.now in
-    rw (p.1, p.2) (refused_weaker (IsUnsoundAmong files w.top (flat_map (side_uses Imported) (parts w))) (HasUnsoundUse files (file_items file)) _ (λ f h. record { i = w; among = among; broken = unsound_wider files w.top (flat_map (side_uses Imported) (parts w)) (uses w) f (λ u. among_wider (side_uses Imported) part_uses (parts w) u (λ q. side_among Imported q u)) h }) (rw (ap names_at_top c.requires.file) at c.in_err-names_inside-in-World.ensures.refused))
+    let top = top_names file in
+    let top_is = ap names_at_top c.requires.file in
+    let xs = c.declarations-declared.result.now in
+    let i = c.loop-item.item-index in
+    let w : Item = record { top = top; declared = TheWorld c.in-World.world } in
+    let ps = parts w in
+    let at : slice_get xs i ≡ Some (ast.World c.in-World.world) = slice_get_read xs _ i c.item-item.result refl c.loop-item-test.true c.item-item.is ∙ ap Some c.in-World.is in
+    let imported = uses_fault files top (flat_map (side_uses Imported) ps) in
+    let exported = uses_fault files top (flat_map (side_uses Exported) ps) in
+    rw (p.1, p.2) (reports_same (whole files top xs file.decl_list.items.items c.declarations-declared.ensures) (reports-in (wrong files top) xs i (ast.World c.in-World.world) _ at c.loop-item.invariant.none (reports_same (sym (or_none (item_uses_fault files w) ∙ world_uses files top ps)) (reports_back (rw top_is at c.in_ok-world_names-in-World.ensures.first) (reports_front exported (rw top_is at c.in_err-names_inside-in-World.ensures.first))))))
 
-pub returns-in_err-names_inside-in-World-2-clause-refused : goal.returns-in_err-names_inside-in-World-2-clause-refused
-returns-in_err-names_inside-in-World-2-clause-refused c =
+pub returns-in_err-names_inside-in-World-2-clause-first : goal.returns-in_err-names_inside-in-World-2-clause-first
+returns-in_err-names_inside-in-World-2-clause-first c =
     let p = err_from_is_err_and c.from_residual-in_err-names_inside-in-World-2.result c.from_residual-in_err-names_inside-in-World-2.ensures.1 in
     let file = c.args.file.now in
-    let xs = c.declarations-declared.result.now in
-    let w : Item = record { top = top_names file; declared = TheWorld c.in-World.world } in
-    let at : slice_get xs c.loop-item.item-index ≡ Some (ast.World c.in-World.world) = slice_get_read xs _ c.loop-item.item-index c.item-item.result refl c.loop-item-test.true c.item-item.is ∙ ap Some c.in-World.is in
-    let among : Contains (file_items file) w = rw c.declarations-declared.ensures at (declared_among (declared_items (top_names file)) xs c.loop-item.item-index _ w at refl) in
     let files = c.args.files.now in
-    rw (p.1, p.2) (refused_weaker (IsUnsoundAmong files w.top (flat_map (side_uses Exported) (parts w))) (HasUnsoundUse files (file_items file)) _ (λ f h. record { i = w; among = among; broken = unsound_wider files w.top (flat_map (side_uses Exported) (parts w)) (uses w) f (λ u. among_wider (side_uses Exported) part_uses (parts w) u (λ q. side_among Exported q u)) h }) (rw (ap names_at_top c.requires.file) at c.in_err-names_inside-in-World-2.ensures.refused))
+    let top = top_names file in
+    let top_is = ap names_at_top c.requires.file in
+    let xs = c.declarations-declared.result.now in
+    let i = c.loop-item.item-index in
+    let w : Item = record { top = top; declared = TheWorld c.in-World.world } in
+    let ps = parts w in
+    let at : slice_get xs i ≡ Some (ast.World c.in-World.world) = slice_get_read xs _ i c.item-item.result refl c.loop-item-test.true c.item-item.is ∙ ap Some c.in-World.is in
+    let imported = uses_fault files top (flat_map (side_uses Imported) ps) in
+    let exported = uses_fault files top (flat_map (side_uses Exported) ps) in
+    rw (p.1, p.2) (reports_same (whole files top xs file.decl_list.items.items c.declarations-declared.ensures) (reports-in (wrong files top) xs i (ast.World c.in-World.world) _ at c.loop-item.invariant.none (reports_same (sym (or_none (item_uses_fault files w) ∙ world_uses files top ps)) (reports_back (rw top_is at c.in_ok-world_names-in-World.ensures.first) (reports_back (rw top_is at c.in_ok-names_inside-in-World.ensures.first) (rw top_is at c.in_err-names_inside-in-World-2.ensures.first))))))
 
 pub interface_names-requires-clause-paths : goal.interface_names-requires-clause-paths
 interface_names-requires-clause-paths c = λ u has. (
@@ -125,6 +151,7 @@ loop-item-preserved c =
     let top_is = ap names_at_top c.requires.file in
     let front = map visited (foreign_interfaces files) in
     let more : take (i + 1) xs ≡ take i xs ++ x ∷ [] = take_more xs i x c.loop-item-test.true ∙ ap (λ y. take i xs ++ y ∷ []) (sym c.item-item.is) in
+    let here : slice_get xs i ≡ Some x = slice_get_read xs _ i x refl c.loop-item-test.true c.item-item.is in
     let grown : all ≡ before ++ declared_items top x = flat_more (declared_items top) (take i xs) (take (i + 1) xs) x more in
     elim c.match-item.branch [
       | in-Interface+in_ok-interface_names-in-Interface+in_ok-push-in-Interface b ↦ (
@@ -140,7 +167,7 @@ loop-item-preserved c =
             inside = λ side. one_more (inside_behind side) (map (inside_behind side) old) out _ _ (map (names_written side) before) (map (names_written side) all) (names_written side w) new (was.inside side) (inside_is _ w (ap (map _) b.new.ensures.items ∙ sym (interface_inside Imported top b.in-Interface.interface)) (ap (map _) b.new-in-Interface.ensures.items ∙ sym (interface_inside Exported top b.in-Interface.interface)) side) (ap (map (names_written side)) one ∙ map-append (names_written side) before (w ∷ []));
             filed = λ before. filed_more files out _ _ new (was.filed before) (record { file = c.requires.file; among = item_among files c.args.place file w c.requires.file among });
             placed = λ before. items_more front out _ _ new (was.placed before) (item_placed front _ e.placed (none_all (λ ns. AreNamesPlaced front ns.items) _ b.new.ensures.items) (none_all (λ ns. AreNamesPlaced front ns.items) _ b.new-in-Interface.ensures.items));
-            sound = sound_items_more files before all w one was.sound (sound_same files top (flat_map item_uses b.in-Interface.interface.items.items) (uses w) (sym (items_uses b.in-Interface.interface.items.items)) e.sound);
+            none = in-following (wrong files top) xs i x here was.none (ap (wrong files top) b.in-Interface.is ∙ or_none (item_uses_fault files w) ∙ interface_uses files top b.in-Interface.interface ∙ e.first);
           }))
       | in-World+in_ok-world_names-in-World+in_ok-names_inside-in-World+in_ok-names_inside-in-World-2+in_ok-push-in-World b ↦ (
           let w : Item = record { top = top; declared = TheWorld b.in-World.world } in
@@ -157,9 +184,23 @@ loop-item-preserved c =
             inside = λ side. one_more (inside_behind side) (map (inside_behind side) old) out _ _ (map (names_written side) before) (map (names_written side) all) (names_written side w) new (was.inside side) (inside_is _ w imported.names exported.names side) (ap (map (names_written side)) one ∙ map-append (names_written side) before (w ∷ []));
             filed = λ before. filed_more files out _ _ new (was.filed before) (record { file = c.requires.file; among = item_among files c.args.place file w c.requires.file among });
             placed = λ before. items_more front out _ _ new (was.placed before) (item_placed front _ e.placed imported.placed exported.placed);
-            sound = sound_items_more files before all w one was.sound (sound_uses files top (parts w) e.sound imported.sound exported.sound);
+            none = in-following (wrong files top) xs i x here was.none (ap (wrong files top) b.in-World.is ∙ or_none (item_uses_fault files w) ∙ world_uses files top (parts w) ∙ none_both e.first (none_both imported.first exported.first));
           }))
       | in-Use b ↦ (
-          let none : all ≡ before = grown ∙ ap (λ (d : AstItem). before ++ declared_items top d) b.in-Use.is ∙ append-nil before in
-          rw (b.items-is, none) was)
+          let skipped : all ≡ before = grown ∙ ap (λ (d : AstItem). before ++ declared_items top d) b.in-Use.is ∙ append-nil before in
+          rw b.items-is (record {
+            items = rw skipped was.items;
+            names = rw skipped was.names;
+            inside = λ side. rw skipped (was.inside side);
+            filed = was.filed;
+            placed = was.placed;
+            none = in-following (wrong files top) xs i x here was.none (ap (wrong files top) b.in-Use.is);
+          }))
     ]
+
+pub returns-clause-first : goal.returns-clause-first
+returns-clause-first c =
+    let files = c.args.files.now in
+    let top = top_names c.args.file.now in
+    let xs = c.declarations-declared.result.now in
+    sym (whole files top xs c.args.file.now.decl_list.items.items c.declarations-declared.ensures) ∙ in-all (wrong files top) xs c.loop-item.item-index c.loop-item-test.false c.loop-item.invariant.none

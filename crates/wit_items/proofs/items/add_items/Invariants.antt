@@ -1,10 +1,13 @@
-use Rattle.std.proofs.Common.{◌≡◌, ◌++◌, map, take}
+use Rattle.std.proofs.Common.{◌≡◌, ◌++◌, None, map, take}
 use Rattle.std.specs.List.{flat_map}
+use Rattle.wit_tree.specs.declared.tree.AstItem.{AstItem}
 use Rattle.wit_tree.specs.declared.tree.WorldSide.{WorldSide}
 use Rattle.wit_syntax.specs.Source.{top_names, declared_items, scope_names}
 use Rattle.wit_syntax.specs.Foreign.{visited, foreign_interfaces}
+use Rattle.wit_first.specs.First.{first_in}
+use Rattle.wit_first.specs.Uses.{item_uses_fault}
 use Rattle.wit_items.specs.Front.{AreItemsPlaced}
-use Rattle.wit_items.specs.Items.{item_behind, names_behind, AreFiled, HaveSoundUses}
+use Rattle.wit_items.specs.Items.{item_behind, names_behind, AreFiled}
 use Rattle.wit_items.specs.Inside.{inside_behind, names_written}
 use Rattle.wit_items.proofs.items.add_items.Given as goal
 
@@ -15,5 +18,5 @@ invariant-loop-item l = record {
   inside : (side : WorldSide) → map (inside_behind side) l.items.items ≡ map (inside_behind side) l.fn.items.items ++ map (names_written side) (flat_map (declared_items (top_names l.file)) (take l.item-index l.declared));
   filed : AreFiled l.files l.fn.items.items → AreFiled l.files l.items.items;
   placed : AreItemsPlaced (map visited (foreign_interfaces l.files)) l.fn.items.items → AreItemsPlaced (map visited (foreign_interfaces l.files)) l.items.items;
-  sound : HaveSoundUses l.files (flat_map (declared_items (top_names l.file)) (take l.item-index l.declared));
+  none : first_in (λ (d : AstItem). first_in (item_uses_fault l.files) (declared_items (top_names l.file) d)) (take l.item-index l.declared) ≡ None;
 }

@@ -1,23 +1,26 @@
-use Rattle.std.proofs.Common.{◌≡◌, ℕ, ◌+◌, ◌≤◌, List, length, ◌++◌, ◌∷◌, [], Some, arith, map, take, refl, sym, ap, ◌∙◌, subst}
+use Rattle.std.proofs.Common.{◌≡◌, ℕ, ◌+◌, ◌≤◌, List, length, ◌++◌, ◌∷◌, [], Option, Some, arith, map, take, refl, sym, ap, ◌∙◌, subst}
 use Rattle.std.specs.Prelude.{slice_get}
 use Rattle.std.proofs.lemmas.List.{map-append, take_all}
 use Rattle.std.proofs.lemmas.Option.{slice_get_read}
 use Rattle.std.proofs.lemmas.Result.{err_from_is_err_and}
 use Rattle.wit_tree.specs.declared.tree.PackageFile.{PackageFile}
-use Rattle.wit_syntax.specs.Source.{Item, file_items, all_items, scope_names}
-use Rattle.wit_syntax.specs.Scope.{uses}
-use Rattle.wit_syntax.specs.Broken.{IsBroken}
-use Rattle.wit_syntax.proofs.Refusing.{refused_weaker}
+use Rattle.wit_syntax.specs.Fault.{Fault}
+use Rattle.wit_syntax.specs.Source.{file_items, all_items, scope_names}
+use Rattle.wit_first.specs.First.{first_in}
+use Rattle.wit_first.specs.Uses.{item_uses_fault}
+use Rattle.wit_first.proofs.First.{in-flat, in-following, reports-in, reports_same}
 use Rattle.wit_syntax.proofs.Orders.{take_next}
 use Rattle.wit_top_names.proofs.Lost.{flat_more}
-use Rattle.wit_item_names.specs.Items.{AreSound}
-use Rattle.wit_items.specs.Items.{HaveSoundUses, HasUnsoundUse}
 use Rattle.wit_syntax.specs.Foreign.{visited, foreign_interfaces}
 use Rattle.wit_items.specs.Inside.{names_written}
 use Rattle.wit_items.proofs.Placed.{items_none}
 use Rattle.wit_items.proofs.Written.{inside_none}
-use Rattle.wit_items.proofs.Usable.{filed_none, unsound_broken, items_held}
+use Rattle.wit_items.proofs.Usable.{filed_none}
 use Rattle.wit_items.proofs.items.declared_items.Goals as goal
+
+-- of the uses of the items of a file
+abbrev wrong : List PackageFile → PackageFile → Option Fault
+wrong files file = first_in (item_uses_fault files) (file_items file)
 
 pub loop-place-init : goal.loop-place-init
 loop-place-init c = rw c.in_ok-items.ensures.items (record {
@@ -26,7 +29,7 @@ loop-place-init c = rw c.in_ok-items.ensures.items (record {
   inside = λ side. inside_none side;
   filed = filed_none c.args.names.now;
   placed = items_none (map visited (foreign_interfaces c.args.names.now));
-  sound = record { each = λ i among. absurd (let lt = among.1 in let f : ⊥ = omega arith in f) };
+  none = refl;
 })
 
 pub add_items-requires-clause-file : goal.add_items-requires-clause-file
@@ -51,16 +54,16 @@ loop-place-preserved c =
       inside = λ side. e.inside side ∙ ap (λ l. l ++ map (names_written side) own) (was.inside side) ∙ sym (map-append (names_written side) before own) ∙ ap (map (names_written side)) (sym grown);
       filed = e.filed was.filed;
       placed = e.placed was.placed;
-      sound = record { each = items_held (λ (w : Item). AreSound files w.top (uses w)) (take i files) (take (i + 1) files) file more was.sound.each e.sound.each };
+      none = in-following (wrong files) files i file at was.none e.first;
     }
 
-pub returns-in_err-add_items-clause-refused : goal.returns-in_err-add_items-clause-refused
-returns-in_err-add_items-clause-refused c =
+pub returns-in_err-add_items-clause-first : goal.returns-in_err-add_items-clause-first
+returns-in_err-add_items-clause-first c =
     let p = err_from_is_err_and c.from_residual-in_err-add_items.result c.from_residual-in_err-add_items.ensures.1 in
     let files = c.args.names.now in
     let file = c.index-files-place.result in
     let at : slice_get files c.loop-place.place ≡ Some file = rw c.requires.files (slice_get_read c.args.files.now _ c.loop-place.place file refl c.loop-place-test.true c.index-files-place.is) in
-    rw (p.1, p.2) (refused_weaker (HasUnsoundUse files (file_items file)) (IsBroken files) _ (λ f h. unsound_broken files c.loop-place.place file at f h) c.in_err-add_items.ensures.refused)
+    rw (p.1, p.2) (reports_same (sym (in-flat (item_uses_fault files) file_items files)) (reports-in (wrong files) files c.loop-place.place file _ at c.loop-place.invariant.none c.in_err-add_items.ensures.first))
 
 -- the files up to the place at which the loop ends
 all_taken : (files lent : List PackageFile) (place : ℕ) → lent ≡ files → length lent ≤ place → take place files ≡ files
@@ -75,5 +78,7 @@ returns-clause-names c = c.loop-place.invariant.names ∙ ap (λ l. map scope_na
 pub returns-clause-inside : goal.returns-clause-inside
 returns-clause-inside c = λ side. c.loop-place.invariant.inside side ∙ ap (λ l. map (names_written side) (all_items l)) (all_taken c.args.names.now c.args.files.now c.loop-place.place (sym c.requires.files) c.loop-place-test.false)
 
-pub returns-clause-sound : goal.returns-clause-sound
-returns-clause-sound c = subst (λ (l : List PackageFile). HaveSoundUses c.args.names.now (all_items l)) (all_taken c.args.names.now c.args.files.now c.loop-place.place (sym c.requires.files) c.loop-place-test.false) c.loop-place.invariant.sound
+pub returns-clause-first : goal.returns-clause-first
+returns-clause-first c =
+    let files = c.args.names.now in
+    in-flat (item_uses_fault files) file_items files ∙ ap (first_in (wrong files)) (sym (all_taken files c.args.files.now c.loop-place.place (sym c.requires.files) c.loop-place-test.false)) ∙ c.loop-place.invariant.none

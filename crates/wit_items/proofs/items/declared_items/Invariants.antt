@@ -1,9 +1,12 @@
-use Rattle.std.proofs.Common.{◌≡◌, map, take}
+use Rattle.std.proofs.Common.{◌≡◌, None, map, take}
 use Rattle.wit_tree.specs.declared.tree.WorldSide.{WorldSide}
-use Rattle.wit_syntax.specs.Source.{all_items, scope_names}
+use Rattle.wit_tree.specs.declared.tree.PackageFile.{PackageFile}
+use Rattle.wit_syntax.specs.Source.{file_items, all_items, scope_names}
 use Rattle.wit_syntax.specs.Foreign.{visited, foreign_interfaces}
+use Rattle.wit_first.specs.First.{first_in}
+use Rattle.wit_first.specs.Uses.{item_uses_fault}
 use Rattle.wit_items.specs.Front.{AreItemsPlaced}
-use Rattle.wit_items.specs.Items.{item_behind, names_behind, AreFiled, HaveSoundUses}
+use Rattle.wit_items.specs.Items.{item_behind, names_behind, AreFiled}
 use Rattle.wit_items.specs.Inside.{inside_behind, names_written}
 use Rattle.wit_items.proofs.items.declared_items.Given as goal
 
@@ -14,5 +17,5 @@ invariant-loop-place l = record {
   inside : (side : WorldSide) → map (inside_behind side) l.items.items ≡ map (names_written side) (all_items (take l.place l.names));
   filed : AreFiled l.names l.items.items;
   placed : AreItemsPlaced (map visited (foreign_interfaces l.names)) l.items.items;
-  sound : HaveSoundUses l.names (all_items (take l.place l.names));
+  none : first_in (λ (file : PackageFile). first_in (item_uses_fault l.names) (file_items file)) (take l.place l.names) ≡ None;
 }
