@@ -7,4 +7,5 @@ pub mod Functions
 pub mod Files
 pub mod Orders
 pub mod Uses
+pub mod Headers
 pub mod Laws

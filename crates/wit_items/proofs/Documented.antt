@@ -1,6 +1,6 @@
 -- Headers that have docs, one header more, and the first of them.
 use Rattle.std.proofs.Common.{◌≡◌, ◌<◌, Bool, true, false, not, ℕ, zero, suc, ◌+◌, List, [], ◌∷◌, ◌++◌, length, get_or, drop, drop-cons, Option, Some, None, Bor, inl, inr, refl, sym, ap, ◌∙◌, arith}
-use Rattle.std.specs.Prelude.{◌==◌, ◌||◌, slice_get, if◌then◌else◌}
+use Rattle.std.specs.Prelude.{◌==◌, ◌||◌, ◌&&◌, slice_get, if◌then◌else◌}
 use Rattle.std.specs.List.{cons_option}
 use Rattle.std.specs.Option.{option_to_list}
 use Rattle.std.proofs.lemmas.Bool.{cases_Bool, ne_eqb}
@@ -12,7 +12,8 @@ use Rattle.wit_syntax.specs.Notes.{docs_of}
 use Rattle.wit_syntax.specs.Broken.{IsDocumented, IsSecondDocs, headers}
 use Rattle.wit_arena.specs.Whole.{first_docs}
 use Rattle.wit_syntax.proofs.Found.{at_contains, contains_at}
-use Rattle.wit_items.specs.Headers.{is_documented, have_docs}
+use Rattle.wit_first.specs.Headers.{is_documented, have_docs, second_docs_fault}
+use Rattle.wit_first.specs.Laws.{Agrees}
 
 cons_option-append : (o : Option Header) (xs ys : List Header) → cons_option o (xs ++ ys) ≡ cons_option o xs ++ ys
 cons_option-append None xs ys = refl
@@ -92,17 +93,54 @@ documented_at [] i h at d = absurd (let f : ⊥ = cc in f)
 documented_at (x ∷ hs) zero h at d = (let same : x ≡ h = cc in ap (λ (y : Header). is_documented y || have_docs hs) same ∙ ap (λ (b : Bool). b || have_docs hs) (documented_from h d))
 documented_at (x ∷ hs) (suc i) h at d = ap (λ (b : Bool). is_documented x || b) (documented_at hs i h at d) ∙ or_true (is_documented x)
 
--- a header is no second one with docs
-pub no_second : (hs : List Header) (b : Bool) (current : Option Header) → b ≡ have_docs hs → (b ≡ true → (own : Header) → current ≡ Some own → IsDocumented own → ⊥) → (f : Fault) → IsSecondDocs hs current f → ⊥
-no_second hs b current same other f h =
-    let k = at_contains hs h.before h.among in
-    other (same ∙ documented_at hs k.0 h.before k.1 h.documented_before) h.own h.now h.documented
+-- a header with docs after others
+pub second_here : (hs : List Header) (own : Header) → have_docs hs ≡ true → is_documented own ≡ true → second_docs_fault hs (Some own) ≡ Some (fault 2 own.docs.span)
+second_here hs own some documented = ap2 (have_docs hs) (is_documented own) some documented
+  where
+    ap2 : (a b : Bool) → a ≡ true → b ≡ true → (if a && b then Some (fault 2 own.docs.span) else None) ≡ Some (fault 2 own.docs.span)
+    ap2 true true x y = refl
+    ap2 true false x y = absurd (let f : ⊥ = cc in f)
+    ap2 false b x y = absurd (let f : ⊥ = cc in f)
 
--- one with docs behind others that have some is one
-pub second : (hs : List Header) (b : Bool) (current : Option Header) (own : Header) (f : Fault) → b ≡ have_docs hs → b ≡ true → current ≡ Some own → IsDocumented own → f ≡ fault 2 own.docs.span → IsSecondDocs hs current f
-second hs b current own f same holds now documented is =
-    let it = documented_one hs (sym same ∙ holds) in
-    record { own = own; now = now; documented = documented; before = it.1; among = contains_at hs it.0 it.1 it.2; documented_before = it.3; is = is }
+-- one without docs, or after others without
+pub second_none : (hs : List Header) (own : Header) → is_documented own ≡ false → second_docs_fault hs (Some own) ≡ None
+second_none hs own bare = by (have_docs hs) (is_documented own) bare
+  where
+    by : (a b : Bool) → b ≡ false → (if a && b then Some (fault 2 own.docs.span) else None) ≡ None
+    by true true x = absurd (let f : ⊥ = cc in f)
+    by true false x = refl
+    by false b x = refl
+
+pub none_second : (hs : List Header) (current : Option Header) → have_docs hs ≡ false → second_docs_fault hs current ≡ None
+none_second hs None bare = refl
+none_second hs (Some own) bare = by (have_docs hs) (is_documented own) bare
+  where
+    by : (a b : Bool) → a ≡ false → (if a && b then Some (fault 2 own.docs.span) else None) ≡ None
+    by true b x = absurd (let f : ⊥ = cc in f)
+    by false b x = refl
+
+-- the first fault of docs is that of a second header that has them
+docs_broken : (hs : List Header) (current : Option Header) (f : Fault) → second_docs_fault hs current ≡ Some f → IsSecondDocs hs current f
+docs_broken hs None f h = absurd (let g : ⊥ = cc in g)
+docs_broken hs (Some own) f h = by (have_docs hs) (is_documented own) refl refl h
+  where
+    by : (a b : Bool) → have_docs hs ≡ a → is_documented own ≡ b → (if a && b then Some (fault 2 own.docs.span) else None) ≡ Some f → IsSecondDocs hs (Some own) f
+    by true true some documented h = (
+        let it = documented_one hs some in
+        let same : Some (fault 2 own.docs.span) ≡ Some f = h in
+        record { own = own; now = refl; documented = documented_is own documented; before = it.1; among = contains_at hs it.0 it.1 it.2; documented_before = it.3; is = (let is : f ≡ fault 2 own.docs.span = cc in is) })
+    by true false some documented h = absurd (let wrong : None ≡ Some f = h in let g : ⊥ = cc in g)
+    by false b some documented h = absurd (let wrong : None ≡ Some f = h in let g : ⊥ = cc in g)
+
+docs_unbroken : (hs : List Header) (current : Option Header) → second_docs_fault hs current ≡ None → (f : Fault) → IsSecondDocs hs current f → ⊥
+docs_unbroken hs current none f h =
+    let k = at_contains hs h.before h.among in
+    let there = ap (second_docs_fault hs) h.now ∙ second_here hs h.own (documented_at hs k.0 h.before k.1 h.documented_before) (documented_from h.own h.documented) in
+    let wrong : None ≡ Some (fault 2 h.own.docs.span) = sym none ∙ there in
+    (let g : ⊥ = cc in g)
+
+pub docs_agree : (hs : List Header) (current : Option Header) → Agrees (second_docs_fault hs current) (IsSecondDocs hs current)
+docs_agree hs current = record { broken = docs_broken hs current; unbroken = docs_unbroken hs current }
 
 -- the docs of the files from a place on
 docs_from : (fs : List PackageFile) (i : ℕ) (f : PackageFile) → i < length fs → f ≡ get_or fs i f → first_docs (headers (drop i fs)) ≡ first_docs (cons_option f.package_id (headers (drop (i + 1) fs)))

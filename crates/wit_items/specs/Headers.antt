@@ -1,5 +1,5 @@
--- The header of the file at a place, headers that name another package, and headers that have docs.
-use Rattle.std.specs.Prelude.{ℕ, ◌==◌, ◌||◌, ◌++◌, Bool, false, not, List, [], ◌∷◌, length, Option, codes, slice_get}
+-- The header of the file at a place, and headers that name another package.
+use Rattle.std.specs.Prelude.{ℕ, ◌++◌, List, Option, codes, slice_get}
 use Rattle.std.specs.Option.{option_and_then}
 use Rattle.wit_package_names.specs.PackageName.{name_text}
 use Rattle.wit_package_names.specs.declared.package_name.PackageName.{PackageName}
@@ -13,11 +13,3 @@ header_at files place = option_and_then (λ (f : PackageFile). f.package_id) (sl
 -- the words for a header that names another package than the one before it
 abbrev pub mismatch : PackageName → PackageName → List ℕ
 mismatch current previous = codes "package identifier `" ++ (name_text current ++ (codes "` does not match previous package name of `" ++ (name_text previous ++ codes "`")))
-
--- whether a header has docs, and whether one of some has
-abbrev pub is_documented : Header → Bool
-is_documented h = not (length h.docs.docs.items == 0)
-
-abbrev pub have_docs : List Header → Bool
-have_docs [] = false
-have_docs (h ∷ hs) = is_documented h || have_docs hs

@@ -1,13 +1,14 @@
 //! Headers: which package they name, and their docs.
-ghost use Rattle.std.specs.Prelude.{◌≡◌, ◌↔◌, ◌++◌, List, IsTrue, IfOk, IfErr, OnOk, string_bytes};
+ghost use Rattle.std.specs.Prelude.{◌≡◌, ◌↔◌, ◌++◌, List, IsTrue, IfOk, string_bytes};
 ghost use Rattle.std.specs.Option.{option_map, option_to_list};
 ghost use Rattle.semver.specs.Identifiers.{parts_of};
 ghost use Rattle.wit_tree.specs.declared.tree.PackageName.{PackageName as Header};
 ghost use Rattle.wit_syntax.specs.Address.{package_of};
-ghost use Rattle.wit_syntax.specs.Fault.{Fault};
-ghost use Rattle.wit_syntax.specs.Broken.{IsSamePackage, IsSecondDocs, Refused, headers};
+ghost use Rattle.wit_syntax.specs.Broken.{IsSamePackage, headers};
 ghost use Rattle.wit_arena.specs.Whole.{first_docs};
-ghost use Rattle.wit_items.specs.Headers.{is_documented, have_docs, mismatch};
+ghost use Rattle.wit_first.specs.First.{Finds};
+ghost use Rattle.wit_first.specs.Headers.{have_docs, is_documented, second_docs_fault};
+ghost use Rattle.wit_items.specs.Headers.{mismatch};
 
 use semver::Version;
 use std::alloc::{AllocError, Global};
@@ -93,8 +94,7 @@ pub fn check_docs(
     documented: bool,
     current: &Option<tree::PackageName<'_>>,
 ) -> ParseResult<()>
-    ensures accepted { OnOk result ((hs : List Header) → documented ≡ have_docs hs → (f : Fault) → IsSecondDocs hs current.now f → ⊥) }
-    ensures refused { IfErr result (λ e. (hs : List Header) → documented ≡ have_docs hs → Refused (IsSecondDocs hs current.now) e) }
+    ensures { (hs : List Header) → documented ≡ have_docs hs → Finds (second_docs_fault hs current.now) result }
 {
     if documented {
         if let Some(own) = current {

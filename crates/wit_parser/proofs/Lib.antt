@@ -20,3 +20,4 @@ mod PartsKeys
 mod PartsBoth
 mod PartsPackage
 mod PartsMade
+pub mod Pushing

@@ -11,6 +11,7 @@ ghost use Rattle.wit_arena.specs.Made.{Makes};
 ghost use Rattle.wit_arena.specs.Whole.{IsPackage};
 ghost use Rattle.wit_parser.specs.Ids.{AreIdsWithin};
 ghost use Rattle.wit_parser.specs.Marks.{HaveMarks};
+ghost use Rattle.wit_parser.specs.Stray.{PushesAgree};
 ghost use Rattle.wit_model.specs.declared.unresolved.UnresolvedPackage.{UnresolvedPackage as ThePackage};
 
 use wit_model::UnresolvedPackage;
@@ -64,4 +65,10 @@ pub fn splitting()
 pub fn one_package()
     ensures made { (files : List TheFile) (p q : ThePackage) → IsLegal files → Makes files p → Makes files q → p ≡ q }
     ensures parts { (files : List TheFile) (p q : ThePackage) → IsLegal files → IsPackage files p → IsPackage files q → p ≡ q }
+{}
+
+/// The first fault of a source that [`Resolver::push`](crate::Resolver::push) reports breaks one of
+/// E1, E2 and E3; and where there is none, the source breaks none of them.
+pub fn pushes_agree()
+    ensures { PushesAgree }
 {}

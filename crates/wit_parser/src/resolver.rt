@@ -3,11 +3,11 @@ ghost use Rattle.std.specs.Prelude.{◌≡◌, ◌++◌, ◌∷◌, [], Some, If
 ghost use Rattle.std.specs.Option.{option_copied, option_map};
 ghost use Rattle.semver.specs.Identifiers.{parts_of};
 ghost use Rattle.wit_values.specs.ReleaseText.{release_parts};
-ghost use Rattle.wit_syntax.specs.Fault.{Fault};
-ghost use Rattle.wit_syntax.specs.Broken.{IsMismatch, IsBroken, IsLegal, Refused, headers, last_header};
-ghost use Rattle.wit_items.specs.Headers.{header_at, have_docs as the_docs};
+ghost use Rattle.wit_syntax.specs.Broken.{IsBroken, IsLegal, Refused, headers, last_header};
+ghost use Rattle.wit_first.specs.First.{Finds};
+ghost use Rattle.wit_first.specs.Headers.{have_docs as the_docs, nesting_fault, other_fault, push_fault};
+ghost use Rattle.wit_items.specs.Headers.{header_at};
 ghost use Rattle.wit_type_tree.specs.Refusal.{IsWantOfMemory};
-ghost use Rattle.wit_parser.specs.Stray.{IsNesting, IsStray};
 ghost use Rattle.wit_arena.specs.Made.{Makes};
 ghost use Rattle.wit_arena.specs.Whole.{first_docs, IsPackage};
 ghost use Rattle.wit_arena.specs.Faithful.{IsFaithful, HasArena, IsMadeOf};
@@ -42,30 +42,41 @@ pub struct Resolver<'a> {
     pub ghost docs: { documented ≡ the_docs (headers files.items) },
 }
 
-/// The refusal of a header that names another package than the last one before it, if it does.
+/// Refuses a header that names another package than the one before it.
+fn check_same(
+    alloc: Global,
+    before: &tree::PackageName<'_>,
+    own: &tree::PackageName<'_>,
+) -> ParseResult<()>
+    ensures { Finds (other_fault (Some before.now) (Some own.now)) result }
+{
+    if is_same(before, own) {
+        return Ok(());
+    }
+    let message = mismatch(alloc, own, before)?;
+    Err(refuse(alloc, 1, own.span, message.as_str()))
+}
+
+/// Refuses a header that names another package than the last one before it.
 fn check_header(
     alloc: Global,
     previous: Option<&tree::PackageName<'_>>,
     current: &Option<tree::PackageName<'_>>,
 ) -> ParseResult<()>
-    ensures accepted { OnOk result ((f : Fault) → IsMismatch (option_copied previous.entry) current.now f → ⊥) }
-    ensures refused { IfErr result (Refused (IsMismatch (option_copied previous.entry) current.now)) }
+    ensures { Finds (other_fault (option_copied previous.entry) current.now) result }
 {
-    if let Some(before) = previous {
-        if let Some(own) = current {
-            if !is_same(before, own) {
-                let message = mismatch(alloc, own, before)?;
-                return Err(refuse(alloc, 1, own.span, message.as_str()));
-            }
-        }
+    let Some(before) = previous else {
+        return Ok(());
+    };
+    match current {
+        Some(own) => check_same(alloc, before, own),
+        None => Ok(()),
     }
-    Ok(())
 }
 
 /// Refuses packages that are nested in a source, at the name of the first.
 fn check_nested(alloc: Global, nested: &[NestedPackage<'_>]) -> ParseResult<()>
-    ensures accepted { OnOk result ((f : Fault) → IsNesting nested.now f → ⊥) }
-    ensures refused { IfErr result (Refused (IsNesting nested.now)) }
+    ensures { Finds (nesting_fault nested.now) result }
 {
     match nested.first() {
         Some(inner) => Err(refuse(alloc, 3, inner.name.span, NESTED)),
@@ -180,9 +191,8 @@ impl<'a> Resolver<'a> {
     /// - 45: a growth was refused.
     pub fn push(&mut self, alloc: Global, source: SourceFile<'a>) -> ParseResult<()>
         ensures ok { OnOk result (self.new.files.items ≡ self.old.files.items ++ source.entry.file ∷ []) }
-        ensures accepted { OnOk result ((f : Fault) → IsStray self.old.files.items source.entry f → ⊥) }
         ensures unchanged { OnErr result (self.new.files.items ≡ self.old.files.items) }
-        ensures refused { IfErr result (Refused (IsStray self.old.files.items source.entry)) }
+        ensures first { Finds (push_fault self.old.files.items source.entry) result }
     {
         let SourceFile { file, nested } = source;
         check_header(alloc, self.last_header(), &file.package_id)?;

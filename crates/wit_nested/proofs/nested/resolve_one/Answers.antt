@@ -1,16 +1,18 @@
 use Rattle.std.proofs.lemmas.Result.{err_from_is_err_and}
+use Rattle.wit_first.proofs.Bridge.{refused_by}
+use Rattle.wit_parser.proofs.Pushing.{push_agrees}
 use Rattle.wit_nested.proofs.Making.{inner_broken, one_broken, one_made}
 use Rattle.wit_nested.proofs.nested.resolve_one.Goals as goal
 
 pub returns-in_err-push-clause-refused : goal.returns-in_err-push-clause-refused
 returns-in_err-push-clause-refused c =
     let p = err_from_is_err_and c.from_residual-in_err-push.result c.from_residual-in_err-push.ensures.1 in
-    rw (p.1, p.2) (inner_broken c.args.inner c.new-resolver.result.files.items c.in_ok-source.source _ c.new-resolver.ensures c.in_ok-source.ensures c.in_err-push.ensures.refused)
+    rw (p.1, p.2) (inner_broken c.args.inner c.new-resolver.result.files.items c.in_ok-source.source _ c.new-resolver.ensures c.in_ok-source.ensures (refused_by (push_agrees c.new-resolver.result.files.items c.in_ok-source.source) c.in_err-push.ensures.first))
 
 pub returns-clause-made : goal.returns-clause-made
 returns-clause-made c =
     let r = c.resolve.ensures in
-    one_made c.args.inner c.in_ok-source.source c.new-resolver.result.files.items c.push.new.self.files.items c.resolve.result c.new-resolver.ensures c.in_ok-source.ensures c.in_ok-push.ensures.ok c.in_ok-push.ensures.accepted r.legal r.«package»
+    one_made c.args.inner c.in_ok-source.source c.new-resolver.result.files.items c.push.new.self.files.items c.resolve.result c.new-resolver.ensures c.in_ok-source.ensures c.in_ok-push.ensures.ok ((push_agrees c.new-resolver.result.files.items c.in_ok-source.source).unbroken c.in_ok-push.ensures.first) r.legal r.«package»
 
 pub returns-clause-refused : goal.returns-clause-refused
 returns-clause-refused c =

@@ -1,5 +1,7 @@
 use Rattle.std.proofs.Common.{◌++◌, ◌∷◌, [], ap, refl, ◌∙◌}
 use Rattle.std.proofs.lemmas.Result.{err_from_is_err_and}
+use Rattle.wit_first.proofs.Bridge.{refused_by}
+use Rattle.wit_parser.proofs.Pushing.{push_agrees}
 use Rattle.wit_nested.proofs.Fitting.{not_unfit}
 use Rattle.wit_nested.proofs.Making.{among_unfit, nested_grown, rest_unfit}
 use Rattle.wit_nested.proofs.resolver.GroupResolver.push.Goals as goal
@@ -18,7 +20,7 @@ returns-in-Ok-clause-nested c =
 
 pub returns-in-Ok-clause-accepted : goal.returns-in-Ok-clause-accepted
 returns-in-Ok-clause-accepted c =
-    not_unfit c.args.self.now.main.files.items c.args.source c.alone.result c.args.source.nested.items c.in_ok-made.made.items refl c.in_ok-made.ensures.made c.alone.ensures.file c.in-Ok.ensures.accepted
+    not_unfit c.args.self.now.main.files.items c.args.source c.alone.result c.args.source.nested.items c.in_ok-made.made.items refl c.in_ok-made.ensures.made c.alone.ensures.file ((push_agrees c.args.self.now.main.files.items c.alone.result).unbroken c.in-Ok.ensures.first)
 
 pub returns-clause-refused : goal.returns-clause-refused
-returns-clause-refused c = rest_unfit c.args.self.now.main.files.items c.args.source c.alone.result _ c.alone.ensures.file c.alone.ensures.nested c.in-Err.ensures.refused
+returns-clause-refused c = rest_unfit c.args.self.now.main.files.items c.args.source c.alone.result _ c.alone.ensures.file c.alone.ensures.nested (refused_by (push_agrees c.args.self.now.main.files.items c.alone.result) c.in-Err.ensures.first)
