@@ -14,7 +14,6 @@ use Rattle.wit_syntax.specs.Foreign.{ForeignVisit, visited, foreign_items, forei
 use Rattle.wit_arena.specs.Whole.{foreign_place}
 use Rattle.wit_arena.specs.Resolving.{Names, cells, IsIndex, IsWorldIndex}
 use Rattle.wit_arena.specs.Resolved.{AddsForeign, worlds_at}
-use Rattle.wit_syntax.proofs.Lists.{map_map}
 use Rattle.wit_arena.proofs.Indexing.{index_front, world_index_front, worlds_at-append}
 use Rattle.wit_syntax.specs.Source.{all_items, scope_names}
 use Rattle.wit_arena.proofs.Visits.{visited_foreign, interfaces_differ}
@@ -27,10 +26,6 @@ use Rattle.wit_items.specs.Items.{others_of, names_behind}
 use Rattle.wit_items.specs.Inside.{inside_behind, names_written}
 use Rattle.wit_items.specs.Front.{AreItemsPlaced}
 use Rattle.wit_front.specs.Front.{addresses_among, IsTaken, HasTaken, IsFront}
-
--- the addresses of the interfaces that are held
-pub front_visits : (files : List PackageFile) (vs : List Held) → map foreign_behind vs ≡ foreign_interfaces files → front_of vs ≡ map visited (foreign_interfaces files)
-front_visits files vs h = sym (map_map visited foreign_behind vs) ∙ ap (map visited) h
 
 abbrev entry_by : List ForeignVisit → ForeignVisit → AstItem
 entry_by vs v = if v.wants_world then entry.World (foreign_place (filter (λ (v : ForeignVisit). v.wants_world) vs) v) else entry.Interface (foreign_place (filter (λ u. not u.wants_world) vs) v)
@@ -46,9 +41,9 @@ module _ (files : List PackageFile) (es : List TypeDef) (is : List Interface) (w
       let all : worlds_at ss ws ≡ ss = ap (worlds_at ss) (sym (append-nil ws)) ∙ worlds_at-append ss ws [] (adds.worlds.count ∙ sym (length-map (foreign_worlds files) visited)) ∙ append-nil ss in
       subst (λ l. IsWorldIndex l []) (sym all) (world_index_front ss (visited_foreign (foreign_worlds files)))
 
-  -- the interfaces that are held are as many as those in front
-  pub front_enough : (vs : List Held) → map foreign_behind vs ≡ foreign_interfaces files → length vs ≤ length is
-  front_enough vs h = omega (arith, adds.interfaces.count, ap length h, length-map vs foreign_behind)
+  -- they are as many as other packages have
+  pub interfaces_enough : length (front_of files) ≤ length is
+  interfaces_enough = omega (arith, adds.interfaces.count, length-map (foreign_interfaces files) visited)
 
   pub others_enough : length (map visited (foreign_worlds files)) ≤ length ws
   others_enough = omega (arith, adds.worlds.count, length-map (foreign_worlds files) visited)
@@ -73,24 +68,13 @@ module _ (files : List PackageFile) (vs : List Held) (types : List TypeDef) (a :
   front_taken types' a' names inside taken = taken files (bare files vs types a all empty made) (subst (AreItemsPlaced (map visited (foreign_interfaces files))) (sym lent) placed) (ap (map names_behind) lent ∙ names) (λ side. ap (map (inside_behind side)) lent ∙ inside side)
 
 -- where what stands in front was made
-module _ (files : List PackageFile) (types : List TypeDef) (a : ForeignArenas) (front : IsFront files types a) (vs : List Held) (lent : vs ≡ a.visits.items) where
-  abbrev is_held : map foreign_behind vs ≡ foreign_interfaces files
-  is_held = ap (map foreign_behind) lent ∙ front.visits
-
-  -- the interfaces that are held have the addresses of those in front
-  pub lent_front : front_of vs ≡ map visited (foreign_interfaces files)
-  lent_front = front_visits files vs is_held
-
-  pub lent_placed : (items held : List HeldItem) → held ≡ items → AreItemsPlaced (map visited (foreign_interfaces files)) items → AreItemsPlaced (front_of vs) held
-  lent_placed items held is placed = subst (λ front. AreItemsPlaced front held) (sym lent_front) (subst (AreItemsPlaced (map visited (foreign_interfaces files))) (sym is) placed)
-
-  pub lent_enough : length vs ≤ length a.interfaces
-  lent_enough = front_enough files types a.interfaces a.worlds front.adds vs is_held
-
-  pub lent_index : (by_name : Names) → by_name ≡ [] → IsIndex (cells (front_of vs) a.interfaces) by_name
-  lent_index by_name none = subst (IsIndex (cells (front_of vs) a.interfaces)) (sym none) (subst (λ ss. IsIndex (cells ss a.interfaces) []) (sym lent_front) (front_index files types a.interfaces a.worlds front.adds))
-
 module _ (files : List PackageFile) (types : List TypeDef) (a : ForeignArenas) (front : IsFront files types a) where
+  pub lent_enough : length (front_of files) ≤ length a.interfaces
+  lent_enough = interfaces_enough files types a.interfaces a.worlds front.adds
+
+  pub lent_index : (by_name : Names) → by_name ≡ [] → IsIndex (cells (front_of files) a.interfaces) by_name
+  lent_index by_name none = subst (IsIndex (cells (front_of files) a.interfaces)) (sym none) (front_index files types a.interfaces a.worlds front.adds)
+
   pub worlds_enough : length (others_of files) ≤ length a.worlds
   worlds_enough = others_enough files types a.interfaces a.worlds front.adds
 

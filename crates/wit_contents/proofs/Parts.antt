@@ -8,14 +8,12 @@ use Rattle.wit_tree.specs.declared.tree.Include.{Include}
 use Rattle.wit_tree.specs.declared.tree.WorldSide.{WorldSide}
 use Rattle.wit_tree.specs.declared.tree.WorldSide.TheVariants.{Imported, Exported}
 use Rattle.wit_types.specs.declared.types.TypeDef.{TypeDef}
-use Rattle.wit_type_tree.specs.declared.error.ParseError.{ParseError}
-use Rattle.wit_types.specs.declared.types.TypeOwner.{TypeOwner}
 use Rattle.wit_types.specs.declared.types.TypeOwner.TheVariants as owner
 use Rattle.wit_functions.specs.declared.function.Function.{Function}
 use Rattle.wit_model.specs.declared.interface.Interface.{Interface}
 use Rattle.wit_model.specs.declared.world.World.{World}
 use Rattle.wit_syntax.specs.Address.{Address}
-use Rattle.wit_syntax.specs.Broken.{IsBrokenScope, IsSetterAlone, Refused}
+use Rattle.wit_syntax.specs.Broken.{IsBrokenScope, IsSetterAlone}
 use Rattle.wit_syntax.specs.Fault.{Fault}
 use Rattle.wit_syntax.specs.Function.{functions}
 use Rattle.wit_syntax.specs.Scope.{in_turn, includes}
@@ -24,7 +22,7 @@ use Rattle.wit_syntax.specs.Notes.{IsBrokenStability}
 use Rattle.wit_syntax.specs.Source.{Item, ScopeName, address, local_id, scope_names, about, declared_notes}
 use Rattle.wit_syntax.proofs.Inline.{length-inline_behind}
 use Rattle.wit_syntax.proofs.Lists.{at_back}
-use Rattle.wit_arena.specs.Resolving.{Cell, Names, Required, cells}
+use Rattle.wit_arena.specs.Resolving.{Names, Required, cells}
 use Rattle.wit_arena.specs.Resolved.{AddsSides, AddsWorld, AreLegalSides, AreSoundScopes, IsBrokenItemStability, IsNameless, OfInclude, OwnStability, interfaces_at, worlds_at}
 use Rattle.wit_arena.specs.SideItems.{AreSideItems, settled}
 use Rattle.wit_arena.specs.Whole.{AreIncludes, type_imports}
@@ -34,7 +32,6 @@ use Rattle.wit_externs.specs.declared.held.HeldExtern.{HeldExtern}
 use Rattle.wit_items.specs.Told.{AreOf, notes_behind}
 use Rattle.wit_uses.specs.Between.{Emits}
 use Rattle.wit_item_entries.specs.Between.{AddsTurn}
-use Rattle.wit_item_entries.specs.Body.{IsWrongBody}
 use Rattle.wit_uses.proofs.Telling.{world_told}
 use Rattle.wit_contents.specs.declared.world.WorldParts.{WorldParts}
 use Rattle.wit_contents.specs.BetweenWorlds.{AreWorldParts, IsAddedWorld, arenas}
@@ -143,13 +140,6 @@ sides_all i us one more = record {
     | inr later ↦ more.legal later.0 u f later.1 broken
   ];
 }
-
--- what is known of the names of an item whose owner and names are lent
-pub turn_item : (old mid : List TypeDef) (cs : List Cell) (o p : TypeOwner) (i j : Item) (types : Names) (ids : List Id) (rs : List Required) → o ≡ p → i ≡ j → AddsTurn old mid cs o (scope_names i) types ids rs → AddsTurn old mid cs p (scope_names j) types ids rs
-turn_item old mid cs o p i j types ids rs whose same h = subst (λ (x : TypeOwner). AddsTurn old mid cs x (scope_names j) types ids rs) whose (subst (λ (x : Item). AddsTurn old mid cs o (scope_names x) types ids rs) same h)
-
-pub body_item : (old : List TypeDef) (cs : List Cell) (by_name : Names) (o p : TypeOwner) (i j : Item) (e : ParseError) → o ≡ p → i ≡ j → Refused (IsWrongBody old cs by_name o i) e → Refused (IsWrongBody old cs by_name p j) e
-body_item old cs by_name o p i j e whose same h = subst (λ (x : TypeOwner). Refused (IsWrongBody old cs by_name x j) e) whose (subst (λ (x : Item). Refused (IsWrongBody old cs by_name o x) e) same h)
 
 -- nothing is wrong with the stability of a world, where nothing is with its own attributes nor with its includes
 pub world_stable : (w : Item) → ((f : Fault) → IsBrokenStability (about w.declared).attributes f → ⊥) → AreStable (includes w) → (f : Fault) → IsBrokenItemStability w f → ⊥

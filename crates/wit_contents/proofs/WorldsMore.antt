@@ -1,6 +1,5 @@
 -- Worlds that are added one after another, with the interfaces that are written in them, and one more.
-use Rattle.std.proofs.Common.{◌≡◌, ◌≤◌, ◌+◌, ℕ, zero, suc, List, [], ◌∷◌, ◌++◌, All, Some, length, map, inl, inr, refl, sym, ap, ◌∙◌, subst, append_assoc, arith}
-use Rattle.std.specs.Prelude.{slice_get}
+use Rattle.std.proofs.Common.{◌≡◌, ◌+◌, List, [], ◌∷◌, ◌++◌, length, map, inl, inr, refl, sym, ap, ◌∙◌, subst, append_assoc, arith}
 use Rattle.std.specs.List.{flat_map}
 use Rattle.std.proofs.lemmas.Grind.{flat_map-append}
 use Rattle.std.proofs.lemmas.List.{append-nil, length-append, length-map, map-append}
@@ -13,9 +12,6 @@ use Rattle.wit_syntax.specs.Source.{Item, address}
 use Rattle.wit_syntax.proofs.Lists.{at_split}
 use Rattle.wit_arena.specs.Resolving.{Required}
 use Rattle.wit_arena.specs.Resolved.{AddsEach, AddsWorld, AddsWorlds, AreLegalSides, AreSoundScopes, front_worlds}
-use Rattle.wit_scopes.specs.Front.{AreNamesPlaced}
-use Rattle.wit_items.specs.declared.items.Item.{Item as HeldItem}
-use Rattle.wit_items.specs.Front.{AreItemsPlaced}
 use Rattle.wit_uses.specs.Between.{Emits}
 use Rattle.wit_contents.specs.BetweenWorlds.{arenas}
 
@@ -62,22 +58,6 @@ worlds_more foreign others is old mid new front ws ws' inside now before between
           let before = p.put in
           omega (arith, long, count, before, grown));
     }
-
--- the worlds have one more
-pub longer : (ws ws' : List World) (x : World) (n : ℕ) → ws' ≡ ws ++ x ∷ [] → n ≤ length ws → n ≤ length ws'
-longer ws ws' x n one enough = omega (arith, ap length one, length-append ws (x ∷ []), enough)
-
--- an item at hand, of whose names the place is known
-pub placed_one : (front : List Address) (items : List HeldItem) (k : ℕ) (x : HeldItem) → slice_get items k ≡ Some x → AreItemsPlaced front items → AreItemsPlaced front (x ∷ [])
-placed_one front items k x at placed = record {
-  each = λ j i there. subst (λ (y : HeldItem). AreNamesPlaced front y.names.items) (one x j i there) (placed.each k x at);
-  imported = λ j i there. subst (λ (y : HeldItem). All (λ ns. AreNamesPlaced front ns.items) y.imported.items) (one x j i there) (placed.imported k x at);
-  exported = λ j i there. subst (λ (y : HeldItem). All (λ ns. AreNamesPlaced front ns.items) y.exported.items) (one x j i there) (placed.exported k x at);
-}
-  where
-    one : (x : HeldItem) (j : ℕ) (i : HeldItem) → slice_get (x ∷ []) j ≡ Some i → x ≡ i
-    one x zero i there = cc
-    one x (suc j) i there = absurd (let f : ⊥ = cc in f)
 
 -- items behind others, all sound, and all legal
 pub sounds_both : (xs ys : List Item) → AreSoundScopes xs → AreSoundScopes ys → AreSoundScopes (xs ++ ys)

@@ -16,9 +16,9 @@ use wit_entries::scope::Required;
 use wit_files::FileNames;
 use wit_foreign::foreign_deps;
 use wit_front::foreign::ForeignArenas;
+use wit_item_names::files::Files;
 use wit_items::interfaces::Interfaces;
 use wit_items::items::{Item, declared_items};
-use wit_links::includes::Worlds;
 use wit_model::{ForeignItems, Interface, World};
 use wit_tree::tree::PackageFile;
 use wit_tree::{ParseResult, Span};
@@ -55,40 +55,34 @@ fn resolve_files<'f, 'a>(
     let lent: &mut [Item<'_, '_>] = &mut items;
     front.take_all(alloc, types, lent)?;
     let ForeignArenas {
-        visits,
         interfaces,
         worlds,
         entries,
         spans,
     } = front;
+    let named = Files::of(names, &entries);
     let mut interfaces = Interfaces {
-        foreign: &visits,
+        files: named,
         arena: interfaces,
         by_name: TextTable::new(alloc),
     };
     let mut required = Vec::new(alloc);
     resolve_interfaces(alloc, lent, types, &mut required, &mut interfaces, order)?;
-    let mut worlds = Worlds {
-        entries: &entries,
-        arena: worlds,
-        by_name: TextTable::new(alloc),
-    };
-    let mut inside = Arena::new(alloc);
-    resolve_worlds(
+    let made = resolve_worlds(
         alloc,
         lent,
         types,
         &mut required,
-        names,
         &interfaces,
-        &mut inside,
-        &mut worlds,
+        worlds,
         order,
     )?;
-    interfaces.arena.append(&mut inside)?;
+    let (worlds, mut inside) = made;
+    let mut interfaces = interfaces.arena;
+    interfaces.append(&mut inside)?;
     Ok(Resolved {
-        interfaces: interfaces.arena,
-        worlds: worlds.arena,
+        interfaces,
+        worlds,
         unknown_type_spans: spans,
         required,
     })

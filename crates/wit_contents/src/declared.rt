@@ -1,5 +1,5 @@
 //! Declared interfaces, one after another.
-ghost use Rattle.std.specs.Prelude.{◌≡◌, ◌<◌, ◌≤◌, ◌++◌, ◌∷◌, [], false, All, Some, length, IfErr, OnOk, map};
+ghost use Rattle.std.specs.Prelude.{◌≡◌, ◌<◌, ◌++◌, ◌∷◌, [], false, All, Some, length, IfErr, OnOk, map};
 ghost use Rattle.wit_types.specs.declared.types.TypeOwner.TheVariants.{Interface as InterfaceOwner};
 ghost use Rattle.wit_syntax.specs.Source.{is_world, scope_names as the_names, about};
 ghost use Rattle.wit_syntax.specs.Notes.{IsBrokenStability};
@@ -9,15 +9,14 @@ ghost use Rattle.wit_syntax.specs.Sides.{IsBrokenSides};
 ghost use Rattle.wit_syntax.specs.Fault.{Fault};
 ghost use Rattle.wit_syntax.specs.Broken.{IsBrokenScope, Refused};
 ghost use Rattle.wit_type_tree.specs.Refusal.{IsWantOfMemory};
-ghost use Rattle.wit_items.specs.Items.{item_behind, names_behind};
-ghost use Rattle.wit_items.specs.Front.{AreItemsPlaced};
+ghost use Rattle.wit_items.specs.Items.{item_behind};
 ghost use Rattle.wit_arena.specs.Resolving.{IsIndex};
 ghost use Rattle.wit_arena.specs.Resolved.{AddsDeclared, AddsInterfaces, AreLegalSides, AreSoundScopes, HaveLegalStability, IsNameless, IsWrongInterface, IsWrongNow};
 ghost use Rattle.wit_item_names.specs.Interfaces.{front_of};
 ghost use Rattle.wit_items.specs.Interfaces.{cells_of};
 ghost use Rattle.wit_uses.specs.Between.{Emits};
 ghost use Rattle.wit_contents.specs.Outer.{AreOuter};
-ghost use Rattle.wit_scopes.specs.Front.{AreNamesPlaced};
+ghost use Rattle.wit_items.specs.Gathered.{AreItemsOf, IsItemOf};
 
 use crate::interface::interface_of;
 use std::alloc::Global;
@@ -33,14 +32,13 @@ use wit_values::Text;
 /// Adds a declared interface, under its name.
 fn add_interface(
     alloc: Global,
-    interfaces: &mut Interfaces<'_, '_, '_>,
+    interfaces: &mut Interfaces<'_, '_, '_, '_>,
     name: &str,
     interface: Interface,
 ) -> ParseResult<()>
-    requires front { length interfaces.old.foreign.now ≤ length interfaces.old.arena }
     requires index { IsIndex (cells_of interfaces.old) interfaces.old.by_name }
     requires named { interface.name ≡ Some name.now }
-    ensures foreign { OnOk result (interfaces.new.foreign ≡ interfaces.old.foreign) }
+    ensures files { OnOk result (interfaces.new.files ≡ interfaces.old.files) }
     ensures added { OnOk result (interfaces.new.arena ≡ interfaces.old.arena ++ interface ∷ []) }
     ensures index { OnOk result (IsIndex (cells_of interfaces.new) interfaces.new.by_name) }
     ensures refused { IfErr result IsWantOfMemory }
@@ -58,17 +56,15 @@ fn resolve_interface<'a>(
     item: &Item<'_, 'a>,
     types: &mut Entries,
     required: &mut Vec<Required>,
-    interfaces: &mut Interfaces<'_, '_, '_>,
+    interfaces: &mut Interfaces<'_, '_, '_, '_>,
     id: Id<'a>,
 ) -> ParseResult<()>
     requires id { (id ≡ (about (item_behind item.now).declared).id) × (Some id.name.now ≡ (about (item_behind item.now).declared).called) }
     requires sort { is_world (item_behind item.now) ≡ false }
-    requires named { names_behind item.now ≡ the_names (item_behind item.now) }
-    requires placed { AreNamesPlaced (front_of interfaces.old.foreign.now) item.now.names.items }
-    requires front { length interfaces.old.foreign.now ≤ length interfaces.old.arena }
+    requires item { IsItemOf interfaces.old.files item.now }
     requires index { IsIndex (cells_of interfaces.old) interfaces.old.by_name }
-    ensures foreign { OnOk result (interfaces.new.foreign ≡ interfaces.old.foreign) }
-    ensures added { OnOk result (Emits required.old.items required.new.items (λ rs. AddsDeclared (front_of interfaces.old.foreign.now) types.old types.new interfaces.old.arena interfaces.new.arena rs (item_behind item.now))) }
+    ensures files { OnOk result (interfaces.new.files ≡ interfaces.old.files) }
+    ensures added { OnOk result (Emits required.old.items required.new.items (λ rs. AddsDeclared (front_of interfaces.old.files) types.old types.new interfaces.old.arena interfaces.new.arena rs (item_behind item.now))) }
     ensures index { OnOk result (IsIndex (cells_of interfaces.new) interfaces.new.by_name) }
     ensures stable { OnOk result ((f : Fault) → IsBrokenStability (about (item_behind item.now).declared).attributes f → ⊥) }
     ensures sound { OnOk result ((f : Fault) → IsBrokenScope (the_names (item_behind item.now)) (the_functions (item_behind item.now)) f → IsNameless (the_names (item_behind item.now)) (the_functions (item_behind item.now))) }
@@ -91,23 +87,20 @@ pub fn resolve_interfaces(
     items: &[Item<'_, '_>],
     types: &mut Entries,
     required: &mut Vec<Required>,
-    interfaces: &mut Interfaces<'_, '_, '_>,
+    interfaces: &mut Interfaces<'_, '_, '_, '_>,
     places: &[usize],
 ) -> ParseResult<()>
     requires within { All (λ place. place < length items.now) places.now }
     requires outer { AreOuter (map item_behind items.now) }
-    requires named { map names_behind items.now ≡ map the_names (map item_behind items.now) }
-    requires placed { AreItemsPlaced (front_of interfaces.old.foreign.now) items.now }
-    requires front { length interfaces.old.foreign.now ≤ length interfaces.old.arena }
+    requires items { AreItemsOf interfaces.old.files items.now }
     requires index { IsIndex (cells_of interfaces.old) interfaces.old.by_name }
-    ensures foreign { OnOk result (interfaces.new.foreign ≡ interfaces.old.foreign) }
-    ensures front { OnOk result (length interfaces.old.foreign.now ≤ length interfaces.new.arena) }
-    ensures added { OnOk result (Emits required.old.items required.new.items (λ rs. AddsInterfaces (front_of interfaces.old.foreign.now) types.old types.new interfaces.old.arena interfaces.new.arena rs (interfaces_of (in_order (map item_behind items.now) places.now)))) }
+    ensures files { OnOk result (interfaces.new.files ≡ interfaces.old.files) }
+    ensures added { OnOk result (Emits required.old.items required.new.items (λ rs. AddsInterfaces (front_of interfaces.old.files) types.old types.new interfaces.old.arena interfaces.new.arena rs (interfaces_of (in_order (map item_behind items.now) places.now)))) }
     ensures index { OnOk result (IsIndex (cells_of interfaces.new) interfaces.new.by_name) }
     ensures stable { OnOk result (HaveLegalStability (interfaces_of (in_order (map item_behind items.now) places.now))) }
     ensures sound { OnOk result (AreSoundScopes (interfaces_of (in_order (map item_behind items.now) places.now))) }
     ensures sided { OnOk result (AreLegalSides (interfaces_of (in_order (map item_behind items.now) places.now))) }
-    ensures refused { IfErr result (Refused (IsWrongNow (front_of interfaces.old.foreign.now) types.old interfaces.old.arena (map item_behind items.now) places.now)) }
+    ensures refused { IfErr result (Refused (IsWrongNow (front_of interfaces.old.files) types.old interfaces.old.arena (map item_behind items.now) places.now)) }
 {
     for place in places {
         let item = &items[*place];

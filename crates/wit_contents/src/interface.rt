@@ -1,5 +1,5 @@
 //! An interface, whether it is declared or written in a world.
-ghost use Rattle.std.specs.Prelude.{◌≡◌, ◌<◌, ◌≤◌, ◌++◌, List, false, length, IfErr, IfOk, OnOk, map};
+ghost use Rattle.std.specs.Prelude.{◌≡◌, ◌<◌, ◌++◌, List, false, length, IfErr, IfOk, OnOk, map};
 ghost use Rattle.wit_types.specs.declared.types.TypeDef.{TypeDef};
 ghost use Rattle.wit_types.specs.declared.types.TypeOwner.{TypeOwner as Owner};
 ghost use Rattle.wit_types.specs.declared.types.TypeOwner.TheVariants.{Interface as InterfaceOwner};
@@ -16,7 +16,7 @@ ghost use Rattle.wit_rules.specs.Held.{function_behind};
 ghost use Rattle.wit_signatures.specs.Taken.{name_of_function, name_of_id};
 ghost use Rattle.wit_items.specs.Items.{scope_item};
 ghost use Rattle.wit_arena.specs.Functions.{placed_functions};
-ghost use Rattle.wit_arena.specs.Resolving.{Cell, IsIndex, Names};
+ghost use Rattle.wit_arena.specs.Resolving.{Cell, Names};
 ghost use Rattle.wit_arena.specs.Resolved.{AddsInterface, IsNameless, IsWrongInterface};
 ghost use Rattle.wit_item_names.specs.Interfaces.{front_of};
 ghost use Rattle.wit_items.specs.Interfaces.{cells_of};
@@ -95,7 +95,7 @@ pub fn interface_of<'a>(
     item: &ItemScope<'_, 'a, '_>,
     types: &mut Entries,
     required: &mut Vec<Required>,
-    interfaces: &Interfaces<'_, '_, '_>,
+    interfaces: &Interfaces<'_, '_, '_, '_>,
     place: InterfaceId,
     name: Option<Text>,
     span: Span,
@@ -104,9 +104,7 @@ pub fn interface_of<'a>(
     requires called { name ≡ (about (scope_item item.now).declared).called }
     requires stands { span ≡ (about (scope_item item.now).declared).id.span }
     requires named { map name_behind item.now.names.now ≡ the_names (scope_item item.now) }
-    requires placed { AreNamesPlaced (front_of interfaces.now.foreign.now) item.now.names.now }
-    requires front { length interfaces.now.foreign.now ≤ length interfaces.now.arena }
-    requires index { IsIndex (cells_of interfaces.now) interfaces.now.by_name }
+    requires placed { AreNamesPlaced (front_of interfaces.now.files) item.now.names.now }
     ensures adds { IfOk result (λ added. Emits required.old.items required.new.items (λ rs. AddsInterface (cells_of interfaces.now) place types.old types.new added rs (scope_item item.now))) }
     ensures stable { OnOk result ((f : Fault) → IsBrokenStability (about (scope_item item.now).declared).attributes f → ⊥) }
     ensures sound { OnOk result ((f : Fault) → IsBrokenScope (the_names (scope_item item.now)) (the_functions (scope_item item.now)) f → IsNameless (the_names (scope_item item.now)) (the_functions (scope_item item.now))) }

@@ -1,5 +1,5 @@
 //! What stands on the sides of a world, one after another, over its types.
-ghost use Rattle.std.specs.Prelude.{◌≡◌, ◌<◌, ◌≤◌, ◌+◌, ◌++◌, ◌∷◌, ℕ, [], None, Some, List, IfErr, IfOk, OnOk, false, length, map, slice_get};
+ghost use Rattle.std.specs.Prelude.{◌≡◌, ◌<◌, ◌+◌, ◌++◌, ◌∷◌, ℕ, [], None, Some, List, IfErr, IfOk, OnOk, false, length, map, slice_get};
 ghost use Rattle.std.specs.List.{flat_map};
 ghost use Rattle.wit_tree.specs.declared.tree.WorldSide.{WorldSide};
 ghost use Rattle.wit_types.specs.declared.types.TypeOwner.TheVariants.{Interface as InterfaceOwner};
@@ -13,7 +13,7 @@ ghost use Rattle.wit_syntax.specs.Scope.{includes};
 ghost use Rattle.wit_syntax.specs.Sides.{IsBrokenSides, inline_items, item_function, item_inline, items_on, side_items};
 ghost use Rattle.wit_syntax.specs.Signature.{IsBrokenFunction};
 ghost use Rattle.wit_syntax.specs.Source.{Item as TheItem, ScopeName as TheName, address, is_world, item_name, scope_names as the_names, about};
-ghost use Rattle.wit_arena.specs.Resolving.{IsIndex, env_of, names_in};
+ghost use Rattle.wit_arena.specs.Resolving.{env_of};
 ghost use Rattle.wit_arena.specs.Resolved.{AddsSides, AreLegalSides, AreSoundScopes, IsNameless, IsWrongInterface};
 ghost use Rattle.wit_entries.specs.Requiring.{IsGrown};
 ghost use Rattle.wit_sides.specs.Sides.{taken_on};
@@ -24,8 +24,8 @@ ghost use Rattle.wit_externs.specs.Clash.{DifferOnSides, names_of_items};
 ghost use Rattle.wit_externs.specs.Held.{externs_behind, held_on};
 ghost use Rattle.wit_externs.specs.Links.{AreNotedInside, AreRightLinks, bare_places};
 ghost use Rattle.wit_items.specs.Front.{AreItemsPlaced};
-ghost use Rattle.wit_items.specs.Inside.{inside_behind, names_written};
-ghost use Rattle.wit_items.specs.Items.{item_behind, names_behind, scope_item};
+ghost use Rattle.wit_items.specs.Inside.{inside_behind};
+ghost use Rattle.wit_items.specs.Items.{item_behind, scope_item};
 ghost use Rattle.wit_uses.specs.Behind.{IsTurn};
 ghost use Rattle.wit_uses.specs.Between.{Emits};
 ghost use Rattle.wit_item_names.specs.Interfaces.{front_of};
@@ -33,6 +33,7 @@ ghost use Rattle.wit_items.specs.Interfaces.{cells_of};
 ghost use Rattle.wit_scopes.specs.Front.{AreNamesPlaced};
 ghost use Rattle.wit_world_sides.specs.Settled.{none_of};
 ghost use Rattle.wit_contents.specs.Standing.{AddsInside, AreConsecutive, IsInside, IsWrongExtern, IsWrongStanding, lent_names};
+ghost use Rattle.wit_items.specs.Gathered.{IsItemOf};
 
 use crate::interface::interface_of;
 use std::alloc::{AllocError, Global};
@@ -84,7 +85,7 @@ fn written_functions<'t, 'a>(
 /// The id of the next interface that is written in a world: behind all declared ones, and those that were
 /// written before it.
 fn next_inside(
-    interfaces: &Interfaces<'_, '_, '_>,
+    interfaces: &Interfaces<'_, '_, '_, '_>,
     inside: &Arena<Interface, InterfacePlace>,
 ) -> Result<InterfaceId, AllocError>
     ensures { IfOk result (λ id. id ≡ length interfaces.now.arena + length inside.now) }
@@ -102,7 +103,7 @@ fn resolve_inline<'f, 'a>(
     scope: &ItemScope<'f, 'a, '_>,
     types: &mut Entries,
     required: &mut Vec<Required>,
-    interfaces: &Interfaces<'_, 'f, 'a>,
+    interfaces: &Interfaces<'_, '_, 'f, 'a>,
     inside: &mut Arena<Interface, InterfacePlace>,
     span: Span,
 ) -> ParseResult<InterfaceId>
@@ -110,9 +111,7 @@ fn resolve_inline<'f, 'a>(
     requires called { (about (scope_item scope.now).declared).called ≡ None }
     requires stands { span ≡ (about (scope_item scope.now).declared).id.span }
     requires named { lent_names scope.now ≡ the_names (scope_item scope.now) }
-    requires placed { AreNamesPlaced (front_of interfaces.now.foreign.now) scope.now.names.now }
-    requires front { length interfaces.now.foreign.now ≤ length interfaces.now.arena }
-    requires index { IsIndex (cells_of interfaces.now) interfaces.now.by_name }
+    requires placed { AreNamesPlaced (front_of interfaces.now.files) scope.now.names.now }
     ensures id { IfOk result (λ id. id ≡ length interfaces.now.arena + length inside.old) }
     ensures adds { OnOk result (AddsInside (cells_of interfaces.now) (length interfaces.now.arena) types.old types.new inside.old inside.new required.old.items required.new.items (scope_item scope.now)) }
     ensures grown { OnOk result (IsGrown types.old types.new) }
@@ -136,15 +135,13 @@ fn resolve_written<'f, 'a>(
     before: Counts,
     types: &mut Entries,
     required: &mut Vec<Required>,
-    interfaces: &Interfaces<'_, 'f, 'a>,
+    interfaces: &Interfaces<'_, '_, 'f, 'a>,
     inside: &mut Arena<Interface, InterfacePlace>,
 ) -> ParseResult<InterfaceId>
     requires called { item_name (item_behind item.now) ≡ world.now }
     requires within { before.inline < length (inside_behind inline.now.written.now.side item.now) }
     requires named { (names : List TheName) (u : TheItem) → slice_get (inside_behind inline.now.written.now.side item.now) before.inline ≡ Some names → IsInside (item_behind item.now) before.interfaces inline.now u → names ≡ the_names u }
-    requires placed { AreItemsPlaced (front_of interfaces.now.foreign.now) (item.now ∷ []) }
-    requires front { length interfaces.now.foreign.now ≤ length interfaces.now.arena }
-    requires index { IsIndex (cells_of interfaces.now) interfaces.now.by_name }
+    requires placed { AreItemsPlaced (front_of interfaces.now.files) (item.now ∷ []) }
     ensures id { IfOk result (λ id. id ≡ length interfaces.now.arena + length inside.old) }
     ensures adds { OnOk result ((u : TheItem) → IsInside (item_behind item.now) before.interfaces inline.now u → AddsInside (cells_of interfaces.now) (length interfaces.now.arena) types.old types.new inside.old inside.new required.old.items required.new.items u) }
     ensures grown { OnOk result (IsGrown types.old types.new) }
@@ -172,17 +169,14 @@ fn resolve_externs<'f, 'a>(
     scope: FunctionScope<'_, 'f, 'a>,
     types: &mut Entries,
     required: &mut Vec<Required>,
-    interfaces: &Interfaces<'_, 'f, 'a>,
+    interfaces: &Interfaces<'_, '_, 'f, 'a>,
     inside: &mut Arena<Interface, InterfacePlace>,
     taken: &mut Sides,
 ) -> ParseResult<Standing>
     requires owners { HaveOwners (env_of scope.names.now) (functions_behind scope) }
     requires functions { flat_map item_function (externs_behind externs.now) ≡ functions_behind scope }
     requires sides { side_items (item_behind item.now) ≡ externs_behind externs.now }
-    requires written { (side : WorldSide) → inside_behind side item.now ≡ names_written side (item_behind item.now) }
-    requires placed { AreItemsPlaced (front_of interfaces.now.foreign.now) (item.now ∷ []) }
-    requires front { length interfaces.now.foreign.now ≤ length interfaces.now.arena }
-    requires index { IsIndex (cells_of interfaces.now) interfaces.now.by_name }
+    requires item { IsItemOf interfaces.now.files item.now }
     ensures adds { IfOk result (λ standing. Emits required.old.items required.new.items (λ rs. (s : Address) → AddsSides (cells_of interfaces.now) (length interfaces.now.arena) s scope.entry.names.now types.old types.new inside.old inside.new standing.functions.items rs (externs_behind externs.now) (inline_items (item_behind item.now)))) }
     ensures counted { IfOk result (λ standing. length standing.inside.items ≡ length (flat_map item_inline (externs_behind externs.now))) }
     ensures ids { IfOk result (λ standing. AreConsecutive (length interfaces.now.arena + length inside.old) standing.inside.items) }
@@ -253,19 +247,14 @@ pub fn resolve_standing<'f, 'a>(
     externs: &[HeldExtern<'f, 'a>],
     types: &mut Entries,
     names: &mut ResolvedNames<'a>,
-    interfaces: &Interfaces<'_, 'f, 'a>,
+    interfaces: &Interfaces<'_, '_, 'f, 'a>,
     inside: &mut Arena<Interface, InterfacePlace>,
     closed: bool,
 ) -> ParseResult<Standing>
     requires closed { closed ≡ none_of (includes (item_behind item.now)) }
-    requires named { names_behind item.now ≡ the_names (item_behind item.now) }
-    requires written { (side : WorldSide) → inside_behind side item.now ≡ names_written side (item_behind item.now) }
-    requires placed { AreItemsPlaced (front_of interfaces.now.foreign.now) (item.now ∷ []) }
+    requires item { IsItemOf interfaces.now.files item.now }
     requires sides { side_items (item_behind item.now) ≡ externs_behind externs.now }
-    requires listed { names_in names.old.types ≡ map (λ id. id.name.now) names.old.turn.items }
     requires turn { IsTurn (the_names (item_behind item.now)) names.old.turn.items }
-    requires front { length interfaces.now.foreign.now ≤ length interfaces.now.arena }
-    requires index { IsIndex (cells_of interfaces.now) interfaces.now.by_name }
     ensures types { OnOk result (names.new.types ≡ names.old.types) }
     ensures turn { OnOk result (names.new.turn ≡ names.old.turn) }
     ensures adds { IfOk result (λ standing. Emits names.old.required.items names.new.required.items (λ rs. AddsSides (cells_of interfaces.now) (length interfaces.now.arena) (address (item_behind item.now)) names.old.types types.old types.new inside.old inside.new standing.functions.items rs (side_items (item_behind item.now)) (inline_items (item_behind item.now)))) }

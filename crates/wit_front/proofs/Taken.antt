@@ -39,7 +39,6 @@ use Rattle.wit_syntax.proofs.Firsts.{firsts_at, firsts_has, firsts-more}
 use Rattle.wit_arena.proofs.Interfaces.{place_at-found}
 use Rattle.wit_arena.proofs.Visits.{visits_differ}
 use Rattle.wit_arena.proofs.Takings.{taking_key, taking-from, taking-equal, keys-takings}
-use Rattle.wit_files.specs.Foreign.{foreign_behind}
 use Rattle.wit_front.specs.declared.foreign.ForeignArenas.{ForeignArenas}
 use Rattle.wit_front.specs.Front.{interface_with, with_types, bare_world, interfaces_among, worlds_among, addresses_among, entry_behind, entries_behind, taken_from, interface_behind, type_among, IsTaken, AreApart, IsFront}
 use Rattle.wit_front.proofs.Fronts.{interfaces-more, interfaces-same, worlds-more, worlds-same, entries-more, taken-more, names-taken_from, taken_from-at, taken_from-has, insert_entry-last, slice_set-map, entries_behind-among}
@@ -47,14 +46,13 @@ use Rattle.wit_arena.proofs.Turns.{foreign_turned}
 
 module _ (vs : List ForeignVisit) (v : ForeignVisit) (a a' : ForeignArenas) (before : IsTaken vs [] [] a) (spans : a'.spans.items ≡ a.spans.items) where
   -- one world more
-  pub arenas-world : v.wants_world ≡ true → a'.visits.items ≡ a.visits.items → a'.interfaces ≡ a.interfaces → a'.worlds ≡ a.worlds ++ bare_world v.id.span ∷ [] → a'.entries.items ≡ a.entries.items ++ entry.World (length a.worlds) ∷ [] → IsTaken (vs ++ v ∷ []) [] [] a'
-  arenas-world world visits interfaces worlds entries =
+  pub arenas-world : v.wants_world ≡ true → a'.interfaces ≡ a.interfaces → a'.worlds ≡ a.worlds ++ bare_world v.id.span ∷ [] → a'.entries.items ≡ a.entries.items ++ entry.World (length a.worlds) ∷ [] → IsTaken (vs ++ v ∷ []) [] [] a'
+  arenas-world world interfaces worlds entries =
       let bare = λ (u : ForeignVisit). bare_world u.id.span in
       let is = interfaces-same vs v world in
       let count : length a.worlds ≡ 0 + length (worlds_among vs) = ap length before.worlds ∙ length-map (worlds_among vs) bare ∙ sym (zero-add (length (worlds_among vs))) in
       let last : entry.World (length a.worlds) ≡ entry_behind (0 + length (interfaces_among vs)) (0 + length (worlds_among vs)) v = rw world (ap entry.World count) in
       record {
-        visits = ap (map foreign_behind) visits ∙ before.visits ∙ sym is;
         types = refl;
         interfaces = interfaces ∙ before.interfaces ∙ ap (map (interface_behind [])) (sym is);
         worlds = worlds ∙ ap (λ (l : List World). l ++ bare v ∷ []) before.worlds ∙ sym (map-append bare (worlds_among vs) (v ∷ [])) ∙ ap (map bare) (sym (worlds-more vs v world));
@@ -63,13 +61,12 @@ module _ (vs : List ForeignVisit) (v : ForeignVisit) (a a' : ForeignArenas) (bef
       }
 
   -- one interface more
-  pub arenas-interface : v.wants_world ≡ false → map foreign_behind a'.visits.items ≡ map foreign_behind a.visits.items ++ v ∷ [] → a'.interfaces ≡ a.interfaces ++ interface_with v.id.span [] ∷ [] → a'.worlds ≡ a.worlds → a'.entries.items ≡ a.entries.items ++ entry.Interface (length a.interfaces) ∷ [] → IsTaken (vs ++ v ∷ []) [] [] a'
-  arenas-interface world visits interfaces worlds entries =
+  pub arenas-interface : v.wants_world ≡ false → a'.interfaces ≡ a.interfaces ++ interface_with v.id.span [] ∷ [] → a'.worlds ≡ a.worlds → a'.entries.items ≡ a.entries.items ++ entry.Interface (length a.interfaces) ∷ [] → IsTaken (vs ++ v ∷ []) [] [] a'
+  arenas-interface world interfaces worlds entries =
       let is = interfaces-more vs v world in
       let count : length a.interfaces ≡ 0 + length (interfaces_among vs) = ap length before.interfaces ∙ length-map (interfaces_among vs) (interface_behind []) ∙ sym (zero-add (length (interfaces_among vs))) in
       let last : entry.Interface (length a.interfaces) ≡ entry_behind (0 + length (interfaces_among vs)) (0 + length (worlds_among vs)) v = rw world (ap entry.Interface count) in
       record {
-        visits = visits ∙ ap (λ (l : List ForeignVisit). l ++ v ∷ []) before.visits ∙ sym is;
         types = refl;
         interfaces = interfaces ∙ ap (λ (l : List Interface). l ++ interface_behind [] v ∷ []) before.interfaces ∙ sym (map-append (interface_behind []) (interfaces_among vs) (v ∷ [])) ∙ ap (map (interface_behind [])) (sym is);
         worlds = worlds ∙ before.worlds ∙ ap (map (λ (u : ForeignVisit). bare_world u.id.span)) (sym (worlds-same vs v world));
@@ -135,7 +132,6 @@ module _ (vs : List ForeignVisit) (ts : List Taking) (s : Address) (attributes :
       let key : taking_key u.t ≡ taking_key t = ap (λ (x : Address). Def x u.t.id.name.now) (u.from ∙ visit.2) ∙ ap (Def s) u.name in
       let same : fs ≡ firsts same_taking (ts ++ t ∷ []) = sym (firsts-known ts t it.0 u.t u.at key) in
       record {
-        visits = before.visits;
         types = before.types ∙ ap (map (type_among vs)) same;
         interfaces = before.interfaces ∙ ap (λ (l : List Taking). map (interface_behind l) xs) same;
         worlds = before.worlds;
@@ -184,9 +180,8 @@ module _ (vs : List ForeignVisit) (ts : List Taking) (s : Address) (attributes :
         ap (interface_with y.id.span) (sym grown)
 
     -- a name that the interface has not
-    pub taken-fresh : (es' : List TypeDef) (a' : ForeignArenas) → es' ≡ es ++ named (owner.Interface id) q kind.Unknown (notes no_docs attributes) n.name.span ∷ [] → a'.visits.items ≡ a.visits.items → a'.interfaces ≡ slice_set a.interfaces id (with_types i (insert_entry (pointwise nat_eq) i.types q (length es))) → a'.worlds ≡ a.worlds → a'.entries.items ≡ a.entries.items → a'.spans.items ≡ a.spans.items ++ n.name.span ∷ [] → IsTaken vs (ts ++ t ∷ []) es' a'
-    taken-fresh es' a' types visits interfaces worlds entries spans = record {
-      visits = ap (map foreign_behind) visits ∙ before.visits;
+    pub taken-fresh : (es' : List TypeDef) (a' : ForeignArenas) → es' ≡ es ++ named (owner.Interface id) q kind.Unknown (notes no_docs attributes) n.name.span ∷ [] → a'.interfaces ≡ slice_set a.interfaces id (with_types i (insert_entry (pointwise nat_eq) i.types q (length es))) → a'.worlds ≡ a.worlds → a'.entries.items ≡ a.entries.items → a'.spans.items ≡ a.spans.items ++ n.name.span ∷ [] → IsTaken vs (ts ++ t ∷ []) es' a'
+    taken-fresh es' a' types interfaces worlds entries spans = record {
       types = types ∙ ap (λ (l : List TypeDef). l ++ named (owner.Interface id) q kind.Unknown (notes no_docs attributes) n.name.span ∷ []) before.types ∙ ap (λ (o : TypeOwner). map (type_among vs) fs ++ named o q kind.Unknown (notes no_docs attributes) n.name.span ∷ []) (sym owner_is) ∙ sym (map-append (type_among vs) fs (t ∷ [])) ∙ ap (map (type_among vs)) (sym fresh);
       interfaces = interfaces ∙ ap (λ (x : Interface). slice_set a.interfaces id x) with_name ∙ ap (λ (l : List Interface). slice_set l id (interface_behind (fs ++ t ∷ []) visit.0)) before.interfaces ∙ slice_set-map (interface_behind fs) (interface_behind (fs ++ t ∷ [])) xs id visit.0 visit.1 others ∙ ap (λ (l : List Taking). map (interface_behind l) xs) (sym fresh);
       worlds = worlds ∙ before.worlds;
@@ -243,7 +238,6 @@ module _ (files : List PackageFile) (es : List TypeDef) (a : ForeignArenas) (don
         each = λ t v w at_v at_w. subst (λ (x : World). IsForeignWorld v x) (world_is t v w at_v at_w) ((refl, refl, refl, refl, refl), refl, refl, refl);
       };
     };
-    visits = done.visits;
     entries = done.entries ∙ entries_behind-among (foreign_items files) (visits_differ files);
     spans = done.spans;
   }

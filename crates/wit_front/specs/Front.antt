@@ -14,12 +14,11 @@ use Rattle.wit_syntax.specs.Address.{Address, same_address, is_foreign}
 use Rattle.wit_syntax.specs.Source.{ScopeName, Used, Defined, Taken, Taking, taking, same_taking, first_takings}
 use Rattle.wit_syntax.specs.Notes.{notes, no_docs}
 use Rattle.wit_syntax.specs.Repeats.{AllDiffer, firsts}
-use Rattle.wit_syntax.specs.Foreign.{ForeignVisit, visited, foreign_items, foreign_interfaces}
+use Rattle.wit_syntax.specs.Foreign.{ForeignVisit, visited, foreign_items}
 use Rattle.wit_arena.specs.Whole.{foreign_entry, owner_at}
 use Rattle.wit_arena.specs.Resolving.{Names, named}
 use Rattle.wit_arena.specs.Resolved.{AddsForeign}
 use Rattle.wit_tree.specs.declared.tree.WorldSide.TheVariants.{Imported, Exported}
-use Rattle.wit_files.specs.Foreign.{foreign_behind}
 use Rattle.wit_items.specs.declared.items.Item.{Item as HeldItem}
 use Rattle.wit_items.specs.Items.{names_behind}
 use Rattle.wit_items.specs.Inside.{inside_behind}
@@ -72,7 +71,6 @@ type_among vs t = named (owner_at (addresses_among vs) (map visited (worlds_amon
 
 -- the arenas of these items, once these names were taken from them
 pub record IsTaken (vs : List ForeignVisit) (ts : List Taking) (es : List TypeDef) (a : ForeignArenas) : Type 0 where
-  pub visits : map foreign_behind a.visits.items ≡ interfaces_among vs
   pub types : es ≡ map (type_among vs) (firsts same_taking ts)
   pub interfaces : a.interfaces ≡ map (interface_behind (firsts same_taking ts)) (interfaces_among vs)
   pub worlds : a.worlds ≡ map (λ v. bare_world v.id.span) (worlds_among vs)
@@ -107,6 +105,5 @@ pub record HasTaken (types : List TypeDef) (a : ForeignArenas) (Placed : List Ad
 -- what files name of other packages stands in front of the arenas
 pub record IsFront (files : List PackageFile) (types : List TypeDef) (a : ForeignArenas) : Type 0 where
   pub adds : AddsForeign files types a.interfaces a.worlds
-  pub visits : map foreign_behind a.visits.items ≡ foreign_interfaces files
   pub entries : a.entries.items ≡ map (foreign_entry files) (foreign_items files)
   pub spans : a.spans.items ≡ map (λ t. t.id.span) (first_takings files)

@@ -34,9 +34,7 @@ use wit_values::{Row, Table, Text, TextTable};
 
 /// The interfaces and worlds of other packages.
 #[derive(Drop)]
-pub struct ForeignArenas<'f, 'a> {
-    /// The first visits of the interfaces.
-    pub visits: Vec<ForeignVisit<'f, 'a>>,
+pub struct ForeignArenas {
     pub interfaces: Arena<Interface, InterfacePlace>,
     pub worlds: Arena<World, WorldPlace>,
     /// Of each item its entry, in the order of their first visits.
@@ -90,7 +88,7 @@ fn add_type(
     Ok(())
 }
 
-impl<'f, 'a> ForeignArenas<'f, 'a> {
+impl ForeignArenas {
     /// Nothing of other packages, with room for so many interfaces.
     fn with_room(alloc: Global, room: usize) -> Result<Self, AllocError>
         ensures { IfOk result (IsTaken [] [] []) }
@@ -98,7 +96,6 @@ impl<'f, 'a> ForeignArenas<'f, 'a> {
         let mut interfaces = Arena::new(alloc);
         interfaces.reserve(room)?;
         Ok(ForeignArenas {
-            visits: Vec::new(alloc),
             interfaces,
             worlds: Arena::new(alloc),
             entries: Vec::new(alloc),
@@ -107,7 +104,7 @@ impl<'f, 'a> ForeignArenas<'f, 'a> {
     }
 
     /// Adds a world at its first visit.
-    fn add_world(&mut self, alloc: Global, visit: ForeignVisit<'f, 'a>) -> Result<(), AllocError>
+    fn add_world(&mut self, alloc: Global, visit: ForeignVisit<'_, '_>) -> Result<(), AllocError>
         requires { visit.wants_world ≡ true }
         ensures { OnOk result ((vs : List TheVisit) → IsTaken vs [] [] self.old → IsTaken (vs ++ foreign_behind visit.entry ∷ []) [] [] self.new) }
     {
@@ -121,20 +118,19 @@ impl<'f, 'a> ForeignArenas<'f, 'a> {
     fn add_interface(
         &mut self,
         alloc: Global,
-        visit: ForeignVisit<'f, 'a>,
+        visit: ForeignVisit<'_, '_>,
     ) -> Result<(), AllocError>
         requires { visit.wants_world ≡ false }
         ensures { OnOk result ((vs : List TheVisit) → IsTaken vs [] [] self.old → IsTaken (vs ++ foreign_behind visit.entry ∷ []) [] [] self.new) }
     {
         let interface = foreign_interface(alloc, visit.name.span);
         let id = self.interfaces.alloc(interface)?;
-        self.visits.push(visit)?;
         self.entries.push(AstItem::Interface(id))?;
         Ok(())
     }
 
     /// Adds an item at its first visit.
-    fn add(&mut self, alloc: Global, visit: ForeignVisit<'f, 'a>) -> Result<(), AllocError>
+    fn add(&mut self, alloc: Global, visit: ForeignVisit<'_, '_>) -> Result<(), AllocError>
         ensures { OnOk result ((vs : List TheVisit) → IsTaken vs [] [] self.old → IsTaken (vs ++ foreign_behind visit.entry ∷ []) [] [] self.new) }
     {
         if visit.wants_world {
@@ -149,7 +145,7 @@ impl<'f, 'a> ForeignArenas<'f, 'a> {
     /// The error is want of memory.
     pub fn of_items(
         alloc: Global,
-        items: &[ForeignVisit<'f, 'a>],
+        items: &[ForeignVisit<'_, '_>],
         declared: usize,
     ) -> Result<Self, AllocError>
         ensures bare { IfOk result (IsTaken (map foreign_behind items.now) [] []) }
@@ -200,7 +196,7 @@ impl<'f, 'a> ForeignArenas<'f, 'a> {
         &mut self,
         alloc: Global,
         types: &mut Entries,
-        name: &ScopeName<'f, 'a>,
+        name: &ScopeName<'_, '_>,
     ) -> ParseResult<()>
         requires { HasTaken types.old self.old (λ front. IsNamePlaced front name.now) }
         ensures taken { OnOk result ((vs : List TheVisit) (ts : List Taking) → AreApart vs → IsNamePlaced (addresses_among vs) name.now → IsTaken vs ts types.old self.old → IsTaken vs (ts ++ name_takings (name_behind name.now)) types.new self.new) }
@@ -221,7 +217,7 @@ impl<'f, 'a> ForeignArenas<'f, 'a> {
         &mut self,
         alloc: Global,
         types: &mut Entries,
-        names: &[ScopeName<'f, 'a>],
+        names: &[ScopeName<'_, '_>],
     ) -> ParseResult<()>
         requires { HasTaken types.old self.old (λ front. AreNamesPlaced front names.now) }
         ensures taken { OnOk result ((vs : List TheVisit) (ts : List Taking) → AreApart vs → AreNamesPlaced (addresses_among vs) names.now → IsTaken vs ts types.old self.old → IsTaken vs (ts ++ names_takings (map name_behind names.now)) types.new self.new) }
@@ -240,7 +236,7 @@ impl<'f, 'a> ForeignArenas<'f, 'a> {
         &mut self,
         alloc: Global,
         types: &mut Entries,
-        inside: &[Vec<ScopeName<'f, 'a>>],
+        inside: &[Vec<ScopeName<'_, '_>>],
     ) -> ParseResult<()>
         requires { HasTaken types.old self.old (λ front. All (λ ns. AreNamesPlaced front ns.items) inside.now) }
         ensures taken { OnOk result ((vs : List TheVisit) (ts : List Taking) → AreApart vs → All (λ ns. AreNamesPlaced (addresses_among vs) ns.items) inside.now → IsTaken vs ts types.old self.old → IsTaken vs (ts ++ flat_map names_takings (map (λ ns. map name_behind ns.items) inside.now)) types.new self.new) }
@@ -260,7 +256,7 @@ impl<'f, 'a> ForeignArenas<'f, 'a> {
         &mut self,
         alloc: Global,
         types: &mut Entries,
-        item: &Item<'f, 'a>,
+        item: &Item<'_, '_>,
     ) -> ParseResult<()>
         requires { HasTaken types.old self.old (λ front. AreItemsPlaced front (item.now ∷ [])) }
         ensures taken { OnOk result ((vs : List TheVisit) (ts : List Taking) → AreApart vs → AreItemsPlaced (addresses_among vs) (item.now ∷ []) → IsTaken vs ts types.old self.old → IsTaken vs (ts ++ held_takings item.now) types.new self.new) }
@@ -279,7 +275,7 @@ impl<'f, 'a> ForeignArenas<'f, 'a> {
         &mut self,
         alloc: Global,
         types: &mut Entries,
-        items: &[Item<'f, 'a>],
+        items: &[Item<'_, '_>],
     ) -> ParseResult<()>
         requires { HasTaken types.old self.old (λ front. AreItemsPlaced front items.now) }
         ensures taken { OnOk result ((files : List TheFile) → IsTaken (foreign_items files) [] types.old self.old → AreItemsPlaced (addresses_among (foreign_items files)) items.now → map names_behind items.now ≡ map scope_names (all_items files) → ((side : TheSide) → map (inside_behind side) items.now ≡ map (names_written side) (all_items files)) → IsFront files types.new self.new) }

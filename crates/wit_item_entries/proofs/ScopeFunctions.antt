@@ -20,7 +20,7 @@ use Rattle.wit_tree.specs.declared.tree.WorldSide.{WorldSide}
 use Rattle.wit_tree.specs.declared.tree.WorldSide.TheVariants.{Imported}
 use Rattle.wit_syntax.specs.Sides.{SideItem, SideFunction, names_on, on_side, side_items, IsFoldedTwice, IsCrossedTwice, FoldedTwice, CrossedTwice}
 use Rattle.wit_syntax.specs.Broken.{IsBrokenScope, Function as FunctionBroken}
-use Rattle.wit_arena.specs.Resolving.{Env, Names, env_of, Cell, Required, AreEnded, AddsFunctions, IsWrongHandle, WrongItself, names_in}
+use Rattle.wit_arena.specs.Resolving.{Env, Names, env_of, Cell, Required, AreEnded, AddsFunctions, IsWrongHandle, WrongItself}
 use Rattle.wit_arena.specs.Resolved.{AddsBehind, IsNameless, IsWrongHandleNow}
 use Rattle.wit_syntax.proofs.Legal.{function_name}
 use Rattle.wit_arena.proofs.FunctionNames.{names_differ, made_name}
@@ -45,17 +45,13 @@ use Rattle.wit_item_entries.specs.Behind.{IsWrongFunctions, BrokenFunction, Brok
 use Rattle.wit_item_entries.specs.Body.{AddsBody, IsWrongBody, WrongNames, WrongHandles, WrongSides}
 use Rattle.wit_item_entries.proofs.Handled.{handle_wider}
 use Rattle.wit_uses.proofs.Behind.{differ_called}
-use Rattle.wit_item_entries.proofs.Behind.{clash_broken, function_handle, turn_texts}
+use Rattle.wit_item_entries.proofs.Behind.{clash_broken, function_handle}
 use Rattle.wit_uses.proofs.ItemSides.{IsStandingBy, wrong_folded, wrong_crossed, wrong_noted, wrong_inside}
 use Rattle.wit_externs.specs.declared.held.Led.TheVariants as led
 
 -- the names of a scope that was added, in turn
 pub turn_added : (old mid : List TypeDef) (cs : List Cell) (o : TypeOwner) (xs : List ScopeName) (types : Names) (ids : List Id) (rs : List Required) → AddsTurn old mid cs o xs types ids rs → IsTurn xs ids
 turn_added old mid cs o xs types ids rs n = record { order = n.adds.order; least = n.adds.least; distinct = n.adds.distinct; are = n.turn }
-
--- they are the names of its table
-pub turn_listed : (old mid : List TypeDef) (cs : List Cell) (o : TypeOwner) (xs : List ScopeName) (types : Names) (ids : List Id) (rs : List Required) → AddsTurn old mid cs o xs types ids rs → names_in types ≡ map (λ (id : Id). id.name.now) ids
-turn_listed old mid cs o xs types ids rs n = n.listed ∙ sym (turn_texts xs n.adds.order ids n.turn)
 
 -- what is required stands behind what was
 required_behind : (env : Env) (mid new : List TypeDef) (ids more : List Id) (own all : List Required) → IsGrown mid new → Requires env mid ids [] own → Requires env new more own all → AreEnded env new (ids ++ more) all

@@ -1,6 +1,6 @@
 //! What is told of an item and its names, the same of an interface and of a world, and the functions of an
 //! interface.
-ghost use Rattle.std.specs.Prelude.{◌≡◌, ◌<◌, ◌≤◌, List, IfErr, IfOk, OnOk, false, length, map};
+ghost use Rattle.std.specs.Prelude.{◌≡◌, ◌<◌, List, IfErr, IfOk, OnOk, false, length, map};
 ghost use Rattle.std.specs.List.{flat_map};
 ghost use Rattle.wit_tree.specs.declared.tree.WorldSide.{WorldSide};
 ghost use Rattle.wit_types.specs.declared.types.TypeDef.{TypeDef};
@@ -11,7 +11,7 @@ ghost use Rattle.wit_syntax.specs.Function.{SourceFunction, functions as the_fun
 ghost use Rattle.wit_syntax.specs.Notes.{IsBrokenStability};
 ghost use Rattle.wit_syntax.specs.Sides.{IsBrokenSides, SideFunction};
 ghost use Rattle.wit_syntax.specs.Source.{Item as TheItem, scope_names as the_names, about, declared_notes};
-ghost use Rattle.wit_arena.specs.Resolving.{Cell, IsIndex, Names, names_in};
+ghost use Rattle.wit_arena.specs.Resolving.{Cell, Names};
 ghost use Rattle.wit_arena.specs.Resolved.{IsNameless};
 ghost use Rattle.wit_entries.specs.Requiring.{IsGrown};
 ghost use Rattle.wit_sides.specs.Sides.{taken_on};
@@ -66,13 +66,11 @@ pub fn resolve_head<'a>(
     alloc: Global,
     item: &ItemScope<'_, 'a, '_>,
     types: &mut Entries,
-    interfaces: &Interfaces<'_, '_, '_>,
+    interfaces: &Interfaces<'_, '_, '_, '_>,
     owner: TypeOwner,
 ) -> ParseResult<Head<'a>>
     requires named { map name_behind item.now.names.now ≡ the_names (scope_item item.now) }
-    requires placed { AreNamesPlaced (front_of interfaces.now.foreign.now) item.now.names.now }
-    requires front { length interfaces.now.foreign.now ≤ length interfaces.now.arena }
-    requires index { IsIndex (cells_of interfaces.now) interfaces.now.by_name }
+    requires placed { AreNamesPlaced (front_of interfaces.now.files) item.now.names.now }
     ensures told { IfOk result (λ head. AreOf (declared_notes (scope_item item.now).declared) head.notes) }
     ensures stable { OnOk result ((f : Fault) → IsBrokenStability (about (scope_item item.now).declared).attributes f → ⊥) }
     ensures adds { IfOk result (λ head. AddsTurn types.old types.new (cells_of interfaces.now) owner (the_names (scope_item item.now)) head.names.types head.names.turn.items head.names.required.items) }
@@ -95,7 +93,6 @@ pub fn resolve_item_functions<'t, 'a>(
 ) -> ParseResult<ItemFunctions<'t, 'a>>
     requires sort { (about (declared_behind declared)).is_world ≡ false }
     requires of { (i : TheItem) × IsHeldBy i (declared_behind declared) held.now }
-    requires listed { names_in names.old.types ≡ map (λ id. id.name.now) names.old.turn.items }
     requires turn { IsTurn (map name_behind held.now) names.old.turn.items }
     ensures types { OnOk result (names.new.types ≡ names.old.types) }
     ensures turn { OnOk result (names.new.turn ≡ names.old.turn) }

@@ -1,5 +1,5 @@
 //! The names of a scope as entries: those that it uses, and then its definitions.
-ghost use Rattle.std.specs.Prelude.{◌≡◌, ◌≤◌, ◌⊎◌, ◌++◌, List, [], length, IfOk, IfErr, OnOk, map};
+ghost use Rattle.std.specs.Prelude.{◌≡◌, ◌⊎◌, ◌++◌, List, IfOk, IfErr, OnOk, map};
 ghost use Rattle.std.specs.List.{flat_map};
 ghost use Rattle.wit_syntax.specs.Address.{Address};
 ghost use Rattle.wit_syntax.specs.Scope.{used, local_names};
@@ -15,7 +15,7 @@ ghost use Rattle.wit_items.specs.Interfaces.{cells_of};
 ghost use Rattle.wit_scopes.specs.Front.{AreNamesPlaced};
 ghost use Rattle.wit_scopes.specs.Between.{AreInTurn, IsBrokenAmong, IsOfFunctions};
 ghost use Rattle.wit_item_entries.specs.Between.{IsWrongHandleIn, IsWrongHandleTurn, IsWrongNames, DefinesTurn, AddsTurn};
-ghost use Rattle.wit_arena.specs.Resolving.{Cell, env_of, Defines, AreLegalBodies, AreLegalNotes, HasNames, IsIndex, names_in};
+ghost use Rattle.wit_arena.specs.Resolving.{Cell, env_of, Defines, AreLegalBodies, AreLegalNotes, HasNames, names_in};
 
 use std::alloc::Global;
 use wit_definitions::definitions::define;
@@ -40,6 +40,7 @@ pub struct ResolvedNames<'a> {
     pub turn: Vec<Id<'a>>,
     /// What handles in definitions require of types of other packages.
     pub required: Vec<Required>,
+    pub ghost listed: { names_in types ≡ map (λ id. id.name.now) turn.items },
 }
 
 /// Adds definitions that stand in their order.
@@ -97,12 +98,10 @@ pub fn resolve_names<'f, 'a>(
     alloc: Global,
     names: &[ScopeName<'f, 'a>],
     types: &mut Entries,
-    interfaces: &Interfaces<'_, '_, '_>,
+    interfaces: &Interfaces<'_, '_, '_, '_>,
     owner: TypeOwner,
 ) -> ParseResult<ResolvedNames<'a>>
-    requires index { IsIndex (cells_of interfaces.now) interfaces.now.by_name }
-    requires placed { AreNamesPlaced (front_of interfaces.now.foreign.now) names.now }
-    requires front { length interfaces.now.foreign.now ≤ length interfaces.now.arena }
+    requires placed { AreNamesPlaced (front_of interfaces.now.files) names.now }
     ensures adds { IfOk result (λ r. AddsTurn types.old types.new (cells_of interfaces.now) owner (map name_behind names.now) r.types r.turn.items r.required.items) }
     ensures legal { OnOk result ((fns : List SourceFunction) (f : Fault) → IsBrokenScope (map name_behind names.now) fns f → IsOfFunctions (map name_behind names.now) fns f) }
     ensures grown { OnOk result (IsGrown types.old types.new) }

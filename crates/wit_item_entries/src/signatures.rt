@@ -10,7 +10,7 @@ ghost use Rattle.wit_syntax.specs.Fault.{Fault};
 ghost use Rattle.wit_syntax.specs.Broken.{Refused};
 ghost use Rattle.wit_syntax.specs.Function.{SourceFunction, written_types};
 ghost use Rattle.wit_syntax.specs.Signature.{IsBrokenFunction};
-ghost use Rattle.wit_arena.specs.Resolving.{env_of, AddsFunctions, names_in};
+ghost use Rattle.wit_arena.specs.Resolving.{env_of, AddsFunctions};
 ghost use Rattle.wit_arena.specs.Resolved.{IsNameless};
 ghost use Rattle.wit_rules.specs.Held.{function_behind};
 ghost use Rattle.wit_entries.specs.Requiring.{IsGrown, Requires};
@@ -46,7 +46,6 @@ pub fn resolve_signatures<'t, 'a>(
     taken: &mut Sides,
 ) -> ParseResult<Vec<Function>>
     requires nothing { (s : WorldSide) → taken_on s taken.old ≡ [] }
-    requires listed { names_in names.old.types ≡ map (λ id. id.name.now) names.old.turn.items }
     requires turn { IsTurn (map name_behind held.now) names.old.turn.items }
     requires owners { HaveOwners (env_of names.old.types) (map function_behind written.now) }
     ensures types { OnOk result (names.new.types ≡ names.old.types) }

@@ -23,7 +23,7 @@ use Rattle.wit_syntax.specs.Crossing.{extern_paths, inline_uses}
 use Rattle.wit_syntax.specs.Scope.{use_path}
 use Rattle.wit_arena.specs.Whole.{foreign_place, foreign_entry}
 use Rattle.wit_syntax.specs.Broken.{is_world_at}
-use Rattle.wit_arena.specs.Resolving.{Names, IsWorldIndex, IsNoWorld}
+use Rattle.wit_arena.specs.Resolving.{Names, env_of, IsNoWorld}
 use Rattle.wit_arena.specs.Resolved.{worlds_at}
 use Rattle.wit_syntax.proofs.Addresses.{side_itself, same_address-equal, same_address-from}
 use Rattle.wit_syntax.proofs.Found.{find_passes, find_some, find_at, at_contains}
@@ -143,9 +143,9 @@ interface_missing files p id v found h = elim (cases_Bool v.wants_world) [
 ]
 
 -- the address of a world that stands where a path leads
-pub world_found : (files : List PackageFile) (by_name : Names) (ws : List World) (t : Target) (w : ℕ) → IsWorldIndex (worlds_at (map visited (foreign_worlds files)) ws) by_name → length (map visited (foreign_worlds files)) ≤ length ws → world_at files by_name t ≡ Some w → slice_get (worlds_at (map visited (foreign_worlds files)) ws) w ≡ Some (target_scope WorldNamed t)
-world_found files by_name ws (Local id) w index enough h = index.stands id.name.now w h
-world_found files by_name ws (Foreign p id) w index enough h = of_entry (foreign_at files (named p id)) refl h
+pub world_found : (files : List PackageFile) (by_name : Names) (ws : List World) (t : Target) (w : ℕ) → ((name : List ℕ) (place : ℕ) → env_of by_name name ≡ Some place → slice_get (worlds_at (map visited (foreign_worlds files)) ws) place ≡ Some (WorldNamed name)) → length (map visited (foreign_worlds files)) ≤ length ws → world_at files by_name t ≡ Some w → slice_get (worlds_at (map visited (foreign_worlds files)) ws) w ≡ Some (target_scope WorldNamed t)
+world_found files by_name ws (Local id) w stands enough h = stands id.name.now w h
+world_found files by_name ws (Foreign p id) w stands enough h = of_entry (foreign_at files (named p id)) refl h
   where
     front : (ss : List Address) (vs : List World) (t : ℕ) (s : Address) → length ss ≤ length vs → slice_get ss t ≡ Some s → slice_get (worlds_at ss vs) t ≡ Some s
     front [] vs t s count at = absurd (let f : ⊥ = cc in f)

@@ -8,15 +8,14 @@ ghost use Rattle.wit_syntax.specs.Foreign.{visited, foreign_interfaces};
 ghost use Rattle.wit_first.specs.First.{Finds};
 ghost use Rattle.wit_first.specs.Uses.{uses_fault};
 ghost use Rattle.wit_files.specs.FileNames.{top_at};
-ghost use Rattle.wit_item_names.specs.Items.{HasItem, AreEntriesOf};
+ghost use Rattle.wit_item_names.specs.Items.{HasItem};
 ghost use Rattle.wit_item_names.specs.Inside.{inline_names, kind_items, side_uses, written_items};
 ghost use Rattle.wit_scopes.specs.Held.{name_behind};
 ghost use Rattle.wit_scopes.specs.Front.{AreNamesPlaced};
 
+use crate::files::Files;
 use crate::parts::interface_names;
 use std::alloc::Global;
-use wit_files::FileNames;
-use wit_model::AstItem as Entry;
 use wit_notes::is_same_side;
 use wit_scopes::scope_name::ScopeName;
 use wit_top_names::declaration::world_items;
@@ -53,14 +52,12 @@ fn written_on<'f, 'a>(part: &'f WorldItem<'a>, side: WorldSide) -> Option<&'f [I
 /// order.
 pub fn names_inside<'f, 'a>(
     alloc: Global,
-    files: &FileNames<'f, 'a>,
+    files: &Files<'_, '_, 'f, 'a>,
     world: &'f World<'a>,
     side: WorldSide,
-    entries: &[Entry],
     place: usize,
 ) -> ParseResult<Vec<Vec<ScopeName<'f, 'a>>>>
     requires item { HasItem files.now place (TheWorld world.now) }
-    requires entries { AreEntriesOf files.now entries.now }
     ensures names { IfOk result (λ inside. map (λ ns. map name_behind ns.items) inside.items ≡ flat_map (inline_names (top_at files.now place)) (items_on side (flat_map part_items (map the_world_part world.now.items.items)))) }
     ensures placed { IfOk result (λ inside. All (λ ns. AreNamesPlaced (map visited (foreign_interfaces files.now)) ns.items) inside.items) }
     ensures first { Finds (uses_fault files.now (top_at files.now place) (flat_map (side_uses side) (map the_world_part world.now.items.items))) result }
@@ -68,7 +65,7 @@ pub fn names_inside<'f, 'a>(
     let mut inside = Vec::new(alloc);
     for part in world_items(world) {
         if let Some(items) = written_on(part, side) {
-            inside.push(interface_names(alloc, files, items, entries, place)?)?;
+            inside.push(interface_names(alloc, files, items, place)?)?;
         }
     }
     Ok(inside)

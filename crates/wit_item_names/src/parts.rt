@@ -9,13 +9,12 @@ ghost use Rattle.wit_first.specs.First.{Finds};
 ghost use Rattle.wit_first.specs.Uses.{own_uses, use_fault, uses_fault};
 ghost use Rattle.wit_files.specs.FileNames.{top_at};
 ghost use Rattle.wit_scopes.specs.Held.{source_behind, name_behind, IsPlaced};
-ghost use Rattle.wit_item_names.specs.Items.{part_behind, HasItem, HasPath, AreEntriesOf};
+ghost use Rattle.wit_item_names.specs.Items.{part_behind, HasItem, HasPath};
 ghost use Rattle.wit_scopes.specs.Front.{AreNamesPlaced};
 
+use crate::files::Files;
 use crate::reached::path_source;
 use std::alloc::Global;
-use wit_files::FileNames;
-use wit_model::AstItem as Entry;
 use wit_notes::check_notes;
 use wit_scopes::scope_name::{DefinedName, ScopeName, Source, add_used_names};
 use wit_top_names::declaration::world_items;
@@ -59,33 +58,29 @@ fn world_part<'f, 'a>(part: &'f WorldItem<'a>) -> Part<'f, 'a>
 /// then a path that leads to no item, or to a world.
 fn sound_source<'f, 'a>(
     alloc: Global,
-    files: &FileNames<'f, 'a>,
-    entries: &[Entry],
+    files: &Files<'_, '_, 'f, 'a>,
     place: usize,
     used: &'f Use<'a>,
 ) -> ParseResult<Source<'f, 'a>>
     requires path { HasPath files.now place used.now.from }
-    requires entries { AreEntriesOf files.now entries.now }
     ensures source { IfOk result (λ source. source_behind source ≡ path_scope (top_at files.now place) used.now.from) }
     ensures placed { IfOk result (λ source. IsPlaced (map visited (foreign_interfaces files.now)) source) }
     ensures first { Finds (use_fault files.now (top_at files.now place) used.now) result }
 {
     check_notes(alloc, &used.attributes)?;
-    let source = path_source(alloc, files, entries, place, &used.from)?;
+    let source = path_source(alloc, files, place, &used.from)?;
     Ok(source)
 }
 
 /// Adds the names that a part of an item of the file at a place brings.
 fn add_part<'f, 'a>(
     alloc: Global,
-    files: &FileNames<'f, 'a>,
-    entries: &[Entry],
+    files: &Files<'_, '_, 'f, 'a>,
     place: usize,
     names: &mut Vec<ScopeName<'f, 'a>>,
     part: Part<'f, 'a>,
 ) -> ParseResult<()>
     requires paths { (u : TheUse) → Contains (own_uses (part_behind part)) u → HasPath files.now place u.from }
-    requires entries { AreEntriesOf files.now entries.now }
     ensures names { OnOk result (map name_behind names.new.items ≡ map name_behind names.old.items ++ part_names (top_at files.now place) (part_behind part.entry)) }
     ensures placed { OnOk result (AreNamesPlaced (map visited (foreign_interfaces files.now)) names.old.items → AreNamesPlaced (map visited (foreign_interfaces files.now)) names.new.items) }
     ensures first { Finds (uses_fault files.now (top_at files.now place) (own_uses (part_behind part.entry))) result }
@@ -95,7 +90,7 @@ fn add_part<'f, 'a>(
             names.push(ScopeName::Defined(DefinedName { definition }))?;
         }
         Part::Using(used) => {
-            let from = sound_source(alloc, files, entries, place, used)?;
+            let from = sound_source(alloc, files, place, used)?;
             add_used_names(names, &from, &used.attributes, &used.names)?;
         }
         Part::Including(_) => {}
@@ -137,27 +132,18 @@ fn world_room(items: &[WorldItem<'_>]) -> usize {
 /// The names of an interface of the file at a place, which has these items.
 pub fn interface_names<'f, 'a>(
     alloc: Global,
-    files: &FileNames<'f, 'a>,
+    files: &Files<'_, '_, 'f, 'a>,
     items: &'f [InterfaceItem<'a>],
-    entries: &[Entry],
     place: usize,
 ) -> ParseResult<Vec<ScopeName<'f, 'a>>>
     requires paths { (u : TheUse) → Contains (flat_map item_uses items.now) u → HasPath files.now place u.from }
-    requires entries { AreEntriesOf files.now entries.now }
     ensures names { IfOk result (λ names. map name_behind names.items ≡ flat_map (part_names (top_at files.now place)) (map the_interface_part items.now)) }
     ensures placed { IfOk result (λ names. AreNamesPlaced (map visited (foreign_interfaces files.now)) names.items) }
     ensures first { Finds (uses_fault files.now (top_at files.now place) (flat_map item_uses items.now)) result }
 {
     let mut names = Vec::with_capacity(alloc, interface_room(items))?;
     for part in items {
-        add_part(
-            alloc,
-            files,
-            entries,
-            place,
-            &mut names,
-            interface_part(part),
-        )?;
+        add_part(alloc, files, place, &mut names, interface_part(part))?;
     }
     Ok(names)
 }
@@ -165,13 +151,11 @@ pub fn interface_names<'f, 'a>(
 /// The names of a world of the file at a place.
 pub fn world_names<'f, 'a>(
     alloc: Global,
-    files: &FileNames<'f, 'a>,
+    files: &Files<'_, '_, 'f, 'a>,
     world: &'f World<'a>,
-    entries: &[Entry],
     place: usize,
 ) -> ParseResult<Vec<ScopeName<'f, 'a>>>
     requires item { HasItem files.now place (TheWorld world.now) }
-    requires entries { AreEntriesOf files.now entries.now }
     ensures names { IfOk result (λ names. map name_behind names.items ≡ flat_map (part_names (top_at files.now place)) (map the_world_part world.now.items.items)) }
     ensures placed { IfOk result (λ names. AreNamesPlaced (map visited (foreign_interfaces files.now)) names.items) }
     ensures first { Finds (uses_fault files.now (top_at files.now place) (flat_map own_uses (map the_world_part world.now.items.items))) result }
@@ -179,7 +163,7 @@ pub fn world_names<'f, 'a>(
     let written = world_items(world);
     let mut names = Vec::with_capacity(alloc, world_room(written))?;
     for part in written {
-        add_part(alloc, files, entries, place, &mut names, world_part(part))?;
+        add_part(alloc, files, place, &mut names, world_part(part))?;
     }
     Ok(names)
 }

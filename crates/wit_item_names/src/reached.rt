@@ -8,10 +8,11 @@ ghost use Rattle.wit_first.specs.Uses.{path_fault};
 ghost use Rattle.wit_top_names.specs.Tops.{target_behind};
 ghost use Rattle.wit_files.specs.FileNames.{top_at};
 ghost use Rattle.wit_scopes.specs.Held.{source_behind, IsPlaced};
-ghost use Rattle.wit_item_names.specs.Items.{HasPath, AreEntriesOf, item_place as the_item_place, other_place as the_other_place, entry_at, interface_entry, IsReached};
+ghost use Rattle.wit_item_names.specs.Items.{HasPath, item_place as the_item_place, other_place as the_other_place, entry_at, interface_entry, IsReached};
 
+use crate::files::Files;
 use std::alloc::Global;
-use wit_files::{FileNames, Found};
+use wit_files::Found;
 use wit_model::AstItem as Entry;
 use wit_notes::path_id;
 use wit_refusals::refusal::{refuse_missing, refuse_world};
@@ -54,32 +55,27 @@ fn other_place(found: Option<Found>) -> Option<usize>
 }
 
 /// The entry of the item of another package that a path leads to; none where it leads to none.
-/// `entries` are those of other packages' items.
 fn entry_there<'e, 'f, 'a>(
-    files: &FileNames<'f, 'a>,
-    entries: &'e [Entry],
+    files: &'e Files<'_, '_, 'f, 'a>,
     target: Target<'f, 'a>,
 ) -> Option<&'e Entry>
-    requires { AreEntriesOf files.now entries.now }
     ensures { option_copied result ≡ entry_at files.now (target_behind target.entry) }
 {
     let found = other_place(files.found(target))?;
-    entries.get(found)
+    files.entries().get(found)
 }
 
 /// The entry of the item of another package that a path in the file at a place leads to; none where
-/// it leads to none. `entries` are those of other packages' items.
+/// it leads to none.
 pub fn entry_of<'e, 'f, 'a>(
-    files: &FileNames<'f, 'a>,
-    entries: &'e [Entry],
+    files: &'e Files<'_, '_, 'f, 'a>,
     place: usize,
     path: &'f UsePath<'a>,
 ) -> Option<&'e Entry>
     requires within { place < length files.now }
-    requires entries { AreEntriesOf files.now entries.now }
     ensures { option_copied result ≡ entry_at files.now (leads (top_at files.now place) path.now) }
 {
-    entry_there(files, entries, files.target(place, path))
+    entry_there(files, files.target(place, path))
 }
 
 /// The place of the interface that an entry is; none where there is no entry, or a world's.
@@ -95,7 +91,7 @@ fn interface_place(entry: Option<&Entry>) -> Option<usize>
 
 /// What a path in the file at a place leads to, where that is a name.
 fn reach_name<'f, 'a>(
-    files: &FileNames<'f, 'a>,
+    files: &Files<'_, '_, 'f, 'a>,
     place: usize,
     path: &'f UsePath<'a>,
     name: Id<'a>,
@@ -114,23 +110,20 @@ fn reach_name<'f, 'a>(
     Reached::Interface(Source::Declared(name))
 }
 
-/// What a path of an item of the file at a place leads to, which wants an interface. `entries` are
-/// those of other packages' items.
+/// What a path of an item of the file at a place leads to, which wants an interface.
 pub fn reach<'f, 'a>(
-    files: &FileNames<'f, 'a>,
-    entries: &[Entry],
+    files: &Files<'_, '_, 'f, 'a>,
     place: usize,
     path: &'f UsePath<'a>,
 ) -> Reached<'f, 'a>
     requires path { HasPath files.now place path.now }
-    requires entries { AreEntriesOf files.now entries.now }
     ensures { IsReached files.now (top_at files.now place) path.now result }
 {
     match files.target(place, path) {
         Target::Local(name) => reach_name(files, place, path, name),
         Target::Foreign { package, name } => {
             let target = Target::Foreign { package, name };
-            match interface_place(entry_there(files, entries, target)) {
+            match interface_place(entry_there(files, target)) {
                 Some(place) => Reached::Interface(Source::Foreign {
                     place,
                     package,
@@ -143,21 +136,19 @@ pub fn reach<'f, 'a>(
 }
 
 /// The interface that a path of an item of the file at a place leads to; refuses one that leads to
-/// no item (7), or to a world (10). `entries` are those of other packages' items.
+/// no item (7), or to a world (10).
 pub fn path_source<'f, 'a>(
     alloc: Global,
-    files: &FileNames<'f, 'a>,
-    entries: &[Entry],
+    files: &Files<'_, '_, 'f, 'a>,
     place: usize,
     path: &'f UsePath<'a>,
 ) -> ParseResult<Source<'f, 'a>>
     requires path { HasPath files.now place path.now }
-    requires entries { AreEntriesOf files.now entries.now }
     ensures source { IfOk result (λ source. source_behind source ≡ path_scope (top_at files.now place) path.now) }
     ensures placed { IfOk result (λ source. IsPlaced (map visited (foreign_interfaces files.now)) source) }
     ensures first { Finds (path_fault files.now (top_at files.now place) path.now) result }
 {
-    match reach(files, entries, place, path) {
+    match reach(files, place, path) {
         Reached::Interface(source) => Ok(source),
         Reached::World => Err(refuse_world(alloc, path_id(path))),
         Reached::Nothing(name) => Err(refuse_missing(alloc, 7, "interface or world", name)),

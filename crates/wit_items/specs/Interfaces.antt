@@ -6,4 +6,4 @@ use Rattle.wit_item_names.specs.Interfaces.{front_of}
 
 -- the scopes of the interfaces that were resolved: those of other packages are in front
 abbrev pub cells_of : Interfaces → List Cell
-cells_of is = cells (front_of is.foreign.now) is.arena
+cells_of is = cells (front_of is.files) is.arena

@@ -4,3 +4,5 @@ pub mod Inside
 pub mod Front
 pub mod Told
 pub mod Interfaces
+pub mod Found
+pub mod Gathered

@@ -13,6 +13,7 @@ ghost use Rattle.wit_items.specs.Front.{AreItemsPlaced};
 
 use std::alloc::Global;
 use wit_files::FileNames;
+use wit_item_names::files::Files;
 use wit_item_names::inside::names_inside;
 use wit_item_names::parts::{interface_names, world_names};
 use wit_model::AstItem as Entry;
@@ -104,14 +105,12 @@ impl<'f, 'a> Item<'f, 'a> {
 /// Adds the items of the file at a place.
 fn add_items<'f, 'a>(
     alloc: Global,
-    files: &FileNames<'f, 'a>,
+    files: &Files<'_, '_, 'f, 'a>,
     file: &'f PackageFile<'a>,
-    entries: &[Entry],
     items: &mut Vec<Item<'f, 'a>>,
     place: usize,
 ) -> ParseResult<()>
     requires file { slice_get files.now place ≡ Some file.now }
-    requires entries { AreEntriesOf files.now entries.now }
     ensures items { OnOk result (map item_behind items.new.items ≡ map item_behind items.old.items ++ file_items file.now) }
     ensures names { OnOk result (map names_behind items.new.items ≡ map names_behind items.old.items ++ map scope_names (file_items file.now)) }
     ensures inside { OnOk result ((side : TheSide) → map (inside_behind side) items.new.items ≡ map (inside_behind side) items.old.items ++ map (names_written side) (file_items file.now)) }
@@ -128,7 +127,7 @@ fn add_items<'f, 'a>(
                     place,
                     file,
                     declared: Declared::Interface(interface),
-                    names: interface_names(alloc, files, &interface.items, entries, place)?,
+                    names: interface_names(alloc, files, &interface.items, place)?,
                     imported: Vec::new(alloc),
                     exported: Vec::new(alloc),
                 },
@@ -139,29 +138,37 @@ fn add_items<'f, 'a>(
                     place,
                     file,
                     declared: Declared::World(world),
-                    names: world_names(alloc, files, world, entries, place)?,
-                    imported: names_inside(
-                        alloc,
-                        files,
-                        world,
-                        WorldSide::Imported,
-                        entries,
-                        place,
-                    )?,
-                    exported: names_inside(
-                        alloc,
-                        files,
-                        world,
-                        WorldSide::Exported,
-                        entries,
-                        place,
-                    )?,
+                    names: world_names(alloc, files, world, place)?,
+                    imported: names_inside(alloc, files, world, WorldSide::Imported, place)?,
+                    exported: names_inside(alloc, files, world, WorldSide::Exported, place)?,
                 },
             )?,
             AstItem::Use(_) => {}
         }
     }
     Ok(())
+}
+
+/// The items of all files, in push order and then in source order.
+fn add_all<'f, 'a>(
+    alloc: Global,
+    names: &Files<'_, '_, 'f, 'a>,
+    files: &'f [PackageFile<'a>],
+    room: usize,
+) -> ParseResult<Vec<Item<'f, 'a>>>
+    requires files { names.now ≡ files.now }
+    ensures items { IfOk result (λ items. map item_behind items.items ≡ all_items names.now) }
+    ensures names { IfOk result (λ items. map names_behind items.items ≡ map scope_names (all_items names.now)) }
+    ensures inside { IfOk result (λ items. (side : TheSide) → map (inside_behind side) items.items ≡ map (names_written side) (all_items names.now)) }
+    ensures filed { IfOk result (λ items. AreFiled names.now items.items) }
+    ensures placed { IfOk result (λ items. AreItemsPlaced (map visited (foreign_interfaces names.now)) items.items) }
+    ensures first { Finds (all_uses_fault names.now) result }
+{
+    let mut items = Vec::with_capacity(alloc, room)?;
+    for (place, file) in files.iter().enumerate() {
+        add_items(alloc, names, file, &mut items, place)?;
+    }
+    Ok(items)
 }
 
 /// The items of all files, in push order and then in source order.
@@ -184,9 +191,6 @@ pub fn declared_items<'f, 'a>(
     ensures placed { IfOk result (λ items. AreItemsPlaced (map visited (foreign_interfaces names.now)) items.items) }
     ensures first { Finds (all_uses_fault names.now) result }
 {
-    let mut items = Vec::with_capacity(alloc, names.item_order().len())?;
-    for (place, file) in files.iter().enumerate() {
-        add_items(alloc, names, file, entries, &mut items, place)?;
-    }
-    Ok(items)
+    let all = Files::of(names, entries);
+    add_all(alloc, &all, files, names.item_order().len())
 }

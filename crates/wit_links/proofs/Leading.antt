@@ -1,6 +1,6 @@
 -- Where the paths lead by which a world imports and exports interfaces: to places in the arena.
 use Rattle.std.proofs.Common.{◌≡◌, ◌≤◌, ◌<◌, ℕ, zero, suc, false, List, [], ◌∷◌, ◌++◌, Contains, length, Option, Some, None, inl, inr, refl, sym, ap, ◌∙◌, subst, arith}
-use Rattle.std.specs.Prelude.{map, slice_get}
+use Rattle.std.specs.Prelude.{slice_get}
 use Rattle.std.specs.Option.{option_map, unwrap_or}
 use Rattle.std.proofs.lemmas.List.{length-map}
 use Rattle.std.proofs.lemmas.List.Elements.{Contains-append_cases}
@@ -12,17 +12,14 @@ use Rattle.wit_tree.specs.declared.tree.PackageFile.{PackageFile}
 use Rattle.wit_model.specs.declared.interface.Interface.{Interface}
 use Rattle.wit_syntax.specs.Address.{Address, InterfaceNamed, WorldNamed, InlineAt, ForeignNamed, package_of, same_address, is_foreign}
 use Rattle.wit_syntax.specs.Broken.{is_world_at}
-use Rattle.wit_syntax.specs.Foreign.{visited, foreign_interfaces}
 use Rattle.wit_syntax.specs.Source.{Target, Local, leads, path_scope, TopName, target_scope}
 use Rattle.wit_syntax.proofs.Addresses.{same_address-equal}
 use Rattle.wit_syntax.proofs.Found.{contains_at}
 use Rattle.wit_syntax.proofs.Lists.{at_front as before}
-use Rattle.wit_arena.specs.Resolving.{Cell, Names, IsIndex, cells}
+use Rattle.wit_arena.specs.Resolving.{Cell, Names, cells}
 use Rattle.wit_arena.specs.Resolved.{interfaces_at}
-use Rattle.wit_arena.specs.Whole.{place_at}
 use Rattle.wit_arena.proofs.Interfaces.{place_at-found}
 use Rattle.wit_arena.proofs.Visits.{interfaces_differ}
-use Rattle.wit_files.specs.declared.foreign.ForeignVisit.{ForeignVisit as HeldVisit}
 use Rattle.wit_item_names.specs.Interfaces.{front_of}
 use Rattle.wit_externs.specs.declared.held.Led.{Led}
 use Rattle.wit_externs.specs.declared.held.Led.TheVariants as led
@@ -30,19 +27,19 @@ use Rattle.wit_externs.specs.declared.held.HeldLink.{HeldLink}
 use Rattle.wit_externs.specs.declared.held.HeldExtern.{HeldExtern}
 use Rattle.wit_externs.specs.declared.held.HeldExtern.TheVariants as held
 use Rattle.wit_item_names.proofs.Usable.{contains_one}
+use Rattle.wit_items.specs.Found.{AreFound}
+use Rattle.wit_items.proofs.Found.{found_cell}
 use Rattle.wit_rules.specs.declared.held.HeldFunction.{HeldFunction}
 use Rattle.wit_scopes.specs.Held.{source_behind, IsPlaced}
 use Rattle.wit_scopes.specs.declared.scope_name.Source.{Source as HeldSource}
 use Rattle.wit_scopes.specs.declared.scope_name.Source.TheVariants as held_source
-use Rattle.wit_world_sides.specs.Links.{AreLed, AreWithin, IsLed, IsLostAt, interface_place, interfaces_of_others, source_place}
+use Rattle.wit_world_sides.specs.Links.{AreLed, AreWithin, IsLed, IsLostAt, interface_place, source_place}
 use Rattle.wit_externs.proofs.Linked.{AreLinksPlaced}
 
 -- the place of an interface that is held is that of its address
-pub source_placed : (files : List PackageFile) (front : List Address) (by_name : Names) (source : HeldSource) → front ≡ interfaces_of_others files → IsPlaced (map visited (foreign_interfaces files)) source → interface_place front by_name (source_behind source) ≡ source_place by_name source
-source_placed files front by_name (held_source.Declared id) same placed = refl
-source_placed files front by_name (held_source.Foreign p of name) same placed =
-    let s = ForeignNamed (package_of of.now) name.name.now in
-    ap (λ (ss : List Address). place_at ss s) same ∙ place_at-found (map visited (foreign_interfaces files)) s p (interfaces_differ files) placed
+pub source_placed : (files : List PackageFile) (by_name : Names) (source : HeldSource) → IsPlaced (front_of files) source → interface_place (front_of files) by_name (source_behind source) ≡ source_place by_name source
+source_placed files by_name (held_source.Declared id) placed = refl
+source_placed files by_name (held_source.Foreign p of name) placed = place_at-found (front_of files) (ForeignNamed (package_of of.now) name.name.now) p (interfaces_differ files) placed
 
 -- one that is not resolved is of the package
 pub source_local : (by_name : Names) (source : HeldSource) → source_place by_name source ≡ None → is_foreign (source_behind source) ≡ false
@@ -67,13 +64,13 @@ addresses_count (s ∷ ss) [] enough = absurd (let f : ⊥ = omega arith in f)
 addresses_count (s ∷ ss) (i ∷ is) enough = ap suc (addresses_count ss is (omega arith))
 
 -- the address at the place of an interface is its own
-called_at : (front : List Address) (is : List Interface) (by_name : Names) (s : Address) (id : ℕ) → length front ≤ length is → IsIndex (cells front is) by_name → interface_place front by_name s ≡ Some id → slice_get (interfaces_at front is) id ≡ Some s
-called_at front is by_name (InterfaceNamed name) id enough index at =
-    let c = index.stands name id at in
-    slice_get-map (λ (d : Cell). d.address) (cells front is) id ∙ ap (option_map (λ (d : Cell). d.address)) c.1 ∙ ap Some c.2
-called_at front is by_name (WorldNamed name) id enough index at = absurd (let f : ⊥ = cc in f)
-called_at front is by_name (InlineAt world side place) id enough index at = absurd (let f : ⊥ = cc in f)
-called_at front is by_name (ForeignNamed p name) id enough index at =
+called_at : (front : List Address) (is : List Interface) (by_name : Names) (s : Address) (id : ℕ) → length front ≤ length is → AreFound (length front) is by_name → interface_place front by_name s ≡ Some id → slice_get (interfaces_at front is) id ≡ Some s
+called_at front is by_name (InterfaceNamed name) id enough found at =
+    let i = found_cell front is id name (found name id at).0 (found name id at).1 in
+    slice_get-map (λ (d : Cell). d.address) (cells front is) id ∙ ap (option_map (λ (d : Cell). d.address)) i.2
+called_at front is by_name (WorldNamed name) id enough found at = absurd (let f : ⊥ = cc in f)
+called_at front is by_name (InlineAt world side place) id enough found at = absurd (let f : ⊥ = cc in f)
+called_at front is by_name (ForeignNamed p name) id enough found at =
     let s = ForeignNamed p name in
     let it = position-Some (λ (a : Address). same_address a s) front id s at in
     at_front front is id s enough (slice_get-get_or front id s it.0 ∙ ap Some (same_address-equal _ s it.1))
@@ -82,16 +79,12 @@ called_at front is by_name (ForeignNamed p name) id enough index at =
 led_place : (files : List PackageFile) (front : List Address) (by_name : Names) (top : List TopName) (hs : List HeldExtern) (k : ℕ) (l : HeldLink) (id : ℕ) → AreLed files front by_name top hs → slice_get hs k ≡ Some (held.Link l) → l.led ≡ led.Interface id → interface_place front by_name (path_scope top l.path.now) ≡ Some id
 led_place files front by_name top hs k l id are at lead = (subst (λ (d : Led). IsLed files front by_name top l.path.now d) lead (are.each l (contains_at hs k (held.Link l) at))).1
 
--- the interfaces of other packages are as many as their addresses
-pub front_enough : (vs : List HeldVisit) (is : List Interface) → length vs ≤ length is → length (front_of vs) ≤ length is
-front_enough vs is enough = subst (λ n. n ≤ length is) (sym (length-map vs _)) enough
-
 -- so they are placed
-pub links_placed : (files : List PackageFile) (front : List Address) (is : List Interface) (by_name : Names) (top : List TopName) (hs : List HeldExtern) → length front ≤ length is → IsIndex (cells front is) by_name → AreLed files front by_name top hs → AreLinksPlaced (interfaces_at front is) top hs
-links_placed files front is by_name top hs enough index are = record {
+pub links_placed : (files : List PackageFile) (front : List Address) (is : List Interface) (by_name : Names) (top : List TopName) (hs : List HeldExtern) → length front ≤ length is → AreFound (length front) is by_name → AreLed files front by_name top hs → AreLinksPlaced (interfaces_at front is) top hs
+links_placed files front is by_name top hs enough found are = record {
   place = λ s. unwrap_or (interface_place front by_name s) 0;
   stands = λ k l id at lead. sym (ap (λ (o : Option ℕ). unwrap_or o 0) (led_place files front by_name top hs k l id are at lead));
-  called = λ k l id at lead. called_at front is by_name (path_scope top l.path.now) id enough index (led_place files front by_name top hs k l id are at lead);
+  called = λ k l id at lead. called_at front is by_name (path_scope top l.path.now) id enough found (led_place files front by_name top hs k l id are at lead);
 }
 
 -- within the arena

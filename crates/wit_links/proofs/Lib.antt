@@ -1,3 +1,4 @@
 mod Including
 pub mod Inlined
 pub mod Leading
+pub mod WorldsFound

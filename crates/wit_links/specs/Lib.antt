@@ -1,2 +1,3 @@
 pub mod Includes
 pub mod Inside
+pub mod Worlds

@@ -9,19 +9,18 @@ ghost use Rattle.wit_externs.specs.Held.{extern_behind, externs_behind, link_beh
 ghost use Rattle.wit_externs.specs.declared.held.HeldLink.{HeldLink as TheLink};
 ghost use Rattle.wit_externs.specs.declared.held.HeldExtern.TheVariants.{Link as TheHeld};
 ghost use Rattle.wit_files.specs.FileNames.{top_at};
-ghost use Rattle.wit_item_names.specs.Items.{AreEntriesOf, HasItem, HasPart, HasPath};
+ghost use Rattle.wit_item_names.specs.Items.{HasItem, HasPart, HasPath};
 ghost use Rattle.wit_items.specs.Items.{declared_behind};
 ghost use Rattle.wit_item_names.specs.Interfaces.{front_of};
-ghost use Rattle.wit_world_sides.specs.Links.{AreLed, IsLed, interfaces_of_others, source_place};
+ghost use Rattle.wit_world_sides.specs.Links.{AreLed, IsLed, source_place};
 
 use crate::inside::declared_world;
 use std::alloc::{AllocError, Global};
 use wit_externs::held::{HeldExtern, HeldInline, HeldLink, Led};
-use wit_files::FileNames;
+use wit_item_names::files::Files;
 use wit_item_names::reached::{Reached, reach};
 use wit_items::interfaces::Interfaces;
 use wit_items::items::Declared;
-use wit_model::AstItem as Entry;
 use wit_rules::held::HeldFunction;
 use wit_scopes::scope_name::Source;
 use wit_top_names::Target;
@@ -30,7 +29,7 @@ use wit_tree::tree::{Extern, ExternKind, Id, TypeBody, TypeDef, UsePath, World, 
 use wit_values::push;
 
 /// The place of the interface that is held, where it is resolved.
-fn resolved(interfaces: &Interfaces<'_, '_, '_>, source: Source<'_, '_>) -> Option<usize>
+fn resolved(interfaces: &Interfaces<'_, '_, '_, '_>, source: Source<'_, '_>) -> Option<usize>
     ensures { result ≡ source_place interfaces.now.by_name source.entry }
 {
     match source {
@@ -43,7 +42,7 @@ fn resolved(interfaces: &Interfaces<'_, '_, '_>, source: Source<'_, '_>) -> Opti
 }
 
 /// The name that a path in the file at a place leads to, where it leads to no other package.
-fn local_name<'f, 'a>(files: &FileNames<'f, 'a>, place: usize, path: &'f UsePath<'a>) -> Id<'a>
+fn local_name<'f, 'a>(files: &Files<'_, '_, 'f, 'a>, place: usize, path: &'f UsePath<'a>) -> Id<'a>
     requires within { place < length files.now }
     requires local { is_foreign (path_scope (top_at files.now place) path.now) ≡ false }
     ensures { leads (top_at files.now place) path.now ≡ Local result }
@@ -55,23 +54,18 @@ fn local_name<'f, 'a>(files: &FileNames<'f, 'a>, place: usize, path: &'f UsePath
 }
 
 /// What a path of a world in the file at a place leads to, among the interfaces that are resolved.
-/// `entries` are those of other packages' items.
 fn led<'f, 'a>(
-    files: &FileNames<'f, 'a>,
-    entries: &[Entry],
-    interfaces: &Interfaces<'_, 'f, 'a>,
+    interfaces: &Interfaces<'_, '_, 'f, 'a>,
     place: usize,
     path: &'f UsePath<'a>,
 ) -> Led<'a>
-    requires path { HasPath files.now place path.now }
-    requires entries { AreEntriesOf files.now entries.now }
-    requires others { front_of interfaces.now.foreign.now ≡ interfaces_of_others files.now }
-    ensures { IsLed files.now (front_of interfaces.now.foreign.now) interfaces.now.by_name (top_at files.now place) path.now result }
+    requires path { HasPath interfaces.now.files place path.now }
+    ensures { IsLed interfaces.now.files (front_of interfaces.now.files) interfaces.now.by_name (top_at interfaces.now.files place) path.now result }
 {
-    match reach(files, entries, place, path) {
+    match reach(&interfaces.files, place, path) {
         Reached::Interface(source) => match resolved(interfaces, source) {
             Some(place) => Led::Interface(place),
-            None => Led::Nothing(local_name(files, place, path)),
+            None => Led::Nothing(local_name(&interfaces.files, place, path)),
         },
         Reached::World => Led::World,
         Reached::Nothing(id) => Led::Nothing(id),
@@ -119,17 +113,13 @@ fn held_link<'f, 'a>(
 
 /// What a world in the file at a place imports or exports.
 fn held_extern<'f, 'a>(
-    files: &FileNames<'f, 'a>,
     written: &'f Extern<'a>,
-    entries: &[Entry],
-    interfaces: &Interfaces<'_, 'f, 'a>,
+    interfaces: &Interfaces<'_, '_, 'f, 'a>,
     place: usize,
 ) -> HeldExtern<'f, 'a>
-    requires part { HasPart files.now place (Crossing written.now) }
-    requires entries { AreEntriesOf files.now entries.now }
-    requires others { front_of interfaces.now.foreign.now ≡ interfaces_of_others files.now }
+    requires part { HasPart interfaces.now.files place (Crossing written.now) }
     ensures behind { extern_behind result ∷ [] ≡ extern_items written.now written.now.kind }
-    ensures led { (l : TheLink) → result ≡ TheHeld l → IsLed files.now (front_of interfaces.now.foreign.now) interfaces.now.by_name (top_at files.now place) l.path.now l.led }
+    ensures led { (l : TheLink) → result ≡ TheHeld l → IsLed interfaces.now.files (front_of interfaces.now.files) interfaces.now.by_name (top_at interfaces.now.files place) l.path.now l.led }
 {
     match &written.kind {
         ExternKind::Interface(name, items) => HeldExtern::Inline(HeldInline {
@@ -145,11 +135,11 @@ fn held_extern<'f, 'a>(
             func,
         )),
         ExternKind::Path(path) => {
-            let led = led(files, entries, interfaces, place, path);
+            let led = led(interfaces, place, path);
             HeldExtern::Link(held_link(written, None, path, led))
         }
         ExternKind::NamedPath(name, path) => {
-            let led = led(files, entries, interfaces, place, path);
+            let led = led(interfaces, place, path);
             HeldExtern::Link(held_link(written, Some(*name), path, led))
         }
     }
@@ -166,21 +156,16 @@ fn extern_count(world: &World<'_>) -> usize {
     count
 }
 
-/// What stands on the sides of a world in the file at a place. `entries` are those of other packages'
-/// items.
+/// What stands on the sides of a world in the file at a place.
 fn world_externs<'f, 'a>(
     alloc: Global,
-    files: &FileNames<'f, 'a>,
     world: &'f World<'a>,
-    entries: &[Entry],
-    interfaces: &Interfaces<'_, 'f, 'a>,
+    interfaces: &Interfaces<'_, '_, 'f, 'a>,
     place: usize,
 ) -> Result<Vec<HeldExtern<'f, 'a>>, AllocError>
-    requires item { HasItem files.now place (TheWorld world.now) }
-    requires entries { AreEntriesOf files.now entries.now }
-    requires others { front_of interfaces.now.foreign.now ≡ interfaces_of_others files.now }
+    requires item { HasItem interfaces.now.files place (TheWorld world.now) }
     ensures behind { IfOk result (λ externs. externs_behind externs.items ≡ flat_map part_items (map world_part world.now.items.items)) }
-    ensures led { IfOk result (λ externs. AreLed files.now (front_of interfaces.now.foreign.now) interfaces.now.by_name (top_at files.now place) externs.items) }
+    ensures led { IfOk result (λ externs. AreLed interfaces.now.files (front_of interfaces.now.files) interfaces.now.by_name (top_at interfaces.now.files place) externs.items) }
 {
     let mut externs = Vec::with_capacity(alloc, extern_count(world))?;
     for part in world_items(world) {
@@ -189,33 +174,25 @@ fn world_externs<'f, 'a>(
             WorldItem::Use(_) => {}
             WorldItem::Include(_) => {}
             WorldItem::Extern(written) => {
-                push(
-                    &mut externs,
-                    held_extern(files, written, entries, interfaces, place),
-                )?
+                push(&mut externs, held_extern(written, interfaces, place))?
             }
         }
     }
     Ok(externs)
 }
 
-/// What stands on the sides of a declared world in the file at a place. `entries` are those of other
-/// packages' items.
+/// What stands on the sides of a declared world in the file at a place.
 pub fn declared_externs<'f, 'a>(
     alloc: Global,
     declared: &Declared<'f, 'a>,
-    files: &FileNames<'f, 'a>,
-    entries: &[Entry],
-    interfaces: &Interfaces<'_, 'f, 'a>,
+    interfaces: &Interfaces<'_, '_, 'f, 'a>,
     place: usize,
 ) -> Result<Vec<HeldExtern<'f, 'a>>, AllocError>
     requires sort { (about (declared_behind declared.now)).is_world ≡ true }
-    requires item { HasItem files.now place (declared_behind declared.now) }
-    requires entries { AreEntriesOf files.now entries.now }
-    requires others { front_of interfaces.now.foreign.now ≡ interfaces_of_others files.now }
+    requires item { HasItem interfaces.now.files place (declared_behind declared.now) }
     ensures behind { IfOk result (λ externs. externs_behind externs.items ≡ flat_map part_items (about (declared_behind declared.now)).parts) }
-    ensures led { IfOk result (λ externs. AreLed files.now (front_of interfaces.now.foreign.now) interfaces.now.by_name (top_at files.now place) externs.items) }
+    ensures led { IfOk result (λ externs. AreLed interfaces.now.files (front_of interfaces.now.files) interfaces.now.by_name (top_at interfaces.now.files place) externs.items) }
 {
     let world = declared_world(declared);
-    world_externs(alloc, files, world, entries, interfaces, place)
+    world_externs(alloc, world, interfaces, place)
 }

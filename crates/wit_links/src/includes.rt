@@ -1,5 +1,5 @@
 //! Includes of worlds.
-ghost use Rattle.std.specs.Prelude.{◌≡◌, ◌<◌, ◌≤◌, ◌⊎◌, ◌++◌, IfErr, IfOk, OnOk, length, map, true, codes, string_bytes};
+ghost use Rattle.std.specs.Prelude.{◌≡◌, ◌<◌, ◌⊎◌, ◌++◌, IfErr, IfOk, OnOk, length, map, true, codes, string_bytes};
 ghost use Rattle.std.specs.List.{flat_map};
 ghost use Rattle.std.specs.Option.{option_copied};
 ghost use Rattle.wit_syntax.specs.Source.{leads, TheWorld, Including, world_part, about};
@@ -8,18 +8,18 @@ ghost use Rattle.wit_syntax.specs.Notes.{IsBrokenStability};
 ghost use Rattle.wit_syntax.specs.Fault.{Fault};
 ghost use Rattle.wit_syntax.specs.Broken.{Refused};
 ghost use Rattle.wit_arena.specs.Whole.{renamed, IsInclude, AreIncludes};
-ghost use Rattle.wit_arena.specs.Resolving.{IsWorldIndex, IsLostInclude};
+ghost use Rattle.wit_arena.specs.Resolving.{IsLostInclude};
 ghost use Rattle.wit_arena.specs.Resolved.{worlds_at, IsBrokenItemStability};
 ghost use Rattle.wit_files.specs.FileNames.{top_at};
-ghost use Rattle.wit_item_names.specs.Items.{HasItem, HasPart, AreEntriesOf, world_entry, world_at};
+ghost use Rattle.wit_item_names.specs.Items.{HasItem, HasPart, world_entry, world_at};
 ghost use Rattle.wit_items.specs.Items.{declared_behind, others_of};
 ghost use Rattle.wit_links.specs.Includes.{IsLost, AreStable};
 
+use crate::worlds::Worlds;
 use std::alloc::{AllocError, Global};
-use wit_files::FileNames;
 use wit_item_names::reached::entry_of;
 use wit_items::items::Declared;
-use wit_model::{AstItem as Entry, IncludeName, World, WorldInclude};
+use wit_model::{AstItem as Entry, IncludeName, WorldInclude};
 use wit_notes::attributes::check_stability;
 use wit_notes::{path_id, told_stability};
 use wit_refusals::refusal::refuse;
@@ -27,17 +27,8 @@ use wit_top_names::Target;
 use wit_top_names::declaration::world_items;
 use wit_tree::ParseResult;
 use wit_tree::tree::{self, UsePath};
-use wit_types::{Arena, WorldId, WorldPlace};
-use wit_values::{Row, Text, TextTable};
-
-/// The worlds that are resolved, and the places of the declared ones by their names.
-#[derive(Drop)]
-pub struct Worlds<'n> {
-    /// The entries of other packages' items, the worlds of which are the front of the arena.
-    pub entries: &'n [Entry],
-    pub arena: Arena<World, WorldPlace>,
-    pub by_name: TextTable<WorldId>,
-}
+use wit_types::WorldId;
+use wit_values::{Row, Text};
 
 /// What an include renames.
 fn renames(alloc: Global, names: &[tree::IncludeName<'_>]) -> Result<Row<IncludeName>, AllocError>
@@ -73,21 +64,19 @@ fn world_of(entry: Option<&Entry>) -> Option<WorldId>
 
 /// The world that a path in the file at a place leads to; none where that is no world.
 fn included_world<'f, 'a>(
-    files: &FileNames<'f, 'a>,
-    worlds: &Worlds<'_>,
+    worlds: &Worlds<'_, '_, '_, 'f, 'a>,
     place: usize,
     path: &'f UsePath<'a>,
 ) -> Option<WorldId>
-    requires within { place < length files.now }
-    requires entries { AreEntriesOf files.now worlds.now.entries.now }
-    ensures { result ≡ world_at files.now worlds.now.by_name (leads (top_at files.now place) path.now) }
+    requires within { place < length worlds.now.interfaces.now.files }
+    ensures { result ≡ world_at worlds.now.interfaces.now.files worlds.now.by_name (leads (top_at worlds.now.interfaces.now.files place) path.now) }
 {
-    match files.target(place, path) {
+    match worlds.interfaces.files.target(place, path) {
         Target::Local(id) => match worlds.by_name.get(id.name) {
             Some(id) => Some(*id),
             None => None,
         },
-        Target::Foreign { .. } => world_of(entry_of(files, worlds.entries, place, path)),
+        Target::Foreign { .. } => world_of(entry_of(&worlds.interfaces.files, place, path)),
     }
 }
 
@@ -95,22 +84,18 @@ fn included_world<'f, 'a>(
 /// include of an interface.
 fn resolve_include<'f, 'a>(
     alloc: Global,
-    files: &FileNames<'f, 'a>,
+    worlds: &Worlds<'_, '_, '_, 'f, 'a>,
     place: usize,
-    worlds: &Worlds<'_>,
     include: &'f tree::Include<'a>,
 ) -> ParseResult<WorldInclude>
-    requires part { HasPart files.now place (Including include.now) }
-    requires entries { AreEntriesOf files.now worlds.now.entries.now }
-    requires front { length (others_of files.now) ≤ length worlds.now.arena }
-    requires index { IsWorldIndex (worlds_at (others_of files.now) worlds.now.arena) worlds.now.by_name }
-    ensures is { IfOk result (λ i. IsInclude (worlds_at (others_of files.now) worlds.now.arena) (top_at files.now place) include.now i) }
+    requires part { HasPart worlds.now.interfaces.now.files place (Including include.now) }
+    ensures is { IfOk result (λ i. IsInclude (worlds_at (others_of worlds.now.interfaces.now.files) worlds.now.arena) (top_at worlds.now.interfaces.now.files place) include.now i) }
     ensures stable { OnOk result ((f : Fault) → IsBrokenStability include.now.attributes.items f → ⊥) }
-    ensures refused { IfErr result (Refused (λ f. IsBrokenStability include.now.attributes.items f ⊎ IsLost files.now worlds.now.by_name (top_at files.now place) include.now f)) }
+    ensures refused { IfErr result (Refused (λ f. IsBrokenStability include.now.attributes.items f ⊎ IsLost worlds.now.interfaces.now.files worlds.now.by_name (top_at worlds.now.interfaces.now.files place) include.now f)) }
 {
     check_stability(alloc, &include.attributes)?;
     let path = path_id(&include.from);
-    let id = match included_world(files, worlds, place, &include.from) {
+    let id = match included_world(worlds, place, &include.from) {
         Some(id) => id,
         None => {
             let message = not_a_world(alloc, path.name)?;
@@ -141,23 +126,19 @@ fn include_count(world: &tree::World<'_>) -> usize {
 /// The includes of a world.
 fn resolve_includes<'f, 'a>(
     alloc: Global,
-    files: &FileNames<'f, 'a>,
     world: &'f tree::World<'a>,
-    worlds: &Worlds<'_>,
+    worlds: &Worlds<'_, '_, '_, 'f, 'a>,
     place: usize,
 ) -> ParseResult<Row<WorldInclude>>
-    requires item { HasItem files.now place (TheWorld world.now) }
-    requires entries { AreEntriesOf files.now worlds.now.entries.now }
-    requires front { length (others_of files.now) ≤ length worlds.now.arena }
-    requires index { IsWorldIndex (worlds_at (others_of files.now) worlds.now.arena) worlds.now.by_name }
-    ensures are { IfOk result (λ includes. AreIncludes (worlds_at (others_of files.now) worlds.now.arena) (record { top = top_at files.now place; declared = TheWorld world.now }) includes) }
+    requires item { HasItem worlds.now.interfaces.now.files place (TheWorld world.now) }
+    ensures are { IfOk result (λ includes. AreIncludes (worlds_at (others_of worlds.now.interfaces.now.files) worlds.now.arena) (record { top = top_at worlds.now.interfaces.now.files place; declared = TheWorld world.now }) includes) }
     ensures stable { OnOk result (AreStable (flat_map part_includes (map world_part world.now.items.items))) }
-    ensures refused { IfErr result (Refused (λ f. IsBrokenItemStability (record { top = top_at files.now place; declared = TheWorld world.now }) f ⊎ IsLostInclude files.now worlds.now.by_name (record { top = top_at files.now place; declared = TheWorld world.now }) f)) }
+    ensures refused { IfErr result (Refused (λ f. IsBrokenItemStability (record { top = top_at worlds.now.interfaces.now.files place; declared = TheWorld world.now }) f ⊎ IsLostInclude worlds.now.interfaces.now.files worlds.now.by_name (record { top = top_at worlds.now.interfaces.now.files place; declared = TheWorld world.now }) f)) }
 {
     let mut includes = Vec::with_capacity(alloc, include_count(world))?;
     for part in world_items(world) {
         if let tree::WorldItem::Include(include) = part {
-            let include = resolve_include(alloc, files, place, worlds, include)?;
+            let include = resolve_include(alloc, worlds, place, include)?;
             includes.push(include)?;
         }
     }
@@ -168,21 +149,17 @@ fn resolve_includes<'f, 'a>(
 pub fn declared_includes<'f, 'a>(
     alloc: Global,
     declared: &Declared<'f, 'a>,
-    files: &FileNames<'f, 'a>,
-    worlds: &Worlds<'_>,
+    worlds: &Worlds<'_, '_, '_, 'f, 'a>,
     place: usize,
 ) -> ParseResult<Row<WorldInclude>>
     requires sort { (about (declared_behind declared.now)).is_world ≡ true }
-    requires item { HasItem files.now place (declared_behind declared.now) }
-    requires entries { AreEntriesOf files.now worlds.now.entries.now }
-    requires front { length (others_of files.now) ≤ length worlds.now.arena }
-    requires index { IsWorldIndex (worlds_at (others_of files.now) worlds.now.arena) worlds.now.by_name }
-    ensures are { IfOk result (λ includes. AreIncludes (worlds_at (others_of files.now) worlds.now.arena) (record { top = top_at files.now place; declared = declared_behind declared.now }) includes) }
+    requires item { HasItem worlds.now.interfaces.now.files place (declared_behind declared.now) }
+    ensures are { IfOk result (λ includes. AreIncludes (worlds_at (others_of worlds.now.interfaces.now.files) worlds.now.arena) (record { top = top_at worlds.now.interfaces.now.files place; declared = declared_behind declared.now }) includes) }
     ensures stable { OnOk result (AreStable (flat_map part_includes (about (declared_behind declared.now)).parts)) }
-    ensures refused { IfErr result (Refused (λ f. IsBrokenItemStability (record { top = top_at files.now place; declared = declared_behind declared.now }) f ⊎ IsLostInclude files.now worlds.now.by_name (record { top = top_at files.now place; declared = declared_behind declared.now }) f)) }
+    ensures refused { IfErr result (Refused (λ f. IsBrokenItemStability (record { top = top_at worlds.now.interfaces.now.files place; declared = declared_behind declared.now }) f ⊎ IsLostInclude worlds.now.interfaces.now.files worlds.now.by_name (record { top = top_at worlds.now.interfaces.now.files place; declared = declared_behind declared.now }) f)) }
 {
     match declared {
-        Declared::World(world) => resolve_includes(alloc, files, *world, worlds, place),
+        Declared::World(world) => resolve_includes(alloc, *world, worlds, place),
         Declared::Interface(_) | Declared::Inline(_) => unreachable!(),
     }
 }

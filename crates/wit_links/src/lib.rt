@@ -4,3 +4,4 @@
 pub mod externs;
 pub mod includes;
 pub mod inside;
+pub mod worlds;

@@ -1,5 +1,5 @@
 //! Names that a scope uses from interfaces.
-ghost use Rattle.std.specs.Prelude.{◌≡◌, ◌≤◌, ◌↔◌, [], ◌++◌, List, Contains, length, map, OnOk, IfOk, IfErr, IsTrue, codes, string_bytes};
+ghost use Rattle.std.specs.Prelude.{◌≡◌, ◌↔◌, [], ◌++◌, List, Contains, map, OnOk, IfOk, IfErr, IsTrue, codes, string_bytes};
 ghost use Rattle.std.specs.List.{flat_map};
 ghost use Rattle.std.specs.Option.{option_copied, option_to_list};
 ghost use Rattle.wit_type_tree.specs.Refusal.{IsWantOfMemory};
@@ -15,7 +15,7 @@ ghost use Rattle.wit_entries.specs.Requiring.{IsGrown};
 ghost use Rattle.wit_scopes.specs.Held.{source_behind, use_behind, IsPlaced, ArePlaced};
 ghost use Rattle.wit_item_names.specs.Interfaces.{front_of};
 ghost use Rattle.wit_items.specs.Interfaces.{cells_of};
-ghost use Rattle.wit_arena.specs.Resolving.{cell_at, env_of, free_functions, Defines, HasNames, IsIndex, IsFound, IsUnresolved, IsUsed, IsWrongUse, IsWrongScope, names_in};
+ghost use Rattle.wit_arena.specs.Resolving.{cell_at, env_of, free_functions, Defines, HasNames, IsFound, IsUnresolved, IsUsed, IsWrongUse, IsWrongScope, names_in};
 
 use std::alloc::{AllocError, Global};
 use wit_entries::entries::Entries;
@@ -36,11 +36,9 @@ use wit_values::TextTable;
 fn used_interface<'i>(
     alloc: Global,
     from: &Source<'_, '_>,
-    interfaces: &'i Interfaces<'_, '_, '_>,
+    interfaces: &'i Interfaces<'_, '_, '_, '_>,
 ) -> ParseResult<&'i Interface>
-    requires index { IsIndex (cells_of interfaces.now) interfaces.now.by_name }
-    requires placed { IsPlaced (front_of interfaces.now.foreign.now) from.now }
-    requires front { length interfaces.now.foreign.now ≤ length interfaces.now.arena }
+    requires placed { IsPlaced (front_of interfaces.now.files) from.now }
     ensures found { IfOk result (λ i. IsFound (cells_of interfaces.now) (source_behind from.now) (cell_at (source_behind from.now) i.now)) }
     ensures refused { IfErr result (Refused (λ f. (path : TheId) × (source_behind from.now ≡ InterfaceNamed path.name.now) × IsUnresolved interfaces.now.by_name path f)) }
 {
@@ -118,12 +116,10 @@ fn resolve_use<'f, 'a>(
     alloc: Global,
     used: &UsedName<'f, 'a>,
     types: &mut Entries,
-    interfaces: &Interfaces<'_, '_, '_>,
+    interfaces: &Interfaces<'_, '_, '_, '_>,
     scope: &mut Scope,
 ) -> ParseResult<()>
-    requires index { IsIndex (cells_of interfaces.now) interfaces.now.by_name }
-    requires placed { IsPlaced (front_of interfaces.now.foreign.now) used.now.from }
-    requires front { length interfaces.now.foreign.now ≤ length interfaces.now.arena }
+    requires placed { IsPlaced (front_of interfaces.now.files) used.now.from }
     ensures used { OnOk result (IsUsed types.old types.new (cells_of interfaces.now) scope.old.owner scope.old.names scope.new.names (source_behind used.now.from) used.now.attributes.now used.now.name.now) }
     ensures owner { OnOk result (scope.new.owner ≡ scope.old.owner) }
     ensures required { scope.new.required ≡ scope.old.required }
@@ -152,12 +148,10 @@ pub fn resolve_uses<'f, 'a>(
     alloc: Global,
     uses: &[UsedName<'f, 'a>],
     types: &mut Entries,
-    interfaces: &Interfaces<'_, '_, '_>,
+    interfaces: &Interfaces<'_, '_, '_, '_>,
     scope: &mut Scope,
 ) -> ParseResult<()>
-    requires index { IsIndex (cells_of interfaces.now) interfaces.now.by_name }
-    requires placed { ArePlaced (front_of interfaces.now.foreign.now) uses.now }
-    requires front { length interfaces.now.foreign.now ≤ length interfaces.now.arena }
+    requires placed { ArePlaced (front_of interfaces.now.files) uses.now }
     requires empty { scope.old.names ≡ [] }
     ensures defines { OnOk result ((s : Address) → Defines types.old types.new (cells_of interfaces.now) scope.old.owner s scope.old.names scope.new.names (map use_behind uses.now)) }
     ensures owner { OnOk result (scope.new.owner ≡ scope.old.owner) }

@@ -1,11 +1,10 @@
 -- Where the paths lead by which a world imports and exports interfaces, once all interfaces are resolved.
-use Rattle.std.specs.Prelude.{◌≡◌, ◌⊎◌, ◌<◌, ℕ, false, true, List, Option, Some, None, Contains, map, slice_get}
+use Rattle.std.specs.Prelude.{◌≡◌, ◌⊎◌, ◌<◌, ℕ, false, true, List, Option, Some, None, Contains, slice_get}
 use Rattle.wit_type_tree.specs.declared.leaves.Id.{Id}
 use Rattle.wit_tree.specs.declared.tree.UsePath.{UsePath}
 use Rattle.wit_tree.specs.declared.tree.PackageFile.{PackageFile}
 use Rattle.wit_syntax.specs.Address.{Address, InterfaceNamed, WorldNamed, InlineAt, ForeignNamed}
 use Rattle.wit_syntax.specs.Source.{Local, leads, path_scope, TopName, item_named, all_items}
-use Rattle.wit_syntax.specs.Foreign.{visited, foreign_interfaces}
 use Rattle.wit_syntax.specs.Broken.{is_world_at}
 use Rattle.wit_arena.specs.Whole.{place_at}
 use Rattle.wit_arena.specs.Resolving.{Names, env_of}
@@ -16,10 +15,6 @@ use Rattle.wit_externs.specs.declared.held.HeldExtern.{HeldExtern}
 use Rattle.wit_externs.specs.declared.held.HeldExtern.TheVariants as held
 use Rattle.wit_scopes.specs.declared.scope_name.Source.{Source as HeldSource}
 use Rattle.wit_scopes.specs.declared.scope_name.Source.TheVariants as held_source
-
--- the addresses of other packages' interfaces
-abbrev pub interfaces_of_others : List PackageFile → List Address
-interfaces_of_others files = map visited (foreign_interfaces files)
 
 -- The place of the interface at an address: of a declared one that of its name, of another package's where it stands in front of the arena.
 abbrev pub interface_place : List Address → Names → Address → Option ℕ

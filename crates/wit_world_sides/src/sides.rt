@@ -181,7 +181,7 @@ fn interface_item(
 fn add_link<'f, 'a>(
     alloc: Global,
     link: &HeldLink<'f, 'a>,
-    interfaces: &Interfaces<'_, 'f, 'a>,
+    interfaces: &Interfaces<'_, '_, 'f, 'a>,
     sides: &mut WorldSides,
     place: usize,
 ) -> Result<(), AllocError>
@@ -219,7 +219,7 @@ fn add_inline(
 fn add_externs<'f, 'a>(
     alloc: Global,
     externs: &[HeldExtern<'f, 'a>],
-    interfaces: &Interfaces<'_, 'f, 'a>,
+    interfaces: &Interfaces<'_, '_, 'f, 'a>,
     sides: &mut WorldSides,
     standing: Standing,
 ) -> Result<(), AllocError>
@@ -272,7 +272,7 @@ pub fn world_sides<'f, 'a>(
     externs: &[HeldExtern<'f, 'a>],
     turn: &[Id<'_>],
     types: &TextTable<TypeId>,
-    interfaces: &Interfaces<'_, 'f, 'a>,
+    interfaces: &Interfaces<'_, '_, 'f, 'a>,
     standing: Standing,
     closed: bool,
 ) -> Result<WorldSides, AllocError>

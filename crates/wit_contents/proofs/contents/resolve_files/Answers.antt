@@ -1,9 +1,8 @@
-use Rattle.std.proofs.Common.{◌≡◌, List, ◌++◌, map, inl, inr, refl, sym, ap, ◌∙◌, subst}
+use Rattle.std.proofs.Common.{◌≡◌, List, ◌++◌, length, map, inl, inr, refl, sym, ap, ◌∙◌, subst, []}
 use Rattle.std.specs.List.{flat_map}
 use Rattle.std.proofs.lemmas.Result.{err_from_is_err_and}
 use Rattle.wit_syntax.specs.Address.{Address}
-use Rattle.wit_syntax.specs.Source.{Item, all_items}
-use Rattle.wit_syntax.specs.Foreign.{visited, foreign_interfaces, foreign_worlds}
+use Rattle.wit_syntax.specs.Source.{all_items}
 use Rattle.wit_syntax.specs.Scope.{in_order, interfaces_of, worlds_of}
 use Rattle.wit_syntax.specs.Broken.{IsBroken}
 use Rattle.wit_syntax.specs.Sides.{with_inline}
@@ -14,6 +13,8 @@ use Rattle.wit_arena.proofs.LegalScopes.{distinct_items}
 use Rattle.wit_arena.proofs.Finished.{broken_now, broken_world_now}
 use Rattle.wit_items.specs.Items.{item_behind, others_of}
 use Rattle.wit_items.proofs.Usable.{uses_broken, uses_sound}
+use Rattle.wit_items.proofs.Found.{found_none}
+use Rattle.wit_items.proofs.Gathered.{items_of}
 use Rattle.wit_item_names.specs.Interfaces.{front_of}
 use Rattle.wit_front.specs.Front.{IsFront}
 use Rattle.wit_uses.specs.Between.{Emits}
@@ -22,7 +23,7 @@ use Rattle.wit_contents.proofs.Outer.{all_outer}
 use Rattle.wit_contents.specs.BetweenWorlds.{arenas}
 use Rattle.wit_uses.proofs.Telling.{stability_both}
 use Rattle.wit_contents.proofs.Files.{sided_both, sound_both, uses_usable, held_within}
-use Rattle.wit_contents.proofs.Fronting.{front_started, front_taken, lent_front, lent_placed, lent_enough, lent_index, worlds_enough, worlds_index}
+use Rattle.wit_contents.proofs.Fronting.{front_started, front_taken, lent_enough, lent_index, worlds_enough, worlds_index}
 use Rattle.wit_contents.proofs.contents.resolve_files.Goals as goal
 
 pub returns-in_err-items-clause-refused : goal.returns-in_err-items-clause-refused
@@ -42,98 +43,96 @@ resolve_interfaces-requires-clause-within c = held_within c.args.names.now c.ite
 pub resolve_interfaces-requires-clause-outer : goal.resolve_interfaces-requires-clause-outer
 resolve_interfaces-requires-clause-outer c = subst AreOuter (sym (ap (map item_behind) c.deref_mut-lent.ensures.value ∙ c.in_ok-items.ensures.items)) (all_outer c.args.names.now)
 
-pub resolve_interfaces-requires-clause-placed : goal.resolve_interfaces-requires-clause-placed
-resolve_interfaces-requires-clause-placed c =
+pub resolve_interfaces-requires-clause-items : goal.resolve_interfaces-requires-clause-items
+resolve_interfaces-requires-clause-items c =
     let files = c.args.names.now in
     let e = c.in_ok-items.ensures in
-    let front : IsFront files c.take_all.new.types c.take_all.new.self = front_taken files c.foreign.result.now c.args.types.now c.in_ok-front.front c.in_ok-items.items.items c.deref_mut-lent.result.now c.foreign.ensures c.requires.empty c.in_ok-front.ensures.bare c.deref_mut-lent.ensures.value e.placed c.take_all.new.types c.take_all.new.self e.names e.inside c.in_ok-take_all.ensures.taken in
-    lent_placed files c.take_all.new.types c.take_all.new.self front c.deref-2.result.now c.deref-2.ensures.value c.in_ok-items.items.items c.deref_mut-lent.result.now c.deref_mut-lent.ensures.value e.placed
+    rw (c.of-named.ensures, c.deref_mut-lent.ensures.value) (items_of files c.in_ok-items.items.items e.items e.names e.inside e.filed e.placed)
 
-pub resolve_interfaces-requires-clause-front : goal.resolve_interfaces-requires-clause-front
-resolve_interfaces-requires-clause-front c =
+pub invariant_of-interfaces : goal.invariant_of-interfaces
+invariant_of-interfaces c =
     let files = c.args.names.now in
     let e = c.in_ok-items.ensures in
-    let front : IsFront files c.take_all.new.types c.take_all.new.self = front_taken files c.foreign.result.now c.args.types.now c.in_ok-front.front c.in_ok-items.items.items c.deref_mut-lent.result.now c.foreign.ensures c.requires.empty c.in_ok-front.ensures.bare c.deref_mut-lent.ensures.value e.placed c.take_all.new.types c.take_all.new.self e.names e.inside c.in_ok-take_all.ensures.taken in
-    lent_enough files c.take_all.new.types c.take_all.new.self front c.deref-2.result.now c.deref-2.ensures.value
+    let types = c.take_all.new.types in
+    let a = c.take_all.new.self in
+    let front : IsFront files types a = front_taken files c.foreign.result.now c.args.types.now c.in_ok-front.front c.in_ok-items.items.items c.deref_mut-lent.result.now c.foreign.ensures c.requires.empty c.in_ok-front.ensures.bare c.deref_mut-lent.ensures.value e.placed types a e.names e.inside c.in_ok-take_all.ensures.taken in
+    record {
+      front = rw c.of-named.ensures (lent_enough files types a front);
+      found = found_none (length (front_of c.of-named.result)) a.interfaces c.new.result c.new.ensures;
+    }
 
 pub resolve_interfaces-requires-clause-index : goal.resolve_interfaces-requires-clause-index
 resolve_interfaces-requires-clause-index c =
     let files = c.args.names.now in
     let e = c.in_ok-items.ensures in
-    let front : IsFront files c.take_all.new.types c.take_all.new.self = front_taken files c.foreign.result.now c.args.types.now c.in_ok-front.front c.in_ok-items.items.items c.deref_mut-lent.result.now c.foreign.ensures c.requires.empty c.in_ok-front.ensures.bare c.deref_mut-lent.ensures.value e.placed c.take_all.new.types c.take_all.new.self e.names e.inside c.in_ok-take_all.ensures.taken in
-    lent_index files c.take_all.new.types c.take_all.new.self front c.deref-2.result.now c.deref-2.ensures.value c.new.result c.new.ensures
+    let types = c.take_all.new.types in
+    let a = c.take_all.new.self in
+    let front : IsFront files types a = front_taken files c.foreign.result.now c.args.types.now c.in_ok-front.front c.in_ok-items.items.items c.deref_mut-lent.result.now c.foreign.ensures c.requires.empty c.in_ok-front.ensures.bare c.deref_mut-lent.ensures.value e.placed types a e.names e.inside c.in_ok-take_all.ensures.taken in
+    rw c.of-named.ensures (lent_index files types a front c.new.result c.new.ensures)
 
 pub resolve_worlds-requires-clause-within : goal.resolve_worlds-requires-clause-within
 resolve_worlds-requires-clause-within c = held_within c.args.names.now c.item_order-order.result.now c.deref_mut-lent.result.now c.item_order-order.ensures (ap (map item_behind) c.deref_mut-lent.ensures.value ∙ c.in_ok-items.ensures.items)
 
-pub resolve_worlds-requires-clause-placed : goal.resolve_worlds-requires-clause-placed
-resolve_worlds-requires-clause-placed c =
+pub resolve_worlds-requires-clause-items : goal.resolve_worlds-requires-clause-items
+resolve_worlds-requires-clause-items c =
     let files = c.args.names.now in
     let e = c.in_ok-items.ensures in
-    let front : IsFront files c.take_all.new.types c.take_all.new.self = front_taken files c.foreign.result.now c.args.types.now c.in_ok-front.front c.in_ok-items.items.items c.deref_mut-lent.result.now c.foreign.ensures c.requires.empty c.in_ok-front.ensures.bare c.deref_mut-lent.ensures.value e.placed c.take_all.new.types c.take_all.new.self e.names e.inside c.in_ok-take_all.ensures.taken in
-    lent_placed files c.take_all.new.types c.take_all.new.self front c.resolve_interfaces.new.interfaces.foreign.now (ap (λ r. r.now) c.in_ok-resolve_interfaces.ensures.foreign ∙ c.deref-2.ensures.value) c.in_ok-items.items.items c.deref_mut-lent.result.now c.deref_mut-lent.ensures.value e.placed
+    let kept : c.resolve_interfaces.new.interfaces.files ≡ files = c.in_ok-resolve_interfaces.ensures.files ∙ c.of-named.ensures in
+    rw (kept, c.deref_mut-lent.ensures.value) (items_of files c.in_ok-items.items.items e.items e.names e.inside e.filed e.placed)
 
-pub resolve_worlds-requires-clause-others : goal.resolve_worlds-requires-clause-others
-resolve_worlds-requires-clause-others c =
+pub resolve_worlds-requires-clause-front : goal.resolve_worlds-requires-clause-front
+resolve_worlds-requires-clause-front c =
     let files = c.args.names.now in
     let e = c.in_ok-items.ensures in
-    let front : IsFront files c.take_all.new.types c.take_all.new.self = front_taken files c.foreign.result.now c.args.types.now c.in_ok-front.front c.in_ok-items.items.items c.deref_mut-lent.result.now c.foreign.ensures c.requires.empty c.in_ok-front.ensures.bare c.deref_mut-lent.ensures.value e.placed c.take_all.new.types c.take_all.new.self e.names e.inside c.in_ok-take_all.ensures.taken in
-    lent_front files c.take_all.new.types c.take_all.new.self front c.resolve_interfaces.new.interfaces.foreign.now (ap (λ r. r.now) c.in_ok-resolve_interfaces.ensures.foreign ∙ c.deref-2.ensures.value)
+    let types = c.take_all.new.types in
+    let a = c.take_all.new.self in
+    let front : IsFront files types a = front_taken files c.foreign.result.now c.args.types.now c.in_ok-front.front c.in_ok-items.items.items c.deref_mut-lent.result.now c.foreign.ensures c.requires.empty c.in_ok-front.ensures.bare c.deref_mut-lent.ensures.value e.placed types a e.names e.inside c.in_ok-take_all.ensures.taken in
+    let kept : c.resolve_interfaces.new.interfaces.files ≡ c.args.names.now = c.in_ok-resolve_interfaces.ensures.files ∙ c.of-named.ensures in
+    rw kept (worlds_enough files types a front)
 
-pub resolve_worlds-requires-clause-worlds_front : goal.resolve_worlds-requires-clause-worlds_front
-resolve_worlds-requires-clause-worlds_front c =
+pub resolve_worlds-requires-clause-index : goal.resolve_worlds-requires-clause-index
+resolve_worlds-requires-clause-index c =
     let files = c.args.names.now in
     let e = c.in_ok-items.ensures in
-    let front : IsFront files c.take_all.new.types c.take_all.new.self = front_taken files c.foreign.result.now c.args.types.now c.in_ok-front.front c.in_ok-items.items.items c.deref_mut-lent.result.now c.foreign.ensures c.requires.empty c.in_ok-front.ensures.bare c.deref_mut-lent.ensures.value e.placed c.take_all.new.types c.take_all.new.self e.names e.inside c.in_ok-take_all.ensures.taken in
-    worlds_enough files c.take_all.new.types c.take_all.new.self front
-
-pub resolve_worlds-requires-clause-worlds_index : goal.resolve_worlds-requires-clause-worlds_index
-resolve_worlds-requires-clause-worlds_index c =
-    let files = c.args.names.now in
-    let e = c.in_ok-items.ensures in
-    let front : IsFront files c.take_all.new.types c.take_all.new.self = front_taken files c.foreign.result.now c.args.types.now c.in_ok-front.front c.in_ok-items.items.items c.deref_mut-lent.result.now c.foreign.ensures c.requires.empty c.in_ok-front.ensures.bare c.deref_mut-lent.ensures.value e.placed c.take_all.new.types c.take_all.new.self e.names e.inside c.in_ok-take_all.ensures.taken in
-    worlds_index files c.take_all.new.types c.take_all.new.self front c.new-2.result c.new-2.ensures
+    let types = c.take_all.new.types in
+    let a = c.take_all.new.self in
+    let front : IsFront files types a = front_taken files c.foreign.result.now c.args.types.now c.in_ok-front.front c.in_ok-items.items.items c.deref_mut-lent.result.now c.foreign.ensures c.requires.empty c.in_ok-front.ensures.bare c.deref_mut-lent.ensures.value e.placed types a e.names e.inside c.in_ok-take_all.ensures.taken in
+    let kept : c.resolve_interfaces.new.interfaces.files ≡ c.args.names.now = c.in_ok-resolve_interfaces.ensures.files ∙ c.of-named.ensures in
+    rw kept (worlds_index files types a front [] refl)
 
 pub returns-in_err-resolve_interfaces-clause-refused : goal.returns-in_err-resolve_interfaces-clause-refused
 returns-in_err-resolve_interfaces-clause-refused c =
     let p = err_from_is_err_and c.from_residual-in_err-resolve_interfaces.result c.from_residual-in_err-resolve_interfaces.ensures.1 in
     let files = c.args.names.now in
     let e = c.in_ok-items.ensures in
-    let front : IsFront files c.take_all.new.types c.take_all.new.self = front_taken files c.foreign.result.now c.args.types.now c.in_ok-front.front c.in_ok-items.items.items c.deref_mut-lent.result.now c.foreign.ensures c.requires.empty c.in_ok-front.ensures.bare c.deref_mut-lent.ensures.value e.placed c.take_all.new.types c.take_all.new.self e.names e.inside c.in_ok-take_all.ensures.taken in
-    let held = c.deref-2.result.now in
-    let items = c.deref_mut-lent.result.now in
-    let places = c.item_order-order.result.now in
     let types = c.take_all.new.types in
     let a = c.take_all.new.self in
+    let front : IsFront files types a = front_taken files c.foreign.result.now c.args.types.now c.in_ok-front.front c.in_ok-items.items.items c.deref_mut-lent.result.now c.foreign.ensures c.requires.empty c.in_ok-front.ensures.bare c.deref_mut-lent.ensures.value e.placed types a e.names e.inside c.in_ok-take_all.ensures.taken in
+    let items = c.deref_mut-lent.result.now in
+    let places = c.item_order-order.result.now in
     let all : map item_behind items ≡ all_items files = ap (map item_behind) c.deref_mut-lent.ensures.value ∙ e.items in
     let order = c.item_order-order.ensures in
     let differ = distinct_items files c.requires.legal in
-    let same = lent_front files types a front held c.deref-2.ensures.value in
-    rw (p.1, p.2) (refused_weaker (IsWrongNow (front_of held) types a.interfaces (map item_behind items) places) (IsBroken files) _ (λ f h. broken_now files places order differ (uses_usable files (uses_sound files e.first)) types a.interfaces a.worlds front.adds f (subst (λ (l : List Item). IsWrongNow (map visited (foreign_interfaces files)) types a.interfaces l places f) all (subst (λ (ss : List Address). IsWrongNow ss types a.interfaces (map item_behind items) places f) same h))) c.in_err-resolve_interfaces.ensures.refused)
+    rw (p.1, p.2) (refused_weaker (IsWrongNow (front_of files) types a.interfaces (all_items files) places) (IsBroken files) _ (λ f h. broken_now files places order differ (uses_usable files (uses_sound files e.first)) types a.interfaces a.worlds front.adds f h) (rw (c.of-named.ensures, all) at c.in_err-resolve_interfaces.ensures.refused))
 
-pub returns-in_err-resolve_worlds-clause-refused : goal.returns-in_err-resolve_worlds-clause-refused
-returns-in_err-resolve_worlds-clause-refused c =
-    let p = err_from_is_err_and c.from_residual-in_err-resolve_worlds.result c.from_residual-in_err-resolve_worlds.ensures.1 in
+pub returns-in_err-made-clause-refused : goal.returns-in_err-made-clause-refused
+returns-in_err-made-clause-refused c =
+    let p = err_from_is_err_and c.from_residual-in_err-made.result c.from_residual-in_err-made.ensures.1 in
     let files = c.args.names.now in
     let e = c.in_ok-items.ensures in
     let types = c.take_all.new.types in
     let a = c.take_all.new.self in
     let front : IsFront files types a = front_taken files c.foreign.result.now c.args.types.now c.in_ok-front.front c.in_ok-items.items.items c.deref_mut-lent.result.now c.foreign.ensures c.requires.empty c.in_ok-front.ensures.bare c.deref_mut-lent.ensures.value e.placed types a e.names e.inside c.in_ok-take_all.ensures.taken in
+    let kept : c.resolve_interfaces.new.interfaces.files ≡ c.args.names.now = c.in_ok-resolve_interfaces.ensures.files ∙ c.of-named.ensures in
     let places = c.item_order-order.result.now in
     let now = c.resolve_interfaces.new.interfaces in
     let middle = c.resolve_interfaces.new.types in
     let all : map item_behind c.deref_mut-lent.result.now ≡ all_items files = ap (map item_behind) c.deref_mut-lent.ensures.value ∙ e.items in
-    let held : front_of c.deref-2.result.now ≡ map visited (foreign_interfaces files) = lent_front files types a front c.deref-2.result.now c.deref-2.ensures.value in
-    let kept : front_of now.foreign.now ≡ map visited (foreign_interfaces files) = lent_front files types a front now.foreign.now (ap (λ r. r.now) c.in_ok-resolve_interfaces.ensures.foreign ∙ c.deref-2.ensures.value) in
     let irs = c.resolve_interfaces.new.required.items in
-    let from : Emits c.new-required.result.items irs (λ rs. AddsInterfaces (front_of c.deref-2.result.now) types middle a.interfaces now.arena rs (interfaces_of (in_order (all_items files) places))) = rw all at c.in_ok-resolve_interfaces.ensures.added in
-    let added : AddsInterfaces (map visited (foreign_interfaces files)) types middle a.interfaces now.arena from.own (interfaces_of (in_order (all_items files) places)) = subst (λ (ss : List Address). AddsInterfaces ss types middle a.interfaces now.arena from.own (interfaces_of (in_order (all_items files) places))) held from.holds in
-    let items = c.deref_mut-lent.result.now in
-    let index : IsIndex (cells (map visited (foreign_interfaces files)) now.arena) now.by_name = subst (λ (ss : List Address). IsIndex (cells ss now.arena) now.by_name) kept c.in_ok-resolve_interfaces.ensures.index in
+    let from : Emits c.new-required.result.items irs (λ rs. AddsInterfaces (front_of files) types middle a.interfaces now.arena rs (interfaces_of (in_order (all_items files) places))) = rw (c.of-named.ensures, all) at c.in_ok-resolve_interfaces.ensures.added in
+    let index : IsIndex (cells (front_of files) now.arena) now.by_name = rw kept at c.in_ok-resolve_interfaces.ensures.index in
     let differ = distinct_items files c.requires.legal in
-    rw (p.1, p.2) (refused_weaker (IsWrongWorldNow files (front_of now.foreign.now) (others_of files) middle now.arena now.by_name a.worlds (map item_behind items) places) (IsBroken files) _ (λ f h. broken_world_now files places c.item_order-order.ensures differ (uses_usable files (uses_sound files e.first)) types a.interfaces a.worlds front.adds middle now.arena from.own added now.by_name index f (
-    subst (λ (l : List Item). IsWrongWorldNow files (map visited (foreign_interfaces files)) (map visited (foreign_worlds files)) middle now.arena now.by_name a.worlds l places f) all (
-    subst (λ (ss : List Address). IsWrongWorldNow files ss (others_of files) middle now.arena now.by_name a.worlds (map item_behind items) places f) kept h))) c.in_err-resolve_worlds.ensures.refused)
+    rw (p.1, p.2) (refused_weaker (IsWrongWorldNow files (front_of files) (others_of files) middle now.arena now.by_name a.worlds (all_items files) places) (IsBroken files) _ (λ f h. broken_world_now files places c.item_order-order.ensures differ (uses_usable files (uses_sound files e.first)) types a.interfaces a.worlds front.adds middle now.arena from.own from.holds now.by_name index f h) (rw (kept, all) at c.in_err-made.ensures.refused))
 
 pub returns-clause-added : goal.returns-clause-added
 returns-clause-added c =
@@ -142,26 +141,25 @@ returns-clause-added c =
     let types = c.take_all.new.types in
     let a = c.take_all.new.self in
     let front : IsFront files types a = front_taken files c.foreign.result.now c.args.types.now c.in_ok-front.front c.in_ok-items.items.items c.deref_mut-lent.result.now c.foreign.ensures c.requires.empty c.in_ok-front.ensures.bare c.deref_mut-lent.ensures.value e.placed types a e.names e.inside c.in_ok-take_all.ensures.taken in
+    let kept : c.resolve_interfaces.new.interfaces.files ≡ c.args.names.now = c.in_ok-resolve_interfaces.ensures.files ∙ c.of-named.ensures in
     let places = c.item_order-order.result.now in
     let now = c.resolve_interfaces.new.interfaces in
     let middle = c.resolve_interfaces.new.types in
     let all : map item_behind c.deref_mut-lent.result.now ≡ all_items files = ap (map item_behind) c.deref_mut-lent.ensures.value ∙ e.items in
-    let held : front_of c.deref-2.result.now ≡ map visited (foreign_interfaces files) = lent_front files types a front c.deref-2.result.now c.deref-2.ensures.value in
-    let kept : front_of now.foreign.now ≡ map visited (foreign_interfaces files) = lent_front files types a front now.foreign.now (ap (λ r. r.now) c.in_ok-resolve_interfaces.ensures.foreign ∙ c.deref-2.ensures.value) in
     let irs = c.resolve_interfaces.new.required.items in
-    let from : Emits c.new-required.result.items irs (λ rs. AddsInterfaces (front_of c.deref-2.result.now) types middle a.interfaces now.arena rs (interfaces_of (in_order (all_items files) places))) = rw all at c.in_ok-resolve_interfaces.ensures.added in
-    let added : AddsInterfaces (map visited (foreign_interfaces files)) types middle a.interfaces now.arena from.own (interfaces_of (in_order (all_items files) places)) = subst (λ (ss : List Address). AddsInterfaces ss types middle a.interfaces now.arena from.own (interfaces_of (in_order (all_items files) places))) held from.holds in
-    let ws = c.in_ok-resolve_worlds.ensures in
+    let from : Emits c.new-required.result.items irs (λ rs. AddsInterfaces (front_of files) types middle a.interfaces now.arena rs (interfaces_of (in_order (all_items files) places))) = rw (c.of-named.ensures, all) at c.in_ok-resolve_interfaces.ensures.added in
+    let ws = c.in_ok-made.ensures in
     let new = c.resolve_worlds.new in
+    let made = c.in_ok-made.made in
     let sound : AreSoundScopes (interfaces_of (in_order (all_items files) places)) = rw all at c.in_ok-resolve_interfaces.ensures.sound in
     let sound' : AreSoundScopes (flat_map with_inline (worlds_of (in_order (all_items files) places))) = rw all at ws.sound in
     let sided : AreLegalSides (interfaces_of (in_order (all_items files) places)) = rw all at c.in_ok-resolve_interfaces.ensures.sided in
     let sided' : AreLegalSides (flat_map with_inline (worlds_of (in_order (all_items files) places))) = rw all at ws.sided in
-    let linked : AreUsableLinks files (worlds_of (in_order (all_items files) places)) = rw all at ws.linked in
+    let linked : AreUsableLinks files (worlds_of (in_order (all_items files) places)) = rw (kept, all) at ws.linked in
     let stable : HaveLegalStability (interfaces_of (in_order (all_items files) places)) = rw all at c.in_ok-resolve_interfaces.ensures.stable in
     let stable' : HaveLegalStability (worlds_of (in_order (all_items files) places)) = rw all at ws.stable in
-    let said : Emits irs new.required.items (λ rs. (ss : List Address) × AddsWorlds (front_of now.foreign.now) (others_of files) now.arena middle new.types (front_worlds a.worlds) (arenas new.worlds.arena new.inside ss) rs (worlds_of (in_order (all_items files) places))) = rw all at ws.added in
-    let behind : WorldArenas = arenas new.worlds.arena new.inside said.holds.0 in
+    let said : Emits irs new.required.items (λ rs. (ss : List Address) × AddsWorlds (front_of files) (others_of files) now.arena middle new.types (front_worlds a.worlds) (arenas made.0 made.1 ss) rs (worlds_of (in_order (all_items files) places))) = rw (kept, all) at ws.added in
+    let behind : WorldArenas = arenas made.0 made.1 said.holds.0 in
     record {
       places = places;
       order = c.item_order-order.ensures;
@@ -180,8 +178,8 @@ returns-clause-added c =
       irs = from.own;
       wrs = said.own;
       requires = said.list ∙ ap (λ (l : List Required). l ++ said.own) (from.list ∙ ap (λ (l : List Required). l ++ from.own) c.new-required.ensures.items);
-      interfaces = added;
-      worlds = subst (λ (ss : List Address). AddsWorlds ss (others_of files) now.arena middle new.types (front_worlds a.worlds) behind said.own (worlds_of (in_order (all_items files) places))) kept said.holds.1;
+      interfaces = from.holds;
+      worlds = said.holds.1;
       sided = sided_both (in_order (all_items files) places) sided sided';
       linked = linked;
       sound = sound_both (in_order (all_items files) places) sound sound';

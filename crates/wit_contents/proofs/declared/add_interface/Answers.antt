@@ -1,14 +1,27 @@
-use Rattle.std.proofs.Common.{◌≤◌, length, arith}
-use Rattle.std.proofs.lemmas.List.{length-map}
-use Rattle.wit_files.specs.Foreign.{foreign_behind}
-use Rattle.wit_syntax.specs.Foreign.{visited}
+use Rattle.std.proofs.Common.{[], ◌∷◌, length}
 use Rattle.wit_arena.proofs.Indexing.{index_interface}
 use Rattle.wit_item_names.specs.Interfaces.{front_of}
+use Rattle.wit_items.proofs.Found.{found_put, found_wider, front_wider}
 use Rattle.wit_contents.proofs.declared.add_interface.Goals as goal
+
+pub invariant_of-interfaces-in-Break-branch-2 : goal.invariant_of-interfaces-in-Break-branch-2
+invariant_of-interfaces-in-Break-branch-2 c =
+    let is = c.args.interfaces.now in
+    rw c.in_ok-place.ensures.ok (record {
+      front = front_wider (length (front_of is.files)) is.arena (c.args.interface ∷ []) is.front;
+      found = found_wider (length (front_of is.files)) is.arena (c.args.interface ∷ []) is.by_name is.found;
+    })
+
+pub invariant_of-interfaces-2 : goal.invariant_of-interfaces-2
+invariant_of-interfaces-2 c =
+    let is = c.args.interfaces.now in
+    let put = rw (c.in_ok-name.ensures.ok, c.in_ok-place.ensures.id) at c.put.ensures.ok in
+    rw c.in_ok-place.ensures.ok (record {
+      front = front_wider (length (front_of is.files)) is.arena (c.args.interface ∷ []) is.front;
+      found = found_put c.put.result (length (front_of is.files)) is.arena is.by_name _ c.args.interface c.args.name.now is.front is.found c.requires.named put c.put.ensures.err;
+    })
 
 pub returns-clause-index : goal.returns-clause-index
 returns-clause-index c =
     let is = c.args.interfaces.now in
-    let front = front_of is.foreign.now in
-    let enough : length front ≤ length is.arena = omega (arith, length-map is.foreign.now (λ v. visited (foreign_behind v)), c.requires.front) in
-    rw (c.in_ok-place.ensures.ok, c.in_ok-put.ensures.ok, c.in_ok-name.ensures.ok, c.in_ok-place.ensures.id) (index_interface front is.arena is.by_name c.args.interface c.args.name.now enough c.requires.index c.requires.named)
+    rw (c.in_ok-place.ensures.ok, c.in_ok-put.ensures.ok, c.in_ok-name.ensures.ok, c.in_ok-place.ensures.id) (index_interface (front_of is.files) is.arena is.by_name c.args.interface c.args.name.now is.front c.requires.index c.requires.named)

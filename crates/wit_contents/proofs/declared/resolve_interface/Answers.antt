@@ -23,10 +23,10 @@ pub interface_of-requires-clause-stands : goal.interface_of-requires-clause-stan
 interface_of-requires-clause-stands c = ap (λ (i : Id). i.span) c.requires.id.0 ∙ ap (λ (i : Item). (about i.declared).id.span) (sym c.scope-scope.ensures.item)
 
 pub interface_of-requires-clause-named : goal.interface_of-requires-clause-named
-interface_of-requires-clause-named c = c.scope-scope.ensures.names ∙ c.requires.named ∙ ap scope_names (sym c.scope-scope.ensures.item)
+interface_of-requires-clause-named c = c.scope-scope.ensures.names ∙ c.requires.item.named ∙ ap scope_names (sym c.scope-scope.ensures.item)
 
 pub interface_of-requires-clause-placed : goal.interface_of-requires-clause-placed
-interface_of-requires-clause-placed c = rw c.scope-scope.ensures.held c.requires.placed
+interface_of-requires-clause-placed c = rw c.scope-scope.ensures.held (c.requires.item.placed.each 0 c.args.item.now refl)
 
 pub returns-in_err-interface-clause-refused : goal.returns-in_err-interface-clause-refused
 returns-in_err-interface-clause-refused c =

@@ -1,34 +1,25 @@
-use Rattle.std.proofs.Common.{◌≡◌, ℕ, ◌<◌, ◌≤◌, ◌+◌, ◌++◌, ◌∷◌, List, [], All, arith, take, length, get_or, true, false, not, Some, ap, sym, ◌∙◌}
+use Rattle.std.proofs.Common.{◌≡◌, ℕ, ◌<◌, ◌+◌, ◌++◌, ◌∷◌, List, [], All, take, length, get_or, true, false, not, Some, ap, sym, ◌∙◌}
 use Rattle.std.specs.Prelude.{slice_get, map}
 use Rattle.std.proofs.lemmas.Option.{slice_get-get_or}
 use Rattle.std.proofs.lemmas.Result.{err_from_is_err_and}
-use Rattle.std.proofs.lemmas.List.{length-append}
-use Rattle.wit_types.specs.declared.types.TypeDef.{TypeDef}
-use Rattle.wit_model.specs.declared.interface.Interface.{Interface}
-use Rattle.wit_syntax.specs.Address.{Address}
-use Rattle.wit_syntax.specs.Source.{Item, is_world, scope_names, about}
+use Rattle.wit_syntax.specs.Source.{is_world, about}
 use Rattle.wit_syntax.specs.Scope.{in_order, interfaces_of}
-use Rattle.wit_arena.specs.Resolving.{Required, cells}
+use Rattle.wit_arena.specs.Resolving.{cells}
 use Rattle.wit_arena.specs.Resolved.{AddsDeclared, IsWrongInterface, IsWrongNow}
 use Rattle.wit_types.specs.declared.types.TypeOwner.TheVariants.{Interface as OfInterface}
 use Rattle.wit_item_names.specs.Interfaces.{front_of}
 use Rattle.wit_uses.specs.Between.{Emits}
 use Rattle.wit_items.specs.declared.items.Item.{Item as HeldItem}
-use Rattle.wit_syntax.proofs.Lists.{read_map, map_map}
+use Rattle.wit_syntax.proofs.Lists.{read_map}
 use Rattle.wit_syntax.proofs.Kept.{kept_next, kept_past}
 use Rattle.wit_syntax.proofs.Refusing.{refused_weaker}
 use Rattle.wit_arena.proofs.Adding.{sounds_more}
 use Rattle.wit_uses.proofs.Emitting.{emits_more}
 use Rattle.wit_uses.proofs.Telling.{interface_stable, sides_more, stability_more}
 use Rattle.wit_items.specs.declared.items.Declared.{Declared as HeldDeclared}
-use Rattle.wit_items.specs.Items.{declared_behind, item_behind, names_behind}
-use Rattle.wit_scopes.proofs.Declaring.{alike}
+use Rattle.wit_items.specs.Items.{declared_behind, item_behind}
 use Rattle.wit_contents.proofs.declared.resolve_interfaces.Goals.{in-Interface+in_ok-resolve_interface-in-Interface, in-World, in-Inline}
 use Rattle.wit_contents.proofs.declared.resolve_interfaces.Goals as goal
-
--- the interfaces have one more
-grown : (foreign : List Address) (old new : List TypeDef) (is is' : List Interface) (rs : List Required) (w : Item) (n : ℕ) → AddsDeclared foreign old new is is' rs w → n ≤ length is → n ≤ length is'
-grown foreign old new is is' rs w n one enough = omega (arith, ap length one.last, length-append is (one.added ∷ []), enough)
 
 item_at : (items : List HeldItem) (places : List ℕ) (k : ℕ) (x : HeldItem) → All (λ (place : ℕ). place < length items) places → k < length places → x ≡ get_or items (get_or places k 0) x → slice_get items (get_or places k 0) ≡ Some x
 item_at items places k x within lt is = slice_get-get_or items (get_or places k 0) x (within k 0 lt) ∙ ap Some (sym is)
@@ -36,28 +27,16 @@ item_at items places k x within lt is = slice_get-get_or items (get_or places k 
 pub resolve_interface-requires-clause-sort : goal.resolve_interface-requires-clause-sort
 resolve_interface-requires-clause-sort c = ap (λ (d : HeldDeclared). (about (declared_behind d)).is_world) c.in-Interface.is
 
-pub resolve_interface-requires-clause-placed : goal.resolve_interface-requires-clause-placed
-resolve_interface-requires-clause-placed c =
+pub resolve_interface-requires-clause-item : goal.resolve_interface-requires-clause-item
+resolve_interface-requires-clause-item c =
     let there = item_at c.args.items.now c.args.places.now c.loop-place.place-index c.index-items-place.result c.requires.within c.loop-place-test.true c.index-items-place.is in
-    rw c.loop-place.invariant.foreign (c.requires.placed.each _ c.index-items-place.result there)
-
-pub resolve_interface-requires-clause-front : goal.resolve_interface-requires-clause-front
-resolve_interface-requires-clause-front c = rw c.loop-place.invariant.foreign c.loop-place.invariant.front
+    rw c.loop-place.invariant.files (c.requires.items.each _ c.index-items-place.result there)
 
 pub resolve_interface-requires-clause-index : goal.resolve_interface-requires-clause-index
-resolve_interface-requires-clause-index c = rw c.loop-place.invariant.foreign c.loop-place.invariant.index
+resolve_interface-requires-clause-index c = rw c.loop-place.invariant.files c.loop-place.invariant.index
 
 pub returns-clause-index : goal.returns-clause-index
-returns-clause-index c = rw c.loop-place.invariant.foreign c.loop-place.invariant.index
-
-pub resolve_interface-requires-clause-named : goal.resolve_interface-requires-clause-named
-resolve_interface-requires-clause-named c =
-    let items = c.args.items.now in
-    let p = get_or c.args.places.now c.loop-place.place-index 0 in
-    let x = c.index-items-place.result in
-    let within : p < length items = c.requires.within c.loop-place.place-index 0 c.loop-place-test.true in
-    let there : slice_get items p ≡ Some x = slice_get-get_or items p x within ∙ ap Some (sym c.index-items-place.is) in
-    alike names_behind (λ i. scope_names (item_behind i)) items (c.requires.named ∙ map_map scope_names item_behind items) p x there
+returns-clause-index c = rw c.loop-place.invariant.files c.loop-place.invariant.index
 
 pub returns-in_err-resolve_interface-in-Interface-clause-refused : goal.returns-in_err-resolve_interface-in-Interface-clause-refused
 returns-in_err-resolve_interface-in-Interface-clause-refused c =
@@ -73,7 +52,7 @@ returns-in_err-resolve_interface-in-Interface-clause-refused c =
     let within : p < length c.args.items.now = c.requires.within i 0 c.loop-place-test.true in
     let there : slice_get ws p ≡ Some w = read_map item_behind c.args.items.now p x within c.index-items-place.is in
     let sort : is_world w ≡ false = ap (λ (d : HeldDeclared). (about (declared_behind d)).is_world) c.in-Interface.is in
-    let foreign = front_of c.args.interfaces.now.foreign.now in
+    let foreign = front_of c.args.interfaces.now.files in
     rw (q.1, q.2) (refused_weaker (IsWrongInterface c.loop-place.types (cells foreign now.arena) now.by_name (OfInterface (length now.arena)) w) (IsWrongNow foreign c.args.types.now c.args.interfaces.now.arena ws places) _ (λ f h. record {
       count = i;
       item = w;
@@ -86,7 +65,7 @@ returns-in_err-resolve_interface-in-Interface-clause-refused c =
       by_name = now.by_name;
       index = c.loop-place.invariant.index;
       wrong = h;
-    }) (rw c.loop-place.invariant.foreign at c.in_err-resolve_interface-in-Interface.ensures.refused))
+    }) (rw c.loop-place.invariant.files at c.in_err-resolve_interface-in-Interface.ensures.refused))
 
 pub loop-place-preserved : goal.loop-place-preserved
 loop-place-preserved c =
@@ -110,13 +89,12 @@ loop-place-preserved c =
           let e = b.in_ok-resolve_interface-in-Interface.ensures in
           let new = b.resolve_interface.new.interfaces.arena in
           let types = b.resolve_interface.new.types in
-          let foreign = front_of c.args.interfaces.now.foreign.now in
+          let foreign = front_of c.args.interfaces.now.files in
           let required = b.resolve_interface.new.required.items in
-          let one : Emits c.loop-place.required.items required (λ rs. AddsDeclared foreign c.loop-place.types types before new rs w) = rw was.foreign at e.added in
-          let same = e.foreign ∙ was.foreign in
+          let one : Emits c.loop-place.required.items required (λ rs. AddsDeclared foreign c.loop-place.types types before new rs w) = rw was.files at e.added in
+          let same = e.files ∙ was.files in
           rw (b.interfaces-is, b.types-is, b.required-is) (record {
-            foreign = same;
-            front = grown foreign c.loop-place.types types before new one.own w _ one.holds was.front;
+            files = same;
             added = rw more (emits_more (AddsDeclared foreign) c.args.types.now c.loop-place.types types c.args.interfaces.now.arena before new c.args.required.now.items c.loop-place.required.items required front w was.added one);
             index = rw same at e.index;
             sound = rw more (sounds_more front w was.sound e.sound);
@@ -126,6 +104,6 @@ loop-place-preserved c =
       | in-World b ↦ (
           let sort : not (is_world w) ≡ false = ap (λ (d : HeldDeclared). not (about (declared_behind d)).is_world) b.in-World.is in
           let past : interfaces_of (in_order ws (take (i + 1) places)) ≡ front = kept_past (λ v. not (is_world v)) ws places i p w at there sort in
-          rw (b.interfaces-is, b.types-is, b.required-is) (record { foreign = was.foreign; front = was.front; added = rw past was.added; index = was.index; sound = rw past was.sound; stable = rw past was.stable; sided = rw past was.sided }))
+          rw (b.interfaces-is, b.types-is, b.required-is) (record { files = was.files; added = rw past was.added; index = was.index; sound = rw past was.sound; stable = rw past was.stable; sided = rw past was.sided }))
       | in-Inline b ↦ absurd (c.requires.outer.outer p w _ _ _ _ _ there (ap declared_behind b.in-Inline.is))
     ]

@@ -16,14 +16,11 @@ use Rattle.wit_uses.specs.Behind.{IsTurn}
 use Rattle.wit_item_entries.specs.Body.{IsHeldBy, IsWrongBody}
 use Rattle.wit_item_entries.proofs.InterfaceSides.{all_imported, names_imported}
 use Rattle.wit_item_entries.proofs.WrongNames.{wrong_interface}
-use Rattle.wit_item_entries.proofs.ScopeFunctions.{turn_added, turn_listed, made_differ}
+use Rattle.wit_item_entries.proofs.ScopeFunctions.{turn_added, made_differ}
 use Rattle.wit_contents.proofs.interface.functions_of.Goals as goal
 
 pub resolve_item_functions-requires-clause-of : goal.resolve_item_functions-requires-clause-of
 resolve_item_functions-requires-clause-of c = (scope_item c.args.item.now, record { declared = refl; names = sym c.requires.named })
-
-pub resolve_item_functions-requires-clause-listed : goal.resolve_item_functions-requires-clause-listed
-resolve_item_functions-requires-clause-listed c = turn_listed _ _ _ _ _ _ _ _ c.requires.added.3
 
 pub resolve_item_functions-requires-clause-turn : goal.resolve_item_functions-requires-clause-turn
 resolve_item_functions-requires-clause-turn c =

@@ -85,7 +85,7 @@ resolve_written-requires-clause-within c =
     let at : slice_get hs k ≡ Some (held.Inline w) = held_here hs k c.index-externs-place.result (held.Inline w) (omega arith) c.index-externs-place.is c.in-Inline.is in
     let split = c.requires.sides ∙ split_at xs k (extern_behind (held.Inline w)) (behind_at hs k (held.Inline w) at) in
     let count : c.on-counts.result ≡ counted (items_on side (take k xs)) = c.on-counts.ensures ∙ c.loop-place.invariant.met.on side in
-    names_within (inside_behind side c.args.item.now) (item_behind c.args.item.now) (take k xs) (drop (k + 1) xs) w.written.now w.name w.items.now c.on-counts.result.inline (c.requires.written side) split (ap (λ (n : Counts). n.inline) count)
+    names_within (inside_behind side c.args.item.now) (item_behind c.args.item.now) (take k xs) (drop (k + 1) xs) w.written.now w.name w.items.now c.on-counts.result.inline (c.requires.item.written side) split (ap (λ (n : Counts). n.inline) count)
 
 pub resolve_written-requires-clause-named : goal.resolve_written-requires-clause-named
 resolve_written-requires-clause-named c = λ names u read is.
@@ -97,7 +97,7 @@ resolve_written-requires-clause-named c = λ names u read is.
     let at : slice_get hs k ≡ Some (held.Inline w) = held_here hs k c.index-externs-place.result (held.Inline w) (omega arith) c.index-externs-place.is c.in-Inline.is in
     let split = c.requires.sides ∙ split_at xs k (extern_behind (held.Inline w)) (behind_at hs k (held.Inline w) at) in
     let count : c.on-counts.result ≡ counted (items_on side (take k xs)) = c.on-counts.ensures ∙ c.loop-place.invariant.met.on side in
-    names_own (inside_behind side c.args.item.now) (item_behind c.args.item.now) u (take k xs) (drop (k + 1) xs) w.written.now w.name w.items.now c.on-counts.result.inline c.on-counts.result.interfaces names (c.requires.written side) split (ap (λ (n : Counts). n.inline) count) is read
+    names_own (inside_behind side c.args.item.now) (item_behind c.args.item.now) u (take k xs) (drop (k + 1) xs) w.written.now w.name w.items.now c.on-counts.result.inline c.on-counts.result.interfaces names (c.requires.item.written side) split (ap (λ (n : Counts). n.inline) count) is read
 
 pub resolve_function-requires-clause-place : goal.resolve_function-requires-clause-place
 resolve_function-requires-clause-place c =

@@ -40,7 +40,7 @@ returns-then-not-have_upper_case-clause-adds c =
     let xs = c.args.item.now.names.items in
     let hs = c.args.externs.now in
     let none : hs ≡ [] = nil_from_length hs (omega (arith, c.if-externs-eq0.true)) in
-    let own : IsStandingBy i xs hs = record { names = sym c.requires.named; sides = c.requires.sides } in
+    let own : IsStandingBy i xs hs = record { names = sym c.requires.item.named; sides = c.requires.sides } in
     rw c.nothing_standing.ensures.functions (nothing_added i xs hs own none (cells_of c.args.interfaces.now) (length c.args.interfaces.now.arena) c.args.names.now.types c.args.types.now c.args.inside.now c.args.names.now.required.items)
 
 pub returns-then-not-have_upper_case-clause-counted : goal.returns-then-not-have_upper_case-clause-counted
@@ -57,7 +57,7 @@ returns-then-not-have_upper_case-clause-grown c =
     let xs = c.args.item.now.names.items in
     let hs = c.args.externs.now in
     let none : hs ≡ [] = nil_from_length hs (omega (arith, c.if-externs-eq0.true)) in
-    let own : IsStandingBy i xs hs = record { names = sym c.requires.named; sides = c.requires.sides } in
+    let own : IsStandingBy i xs hs = record { names = sym c.requires.item.named; sides = c.requires.sides } in
     nothing_grown i xs hs own none (length c.args.inside.now)
 
 pub returns-then-not-have_upper_case-clause-named : goal.returns-then-not-have_upper_case-clause-named
@@ -93,7 +93,7 @@ returns-then-not-have_upper_case-clause-legal c =
     let xs = c.args.item.now.names.items in
     let hs = c.args.externs.now in
     let none : hs ≡ [] = nil_from_length hs (omega (arith, c.if-externs-eq0.true)) in
-    let own : IsStandingBy i xs hs = record { names = sym c.requires.named; sides = c.requires.sides } in
+    let own : IsStandingBy i xs hs = record { names = sym c.requires.item.named; sides = c.requires.sides } in
     λ k fn at f broken. absurd (no_function i xs hs own none k fn at)
 
 pub returns-then-not-have_upper_case-clause-sound : goal.returns-then-not-have_upper_case-clause-sound
@@ -102,7 +102,7 @@ returns-then-not-have_upper_case-clause-sound c =
     let xs = c.args.item.now.names.items in
     let hs = c.args.externs.now in
     let none : hs ≡ [] = nil_from_length hs (omega (arith, c.if-externs-eq0.true)) in
-    let own : IsStandingBy i xs hs = record { names = sym c.requires.named; sides = c.requires.sides } in
+    let own : IsStandingBy i xs hs = record { names = sym c.requires.item.named; sides = c.requires.sides } in
     nothing_sound i xs hs own none
 
 pub returns-then-not-have_upper_case-clause-sided : goal.returns-then-not-have_upper_case-clause-sided
@@ -111,7 +111,7 @@ returns-then-not-have_upper_case-clause-sided c =
     let xs = c.args.item.now.names.items in
     let hs = c.args.externs.now in
     let none : hs ≡ [] = nil_from_length hs (omega (arith, c.if-externs-eq0.true)) in
-    let own : IsStandingBy i xs hs = record { names = sym c.requires.named; sides = c.requires.sides } in
+    let own : IsStandingBy i xs hs = record { names = sym c.requires.item.named; sides = c.requires.sides } in
     nothing_sided i xs hs own none
 
 pub returns-then-not-have_upper_case-clause-paired : goal.returns-then-not-have_upper_case-clause-paired
@@ -120,7 +120,7 @@ returns-then-not-have_upper_case-clause-paired c =
     let xs = c.args.item.now.names.items in
     let hs = c.args.externs.now in
     let none : hs ≡ [] = nil_from_length hs (omega (arith, c.if-externs-eq0.true)) in
-    let own : IsStandingBy i xs hs = record { names = sym c.requires.named; sides = c.requires.sides } in
+    let own : IsStandingBy i xs hs = record { names = sym c.requires.item.named; sides = c.requires.sides } in
     none_alone i (externs_behind hs) c.requires.sides c.args.closed c.requires.closed (λ shut. nothing_alone i xs hs own none)
 
 pub returns-in_err-define_names-clause-refused : goal.returns-in_err-define_names-clause-refused
@@ -137,10 +137,10 @@ resolve_externs-requires-clause-owners c =
     let i = item_behind c.args.item.now in
     let xs = c.args.item.now.names.items in
     let hs = c.args.externs.now in
-    let own : IsStandingBy i xs hs = record { names = sym c.requires.named; sides = c.requires.sides } in
+    let own : IsStandingBy i xs hs = record { names = sym c.requires.item.named; sides = c.requires.sides } in
     let types = c.args.names.now.types in
     let fns : map function_behind c.deref-4.result.now ≡ functions i = ap (map function_behind) c.deref-4.ensures.value ∙ held_functions i xs hs c.in_ok-written.written.items own c.in_ok-written.ensures in
-    subst (HaveOwners (env_of types)) (sym fns) (owners i (env_of types) (turn_has (scope_names i) c.args.names.now.turn.items types c.requires.turn c.requires.listed))
+    subst (HaveOwners (env_of types)) (sym fns) (owners i (env_of types) (turn_has (scope_names i) c.args.names.now.turn.items types c.requires.turn c.args.names.now.listed))
 
 pub resolve_externs-requires-clause-functions : goal.resolve_externs-requires-clause-functions
 resolve_externs-requires-clause-functions c = sym c.in_ok-written.ensures ∙ ap (map function_behind) (sym c.deref-4.ensures.value)
@@ -151,20 +151,20 @@ returns-in_err-standing-clause-refused c =
     let i = item_behind c.args.item.now in
     let xs = c.args.item.now.names.items in
     let hs = c.args.externs.now in
-    let own : IsStandingBy i xs hs = record { names = sym c.requires.named; sides = c.requires.sides } in
+    let own : IsStandingBy i xs hs = record { names = sym c.requires.item.named; sides = c.requires.sides } in
     let ids = c.args.names.now.turn.items in
     let types = c.args.names.now.types in
     let taken = c.define_names.new.taken in
     let fns : map function_behind c.deref-4.result.now ≡ functions i = ap (map function_behind) c.deref-4.ensures.value ∙ held_functions i xs hs c.in_ok-written.written.items own c.in_ok-written.ensures in
     let results : AreResults c.in_ok-results.results (scope_names i) = subst (AreResults c.in_ok-results.results) (ap (map name_behind) c.deref-2.ensures.value ∙ sym own.names) c.in_ok-results.ensures in
-    rw (p.1, p.2) (standing_refused i xs hs own (cells_of c.args.interfaces.now) (length c.args.interfaces.now.arena) c.args.types.now c.args.inside.now c.args.interfaces.now.by_name (λ s. taken_on s taken) ids _ (c.in_err-standing.ensures.refused (address i) (scope_names i) (record { names = all_names (scope_names i) ids types c.requires.turn c.requires.listed; results = results })) fns (λ s. taken_before s c.new-taken.result taken c.deref-3.result.now ids c.new-taken.ensures c.in_ok-define_names.ensures.defined c.deref-3.ensures.value))
+    rw (p.1, p.2) (standing_refused i xs hs own (cells_of c.args.interfaces.now) (length c.args.interfaces.now.arena) c.args.types.now c.args.inside.now c.args.interfaces.now.by_name (λ s. taken_on s taken) ids _ (c.in_err-standing.ensures.refused (address i) (scope_names i) (record { names = all_names (scope_names i) ids types c.requires.turn c.args.names.now.listed; results = results })) fns (λ s. taken_before s c.new-taken.result taken c.deref-3.result.now ids c.new-taken.ensures c.in_ok-define_names.ensures.defined c.deref-3.ensures.value))
 
 pub returns-clause-adds : goal.returns-clause-adds
 returns-clause-adds c =
     let i = item_behind c.args.item.now in
     let xs = c.args.item.now.names.items in
     let hs = c.args.externs.now in
-    let own : IsStandingBy i xs hs = record { names = sym c.requires.named; sides = c.requires.sides } in
+    let own : IsStandingBy i xs hs = record { names = sym c.requires.item.named; sides = c.requires.sides } in
     standing_adds i xs hs own (cells_of c.args.interfaces.now) (length c.args.interfaces.now.arena) c.args.types.now c.args.inside.now c.args.names.now.types c.resolve_externs.new.types c.resolve_externs.new.inside c.in_ok-standing.standing.functions.items c.args.names.now.required.items c.resolve_externs.new.required.items c.in_ok-standing.ensures.adds
 
 pub returns-clause-grown : goal.returns-clause-grown
@@ -172,7 +172,7 @@ returns-clause-grown c =
     let i = item_behind c.args.item.now in
     let xs = c.args.item.now.names.items in
     let hs = c.args.externs.now in
-    let own : IsStandingBy i xs hs = record { names = sym c.requires.named; sides = c.requires.sides } in
+    let own : IsStandingBy i xs hs = record { names = sym c.requires.item.named; sides = c.requires.sides } in
     c.in_ok-standing.ensures.grown ∙ ap (λ n. length c.args.inside.now + n) (standing_count i xs hs own)
 
 pub returns-clause-named : goal.returns-clause-named
@@ -192,10 +192,10 @@ returns-clause-legal c =
     let i = item_behind c.args.item.now in
     let xs = c.args.item.now.names.items in
     let hs = c.args.externs.now in
-    let own : IsStandingBy i xs hs = record { names = sym c.requires.named; sides = c.requires.sides } in
+    let own : IsStandingBy i xs hs = record { names = sym c.requires.item.named; sides = c.requires.sides } in
     let fns : map function_behind c.deref-4.result.now ≡ functions i = ap (map function_behind) c.deref-4.ensures.value ∙ held_functions i xs hs c.in_ok-written.written.items own c.in_ok-written.ensures in
     let results : AreResults c.in_ok-results.results (scope_names i) = subst (AreResults c.in_ok-results.results) (ap (map name_behind) c.deref-2.ensures.value ∙ sym own.names) c.in_ok-results.ensures in
-    let are = all_names (scope_names i) c.args.names.now.turn.items c.args.names.now.types c.requires.turn c.requires.listed in
+    let are = all_names (scope_names i) c.args.names.now.turn.items c.args.names.now.types c.requires.turn c.args.names.now.listed in
     rw (sym fns) (c.in_ok-standing.ensures.legal (scope_names i) (record { names = are; results = results }))
 
 pub check_closed-requires : goal.check_closed-requires

@@ -42,7 +42,7 @@ pub resolve_inline-requires-clause-named : goal.resolve_inline-requires-clause-n
 resolve_inline-requires-clause-named c = c.requires.named (map name_behind c.inside_scope-scope.result.names.now) (scope_item c.inside_scope-scope.result) c.inside_scope-scope.ensures.named c.inside_scope-scope.ensures.item
 
 pub resolve_inline-requires-clause-placed : goal.resolve_inline-requires-clause-placed
-resolve_inline-requires-clause-placed c = c.inside_scope-scope.ensures.placed (front_of c.args.interfaces.now.foreign.now) c.requires.placed
+resolve_inline-requires-clause-placed c = c.inside_scope-scope.ensures.placed (front_of c.args.interfaces.now.files) c.requires.placed
 
 pub returns-in_err-id-clause-refused : goal.returns-in_err-id-clause-refused
 returns-in_err-id-clause-refused c =

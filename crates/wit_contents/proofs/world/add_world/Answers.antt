@@ -1,8 +1,28 @@
-use Rattle.std.proofs.Common.{◌≡◌, ◌++◌, List, refl, ap, ◌∙◌}
+use Rattle.std.proofs.Common.{◌++◌, ◌∷◌, [], List, length, refl, ap, ◌∙◌}
 use Rattle.wit_arena.proofs.Indexing.{index_world}
 use Rattle.wit_arena.specs.Resolving.{Required}
 use Rattle.wit_contents.specs.declared.world.WorldParts.{WorldParts}
+use Rattle.wit_items.specs.Items.{others_of}
+use Rattle.wit_links.proofs.WorldsFound.{found_put, found_wider, front_wider}
 use Rattle.wit_contents.proofs.world.add_world.Goals as goal
+
+pub invariant_of-worlds-in-Break-branch-3 : goal.invariant_of-worlds-in-Break-branch-3
+invariant_of-worlds-in-Break-branch-3 c =
+    let ws = c.args.worlds.now in
+    rw c.in_ok-place.ensures.ok (record {
+      front = front_wider (length (others_of ws.interfaces.now.files)) ws.arena (_ ∷ []) ws.front;
+      found = found_wider (length (others_of ws.interfaces.now.files)) ws.arena (_ ∷ []) ws.by_name ws.found;
+    })
+
+pub invariant_of-worlds-2 : goal.invariant_of-worlds-2
+invariant_of-worlds-2 c =
+    let ws = c.args.worlds.now in
+    let name = rw c.in_ok-parts.ensures.both.1 at c.from_str-name.ensures in
+    let put = rw (c.in_ok-from_str.ensures.ok, c.in_ok-place.ensures.id) at c.put.ensures.ok in
+    rw c.in_ok-place.ensures.ok (record {
+      front = front_wider (length (others_of ws.interfaces.now.files)) ws.arena (_ ∷ []) ws.front;
+      found = found_put c.put.result (length (others_of ws.interfaces.now.files)) ws.arena ws.by_name _ _ c.args.id.name.now ws.front ws.found name put c.put.ensures.err;
+    })
 
 pub returns-clause-required : goal.returns-clause-required
 returns-clause-required c = c.in_ok-add_required.ensures ∙ ap (λ (l : List Required). c.args.required.now.items ++ l) (c.deref.ensures.value ∙ ap (λ (p : WorldParts). p.required.items) c.in_ok-parts.ensures.both.0)

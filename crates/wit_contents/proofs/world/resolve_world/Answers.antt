@@ -1,4 +1,4 @@
-use Rattle.std.proofs.Common.{List, [], map, refl, subst}
+use Rattle.std.proofs.Common.{[], map, subst}
 use Rattle.std.proofs.lemmas.List.{length-map}
 use Rattle.std.proofs.lemmas.Result.{err_from_is_err_and}
 use Rattle.wit_type_tree.specs.declared.leaves.Id.{Id}
@@ -10,9 +10,6 @@ use Rattle.wit_item_names.specs.Interfaces.{front_of}
 use Rattle.wit_contents.specs.BetweenWorlds.{IsAddedWorld}
 use Rattle.wit_contents.proofs.Parts.{world_adds}
 use Rattle.wit_contents.proofs.world.resolve_world.Goals as goal
-
-pub world_parts-requires-clause-placed : goal.world_parts-requires-clause-placed
-world_parts-requires-clause-placed c = c.requires.placed.each 0 c.args.item.now refl
 
 pub returns-in_err-parts-clause-refused : goal.returns-in_err-parts-clause-refused
 returns-in_err-parts-clause-refused c =
@@ -27,7 +24,7 @@ returns-clause-added c = λ ss known.
     record {
       own = p.required.items;
       list = c.in_ok-add_world.ensures.required;
-      holds = world_adds (front_of c.args.interfaces.now.foreign.now) (others_of c.args.files.now) c.args.interfaces.now.arena c.args.types.now c.world_parts.new.types old new c.args.inside.now c.world_parts.new.inside ss (item_behind c.args.item.now) p (c.in_ok-parts.ensures.parts ss known) (subst (λ (id : Id). IsAddedWorld old new id (notes_behind p.notes) p.sides.imports p.sides.exports p.includes) c.declared_name-name.ensures c.in_ok-add_world.ensures.added);
+      holds = world_adds (front_of c.args.worlds.now.interfaces.now.files) (others_of c.args.worlds.now.interfaces.now.files) c.args.worlds.now.interfaces.now.arena c.args.types.now c.world_parts.new.types old new c.args.inside.now c.world_parts.new.inside ss (item_behind c.args.item.now) p (c.in_ok-parts.ensures.parts ss known) (subst (λ (id : Id). IsAddedWorld old new id (notes_behind p.notes) p.sides.imports p.sides.exports p.includes) c.declared_name-name.ensures c.in_ok-add_world.ensures.added);
     }
 
 pub returns-clause-grown : goal.returns-clause-grown
@@ -36,4 +33,4 @@ returns-clause-grown c =
     (c.in_ok-parts.ensures.parts (map (λ (i : Interface). WorldNamed []) inside) (length-map inside (λ (i : Interface). WorldNamed []))).grown
 
 pub returns-clause-index : goal.returns-clause-index
-returns-clause-index c = c.in_ok-add_world.ensures.index (others_of c.args.files.now) c.requires.worlds_front c.requires.worlds_index
+returns-clause-index c = c.in_ok-add_world.ensures.index (others_of c.args.worlds.now.interfaces.now.files) c.args.worlds.now.front c.requires.worlds_index

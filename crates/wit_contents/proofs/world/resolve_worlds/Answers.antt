@@ -7,22 +7,21 @@ use Rattle.std.proofs.lemmas.Result.{err_from_is_err_and}
 use Rattle.wit_items.specs.declared.items.Item.{Item as HeldItem}
 use Rattle.wit_item_names.specs.Interfaces.{front_of}
 use Rattle.wit_items.specs.Interfaces.{cells_of}
-use Rattle.wit_syntax.specs.Source.{is_world, scope_names, about}
+use Rattle.wit_syntax.specs.Source.{is_world, about}
 use Rattle.wit_syntax.specs.Scope.{in_order, worlds_of}
 use Rattle.wit_syntax.specs.Sides.{with_inline}
-use Rattle.wit_items.specs.Inside.{inside_behind, names_written}
 use Rattle.wit_arena.specs.Resolved.{IsWrongWorld, IsWrongWorldNow}
 use Rattle.wit_types.specs.declared.types.TypeOwner.TheVariants.{World as OfWorld}
-use Rattle.wit_syntax.proofs.Lists.{read_map, map_map}
+use Rattle.wit_syntax.proofs.Lists.{read_map}
 use Rattle.wit_syntax.proofs.Kept.{kept_next, kept_past}
 use Rattle.wit_syntax.proofs.Refusing.{refused_weaker}
 use Rattle.wit_uses.proofs.Telling.{stability_more}
 use Rattle.wit_items.specs.declared.items.Declared.{Declared as HeldDeclared}
-use Rattle.wit_items.specs.Items.{declared_behind, item_behind, names_behind, others_of}
+use Rattle.wit_items.specs.Items.{declared_behind, item_behind, others_of}
+use Rattle.wit_links.proofs.WorldsFound.{found_none}
 use Rattle.wit_contents.specs.BetweenWorlds.{arenas}
-use Rattle.wit_scopes.proofs.Declaring.{alike}
 use Rattle.wit_contents.proofs.Linking.{links_more}
-use Rattle.wit_contents.proofs.WorldsMore.{AreWorldsTo, addresses_in, longer, placed_one, sides_both, sounds_both, with_more, worlds_more, worlds_none}
+use Rattle.wit_contents.proofs.WorldsMore.{AreWorldsTo, addresses_in, sides_both, sounds_both, with_more, worlds_more, worlds_none}
 use Rattle.wit_contents.proofs.world.resolve_worlds.Goals.{in-World+in_ok-resolve_world-in-World, in-Interface, in-Inline}
 use Rattle.wit_contents.proofs.world.resolve_worlds.Goals as goal
 
@@ -32,45 +31,31 @@ item_at items places k x within lt is = slice_get-get_or items (get_or places k 
 
 pub loop-place-init : goal.loop-place-init
 loop-place-init c = rw (c.make_room.ensures.inside, c.make_room.ensures.worlds) (record {
-  added = worlds_none (front_of c.args.interfaces.now.foreign.now) (others_of c.args.files.now) c.args.interfaces.now.arena c.args.types.now c.args.worlds.now.arena c.args.inside.now c.args.required.now.items c.requires.bare;
-  entries = refl;
-  front = c.requires.worlds_front;
-  index = c.requires.worlds_index;
+  added = worlds_none (front_of c.args.interfaces.now.files) (others_of c.args.interfaces.now.files) c.args.interfaces.now.arena c.args.types.now c.args.front c.new-inside.result c.args.required.now.items c.new-inside.ensures;
+  interfaces = refl;
+  index = rw c.new.ensures c.requires.index;
   sound = record { sound = λ k u f at broken. absurd (let wrong : ⊥ = cc in wrong) };
   stable = record { legal = λ k u f at broken. absurd (let wrong : ⊥ = cc in wrong) };
   sided = record { legal = λ k u f at broken. absurd (let wrong : ⊥ = cc in wrong) };
   linked = record { each = λ k u at. absurd (let wrong : ⊥ = cc in wrong) };
 })
 
+pub invariant_of-worlds : goal.invariant_of-worlds
+invariant_of-worlds c = record {
+  front = rw c.make_room.ensures.worlds c.requires.front;
+  found = found_none (length (others_of c.args.interfaces.now.files)) c.make_room.new.worlds c.new.result c.new.ensures;
+}
+
 pub resolve_world-requires-clause-sort : goal.resolve_world-requires-clause-sort
 resolve_world-requires-clause-sort c = ap (λ (d : HeldDeclared). (about (declared_behind d)).is_world) c.in-World.is
 
-pub resolve_world-requires-clause-filed : goal.resolve_world-requires-clause-filed
-resolve_world-requires-clause-filed c = c.requires.filed.each _ c.index-items-place.result (item_at c.args.items.now c.args.places.now c.loop-place.place-index c.index-items-place.result c.requires.within c.loop-place-test.true c.index-items-place.is)
-
-pub resolve_world-requires-clause-placed : goal.resolve_world-requires-clause-placed
-resolve_world-requires-clause-placed c =
+pub resolve_world-requires-clause-item : goal.resolve_world-requires-clause-item
+resolve_world-requires-clause-item c =
     let there = item_at c.args.items.now c.args.places.now c.loop-place.place-index c.index-items-place.result c.requires.within c.loop-place-test.true c.index-items-place.is in
-    placed_one (front_of c.args.interfaces.now.foreign.now) c.args.items.now _ c.index-items-place.result there c.requires.placed
+    rw c.loop-place.invariant.interfaces (c.requires.items.each _ c.index-items-place.result there)
 
-pub resolve_world-requires-clause-written : goal.resolve_world-requires-clause-written
-resolve_world-requires-clause-written c = λ side.
-    let items = c.args.items.now in
-    let x = c.index-items-place.result in
-    let there = item_at items c.args.places.now c.loop-place.place-index x c.requires.within c.loop-place-test.true c.index-items-place.is in
-    alike (inside_behind side) (λ i. names_written side (item_behind i)) items (c.requires.written side ∙ map_map (names_written side) item_behind items) _ x there
-
-pub resolve_world-requires-clause-entries : goal.resolve_world-requires-clause-entries
-resolve_world-requires-clause-entries c = rw c.loop-place.invariant.entries c.requires.entries
-
-pub resolve_world-requires-clause-named : goal.resolve_world-requires-clause-named
-resolve_world-requires-clause-named c =
-    let items = c.args.items.now in
-    let p = get_or c.args.places.now c.loop-place.place-index 0 in
-    let x = c.index-items-place.result in
-    let within : p < length items = c.requires.within c.loop-place.place-index 0 c.loop-place-test.true in
-    let there : slice_get items p ≡ Some x = slice_get-get_or items p x within ∙ ap Some (sym c.index-items-place.is) in
-    alike names_behind (λ i. scope_names (item_behind i)) items (c.requires.named ∙ map_map scope_names item_behind items) p x there
+pub resolve_world-requires-clause-worlds_index : goal.resolve_world-requires-clause-worlds_index
+resolve_world-requires-clause-worlds_index c = rw c.loop-place.invariant.interfaces c.loop-place.invariant.index
 
 pub returns-in_err-resolve_world-in-World-clause-refused : goal.returns-in_err-resolve_world-in-World-clause-refused
 returns-in_err-resolve_world-in-World-clause-refused c =
@@ -88,10 +73,10 @@ returns-in_err-resolve_world-in-World-clause-refused c =
     let within : p < length c.args.items.now = c.requires.within i 0 c.loop-place-test.true in
     let there : slice_get ws p ≡ Some w = read_map item_behind c.args.items.now p x within c.index-items-place.is in
     let sort : is_world w ≡ true = ap (λ (d : HeldDeclared). (about (declared_behind d)).is_world) c.in-World.is in
-    let foreign = front_of c.args.interfaces.now.foreign.now in
-    let files = c.args.files.now in
+    let foreign = front_of c.args.interfaces.now.files in
+    let files = c.args.interfaces.now.files in
     let others = others_of files in
-    rw (q.1, q.2) (refused_weaker (IsWrongWorld files c.loop-place.types cs (length c.args.interfaces.now.arena) c.loop-place.inside by_name now.by_name (OfWorld (length now.arena)) w) (IsWrongWorldNow files foreign others c.args.types.now c.args.interfaces.now.arena by_name c.args.worlds.now.arena ws places) _ (λ f h. record {
+    rw (q.1, q.2) (refused_weaker (IsWrongWorld files c.loop-place.types cs (length c.args.interfaces.now.arena) c.loop-place.inside by_name now.by_name (OfWorld (length now.arena)) w) (IsWrongWorldNow files foreign others c.args.types.now c.args.interfaces.now.arena by_name c.args.front ws places) _ (λ f h. record {
       count = i;
       item = w;
       next = record { place = p; next = at; at = there };
@@ -103,7 +88,7 @@ returns-in_err-resolve_world-in-World-clause-refused c =
       worlds_by_name = now.by_name;
       worlds_index = c.loop-place.invariant.index;
       wrong = h;
-    }) c.in_err-resolve_world-in-World.ensures.refused)
+    }) (rw c.loop-place.invariant.interfaces at c.in_err-resolve_world-in-World.ensures.refused))
 
 pub loop-place-preserved : goal.loop-place-preserved
 loop-place-preserved c =
@@ -128,28 +113,26 @@ loop-place-preserved c =
           let new = b.resolve_world.new.worlds.arena in
           let types = b.resolve_world.new.types in
           let required = b.resolve_world.new.required.items in
-          let foreign = front_of c.args.interfaces.now.foreign.now in
-          let others = others_of c.args.files.now in
-          let one = e.added (addresses_in front) was.added.put in
+          let foreign = front_of c.args.interfaces.now.files in
+          let others = others_of c.args.interfaces.now.files in
           let all : flat_map with_inline (worlds_of (in_order ws (take (i + 1) places))) ≡ flat_map with_inline front ++ with_inline w = ap (flat_map with_inline) more ∙ with_more front w in
           rw (b.worlds-is, b.types-is, b.required-is, b.inside-is) (record {
-            entries = e.entries ∙ was.entries;
-            front = longer before new one.holds.added _ one.holds.last was.front;
-            added = rw more (worlds_more foreign others is c.args.types.now c.loop-place.types types c.args.worlds.now.arena before new c.loop-place.inside b.resolve_world.new.inside c.args.required.now.items c.loop-place.required.items required front w was.added e.added e.grown);
-            index = e.index;
+            interfaces = ap (λ r. r.now) e.interfaces ∙ was.interfaces;
+            added = rw more (worlds_more foreign others is c.args.types.now c.loop-place.types types c.args.front before new c.loop-place.inside b.resolve_world.new.inside c.args.required.now.items c.loop-place.required.items required front w was.added (rw was.interfaces at e.added) e.grown);
+            index = rw was.interfaces at e.index;
             sound = rw all (sounds_both (flat_map with_inline front) (with_inline w) was.sound e.sound);
             stable = rw more (stability_more front w was.stable e.stable);
             sided = rw all (sides_both (flat_map with_inline front) (with_inline w) was.sided e.sided);
-            linked = rw more (links_more c.args.files.now front w was.linked e.linked);
+            linked = rw more (links_more c.args.interfaces.now.files front w was.linked (rw was.interfaces at e.linked));
           }))
       | in-Interface b ↦ (
           let sort : is_world w ≡ false = ap (λ (d : HeldDeclared). (about (declared_behind d)).is_world) b.in-Interface.is in
           let past : worlds_of (in_order ws (take (i + 1) places)) ≡ front = kept_past is_world ws places i p w at there sort in
-          rw (b.worlds-is, b.types-is, b.required-is, b.inside-is) (record { entries = was.entries; front = was.front; added = rw past was.added; index = was.index; sound = rw past was.sound; stable = rw past was.stable; sided = rw past was.sided; linked = rw past was.linked }))
+          rw (b.worlds-is, b.types-is, b.required-is, b.inside-is) (record { interfaces = was.interfaces; added = rw past was.added; index = was.index; sound = rw past was.sound; stable = rw past was.stable; sided = rw past was.sided; linked = rw past was.linked }))
       | in-Inline b ↦ (
           let sort : is_world w ≡ false = ap (λ (d : HeldDeclared). (about (declared_behind d)).is_world) b.in-Inline.is in
           let past : worlds_of (in_order ws (take (i + 1) places)) ≡ front = kept_past is_world ws places i p w at there sort in
-          rw (b.worlds-is, b.types-is, b.required-is, b.inside-is) (record { entries = was.entries; front = was.front; added = rw past was.added; index = was.index; sound = rw past was.sound; stable = rw past was.stable; sided = rw past was.sided; linked = rw past was.linked }))
+          rw (b.worlds-is, b.types-is, b.required-is, b.inside-is) (record { interfaces = was.interfaces; added = rw past was.added; index = was.index; sound = rw past was.sound; stable = rw past was.stable; sided = rw past was.sided; linked = rw past was.linked }))
     ]
 
 pub returns-clause-added : goal.returns-clause-added
@@ -158,5 +141,5 @@ returns-clause-added c =
     let places = c.args.places.now in
     let i = c.loop-place.place-index in
     let now = c.loop-place.worlds in
-    let p = subst (λ (l : List ℕ). AreWorldsTo (front_of c.args.interfaces.now.foreign.now) (others_of c.args.files.now) c.args.interfaces.now.arena c.args.types.now c.loop-place.types c.args.worlds.now.arena now.arena c.loop-place.inside c.args.required.now.items c.loop-place.required.items (worlds_of (in_order ws l))) (take_all i places c.loop-place-test.false) c.loop-place.invariant.added in
+    let p = subst (λ (l : List ℕ). AreWorldsTo (front_of c.args.interfaces.now.files) (others_of c.args.interfaces.now.files) c.args.interfaces.now.arena c.args.types.now c.loop-place.types c.args.front now.arena c.loop-place.inside c.args.required.now.items c.loop-place.required.items (worlds_of (in_order ws l))) (take_all i places c.loop-place-test.false) c.loop-place.invariant.added in
     record { own = p.emits.own; list = p.emits.list; holds = (addresses_in (worlds_of (in_order ws places)), p.emits.holds) }

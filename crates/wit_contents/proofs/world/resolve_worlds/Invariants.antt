@@ -1,4 +1,4 @@
-use Rattle.std.proofs.Common.{◌≡◌, ◌≤◌, length, map, take}
+use Rattle.std.proofs.Common.{◌≡◌, map, take}
 use Rattle.std.specs.List.{flat_map}
 use Rattle.wit_syntax.specs.Scope.{in_order, worlds_of}
 use Rattle.wit_syntax.specs.Sides.{with_inline}
@@ -11,12 +11,11 @@ use Rattle.wit_contents.proofs.world.resolve_worlds.Given as goal
 
 abbrev pub invariant-loop-place : goal.invariant-loop-place
 invariant-loop-place l = record {
-  added : AreWorldsTo (front_of l.interfaces.foreign.now) (others_of l.files) l.interfaces.arena l.fn.types l.types l.fn.worlds.arena l.worlds.arena l.inside l.fn.required.items l.required.items (worlds_of (in_order (map item_behind l.items) (take l.place-index l.places)));
-  entries : l.worlds.entries ≡ l.fn.worlds.entries;
-  front : length (others_of l.files) ≤ length l.worlds.arena;
-  index : IsWorldIndex (worlds_at (others_of l.files) l.worlds.arena) l.worlds.by_name;
+  added : AreWorldsTo (front_of l.interfaces.files) (others_of l.interfaces.files) l.interfaces.arena l.fn.types l.types l.fn.front l.worlds.arena l.inside l.fn.required.items l.required.items (worlds_of (in_order (map item_behind l.items) (take l.place-index l.places)));
+  interfaces : l.worlds.interfaces.now ≡ l.interfaces;
+  index : IsWorldIndex (worlds_at (others_of l.interfaces.files) l.worlds.arena) l.worlds.by_name;
   sound : AreSoundScopes (flat_map with_inline (worlds_of (in_order (map item_behind l.items) (take l.place-index l.places))));
   stable : HaveLegalStability (worlds_of (in_order (map item_behind l.items) (take l.place-index l.places)));
   sided : AreLegalSides (flat_map with_inline (worlds_of (in_order (map item_behind l.items) (take l.place-index l.places))));
-  linked : AreUsableLinks l.files (worlds_of (in_order (map item_behind l.items) (take l.place-index l.places)));
+  linked : AreUsableLinks l.interfaces.files (worlds_of (in_order (map item_behind l.items) (take l.place-index l.places)));
 }

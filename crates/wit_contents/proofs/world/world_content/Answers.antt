@@ -1,4 +1,4 @@
-use Rattle.std.proofs.Common.{◌≡◌, ◌⊎◌, List, length, map, inl, inr, sym, ap, ◌∙◌, subst}
+use Rattle.std.proofs.Common.{◌≡◌, ◌⊎◌, List, length, map, inl, inr, sym, ap, ◌∙◌, subst, refl}
 use Rattle.std.proofs.lemmas.Result.{err_from_is_err_and}
 use Rattle.wit_type_tree.specs.declared.leaves.Id.{Id}
 use Rattle.wit_types.specs.declared.types.TypeOwner.TheVariants.{World as OfWorld}
@@ -20,51 +20,80 @@ use Rattle.wit_item_names.specs.Interfaces.{front_of}
 use Rattle.wit_items.specs.Interfaces.{cells_of}
 use Rattle.wit_item_entries.proofs.Behind.{turn_texts}
 use Rattle.wit_uses.proofs.ItemSides.{IsStandingBy, sides_legal}
-use Rattle.wit_item_entries.proofs.ScopeFunctions.{scope_sound}
+use Rattle.wit_item_entries.proofs.ScopeFunctions.{scope_sound, turn_added}
+use Rattle.wit_item_entries.proofs.WrongNames.{wrong_names, wrong_world}
+use Rattle.wit_item_entries.specs.Between.{IsWrongNames}
+use Rattle.wit_scopes.specs.Front.{AreNamesPlaced}
+use Rattle.wit_scopes.specs.Held.{name_behind}
 use Rattle.wit_world_sides.specs.Links.{AreLed}
 use Rattle.wit_contents.specs.Standing.{IsWrongStanding}
-use Rattle.wit_links.proofs.Leading.{addresses_count, front_enough, links_placed, links_within}
+use Rattle.wit_links.proofs.Leading.{addresses_count, links_placed, links_within}
 use Rattle.wit_contents.proofs.Linking.{links_usable}
 use Rattle.wit_contents.proofs.Parts.{parts_are, sides_all, sounds_all}
 use Rattle.wit_contents.proofs.WrongStanding.{wrong_standing}
 use Rattle.wit_contents.proofs.world.world_content.Goals as goal
 
-pub returns-in_err-includes-clause-refused : goal.returns-in_err-includes-clause-refused
-returns-in_err-includes-clause-refused c =
+pub resolve_names-requires : goal.resolve_names-requires
+resolve_names-requires c =
+    record { placed = subst (AreNamesPlaced (front_of c.args.worlds.now.interfaces.now.files)) (sym c.deref.ensures.value) (c.requires.item.placed.each 0 c.args.item.now refl) }
+
+pub returns-in_err-names-clause-refused : goal.returns-in_err-names-clause-refused
+returns-in_err-names-clause-refused c =
     let p = err_from_is_err_and c.from_residual.result c.from_residual.ensures.1 in
-    let cs = cells_of c.args.interfaces.now in
-    let count = length c.args.interfaces.now.arena in
+    let cs = cells_of c.args.worlds.now.interfaces.now in
+    let count = length c.args.worlds.now.interfaces.now.arena in
     let inside = c.args.inside.now in
-    let by_name = c.args.interfaces.now.by_name in
+    let by_name = c.args.worlds.now.interfaces.now.by_name in
     let worlds = c.args.worlds.now.by_name in
     let o = OfWorld (length c.args.worlds.now.arena) in
     let item = item_behind c.args.item.now in
-    let files = c.args.files.now in
-    rw (p.1, p.2) (λ old n. refused_weaker (λ f. IsBrokenItemStability item f ⊎ IsLostInclude files worlds item f) (IsWrongWorld files old cs count inside by_name worlds o item) _ (λ f h. elim h [
+    let files = c.args.worlds.now.interfaces.now.files in
+    let old = c.args.types.now in
+    let same : map name_behind c.deref.result.now ≡ scope_names (item_behind c.args.item.now) = ap (map name_behind) c.deref.ensures.value ∙ c.requires.item.named in
+    rw (p.1, p.2) (refused_weaker (IsWrongNames old cs by_name o (scope_names item)) (IsWrongWorld files old cs count inside by_name worlds o item) _ (λ f h. wrong_world files old cs count inside by_name worlds o item f (wrong_names old cs by_name o item f h)) (rw (c.next_id.ensures, same) at c.in_err-names.ensures.refused))
+
+pub returns-in_err-includes-clause-refused : goal.returns-in_err-includes-clause-refused
+returns-in_err-includes-clause-refused c =
+    let p = err_from_is_err_and c.from_residual-in_err-includes.result c.from_residual-in_err-includes.ensures.1 in
+    let cs = cells_of c.args.worlds.now.interfaces.now in
+    let count = length c.args.worlds.now.interfaces.now.arena in
+    let inside = c.args.inside.now in
+    let by_name = c.args.worlds.now.interfaces.now.by_name in
+    let worlds = c.args.worlds.now.by_name in
+    let o = OfWorld (length c.args.worlds.now.arena) in
+    let item = item_behind c.args.item.now in
+    let files = c.args.worlds.now.interfaces.now.files in
+    let old = c.args.types.now in
+    rw (p.1, p.2) (refused_weaker (λ f. IsBrokenItemStability item f ⊎ IsLostInclude files worlds item f) (IsWrongWorld files old cs count inside by_name worlds o item) _ (λ f h. elim h [
       | inl unstable ↦ WrongWorldStability unstable
       | inr lost ↦ LostInclude lost
-    ]) (rw (ap names_at_top c.requires.filed.file) at c.in_err-includes.ensures.refused))
+    ]) (rw (ap names_at_top c.requires.item.filed.file) at c.in_err-includes.ensures.refused))
 
 pub returns-in_err-externs-clause-refused : goal.returns-in_err-externs-clause-refused
 returns-in_err-externs-clause-refused c =
     let p = err_from_is_err_and c.from_residual-in_err-externs.result c.from_residual-in_err-externs.ensures.1 in
-    rw p.1 (λ old n. inl p.2)
+    rw p.1 (inl p.2)
 
 pub returns-in_err-sides-clause-refused : goal.returns-in_err-sides-clause-refused
 returns-in_err-sides-clause-refused c =
     let p = err_from_is_err_and c.from_residual-in_err-sides.result c.from_residual-in_err-sides.ensures.1 in
-    rw p.1 (λ old n. inl p.2)
+    rw p.1 (inl p.2)
 
 pub declared_includes-requires-clause-item : goal.declared_includes-requires-clause-item
-declared_includes-requires-clause-item c = filed_item c.args.files.now c.args.item.now c.requires.filed
+declared_includes-requires-clause-item c = filed_item c.args.worlds.now.interfaces.now.files c.args.item.now c.requires.item.filed
 
 pub declared_externs-requires-clause-item : goal.declared_externs-requires-clause-item
-declared_externs-requires-clause-item c = filed_item c.args.files.now c.args.item.now c.requires.filed
+declared_externs-requires-clause-item c = filed_item c.args.worlds.now.interfaces.now.files c.args.item.now c.requires.item.filed
 
 pub resolve_standing-requires-clause-closed : goal.resolve_standing-requires-clause-closed
 resolve_standing-requires-clause-closed c =
-    let are = rw (ap names_at_top c.requires.filed.file) at c.in_ok-includes.ensures.are in
+    let are = rw (ap names_at_top c.requires.item.filed.file) at c.in_ok-includes.ensures.are in
     c.is_closed-closed.ensures (written_includes (item_behind c.args.item.now)) (ap length c.as_slice.ensures ∙ are.count)
+
+pub resolve_standing-requires-clause-turn : goal.resolve_standing-requires-clause-turn
+resolve_standing-requires-clause-turn c =
+    let same : map name_behind c.deref.result.now ≡ scope_names (item_behind c.args.item.now) = ap (map name_behind) c.deref.ensures.value ∙ c.requires.item.named in
+    turn_added _ _ _ _ _ _ _ _ (rw (c.next_id.ensures, same) at c.in_ok-names.ensures.adds)
 
 pub resolve_standing-requires-clause-sides : goal.resolve_standing-requires-clause-sides
 resolve_standing-requires-clause-sides c =
@@ -73,107 +102,119 @@ resolve_standing-requires-clause-sides c =
 pub returns-in_err-standing-clause-refused : goal.returns-in_err-standing-clause-refused
 returns-in_err-standing-clause-refused c =
     let p = err_from_is_err_and c.from_residual-in_err-standing.result c.from_residual-in_err-standing.ensures.1 in
-    let cs = cells_of c.args.interfaces.now in
-    let count = length c.args.interfaces.now.arena in
+    let cs = cells_of c.args.worlds.now.interfaces.now in
+    let count = length c.args.worlds.now.interfaces.now.arena in
     let inside = c.args.inside.now in
-    let by_name = c.args.interfaces.now.by_name in
+    let by_name = c.args.worlds.now.interfaces.now.by_name in
     let worlds = c.args.worlds.now.by_name in
     let o = OfWorld (length c.args.worlds.now.arena) in
     let item = item_behind c.args.item.now in
-    let names = c.args.names.now in
+    let names = c.in_ok-names.names in
     let hs = c.deref_mut-lent.result.now in
     let xs = c.args.item.now.names.items in
-    let own : IsStandingBy item xs hs = record { names = sym c.requires.named; sides = sym (ap externs_behind c.deref_mut-lent.ensures.value ∙ c.in_ok-externs.ensures.behind) } in
-    let front = front_of c.args.interfaces.now.foreign.now in
-    let is = c.args.interfaces.now.arena in
-    let mid = c.args.types.now in
-    let files = c.args.files.now in
+    let own : IsStandingBy item xs hs = record { names = sym c.requires.item.named; sides = sym (ap externs_behind c.deref_mut-lent.ensures.value ∙ c.in_ok-externs.ensures.behind) } in
+    let front = front_of c.args.worlds.now.interfaces.now.files in
+    let is = c.args.worlds.now.interfaces.now.arena in
+    let mid = c.resolve_names.new.types in
+    let files = c.args.worlds.now.interfaces.now.files in
     let top = (item_behind c.args.item.now).top in
-    let led : AreLed files front by_name top hs = rw c.deref_mut-lent.ensures.value (rw (ap names_at_top c.requires.filed.file) at c.in_ok-externs.ensures.led) in
-    let placed = links_placed files front is by_name top hs (front_enough c.args.interfaces.now.foreign.now is c.requires.front) c.requires.index led in
-    rw (p.1, p.2) (λ old n. refused_weaker (IsWrongStanding mid cs count inside by_name names.types names.turn.items item hs) (IsWrongWorld files old cs count inside by_name worlds o item) _ (wrong_standing files front (interfaces_at front is) old mid cs count inside by_name worlds o item names.types names.turn.items names.required.items xs hs own n led placed) c.in_err-standing.ensures.refused)
+    let led : AreLed files front by_name top hs = rw c.deref_mut-lent.ensures.value (rw (ap names_at_top c.requires.item.filed.file) at c.in_ok-externs.ensures.led) in
+    let placed = links_placed files front is by_name top hs c.args.worlds.now.interfaces.now.front c.args.worlds.now.interfaces.now.found led in
+    let old = c.args.types.now in
+    let same : map name_behind c.deref.result.now ≡ scope_names (item_behind c.args.item.now) = ap (map name_behind) c.deref.ensures.value ∙ c.requires.item.named in
+    let n = rw (c.next_id.ensures, same) at c.in_ok-names.ensures.adds in
+    rw (p.1, p.2) (refused_weaker (IsWrongStanding mid cs count inside by_name names.types names.turn.items item hs) (IsWrongWorld files old cs count inside by_name worlds o item) _ (wrong_standing files front (interfaces_at front is) old mid cs count inside by_name worlds o item names.types names.turn.items names.required.items xs hs own n led placed) c.in_err-standing.ensures.refused)
 
 pub world_sides-requires-clause-distinct : goal.world_sides-requires-clause-distinct
 world_sides-requires-clause-distinct c =
     let item = item_behind c.args.item.now in
-    let names = c.args.names.now in
-    let turned : c.deref.result.now ≡ names.turn.items = c.deref.ensures.value ∙ ap (λ t. t.items) c.in_ok-standing.ensures.turn in
+    let names = c.in_ok-names.names in
+    let turned : c.deref-2.result.now ≡ names.turn.items = c.deref-2.ensures.value ∙ ap (λ t. t.items) c.in_ok-standing.ensures.turn in
     let xs = scope_names item in
-    let own = c.requires.turn in
-    subst AllDiffer (sym (turn_texts xs own.order c.deref.result.now (turned ∙ own.are))) (in_turn_distinct xs own.order own.least own.distinct)
+    let same : map name_behind c.deref.result.now ≡ scope_names (item_behind c.args.item.now) = ap (map name_behind) c.deref.ensures.value ∙ c.requires.item.named in
+    let n = rw (c.next_id.ensures, same) at c.in_ok-names.ensures.adds in
+    let own = turn_added _ _ _ _ xs _ _ _ n in
+    subst AllDiffer (sym (turn_texts xs own.order c.deref-2.result.now (turned ∙ own.are))) (in_turn_distinct xs own.order own.least own.distinct)
 
 pub world_sides-requires-clause-listed : goal.world_sides-requires-clause-listed
 world_sides-requires-clause-listed c =
-    let names = c.args.names.now in
-    let turned : c.deref.result.now ≡ names.turn.items = c.deref.ensures.value ∙ ap (λ t. t.items) c.in_ok-standing.ensures.turn in
-    ap names_in c.in_ok-standing.ensures.types ∙ c.requires.listed ∙ ap (map (λ (id : Id). id.name.now)) (sym turned)
+    let names = c.in_ok-names.names in
+    let turned : c.deref-2.result.now ≡ names.turn.items = c.deref-2.ensures.value ∙ ap (λ t. t.items) c.in_ok-standing.ensures.turn in
+    ap names_in c.in_ok-standing.ensures.types ∙ c.in_ok-names.names.listed ∙ ap (map (λ (id : Id). id.name.now)) (sym turned)
 
 pub world_sides-requires-clause-differ : goal.world_sides-requires-clause-differ
 world_sides-requires-clause-differ c =
-    let names = c.args.names.now in
-    let turned : c.deref.result.now ≡ names.turn.items = c.deref.ensures.value ∙ ap (λ t. t.items) c.in_ok-standing.ensures.turn in
+    let names = c.in_ok-names.names in
+    let turned : c.deref-2.result.now ≡ names.turn.items = c.deref-2.ensures.value ∙ ap (λ t. t.items) c.in_ok-standing.ensures.turn in
     subst (λ (l : List Id). DifferOnSides l (externs_behind c.deref_mut-lent.result.now)) (sym turned) c.in_ok-standing.ensures.differ
 
 pub world_sides-requires-clause-within : goal.world_sides-requires-clause-within
 world_sides-requires-clause-within c =
-    let front = front_of c.args.interfaces.now.foreign.now in
-    let is = c.args.interfaces.now.arena in
-    let by_name = c.args.interfaces.now.by_name in
+    let front = front_of c.args.worlds.now.interfaces.now.files in
+    let is = c.args.worlds.now.interfaces.now.arena in
+    let by_name = c.args.worlds.now.interfaces.now.by_name in
     let hs = c.deref_mut-lent.result.now in
-    let files = c.args.files.now in
+    let files = c.args.worlds.now.interfaces.now.files in
     let top = (item_behind c.args.item.now).top in
-    let led : AreLed files front by_name top hs = rw c.deref_mut-lent.ensures.value (rw (ap names_at_top c.requires.filed.file) at c.in_ok-externs.ensures.led) in
-    let enough = front_enough c.args.interfaces.now.foreign.now is c.requires.front in
-    links_within front is top hs enough (links_placed files front is by_name top hs enough c.requires.index led)
+    let led : AreLed files front by_name top hs = rw c.deref_mut-lent.ensures.value (rw (ap names_at_top c.requires.item.filed.file) at c.in_ok-externs.ensures.led) in
+    let enough = c.args.worlds.now.interfaces.now.front in
+    links_within front is top hs enough (links_placed files front is by_name top hs enough c.args.worlds.now.interfaces.now.found led)
 
 pub returns-clause-parts : goal.returns-clause-parts
 returns-clause-parts c =
     let item = item_behind c.args.item.now in
-    let names = c.args.names.now in
-    let front = front_of c.args.interfaces.now.foreign.now in
-    let is = c.args.interfaces.now.arena in
-    let by_name = c.args.interfaces.now.by_name in
+    let names = c.in_ok-names.names in
+    let front = front_of c.args.worlds.now.interfaces.now.files in
+    let is = c.args.worlds.now.interfaces.now.arena in
+    let by_name = c.args.worlds.now.interfaces.now.by_name in
     let hs = c.deref_mut-lent.result.now in
     let e = c.in_ok-standing.ensures in
     let standing = c.in_ok-standing.standing in
-    let turned : c.deref.result.now ≡ names.turn.items = c.deref.ensures.value ∙ ap (λ t. t.items) c.in_ok-standing.ensures.turn in
+    let turned : c.deref-2.result.now ≡ names.turn.items = c.deref-2.ensures.value ∙ ap (λ t. t.items) c.in_ok-standing.ensures.turn in
     let same : side_items item ≡ externs_behind hs = sym (ap externs_behind c.deref_mut-lent.ensures.value ∙ c.in_ok-externs.ensures.behind) in
-    let files = c.args.files.now in
+    let files = c.args.worlds.now.interfaces.now.files in
     let top = (item_behind c.args.item.now).top in
-    let led : AreLed files front by_name top hs = rw c.deref_mut-lent.ensures.value (rw (ap names_at_top c.requires.filed.file) at c.in_ok-externs.ensures.led) in
-    let enough = front_enough c.args.interfaces.now.foreign.now is c.requires.front in
-    let placed = links_placed files front is by_name top hs enough c.requires.index led in
-    let are = rw (ap names_at_top c.requires.filed.file) at c.in_ok-includes.ensures.are in
-    λ ss old notes known n told. parts_are front (others_of c.args.files.now) is old c.args.types.now c.resolve_standing.new.types c.args.worlds.now.arena c.args.inside.now c.resolve_standing.new.inside ss item _ names.types c.resolve_standing.new.names.types names.turn.items c.deref.result.now names.required.items standing.functions.items standing.inside.items hs c.is_closed-closed.result (addresses_count front is enough) known n e.adds e.grown same placed e.right e.named e.counted e.ids turned e.types c.in_ok-sides.ensures.imports c.in_ok-sides.ensures.exports (c.is_closed-closed.ensures (written_includes item) (ap length c.as_slice.ensures ∙ are.count)) e.paired told are
+    let led : AreLed files front by_name top hs = rw c.deref_mut-lent.ensures.value (rw (ap names_at_top c.requires.item.filed.file) at c.in_ok-externs.ensures.led) in
+    let enough = c.args.worlds.now.interfaces.now.front in
+    let placed = links_placed files front is by_name top hs enough c.args.worlds.now.interfaces.now.found led in
+    let are = rw (ap names_at_top c.requires.item.filed.file) at c.in_ok-includes.ensures.are in
+    let old = c.args.types.now in
+    let named : map name_behind c.deref.result.now ≡ scope_names (item_behind c.args.item.now) = ap (map name_behind) c.deref.ensures.value ∙ c.requires.item.named in
+    let n = rw (c.next_id.ensures, named) at c.in_ok-names.ensures.adds in
+    λ ss notes known told. parts_are front (others_of c.args.worlds.now.interfaces.now.files) is old c.resolve_names.new.types c.resolve_standing.new.types c.args.worlds.now.arena c.args.inside.now c.resolve_standing.new.inside ss item _ names.types c.resolve_standing.new.names.types names.turn.items c.deref-2.result.now names.required.items standing.functions.items standing.inside.items hs c.is_closed-closed.result (addresses_count front is enough) known n e.adds e.grown same placed e.right e.named e.counted e.ids turned e.types c.in_ok-sides.ensures.imports c.in_ok-sides.ensures.exports (c.is_closed-closed.ensures (written_includes item) (ap length c.as_slice.ensures ∙ are.count)) e.paired told are
 
 pub returns-clause-stable : goal.returns-clause-stable
 returns-clause-stable c = c.in_ok-includes.ensures.stable
 
 pub returns-clause-sound : goal.returns-clause-sound
-returns-clause-sound c = λ legal.
+returns-clause-sound c =
     let item = item_behind c.args.item.now in
+    let same : map name_behind c.deref.result.now ≡ scope_names (item_behind c.args.item.now) = ap (map name_behind) c.deref.ensures.value ∙ c.requires.item.named in
+    let legal = rw same at (c.in_ok-names.ensures.legal (functions item)) in
     let e = c.in_ok-standing.ensures in
-    sounds_all item (inline_items item) (scope_sound (scope_names item) (functions item) (legal (functions item)) e.legal) e.sound
+    sounds_all item (inline_items item) (scope_sound (scope_names item) (functions item) legal e.legal) e.sound
 
 pub returns-clause-sided : goal.returns-clause-sided
 returns-clause-sided c =
     let item = item_behind c.args.item.now in
-    let names = c.args.names.now in
+    let names = c.in_ok-names.names in
     let hs = c.deref_mut-lent.result.now in
     let xs = c.args.item.now.names.items in
-    let own : IsStandingBy item xs hs = record { names = sym c.requires.named; sides = sym (ap externs_behind c.deref_mut-lent.ensures.value ∙ c.in_ok-externs.ensures.behind) } in
+    let own : IsStandingBy item xs hs = record { names = sym c.requires.item.named; sides = sym (ap externs_behind c.deref_mut-lent.ensures.value ∙ c.in_ok-externs.ensures.behind) } in
     let e = c.in_ok-standing.ensures in
-    sides_all item (inline_items item) (sides_legal item xs hs names.turn.items own c.requires.turn e.differ e.right e.noted) e.sided
+    let same : map name_behind c.deref.result.now ≡ scope_names (item_behind c.args.item.now) = ap (map name_behind) c.deref.ensures.value ∙ c.requires.item.named in
+    let n = rw (c.next_id.ensures, same) at c.in_ok-names.ensures.adds in
+    sides_all item (inline_items item) (sides_legal item xs hs names.turn.items own (turn_added _ _ _ _ (scope_names item) _ _ _ n) e.differ e.right e.noted) e.sided
 
 pub returns-clause-linked : goal.returns-clause-linked
 returns-clause-linked c =
-    let front = front_of c.args.interfaces.now.foreign.now in
-    let is = c.args.interfaces.now.arena in
-    let by_name = c.args.interfaces.now.by_name in
+    let front = front_of c.args.worlds.now.interfaces.now.files in
+    let is = c.args.worlds.now.interfaces.now.arena in
+    let by_name = c.args.worlds.now.interfaces.now.by_name in
     let hs = c.deref_mut-lent.result.now in
-    let files = c.args.files.now in
+    let files = c.args.worlds.now.interfaces.now.files in
     let top = (item_behind c.args.item.now).top in
-    let led : AreLed files front by_name top hs = rw c.deref_mut-lent.ensures.value (rw (ap names_at_top c.requires.filed.file) at c.in_ok-externs.ensures.led) in
-    let placed = links_placed files front is by_name top hs (front_enough c.args.interfaces.now.foreign.now is c.requires.front) c.requires.index led in
+    let led : AreLed files front by_name top hs = rw c.deref_mut-lent.ensures.value (rw (ap names_at_top c.requires.item.filed.file) at c.in_ok-externs.ensures.led) in
+    let placed = links_placed files front is by_name top hs c.args.worlds.now.interfaces.now.front c.args.worlds.now.interfaces.now.found led in
     let e = c.in_ok-standing.ensures in
     links_usable files front (interfaces_at front is) by_name (item_behind c.args.item.now) hs (sym (ap externs_behind c.deref_mut-lent.ensures.value ∙ c.in_ok-externs.ensures.behind)) led placed e.right e.apart

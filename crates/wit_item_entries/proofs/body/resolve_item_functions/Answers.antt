@@ -31,7 +31,7 @@ resolve_signatures-requires-clause-owners c =
     let types = c.args.names.now.types in
     let fns : map function_behind c.deref.result.now ≡ functions item = declared_functions item (declared_behind c.args.declared) c.args.held.now c.in_ok-written.written.items c.deref.result.now own c.deref.ensures.value (c.in_ok-written.ensures c.requires.sort) in
     let turn : IsTurn (scope_names item) c.args.names.now.turn.items = subst (λ (xs : List ScopeName). IsTurn xs c.args.names.now.turn.items) (sym own.names) c.requires.turn in
-    subst (HaveOwners (env_of types)) (sym fns) (owners item (env_of types) (turn_has (scope_names item) c.args.names.now.turn.items types turn c.requires.listed))
+    subst (HaveOwners (env_of types)) (sym fns) (owners item (env_of types) (turn_has (scope_names item) c.args.names.now.turn.items types turn c.args.names.now.listed))
 
 pub returns-in_err-functions-clause-refused : goal.returns-in_err-functions-clause-refused
 returns-in_err-functions-clause-refused c =

@@ -17,6 +17,7 @@ use Rattle.wit_entries.proofs.Requiring.{grown_then}
 use Rattle.wit_scopes.specs.Held.{name_behind, use_behind}
 use Rattle.wit_items.specs.Interfaces.{cells_of}
 use Rattle.wit_item_entries.specs.Between.{DefinesTurn, IsWrongHandleTurn, IsWrongNames, WrongScopeNames, WrongHandleNames}
+use Rattle.wit_item_entries.proofs.Behind.{turn_texts}
 use Rattle.wit_item_entries.proofs.Handled.{types-in_turn, wrong_handle_turn}
 use Rattle.wit_item_entries.proofs.names.resolve_names.Goals as goal
 
@@ -76,3 +77,15 @@ returns-clause-adds c =
 
 pub returns-clause-grown : goal.returns-clause-grown
 returns-clause-grown c = grown_then c.args.types.now c.resolve_uses.new.types c.resolve_types.new.types c.in_ok-resolve_uses.ensures.grown c.in_ok-turn.ensures.grown
+
+pub invariant_of-result : goal.invariant_of-result
+invariant_of-result c =
+    let xs = map name_behind c.args.names.now in
+    let names : map use_behind c.deref.result.now ≡ used xs = ap (map use_behind) c.deref.ensures.value ∙ c.in_ok-uses.ensures.uses in
+    let scope = c.resolve_uses.new.scope in
+    let after = c.resolve_types.new.scope in
+    let turn : DefinesTurn c.resolve_uses.new.types c.resolve_types.new.types scope.owner scope.names after.names xs c.in_ok-turn.turn.items scope.required.items after.required.items = c.in_ok-turn.ensures.defines in
+    let order = turn.all.order in
+    let ds = defined (in_order xs order) in
+    let listed : names_in scope.names ≡ local_names (used xs) = rw names at c.in_ok-resolve_uses.ensures.listed in
+    turn.listed ∙ ap (λ l. l ++ local_names ds) listed ∙ sym (map-append local_name (used xs) ds) ∙ sym (turn_texts xs order c.in_ok-turn.turn.items turn.turn)

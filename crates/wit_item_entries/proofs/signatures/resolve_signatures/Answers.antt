@@ -57,7 +57,7 @@ pub returns-clause-sound : goal.returns-clause-sound
 returns-clause-sound c =
     let xs = map name_behind c.args.held.now in
     let ids = c.args.names.now.turn.items in
-    let are = all_names xs ids c.args.names.now.types c.requires.turn c.requires.listed in
+    let are = all_names xs ids c.args.names.now.types c.requires.turn c.args.names.now.listed in
     c.in_ok-functions.ensures.legal xs (record { names = are; results = c.in_ok-results.ensures })
 
 pub returns-in_err-functions-clause-refused : goal.returns-in_err-functions-clause-refused
@@ -68,7 +68,7 @@ returns-in_err-functions-clause-refused c =
     let ids = c.args.names.now.turn.items in
     let env = env_of c.args.names.now.types in
     let es = c.resolve_functions.new.types in
-    let are = all_names xs ids c.args.names.now.types c.requires.turn c.requires.listed in
+    let are = all_names xs ids c.args.names.now.types c.requires.turn c.args.names.now.listed in
     let taken = c.define_names.new.taken in
     rw (p.1, p.2) (refused_weaker (λ f. IsWrongFunctionAmong env es xs fns f ⊎ IsClash (λ s. taken_on s taken) (map SideFunction fns) f) (IsWrongFunctions env es xs fns) _ (λ f h. elim h [
       | inl wrong ↦ wrong_functions env es xs fns f wrong

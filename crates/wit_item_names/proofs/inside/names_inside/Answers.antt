@@ -34,14 +34,16 @@ wrong files top side x = uses_fault files top (side_uses side (world_part x))
 abbrev lent : Option (Bor (List InterfaceItem)) → List (List InterfaceItem)
 lent o = option_to_list (option_copied o)
 
-pub interface_names-requires-clause-paths : goal.interface_names-requires-clause-paths
-interface_names-requires-clause-paths c = λ u among. (
-    let xs = c.world_items-part-items.result.now in
-    let i = c.loop-part.part-index in
-    let p = world_part c.part-item.result in
-    let at : slice_get (map world_part xs) i ≡ Some p = slice_get-map world_part xs i ∙ ap (option_map world_part) (slice_get_read xs _ i c.part-item.result refl c.loop-part-test.true c.part-item.is) in
-    let uses = written_uses c.args.side p c.in-Some.items.now (sym (ap lent c.in-Some.is) ∙ c.written_on.ensures) in
-    use_has_path c.args.files.now c.args.place (TheWorld c.args.world.now) u c.requires.item (rw c.world_items-part-items.ensures at (among_flat part_uses (map world_part xs) i p u at (side_among c.args.side p u (rw uses at among)))))
+pub interface_names-requires : goal.interface_names-requires
+interface_names-requires c = record {
+  paths = λ u among. (
+      let xs = c.world_items-part-items.result.now in
+      let i = c.loop-part.part-index in
+      let p = world_part c.part-item.result in
+      let at : slice_get (map world_part xs) i ≡ Some p = slice_get-map world_part xs i ∙ ap (option_map world_part) (slice_get_read xs _ i c.part-item.result refl c.loop-part-test.true c.part-item.is) in
+      let uses = written_uses c.args.side p c.in-Some.items.now (sym (ap lent c.in-Some.is) ∙ c.written_on.ensures) in
+      use_has_path c.args.files.now c.args.place (TheWorld c.args.world.now) u c.requires.item (rw c.world_items-part-items.ensures at (among_flat part_uses (map world_part xs) i p u at (side_among c.args.side p u (rw uses at among)))));
+}
 
 pub returns-in_err-interface_names-clause-first : goal.returns-in_err-interface_names-clause-first
 returns-in_err-interface_names-clause-first c =

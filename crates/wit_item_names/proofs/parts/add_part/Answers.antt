@@ -14,8 +14,8 @@ use Rattle.wit_item_names.proofs.parts.add_part.Goals.{in-Defining+in_ok-push-in
 use Rattle.wit_files.specs.FileNames.{top_at}
 use Rattle.wit_item_names.proofs.parts.add_part.Goals as goal
 
-pub sound_source-requires-clause-path : goal.sound_source-requires-clause-path
-sound_source-requires-clause-path c = let u : Use = c.in-Using.used.now in (rw c.in-Using.is at c.requires.paths) u (contains_at (u ∷ []) 0 u refl)
+pub sound_source-requires : goal.sound_source-requires
+sound_source-requires c = let u : Use = c.in-Using.used.now in record { path = (rw c.in-Using.is at c.requires.paths) u (contains_at (u ∷ []) 0 u refl) }
 
 pub returns-in_err-from-in-Using-clause-first : goal.returns-in_err-from-in-Using-clause-first
 returns-in_err-from-in-Using-clause-first c =

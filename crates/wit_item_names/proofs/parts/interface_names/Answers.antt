@@ -30,13 +30,15 @@ loop-part-init c = rw c.in_ok-names.ensures.items (record {
   none = refl;
 })
 
-pub add_part-requires-clause-paths : goal.add_part-requires-clause-paths
-add_part-requires-clause-paths c = λ u among. (
-    let xs = c.args.items.now in
-    let i = c.loop-part.part-index in
-    let x = c.part-item.result in
-    let own = ap own_uses c.interface_part.ensures ∙ item_own x in
-    c.requires.paths u (among_flat item_uses xs i x u (slice_get_read xs _ i x refl c.loop-part-test.true c.part-item.is) (rw own at among)))
+pub add_part-requires : goal.add_part-requires
+add_part-requires c = record {
+  paths = λ u among. (
+      let xs = c.args.items.now in
+      let i = c.loop-part.part-index in
+      let x = c.part-item.result in
+      let own = ap own_uses c.interface_part.ensures ∙ item_own x in
+      c.requires.paths u (among_flat item_uses xs i x u (slice_get_read xs _ i x refl c.loop-part-test.true c.part-item.is) (rw own at among)));
+}
 
 pub returns-in_err-add_part-clause-first : goal.returns-in_err-add_part-clause-first
 returns-in_err-add_part-clause-first c =

@@ -31,13 +31,15 @@ loop-part-init c = rw c.in_ok-names.ensures.items (record {
   none = refl;
 })
 
-pub add_part-requires-clause-paths : goal.add_part-requires-clause-paths
-add_part-requires-clause-paths c = λ u among. (
-    let xs = c.world_items-written.result.now in
-    let i = c.loop-part.part-index in
-    let q = part_behind c.world_part.result in
-    let at : slice_get (map world_part xs) i ≡ Some q = slice_get-map world_part xs i ∙ ap (option_map world_part) (slice_get_read xs _ i c.part-item.result refl c.loop-part-test.true c.part-item.is) ∙ ap Some (sym c.world_part.ensures) in
-    use_has_path c.args.files.now c.args.place (TheWorld c.args.world.now) u c.requires.item (rw c.world_items-written.ensures at (among_flat part_uses (map world_part xs) i q u at (own_among q u among))))
+pub add_part-requires : goal.add_part-requires
+add_part-requires c = record {
+  paths = λ u among. (
+      let xs = c.world_items-written.result.now in
+      let i = c.loop-part.part-index in
+      let q = part_behind c.world_part.result in
+      let at : slice_get (map world_part xs) i ≡ Some q = slice_get-map world_part xs i ∙ ap (option_map world_part) (slice_get_read xs _ i c.part-item.result refl c.loop-part-test.true c.part-item.is) ∙ ap Some (sym c.world_part.ensures) in
+      use_has_path c.args.files.now c.args.place (TheWorld c.args.world.now) u c.requires.item (rw c.world_items-written.ensures at (among_flat part_uses (map world_part xs) i q u at (own_among q u among))));
+}
 
 pub returns-in_err-add_part-clause-first : goal.returns-in_err-add_part-clause-first
 returns-in_err-add_part-clause-first c =

@@ -18,5 +18,5 @@ returns c =
     let files = c.args.files.now in
     let to : Target = target_behind c.args.target in
     let some = other_found c.found.result c.in_ok-found.found (sym c.other_place.ensures ∙ c.in_ok-found.was) in
-    let entries = c.args.entries.now in
-    got_at entries c.in_ok-found.found c.get.result c.get.ensures.lookup ∙ entry_found files entries to c.found.result c.in_ok-found.found c.found.ensures some c.requires
+    let entries = c.entries.result.now in
+    got_at entries c.in_ok-found.found c.get.result c.get.ensures.lookup ∙ entry_found files entries to c.found.result c.in_ok-found.found c.found.ensures some c.entries.ensures

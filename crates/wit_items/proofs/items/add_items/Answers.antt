@@ -98,42 +98,44 @@ returns-in_err-names_inside-in-World-2-clause-first c =
     let exported = uses_fault files top (flat_map (side_uses Exported) ps) in
     rw (p.1, p.2) (reports_same (whole files top xs file.decl_list.items.items c.declarations-declared.ensures) (reports-in (wrong files top) xs i (ast.World c.in-World.world) _ at c.loop-item.invariant.none (reports_same (sym (or_none (item_uses_fault files w) ∙ world_uses files top ps)) (reports_back (rw top_is at c.in_ok-world_names-in-World.ensures.first) (reports_back (rw top_is at c.in_ok-names_inside-in-World.ensures.first) (rw top_is at c.in_err-names_inside-in-World-2.ensures.first))))))
 
-pub interface_names-requires-clause-paths : goal.interface_names-requires-clause-paths
-interface_names-requires-clause-paths c = λ u has. (
-    let file = c.args.file.now in
-    let xs = c.declarations-declared.result.now in
-    let w : Item = record { top = top_names file; declared = TheInterface c.in-Interface.interface } in
-    let at : slice_get xs c.loop-item.item-index ≡ Some (ast.Interface c.in-Interface.interface) = slice_get_read xs _ c.loop-item.item-index c.item-item.result refl c.loop-item-test.true c.item-item.is ∙ ap Some c.in-Interface.is in
-    let among : Contains (file_items file) w = rw c.declarations-declared.ensures at (declared_among (declared_items (top_names file)) xs c.loop-item.item-index _ w at refl) in
-    let here = item_here c.args.files.now c.args.place file w.declared c.requires.file among in
-    use_has_path c.args.files.now c.args.place w.declared u here (rw (items_uses c.in-Interface.interface.items.items) (rw c.deref.ensures.value at has)))
+pub interface_names-requires : goal.interface_names-requires
+interface_names-requires c = record {
+  paths = λ u has. (
+      let file = c.args.file.now in
+      let xs = c.declarations-declared.result.now in
+      let w : Item = record { top = top_names file; declared = TheInterface c.in-Interface.interface } in
+      let at : slice_get xs c.loop-item.item-index ≡ Some (ast.Interface c.in-Interface.interface) = slice_get_read xs _ c.loop-item.item-index c.item-item.result refl c.loop-item-test.true c.item-item.is ∙ ap Some c.in-Interface.is in
+      let among : Contains (file_items file) w = rw c.declarations-declared.ensures at (declared_among (declared_items (top_names file)) xs c.loop-item.item-index _ w at refl) in
+      let here = item_here c.args.files.now c.args.place file w.declared c.requires.file among in
+      use_has_path c.args.files.now c.args.place w.declared u here (rw (items_uses c.in-Interface.interface.items.items) (rw c.deref.ensures.value at has)));
+}
 
-pub world_names-requires-clause-item : goal.world_names-requires-clause-item
-world_names-requires-clause-item c =
+pub world_names-requires : goal.world_names-requires
+world_names-requires c =
     let file = c.args.file.now in
     let xs = c.declarations-declared.result.now in
     let w : Item = record { top = top_names file; declared = TheWorld c.in-World.world } in
     let at : slice_get xs c.loop-item.item-index ≡ Some (ast.World c.in-World.world) = slice_get_read xs _ c.loop-item.item-index c.item-item.result refl c.loop-item-test.true c.item-item.is ∙ ap Some c.in-World.is in
     let among : Contains (file_items file) w = rw c.declarations-declared.ensures at (declared_among (declared_items (top_names file)) xs c.loop-item.item-index _ w at refl) in
-    item_here c.args.files.now c.args.place file w.declared c.requires.file among
+    record { item = item_here c.args.files.now c.args.place file w.declared c.requires.file among }
 
-pub names_inside-requires-clause-item : goal.names_inside-requires-clause-item
-names_inside-requires-clause-item c =
+pub names_inside-requires : goal.names_inside-requires
+names_inside-requires c =
     let file = c.args.file.now in
     let xs = c.declarations-declared.result.now in
     let w : Item = record { top = top_names file; declared = TheWorld c.in-World.world } in
     let at : slice_get xs c.loop-item.item-index ≡ Some (ast.World c.in-World.world) = slice_get_read xs _ c.loop-item.item-index c.item-item.result refl c.loop-item-test.true c.item-item.is ∙ ap Some c.in-World.is in
     let among : Contains (file_items file) w = rw c.declarations-declared.ensures at (declared_among (declared_items (top_names file)) xs c.loop-item.item-index _ w at refl) in
-    item_here c.args.files.now c.args.place file w.declared c.requires.file among
+    record { item = item_here c.args.files.now c.args.place file w.declared c.requires.file among }
 
-pub names_inside-requires-in-World-clause-item : goal.names_inside-requires-in-World-clause-item
-names_inside-requires-in-World-clause-item c =
+pub names_inside-requires-in-World : goal.names_inside-requires-in-World
+names_inside-requires-in-World c =
     let file = c.args.file.now in
     let xs = c.declarations-declared.result.now in
     let w : Item = record { top = top_names file; declared = TheWorld c.in-World.world } in
     let at : slice_get xs c.loop-item.item-index ≡ Some (ast.World c.in-World.world) = slice_get_read xs _ c.loop-item.item-index c.item-item.result refl c.loop-item-test.true c.item-item.is ∙ ap Some c.in-World.is in
     let among : Contains (file_items file) w = rw c.declarations-declared.ensures at (declared_among (declared_items (top_names file)) xs c.loop-item.item-index _ w at refl) in
-    item_here c.args.files.now c.args.place file w.declared c.requires.file among
+    record { item = item_here c.args.files.now c.args.place file w.declared c.requires.file among }
 
 pub loop-item-preserved : goal.loop-item-preserved
 loop-item-preserved c =

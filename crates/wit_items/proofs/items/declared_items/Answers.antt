@@ -1,84 +1,23 @@
-use Rattle.std.proofs.Common.{◌≡◌, ℕ, ◌+◌, ◌≤◌, List, length, ◌++◌, ◌∷◌, [], Option, Some, arith, map, take, refl, sym, ap, ◌∙◌, subst}
-use Rattle.std.specs.Prelude.{slice_get}
-use Rattle.std.proofs.lemmas.List.{map-append, take_all}
-use Rattle.std.proofs.lemmas.Option.{slice_get_read}
-use Rattle.std.proofs.lemmas.Result.{err_from_is_err_and}
-use Rattle.wit_tree.specs.declared.tree.PackageFile.{PackageFile}
-use Rattle.wit_syntax.specs.Fault.{Fault}
-use Rattle.wit_syntax.specs.Source.{file_items, all_items, scope_names}
-use Rattle.wit_first.specs.First.{first_in}
-use Rattle.wit_first.specs.Uses.{item_uses_fault}
-use Rattle.wit_first.proofs.First.{in-flat, in-following, reports-in, reports_same}
-use Rattle.wit_syntax.proofs.Orders.{take_next}
-use Rattle.wit_top_names.proofs.Lost.{flat_more}
-use Rattle.wit_syntax.specs.Foreign.{visited, foreign_interfaces}
-use Rattle.wit_items.specs.Inside.{names_written}
-use Rattle.wit_items.proofs.Placed.{items_none}
-use Rattle.wit_items.proofs.Written.{inside_none}
-use Rattle.wit_items.proofs.Usable.{filed_none}
+use Rattle.std.proofs.Common.{◌∙◌}
 use Rattle.wit_items.proofs.items.declared_items.Goals as goal
 
--- of the uses of the items of a file
-abbrev wrong : List PackageFile → PackageFile → Option Fault
-wrong files file = first_in (item_uses_fault files) (file_items file)
-
-pub loop-place-init : goal.loop-place-init
-loop-place-init c = rw c.in_ok-items.ensures.items (record {
-  items = refl;
-  names = refl;
-  inside = λ side. inside_none side;
-  filed = filed_none c.args.names.now;
-  placed = items_none (map visited (foreign_interfaces c.args.names.now));
-  none = refl;
-})
-
-pub add_items-requires-clause-file : goal.add_items-requires-clause-file
-add_items-requires-clause-file c =
-    rw c.requires.files (slice_get_read c.args.files.now _ c.loop-place.place c.index-files-place.result refl c.loop-place-test.true c.index-files-place.is)
-
-pub loop-place-preserved : goal.loop-place-preserved
-loop-place-preserved c =
-    let files = c.args.names.now in
-    let i = c.loop-place.place in
-    let file = c.index-files-place.result in
-    let at : slice_get files i ≡ Some file = rw c.requires.files (slice_get_read c.args.files.now _ i file refl c.loop-place-test.true c.index-files-place.is) in
-    let before = all_items (take i files) in
-    let own = file_items file in
-    let was = c.loop-place.invariant in
-    let e = c.in_ok-add_items.ensures in
-    let more : take (i + 1) files ≡ take i files ++ file ∷ [] = take_next files i file at in
-    let grown : all_items (take (i + 1) files) ≡ before ++ own = flat_more file_items (take i files) (take (i + 1) files) file more in
-    record {
-      items = e.items ∙ ap (λ l. l ++ own) was.items ∙ sym grown;
-      names = e.names ∙ ap (λ l. l ++ map scope_names own) was.names ∙ sym (map-append scope_names before own) ∙ ap (map scope_names) (sym grown);
-      inside = λ side. e.inside side ∙ ap (λ l. l ++ map (names_written side) own) (was.inside side) ∙ sym (map-append (names_written side) before own) ∙ ap (map (names_written side)) (sym grown);
-      filed = e.filed was.filed;
-      placed = e.placed was.placed;
-      none = in-following (wrong files) files i file at was.none e.first;
-    }
-
-pub returns-in_err-add_items-clause-first : goal.returns-in_err-add_items-clause-first
-returns-in_err-add_items-clause-first c =
-    let p = err_from_is_err_and c.from_residual-in_err-add_items.result c.from_residual-in_err-add_items.ensures.1 in
-    let files = c.args.names.now in
-    let file = c.index-files-place.result in
-    let at : slice_get files c.loop-place.place ≡ Some file = rw c.requires.files (slice_get_read c.args.files.now _ c.loop-place.place file refl c.loop-place-test.true c.index-files-place.is) in
-    rw (p.1, p.2) (reports_same (sym (in-flat (item_uses_fault files) file_items files)) (reports-in (wrong files) files c.loop-place.place file _ at c.loop-place.invariant.none c.in_err-add_items.ensures.first))
-
--- the files up to the place at which the loop ends
-all_taken : (files lent : List PackageFile) (place : ℕ) → lent ≡ files → length lent ≤ place → take place files ≡ files
-all_taken files lent place same past = take_all place files (subst (λ (l : List PackageFile). length l ≤ place) same past)
+pub add_all-requires : goal.add_all-requires
+add_all-requires c = record { files = c.of-all.ensures ∙ c.requires.files }
 
 pub returns-clause-items : goal.returns-clause-items
-returns-clause-items c = c.loop-place.invariant.items ∙ ap all_items (all_taken c.args.names.now c.args.files.now c.loop-place.place (sym c.requires.files) c.loop-place-test.false)
+returns-clause-items c = rw c.of-all.ensures at c.add_all.ensures.items
 
 pub returns-clause-names : goal.returns-clause-names
-returns-clause-names c = c.loop-place.invariant.names ∙ ap (λ l. map scope_names (all_items l)) (all_taken c.args.names.now c.args.files.now c.loop-place.place (sym c.requires.files) c.loop-place-test.false)
+returns-clause-names c = rw c.of-all.ensures at c.add_all.ensures.names
 
 pub returns-clause-inside : goal.returns-clause-inside
-returns-clause-inside c = λ side. c.loop-place.invariant.inside side ∙ ap (λ l. map (names_written side) (all_items l)) (all_taken c.args.names.now c.args.files.now c.loop-place.place (sym c.requires.files) c.loop-place-test.false)
+returns-clause-inside c = rw c.of-all.ensures at c.add_all.ensures.inside
+
+pub returns-clause-filed : goal.returns-clause-filed
+returns-clause-filed c = rw c.of-all.ensures at c.add_all.ensures.filed
+
+pub returns-clause-placed : goal.returns-clause-placed
+returns-clause-placed c = rw c.of-all.ensures at c.add_all.ensures.placed
 
 pub returns-clause-first : goal.returns-clause-first
-returns-clause-first c =
-    let files = c.args.names.now in
-    in-flat (item_uses_fault files) file_items files ∙ ap (first_in (wrong files)) (sym (all_taken files c.args.files.now c.loop-place.place (sym c.requires.files) c.loop-place-test.false)) ∙ c.loop-place.invariant.none
+returns-clause-first c = rw c.of-all.ensures at c.add_all.ensures.first

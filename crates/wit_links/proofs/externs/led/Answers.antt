@@ -13,19 +13,19 @@ local_name-requires-clause-local c =
 
 pub returns-in-Some : goal.returns-in-Some
 returns-in-Some c =
-    let front = front_of c.args.interfaces.now.foreign.now in
+    let front = front_of c.args.interfaces.now.files in
     let by_name = c.args.interfaces.now.by_name in
     let reached = rw c.in-Interface.is at c.reach.ensures in
-    (reached.2, ap (interface_place front by_name) (sym reached.0) ∙ source_placed c.args.files.now front by_name c.in-Interface.source c.requires.others reached.1 ∙ sym c.resolved.ensures ∙ c.in-Some.is)
+    (reached.2, ap (interface_place front by_name) (sym reached.0) ∙ source_placed c.args.interfaces.now.files by_name c.in-Interface.source reached.1 ∙ sym c.resolved.ensures ∙ c.in-Some.is)
 
 pub returns-in-None : goal.returns-in-None
 returns-in-None c =
-    let files = c.args.files.now in
+    let files = c.args.interfaces.now.files in
     let top = top_at files c.args.place in
-    let front = front_of c.args.interfaces.now.foreign.now in
+    let front = front_of c.args.interfaces.now.files in
     let by_name = c.args.interfaces.now.by_name in
     let reached = rw c.in-Interface.is at c.reach.ensures in
-    led_lost files front by_name top c.args.path.now c.local_name.result c.local_name.ensures reached.2 (ap (interface_place front by_name) (sym reached.0) ∙ source_placed files front by_name c.in-Interface.source c.requires.others reached.1 ∙ sym c.resolved.ensures ∙ c.in-None.is)
+    led_lost files front by_name top c.args.path.now c.local_name.result c.local_name.ensures reached.2 (ap (interface_place front by_name) (sym reached.0) ∙ source_placed files by_name c.in-Interface.source reached.1 ∙ sym c.resolved.ensures ∙ c.in-None.is)
 
 pub returns-in-World : goal.returns-in-World
 returns-in-World c = rw c.in-World.is at c.reach.ensures

@@ -18,15 +18,15 @@ use Rattle.wit_links.proofs.externs.world_externs.Goals.{in-TypeDef+in_ok-add_de
 use Rattle.wit_files.specs.FileNames.{top_at}
 use Rattle.wit_links.proofs.externs.world_externs.Goals as goal
 
-pub held_extern-requires-clause-part : goal.held_extern-requires-clause-part
-held_extern-requires-clause-part c =
+pub held_extern-requires : goal.held_extern-requires
+held_extern-requires c =
     let w = c.args.world.now in
     let xs = c.world_items-part-items.result.now in
     let k = c.loop-part.part-index in
     let x = c.in-Extern.written in
     let at : slice_get w.items.items k ≡ Some c.part-item.result = ap (λ (l : List WorldItem). slice_get l k) (sym c.world_items-part-items.ensures) ∙ slice_get_read xs _ k c.part-item.result refl c.loop-part-test.true c.part-item.is in
     let there : slice_get (map world_part w.items.items) k ≡ Some (Crossing x) = slice_get-map world_part w.items.items k ∙ ap (option_map world_part) at ∙ ap (λ (y : WorldItem). Some (world_part y)) c.in-Extern.is in
-    record { declared = TheWorld w; item = c.requires.item; among = contains_at (map world_part w.items.items) k (Crossing x) there }
+    record { part = record { declared = TheWorld w; item = c.requires.item; among = contains_at (map world_part w.items.items) k (Crossing x) there } }
 
 pub loop-part-preserved : goal.loop-part-preserved
 loop-part-preserved c =
@@ -35,7 +35,7 @@ loop-part-preserved c =
     let x = c.part-item.result in
     let was = c.loop-part.invariant in
     let old = c.loop-part.externs.items in
-    let others = front_of c.args.interfaces.now.foreign.now in
+    let others = front_of c.args.interfaces.now.files in
     let by_name = c.args.interfaces.now.by_name in
     let front = flat_map part_items (map world_part (take i xs)) in
     let more : take (i + 1) xs ≡ take i xs ++ x ∷ [] = take_more xs i x c.loop-part-test.true ∙ ap (λ (y : WorldItem). take i xs ++ y ∷ []) (sym c.part-item.is) in
@@ -46,7 +46,7 @@ loop-part-preserved c =
           let d = b.in-TypeDef.definition in
           rw b.externs-is (record {
             behind = b.in_ok-add_definition-in-TypeDef.ensures.behind ∙ ap (λ (l : List SideItem). l ++ map SideFunction (definition_functions d.name d.body)) was.behind ∙ sym (grown ∙ ap part b.in-TypeDef.is);
-            led = led_kept c.args.files.now others by_name (top_at c.args.files.now c.args.place) old _ b.in_ok-add_definition-in-TypeDef.ensures.links was.led;
+            led = led_kept c.args.interfaces.now.files others by_name (top_at c.args.interfaces.now.files c.args.place) old _ b.in_ok-add_definition-in-TypeDef.ensures.links was.led;
           }))
       | in-Use b ↦ rw b.externs-is (record { behind = was.behind ∙ sym (grown ∙ ap part b.in-Use.is ∙ append-nil front); led = was.led })
       | in-Include b ↦ rw b.externs-is (record { behind = was.behind ∙ sym (grown ∙ ap part b.in-Include.is ∙ append-nil front); led = was.led })
@@ -59,6 +59,6 @@ loop-part-preserved c =
                 ∙ ap (λ (l : List SideItem). externs_behind old ++ l) b.held_extern.ensures.behind
                 ∙ ap (λ (l : List SideItem). l ++ extern_items b.in-Extern.written b.in-Extern.written.kind) was.behind
                 ∙ sym (grown ∙ ap part b.in-Extern.is);
-            led = subst (AreLed c.args.files.now others by_name (top_at c.args.files.now c.args.place)) (sym b.in_ok-push-in-Extern.ensures) (led_more c.args.files.now others by_name (top_at c.args.files.now c.args.place) old h was.led b.held_extern.ensures.led);
+            led = subst (AreLed c.args.interfaces.now.files others by_name (top_at c.args.interfaces.now.files c.args.place)) (sym b.in_ok-push-in-Extern.ensures) (led_more c.args.interfaces.now.files others by_name (top_at c.args.interfaces.now.files c.args.place) old h was.led b.held_extern.ensures.led);
           }))
     ]

@@ -11,5 +11,5 @@ use Rattle.wit_links.proofs.externs.world_externs.Given as goal
 abbrev pub invariant-loop-part : goal.invariant-loop-part
 invariant-loop-part l = record {
   behind : externs_behind l.externs.items ≡ flat_map part_items (map world_part (take l.part-index l.part-items));
-  led : AreLed l.files (front_of l.interfaces.foreign.now) l.interfaces.by_name (top_at l.files l.place) l.externs.items;
+  led : AreLed l.interfaces.files (front_of l.interfaces.files) l.interfaces.by_name (top_at l.interfaces.files l.place) l.externs.items;
 }

@@ -8,7 +8,7 @@ use Rattle.wit_links.proofs.includes.included_world.Goals as goal
 
 pub returns-in-Foreign : goal.returns-in-Foreign
 returns-in-Foreign c =
-    let files = c.args.files.now in
+    let files = c.args.worlds.now.interfaces.now.files in
     let top = top_at files c.args.place in
     let p = package_of c.in-Foreign.«package».now in
     let id = c.in-Foreign.name in

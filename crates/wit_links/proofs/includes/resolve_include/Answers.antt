@@ -10,11 +10,12 @@ use Rattle.wit_first.proofs.Bridge.{refused_by, stability_agrees}
 use Rattle.wit_links.specs.Includes.{IsLost}
 use Rattle.wit_item_names.proofs.Others.{part_visited, world_missing, world_found}
 use Rattle.wit_files.specs.FileNames.{top_at}
+use Rattle.wit_links.proofs.WorldsFound.{worlds_found}
 use Rattle.wit_links.proofs.includes.resolve_include.Goals as goal
 
 pub returns-in-None-clause-refused : goal.returns-in-None-clause-refused
 returns-in-None-clause-refused c =
-    let files = c.args.files.now in
+    let files = c.args.worlds.now.interfaces.now.files in
     let top = top_at files c.args.place in
     let i = c.args.include.now in
     let to : Target = leads top i.from in
@@ -32,10 +33,10 @@ returns-clause-is c =
     let i = c.args.include.now in
     let ws = c.args.worlds.now.arena in
     let by_name = c.args.worlds.now.by_name in
-    let to : Target = leads (top_at c.args.files.now c.args.place) i.from in
+    let to : Target = leads (top_at c.args.worlds.now.interfaces.now.files c.args.place) i.from in
     let found = sym c.included_world.ensures ∙ c.in-Some.is in (
       rw c.deref-3.ensures.value at c.in_ok-stability.ensures,
-      world_found c.args.files.now by_name ws to c.in-Some.id c.requires.index c.requires.front found,
+      world_found c.args.worlds.now.interfaces.now.files by_name ws to c.in-Some.id (worlds_found c.args.worlds.now.interfaces.now.files ws by_name c.args.worlds.now.found) c.args.worlds.now.front found,
       c.in_ok-names.ensures ∙ ap (map renamed) c.deref-2.ensures.value,
       ap (λ (id : Id). id.span) c.path_id-path.ensures,
     )
@@ -47,4 +48,4 @@ pub returns-in_err-check_stability-clause-refused : goal.returns-in_err-check_st
 returns-in_err-check_stability-clause-refused c =
     let p = err_from_is_err_and c.from_residual.result c.from_residual.ensures.1 in
     let i = c.args.include.now in
-    rw (p.1, p.2) (refused_weaker (IsBrokenStability i.attributes.items) (λ f. IsBrokenStability i.attributes.items f ⊎ IsLost c.args.files.now c.args.worlds.now.by_name (top_at c.args.files.now c.args.place) i f) _ (λ f h. inl h) (rw c.deref.ensures.value at (refused_by (stability_agrees c.deref.result.now) c.in_err-check_stability.ensures)))
+    rw (p.1, p.2) (refused_weaker (IsBrokenStability i.attributes.items) (λ f. IsBrokenStability i.attributes.items f ⊎ IsLost c.args.worlds.now.interfaces.now.files c.args.worlds.now.by_name (top_at c.args.worlds.now.interfaces.now.files c.args.place) i f) _ (λ f h. inl h) (rw c.deref.ensures.value at (refused_by (stability_agrees c.deref.result.now) c.in_err-check_stability.ensures)))

@@ -25,22 +25,22 @@ part_at items xs k x y all lt is same = ap (λ (l : List WorldItem). slice_get l
 
 pub loop-part-init : goal.loop-part-init
 loop-part-init c = record {
-  are = rw c.in_ok-includes.ensures.items (included_none (worlds_at (others_of c.args.files.now) c.args.worlds.now.arena) (top_at c.args.files.now c.args.place));
+  are = rw c.in_ok-includes.ensures.items (included_none (worlds_at (others_of c.args.worlds.now.interfaces.now.files) c.args.worlds.now.arena) (top_at c.args.worlds.now.interfaces.now.files c.args.place));
   stable = stable_none;
 }
 
-pub resolve_include-requires-clause-part : goal.resolve_include-requires-clause-part
-resolve_include-requires-clause-part c =
+pub resolve_include-requires : goal.resolve_include-requires
+resolve_include-requires c =
     let w = c.args.world.now in
     let k = c.loop-part.part-index in
     let i = c.in-Include.include in
     let at = part_at w.items.items c.world_items-part-items.result.now k c.part-item.result (world_item.Include i) c.world_items-part-items.ensures c.loop-part-test.true c.part-item.is c.in-Include.is in
     let there = slice_get-map world_part w.items.items k ∙ ap (option_map world_part) at in
-    record { declared = TheWorld w; item = c.requires.item; among = contains_at (map world_part w.items.items) k (Including i) there }
+    record { part = record { declared = TheWorld w; item = c.requires.item; among = contains_at (map world_part w.items.items) k (Including i) there } }
 
 pub returns-in_err-include-clause-refused : goal.returns-in_err-include-clause-refused
 returns-in_err-include-clause-refused c =
-    let files = c.args.files.now in
+    let files = c.args.worlds.now.interfaces.now.files in
     let top = top_at files c.args.place in
     let p = err_from_is_err_and c.from_residual-in_err-include.result c.from_residual-in_err-include.ensures.1 in
     let by_name = c.args.worlds.now.by_name in
@@ -56,7 +56,7 @@ returns-in_err-include-clause-refused c =
 
 pub loop-part-preserved : goal.loop-part-preserved
 loop-part-preserved c =
-    let worlds = worlds_at (others_of c.args.files.now) c.args.worlds.now.arena in
+    let worlds = worlds_at (others_of c.args.worlds.now.interfaces.now.files) c.args.worlds.now.arena in
     let items = c.args.world.now.items.items in
     let k = c.loop-part.part-index in
     let x = c.part-item.result in
@@ -67,7 +67,7 @@ loop-part-preserved c =
           let i = b.in-Include.include in
           let next : included (take (k + 1) items) ≡ included (take k items) ++ i ∷ [] = included_next items k i (at ∙ ap Some b.in-Include.is) in
           rw (b.includes-is, next, b.in_ok-push.ensures.items) (record {
-            are = included_more worlds (top_at c.args.files.now c.args.place) (included (take k items)) c.loop-part.includes.items i _ was.are b.in_ok-include.ensures.is;
+            are = included_more worlds (top_at c.args.worlds.now.interfaces.now.files c.args.place) (included (take k items)) c.loop-part.includes.items i _ was.are b.in_ok-include.ensures.is;
             stable = stable_more (included (take k items)) i was.stable b.in_ok-include.ensures.stable;
           }))
       | in_default b ↦ (
@@ -77,7 +77,7 @@ loop-part-preserved c =
 
 pub returns-clause-are : goal.returns-clause-are
 returns-clause-are c =
-    let files = c.args.files.now in
+    let files = c.args.worlds.now.interfaces.now.files in
     let top = top_at files c.args.place in
     let worlds = worlds_at (others_of files) c.args.worlds.now.arena in
     let w = c.args.world.now in

@@ -8,6 +8,6 @@ use Rattle.wit_links.proofs.includes.resolve_includes.Given as goal
 
 abbrev pub invariant-loop-part : goal.invariant-loop-part
 invariant-loop-part l = record {
-  are : AreIncluded (worlds_at (others_of l.files) l.worlds.arena) (top_at l.files l.place) (included (take l.part-index l.world.items.items)) l.includes.items;
+  are : AreIncluded (worlds_at (others_of l.worlds.interfaces.now.files) l.worlds.arena) (top_at l.worlds.interfaces.now.files l.place) (included (take l.part-index l.world.items.items)) l.includes.items;
   stable : AreStable (included (take l.part-index l.world.items.items));
 }

@@ -19,12 +19,12 @@ use Rattle.wit_items.specs.Interfaces.{cells_of}
 use Rattle.wit_scopes.proofs.UsedNames.{wrong_used}
 use Rattle.wit_uses.proofs.uses.resolve_uses.Goals as goal
 
-pub resolve_use-requires-clause-placed : goal.resolve_use-requires-clause-placed
-resolve_use-requires-clause-placed c =
+pub resolve_use-requires : goal.resolve_use-requires
+resolve_use-requires c =
     let uses = c.args.uses.now in
     let i = c.loop-name.name-index in
     let u = c.name-item.result in
-    c.requires.placed.each i u (slice_get_read uses _ i u refl c.loop-name-test.true c.name-item.is)
+    record { placed = c.requires.placed.each i u (slice_get_read uses _ i u refl c.loop-name-test.true c.name-item.is) }
 
 pub returns-in_err-resolve_use-clause-refused : goal.returns-in_err-resolve_use-clause-refused
 returns-in_err-resolve_use-clause-refused c =

@@ -1,4 +1,4 @@
-use Rattle.std.proofs.Common.{rules, ◌≡◌, Some, None, inl, inr, ap, subst}
+use Rattle.std.proofs.Common.{rules, ◌≡◌, Some, None, length, inl, inr, ap, subst}
 use Rattle.wit_arena.specs.Resolving.{env_of}
 use Rattle.wit_scopes.specs.Held.{source_behind, IsPlaced}
 use Rattle.wit_item_names.specs.Interfaces.{front_of}
@@ -9,13 +9,13 @@ pub get-requires-in-Some : goal.get-requires-in-Some
 get-requires-in-Some c =
     let is = c.args.interfaces.now in
     let found : env_of is.by_name c.in-Declared.path.name.now ≡ Some c.in-Some.id.now = search rules in
-    named_within (front_of is.foreign.now) is.arena is.by_name c.in-Declared.path.name.now c.in-Some.id.now c.requires.index found
+    named_within (length (front_of is.files)) is.arena is.by_name c.in-Declared.path.name.now c.in-Some.id.now is.found found
 
 pub returns-in-Some-clause-found : goal.returns-in-Some-clause-found
 returns-in-Some-clause-found c =
     let is = c.args.interfaces.now in
     let found : env_of is.by_name c.in-Declared.path.name.now ≡ Some c.in-Some.id.now = search rules in
-    rw c.in-Declared.is (named_found (front_of is.foreign.now) is.arena is.by_name c.in-Declared.path.name.now c.in-Some.id.now _ c.requires.index found c.get-in-Some.ensures)
+    rw c.in-Declared.is (named_found (front_of is.files) is.arena is.by_name c.in-Declared.path.name.now c.in-Some.id.now _ is.found found c.get-in-Some.ensures)
 
 pub returns-in-None-clause-refused : goal.returns-in-None-clause-refused
 returns-in-None-clause-refused c =
@@ -29,14 +29,14 @@ returns-in-None-clause-refused c =
 pub id_at-id-requires : goal.id_at-id-requires
 id_at-id-requires c =
     let is = c.args.interfaces.now in
-    front_within is.foreign.now is.arena c.in-Foreign.place _ c.requires.front (subst (IsPlaced (front_of is.foreign.now)) c.in-Foreign.is c.requires.placed)
+    front_within (front_of is.files) is.arena c.in-Foreign.place _ is.front (subst (IsPlaced (front_of is.files)) c.in-Foreign.is c.requires.placed)
 
 pub get-requires-in-Foreign : goal.get-requires-in-Foreign
 get-requires-in-Foreign c =
     let is = c.args.interfaces.now in
-    rw c.id_at-id.ensures (front_within is.foreign.now is.arena c.in-Foreign.place _ c.requires.front (subst (IsPlaced (front_of is.foreign.now)) c.in-Foreign.is c.requires.placed))
+    rw c.id_at-id.ensures (front_within (front_of is.files) is.arena c.in-Foreign.place _ is.front (subst (IsPlaced (front_of is.files)) c.in-Foreign.is c.requires.placed))
 
 pub returns-in-Foreign-clause-found : goal.returns-in-Foreign-clause-found
 returns-in-Foreign-clause-found c =
     let is = c.args.interfaces.now in
-    rw c.in-Foreign.is (front_found (front_of is.foreign.now) is.arena c.in-Foreign.place _ _ (subst (IsPlaced (front_of is.foreign.now)) c.in-Foreign.is c.requires.placed) (rw c.id_at-id.ensures at c.get-in-Foreign.ensures))
+    rw c.in-Foreign.is (front_found (front_of is.files) is.arena c.in-Foreign.place _ _ (subst (IsPlaced (front_of is.files)) c.in-Foreign.is c.requires.placed) (rw c.id_at-id.ensures at c.get-in-Foreign.ensures))

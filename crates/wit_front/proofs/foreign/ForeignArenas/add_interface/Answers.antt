@@ -1,6 +1,4 @@
 use Rattle.std.proofs.Common.{ℕ, [], ◌∷◌, ◌++◌, refl, ap, ◌∙◌}
-use Rattle.std.specs.Prelude.{map}
-use Rattle.std.proofs.lemmas.List.{map-append}
 use Rattle.wit_model.specs.declared.ast_item.AstItem.TheVariants as entry
 use Rattle.wit_model.specs.declared.interface.Interface.{Interface}
 use Rattle.wit_files.specs.Foreign.{foreign_behind}
@@ -10,7 +8,6 @@ use Rattle.wit_front.proofs.foreign.ForeignArenas.add_interface.Goals as goal
 pub returns : goal.returns
 returns c = λ vs before. (
     let a = c.args.self.now in
-    let visits = ap (map foreign_behind) c.in_ok-push.ensures.items ∙ map-append foreign_behind a.visits.items (c.args.visit ∷ []) in
     let interfaces = c.in_ok-id.ensures.ok ∙ ap (λ (i : Interface). a.interfaces ++ i ∷ []) c.foreign_interface-interface.ensures in
-    let entries = c.in_ok-push-2.ensures.items ∙ ap (λ (id : ℕ). a.entries.items ++ entry.Interface id ∷ []) c.in_ok-id.ensures.id in
-    arenas-interface vs (foreign_behind c.args.visit) a _ before refl c.requires visits interfaces refl entries)
+    let entries = c.in_ok-push.ensures.items ∙ ap (λ (id : ℕ). a.entries.items ++ entry.Interface id ∷ []) c.in_ok-id.ensures.id in
+    arenas-interface vs (foreign_behind c.args.visit) a _ before refl c.requires interfaces refl entries)

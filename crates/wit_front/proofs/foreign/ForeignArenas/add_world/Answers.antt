@@ -10,4 +10,4 @@ returns c = λ vs before. (
     let a = c.args.self.now in
     let worlds = c.in_ok-id.ensures.ok ∙ ap (λ (w : World). a.worlds ++ w ∷ []) c.in_ok-world.ensures in
     let entries = c.in_ok-push.ensures.items ∙ ap (λ (id : ℕ). a.entries.items ++ entry.World id ∷ []) c.in_ok-id.ensures.id in
-    arenas-world vs (foreign_behind c.args.visit) a _ before refl c.requires refl refl worlds entries)
+    arenas-world vs (foreign_behind c.args.visit) a _ before refl c.requires refl worlds entries)

@@ -30,4 +30,4 @@ returns-clause-taken c = λ vs ts s apart at_place before. (
     let none : lookup (pointwise nat_eq q) i.types ≡ None = ap (λ (x : Interface). lookup (pointwise nat_eq q) x.types) (sym same) ∙ sym c.get-2.ensures ∙ none_copied c.get-2.result (sym c.is_some.ensures ∙ c.if-is_some.false) in
     let types = c.in_ok-ty.ensures.added ∙ ap (λ (x : List ℕ). es ++ named (owner.Interface c.id_at-id.result) x Unknown (notes_behind c.in_ok-notes.notes) c.args.name.now.name.span ∷ []) c.in_ok-text.ensures ∙ ap (λ (m : Notes). es ++ named (owner.Interface c.id_at-id.result) q Unknown m c.args.name.now.name.span ∷ []) c.in_ok-notes.ensures in
     let interfaces = ap (slice_set c.args.self.now.interfaces c.id_at-id.result) (c.in_ok-add_type.ensures ∙ ap (λ (k : ℕ). with_types i (insert_entry (pointwise nat_eq) i.types q k)) c.in_ok-ty.ensures.id) in
-    taken-fresh vs ts s c.args.attributes.now c.args.name.now c.id_at-id.result i es c.args.self.now place c.get_mut.ensures.value before apart none c.add_named.new.self _ types refl interfaces refl refl c.in_ok-push.ensures.items)
+    taken-fresh vs ts s c.args.attributes.now c.args.name.now c.id_at-id.result i es c.args.self.now place c.get_mut.ensures.value before apart none c.add_named.new.self _ types interfaces refl refl c.in_ok-push.ensures.items)

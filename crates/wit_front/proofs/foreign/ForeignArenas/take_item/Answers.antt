@@ -1,8 +1,7 @@
-use Rattle.std.proofs.Common.{◌≡◌, ◌++◌, List, map, refl, ◌∙◌, subst, append_assoc}
+use Rattle.std.proofs.Common.{◌++◌, List, refl, ◌∙◌, subst, append_assoc}
 use Rattle.std.specs.List.{flat_map}
 use Rattle.wit_tree.specs.declared.tree.WorldSide.TheVariants.{Imported, Exported}
 use Rattle.wit_syntax.specs.Source.{Taking}
-use Rattle.wit_scopes.specs.Held.{name_behind}
 use Rattle.wit_items.specs.Items.{names_behind}
 use Rattle.wit_items.specs.Inside.{inside_behind}
 use Rattle.wit_front.specs.Front.{IsTaken, names_takings}

@@ -8,7 +8,7 @@ use Rattle.wit_first.specs.Uses.{item_uses_fault}
 use Rattle.wit_items.specs.Front.{AreItemsPlaced}
 use Rattle.wit_items.specs.Items.{item_behind, names_behind, AreFiled}
 use Rattle.wit_items.specs.Inside.{inside_behind, names_written}
-use Rattle.wit_items.proofs.items.declared_items.Given as goal
+use Rattle.wit_items.proofs.items.add_all.Given as goal
 
 abbrev pub invariant-loop-place : goal.invariant-loop-place
 invariant-loop-place l = record {
