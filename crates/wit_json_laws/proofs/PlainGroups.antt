@@ -1,0 +1,80 @@
+-- The packages of a group that sources make are plain, where their interfaces have ids of 64 bits.
+use Rattle.std.proofs.Common.{◌≡◌, ℕ, zero, suc, ◌≤◌, ◌^◌, List, [], ◌∷◌, ◌++◌, length, map, Some, inl, inr, refl, sym, ap, ◌∙◌, subst}
+use Rattle.std.specs.Prelude.{All, slice_get, string_bytes}
+use Rattle.std.specs.List.{AllZip}
+use Rattle.wit_lex.specs.declared.source.Source.{Source}
+use Rattle.wit_tree.specs.declared.tree.NestedPackage.{NestedPackage}
+use Rattle.wit_tree.specs.declared.tree.PackageFile.{PackageFile}
+use Rattle.wit_tree.specs.declared.tree.SourceFile.{SourceFile}
+use Rattle.wit_grammar.specs.Seen.{see_file, see_nested}
+use Rattle.wit_model.specs.declared.unresolved.UnresolvedPackage.{UnresolvedPackage}
+use Rattle.wit_syntax.proofs.Lists.{at_split}
+use Rattle.wit_arena.specs.Faithful.{IsMadeOf}
+use Rattle.wit_arena.proofs.MadePackage.{made_of_package}
+use Rattle.wit_nested.specs.Nested.{GrowByNested, IsMadeByNested, file_of}
+use Rattle.wit_groups.specs.Groups.{AreTaken, IsGroup, IsTree}
+use Rattle.wit_groups.specs.Groups.AreTaken.{None, More}
+use Rattle.wit_json.specs.Laws.{IsPlain}
+use Rattle.wit_json.specs.Plain.{IsPlainPackage}
+use Rattle.wit_json_laws.specs.Laws.{HasFewInterfaces}
+use Rattle.wit_json_laws.specs.Trees.{HasPlainNames, IsPlainFile, IsPlainNested}
+use Rattle.wit_json_laws.proofs.Lists.{all_at, all_both, all_more, all_none, at_all}
+use Rattle.wit_json_laws.proofs.PlainNotes.{all_seen}
+use Rattle.wit_json_laws.proofs.PlainPackage.{package_made_plain}
+use Rattle.wit_json_laws.proofs.SpelledFiles.{spelled_plain}
+
+-- plain legal files make the package
+abbrev IsPlainMade : UnresolvedPackage → Type 0
+IsPlainMade p = (files : List PackageFile) × All HasPlainNames files × IsMadeOf files p
+
+made_plain : (p : UnresolvedPackage) → IsPlainMade p → HasFewInterfaces p → IsPlainPackage p
+made_plain p made few = package_made_plain made.0 made.2.legal made.1 p (made_of_package made.0 p made.2.legal made.2.whole) few
+
+read_plain : (s : Source) (read : SourceFile) → IsTree s read → IsPlainFile (see_file read)
+read_plain s read tree = spelled_plain (string_bytes s.contents) s.offset (see_file read) tree
+
+file_plain : (read : SourceFile) → IsPlainFile (see_file read) → HasPlainNames read.file
+file_plain read h = record { header = h.header; declarations = h.declarations }
+
+nested_plain : (n : NestedPackage) → IsPlainNested (see_nested n) → HasPlainNames (file_of n)
+nested_plain n h = record { header = h.name; declarations = h.declarations }
+
+-- ---- the files of the main package
+taken_plain : (turn : List Source) (files : List PackageFile) (nested : List UnresolvedPackage) → AreTaken turn files nested → All HasPlainNames files
+taken_plain turn files nested None = all_none HasPlainNames
+taken_plain turn files nested (More sources before packages kept s read taken tree fit grow) =
+    all_both HasPlainNames before (read.file ∷ []) (taken_plain sources before packages taken) (all_more HasPlainNames read.file [] (file_plain read (read_plain s read tree)) (all_none HasPlainNames))
+
+-- ---- nested packages
+zip_plain : (ns : List NestedPackage) (ps : List UnresolvedPackage) → AllZip IsMadeByNested ns ps → ((k : ℕ) (n : NestedPackage) → slice_get ns k ≡ Some n → HasPlainNames (file_of n)) → (k : ℕ) (p : UnresolvedPackage) → slice_get ps k ≡ Some p → IsPlainMade p
+zip_plain [] [] all plain k p at = absurd (let wrong : ⊥ = cc in wrong)
+zip_plain [] (q ∷ ps) all plain k p at = absurd all
+zip_plain (n ∷ ns) [] all plain k p at = absurd all
+zip_plain (n ∷ ns) (q ∷ ps) all plain zero p at =
+    let same : q ≡ p = cc in
+    (file_of n ∷ [], all_more HasPlainNames (file_of n) [] (plain 0 n refl) (all_none HasPlainNames), subst (IsMadeOf (file_of n ∷ [])) same all.0.made)
+zip_plain (n ∷ ns) (q ∷ ps) all plain (suc k) p at = zip_plain ns ps all.1 (λ j m there. plain (suc j) m there) k p at
+
+abbrev ArePlainMade : List UnresolvedPackage → Type 0
+ArePlainMade ps = (k : ℕ) (p : UnresolvedPackage) → slice_get ps k ≡ Some p → IsPlainMade p
+
+grown_plain : (ns : List NestedPackage) (old new : List UnresolvedPackage) → GrowByNested ns old new → ((k : ℕ) (n : NestedPackage) → slice_get ns k ≡ Some n → HasPlainNames (file_of n)) → ArePlainMade old → ArePlainMade new
+grown_plain ns old new grow plain made k p at = elim (at_split old grow.made k p (ap (λ (l : List UnresolvedPackage). slice_get l k) (sym grow.grown) ∙ at)) [
+  | inl front ↦ made k p front
+  | inr back ↦ zip_plain ns grow.made grow.each plain back.0 p back.2
+]
+
+no_packages : ArePlainMade []
+no_packages k p at = absurd (let wrong : ⊥ = cc in wrong)
+
+nested_made : (turn : List Source) (files : List PackageFile) (nested : List UnresolvedPackage) → AreTaken turn files nested → ArePlainMade nested
+nested_made turn files nested None = no_packages
+nested_made turn files nested (More sources before packages kept s read taken tree fit grow) =
+    let whole = read_plain s read tree in
+    grown_plain read.nested.items packages kept grow (λ k n at. nested_plain n (all_seen IsPlainNested see_nested read.nested.items whole.nested k n at)) (nested_made sources before packages taken)
+
+pub plain_group : (sources : List Source) (main : UnresolvedPackage) (nested : List UnresolvedPackage) → IsGroup sources main nested → HasFewInterfaces main → All HasFewInterfaces nested → IsPlain (sources, main, nested)
+plain_group sources main nested group few all_few = record {
+  main = made_plain main (group.files, taken_plain group.turn group.files nested group.taken, group.made) few;
+  nested = all_at IsPlainPackage nested (λ k p at. made_plain p (nested_made group.turn group.files nested group.taken k p at) (at_all HasFewInterfaces nested all_few k p at));
+}

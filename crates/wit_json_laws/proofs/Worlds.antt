@@ -1,0 +1,147 @@
+-- The maps of worlds that legal files make have no key twice.
+use Rattle.std.proofs.Common.{◌≡◌, ℕ, ◌<◌, List, [], ◌∷◌, ◌++◌, length, map, take, Some, None, Contains, refl, sym, ap, ◌∙◌, subst}
+use Rattle.std.specs.Prelude.{All, slice_get}
+use Rattle.std.specs.List.{flat_map}
+use Rattle.std.proofs.lemmas.Grind.{flat_map-append}
+use Rattle.std.proofs.lemmas.List.{map-append}
+use Rattle.wit_names.specs.Folded.{folded_key}
+use Rattle.wit_tree.specs.declared.tree.Include.{Include}
+use Rattle.wit_tree.specs.declared.tree.PackageFile.{PackageFile}
+use Rattle.wit_tree.specs.declared.tree.WorldSide.{WorldSide}
+use Rattle.wit_tree.specs.declared.tree.WorldSide.TheVariants.{Imported, Exported}
+use Rattle.wit_functions.specs.Setters.{placed}
+use Rattle.wit_graph.specs.Table.{IsOrder}
+use Rattle.wit_graph.proofs.Tables.{slice_get-take}
+use Rattle.wit_model.specs.declared.world.WorldItem.{WorldItem}
+use Rattle.wit_model.specs.declared.world.WorldKey.{WorldKey}
+use Rattle.wit_model.specs.declared.world.WorldKey.TheVariants as key
+use Rattle.wit_model.specs.Worlds.{function_of}
+use Rattle.wit_syntax.specs.Address.{Address}
+use Rattle.wit_syntax.specs.Broken.{LinkedTwice, IsLegal}
+use Rattle.wit_syntax.specs.Crossing.{same_side}
+use Rattle.wit_syntax.specs.Fault.{fault}
+use Rattle.wit_syntax.specs.Foreign.{ForeignVisit, foreign_worlds}
+use Rattle.wit_syntax.specs.Repeats.{AllDiffer}
+use Rattle.wit_syntax.specs.Scope.{includes, rows_of, worlds_of}
+use Rattle.wit_syntax.specs.Sides.{SideItem, SideLink, Link, all_scopes, inline_items, item_called, item_inline, item_link, item_side, items_on, side_called, side_items}
+use Rattle.wit_syntax.specs.Signature.{Called, name_called}
+use Rattle.wit_syntax.specs.Source.{Item, ScopeName, address, all_items, leads, path_id, path_scope, scope_names}
+use Rattle.wit_syntax.proofs.Found.{contains_at}
+use Rattle.wit_syntax.proofs.Inline.{length-inline_behind}
+use Rattle.wit_syntax.proofs.Kept.{kept_at}
+use Rattle.wit_syntax.proofs.Lists.{flat_map_has}
+use Rattle.wit_syntax.proofs.Repeated.{called_key, differ_at, differ_by}
+use Rattle.wit_syntax.proofs.Scopes.{scopes_declared}
+use Rattle.wit_arena.specs.Made.{AreInOrder, AreNamesInOrder, entries_on, foreign_world, interface_scopes, name_imports, names_in_turn, own_world, scope_place, world_entries}
+use Rattle.wit_arena.specs.Meet.{Key}
+use Rattle.wit_arena.specs.SideItems.{settled}
+use Rattle.wit_parser.proofs.PartsScopes.{links_placed}
+use Rattle.wit_parser.proofs.PartsSides.{HasPlace}
+use Rattle.wit_json.specs.Keys.{HasOwnKeys, HasOwnSides}
+use Rattle.wit_json_laws.proofs.Leading.{interface_led}
+use Rattle.wit_json_laws.proofs.Lists.{all_both, all_map, no_keys, own_keys}
+use Rattle.wit_json_laws.proofs.Members.{side_keys, worlds_declared}
+use Rattle.wit_json_laws.proofs.Placed.{placed_differ}
+use Rattle.wit_json_laws.proofs.Sides.{AreAtNames, AreLinksApart, Entry, bare_differ, bare_place, both_at_names, called_name, import_at_names, import_names, import_places, key_names, key_of, key_places, keys_differ, names_among, place_of, places_among, side_at_names, side_names, side_places}
+
+place_tells : (ss : List Address) (a b : Address) → HasPlace ss a → HasPlace ss b → scope_place ss a ≡ scope_place ss b → a ≡ b
+place_tells ss a b one other same = (let both : Some a ≡ Some b = sym one ∙ ap (slice_get ss) same ∙ other in cc)
+
+-- names that differ once folded do
+called_differ : (cs : List Called) → AllDiffer (map called_key cs) → AllDiffer (map called_name cs)
+called_differ cs d = differ_by called_name cs (λ i j x y at_x at_y same. differ_at called_key cs d i j x y at_x at_y (ap folded_key same))
+
+settled_keys : (ns : List Include) (es : List Entry) → AllDiffer (map key_of es) → AreAtNames es → HasOwnKeys (settled ns es)
+settled_keys [] es d named = own_keys (placed function_of es) (placed_differ function_of key.Name es d named)
+settled_keys (n ∷ ns) es d named = own_keys es d
+
+foreign_sides : (v : ForeignVisit) → HasOwnSides (foreign_world v)
+foreign_sides v = record { imports = no_keys {K = WorldKey} {A = WorldItem}; exports = no_keys {K = WorldKey} {A = WorldItem} }
+
+module _ (files : List PackageFile) (legal : IsLegal files) (items : List Item) (ordered : AreInOrder files items) (order : Address → List ℕ) (orders : AreNamesInOrder files order) (id : Key → ℕ) where
+  abbrev ss : List Address
+  ss = interface_scopes files items
+
+  module _ (t : ℕ) (w : Item) (at : slice_get (worlds_of items) t ≡ Some w) where
+    among : Contains (all_items files) w
+    among = worlds_declared files legal items ordered t w at
+
+    scope_among : Contains (all_scopes files) w
+    scope_among = scopes_declared files w among
+
+    least : IsOrder (rows_of (scope_names w)) (order (address w))
+    least = orders w scope_among
+
+    abbrev there : WorldSide → List SideItem
+    there side = items_on side (side_items w)
+
+    abbrev all_called : WorldSide → List Called
+    all_called side = side_called side (scope_names w) (there side) (order (address w))
+
+    abbrev on : WorldSide → List Entry
+    on side = entries_on side (world_entries id ss w)
+
+    count : length (inline_items w) ≡ length (flat_map item_inline (side_items w))
+    count = length-inline_behind w [] (side_items w)
+
+    link_placed : (side : WorldSide) (p : ℕ) (a : Link) → slice_get (there side) p ≡ Some (SideLink a) → HasPlace ss (path_scope w.top a.path)
+    link_placed side p a at_a =
+        let k = kept_at (λ (x : SideItem). same_side side (item_side x)) (side_items w) p (SideLink a) at_a in
+        let n = flat_map_has item_link (side_items w) k.0 0 (SideLink a) a k.1 refl in
+        links_placed files legal items ordered t w at n.0 a n.1
+
+    links_apart : (side : WorldSide) → AreLinksApart id (address w) ss w.top (there side)
+    links_apart side p q a b before at_a at_b bare_a bare_b same =
+        let earlier : Contains (take q (there side)) (SideLink a) = contains_at (take q (there side)) p (SideLink a) (slice_get-take (there side) q p before ∙ at_a) in
+        let one = link_placed side p a at_a in
+        let other = link_placed side q b at_b in
+        let scopes : path_scope w.top a.path ≡ path_scope w.top b.path = place_tells ss (path_scope w.top a.path) (path_scope w.top b.path) one other same in
+        let leads_to = interface_led files legal items ordered (leads w.top b.path) other in
+        legal (fault 43 (path_id b.path).span) (LinkedTwice w among (side, q, a, b, earlier, at_b, bare_a, bare_b, scopes, leads_to, refl))
+
+    names_differ : (side : WorldSide) → AllDiffer (map called_name (all_called side))
+    names_differ side = called_differ (all_called side) (side_keys files legal w scope_among (order (address w)) least side)
+
+    places_differ : (side : WorldSide) → AllDiffer (flat_map (bare_place id (address w) ss w.top) (there side))
+    places_differ side = bare_differ id (address w) ss w.top (there side) (links_apart side)
+
+    exported_keys : AllDiffer (map key_of (on Exported))
+    exported_keys =
+        keys_differ (map key_of (on Exported))
+        (subst AllDiffer (sym (side_names id (address w) ss w.top Exported (side_items w) (inline_items w) count)) (names_differ Exported))
+        (subst AllDiffer (sym (side_places id (address w) ss w.top Exported (side_items w) (inline_items w) count)) (places_differ Exported))
+
+    abbrev xs : List ScopeName
+    xs = names_in_turn order w
+
+    abbrev front : List Entry
+    front = name_imports id (address w) xs
+
+    all_names : names_among (front ++ on Imported) ≡ map called_name (all_called Imported)
+    all_names =
+        ap (flat_map key_names) (map-append key_of front (on Imported))
+        ∙ flat_map-append key_names (map key_of front) (map key_of (on Imported))
+        ∙ ap (λ (l : List (List ℕ)). l ++ names_among (on Imported)) (import_names id (address w) xs)
+        ∙ ap (λ (l : List (List ℕ)). map called_name (map name_called xs) ++ l) (side_names id (address w) ss w.top Imported (side_items w) (inline_items w) count)
+        ∙ sym (map-append called_name (map name_called xs) (flat_map item_called (there Imported)))
+
+    all_places : places_among (front ++ on Imported) ≡ flat_map (bare_place id (address w) ss w.top) (there Imported)
+    all_places =
+        ap (flat_map key_places) (map-append key_of front (on Imported))
+        ∙ flat_map-append key_places (map key_of front) (map key_of (on Imported))
+        ∙ ap (λ (l : List ℕ). l ++ places_among (on Imported)) (import_places id (address w) xs)
+        ∙ side_places id (address w) ss w.top Imported (side_items w) (inline_items w) count
+
+    imported_keys : AllDiffer (map key_of (front ++ on Imported))
+    imported_keys = keys_differ (map key_of (front ++ on Imported)) (subst AllDiffer (sym all_names) (names_differ Imported)) (subst AllDiffer (sym all_places) (places_differ Imported))
+
+    own_sides : (ws : List Address) → HasOwnSides (own_world id order ss ws w)
+    own_sides ws = record {
+      imports = settled_keys (includes w) (front ++ on Imported) imported_keys (both_at_names front (on Imported) (import_at_names id (address w) xs) (side_at_names id (address w) ss w.top Imported (side_items w) (inline_items w)));
+      exports = settled_keys (includes w) (on Exported) exported_keys (side_at_names id (address w) ss w.top Exported (side_items w) (inline_items w));
+    }
+
+  pub all_sides : (ws : List Address) → All HasOwnSides (map foreign_world (foreign_worlds files) ++ map (own_world id order ss ws) (worlds_of items))
+  all_sides ws = all_both HasOwnSides (map foreign_world (foreign_worlds files)) (map (own_world id order ss ws) (worlds_of items))
+      (all_map HasOwnSides foreign_world (foreign_worlds files) (λ k v at. foreign_sides v))
+      (all_map HasOwnSides (own_world id order ss ws) (worlds_of items) (λ k w at. own_sides k w at ws))
