@@ -44,12 +44,13 @@ MakesPlain f = (at : Span) → IsPlainAttribute (f at)
 gives_after_at : Gives MakesPlain after_at
 unfolding after_at
 gives_after_at =
-    let a = act (λ (x : (Span × Release) × Span) (at : Span). since_of at x) since_attribute in
-    let b = act (λ (x : Name × Span) (at : Span). unstable_of at x) unstable_attribute in
-    let c = act (λ (x : (Span × Release) × Span) (at : Span). deprecated_of at x) deprecated_attribute in
-    gives_either MakesPlain a (either b c) (gives_act MakesPlain (λ (x : (Span × Release) × Span) (at : Span). since_of at x) since_attribute (λ x s e h at. gives_since x s e h))
-    (gives_either MakesPlain b c (gives_act MakesPlain (λ (x : Name × Span) (at : Span). unstable_of at x) unstable_attribute (λ x s e h at. tt))
-    (gives_act MakesPlain (λ (x : (Span × Release) × Span) (at : Span). deprecated_of at x) deprecated_attribute (λ x s e h at. gives_deprecated x s e h)))
+    let f : (Span × Release) × Span → Span → Attribute = λ x at. since_of at x in
+    let g : Name × Span → Span → Attribute = λ x at. unstable_of at x in
+    let k : (Span × Release) × Span → Span → Attribute = λ x at. deprecated_of at x in
+    let b = act g unstable_attribute in
+    let c = act k deprecated_attribute in
+    gives_either MakesPlain (act f since_attribute) (either b c) (gives_act MakesPlain f since_attribute (λ x s e h at. gives_since x s e h))
+    (gives_either MakesPlain b c (gives_act MakesPlain g unstable_attribute (λ x s e h at. tt)) (gives_act MakesPlain k deprecated_attribute (λ x s e h at. gives_deprecated x s e h)))
 
 gives_attribute : Gives IsPlainAttribute attribute
 unfolding attribute
