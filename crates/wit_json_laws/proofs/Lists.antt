@@ -52,5 +52,5 @@ pairs_differ xs d i j c before within same =
 pub own_keys : {K A : Type 0} (entries : List (K × A)) → AllDiffer (map (λ (e : K × A). e.0) entries) → HasOwnKeys entries
 own_keys {K} {A} entries d = pairs_differ (map (λ (e : K × A). e.0) entries) d
 
-pub no_keys : {K A : Type 0} → HasOwnKeys {K = K} {A = A} []
-no_keys {K} {A} = own_keys {K = K} {A = A} [] differ_none
+pub no_keys : (K A : Type 0) → HasOwnKeys {K = K} {A = A} []
+no_keys K A = own_keys {K = K} {A = A} [] differ_none

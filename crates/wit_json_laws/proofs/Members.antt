@@ -77,7 +77,7 @@ module _ (files : List PackageFile) (legal : IsLegal files) where
   foreign_members : (id : Key → ℕ) (v : ForeignVisit) → HasOwnMembers (foreign_interface files id v)
   foreign_members id v = record {
     types = name_keys id (visited v) (scope files (visited v)) (scope_differs files legal (visited v));
-    functions = no_keys {K = List ℕ} {A = Function};
+    functions = no_keys (List ℕ) Function;
   }
 
   own_members : (id : Key → ℕ) (order : Address → List ℕ) → AreNamesInOrder files order → (i : Item) → Contains (all_scopes files) i → is_world i ≡ false → HasOwnMembers (own_interface id order i)

@@ -5,17 +5,15 @@ use Rattle.wit_tree.specs.declared.tree.PackageFile.{PackageFile}
 use Rattle.wit_lex.specs.declared.source.Source.{Source}
 use Rattle.wit_model.specs.declared.unresolved.UnresolvedPackage.{UnresolvedPackage}
 use Rattle.wit_syntax.specs.Broken.{IsLegal}
-use Rattle.wit_arena.specs.Faithful.{IsMadeOf}
 use Rattle.wit_arena.specs.Made.{Makes, world_scopes}
 use Rattle.wit_arena.proofs.MadePackage.{made_of_package}
 use Rattle.wit_groups.specs.Groups.{IsGroup}
-use Rattle.wit_resolved.specs.Valid.{IsMade}
-use Rattle.wit_resolved.proofs.Making.{main_made, nested_made}
 use Rattle.wit_json.specs.Keys.{HasOwnEntries, HasOwnKeys, HasOwnMembers, HasOwnSides}
 use Rattle.wit_json.specs.Laws.{HasOwnMaps}
 use Rattle.wit_json_laws.proofs.Deps.{Dep, dep_items, dep_keys}
 use Rattle.wit_json_laws.proofs.Lists.{all_at}
 use Rattle.wit_json_laws.proofs.Members.{all_members}
+use Rattle.wit_json_laws.proofs.PlainGroups.{IsPlainMade, main_made, nested_made}
 use Rattle.wit_json_laws.proofs.Worlds.{all_sides}
 
 pub own_entries : (files : List PackageFile) (p : UnresolvedPackage) → IsLegal files → Makes files p → HasOwnEntries p
@@ -26,8 +24,8 @@ own_entries files p legal m = record {
   items = subst (All (λ (d : Dep). HasOwnKeys d.1)) (sym m.deps) (dep_items files);
 }
 
-made_entries : (p : UnresolvedPackage) → IsMade p → HasOwnEntries p
-made_entries p made = own_entries made.0 p made.1.legal (made_of_package made.0 p made.1.legal made.1.whole)
+made_entries : (p : UnresolvedPackage) → IsPlainMade p → HasOwnEntries p
+made_entries p made = own_entries made.0 p made.2.legal (made_of_package made.0 p made.2.legal made.2.whole)
 
 pub own_maps : (sources : List Source) (main : UnresolvedPackage) (nested : List UnresolvedPackage) → IsGroup sources main nested → HasOwnMaps (sources, main, nested)
 own_maps sources main nested group = record {

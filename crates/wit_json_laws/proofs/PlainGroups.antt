@@ -1,5 +1,5 @@
--- The packages of a group that sources make are plain, where their interfaces have ids of 64 bits.
-use Rattle.std.proofs.Common.{◌≡◌, ℕ, zero, suc, ◌≤◌, ◌^◌, List, [], ◌∷◌, ◌++◌, length, map, Some, inl, inr, refl, sym, ap, ◌∙◌, subst}
+-- Plain files make the packages of a group that sources make.
+use Rattle.std.proofs.Common.{◌≡◌, ℕ, zero, suc, List, [], ◌∷◌, ◌++◌, map, Some, inl, inr, refl, sym, ap, ◌∙◌, subst}
 use Rattle.std.specs.Prelude.{All, slice_get, string_bytes}
 use Rattle.std.specs.List.{AllZip}
 use Rattle.wit_lex.specs.declared.source.Source.{Source}
@@ -16,19 +16,18 @@ use Rattle.wit_groups.specs.Groups.{AreTaken, IsGroup, IsTree}
 use Rattle.wit_groups.specs.Groups.AreTaken.{None, More}
 use Rattle.wit_json.specs.Laws.{IsPlain}
 use Rattle.wit_json.specs.Plain.{IsPlainPackage}
-use Rattle.wit_json_laws.specs.Laws.{HasFewInterfaces}
+use Rattle.wit_json_laws.specs.Laws.{IsPlainWhereMade}
 use Rattle.wit_json_laws.specs.Trees.{HasPlainNames, IsPlainFile, IsPlainNested}
 use Rattle.wit_json_laws.proofs.Lists.{all_at, all_both, all_more, all_none, at_all}
 use Rattle.wit_json_laws.proofs.PlainNotes.{all_seen}
-use Rattle.wit_json_laws.proofs.PlainPackage.{package_made_plain}
 use Rattle.wit_json_laws.proofs.SpelledFiles.{spelled_plain}
 
 -- plain legal files make the package
-abbrev IsPlainMade : UnresolvedPackage → Type 0
+abbrev pub IsPlainMade : UnresolvedPackage → Type 0
 IsPlainMade p = (files : List PackageFile) × All HasPlainNames files × IsMadeOf files p
 
-made_plain : (p : UnresolvedPackage) → IsPlainMade p → HasFewInterfaces p → IsPlainPackage p
-made_plain p made few = package_made_plain made.0 made.2.legal made.1 p (made_of_package made.0 p made.2.legal made.2.whole) few
+made_plain : (p : UnresolvedPackage) → IsPlainMade p → IsPlainWhereMade p → IsPlainPackage p
+made_plain p made plain = plain made.0 made.2.legal made.1 (made_of_package made.0 p made.2.legal made.2.whole)
 
 read_plain : (s : Source) (read : SourceFile) → IsTree s read → IsPlainFile (see_file read)
 read_plain s read tree = spelled_plain (string_bytes s.contents) s.offset (see_file read) tree
@@ -67,14 +66,21 @@ grown_plain ns old new grow plain made k p at = elim (at_split old grow.made k p
 no_packages : ArePlainMade []
 no_packages k p at = absurd (let wrong : ⊥ = cc in wrong)
 
-nested_made : (turn : List Source) (files : List PackageFile) (nested : List UnresolvedPackage) → AreTaken turn files nested → ArePlainMade nested
-nested_made turn files nested None = no_packages
-nested_made turn files nested (More sources before packages kept s read taken tree fit grow) =
+packages_made : (turn : List Source) (files : List PackageFile) (nested : List UnresolvedPackage) → AreTaken turn files nested → ArePlainMade nested
+packages_made turn files nested None = no_packages
+packages_made turn files nested (More sources before packages kept s read taken tree fit grow) =
     let whole = read_plain s read tree in
-    grown_plain read.nested.items packages kept grow (λ k n at. nested_plain n (all_seen IsPlainNested see_nested read.nested.items whole.nested k n at)) (nested_made sources before packages taken)
+    grown_plain read.nested.items packages kept grow (λ k n at. nested_plain n (all_seen IsPlainNested see_nested read.nested.items whole.nested k n at)) (packages_made sources before packages taken)
 
-pub plain_group : (sources : List Source) (main : UnresolvedPackage) (nested : List UnresolvedPackage) → IsGroup sources main nested → HasFewInterfaces main → All HasFewInterfaces nested → IsPlain (sources, main, nested)
-plain_group sources main nested group few all_few = record {
-  main = made_plain main (group.files, taken_plain group.turn group.files nested group.taken, group.made) few;
-  nested = all_at IsPlainPackage nested (λ k p at. made_plain p (nested_made group.turn group.files nested group.taken k p at) (at_all HasFewInterfaces nested all_few k p at));
-}
+module _ (sources : List Source) (main : UnresolvedPackage) (nested : List UnresolvedPackage) (group : IsGroup sources main nested) where
+  pub main_made : IsPlainMade main
+  main_made = (group.files, taken_plain group.turn group.files nested group.taken, group.made)
+
+  pub nested_made : (k : ℕ) (p : UnresolvedPackage) → slice_get nested k ≡ Some p → IsPlainMade p
+  nested_made = packages_made group.turn group.files nested group.taken
+
+  pub plain_group : IsPlainWhereMade main → All IsPlainWhereMade nested → IsPlain (sources, main, nested)
+  plain_group one each = record {
+    main = made_plain main main_made one;
+    nested = all_at IsPlainPackage nested (λ k p at. made_plain p (nested_made k p at) (at_all IsPlainWhereMade nested each k p at));
+  }

@@ -42,9 +42,7 @@ use Rattle.wit_arena.specs.Meet.{Key, Def}
 use Rattle.wit_arena.specs.SideItems.{inline_entry, link_item, link_key, settled}
 use Rattle.wit_arena.specs.Whole.{dep, foreign_entry}
 use Rattle.wit_arena.proofs.Placed.{placed_at}
-use Rattle.wit_parser.specs.Ids.{AreItemsWithin, IsKeyWithin, IsItemWithin}
-use Rattle.wit_parser.proofs.Ids.{ids_within}
-use Rattle.wit_parser.proofs.PartsMade.{package_of_made}
+use Rattle.wit_parser.specs.Ids.{AreIdsWithin, AreItemsWithin, IsKeyWithin}
 use Rattle.wit_json.specs.Plain.{HasVersions, IsPlainDep, IsPlainExtern, IsPlainInterface, IsPlainItem, IsPlainKey, IsPlainName, IsPlainPackage, IsPlainWorld}
 use Rattle.wit_json_laws.specs.Trees.{HasPlainNames, IsPlainInclude, IsPlainPackageId, IsPlainText}
 use Rattle.wit_json_laws.proofs.Deps.{Dep}
@@ -210,9 +208,8 @@ module _ (files : List PackageFile) (legal : IsLegal files) (plain : All HasPlai
       subst (λ (l : List World). All IsPlainBesides l) (sym m.worlds)
       (all_both IsPlainBesides (map foreign_world (foreign_worlds files)) (map own (worlds_of m.items)) (all_map IsPlainBesides foreign_world (foreign_worlds files) (λ k v at. foreign_world_plain v)) (all_map IsPlainBesides own (worlds_of m.items) world_plain))
 
-  worlds_plain : length p.interfaces ≤ 2 ^ 64 → All IsPlainWorld p.worlds
-  worlds_plain few =
-      let within = ids_within files p (package_of_made files p legal m) in
+  worlds_plain : AreIdsWithin p → length p.interfaces ≤ 2 ^ 64 → All IsPlainWorld p.worlds
+  worlds_plain within few =
       all_at IsPlainWorld p.worlds (λ k w at. (
       let own = at_all IsPlainBesides p.worlds worlds_besides k w at in
       let there = within.worlds k w at in
@@ -223,10 +220,10 @@ module _ (files : List PackageFile) (legal : IsLegal files) (plain : All HasPlai
         includes = own.includes;
       }))
 
-  pub package_made_plain : length p.interfaces ≤ 2 ^ 64 → IsPlainPackage p
-  package_made_plain few = record {
+  pub package_made_plain : AreIdsWithin p → length p.interfaces ≤ 2 ^ 64 → IsPlainPackage p
+  package_made_plain within few = record {
     name = name_plain (last_header files) p.name (last_header_plain files plain) m.name;
-    worlds = worlds_plain few;
+    worlds = worlds_plain within few;
     interfaces = interfaces_plain;
     types = types_plain files plain legal p m;
     deps = deps_plain;

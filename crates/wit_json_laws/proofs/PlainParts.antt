@@ -73,8 +73,7 @@ accessor_plain form.Setter = refl
 
 dotted_plain : (front r f : List ℕ) (a : FuncForm) → IsPlainText front → IsPlainText r → IsPlainText f → IsPlainText (front ++ accessor a ++ (r ++ codes "." ++ f))
 dotted_plain front r f a p q h =
-    plain_both front (accessor a ++ (r ++ codes "." ++ f)) p
-    (plain_both (accessor a) (r ++ codes "." ++ f) (accessor_plain a) (plain_both r (codes "." ++ f) q (plain_both (codes ".") f refl h)))
+    plain_both (front ++ accessor a) (r ++ codes "." ++ f) (plain_both front (accessor a) p (accessor_plain a)) (plain_both (r ++ codes ".") f (plain_both r (codes ".") q refl) h)
 
 member_plain : (r : Id) (f : ResourceFunc) → IsPlainText r.name.now → IsPlainMember (see_resource_func f) → IsPlainSource (resource_function r f)
 member_plain r (resource.Method f) w h = record { name = dotted_plain (codes "[method]") r.name.now f.name.name.now f.func.form refl w h.name; attributes = h.attributes }

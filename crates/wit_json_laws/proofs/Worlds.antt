@@ -23,22 +23,19 @@ use Rattle.wit_syntax.specs.Fault.{fault}
 use Rattle.wit_syntax.specs.Foreign.{ForeignVisit, foreign_worlds}
 use Rattle.wit_syntax.specs.Repeats.{AllDiffer}
 use Rattle.wit_syntax.specs.Scope.{includes, rows_of, worlds_of}
-use Rattle.wit_syntax.specs.Sides.{SideItem, SideLink, Link, all_scopes, inline_items, item_called, item_inline, item_link, item_side, items_on, side_called, side_items}
+use Rattle.wit_syntax.specs.Sides.{SideItem, SideLink, Link, all_scopes, inline_items, item_called, item_inline, item_side, items_on, side_called, side_items}
 use Rattle.wit_syntax.specs.Signature.{Called, name_called}
 use Rattle.wit_syntax.specs.Source.{Item, ScopeName, address, all_items, leads, path_id, path_scope, scope_names}
 use Rattle.wit_syntax.proofs.Found.{contains_at}
 use Rattle.wit_syntax.proofs.Inline.{length-inline_behind}
 use Rattle.wit_syntax.proofs.Kept.{kept_at}
-use Rattle.wit_syntax.proofs.Lists.{flat_map_has}
 use Rattle.wit_syntax.proofs.Repeated.{called_key, differ_at, differ_by}
 use Rattle.wit_syntax.proofs.Scopes.{scopes_declared}
 use Rattle.wit_arena.specs.Made.{AreInOrder, AreNamesInOrder, entries_on, foreign_world, interface_scopes, name_imports, names_in_turn, own_world, scope_place, world_entries}
 use Rattle.wit_arena.specs.Meet.{Key}
 use Rattle.wit_arena.specs.SideItems.{settled}
-use Rattle.wit_parser.proofs.PartsScopes.{links_placed}
-use Rattle.wit_parser.proofs.PartsSides.{HasPlace}
 use Rattle.wit_json.specs.Keys.{HasOwnKeys, HasOwnSides}
-use Rattle.wit_json_laws.proofs.Leading.{interface_led}
+use Rattle.wit_json_laws.proofs.Leading.{HasPlace, IsLinked, link_leads}
 use Rattle.wit_json_laws.proofs.Lists.{all_both, all_map, no_keys, own_keys}
 use Rattle.wit_json_laws.proofs.Members.{side_keys, worlds_declared}
 use Rattle.wit_json_laws.proofs.Placed.{placed_differ}
@@ -56,7 +53,7 @@ settled_keys [] es d named = own_keys (placed function_of es) (placed_differ fun
 settled_keys (n ∷ ns) es d named = own_keys es d
 
 foreign_sides : (v : ForeignVisit) → HasOwnSides (foreign_world v)
-foreign_sides v = record { imports = no_keys {K = WorldKey} {A = WorldItem}; exports = no_keys {K = WorldKey} {A = WorldItem} }
+foreign_sides v = record { imports = no_keys WorldKey WorldItem; exports = no_keys WorldKey WorldItem }
 
 module _ (files : List PackageFile) (legal : IsLegal files) (items : List Item) (ordered : AreInOrder files items) (order : Address → List ℕ) (orders : AreNamesInOrder files order) (id : Key → ℕ) where
   abbrev ss : List Address
@@ -84,20 +81,16 @@ module _ (files : List PackageFile) (legal : IsLegal files) (items : List Item) 
     count : length (inline_items w) ≡ length (flat_map item_inline (side_items w))
     count = length-inline_behind w [] (side_items w)
 
-    link_placed : (side : WorldSide) (p : ℕ) (a : Link) → slice_get (there side) p ≡ Some (SideLink a) → HasPlace ss (path_scope w.top a.path)
-    link_placed side p a at_a =
-        let k = kept_at (λ (x : SideItem). same_side side (item_side x)) (side_items w) p (SideLink a) at_a in
-        let n = flat_map_has item_link (side_items w) k.0 0 (SideLink a) a k.1 refl in
-        links_placed files legal items ordered t w at n.0 a n.1
+    linked : (side : WorldSide) (p : ℕ) (a : Link) → slice_get (there side) p ≡ Some (SideLink a) → IsLinked files items (leads w.top a.path)
+    linked side p a at_a = (let k = kept_at (λ (x : SideItem). same_side side (item_side x)) (side_items w) p (SideLink a) at_a in link_leads files legal items ordered t w at k.0 a k.1)
 
     links_apart : (side : WorldSide) → AreLinksApart id (address w) ss w.top (there side)
     links_apart side p q a b before at_a at_b bare_a bare_b same =
         let earlier : Contains (take q (there side)) (SideLink a) = contains_at (take q (there side)) p (SideLink a) (slice_get-take (there side) q p before ∙ at_a) in
-        let one = link_placed side p a at_a in
-        let other = link_placed side q b at_b in
-        let scopes : path_scope w.top a.path ≡ path_scope w.top b.path = place_tells ss (path_scope w.top a.path) (path_scope w.top b.path) one other same in
-        let leads_to = interface_led files legal items ordered (leads w.top b.path) other in
-        legal (fault 43 (path_id b.path).span) (LinkedTwice w among (side, q, a, b, earlier, at_b, bare_a, bare_b, scopes, leads_to, refl))
+        let one = linked side p a at_a in
+        let other = linked side q b at_b in
+        let scopes : path_scope w.top a.path ≡ path_scope w.top b.path = place_tells ss (path_scope w.top a.path) (path_scope w.top b.path) one.placed other.placed same in
+        legal (fault 43 (path_id b.path).span) (LinkedTwice w among (side, q, a, b, earlier, at_b, bare_a, bare_b, scopes, other.sort, refl))
 
     names_differ : (side : WorldSide) → AllDiffer (map called_name (all_called side))
     names_differ side = called_differ (all_called side) (side_keys files legal w scope_among (order (address w)) least side)

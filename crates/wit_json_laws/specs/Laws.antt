@@ -1,5 +1,5 @@
 -- What holds of the packages of all legal files and of all sources, by which their JSON has no key twice and tells them.
-use Rattle.std.specs.Prelude.{ℕ, ◌≡◌, ◌≤◌, ◌^◌, List, All, length}
+use Rattle.std.specs.Prelude.{ℕ, ◌≡◌, List, All}
 use Rattle.json.specs.Strict.{HasUniqueKeys}
 use Rattle.wit_lex.specs.declared.source.Source.{Source}
 use Rattle.wit_tree.specs.declared.tree.PackageFile.{PackageFile}
@@ -15,10 +15,6 @@ use Rattle.wit_json.specs.Laws.{Group, HasOwnMaps, IsPlain, json_of, told_of}
 use Rattle.wit_json.specs.Numbers.{HasShortNumbers}
 use Rattle.wit_json.specs.Plain.{IsPlainPackage}
 use Rattle.wit_json_laws.specs.Trees.{HasPlainNames, IsPlainFile}
-
--- an id of each interface is one of 64 bits
-abbrev pub HasFewInterfaces : UnresolvedPackage → Type 0
-HasFewInterfaces p = length p.interfaces ≤ 2 ^ 64
 
 -- no map of a package that legal files make has a key twice
 abbrev pub PackagesHaveOwnMaps : Type 0

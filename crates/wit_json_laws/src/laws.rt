@@ -4,10 +4,11 @@
 //! its maps have no key twice and it is plain. Here it is that each package that legal files make has such
 //! maps, and that each group that is read from text is plain.
 ghost use Rattle.std.specs.Prelude.{All};
-ghost use Rattle.wit_json_laws.specs.Laws.{AreAlike, GroupsHaveOwnMaps, HasFewInterfaces, HasOwnJson, HaveOneJson, IsPlainWhereMade, IsPlainWhereRead, IsToldByJson, PackagesHaveOwnMaps, SpelledIsPlain};
+ghost use Rattle.wit_json_laws.specs.Laws.{AreAlike, GroupsHaveOwnMaps, HasOwnJson, HaveOneJson, IsPlainWhereMade, IsPlainWhereRead, IsToldByJson, PackagesHaveOwnMaps, SpelledIsPlain};
 
 use wit_groups::UnresolvedPackageGroup;
 use wit_model::UnresolvedPackage;
+use wit_parser::laws::{ids_are_within, value_and_parts};
 
 /// No map of a package that legal files make has a key twice: no name of an interface, no import and no
 /// export of a world, no other package and no item of one. So it is in each package of a group.
@@ -28,14 +29,16 @@ pub fn packages_are_plain(package: &UnresolvedPackage)
 {
     // The count is known to fit 64 bits once it is read, and so are the ids of interfaces.
     let _interfaces = package.interfaces.len();
+    value_and_parts(package);
+    ids_are_within(package);
 }
 
-/// Counts the interfaces of each package.
-fn count_each(packages: &[UnresolvedPackage])
-    ensures { All HasFewInterfaces packages.now }
+/// So is each of these.
+fn each_is_plain(packages: &[UnresolvedPackage])
+    ensures { All IsPlainWhereMade packages.now }
 {
     for inner in packages {
-        let _interfaces = inner.interfaces.len();
+        packages_are_plain(inner);
     }
 }
 
@@ -43,16 +46,15 @@ fn count_each(packages: &[UnresolvedPackage])
 pub fn groups_are_plain(group: &UnresolvedPackageGroup)
     ensures { IsPlainWhereRead group.now }
 {
-    let _interfaces = group.main.interfaces.len();
-    count_each(group.nested.as_slice());
+    packages_are_plain(&group.main);
+    each_is_plain(group.nested.as_slice());
 }
 
 /// No object in the JSON of a group that is read from text has a key twice, at any depth.
 pub fn keys_are_unique(group: &UnresolvedPackageGroup)
     ensures { HasOwnJson group.now }
 {
-    let _interfaces = group.main.interfaces.len();
-    count_each(group.nested.as_slice());
+    groups_are_plain(group);
 }
 
 /// Two groups that are read from text have one JSON exactly if all of them but the texts of their sources
@@ -61,8 +63,6 @@ pub fn json_tells(first: &UnresolvedPackageGroup, second: &UnresolvedPackageGrou
     ensures tells { IsToldByJson first.now second.now }
     ensures alike { AreAlike first.now second.now → HaveOneJson first.now second.now }
 {
-    let _first = first.main.interfaces.len();
-    let _second = second.main.interfaces.len();
-    count_each(first.nested.as_slice());
-    count_each(second.nested.as_slice());
+    groups_are_plain(first);
+    groups_are_plain(second);
 }

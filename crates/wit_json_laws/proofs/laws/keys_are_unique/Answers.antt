@@ -1,10 +1,9 @@
-use Rattle.std.proofs.Common.{arith, subst}
-use Rattle.std.specs.Prelude.{All}
-use Rattle.wit_json_laws.specs.Laws.{HasFewInterfaces}
-use Rattle.wit_json_laws.proofs.Alike.{unique_keys}
+use Rattle.wit_json.proofs.Keys.{group_keys}
+use Rattle.wit_json_laws.specs.Laws.{group_of}
+use Rattle.wit_json_laws.proofs.Owned.{own_maps}
 use Rattle.wit_json_laws.proofs.laws.keys_are_unique.Goals as goal
 
 pub returns : goal.returns
 returns c read =
     let g = c.args.group.now in
-    unique_keys g.source_map.sources.items g.main g.nested read (omega (arith, c.len.ensures)) (subst (All HasFewInterfaces) c.as_slice.ensures c.count_each.ensures)
+    group_keys (group_of g) (own_maps g.source_map.sources.items g.main g.nested read) (c.groups_are_plain.ensures read)

@@ -3,4 +3,6 @@ use Rattle.wit_json_laws.proofs.PlainPackage.{package_made_plain}
 use Rattle.wit_json_laws.proofs.laws.packages_are_plain.Goals as goal
 
 pub returns : goal.returns
-returns c files legal plain made = package_made_plain files legal plain c.args.«package».now made (omega (arith, c.len.ensures))
+returns c files legal plain made =
+    package_made_plain files legal plain c.args.«package».now made
+    (c.ids_are_within.ensures files (c.value_and_parts.ensures.parts files legal made)) (omega (arith, c.len-interfaces.ensures))
