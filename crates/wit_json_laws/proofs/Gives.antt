@@ -1,8 +1,7 @@
 -- What is spelled by a grammar has a property, where what is spelled by its parts has theirs.
-use Rattle.std.proofs.Common.{◌≡◌, ℕ, ◌+◌, ◌==◌, ◌&&◌, cond, Bool, true, false, not, List, [], ◌∷◌, Option, Some, None, inl, inr, sym, ap, ◌∙◌, refl, subst, arith}
+use Rattle.std.proofs.Common.{◌≡◌, ℕ, ◌+◌, ◌==◌, ◌&&◌, cond, Bool, true, false, not, List, [], ◌∷◌, Option, Some, None, inl, inr, sym, ◌∙◌, refl, subst}
 use Rattle.std.specs.Prelude.{⊤, Result, Ok, Err, All, IfSome, slice_range}
 use Rattle.std.specs.Char.{is_ascii_alphanumeric}
-use Rattle.std.specs.List.{list_all}
 use Rattle.std.proofs.lemmas.Bool.{and_from, and_parts, eqb-true}
 use Rattle.semver.specs.declared.error.Error.{Error}
 use Rattle.semver.specs.Grammar.{IsValid}

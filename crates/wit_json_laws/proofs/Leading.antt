@@ -1,5 +1,5 @@
 -- Where a world imports or exports an interface by its path, the path leads to an interface, whose scope has its place.
-use Rattle.std.proofs.Common.{◌≡◌, ℕ, zero, suc, Bool, true, false, not, cond, List, [], ◌++◌, ◌+◌, length, map, Option, Some, None, Contains, inl, inr, refl, sym, ap, ◌∙◌, subst}
+use Rattle.std.proofs.Common.{◌≡◌, ℕ, zero, suc, Bool, true, false, not, cond, List, [], ◌+◌, length, map, Some, None, Contains, inl, inr, refl, sym, ap, ◌∙◌, subst}
 use Rattle.std.specs.Prelude.{slice_get}
 use Rattle.std.specs.List.{flat_map}
 use Rattle.std.specs.Option.{option_map}
@@ -22,7 +22,7 @@ use Rattle.wit_syntax.specs.Foreign.{ForeignVisit, visited, path_visits, part_vi
 use Rattle.wit_syntax.specs.Function.{definition_functions}
 use Rattle.wit_syntax.specs.Repeats.{AllDiffer}
 use Rattle.wit_syntax.specs.Scope.{interfaces_of, use_path, use_paths, worlds_of}
-use Rattle.wit_syntax.specs.Sides.{Link, SideItem, SideFunction, SideLink, extern_items, extern_link, inline_items, part_items, side_items}
+use Rattle.wit_syntax.specs.Sides.{Link, SideFunction, SideLink, extern_items, extern_link, inline_items, part_items, side_items}
 use Rattle.wit_syntax.specs.Source.{Part, Defining, Using, Including, Doing, Crossing, Target, Local, Foreign, Item, address, all_items, at_side, is_world, item_name, item_named, leads, parts, path_id, target_scope, walk}
 use Rattle.wit_syntax.proofs.Addresses.{side_itself}
 use Rattle.wit_syntax.proofs.Found.{contains_at, find_at, find_passes}

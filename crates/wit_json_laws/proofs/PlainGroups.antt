@@ -1,5 +1,5 @@
 -- Plain files make the packages of a group that sources make.
-use Rattle.std.proofs.Common.{◌≡◌, ℕ, zero, suc, List, [], ◌∷◌, ◌++◌, map, Some, inl, inr, refl, sym, ap, ◌∙◌, subst}
+use Rattle.std.proofs.Common.{◌≡◌, ℕ, zero, suc, List, [], ◌∷◌, Some, inl, inr, refl, sym, ap, ◌∙◌, subst}
 use Rattle.std.specs.Prelude.{All, slice_get, string_bytes}
 use Rattle.std.specs.List.{AllZip}
 use Rattle.wit_lex.specs.declared.source.Source.{Source}

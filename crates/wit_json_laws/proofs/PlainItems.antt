@@ -1,9 +1,8 @@
 -- The items of plain trees, and what they name of other packages.
-use Rattle.std.proofs.Common.{◌≡◌, ℕ, zero, suc, Bool, true, false, cond, List, [], ◌∷◌, ◌++◌, map, Option, Some, None, Contains, inl, inr, refl, sym, ap, ◌∙◌, subst}
-use Rattle.std.specs.Prelude.{All, IfSome, slice_get}
+use Rattle.std.proofs.Common.{ℕ, Bool, true, false, cond, List, [], ◌∷◌, ◌++◌, Option, Some, None, Contains, inl, inr, refl, sym, subst}
+use Rattle.std.specs.Prelude.{All, IfSome}
 use Rattle.std.specs.List.{flat_map}
 use Rattle.std.specs.Option.{option_map, option_or}
-use Rattle.std.proofs.lemmas.Bool.{cases_Bool}
 use Rattle.wit_type_tree.specs.declared.leaves.Attribute.{Attribute}
 use Rattle.wit_tree.specs.declared.tree.AstItem.{AstItem}
 use Rattle.wit_tree.specs.declared.tree.AstItem.TheVariants as ast
@@ -17,20 +16,19 @@ use Rattle.wit_tree.specs.declared.tree.UsePath.{UsePath}
 use Rattle.wit_tree.specs.declared.tree.UsePath.TheVariants as path
 use Rattle.wit_tree.specs.declared.tree.WorldSide.{WorldSide}
 use Rattle.wit_tree.specs.declared.tree.WorldSide.TheVariants.{Imported, Exported}
-use Rattle.wit_grammar.specs.Seen.{see_attribute, see_declaration, see_item, see_kind, see_package_id, see_path, see_use}
+use Rattle.wit_grammar.specs.Seen.{see_declaration, see_kind, see_package_id, see_path}
 use Rattle.wit_syntax.specs.Broken.{last_header}
 use Rattle.wit_syntax.specs.Crossing.{extern_paths, inline_uses, same_side}
 use Rattle.wit_syntax.specs.Foreign.{ForeignVisit, declaration_visits, extern_visits, file_visits, foreign_visits, part_visits, path_visits}
 use Rattle.wit_syntax.specs.Function.{functions, part_functions}
 use Rattle.wit_syntax.specs.Scope.{part_uses, uses}
-use Rattle.wit_syntax.specs.Sides.{SideItem, SideInline, all_scopes, inline_items, part_items, side_items}
+use Rattle.wit_syntax.specs.Sides.{SideInline, all_scopes, inline_items, part_items, side_items}
 use Rattle.wit_syntax.specs.Source.{Part, Defining, Using, Including, Doing, Crossing, Item, TopName, TheInterface, TheWorld, about, all_items, at_side, declared_items, file_items, part_names, parts, scope_names, Taking, takings, top_names, walk}
 use Rattle.wit_syntax.proofs.Found.{at_contains}
 use Rattle.wit_syntax.proofs.Inline.{IsWritten, inline_items_at}
-use Rattle.wit_syntax.proofs.Lists.{flat_map_at}
 use Rattle.wit_syntax.proofs.Scopes.{scopes_either}
 use Rattle.wit_arena.proofs.Takings.{IsTakenAt, taken_at}
-use Rattle.wit_json_laws.specs.Trees.{HasPlainNames, IsPlainDeclaration, IsPlainItem, IsPlainKind, IsPlainPackageId, IsPlainPath}
+use Rattle.wit_json_laws.specs.Trees.{HasPlainNames, IsPlainDeclaration, IsPlainKind, IsPlainPackageId, IsPlainPath}
 use Rattle.wit_json_laws.proofs.Lists.{all_at, all_both, all_more, all_none, all_tail, at_all}
 use Rattle.wit_json_laws.proofs.PlainNotes.{ArePlain, all_flat, all_seen}
 use Rattle.wit_json_laws.proofs.PlainParts.{IsPlainPart, IsPlainScopeName, IsPlainSide, IsPlainSource, IsPlainUseOf, inline_uses_plain, interface_parts_plain, part_functions_plain, part_items_plain, part_names_plain, part_uses_plain, world_parts_plain}

@@ -1,5 +1,5 @@
 -- What plain trees tell of things: stabilities whose versions are by SemVer, and packages with plain names.
-use Rattle.std.proofs.Common.{◌≡◌, ℕ, ◌<◌, ◌==◌, ◌&&◌, Bool, true, false, not, List, [], ◌∷◌, ◌++◌, map, Option, Some, None, get_or, refl, sym, ap, ◌∙◌, arith}
+use Rattle.std.proofs.Common.{◌≡◌, ℕ, ◌==◌, ◌&&◌, true, false, not, List, ◌++◌, map, Option, Some, None, get_or, refl, sym, ap, ◌∙◌}
 use Rattle.std.specs.Prelude.{All, Contains, IfSome, slice_get}
 use Rattle.std.specs.List.{flat_map, list_all}
 use Rattle.std.specs.Option.{option_and_then, option_map, option_map_or, unwrap_or}
@@ -17,7 +17,6 @@ use Rattle.wit_type_tree.specs.declared.leaves.Attribute.{Attribute}
 use Rattle.wit_type_tree.specs.declared.leaves.Attribute.TheVariants as attribute
 use Rattle.wit_type_tree.specs.declared.leaves.Id.{Id}
 use Rattle.wit_tree.specs.declared.tree.PackageName.{PackageName as Written}
-use Rattle.wit_types.specs.declared.stability.Stability.{Stability}
 use Rattle.wit_types.specs.declared.stability.Stability.TheVariants as stability
 use Rattle.wit_grammar.specs.Seen.{see_attribute, see_name, see_package_id}
 use Rattle.wit_syntax.specs.Address.{package_of, release_of}

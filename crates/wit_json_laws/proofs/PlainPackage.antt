@@ -1,7 +1,7 @@
 -- A package that legal plain trees make is plain, where its interfaces have ids of 64 bits.
-use Rattle.std.proofs.Common.{◌≡◌, ℕ, zero, suc, ◌<◌, ◌≤◌, ◌^◌, Bool, true, false, cond, List, [], ◌∷◌, ◌++◌, length, map, Option, Some, None, Contains, refl, sym, ap, ◌∙◌, subst, arith}
+use Rattle.std.proofs.Common.{◌≡◌, ℕ, ◌≤◌, ◌^◌, Bool, true, false, cond, List, [], ◌∷◌, ◌++◌, length, map, Option, Some, None, Contains, refl, sym, subst, arith}
 use Rattle.std.specs.Prelude.{⊤, All, IfSome, slice_get}
-use Rattle.std.specs.List.{cons_option, filter, flat_map}
+use Rattle.std.specs.List.{cons_option, filter}
 use Rattle.std.specs.Option.{option_map}
 use Rattle.wit_tree.specs.declared.tree.Include.{Include}
 use Rattle.wit_tree.specs.declared.tree.PackageFile.{PackageFile}
@@ -10,7 +10,6 @@ use Rattle.wit_tree.specs.declared.tree.WorldSide.{WorldSide}
 use Rattle.wit_tree.specs.declared.tree.WorldSide.TheVariants.{Imported, Exported}
 use Rattle.wit_type_tree.specs.declared.leaves.Id.{Id}
 use Rattle.wit_types.specs.declared.stability.Stability.{Stability}
-use Rattle.wit_types.specs.declared.types.TypeDef.{TypeDef}
 use Rattle.wit_package_names.specs.declared.package_name.PackageName.{PackageName}
 use Rattle.wit_functions.specs.Setters.{pairs, placed}
 use Rattle.wit_functions.specs.declared.function.Function.{Function}
@@ -32,12 +31,12 @@ use Rattle.wit_syntax.specs.Foreign.{ForeignVisit, foreign_interfaces, foreign_i
 use Rattle.wit_syntax.specs.Function.{SourceFunction, functions}
 use Rattle.wit_syntax.specs.Notes.{stability_of}
 use Rattle.wit_syntax.specs.Scope.{includes, part_includes, worlds_of}
-use Rattle.wit_syntax.specs.Sides.{SideItem, SideFunction, SideLink, SideInline, all_scopes, inline_items, role_side, side_items}
+use Rattle.wit_syntax.specs.Sides.{SideItem, SideFunction, SideLink, SideInline, inline_items, role_side, side_items}
 use Rattle.wit_syntax.specs.Source.{Part, Defining, Using, Including, Doing, Crossing, Item, ScopeName, TopName, about, address, local_id, local_name, parts, path_scope}
 use Rattle.wit_syntax.proofs.Firsts.{firsts_at}
 use Rattle.wit_syntax.proofs.Kept.{kept_at}
 use Rattle.wit_syntax.proofs.Scopes.{scopes_declared}
-use Rattle.wit_arena.specs.Made.{AreInOrder, AreNamesInOrder, Makes, entries_on, foreign_interface, foreign_world, function_in, include_in, interface_scopes, name_imports, names_in_turn, own_interface, own_interfaces, own_world, scope_place, side_entries, world_entries, world_scopes}
+use Rattle.wit_arena.specs.Made.{Makes, entries_on, foreign_interface, foreign_world, function_in, include_in, interface_scopes, name_imports, names_in_turn, own_interface, own_interfaces, own_world, scope_place, side_entries, world_entries, world_scopes}
 use Rattle.wit_arena.specs.Meet.{Key, Def}
 use Rattle.wit_arena.specs.SideItems.{inline_entry, link_item, link_key, settled}
 use Rattle.wit_arena.specs.Whole.{dep, foreign_entry}
@@ -49,7 +48,7 @@ use Rattle.wit_json_laws.proofs.Deps.{Dep}
 use Rattle.wit_json_laws.proofs.Lists.{all_at, all_both, all_map, all_more, all_none, all_tail, at_all}
 use Rattle.wit_json_laws.proofs.Members.{interfaces_among, worlds_declared}
 use Rattle.wit_json_laws.proofs.PlainItems.{IsPlainScope, IsPlainVisit, functions_plain, last_header_plain, scope_plain, sides_plain, visits_plain}
-use Rattle.wit_json_laws.proofs.PlainNotes.{ArePlain, all_flat, no_colon, package_plain, stability_plain}
+use Rattle.wit_json_laws.proofs.PlainNotes.{all_flat, no_colon, package_plain, stability_plain}
 use Rattle.wit_json_laws.proofs.PlainParts.{IsPlainPart, IsPlainScopeName, IsPlainSide, IsPlainSource}
 use Rattle.wit_json_laws.proofs.PlainTypes.{turn_names, types_plain}
 

@@ -1,10 +1,7 @@
 -- The parts of items that plain trees declare: their functions, their names and what stands on their sides.
-use Rattle.std.proofs.Common.{◌≡◌, ℕ, Bool, true, false, cond, List, [], ◌∷◌, ◌++◌, map, Option, Some, None, Contains, inl, inr, refl, sym, ap, ◌∙◌, subst}
-use Rattle.std.specs.Prelude.{All, IfSome, codes, slice_get}
-use Rattle.std.specs.List.{flat_map}
-use Rattle.std.specs.Option.{option_map}
+use Rattle.std.proofs.Common.{ℕ, List, [], ◌++◌, map, Option, Some, None, refl}
+use Rattle.std.specs.Prelude.{All, IfSome, codes}
 use Rattle.wit_type_tree.specs.declared.leaves.Id.{Id}
-use Rattle.wit_type_tree.specs.declared.leaves.Docs.{Docs}
 use Rattle.wit_type_tree.specs.declared.leaves.Attribute.{Attribute}
 use Rattle.wit_type_tree.specs.declared.types.TypeBody.{TypeBody}
 use Rattle.wit_type_tree.specs.declared.types.TypeBody.TheVariants as body
@@ -23,16 +20,15 @@ use Rattle.wit_tree.specs.declared.tree.ExternKind.{ExternKind}
 use Rattle.wit_tree.specs.declared.tree.ExternKind.TheVariants as extern
 use Rattle.wit_tree.specs.declared.tree.Use.{Use}
 use Rattle.wit_tree.specs.declared.tree.UseName.{UseName}
-use Rattle.wit_tree.specs.declared.tree.UsePath.{UsePath}
-use Rattle.wit_grammar.specs.Seen.{see_attribute, see_body, see_definition, see_extern, see_include, see_item, see_kind, see_name, see_named_func, see_resource_func, see_use, see_used, see_world_item}
+use Rattle.wit_grammar.specs.Seen.{see_body, see_definition, see_extern, see_include, see_item, see_kind, see_named_func, see_resource_func, see_use, see_used, see_world_item}
 use Rattle.wit_syntax.specs.Address.{Address}
 use Rattle.wit_syntax.specs.Crossing.{inline_uses, item_uses}
 use Rattle.wit_syntax.specs.Function.{SourceFunction, accessor, definition_functions, extern_functions, free_function, part_functions, resource_function, side_function}
-use Rattle.wit_syntax.specs.Scope.{part_includes, part_uses}
+use Rattle.wit_syntax.specs.Scope.{part_uses}
 use Rattle.wit_syntax.specs.Sides.{SideItem, SideFunction, SideLink, SideInline, extern_items, extern_link, part_items}
 use Rattle.wit_syntax.specs.Source.{Part, Defining, Using, Including, Doing, Crossing, ScopeName, Used, Defined, TopName, about_name, interface_part, local_name, part_names, path_scope, world_part}
 use Rattle.wit_json.specs.Plain.{HasVersions}
-use Rattle.wit_json_laws.specs.Trees.{IsPlainBody, IsPlainDefinition, IsPlainExtern, IsPlainFunction, IsPlainInclude, IsPlainItem, IsPlainKind, IsPlainMember, IsPlainText, IsPlainUse, IsPlainUsed, IsPlainWord, IsPlainWorldItem}
+use Rattle.wit_json_laws.specs.Trees.{IsPlainBody, IsPlainDefinition, IsPlainExtern, IsPlainFunction, IsPlainInclude, IsPlainItem, IsPlainKind, IsPlainMember, IsPlainText, IsPlainUse, IsPlainUsed, IsPlainWorldItem}
 use Rattle.wit_json_laws.proofs.Lists.{all_map, all_more, all_none, at_all}
 use Rattle.wit_json_laws.proofs.PlainNotes.{ArePlain, all_flat, all_seen, called_plain, plain_both, stability_plain}
 

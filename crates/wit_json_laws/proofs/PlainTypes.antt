@@ -1,5 +1,5 @@
 -- The versions of the types that plain trees make are by SemVer.
-use Rattle.std.proofs.Common.{◌≡◌, ℕ, zero, suc, ◌<◌, List, [], ◌∷◌, ◌++◌, length, map, take, Option, Some, None, Contains, refl, sym, ap, ◌∙◌, subst, arith}
+use Rattle.std.proofs.Common.{◌≡◌, ℕ, zero, suc, ◌<◌, List, [], ◌∷◌, length, map, take, Option, Some, None, Contains, refl, sym, ap, ◌∙◌, subst, arith}
 use Rattle.std.specs.Prelude.{All, slice_get}
 use Rattle.std.specs.List.{filter, flat_map}
 use Rattle.std.specs.Option.{option_map_or, unwrap_or}
@@ -13,13 +13,11 @@ use Rattle.wit_types.specs.declared.types.TypeDef.{TypeDef}
 use Rattle.wit_types.specs.declared.types.TypeOwner.{TypeOwner}
 use Rattle.wit_values.specs.declared.span.Span.{Span}
 use Rattle.wit_model.specs.declared.unresolved.UnresolvedPackage.{UnresolvedPackage}
-use Rattle.wit_graph.specs.Table.{IsOrder}
 use Rattle.wit_syntax.specs.Address.{Address, InterfaceNamed, WorldNamed, InlineAt, ForeignNamed, same_address}
 use Rattle.wit_syntax.specs.Broken.{IsLegal}
 use Rattle.wit_syntax.specs.Function.{SourceFunction, signature}
 use Rattle.wit_syntax.specs.Notes.{first_known, stability_of}
-use Rattle.wit_syntax.specs.Repeats.{firsts}
-use Rattle.wit_syntax.specs.Scope.{interfaces_of, rows_of, worlds_of}
+use Rattle.wit_syntax.specs.Scope.{interfaces_of, worlds_of}
 use Rattle.wit_syntax.specs.Shape.{Shape, Shapes}
 use Rattle.wit_syntax.specs.Shape as shape
 use Rattle.wit_syntax.specs.Sides.{SideItem, SideFunction, SideLink, SideInline, all_scopes, inline_items, side_items}
@@ -31,8 +29,8 @@ use Rattle.wit_syntax.proofs.Kept.{kept_at}
 use Rattle.wit_syntax.proofs.Lists.{at_front, at_take, at_within, map_at}
 use Rattle.wit_syntax.proofs.Scopes.{scopes_declared, scopes_inline}
 use Rattle.wit_syntax.proofs.Turns.{in_turn_among}
-use Rattle.wit_arena.specs.Expr.{Exprs, exprs_of}
-use Rattle.wit_arena.specs.Made.{AreInOrder, AreNamesInOrder, IsEntryOf, Makes, interface_scopes, interface_turn, item_turns, names_in_turn, own_interfaces, turns_of_world, turns_on_sides, types_of, world_scopes}
+use Rattle.wit_arena.specs.Expr.{exprs_of}
+use Rattle.wit_arena.specs.Made.{AreInOrder, AreNamesInOrder, IsEntryOf, Makes, interface_scopes, interface_turn, item_turns, names_in_turn, turns_of_world, turns_on_sides, types_of, world_scopes}
 use Rattle.wit_arena.specs.Meet.{Key, Def, Whole, Meeting, all_function_meetings, name_meetings, shape_meetings, shapes_meetings, stability_at}
 use Rattle.wit_arena.specs.Whole.{Turned, all_meetings, owner_at, taking_meeting, turn_meetings}
 use Rattle.wit_json.specs.Plain.{HasVersions}

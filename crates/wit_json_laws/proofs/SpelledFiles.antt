@@ -1,5 +1,5 @@
 -- So has what it spells from interfaces up to files.
-use Rattle.std.proofs.Common.{◌≡◌, ℕ, zero, suc, Bool, true, false, List, [], ◌∷◌, ◌++◌, Option, Some, None, refl}
+use Rattle.std.proofs.Common.{ℕ, zero, suc, List, [], ◌∷◌, Option, Some, None, refl}
 use Rattle.std.specs.Prelude.{⊤, All, IfSome, codes}
 use Rattle.std.specs.List.{flat_map}
 use Rattle.wit_values.specs.declared.span.Span.{Span}
@@ -8,15 +8,15 @@ use Rattle.wit_type_tree.specs.declared.types.FuncForm.TheVariants.{Plain, Async
 use Rattle.wit_tree.specs.declared.tree.WorldSide.{WorldSide}
 use Rattle.wit_lex.specs.declared.kind.Kind.TheVariants.{Colon, Semicolon, OpenBrace, CloseBrace, End, Word}
 use Rattle.wit_lex.specs.declared.word.Word.TheVariants as word
-use Rattle.wit_grammar.specs.Grammar.{Gram, mark, name, name_but, docs, never, deeper, both, act, either, opt, until, listed, seq, applied, ◌▸◌, ◌◂◌}
+use Rattle.wit_grammar.specs.Grammar.{Gram, mark, name, name_but, docs, never, both, act, either, opt, until, seq, applied, ◌▸◌, ◌◂◌}
 use Rattle.wit_grammar.specs.Laws.{IsSpelled, start}
 use Rattle.wit_grammar.specs.Trees.{Name, Documents, Release, Ty, Front, Parameter, Function, Body, PackageId, Path, by_name, UsedName, InterfaceItem, uses, defines, has_func, ExternKind, inline_interface, by_path, by_func, named_path, RenamedName, WorldItem, crosses, world_uses, world_defines, includes, Declaration, of_interface, of_world, of_use, Item, declares, nests, Items, no_more, then_item, items_of, Nested, File}
-use Rattle.wit_grammar.specs.Rules.{accessor, func_word, func_of, front, at_version, item_path, package_path, rest_of_path, path_of, path, label, release_of, used, use_of, top_used, top_use_of}
-use Rattle.wit_grammar.specs.ItemRules.{closed_function, closed_signature, named_func_of, definition, definition_of, named_function, interface_item, interface_items, interface_rule, interface_of, after_second, extern_path, accessor_name, get_or_set, worded_function, inline_items, after_colon, extern_kind, side, extern, extern_of, renames, include, include_of, world_item, world_items, world_rule, world_of, declaration, two_names, package_names, last_span, package_of, braced, nest, item_of, package_to, item_to, Beginning, header, first_item, header_or_nested, package_first, beginning, declaration_in, declarations_in, nested_in, names_in, file_from, file_of, items_to_end, file}
+use Rattle.wit_grammar.specs.Rules.{accessor, func_of, front, at_version, item_path, package_path, rest_of_path, path_of, path, label, used, use_of, top_used, top_use_of}
+use Rattle.wit_grammar.specs.ItemRules.{closed_function, closed_signature, named_func_of, definition, definition_of, named_function, interface_item, interface_items, interface_rule, interface_of, after_second, extern_path, accessor_name, get_or_set, worded_function, inline_items, after_colon, extern_kind, side, extern, extern_of, renames, include, include_of, world_item, world_items, world_rule, world_of, declaration, two_names, package_names, package_of, braced, nest, item_of, package_to, item_to, Beginning, header, first_item, header_or_nested, package_first, beginning, declaration_in, declarations_in, nested_in, names_in, file_from, file_of, items_to_end, file}
 use Rattle.wit_json_laws.specs.Trees.{IsPlainDeclaration, IsPlainFile, IsPlainItem, IsPlainKind, IsPlainNested, IsPlainPackageId, IsPlainPath, IsPlainWord, IsPlainWorldItem}
 use Rattle.wit_json_laws.proofs.Gives.{Gives, gives_act, gives_after, gives_any, gives_before, gives_both, gives_either, gives_name, gives_none, gives_opt, gives_other, gives_seq, gives_until}
 use Rattle.wit_json_laws.proofs.Lists.{all_both, all_more, all_none, all_tail, at_all}
-use Rattle.wit_json_laws.proofs.SpelledItems.{IsPlainEnd, IsPlainFront, IsPlainNamed, IsPlainReleaseIf, IsPlainRest, IsPlainRestIf, IsPlainTop, IsPlainUsing, gives_at_version, gives_definition, gives_front, gives_item_path, gives_label, gives_path, gives_rest_of_path, gives_top_used, gives_used, package_plain, path_plain, release_plain}
+use Rattle.wit_json_laws.proofs.SpelledItems.{IsPlainEnd, IsPlainFront, IsPlainReleaseIf, IsPlainRestIf, gives_at_version, gives_definition, gives_front, gives_item_path, gives_label, gives_path, gives_rest_of_path, gives_top_used, gives_used, package_plain, path_plain, release_plain}
 
 -- ---- interfaces
 abbrev IsNamedFunction : Name × Function → Type 0

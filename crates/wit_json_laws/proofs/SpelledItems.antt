@@ -1,16 +1,16 @@
 -- What the grammar spells from attributes up to definitions has plain names and versions by SemVer.
-use Rattle.std.proofs.Common.{◌≡◌, ℕ, Bool, true, false, List, [], ◌∷◌, Option, Some, None}
+use Rattle.std.proofs.Common.{Bool, true, false, List, [], Option, Some, None}
 use Rattle.std.specs.Prelude.{⊤, All, IfSome, codes}
 use Rattle.semver.specs.Grammar.{IsValid}
 use Rattle.wit_values.specs.declared.span.Span.{Span}
 use Rattle.wit_lex.specs.declared.kind.Kind.TheVariants.{Colon, Semicolon, Equals, OpenParen, CloseParen, OpenBrace, CloseBrace, Dot, Slash, At, Word}
 use Rattle.wit_lex.specs.declared.word.Word.TheVariants as word
-use Rattle.wit_grammar.specs.Grammar.{Gram, mark, spanned, says, name, version, docs, both, act, either, opt, many, until, listed, seq, applied, ◌▸◌, ◌◂◌}
+use Rattle.wit_grammar.specs.Grammar.{mark, spanned, says, name, version, docs, both, act, either, until, listed, seq, applied, ◌▸◌, ◌◂◌}
 use Rattle.wit_grammar.specs.Trees.{Name, Documents, Release, Ty, Attribute, Front, Parameter, Function, ResourceFunction, Body, alias, of_fields, of_flags, of_cases, of_labels, of_funcs, Field, Flag, Case, Path, UsedName}
-use Rattle.wit_grammar.specs.Rules.{label, types, since_version, of_feature, since_of, deprecated_of, unstable_of, since_attribute, unstable_attribute, deprecated_attribute, after_at, attribute, attributes, front, at_version, release_of, item_path, package_path, rest_of_path, path_of, path, local, used_name, used_names, used, top_used}
-use Rattle.wit_grammar.specs.ItemRules.{alias_definition, field, record_definition, flag, flags_definition, case, variant_definition, enum_definition, closed_function, constructed, is_static, member, maker_of, named_func_of, member_of, resource_function, braced_functions, resource_body, resource_definition, definition}
+use Rattle.wit_grammar.specs.Rules.{label, types, since_version, since_of, deprecated_of, unstable_of, since_attribute, unstable_attribute, deprecated_attribute, after_at, attribute, attributes, front, at_version, release_of, item_path, package_path, rest_of_path, path_of, path, local, used_name, used_names, used, top_used}
+use Rattle.wit_grammar.specs.ItemRules.{alias_definition, field, record_definition, flag, flags_definition, case, variant_definition, enum_definition, closed_function, constructed, is_static, member, maker_of, member_of, resource_function, braced_functions, resource_body, resource_definition, definition}
 use Rattle.wit_json_laws.specs.Trees.{ArePlainAttributes, IsPlainAttribute, IsPlainBody, IsPlainMember, IsPlainPath, IsPlainUsed, IsPlainWord}
-use Rattle.wit_json_laws.proofs.Gives.{Gives, IsPlainRelease, gives_act, gives_after, gives_any, gives_before, gives_both, gives_either, gives_first, gives_listed, gives_many, gives_name, gives_opt, gives_second, gives_seq, gives_until, gives_version}
+use Rattle.wit_json_laws.proofs.Gives.{Gives, IsPlainRelease, gives_act, gives_after, gives_any, gives_before, gives_both, gives_either, gives_listed, gives_many, gives_name, gives_opt, gives_second, gives_seq, gives_until, gives_version}
 use Rattle.wit_json_laws.proofs.Lists.{all_none}
 
 pub gives_label : Gives IsPlainWord label

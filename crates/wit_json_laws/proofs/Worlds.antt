@@ -1,5 +1,5 @@
 -- The maps of worlds that legal files make have no key twice.
-use Rattle.std.proofs.Common.{◌≡◌, ℕ, ◌<◌, List, [], ◌∷◌, ◌++◌, length, map, take, Some, None, Contains, refl, sym, ap, ◌∙◌, subst}
+use Rattle.std.proofs.Common.{◌≡◌, ℕ, List, [], ◌∷◌, ◌++◌, length, map, take, Some, Contains, refl, sym, ap, ◌∙◌, subst}
 use Rattle.std.specs.Prelude.{All, slice_get}
 use Rattle.std.specs.List.{flat_map}
 use Rattle.std.proofs.lemmas.Grind.{flat_map-append}
@@ -39,7 +39,7 @@ use Rattle.wit_json_laws.proofs.Leading.{HasPlace, IsLinked, link_leads}
 use Rattle.wit_json_laws.proofs.Lists.{all_both, all_map, no_keys, own_keys}
 use Rattle.wit_json_laws.proofs.Members.{side_keys, worlds_declared}
 use Rattle.wit_json_laws.proofs.Placed.{placed_differ}
-use Rattle.wit_json_laws.proofs.Sides.{AreAtNames, AreLinksApart, Entry, bare_differ, bare_place, both_at_names, called_name, import_at_names, import_names, import_places, key_names, key_of, key_places, keys_differ, names_among, place_of, places_among, side_at_names, side_names, side_places}
+use Rattle.wit_json_laws.proofs.Sides.{AreAtNames, AreLinksApart, Entry, bare_differ, bare_place, both_at_names, called_name, import_at_names, import_names, import_places, key_names, key_of, key_places, keys_differ, names_among, places_among, side_at_names, side_names, side_places}
 
 place_tells : (ss : List Address) (a b : Address) → HasPlace ss a → HasPlace ss b → scope_place ss a ≡ scope_place ss b → a ≡ b
 place_tells ss a b one other same = (let both : Some a ≡ Some b = sym one ∙ ap (slice_get ss) same ∙ other in cc)

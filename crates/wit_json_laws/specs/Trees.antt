@@ -1,5 +1,5 @@
 -- Trees in which no name has a `:` or an `@`, and each version is one by SemVer 2.0.0: each tree that a source spells is such.
-use Rattle.std.specs.Prelude.{◌≡◌, ◌==◌, ◌&&◌, not, true, List, map, Option, IfSome, All, ⊤}
+use Rattle.std.specs.Prelude.{◌≡◌, ◌==◌, ◌&&◌, not, true, List, map, IfSome, All, ⊤}
 use Rattle.std.specs.List.{list_all}
 use Rattle.std.specs.Option.{option_map}
 use Rattle.semver.specs.Grammar.{IsValid}
