@@ -33,7 +33,7 @@ pub fn packages_are_plain(package: &UnresolvedPackage)
     ids_are_within(package);
 }
 
-/// So is each of these.
+/// Each of these packages is plain where legal files of plain trees make it.
 fn each_is_plain(packages: &[UnresolvedPackage])
     ensures { All IsPlainWhereMade packages.now }
 {
