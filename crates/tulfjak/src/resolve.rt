@@ -1,7 +1,7 @@
 //! From sources or trees to packages, and each step of that by itself.
 
 /// The names at the top of files: what their paths lead to, and the order of their items.
-pub use wit_files::{FileNames, Found, Visit, Wanted, visits};
+pub use wit_files::{FileNames, ForeignVisit, Found, Visit, Wanted, visits};
 /// Groups: a package and those that are nested in its sources.
 pub use wit_groups::UnresolvedPackageGroup;
 pub use wit_nested::GroupResolver;
@@ -15,3 +15,5 @@ pub use wit_parser::{Resolver, laws};
 pub use wit_refusals::{NameScope, check_unique_names};
 /// Groups and packages that can be borrowed with what is known of them.
 pub use wit_resolved::{ResolvedGroup, ResolvedPackage};
+/// Where a path leads.
+pub use wit_top_names::Target;
