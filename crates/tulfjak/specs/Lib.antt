@@ -3,8 +3,31 @@ pub use Rattle.wit_names.specs.Label
 pub use Rattle.wit_names.specs.Mangled
 pub use Rattle.wit_names.specs.Setter
 pub use Rattle.wit_names.specs.Track
+pub use Rattle.wit_values.specs.Indexed
+pub use Rattle.wit_values.specs.ReleaseText
+pub use Rattle.wit_values.specs.Spans
+pub use Rattle.wit_values.specs.TextEntries
+pub use Rattle.wit_type_tree.specs.Attributes
+pub use Rattle.wit_type_tree.specs.Refusal
+pub use Rattle.wit_tree.specs.Externs
+pub use Rattle.wit_lex.specs.Places
+pub use Rattle.wit_lex.specs.Sources
+pub use Rattle.wit_grammar.specs.Laws as Spelling
+pub use Rattle.wit_grammar.specs.Seen
+pub use Rattle.wit_grammar.specs.Trees
+pub use Rattle.wit_text.specs.Files
+pub use Rattle.wit_bundle.specs.Bundle
+pub use Rattle.wit_bundle.specs.Laid
+pub use Rattle.wit_bundle.specs.Paths
+pub use Rattle.wit_graph.specs.Laws as OrderLaws
+pub use Rattle.wit_graph.specs.Refused
+pub use Rattle.wit_graph.specs.Table
+pub use Rattle.wit_order.specs.Counted
+pub use Rattle.wit_types.specs.Sizes
+pub use Rattle.wit_types.specs.Spans as MovedSpans
 pub use Rattle.wit_types.specs.Stabilities
 pub use Rattle.wit_types.specs.Types
+pub use Rattle.wit_types.specs.Words
 pub use Rattle.wit_package_names.specs.PackageName
 pub use Rattle.wit_functions.specs.Abi
 pub use Rattle.wit_functions.specs.FunctionKinds
@@ -14,14 +37,36 @@ pub use Rattle.wit_functions.specs.Setters
 pub use Rattle.wit_functions.specs.Signature
 pub use Rattle.wit_model.specs.Same
 pub use Rattle.wit_model.specs.Worlds
-pub use Rattle.wit_lex.specs.Places
-pub use Rattle.wit_lex.specs.Sources
-pub use Rattle.wit_bundle.specs.Bundle
-pub use Rattle.wit_bundle.specs.Paths
+pub use Rattle.wit_intern.specs.FiniteMap
+pub use Rattle.wit_intern.specs.Keys
+pub use Rattle.wit_syntax.specs.Address
 pub use Rattle.wit_syntax.specs.Broken
+pub use Rattle.wit_syntax.specs.Fault
+pub use Rattle.wit_syntax.specs.Foreign
+pub use Rattle.wit_syntax.specs.Notes
+pub use Rattle.wit_syntax.specs.Scope
+pub use Rattle.wit_syntax.specs.Source
+pub use Rattle.wit_syntax.specs.Splitting
 pub use Rattle.wit_arena.specs.Faithful
 pub use Rattle.wit_arena.specs.Made
+pub use Rattle.wit_arena.specs.Splitting as SplitArenas
 pub use Rattle.wit_arena.specs.Whole
+pub use Rattle.wit_first.specs.Attributes as AttributeFaults
+pub use Rattle.wit_first.specs.First
+pub use Rattle.wit_first.specs.Headers
+pub use Rattle.wit_first.specs.Lists
+pub use Rattle.wit_first.specs.Orders
+pub use Rattle.wit_refusals.specs.Names as ScopeNames
+pub use Rattle.wit_refusals.specs.Scope as NameScopes
+pub use Rattle.wit_top_names.specs.Tops
+pub use Rattle.wit_files.specs.FileNames
+pub use Rattle.wit_files.specs.Foreign as ForeignNames
+pub use Rattle.wit_files.specs.Visits
+pub use Rattle.wit_parser.specs.Ids
+pub use Rattle.wit_parser.specs.Marks
+pub use Rattle.wit_parser.specs.Stray
+pub use Rattle.wit_nested.specs.Names as NestedNames
+pub use Rattle.wit_nested.specs.Nested
 pub use Rattle.wit_groups.specs.Groups
 pub use Rattle.wit_resolved.specs.Ends
 pub use Rattle.wit_resolved.specs.Left
@@ -30,6 +75,10 @@ pub use Rattle.wit_resolved.specs.Valid
 pub use Rattle.wit_listing.specs.ErrorLine
 pub use Rattle.wit_listing.specs.Listing
 pub use Rattle.wit_listing.specs.Output
+pub use Rattle.wit_json.specs.Group
+pub use Rattle.wit_json.specs.Numbers
+pub use Rattle.wit_json.specs.Refusal as RefusalJson
+pub use Rattle.wit_json.specs.Tokens
 pub use Rattle.wit_outcome.specs.Outcome
 pub use Rattle.wit_outcome.specs.Plain
 pub use Rattle.wit_tool.specs.Answered
