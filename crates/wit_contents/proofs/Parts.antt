@@ -16,12 +16,14 @@ use Rattle.wit_syntax.specs.Address.{Address}
 use Rattle.wit_syntax.specs.Broken.{IsBrokenScope, IsSetterAlone}
 use Rattle.wit_syntax.specs.Fault.{Fault}
 use Rattle.wit_syntax.specs.Function.{functions}
+use Rattle.wit_syntax.specs.Repeats.{AllDiffer}
 use Rattle.wit_syntax.specs.Scope.{in_turn, includes}
 use Rattle.wit_syntax.specs.Sides.{IsBrokenSides, SideItem, inline_items, item_inline, side_items}
 use Rattle.wit_syntax.specs.Notes.{IsBrokenStability}
 use Rattle.wit_syntax.specs.Source.{Item, ScopeName, address, local_id, scope_names, about, declared_notes}
 use Rattle.wit_syntax.proofs.Inline.{length-inline_behind}
 use Rattle.wit_syntax.proofs.Lists.{at_back}
+use Rattle.wit_syntax.proofs.Turns.{in_turn_distinct}
 use Rattle.wit_arena.specs.Resolving.{Names, Required, cells}
 use Rattle.wit_arena.specs.Resolved.{AddsSides, AddsWorld, AreLegalSides, AreSoundScopes, IsBrokenItemStability, IsNameless, OfInclude, OwnStability, interfaces_at, worlds_at}
 use Rattle.wit_arena.specs.SideItems.{AreSideItems, settled}
@@ -30,8 +32,10 @@ use Rattle.wit_externs.specs.Held.{externs_behind}
 use Rattle.wit_externs.specs.Links.{AreRightLinks}
 use Rattle.wit_externs.specs.declared.held.HeldExtern.{HeldExtern}
 use Rattle.wit_items.specs.Told.{AreOf, notes_behind}
+use Rattle.wit_uses.specs.Behind.{IsTurn}
 use Rattle.wit_uses.specs.Between.{Emits}
 use Rattle.wit_item_entries.specs.Between.{AddsTurn}
+use Rattle.wit_item_entries.proofs.Behind.{turn_texts}
 use Rattle.wit_uses.proofs.Telling.{world_told}
 use Rattle.wit_contents.specs.declared.world.WorldParts.{WorldParts}
 use Rattle.wit_contents.specs.BetweenWorlds.{AreWorldParts, IsAddedWorld, arenas}
@@ -145,3 +149,7 @@ sides_all i us one more = record {
 pub world_stable : (w : Item) → ((f : Fault) → IsBrokenStability (about w.declared).attributes f → ⊥) → AreStable (includes w) → (f : Fault) → IsBrokenItemStability w f → ⊥
 world_stable w own stable f (OwnStability h) = own f h
 world_stable w own stable f (OfInclude i among h) = stable.each i among f h
+
+-- the names that a scope has in its order differ
+pub turn_differs : (xs : List ScopeName) (ids : List Id) → IsTurn xs ids → AllDiffer (map (λ (id : Id). id.name.now) ids)
+turn_differs xs ids t = subst AllDiffer (sym (turn_texts xs t.order ids t.are)) (in_turn_distinct xs t.order t.least t.distinct)

@@ -51,12 +51,12 @@ fn add_interface(
 
 /// Adds a declared interface with what is told of it, its names, and what is in them, and then its
 /// functions.
-fn resolve_interface<'a>(
+fn resolve_interface<'f, 'a>(
     alloc: Global,
-    item: &Item<'_, 'a>,
+    item: &Item<'f, 'a>,
     types: &mut Entries,
     required: &mut Vec<Required>,
-    interfaces: &mut Interfaces<'_, '_, '_, '_>,
+    interfaces: &mut Interfaces<'_, '_, 'f, 'a>,
     id: Id<'a>,
 ) -> ParseResult<()>
     requires id { (id ≡ (about (item_behind item.now).declared).id) × (Some id.name.now ≡ (about (item_behind item.now).declared).called) }
@@ -82,12 +82,12 @@ fn resolve_interface<'a>(
 }
 
 /// Adds the interfaces among items, in the order of their places, behind those of other packages.
-pub fn resolve_interfaces(
+pub fn resolve_interfaces<'f, 'a>(
     alloc: Global,
-    items: &[Item<'_, '_>],
+    items: &[Item<'f, 'a>],
     types: &mut Entries,
     required: &mut Vec<Required>,
-    interfaces: &mut Interfaces<'_, '_, '_, '_>,
+    interfaces: &mut Interfaces<'_, '_, 'f, 'a>,
     places: &[usize],
 ) -> ParseResult<()>
     requires within { All (λ place. place < length items.now) places.now }

@@ -90,12 +90,12 @@ fn functions_of<'a>(
 
 /// The interface at a place, with what is told of it, its names, and what is in them, and then its
 /// functions; it goes by this name, where it has one.
-pub fn interface_of<'a>(
+pub fn interface_of<'f, 'a>(
     alloc: Global,
-    item: &ItemScope<'_, 'a, '_>,
+    item: &ItemScope<'f, 'a, '_>,
     types: &mut Entries,
     required: &mut Vec<Required>,
-    interfaces: &Interfaces<'_, '_, '_, '_>,
+    interfaces: &Interfaces<'_, '_, 'f, 'a>,
     place: InterfaceId,
     name: Option<Text>,
     span: Span,

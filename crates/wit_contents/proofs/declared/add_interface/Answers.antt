@@ -4,6 +4,11 @@ use Rattle.wit_item_names.specs.Interfaces.{front_of}
 use Rattle.wit_items.proofs.Found.{found_put, found_wider, front_wider}
 use Rattle.wit_contents.proofs.declared.add_interface.Goals as goal
 
+pub invariant_of-interfaces : goal.invariant_of-interfaces
+invariant_of-interfaces c =
+    let is = c.args.interfaces.now in
+    rw c.in_err-place.ensures.err (record { front = is.front; found = is.found })
+
 pub invariant_of-interfaces-in-Break-branch-2 : goal.invariant_of-interfaces-in-Break-branch-2
 invariant_of-interfaces-in-Break-branch-2 c =
     let is = c.args.interfaces.now in

@@ -1,4 +1,4 @@
-use Rattle.std.proofs.Common.{Some, length, inl, sym, ap, ◌∙◌, subst}
+use Rattle.std.proofs.Common.{Some, length, inl, refl, sym, ap, ◌∙◌, subst}
 use Rattle.std.proofs.lemmas.Result.{err_from_is_err_and}
 use Rattle.wit_type_tree.specs.declared.leaves.Id.{Id}
 use Rattle.wit_syntax.specs.Broken.{IsBrokenScope}

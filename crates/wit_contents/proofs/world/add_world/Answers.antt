@@ -6,6 +6,11 @@ use Rattle.wit_items.specs.Items.{others_of}
 use Rattle.wit_links.proofs.WorldsFound.{found_put, found_wider, front_wider}
 use Rattle.wit_contents.proofs.world.add_world.Goals as goal
 
+pub invariant_of-worlds : goal.invariant_of-worlds
+invariant_of-worlds c =
+    let ws = c.args.worlds.now in
+    rw c.in_err-place.ensures.err (record { front = ws.front; found = ws.found })
+
 pub invariant_of-worlds-in-Break-branch-3 : goal.invariant_of-worlds-in-Break-branch-3
 invariant_of-worlds-in-Break-branch-3 c =
     let ws = c.args.worlds.now in

@@ -8,7 +8,6 @@ use Rattle.wit_syntax.specs.Scope.{includes as written_includes}
 use Rattle.wit_syntax.specs.Sides.{inline_items, side_items}
 use Rattle.wit_syntax.specs.Source.{scope_names}
 use Rattle.wit_syntax.proofs.Refusing.{refused_weaker}
-use Rattle.wit_syntax.proofs.Turns.{in_turn_distinct}
 use Rattle.wit_arena.specs.Resolved.{IsBrokenItemStability, IsWrongWorld, WrongWorldStability, LostInclude, interfaces_at}
 use Rattle.wit_arena.specs.Resolving.{IsLostInclude, names_in}
 use Rattle.wit_externs.specs.Clash.{DifferOnSides}
@@ -18,7 +17,7 @@ use Rattle.wit_items.specs.Items.{item_behind, others_of}
 use Rattle.wit_items.proofs.Usable.{filed_item}
 use Rattle.wit_item_names.specs.Interfaces.{front_of}
 use Rattle.wit_items.specs.Interfaces.{cells_of}
-use Rattle.wit_item_entries.proofs.Behind.{turn_texts}
+use Rattle.wit_uses.specs.Behind.{IsTurn}
 use Rattle.wit_uses.proofs.ItemSides.{IsStandingBy, sides_legal}
 use Rattle.wit_item_entries.proofs.ScopeFunctions.{scope_sound, turn_added}
 use Rattle.wit_item_entries.proofs.WrongNames.{wrong_names, wrong_world}
@@ -29,7 +28,7 @@ use Rattle.wit_world_sides.specs.Links.{AreLed}
 use Rattle.wit_contents.specs.Standing.{IsWrongStanding}
 use Rattle.wit_links.proofs.Leading.{addresses_count, links_placed, links_within}
 use Rattle.wit_contents.proofs.Linking.{links_usable}
-use Rattle.wit_contents.proofs.Parts.{parts_are, sides_all, sounds_all}
+use Rattle.wit_contents.proofs.Parts.{parts_are, sides_all, sounds_all, turn_differs}
 use Rattle.wit_contents.proofs.WrongStanding.{wrong_standing}
 use Rattle.wit_contents.proofs.world.world_content.Goals as goal
 
@@ -133,8 +132,8 @@ world_sides-requires-clause-distinct c =
     let xs = scope_names item in
     let same : map name_behind c.deref.result.now ≡ scope_names (item_behind c.args.item.now) = ap (map name_behind) c.deref.ensures.value ∙ c.requires.item.named in
     let n = rw (c.next_id.ensures, same) at c.in_ok-names.ensures.adds in
-    let own = turn_added _ _ _ _ xs _ _ _ n in
-    subst AllDiffer (sym (turn_texts xs own.order c.deref-2.result.now (turned ∙ own.are))) (in_turn_distinct xs own.order own.least own.distinct)
+    let own : IsTurn xs names.turn.items = turn_added _ _ _ _ xs _ _ _ n in
+    subst (λ (l : List Id). AllDiffer (map (λ (id : Id). id.name.now) l)) (sym turned) (turn_differs xs names.turn.items own)
 
 pub world_sides-requires-clause-listed : goal.world_sides-requires-clause-listed
 world_sides-requires-clause-listed c =

@@ -88,4 +88,4 @@ invariant_of-result c =
     let order = turn.all.order in
     let ds = defined (in_order xs order) in
     let listed : names_in scope.names ≡ local_names (used xs) = rw names at c.in_ok-resolve_uses.ensures.listed in
-    turn.listed ∙ ap (λ l. l ++ local_names ds) listed ∙ sym (map-append local_name (used xs) ds) ∙ sym (turn_texts xs order c.in_ok-turn.turn.items turn.turn)
+    record { listed = turn.listed ∙ ap (λ l. l ++ local_names ds) listed ∙ sym (map-append local_name (used xs) ds) ∙ sym (turn_texts xs order c.in_ok-turn.turn.items turn.turn) }
