@@ -3,9 +3,7 @@ use Rattle.std.specs.Prelude.{◌≡◌, ℕ, List, length, map, Option, Some, N
 use Rattle.std.specs.Global.{Global}
 use Rattle.std.specs.Str.{bytes_eq}
 use denote.Ref.{Bor}
-use Rattle.std.specs.declared.hash.FoldHasher.{FoldHasher}
-use Rattle.std.specs.declared.hash.BuildHasherDefault.{BuildHasherDefault}
-use Rattle.indexmap.specs.IndexMap.{IndexMap, keys}
+use Rattle.std.specs.Map.{keys_of}
 use Rattle.wit_type_tree.specs.declared.leaves.Id.{Id}
 use Rattle.wit_graph.specs.Order.{ReachesCycle, IsDependencyFirst, IsLeast}
 
@@ -14,15 +12,16 @@ pub record Row : Type 0 where
   pub name : List ℕ
   pub needs : List Id
 
-abbrev pub Table : Type 0
-Table = IndexMap (Bor (List ℕ)) (Vec Id Global) (BuildHasherDefault FoldHasher)
+-- an entry of a table: a key, and the names that it needs
+abbrev pub Entry : Type 0
+Entry = Bor (List ℕ) × Vec Id Global
 
 -- the row of an entry
-abbrev pub entry_row : Bor (List ℕ) × Vec Id Global → Row
+abbrev pub entry_row : Entry → Row
 entry_row entry = record { name = entry.0.now; needs = entry.1.items }
 
 -- the rows of a table's entries, in its order; a row's index is its place
-abbrev pub rows : List (Bor (List ℕ) × Vec Id Global) → List Row
+abbrev pub rows : List Entry → List Row
 rows entries = map entry_row entries
 
 -- the place of the first row of this name
@@ -64,11 +63,11 @@ pub record IsOrder (rs : List Row) (places : List ℕ) : Type 0 where
   pub least : IsLeast (Leads rs) (length rs) places
 
 -- the table's own keys at these places
-abbrev pub AreKeysAt : Table → List ℕ → List (Bor (List ℕ)) → Type 0
-AreKeysAt m places names = map Some names ≡ map (slice_get (keys m)) places
+abbrev pub AreKeysAt : List Entry → List ℕ → List (Bor (List ℕ)) → Type 0
+AreKeysAt entries places names = map Some names ≡ map (slice_get (keys_of entries)) places
 
 -- the table's own keys, in the least dependency-first order
-pub record IsOrdered (m : Table) (names : List (Bor (List ℕ))) : Type 0 where
+pub record IsOrdered (entries : List Entry) (names : List (Bor (List ℕ))) : Type 0 where
   pub places : List ℕ
-  pub order : IsOrder (rows m.entries) places
-  pub own : AreKeysAt m places names
+  pub order : IsOrder (rows entries) places
+  pub own : AreKeysAt entries places names

@@ -17,6 +17,7 @@ mod refusal;
 mod tree;
 mod turned;
 
+pub use name_table::NameTable;
 pub use order::{order_places, order_steps, toposort, toposort_heap, toposort_scan};
 pub use ready::Steps;
 pub use wit_graph::OrderFault;

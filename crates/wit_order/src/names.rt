@@ -1,26 +1,24 @@
 //! Names and their places.
-ghost use Rattle.std.specs.Prelude.{◌≡◌, ◌⊎◌, ℕ, ◌<◌, All, IfOk, OnOk, IfErr};
+ghost use Rattle.std.specs.Prelude.{◌≡◌, ◌⊎◌, ℕ, ◌<◌, All, IfOk, OnOk, IfErr, length};
 ghost use Rattle.wit_graph.specs.declared.fault.OrderFault.TheVariants.{OutOfMemory};
-ghost use Rattle.indexmap.specs.IndexMap.{index_map_len};
-ghost use Rattle.wit_graph.specs.Table.{AreKeysAt};
+ghost use Rattle.wit_graph.specs.Table.{AreKeysAt, rows};
 ghost use Rattle.wit_graph.specs.Resolved.{AddsRow, MissesFirst, Misses, IsGraphOf};
 
 use crate::graph::Graph;
 use crate::name_table::NameTable;
-use indexmap::IndexMap;
 use std::alloc::{AllocError, Global};
 use wit_graph::OrderFault;
 use wit_type_tree::leaves::Id;
 
 /// Puts the places of what the ids of a place name behind the targets.
-fn add_row<T: NameTable>(
+fn add_row<'a, T: NameTable<'a>>(
     targets: &mut Vec<usize>,
     deps: &T,
     place: usize,
     ids: &[Id<'_>],
 ) -> Result<(), OrderFault>
-    ensures ok { OnOk result (AddsRow (T.table_rows deps.now) ids.now targets.old.items targets.new.items) }
-    ensures err { IfErr result (λ f. (f ≡ OutOfMemory) ⊎ MissesFirst (T.table_rows deps.now) ids.now place f) }
+    ensures ok { OnOk result (AddsRow (rows (T.entries deps.now)) ids.now targets.old.items targets.new.items) }
+    ensures err { IfErr result (λ f. (f ≡ OutOfMemory) ⊎ MissesFirst (rows (T.entries deps.now)) ids.now place f) }
 {
     for (index, id) in ids.iter().enumerate() {
         match deps.place(id.name) {
@@ -32,9 +30,9 @@ fn add_row<T: NameTable>(
 }
 
 /// The graph of the table.
-pub fn graph_of<T: NameTable>(alloc: Global, deps: &T) -> Result<Graph, OrderFault>
-    ensures ok { IfOk result (IsGraphOf (T.table_rows deps.now)) }
-    ensures err { IfErr result (λ f. (f ≡ OutOfMemory) ⊎ Misses (T.table_rows deps.now) f) }
+pub fn graph_of<'a, T: NameTable<'a>>(alloc: Global, deps: &T) -> Result<Graph, OrderFault>
+    ensures ok { IfOk result (IsGraphOf (rows (T.entries deps.now))) }
+    ensures err { IfErr result (λ f. (f ≡ OutOfMemory) ⊎ Misses (rows (T.entries deps.now)) f) }
 {
     let len = deps.count();
     let mut starts = Vec::with_capacity(alloc, len.saturating_add(1))?;
@@ -48,18 +46,17 @@ pub fn graph_of<T: NameTable>(alloc: Global, deps: &T) -> Result<Graph, OrderFau
 }
 
 /// The keys at the places.
-pub fn names_at<'a>(
+pub fn names_at<'a, T: NameTable<'a>>(
     alloc: Global,
-    deps: &IndexMap<&'a str, Vec<Id<'a>>>,
+    deps: &T,
     places: &[usize],
 ) -> Result<Vec<&'a str>, AllocError>
-    requires { All (λ p. p < index_map_len deps.now) places.now }
-    ensures { IfOk result (λ names. AreKeysAt deps.now places.now names.items) }
+    requires { All (λ p. p < length (rows (T.entries deps.now))) places.now }
+    ensures { IfOk result (λ names. AreKeysAt (T.entries deps.now) places.now names.items) }
 {
     let mut names = Vec::with_capacity(alloc, places.len())?;
     for place in places {
-        let (name, _) = deps.get_index(*place).unwrap();
-        names.push(*name)?;
+        names.push(deps.key(*place))?;
     }
     Ok(names)
 }

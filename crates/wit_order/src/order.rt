@@ -15,7 +15,6 @@ use crate::places::{self, first_stuck_edge};
 use crate::ready::Steps;
 use crate::refusal::refusal;
 use crate::{heap, tree};
-use indexmap::IndexMap;
 use std::alloc::Global;
 use wit_graph::OrderFault;
 use wit_graph::sorted::Sorted;
@@ -41,9 +40,9 @@ fn conclude(graph: &Graph, sorted: Sorted) -> Result<Vec<usize>, OrderFault>
 }
 
 /// [`order_places`] of either kind of table, by counts and a set.
-fn order_by_set<T: NameTable>(alloc: Global, deps: &T) -> Result<Vec<usize>, OrderFault>
-    ensures ok { IfOk result (λ places. IsOrder (T.table_rows deps.now) places.items) }
-    ensures err { IfErr result (IsFaultOf (T.table_rows deps.now)) }
+fn order_by_set<'a, T: NameTable<'a>>(alloc: Global, deps: &T) -> Result<Vec<usize>, OrderFault>
+    ensures ok { IfOk result (λ places. IsOrder (rows (T.entries deps.now)) places.items) }
+    ensures err { IfErr result (IsFaultOf (rows (T.entries deps.now))) }
 {
     let graph = graph_of(alloc, deps)?;
     let sorted = tree::sort(alloc, &graph)?;
@@ -51,13 +50,13 @@ fn order_by_set<T: NameTable>(alloc: Global, deps: &T) -> Result<Vec<usize>, Ord
 }
 
 /// [`order_places`], and what it took.
-fn order_counted<'a>(
+fn order_counted<'a, T: NameTable<'a>>(
     alloc: Global,
-    deps: &IndexMap<&'a str, Vec<Id<'a>>>,
+    deps: &T,
 ) -> Result<(Vec<usize>, Steps), OrderFault>
-    ensures ok { IfOk result (λ r. IsOrder (rows deps.now.entries) r.0.items) }
-    ensures steps { IfOk result (λ r. IsCounted (rows deps.now.entries) r.1) }
-    ensures err { IfErr result (IsFaultOf (rows deps.now.entries)) }
+    ensures ok { IfOk result (λ r. IsOrder (rows (T.entries deps.now)) r.0.items) }
+    ensures steps { IfOk result (λ r. IsCounted (rows (T.entries deps.now)) r.1) }
+    ensures err { IfErr result (IsFaultOf (rows (T.entries deps.now))) }
 {
     let graph = graph_of(alloc, deps)?;
     let (sorted, steps) = tree::sort_places(alloc, &graph)?;
@@ -66,12 +65,9 @@ fn order_counted<'a>(
 }
 
 /// [`order_places`] by counts and a heap.
-fn order_by_heap<'a>(
-    alloc: Global,
-    deps: &IndexMap<&'a str, Vec<Id<'a>>>,
-) -> Result<Vec<usize>, OrderFault>
-    ensures ok { IfOk result (λ places. IsOrder (rows deps.now.entries) places.items) }
-    ensures err { IfErr result (IsFaultOf (rows deps.now.entries)) }
+fn order_by_heap<'a, T: NameTable<'a>>(alloc: Global, deps: &T) -> Result<Vec<usize>, OrderFault>
+    ensures ok { IfOk result (λ places. IsOrder (rows (T.entries deps.now)) places.items) }
+    ensures err { IfErr result (IsFaultOf (rows (T.entries deps.now))) }
 {
     let graph = graph_of(alloc, deps)?;
     let sorted = heap::sort_places(alloc, &graph)?;
@@ -101,12 +97,9 @@ pub fn order_places<'a>(
 }
 
 /// [`order_places`] by looking for the least ready place each time.
-fn order_by_scan<'a>(
-    alloc: Global,
-    deps: &IndexMap<&'a str, Vec<Id<'a>>>,
-) -> Result<Vec<usize>, OrderFault>
-    ensures ok { IfOk result (λ places. IsOrder (rows deps.now.entries) places.items) }
-    ensures err { IfErr result (IsFaultOf (rows deps.now.entries)) }
+fn order_by_scan<'a, T: NameTable<'a>>(alloc: Global, deps: &T) -> Result<Vec<usize>, OrderFault>
+    ensures ok { IfOk result (λ places. IsOrder (rows (T.entries deps.now)) places.items) }
+    ensures err { IfErr result (IsFaultOf (rows (T.entries deps.now))) }
 {
     let graph = graph_of(alloc, deps)?;
     let sorted = places::sort_places(alloc, &graph)?;
@@ -114,19 +107,19 @@ fn order_by_scan<'a>(
 }
 
 /// The keys at the places, or the refusal of what forbids them.
-fn keys_of<'a>(
+fn keys_of<'a, T: NameTable<'a>>(
     alloc: Global,
     kind: &str,
-    deps: &IndexMap<&'a str, Vec<Id<'a>>>,
+    deps: &T,
     order: Result<Vec<usize>, OrderFault>,
 ) -> ParseResult<Vec<&'a str>>
-    requires ok { IfOk order (λ places. IsOrder (rows deps.now.entries) places.items) }
-    requires err { IfErr order (IsFaultOf (rows deps.now.entries)) }
-    ensures ok { IfOk result (λ names. IsOrdered deps.now names.items) }
-    ensures err { IfErr result (λ e. IsRefused (rows deps.now.entries) kind.now e.kind) }
+    requires ok { IfOk order (λ places. IsOrder (rows (T.entries deps.now)) places.items) }
+    requires err { IfErr order (IsFaultOf (rows (T.entries deps.now))) }
+    ensures ok { IfOk result (λ names. IsOrdered (T.entries deps.now) names.items) }
+    ensures err { IfErr result (λ e. IsRefused (rows (T.entries deps.now)) kind.now e.kind) }
     ensures rule { IfErr result (λ e. e.rule ≡ 0) }
-    ensures missing { FailsAtMissing (rows deps.now.entries) kind.now result }
-    ensures cycle { FailsAtCycle (rows deps.now.entries) kind.now result }
+    ensures missing { FailsAtMissing (rows (T.entries deps.now)) kind.now result }
+    ensures cycle { FailsAtCycle (rows (T.entries deps.now)) kind.now result }
 {
     match order {
         Ok(places) => match names_at(alloc, deps, &places) {
@@ -138,14 +131,14 @@ fn keys_of<'a>(
 }
 
 /// The table's own keys in the order of [`order_places`], and what it took.
-fn keys_counted<'a>(
+fn keys_counted<'a, T: NameTable<'a>>(
     alloc: Global,
     kind: &str,
-    deps: &IndexMap<&'a str, Vec<Id<'a>>>,
+    deps: &T,
 ) -> ParseResult<(Vec<&'a str>, Steps)>
-    ensures ok { IfOk result (λ r. IsOrdered deps.now r.0.items) }
-    ensures steps { IfOk result (λ r. IsCounted (rows deps.now.entries) r.1) }
-    ensures err { IfErr result (λ e. IsRefused (rows deps.now.entries) kind.now e.kind) }
+    ensures ok { IfOk result (λ r. IsOrdered (T.entries deps.now) r.0.items) }
+    ensures steps { IfOk result (λ r. IsCounted (rows (T.entries deps.now)) r.1) }
+    ensures err { IfErr result (λ e. IsRefused (rows (T.entries deps.now)) kind.now e.kind) }
     ensures rule { IfErr result (λ e. e.rule ≡ 0) }
 {
     match order_counted(alloc, deps) {
@@ -164,17 +157,17 @@ fn keys_counted<'a>(
 /// # Errors
 ///
 /// Those of [`toposort`].
-pub fn order_steps<'a>(
+pub fn order_steps<'a, T: NameTable<'a>>(
     alloc: Global,
     kind: &str,
-    deps: &IndexMap<&'a str, Vec<Id<'a>>>,
+    deps: &T,
 ) -> ParseResult<(Vec<&'a str>, Steps)>
-    ensures ok { IfOk result (λ r. IsOrdered deps.now r.0.items) }
-    ensures steps { IfOk result (λ r. IsCounted (rows deps.now.entries) r.1) }
-    ensures err { IfErr result (λ e. IsRefused (rows deps.now.entries) kind.now e.kind) }
+    ensures ok { IfOk result (λ r. IsOrdered (T.entries deps.now) r.0.items) }
+    ensures steps { IfOk result (λ r. IsCounted (rows (T.entries deps.now)) r.1) }
+    ensures err { IfErr result (λ e. IsRefused (rows (T.entries deps.now)) kind.now e.kind) }
     ensures rule { IfErr result (λ e. e.rule ≡ 0) }
-    ensures missing { FailsAtMissing (rows deps.now.entries) kind.now result }
-    ensures cycle { FailsAtCycle (rows deps.now.entries) kind.now result }
+    ensures missing { FailsAtMissing (rows (T.entries deps.now)) kind.now result }
+    ensures cycle { FailsAtCycle (rows (T.entries deps.now)) kind.now result }
 {
     keys_counted(alloc, kind, deps)
 }
@@ -190,16 +183,16 @@ pub fn order_steps<'a>(
 /// - `TypeCycle`, with `kind`: where every needed name is a key, the first of them that reaches
 ///   a cycle, as does the name that needs it.
 /// - `OutOfMemory`: a growth was refused.
-pub fn toposort<'a>(
+pub fn toposort<'a, T: NameTable<'a>>(
     alloc: Global,
     kind: &str,
-    deps: &IndexMap<&'a str, Vec<Id<'a>>>,
+    deps: &T,
 ) -> ParseResult<Vec<&'a str>>
-    ensures ok { IfOk result (λ names. IsOrdered deps.now names.items) }
-    ensures err { IfErr result (λ e. IsRefused (rows deps.now.entries) kind.now e.kind) }
+    ensures ok { IfOk result (λ names. IsOrdered (T.entries deps.now) names.items) }
+    ensures err { IfErr result (λ e. IsRefused (rows (T.entries deps.now)) kind.now e.kind) }
     ensures rule { IfErr result (λ e. e.rule ≡ 0) }
-    ensures missing { FailsAtMissing (rows deps.now.entries) kind.now result }
-    ensures cycle { FailsAtCycle (rows deps.now.entries) kind.now result }
+    ensures missing { FailsAtMissing (rows (T.entries deps.now)) kind.now result }
+    ensures cycle { FailsAtCycle (rows (T.entries deps.now)) kind.now result }
 {
     let order = order_by_set(alloc, deps);
     keys_of(alloc, kind, deps, order)
@@ -207,16 +200,16 @@ pub fn toposort<'a>(
 
 /// [`toposort`] by counts of open edges and a heap of the names that wait for none: its work
 /// grows with the edges, and with the names times the logarithm of their number.
-pub fn toposort_heap<'a>(
+pub fn toposort_heap<'a, T: NameTable<'a>>(
     alloc: Global,
     kind: &str,
-    deps: &IndexMap<&'a str, Vec<Id<'a>>>,
+    deps: &T,
 ) -> ParseResult<Vec<&'a str>>
-    ensures ok { IfOk result (λ names. IsOrdered deps.now names.items) }
-    ensures err { IfErr result (λ e. IsRefused (rows deps.now.entries) kind.now e.kind) }
+    ensures ok { IfOk result (λ names. IsOrdered (T.entries deps.now) names.items) }
+    ensures err { IfErr result (λ e. IsRefused (rows (T.entries deps.now)) kind.now e.kind) }
     ensures rule { IfErr result (λ e. e.rule ≡ 0) }
-    ensures missing { FailsAtMissing (rows deps.now.entries) kind.now result }
-    ensures cycle { FailsAtCycle (rows deps.now.entries) kind.now result }
+    ensures missing { FailsAtMissing (rows (T.entries deps.now)) kind.now result }
+    ensures cycle { FailsAtCycle (rows (T.entries deps.now)) kind.now result }
 {
     let order = order_by_heap(alloc, deps);
     keys_of(alloc, kind, deps, order)
@@ -224,16 +217,16 @@ pub fn toposort_heap<'a>(
 
 /// [`toposort`] by looking for the least ready name each time: its work grows with the square of
 /// the names.
-pub fn toposort_scan<'a>(
+pub fn toposort_scan<'a, T: NameTable<'a>>(
     alloc: Global,
     kind: &str,
-    deps: &IndexMap<&'a str, Vec<Id<'a>>>,
+    deps: &T,
 ) -> ParseResult<Vec<&'a str>>
-    ensures ok { IfOk result (λ names. IsOrdered deps.now names.items) }
-    ensures err { IfErr result (λ e. IsRefused (rows deps.now.entries) kind.now e.kind) }
+    ensures ok { IfOk result (λ names. IsOrdered (T.entries deps.now) names.items) }
+    ensures err { IfErr result (λ e. IsRefused (rows (T.entries deps.now)) kind.now e.kind) }
     ensures rule { IfErr result (λ e. e.rule ≡ 0) }
-    ensures missing { FailsAtMissing (rows deps.now.entries) kind.now result }
-    ensures cycle { FailsAtCycle (rows deps.now.entries) kind.now result }
+    ensures missing { FailsAtMissing (rows (T.entries deps.now)) kind.now result }
+    ensures cycle { FailsAtCycle (rows (T.entries deps.now)) kind.now result }
 {
     let order = order_by_scan(alloc, deps);
     keys_of(alloc, kind, deps, order)

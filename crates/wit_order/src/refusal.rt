@@ -2,11 +2,12 @@
 ghost use Rattle.std.specs.Prelude.{◌≡◌, IfOk, IfErr};
 ghost use Rattle.wit_type_tree.specs.Refusal.{IsTypeCycle};
 ghost use Rattle.wit_type_tree.specs.declared.error.ParseErrorKind.TheVariants.{OutOfMemory};
-ghost use Rattle.wit_graph.specs.Table.{rows};
+ghost use Rattle.wit_type_tree.specs.declared.leaves.Id.{Id as TheId};
+ghost use Rattle.wit_graph.specs.Table.{IsEdge, rows};
 ghost use Rattle.wit_graph.specs.Faults.{IsFaultOf};
 ghost use Rattle.wit_graph.specs.Refused.{IsNotFound, IsRefused};
 
-use indexmap::IndexMap;
+use crate::name_table::NameTable;
 use std::alloc::Global;
 use wit_graph::OrderFault;
 use wit_type_tree::leaves::Id;
@@ -35,39 +36,42 @@ fn type_cycle(alloc: Global, kind: &str, id: &Id<'_>) -> ParseResult<ParseErrorK
     })
 }
 
+/// The name at an index of those that the name at a place needs.
+fn need<'d, 'a, T: NameTable<'a>>(deps: &'d T, place: usize, index: usize) -> &'d Id<'a>
+    requires { (id : TheId) × IsEdge (rows (T.entries deps.now)) place index id }
+    ensures { IsEdge (rows (T.entries deps.now)) place index result.now }
+{
+    let ids = deps.needs(place);
+    &ids[index]
+}
+
 /// What the fault's needed name is refused with.
-fn kind_of<'a>(
+fn kind_of<'a, T: NameTable<'a>>(
     alloc: Global,
     kind: &str,
-    deps: &IndexMap<&'a str, Vec<Id<'a>>>,
+    deps: &T,
     fault: OrderFault,
 ) -> ParseResult<ParseErrorKind>
-    requires { IsFaultOf (rows deps.now.entries) fault }
-    ensures ok { IfOk result (IsRefused (rows deps.now.entries) kind.now) }
+    requires { IsFaultOf (rows (T.entries deps.now)) fault }
+    ensures ok { IfOk result (IsRefused (rows (T.entries deps.now)) kind.now) }
     ensures err { IfErr result (λ e. e.kind ≡ OutOfMemory) }
 {
     match fault {
-        OrderFault::Missing { place, index } => {
-            let (_, ids) = deps.get_index(place).unwrap();
-            not_found(alloc, kind, &ids[index])
-        }
-        OrderFault::Cyclic { place, index } => {
-            let (_, ids) = deps.get_index(place).unwrap();
-            type_cycle(alloc, kind, &ids[index])
-        }
+        OrderFault::Missing { place, index } => not_found(alloc, kind, need(deps, place, index)),
+        OrderFault::Cyclic { place, index } => type_cycle(alloc, kind, need(deps, place, index)),
         OrderFault::OutOfMemory => Ok(ParseErrorKind::OutOfMemory),
     }
 }
 
 /// The refusal of the fault's needed name, without a number.
-pub fn refusal<'a>(
+pub fn refusal<'a, T: NameTable<'a>>(
     alloc: Global,
     kind: &str,
-    deps: &IndexMap<&'a str, Vec<Id<'a>>>,
+    deps: &T,
     fault: OrderFault,
 ) -> ParseError
-    requires { IsFaultOf (rows deps.now.entries) fault }
-    ensures kind { IsRefused (rows deps.now.entries) kind.now result.kind }
+    requires { IsFaultOf (rows (T.entries deps.now)) fault }
+    ensures kind { IsRefused (rows (T.entries deps.now)) kind.now result.kind }
     ensures rule { result.rule ≡ 0 }
 {
     match kind_of(alloc, kind, deps, fault) {

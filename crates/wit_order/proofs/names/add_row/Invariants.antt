@@ -1,6 +1,7 @@
 use Rattle.std.proofs.Common.{take}
 use Rattle.wit_graph.specs.Resolved.{AddsRow}
+use Rattle.wit_graph.specs.Table.{rows}
 use Rattle.wit_order.proofs.names.add_row.Given as goal
 
 abbrev pub invariant-loop-index : goal.invariant-loop-index
-invariant-loop-index g l = AddsRow (g.T.NameTable.table_rows l.deps) (take l.index l.ids) l.initial.targets.items l.targets.items
+invariant-loop-index g l = AddsRow (rows (g.T.NameTable.entries l.deps)) (take l.index l.ids) l.initial.targets.items l.targets.items

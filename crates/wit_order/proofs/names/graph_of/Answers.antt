@@ -3,6 +3,7 @@ use Rattle.std.proofs.lemmas.Result.{err_from_is_err_and}
 use Rattle.wit_order.specs.Cut.{cut}
 use Rattle.wit_order.proofs.Cut.{row_added}
 use Rattle.wit_graph.proofs.Tables.{map_step, miss_edge, has, wants}
+use Rattle.wit_graph.specs.Table.{rows}
 use Rattle.wit_order.proofs.names.graph_of.Goals as goal
 
 pub loop-place-preserved : goal.loop-place-preserved
@@ -15,7 +16,7 @@ loop-place-preserved g c =
     record {
       whole = added.0;
       last = added.1;
-      rows = ap (map has) added.2 ∙ map_step has (wants (g.T.NameTable.table_rows c.args.deps.now)) (cut c.loop-place.starts.items c.loop-place.targets.items) _ c.loop-place.place row.0 _
+      rows = ap (map has) added.2 ∙ map_step has (wants (rows (g.T.NameTable.entries c.args.deps.now))) (cut c.loop-place.starts.items c.loop-place.targets.items) _ c.loop-place.place row.0 _
           s.rows at.1 row.2;
     }
 
@@ -25,7 +26,7 @@ returns-in_err-add_row-clause-err g c =
     let at = c.needs.ensures in
     rw (p.1, p.2) (elim c.in_err-add_row.ensures.err [
       | inl out ↦ inl out
-      | inr r ↦ inr (miss_edge (g.T.NameTable.table_rows c.args.deps.now) (cut c.loop-place.starts.items c.loop-place.targets.items) _ c.loop-place.place _ c.loop-place.invariant.rows
+      | inr r ↦ inr (miss_edge (rows (g.T.NameTable.entries c.args.deps.now)) (cut c.loop-place.starts.items c.loop-place.targets.items) _ c.loop-place.place _ c.loop-place.invariant.rows
           at.1
           (rw (sym at.2) at r))
     ])

@@ -4,17 +4,17 @@ use Rattle.wit_graph.proofs.Forward.{fails_missing, fails_cycle}
 use Rattle.wit_order.proofs.order.keys_of.Goals as goal
 
 pub returns-in-Ok-names_at-clause-missing : goal.returns-in-Ok-names_at-clause-missing
-returns-in-Ok-names_at-clause-missing c =
+returns-in-Ok-names_at-clause-missing g c =
     let order = rw c.in-Ok.is at c.requires.ok in
-    fails_missing (rows c.args.deps.now.entries) c.args.kind.now (Ok c.in-Ok-names_at.names) order.complete tt
+    fails_missing (rows (g.T.NameTable.entries c.args.deps.now)) c.args.kind.now (Ok c.in-Ok-names_at.names) order.complete tt
 
 pub returns-in-Ok-names_at-clause-cycle : goal.returns-in-Ok-names_at-clause-cycle
-returns-in-Ok-names_at-clause-cycle c =
+returns-in-Ok-names_at-clause-cycle g c =
     let order = rw c.in-Ok.is at c.requires.ok in
-    fails_cycle (rows c.args.deps.now.entries) c.args.kind.now (Ok c.in-Ok-names_at.names) (c.in-Ok.places.items, order) tt
+    fails_cycle (rows (g.T.NameTable.entries c.args.deps.now)) c.args.kind.now (Ok c.in-Ok-names_at.names) (c.in-Ok.places.items, order) tt
 
 pub returns-clause-missing : goal.returns-clause-missing
-returns-clause-missing c = fails_missing {T = Vec (Bor (List ℕ)) Global} (rows c.args.deps.now.entries) c.args.kind.now (Err c.refusal.result) tt c.refusal.ensures.kind
+returns-clause-missing g c = fails_missing {T = Vec (Bor (List ℕ)) Global} (rows (g.T.NameTable.entries c.args.deps.now)) c.args.kind.now (Err c.refusal.result) tt c.refusal.ensures.kind
 
 pub returns-clause-cycle : goal.returns-clause-cycle
-returns-clause-cycle c = fails_cycle {T = Vec (Bor (List ℕ)) Global} (rows c.args.deps.now.entries) c.args.kind.now (Err c.refusal.result) tt c.refusal.ensures.kind
+returns-clause-cycle g c = fails_cycle {T = Vec (Bor (List ℕ)) Global} (rows (g.T.NameTable.entries c.args.deps.now)) c.args.kind.now (Err c.refusal.result) tt c.refusal.ensures.kind

@@ -4,9 +4,9 @@ use Rattle.wit_graph.proofs.Forward.{fails_missing, fails_cycle}
 use Rattle.wit_order.proofs.order.order_steps.Goals as goal
 
 pub returns-clause-missing : goal.returns-clause-missing
-returns-clause-missing c = fails_missing (rows c.args.deps.now.entries) c.args.kind.now c.keys_counted.result
+returns-clause-missing g c = fails_missing (rows (g.T.NameTable.entries c.args.deps.now)) c.args.kind.now c.keys_counted.result
     (IfOk-weaker c.keys_counted.result _ _ (λ r o. o.order.complete) c.keys_counted.ensures.ok) c.keys_counted.ensures.err
 
 pub returns-clause-cycle : goal.returns-clause-cycle
-returns-clause-cycle c = fails_cycle (rows c.args.deps.now.entries) c.args.kind.now c.keys_counted.result
+returns-clause-cycle g c = fails_cycle (rows (g.T.NameTable.entries c.args.deps.now)) c.args.kind.now c.keys_counted.result
     (IfOk-weaker c.keys_counted.result _ _ (λ r o. (o.places, o.order)) c.keys_counted.ensures.ok) c.keys_counted.ensures.err
