@@ -1,5 +1,5 @@
 -- What a map from texts finds and stores, on its entries as contracts see them.
-use Rattle.std.proofs.Common.{zero, Option, Some, None, slice_get, position, cond, not, nat_lt, ◌&&◌, ◌+◌, sym, ◌≡◌, ℕ, suc, Bool, List, [], ◌∷◌, String, string_bytes, nat_eq, length, refl, ap, ◌∙◌, inl, inr}
+use Rattle.std.proofs.Common.{zero, get_or, slice_set, swap, Option, Some, None, slice_get, position, cond, not, nat_lt, ◌&&◌, ◌+◌, sym, ◌≡◌, ℕ, suc, Bool, List, [], ◌∷◌, String, string_bytes, nat_eq, length, refl, ap, ◌∙◌, inl, inr}
 use Rattle.std.proofs.lemmas.Bool.{cases_Bool}
 use Rattle.std.proofs.lemmas.List.{length-map}
 use Rattle.std.specs.Cmp.Lexicographic.{pointwise}
@@ -60,6 +60,29 @@ pub text_entries-set_value_at : {V : Type 0} (es : List (String Global × V)) (i
 text_entries-set_value_at [] i w = refl
 text_entries-set_value_at (e ∷ es) zero w = refl
 text_entries-set_value_at (e ∷ es) (suc i) w = ap (λ l. (string_bytes e.0, e.1) ∷ l) (text_entries-set_value_at es i w)
+
+-- an entry, its key seen as a text
+abbrev seen_entry : {V : Type 0} → String Global × V → List ℕ × V
+seen_entry e = (string_bytes e.0, e.1)
+
+text_entries-slice_set : {V : Type 0} (es : List (String Global × V)) (i : ℕ) (e : String Global × V) → text_entries (slice_set es i e) ≡ slice_set (text_entries es) i (seen_entry e)
+text_entries-slice_set [] i e = refl
+text_entries-slice_set (x ∷ es) zero e = refl
+text_entries-slice_set (x ∷ es) (suc i) e = ap (λ l. seen_entry x ∷ l) (text_entries-slice_set es i e)
+
+text_entries-get_or : {V : Type 0} (es : List (String Global × V)) (i : ℕ) (d : String Global × V) → seen_entry (get_or es i d) ≡ get_or (text_entries es) i (seen_entry d)
+text_entries-get_or [] i d = refl
+text_entries-get_or (x ∷ es) zero d = refl
+text_entries-get_or (x ∷ es) (suc i) d = text_entries-get_or es i d
+
+-- two entries change places, whichever way their keys are seen
+pub text_entries-swap : {V : Type 0} (es : List (String Global × V)) (i j : ℕ) → text_entries (swap es i j) ≡ swap (text_entries es) i j
+text_entries-swap [] i j = refl
+text_entries-swap (d ∷ ys) i j =
+    let es = d ∷ ys in
+    text_entries-slice_set (slice_set es i (get_or es j d)) j (get_or es i d)
+    ∙ ap (λ l. slice_set l j (seen_entry (get_or es i d))) (text_entries-slice_set es i (get_or es j d))
+    ∙ (λ t. slice_set (slice_set (text_entries es) i (text_entries-get_or es j d t)) j (text_entries-get_or es i d t))
 
 pub AllZip-text_entries : {V : Type 0} (C : V → V → Type 0) (es fs : List (String Global × V)) → AllZip (λ p q. (string_bytes q.0 ≡ string_bytes p.0) × C p.1 q.1) es fs → AllZip (λ p q. (q.0 ≡ p.0) × C p.1 q.1) (text_entries es) (text_entries fs)
 AllZip-text_entries C [] [] h = h

@@ -8,6 +8,7 @@ pub mod accessor;
 pub mod entries;
 pub mod holding;
 mod index;
+mod index_maps;
 pub mod laws;
 pub mod rare;
 pub mod release;

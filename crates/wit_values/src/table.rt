@@ -1,5 +1,5 @@
 //! Maps in insertion order, which contracts see as the list of their entries.
-ghost use Rattle.std.specs.Prelude.{◌≡◌, ◌<◌, ◌≤◌, ◌++◌, ◌∷◌, Some, None, IfOk, OnOk, OnErr, IfErr, IfNone, IfSome, [], length, map, position, slice_get};
+ghost use Rattle.std.specs.Prelude.{◌≡◌, ◌<◌, ◌≤◌, ◌++◌, ◌∷◌, Some, None, IfOk, OnOk, OnErr, IfErr, IfNone, IfSome, [], length, map, position, slice_get, swap};
 ghost use Rattle.std.specs.List.{AllZip, list_all};
 ghost use Rattle.std.specs.HashMap.{entries_eq};
 ghost use Rattle.std.specs.Map.{lookup, lookup_entry, keys_of};
@@ -12,7 +12,9 @@ ghost use Rattle.indexmap.specs.IndexMap.{insert_entry};
 ghost use Rattle.wit_values.specs.Indexed.{AreApart};
 
 use crate::index::{Index, empty_index, index_for, place_in, place_or_note};
+use crate::index_maps::{entries_of, index_map_of};
 use crate::sought::Sought;
+use indexmap::IndexMap;
 use std::alloc::{AllocError, AllocFailed, Global};
 use std::fmt;
 use std::hash::Hash;
@@ -88,6 +90,27 @@ impl<K: Eq + Hash + Ord, V> Table<K, V> {
     {
         let index = index_for(alloc, &entries)?;
         Ok(Table { entries, index })
+    }
+
+    /// The entries of an [`IndexMap`], in their order.
+    ///
+    /// Allocation is needed, since the maps keep their entries in different ways. If it fails, the entries
+    /// are dropped.
+    pub fn from_index_map(map: IndexMap<K, V>) -> Result<Table<K, V>, AllocError>
+    where
+        K: Clone + Drop,
+        V: Drop,
+        ensures { IfOk result (λ table. table ≡ map.entries) }
+    {
+        let alloc = *map.allocator();
+        let entries = entries_of(alloc, map)?;
+        let table = Table::from_entries(alloc, entries)?;
+        Ok(table)
+    }
+
+    /// The allocator of the map.
+    pub fn allocator(&self) -> &Global {
+        self.entries.allocator()
     }
 
     /// How many entries there are.
@@ -221,6 +244,33 @@ impl<K: Eq + Hash + Ord, V> Table<K, V> {
         }
     }
 
+    /// Lets the entries at two places change places.
+    ///
+    /// After it, keys are looked up one by one: call [`Table::reindex`] when the order is as it should be.
+    pub fn swap_indices(&mut self, one: usize, other: usize)
+    where
+        K: Drop,
+        requires one { one < length self.old }
+        requires other { other < length self.old }
+        ensures { self.new ≡ swap self.old one other }
+    {
+        self.index = None;
+        self.entries.swap(one, other);
+    }
+
+    /// Makes the index anew, after entries changed places. Where its allocation fails, there is none, and
+    /// keys are looked up one by one until the next insertion.
+    pub fn reindex(&mut self)
+    where
+        K: Clone + Drop,
+        ensures { self.new ≡ self.old }
+    {
+        let alloc = *self.entries.allocator();
+        if let Ok(index) = index_for(alloc, &self.entries) {
+            self.index = index;
+        }
+    }
+
     /// The map with no more room than it takes.
     pub fn fitted(self) -> Table<K, V>
         ensures { result ≡ self }
@@ -238,6 +288,20 @@ impl<K: Eq + Hash + Ord, V> Table<K, V> {
     {
         let Table { entries, index: _ } = self;
         entries
+    }
+
+    /// The entries as an [`IndexMap`], in their order.
+    ///
+    /// Allocation is needed, since the maps keep their entries in different ways. If it fails, the entries
+    /// are dropped.
+    pub fn into_index_map(self) -> Result<IndexMap<K, V>, AllocError>
+    where
+        K: Drop,
+        V: Drop,
+        ensures { IfOk result (λ map. map.entries ≡ self) }
+    {
+        let Table { entries, index: _ } = self;
+        index_map_of(entries)
     }
 }
 

@@ -1,5 +1,5 @@
 //! Maps from texts in insertion order, which contracts see as the list of their entries.
-ghost use Rattle.std.specs.Prelude.{◌≡◌, ◌<◌, Some, OnOk, OnErr, IfErr, IfOk, [], nat_eq, string_bytes, length, map, position, slice_get};
+ghost use Rattle.std.specs.Prelude.{◌≡◌, ◌<◌, Some, OnOk, OnErr, IfErr, IfOk, [], nat_eq, string_bytes, length, map, position, slice_get, swap};
 ghost use Rattle.std.specs.Cmp.Lexicographic.{pointwise, nat_list_eq_equiv};
 ghost use Rattle.std.specs.Cmp.{equiv, partial_equiv_from_equiv};
 ghost use Rattle.std.specs.HashMap.{entries_eq};
@@ -12,6 +12,7 @@ ghost use Rattle.indexmap.specs.Layout.{hash_map, set_value_at};
 ghost use Rattle.wit_values.specs.TextEntries.{text_entries};
 
 use crate::table::Table;
+use indexmap::IndexMap;
 use std::alloc::{AllocError, AllocFailed, Global};
 use std::fmt;
 use std::marker::Model;
@@ -59,6 +60,23 @@ impl<V> TextTable<V> {
     {
         let table = Table::with_capacity(alloc, entries)?;
         Ok(TextTable { table })
+    }
+
+    /// The entries of an [`IndexMap`], in their order.
+    ///
+    /// Allocation is needed, as for [`Table::from_index_map`]. If it fails, the entries are dropped.
+    pub fn from_index_map(map: IndexMap<String, V>) -> Result<TextTable<V>, AllocError>
+    where
+        V: Drop,
+        ensures { IfOk result (λ table. table ≡ text_entries map.entries) }
+    {
+        let table = Table::from_index_map(map)?;
+        Ok(TextTable { table })
+    }
+
+    /// The allocator of the map.
+    pub fn allocator(&self) -> &Global {
+        self.table.allocator()
     }
 
     /// How many entries there are.
@@ -135,6 +153,25 @@ impl<V> TextTable<V> {
         self.table.put(key, value)
     }
 
+    /// Lets the entries at two places change places.
+    ///
+    /// After it, texts are looked up one by one: call [`TextTable::reindex`] when the order is as it should
+    /// be.
+    pub fn swap_indices(&mut self, one: usize, other: usize)
+        requires one { one < length self.old }
+        requires other { other < length self.old }
+        ensures { self.new ≡ swap self.old one other }
+    {
+        self.table.swap_indices(one, other);
+    }
+
+    /// Makes the index anew, after entries changed places, as [`Table::reindex`] does.
+    pub fn reindex(&mut self)
+        ensures { self.new ≡ self.old }
+    {
+        self.table.reindex();
+    }
+
     /// The map with no more room than it takes.
     pub fn fitted(self) -> TextTable<V>
         ensures { result ≡ self }
@@ -151,6 +188,18 @@ impl<V> TextTable<V> {
     {
         let TextTable { table } = self;
         table.into_entries()
+    }
+
+    /// The entries as an [`IndexMap`], in their order.
+    ///
+    /// Allocation is needed, as for [`Table::into_index_map`]. If it fails, the entries are dropped.
+    pub fn into_index_map(self) -> Result<IndexMap<String, V>, AllocError>
+    where
+        V: Drop,
+        ensures { IfOk result (λ map. text_entries map.entries ≡ self) }
+    {
+        let TextTable { table } = self;
+        table.into_index_map()
     }
 }
 
