@@ -11,3 +11,4 @@ pub mod Serving
 pub mod Keys
 pub mod Swaps
 pub mod Reordered
+pub mod Values

@@ -8,6 +8,7 @@ pub mod abi;
 mod clones;
 pub mod function;
 pub mod function_kind;
+mod function_map;
 pub mod function_name;
 pub mod futures;
 pub mod items;
@@ -22,6 +23,7 @@ pub mod told;
 
 pub use abi::{AbiVariant, LiftLowerAbi, Mangling, ManglingAndAbi, ManglingFault};
 pub use function::{Function, FunctionKind, Param};
+pub use function_map::FunctionMap;
 pub use futures::reaches_unknown;
 pub use setters::place_setters_after_getters;
 pub use signature::ParamResultTypes;

@@ -5,6 +5,7 @@ ghost use Rattle.wit_functions.specs.Order.{AreFirst, AreStanding, IsExchange, I
 use indexmap::IndexMap;
 use std::alloc::{AllocError, Global};
 use std::hash::Hash;
+use wit_values::{Table, TextTable};
 
 /// Entries at places, two of which may change places.
 pub trait Entries {
@@ -41,9 +42,31 @@ impl<K: Eq + Hash, V> Entries for IndexMap<K, V> {
     }
 }
 
+impl<K: Eq + Hash + Ord + Drop, V> Entries for Table<K, V> {
+    ghost Entry = { K × V };
+
+    ghost entries = { λ table. table };
+
+    fn exchange(&mut self, one: usize, other: usize) {
+        self.swap_indices(one, other);
+    }
+}
+
+impl<V> Entries for TextTable<V> {
+    ghost use Rattle.std.specs.Prelude.{ℕ, List};
+
+    ghost Entry = { List ℕ × V };
+
+    ghost entries = { λ table. table };
+
+    fn exchange(&mut self, one: usize, other: usize) {
+        self.swap_indices(one, other);
+    }
+}
+
 /// Where entries stand, each told by the place where it stood at first.
 #[derive(Drop)]
-pub(crate) struct Standing {
+pub struct Standing {
     /// The entry at each place.
     pub entries: Vec<usize>,
     /// The place of each entry.

@@ -1,17 +1,15 @@
 //! Setters behind their getters.
-ghost use Rattle.std.specs.Prelude.{◌≡◌, ◌<◌, ℕ, Option, IfOk, OnErr, OnOk, Some, map as mapped, slice_get};
+ghost use Rattle.std.specs.Prelude.{◌≡◌, ◌<◌, ℕ, Option, IfOk, OnErr, OnOk, Some, length, map as mapped, slice_get};
 ghost use Rattle.std.specs.List.{enumerate_from};
 ghost use Rattle.std.specs.Option.{option_copied, option_map};
-ghost use Rattle.indexmap.specs.IndexMap.{index_map_len};
 ghost use Rattle.wit_functions.specs.Order.{IsOrder};
 ghost use Rattle.wit_functions.specs.Setters.{HaveDistinctNames, Tells, fronts, is_getter, placed};
 
 use crate::function::{Function, FunctionKind};
-use crate::order::{Standing, put_in_order};
+use crate::function_map::FunctionMap;
+use crate::order::Standing;
 use crate::placed::order_of;
-use indexmap::IndexMap;
 use std::alloc::{AllocError, Global};
-use std::hash::Hash;
 
 /// Of a setter's kind, the front of its name and that of its getter's name; none for another kind.
 pub fn fronts(kind: FunctionKind) -> Option<(&'static str, &'static str)>
@@ -42,29 +40,28 @@ fn told<'a, V, F: Fn(&V) -> Option<&Function>>(func: &F, value: &'a V) -> Option
     func(value)
 }
 
-fn told_at<'a, K: Eq + Hash, V, F: Fn(&V) -> Option<&Function>>(
-    map: &'a IndexMap<K, V>,
+fn told_at<'a, V, M: FunctionMap<V>, F: Fn(&V) -> Option<&Function>>(
+    map: &'a M,
     place: usize,
     func: &F,
 ) -> Option<&'a Function>
-    requires within { place < index_map_len map.now }
+    requires within { place < length (M.entries map.now) }
     requires callable { F.IsAlwaysCallable func.now }
-    ensures { (tells : V → Option Function) → Tells F.Fn func.now tells → (e : K × V) → slice_get map.now.entries place ≡ Some e → option_copied result ≡ tells e.1 }
+    ensures { (tells : V → Option Function) → Tells F.Fn func.now tells → (e : M.Key × V) → slice_get (M.entries map.now) place ≡ Some e → option_copied result ≡ tells e.1 }
 {
-    let (_, value) = map.get_index(place).unwrap();
-    told(func, value)
+    told(func, map.value_at(place))
 }
 
 /// The places of a map, each with the function that stands there.
-fn told_places<'a, K: Eq + Hash, V, F: Fn(&V) -> Option<&Function>>(
+fn told_places<'a, V, M: FunctionMap<V>, F: Fn(&V) -> Option<&Function>>(
     alloc: Global,
-    map: &'a IndexMap<K, V>,
+    map: &'a M,
     func: &F,
 ) -> Result<Vec<(usize, Option<&'a Function>)>, AllocError>
     requires { F.IsAlwaysCallable func.now }
-    ensures { IfOk result (λ told. (tells : V → Option Function) → Tells F.Fn func.now tells → mapped {B = ℕ × Option Function} (λ t. (t.0, option_copied t.1)) told.items ≡ mapped (λ z. (z.0, tells z.1.1)) (enumerate_from 0 map.now.entries)) }
+    ensures { IfOk result (λ told. (tells : V → Option Function) → Tells F.Fn func.now tells → mapped {B = ℕ × Option Function} (λ t. (t.0, option_copied t.1)) told.items ≡ mapped (λ z. (z.0, tells z.1.1)) (enumerate_from 0 (M.entries map.now))) }
 {
-    let len = map.len();
+    let len = map.count();
     let mut places = Vec::with_capacity(alloc, len)?;
     for place in 0..len {
         places.push((place, told_at(map, place, func)))?;
@@ -74,13 +71,13 @@ fn told_places<'a, K: Eq + Hash, V, F: Fn(&V) -> Option<&Function>>(
 
 /// The places of the entries of a map, in the order in which each setter that stands before its
 /// getter stands directly behind it instead.
-fn map_order<K: Eq + Hash, V, F: Fn(&V) -> Option<&Function>>(
+fn map_order<V, M: FunctionMap<V>, F: Fn(&V) -> Option<&Function>>(
     alloc: Global,
-    map: &IndexMap<K, V>,
+    map: &M,
     func: &F,
 ) -> Result<Vec<usize>, AllocError>
     requires { F.IsAlwaysCallable func.now }
-    ensures { IfOk result (λ order. (tells : V → Option Function) → Tells F.Fn func.now tells → HaveDistinctNames tells map.now.entries → IsOrder map.now.entries order.items (placed tells map.now.entries)) }
+    ensures { IfOk result (λ order. (tells : V → Option Function) → Tells F.Fn func.now tells → HaveDistinctNames tells (M.entries map.now) → IsOrder (M.entries map.now) order.items (placed tells (M.entries map.now))) }
 {
     let told = told_places(alloc, map, func)?;
     let order = order_of(alloc, told)?;
@@ -90,20 +87,21 @@ fn map_order<K: Eq + Hash, V, F: Fn(&V) -> Option<&Function>>(
 /// Puts each setter that stands before its getter directly behind it. All else, a setter that
 /// stands behind its getter too, keeps its order.
 ///
-/// `func` tells the function of a value, if it is one, and always the same of the same value. A
-/// setter's getter is the one whose name is the setter's with `[get]` for `[set]`. The names of
-/// the functions are distinct. Without memory the map stays as it is.
-pub fn place_setters_after_getters<K: Eq + Hash, V, F: Fn(&V) -> Option<&Function>>(
-    map: &mut IndexMap<K, V>,
+/// The map is an [`IndexMap`](indexmap::IndexMap), or a map of a package, as the functions of an interface
+/// and the imports of a world. `func` tells the function of a value, if it is one, and always the same of
+/// the same value. A setter's getter is the one whose name is the setter's with `[get]` for `[set]`. The
+/// names of the functions are distinct. Without memory the map stays as it is.
+pub fn place_setters_after_getters<V, M: FunctionMap<V>, F: Fn(&V) -> Option<&Function>>(
+    map: &mut M,
     func: F,
 ) -> Result<(), AllocError>
     requires { F.IsAlwaysCallable func }
-    ensures placed { OnOk result ((tells : V → Option Function) → Tells F.Fn func tells → HaveDistinctNames tells map.old.entries → map.new.entries ≡ placed tells map.old.entries) }
+    ensures placed { OnOk result ((tells : V → Option Function) → Tells F.Fn func tells → HaveDistinctNames tells (M.entries map.old) → M.entries map.new ≡ placed tells (M.entries map.old)) }
     ensures unchanged { OnErr result (map.new ≡ map.old) }
 {
-    let alloc = *map.allocator();
+    let alloc = map.alloc();
     let order = map_order(alloc, map, &func)?;
-    let standing = Standing::new(alloc, map.len())?;
-    put_in_order(map, standing, order);
+    let standing = Standing::new(alloc, map.count())?;
+    map.reorder(standing, order);
     Ok(())
 }

@@ -5,7 +5,7 @@ use Rattle.wit_functions.proofs.setters.map_order.Goals as goal
 
 pub returns : goal.returns
 returns g c = λ tells h names.
-    let es = c.args.map.now.entries in
+    let es = g.M.FunctionMap.entries c.args.map.now in
     let told = c.in_ok-told.told.items in
     let are = c.in_ok-told.ensures tells h in
     let own = own_told (λ e. tells e.1) (λ t. t.0) (λ t. option_copied t.1) told es are names in

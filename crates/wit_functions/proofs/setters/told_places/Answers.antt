@@ -7,12 +7,12 @@ use Rattle.wit_functions.proofs.setters.told_places.Goals as goal
 
 pub loop-place-preserved : goal.loop-place-preserved
 loop-place-preserved g c = λ tells h.
-    let es = c.args.map.now.entries in
+    let es = g.M.FunctionMap.entries c.args.map.now in
     let place = c.loop-place.place in
     let e = some_at es place (search rules) in
     told_more (λ e. tells e.1) (λ t. (t.0, option_copied t.1)) es place e.0 c.loop-place.places.items c.push.new.self.items _ e.1 (ap (λ (o : Option Function). (place, o)) (c.told_at.ensures tells h e.0 e.1)) c.in_ok-push.ensures.items (c.loop-place.invariant tells h)
 
 pub returns : goal.returns
 returns g c = λ tells h.
-    let end : length c.args.map.now.entries ≤ c.loop-place.place = search rules in
-    told_all (λ e. tells e.1) c.args.map.now.entries c.loop-place.place _ end (c.loop-place.invariant tells h)
+    let end : length (g.M.FunctionMap.entries c.args.map.now) ≤ c.loop-place.place = search rules in
+    told_all (λ e. tells e.1) (g.M.FunctionMap.entries c.args.map.now) c.loop-place.place _ end (c.loop-place.invariant tells h)

@@ -8,4 +8,4 @@ use Rattle.wit_functions.proofs.setters.told_places.Given as goal
 abbrev pub invariant-loop-place : goal.invariant-loop-place
 invariant-loop-place g l =
     (tells : g.row.V.Denot → Option Function) → Tells g.F.Fn l.func tells
-    → map {B = ℕ × Option Function} (λ t. (t.0, option_copied t.1)) l.places.items ≡ map (λ z. (z.0, tells z.1.1)) (take l.place (enumerate_from 0 l.map.entries))
+    → map {B = ℕ × Option Function} (λ t. (t.0, option_copied t.1)) l.places.items ≡ map (λ z. (z.0, tells z.1.1)) (take l.place (enumerate_from 0 (g.M.FunctionMap.entries l.map)))
