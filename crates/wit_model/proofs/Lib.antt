@@ -3,3 +3,4 @@ pub mod Same
 pub mod SameMaps
 pub mod WorldSpans
 pub mod PackageSpans
+pub mod Lookups

@@ -1,5 +1,6 @@
 -- What an item of a world tells.
-use Rattle.std.specs.Prelude.{ℕ, List, ◌++◌, ◌<◌, Option, Some, None, ⊤, codes, length, slice_get}
+use Rattle.std.specs.Prelude.{ℕ, List, ◌++◌, ◌<◌, Bool, false, Option, Some, None, ⊤, codes, length, nat_eq, slice_get}
+use Rattle.std.specs.Cmp.Lexicographic.{pointwise}
 use Rattle.std.specs.Fmt.{decimal}
 use Rattle.std.specs.Option.{option_map}
 use Rattle.wit_values.specs.declared.span.Span.{Span}
@@ -15,6 +16,11 @@ use Rattle.wit_model.specs.declared.world.WorldKey.TheVariants as key
 abbrev pub name_of : WorldKey → Option (List ℕ)
 name_of (key.Name name) = Some name
 name_of (key.Interface i) = None
+
+-- the key is this name
+abbrev pub is_name : List ℕ → WorldKey → Bool
+is_name name (key.Name own) = pointwise nat_eq name own
+is_name name (key.Interface i) = false
 
 -- the name, or `interface-` and the place
 abbrev pub key_text : WorldKey → List ℕ

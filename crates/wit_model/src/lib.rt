@@ -19,8 +19,8 @@ pub use foreign::ForeignItems;
 pub use interface::Interface;
 pub use unresolved::UnresolvedPackage;
 pub use wit_functions::{
-    AbiVariant, Function, FunctionKind, LiftLowerAbi, Mangling, ManglingAndAbi, ManglingFault,
-    Param, ParamResultTypes, abi, function, function_kind, function_name, futures,
+    AbiVariant, Function, FunctionKind, FunctionMap, LiftLowerAbi, Mangling, ManglingAndAbi,
+    ManglingFault, Param, ParamResultTypes, abi, function, function_kind, function_name, futures,
     place_setters_after_getters, reaches_unknown, setters, signature,
 };
 pub use wit_package_names::PackageName;
@@ -31,4 +31,4 @@ pub use wit_types::{
     backward, discriminant_type, docs, equality, ids, int, is_backward, is_same_kind, kind_word,
     stability, types,
 };
-pub use world::{IncludeName, World, WorldInclude, WorldItem, WorldKey, world_item_func};
+pub use world::{IncludeName, World, WorldInclude, WorldItem, WorldKey, get_name, world_item_func};

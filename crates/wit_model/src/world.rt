@@ -1,7 +1,8 @@
 //! Worlds.
 ghost use Rattle.std.specs.Prelude.{◌≡◌, IfOk, IsSome, Some, string_bytes};
+ghost use Rattle.std.specs.Map.{lookup};
 ghost use Rattle.std.specs.Option.{option_copied};
-ghost use Rattle.wit_model.specs.Worlds.{IsWithin, function_of, key_text, name_of, span_of, stability_of};
+ghost use Rattle.wit_model.specs.Worlds.{IsWithin, function_of, is_name, key_text, name_of, span_of, stability_of};
 
 use std::alloc::{AllocError, Global};
 use wit_functions::Function;
@@ -132,6 +133,16 @@ impl WorldKey {
         }
     }
 
+    /// Whether the key is this name.
+    pub fn is_name(&self, name: &str) -> bool
+        ensures { result ≡ is_name name.now self.now }
+    {
+        match self {
+            WorldKey::Name(own) => name == own.as_str(),
+            WorldKey::Interface(_) => false,
+        }
+    }
+
     /// The name, or `interface-` and the place of the interface.
     ///
     /// The error is want of memory.
@@ -181,6 +192,23 @@ impl Told for WorldItem {
     fn told(&self) -> Option<&Function> {
         world_item_func(self)
     }
+}
+
+/// What the imports or exports of a world have at a name, if they have something there.
+///
+/// No key is made, so nothing is allocated; the keys are compared one by one. With a key at hand,
+/// [`Table::get`] is the faster call.
+pub fn get_name<'t, V>(items: &'t Table<WorldKey, V>, name: &str) -> Option<&'t V>
+    ensures { option_copied result ≡ lookup (is_name name.now) items.now }
+{
+    for place in 0..items.len() {
+        if let Some((key, value)) = items.get_index(place) {
+            if key.is_name(name) {
+                return Some(value);
+            }
+        }
+    }
+    None
 }
 
 /// The function that an item of a world is, if it is one.
