@@ -7,14 +7,15 @@
 pub use wit_functions::{AbiVariant, LiftLowerAbi, Mangling, ManglingAndAbi, ManglingFault};
 /// Functions.
 pub use wit_functions::{
-    Function, FunctionKind, Param, ParamResultTypes, place_setters_after_getters, reaches_unknown,
+    Function, FunctionKind, FunctionMap, Param, ParamResultTypes, place_setters_after_getters,
+    reaches_unknown,
 };
 /// Tables that find unnamed types by what they are.
 pub use wit_intern::{InternKey, InternReply, InternStep, InternTable, intern_run};
 /// Interfaces, worlds and packages.
 pub use wit_model::{
     AstItem, ForeignItems, IncludeName, Interface, UnresolvedPackage, World, WorldInclude,
-    WorldItem, WorldKey, world_item_func,
+    WorldItem, WorldKey, get_name, world_item_func,
 };
 /// Names of packages.
 pub use wit_package_names::PackageName;

@@ -7,6 +7,8 @@ mod calling;
 #[cfg(test)]
 mod calls;
 #[cfg(test)]
+mod either_map;
+#[cfg(test)]
 mod interning;
 #[cfg(test)]
 mod kinds;

@@ -1,0 +1,38 @@
+//! Calls what `tulfjak` has, from sources to output, over the package on standard input, and prints what each
+//! call returns. Calls on maps, arenas and other small values are in `tulfjak_tests`.
+#![tactic(auto)]
+
+mod answers;
+mod borrowed;
+mod files;
+mod functions;
+mod items;
+mod made;
+mod outputs;
+mod packages;
+mod scopes;
+mod sources;
+mod trees;
+
+use std::alloc::Global;
+use std::io;
+use tulfjak::ParseResult;
+
+/// What all calls return, for the source of a package.
+fn calls(alloc: Global, source: &str) -> ParseResult<String> {
+    let mut text = String::new(alloc);
+    sources::push_sources(alloc, &mut text, source)?;
+    trees::push_tree(alloc, source, &mut text)?;
+    files::push_files(alloc, source, &mut text)?;
+    scopes::push_scopes(alloc, &mut text)?;
+    made::push_made(alloc, &mut text, source)?;
+    outputs::push_outputs(alloc, &mut text, source)?;
+    Ok(text)
+}
+
+/// Prints what all calls return.
+fn main(rt: HostRuntime) -> anyhow::Result<()> {
+    let alloc = rt.alloc();
+    let source = io::read_to_string(alloc, rt.stdin())?;
+    Ok(print!(rt; "{}", calls(alloc, source.as_str())?)?)
+}
