@@ -3,10 +3,10 @@ pub use Rattle.wit_names.specs.Label
 pub use Rattle.wit_names.specs.Mangled
 pub use Rattle.wit_names.specs.Setter
 pub use Rattle.wit_names.specs.Track
-pub use Rattle.wit_values.specs.Indexed
+pub use Rattle.wit_maps.specs.Indexed
 pub use Rattle.wit_values.specs.ReleaseText
 pub use Rattle.wit_values.specs.Spans
-pub use Rattle.wit_values.specs.TextEntries
+pub use Rattle.wit_maps.specs.TextEntries
 pub use Rattle.wit_type_tree.specs.Attributes
 pub use Rattle.wit_type_tree.specs.Refusal
 pub use Rattle.wit_tree.specs.Externs

@@ -34,9 +34,10 @@ pub use wit_types::{Docs, HasSpans, Stability};
 /// Accessors, spans and versions.
 pub use wit_values::{AccessorKind, BuildText, PreText, Release, Span};
 /// Texts, lists, maps, and values that few have.
-pub use wit_values::{Rare, Row, Table, Text, TextTable};
+pub use wit_maps::{Table, TextTable};
+pub use wit_values::{Rare, Row, Text};
 /// Iterators over maps.
-pub use wit_values::{Entries, Keys, TextEntries, TextKeys, Values};
+pub use wit_maps::{Entries, Keys, TextEntries, TextKeys, Values};
 
 /// The arena of interfaces.
 pub type Interfaces = Arena<Interface, InterfacePlace>;

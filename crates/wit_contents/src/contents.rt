@@ -23,7 +23,8 @@ use wit_model::{ForeignItems, Interface, World};
 use wit_tree::tree::PackageFile;
 use wit_tree::{ParseResult, Span};
 use wit_types::{Arena, InterfacePlace, TypeDef, TypePlace, WorldPlace};
-use wit_values::{Row, TextTable, beside};
+use wit_maps::TextTable;
+use wit_values::{Row, beside};
 
 /// The interfaces and the worlds of files, where types of other packages are first used, and which of
 /// these have to be resources.

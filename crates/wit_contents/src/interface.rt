@@ -43,7 +43,8 @@ use wit_rules::held::HeldFunction;
 use wit_tree::tree::Id;
 use wit_tree::{ParseResult, Span};
 use wit_types::{InterfaceId, TypeOwner};
-use wit_values::{Text, TextTable};
+use wit_maps::TextTable;
+use wit_values::Text;
 
 /// Refuses a setter that has no getter of its spelling, where these are the names and the functions,
 /// and they are taken if there is a function.

@@ -39,7 +39,8 @@ use wit_model::{Interface, World, WorldInclude};
 use wit_tree::ParseResult;
 use wit_tree::tree::Id;
 use wit_types::{Arena, InterfacePlace, TypeOwner, WorldPlace};
-use wit_values::{Row, Text, TextTable, beside};
+use wit_maps::TextTable;
+use wit_values::{Row, Text, beside};
 use wit_world_sides::setters::is_closed;
 use wit_world_sides::sides::{WorldSides, world_sides};
 

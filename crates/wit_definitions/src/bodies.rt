@@ -27,7 +27,8 @@ use wit_types::{
     Case, Enum, EnumCase, Field, Flag, Flags, Handle, Record, Stability, Type, TypeDefKind, TypeId,
     Variant,
 };
-use wit_values::{Row, Text, TextTable};
+use wit_maps::TextTable;
+use wit_values::{Row, Text};
 
 /// A field of this type.
 fn field(alloc: Global, field: &tree::Field<'_>, ty: Type) -> Result<Field, AllocError>

@@ -14,7 +14,7 @@ use wit_refusals::refusal::{refuse_in, refuse_missing_type};
 use wit_tree::tree::Id;
 use wit_tree::{ParseError, ParseResult};
 use wit_types::TypeId;
-use wit_values::TextTable;
+use wit_maps::TextTable;
 
 /// What a name of the scope stands for.
 pub fn find_name(alloc: Global, names: &TextTable<TypeId>, id: Id<'_>) -> ParseResult<TypeId>

@@ -10,7 +10,8 @@ use std::alloc::Global;
 use wit_notes::Notes;
 use wit_tree::{ParseResult, Span};
 use wit_types::{TypeDefKind, TypeId, TypeOwner};
-use wit_values::{Text, TextTable};
+use wit_maps::TextTable;
+use wit_values::Text;
 
 /// A type of another package that has to be a resource, and where a handle names it.
 pub type Required = (TypeId, Span);

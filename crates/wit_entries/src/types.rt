@@ -19,7 +19,8 @@ use std::alloc::Global;
 use wit_rules::rules::{check_key, check_tuple};
 use wit_tree::{ParseResult, Span, tree};
 use wit_types::{Handle, Result_, Stability, Tuple, Type, TypeDefKind, TypeId};
-use wit_values::{Row, TextTable};
+use wit_maps::TextTable;
+use wit_values::Row;
 
 /// A written type over its resolved parts.
 #[derive(Drop)]

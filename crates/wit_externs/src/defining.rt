@@ -22,7 +22,7 @@ use wit_sides::Sides;
 use wit_tree::tree::WorldSide;
 use wit_tree::{ParseResult, Span};
 use wit_types::TypeId;
-use wit_values::TextTable;
+use wit_maps::TextTable;
 
 /// Whether it is an interface on a side, under this name.
 fn is_interface_named(held: &HeldExtern<'_, '_>, side: WorldSide, name: &str) -> bool {

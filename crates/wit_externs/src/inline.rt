@@ -20,7 +20,7 @@ use wit_notes::check_notes;
 use wit_sides::Sides;
 use wit_tree::ParseResult;
 use wit_types::TypeId;
-use wit_values::TextTable;
+use wit_maps::TextTable;
 
 /// Puts an interface that is written there on its side, under its name. `before` is what stands in
 /// front of it, `types` the names of the scope.

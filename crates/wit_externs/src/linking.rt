@@ -24,7 +24,7 @@ use wit_refusals::refusal::{refuse_missing, refuse_world};
 use wit_sides::Sides;
 use wit_tree::ParseResult;
 use wit_types::TypeId;
-use wit_values::TextTable;
+use wit_maps::TextTable;
 
 /// The place of the interface that a link leads to.
 ///

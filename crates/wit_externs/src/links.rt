@@ -9,7 +9,7 @@ use std::alloc::{AllocError, Global};
 use wit_refusals::refusal::refuse;
 use wit_tree::tree::WorldSide;
 use wit_tree::{ParseResult, Span};
-use wit_values::Table;
+use wit_maps::Table;
 
 /// The places of the interfaces that a world imports and exports by their paths, without names of
 /// their own, each in source order.

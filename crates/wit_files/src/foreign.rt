@@ -13,7 +13,7 @@ use std::alloc::{AllocError, Global};
 use wit_notes::attributes::check_stability;
 use wit_tree::ParseResult;
 use wit_tree::tree::{Attribute, Id, PackageFile, PackageName, UsePath};
-use wit_values::Table;
+use wit_maps::Table;
 
 /// A path with a package, which leads to an item of that package.
 ///

@@ -19,7 +19,7 @@ use wit_top_names::declaration::{declarations, interface_items, world_items};
 use wit_top_names::top_name::{Paths, add_edge};
 use wit_tree::ParseResult;
 use wit_tree::tree::{AstItem, Id, Interface, InterfaceItem, PackageFile, World, WorldItem};
-use wit_values::Table;
+use wit_maps::Table;
 
 /// Adds the edge of the path of a part of an interface, where that is a `use`.
 fn add_use<'a>(

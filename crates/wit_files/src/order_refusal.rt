@@ -12,7 +12,7 @@ use wit_order::OrderFault;
 use wit_refusals::refusal::{refuse_cycle, refuse_missing, refuse_missing_type};
 use wit_tree::tree::Id;
 use wit_tree::{OUT_OF_MEMORY, ParseError, ParseErrorKind};
-use wit_values::Table;
+use wit_maps::Table;
 
 /// The name at an index of what the item at a place needs.
 fn needed<'a>(table: &Table<&'a str, Vec<Id<'a>>>, place: usize, index: usize) -> Id<'a>

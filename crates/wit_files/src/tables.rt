@@ -19,7 +19,7 @@ use std::alloc::Global;
 use wit_top_names::top_name::{Paths, Target, check_top_uses, file_names, item_names};
 use wit_tree::ParseResult;
 use wit_tree::tree::{Id, PackageFile};
-use wit_values::Table;
+use wit_maps::Table;
 
 /// What the names of files are kept in.
 #[derive(Drop)]

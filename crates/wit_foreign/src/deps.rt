@@ -13,7 +13,8 @@ use wit_files::ForeignVisit;
 use wit_model::AstItem;
 use wit_notes::{package_name, told_stability};
 use wit_types::{Arena, InterfacePlace, WorldPlace};
-use wit_values::{Row, Span, Table, beside};
+use wit_maps::Table;
+use wit_values::{Row, Span, beside};
 
 /// The items of the visits so far.
 #[derive(Drop)]

@@ -9,7 +9,8 @@ ghost use Rattle.wit_foreign.specs.Kept.{item_more, row_more};
 use std::alloc::{AllocError, Global};
 use wit_model::AstItem;
 use wit_types::Stability;
-use wit_values::{Row, TextTable};
+use wit_maps::TextTable;
+use wit_values::Row;
 
 /// Items by their names, each with its entry and the stability of each of its visits.
 pub type Items = TextTable<(AstItem, Row<Stability>)>;

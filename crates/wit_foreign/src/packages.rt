@@ -12,7 +12,7 @@ use std::alloc::{AllocError, Global};
 use wit_model::AstItem;
 use wit_package_names::PackageName;
 use wit_types::Stability;
-use wit_values::{Table, TextTable};
+use wit_maps::{Table, TextTable};
 
 /// Packages, each with its items.
 pub type Packages = Table<PackageName, Items>;

@@ -30,7 +30,8 @@ use wit_tree::{ParseResult, Span};
 use wit_types::{
     Arena, Docs, InterfaceId, InterfacePlace, Stability, TypeDefKind, TypeId, TypeOwner, WorldPlace,
 };
-use wit_values::{Row, Table, Text, TextTable};
+use wit_maps::{Table, TextTable};
+use wit_values::{Row, Text};
 
 /// The interfaces and worlds of other packages.
 #[derive(Drop)]

@@ -6,7 +6,7 @@ use crate::order::{Standing, put_in_order};
 use indexmap::IndexMap;
 use std::alloc::Global;
 use std::hash::Hash;
-use wit_values::{Table, TextTable};
+use wit_maps::{Table, TextTable};
 
 /// A map in insertion order, as [`place_setters_after_getters`](crate::place_setters_after_getters) takes
 /// one: an [`IndexMap`], or a [`Table`] or [`TextTable`], as packages have them.

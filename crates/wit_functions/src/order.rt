@@ -5,7 +5,7 @@ ghost use Rattle.wit_functions.specs.Order.{AreFirst, AreStanding, IsExchange, I
 use indexmap::IndexMap;
 use std::alloc::{AllocError, Global};
 use std::hash::Hash;
-use wit_values::{Table, TextTable};
+use wit_maps::{Table, TextTable};
 
 /// Entries at places, two of which may change places.
 pub trait Entries {

@@ -20,7 +20,8 @@ use wit_rules::held::HeldFunction;
 use wit_scopes::scope_name::ScopeName;
 use wit_setters::setters::setters_behind_getters;
 use wit_tree::tree::{InterfaceItem, Type, TypeBody, TypeDef};
-use wit_values::{TextTable, beside, push};
+use wit_maps::TextTable;
+use wit_values::{beside, push};
 
 /// Adds the functions of a definition: those of a resource.
 fn add_definition<'t, 'a>(

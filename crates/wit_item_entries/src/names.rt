@@ -29,7 +29,7 @@ use wit_tree::ParseResult;
 use wit_tree::tree::Id;
 use wit_types::{TypeId, TypeOwner};
 use wit_uses::uses::resolve_uses;
-use wit_values::TextTable;
+use wit_maps::TextTable;
 
 /// The names of a scope that is resolved.
 #[derive(Drop)]

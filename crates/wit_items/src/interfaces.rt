@@ -6,7 +6,7 @@ ghost use Rattle.wit_items.specs.Found.{AreFound};
 use wit_item_names::files::Files;
 use wit_model::Interface;
 use wit_types::{Arena, InterfaceId, InterfacePlace};
-use wit_values::TextTable;
+use wit_maps::TextTable;
 
 /// The interfaces of files that are resolved, and the places of the declared ones by their names: what
 /// is found by a name has that name, and stands after those of other packages.

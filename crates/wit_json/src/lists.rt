@@ -9,7 +9,7 @@ use crate::members::write_number;
 use crate::output::Output;
 use std::alloc::AllocError;
 use wit_types::{Arena, TypeId};
-use wit_values::TextTable;
+use wit_maps::TextTable;
 
 /// A value that JSON can be written of.
 pub trait AsJson {

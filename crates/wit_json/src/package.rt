@@ -13,7 +13,8 @@ use std::alloc::AllocError;
 use wit_model::{AstItem, UnresolvedPackage};
 use wit_package_names::PackageName;
 use wit_types::{Stability, TypeId};
-use wit_values::{Row, Span, Table, TextTable};
+use wit_maps::{Table, TextTable};
+use wit_values::{Row, Span};
 
 fn write_ast_item(out: &mut Output, item: AstItem) -> Result<(), AllocError>
     ensures { OnOk result (Adds out.old out.new (ast_item_json item)) }

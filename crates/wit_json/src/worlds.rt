@@ -13,7 +13,8 @@ use crate::words::Word;
 use std::alloc::{AllocError, Global};
 use wit_model::{IncludeName, World, WorldInclude, WorldItem, WorldKey};
 use wit_types::{Docs, InterfaceId, Stability, TypeId};
-use wit_values::{Rare, Span, Table, Text};
+use wit_maps::Table;
+use wit_values::{Rare, Span, Text};
 
 fn push_import(
     out: &mut Output,

@@ -6,7 +6,7 @@ ghost use Rattle.wit_links.specs.Worlds.{AreFound};
 use wit_items::interfaces::Interfaces;
 use wit_model::World;
 use wit_types::{Arena, WorldId, WorldPlace};
-use wit_values::TextTable;
+use wit_maps::TextTable;
 
 /// The worlds of files that are resolved, once the interfaces are, and the places of the declared ones by
 /// their names: what is found by a name has that name, and stands after those of other packages.

@@ -11,7 +11,8 @@ use std::alloc::AllocError;
 use wit_model::AstItem;
 use wit_package_names::PackageName;
 use wit_types::Stability;
-use wit_values::{Row, Table, TextTable};
+use wit_maps::{Table, TextTable};
+use wit_values::Row;
 
 /// An interface or a world by its place.
 fn push_place(text: &mut String, item: AstItem) -> Result<(), AllocError>

@@ -10,7 +10,8 @@ use crate::words::{push_marked, push_numbered, push_stability};
 use std::alloc::AllocError;
 use wit_model::{Function, Interface};
 use wit_types::{Arena, InterfacePlace, TypeId};
-use wit_values::{Text, TextTable};
+use wit_maps::TextTable;
+use wit_values::Text;
 
 /// A name, or `-` where there is none.
 fn push_name(text: &mut String, name: &Option<Text>) -> Result<(), AllocError>

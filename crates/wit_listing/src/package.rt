@@ -13,7 +13,8 @@ use std::alloc::AllocError;
 use wit_model::{AstItem, Interface, UnresolvedPackage, World};
 use wit_package_names::PackageName;
 use wit_types::{Arena, InterfacePlace, Stability, TypeDef, TypePlace, WorldPlace};
-use wit_values::{Row, Table, TextTable};
+use wit_maps::{Table, TextTable};
+use wit_values::Row;
 
 /// A word and a number in a line.
 fn push_count(text: &mut String, word: &str, count: usize) -> Result<(), AllocError>

@@ -10,7 +10,7 @@ use crate::words::{push_marked, push_numbered, push_stability};
 use std::alloc::AllocError;
 use wit_model::{IncludeName, Interface, World, WorldInclude, WorldItem, WorldKey};
 use wit_types::{Arena, InterfaceId, InterfacePlace, Stability, WorldId, WorldPlace};
-use wit_values::Table;
+use wit_maps::Table;
 
 /// What an import or export is found by.
 fn push_key(text: &mut String, key: &WorldKey) -> Result<(), AllocError>

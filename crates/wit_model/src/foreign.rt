@@ -5,7 +5,8 @@ use crate::ast_item::AstItem;
 use std::alloc::Global;
 use wit_package_names::package_name::PackageName;
 use wit_types::{Stability, TypeId};
-use wit_values::{Row, Span, Table, TextTable};
+use wit_maps::{Table, TextTable};
+use wit_values::{Row, Span};
 
 /// What a package names of other packages.
 ///

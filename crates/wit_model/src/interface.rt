@@ -2,7 +2,8 @@
 
 use wit_functions::Function;
 use wit_types::{Docs, InterfaceId, PackageId, Stability, TypeId};
-use wit_values::{Span, Text, TextTable};
+use wit_maps::TextTable;
+use wit_values::{Span, Text};
 
 /// An interface: its types and functions by their names.
 #[derive(Debug, PartialEq, Eq)]

@@ -12,7 +12,8 @@ use std::alloc::AllocError;
 use wit_package_names::package_name::PackageName;
 use wit_types::laws::copies::copy_docs;
 use wit_types::{Arena, Docs, InterfacePlace, Stability, TypeDef, TypeId, TypePlace, WorldPlace};
-use wit_values::{Row, Span, Table, TextTable};
+use wit_maps::{Table, TextTable};
+use wit_values::{Row, Span};
 
 /// A package whose names are resolved, but not those of other packages.
 ///

@@ -8,7 +8,8 @@ use std::alloc::{AllocError, Global};
 use wit_functions::Function;
 use wit_functions::told::Told;
 use wit_types::{Docs, InterfaceId, PackageId, Stability, TypeId, Types, WorldId};
-use wit_values::{Rare, Row, Span, Table, Text};
+use wit_maps::Table;
+use wit_values::{Rare, Row, Span, Text};
 
 /// A world: what a component imports and exports.
 #[derive(Debug, PartialEq, Eq)]

@@ -2,7 +2,8 @@
 use std::alloc::Global;
 use std::test::Fail;
 use wit_types::{Arena, TypePlace};
-use wit_values::{Row, Table, TextTable};
+use wit_maps::{Table, TextTable};
+use wit_values::Row;
 
 fn is_row(row: &Row<u8>) -> bool {
     let mut found = row.len() == 2 && row[0] == 7;

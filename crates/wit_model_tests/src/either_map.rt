@@ -9,7 +9,8 @@ use wit_model::{
 };
 use wit_order::toposort;
 use wit_type_tree::leaves::Id;
-use wit_values::{Row, Table, Text, TextTable};
+use wit_maps::{Table, TextTable};
+use wit_values::{Row, Text};
 
 /// The map of the keys 3, 1, 2, 6, 5 and 4 to 7.
 fn numbers(alloc: Global) -> Result<IndexMap<u8, u8>, AllocError> {

@@ -14,7 +14,8 @@ use wit_model::laws::order::{compare_package_names, compare_stabilities};
 use wit_model::{AstItem, ForeignItems, UnresolvedPackage};
 use wit_package_names::PackageName;
 use wit_types::{Arena, Docs, HasSpans, Stability};
-use wit_values::{Rare, Release, Row, Span, Table, Text, TextTable};
+use wit_maps::{Table, TextTable};
+use wit_values::{Rare, Release, Row, Span, Text};
 
 // The name of a package, with a version.
 fn package_name(alloc: Global, name: &str) -> Result<PackageName, AllocError> {

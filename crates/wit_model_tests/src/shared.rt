@@ -3,7 +3,8 @@ use std::alloc::{AllocError, Global};
 use std::process::Abort;
 use wit_model::{Function, FunctionKind, Param};
 use wit_types::{Arena, Docs, Id, Stability};
-use wit_values::{Rare, Row, Span, Text, TextTable};
+use wit_maps::TextTable;
+use wit_values::{Rare, Row, Span, Text};
 
 /// Where things stand.
 pub const SPAN: Span = Span { start: 3, end: 5 };

@@ -4,7 +4,8 @@ use semver::Version;
 use std::alloc::Global;
 use std::cmp::Ordering;
 use std::test::Fail;
-use wit_values::{Release, Row, Table, Text, TextTable, laws};
+use wit_maps::{Table, TextTable};
+use wit_values::{Release, Row, Text, laws};
 
 fn row(alloc: Global) -> Result<Row<u8>, Fail> {
     let mut items = Vec::new(alloc);

@@ -12,7 +12,8 @@ use wit_model::{
     WorldInclude, WorldItem, WorldKey,
 };
 use wit_types::{Arena, Docs, InterfacePlace, Stability, Type, Types, WorldPlace};
-use wit_values::{Rare, Row, Span, Table, Text, TextTable};
+use wit_maps::{Table, TextTable};
+use wit_values::{Rare, Row, Span, Text};
 
 fn params(alloc: Global, span: Span) -> Result<Row<Param>, AllocError> {
     let name = Text::from_str(alloc, "p")?;

@@ -10,7 +10,7 @@ use wit_model::UnresolvedPackage;
 use wit_package_names::PackageName;
 use wit_refusals::refusal::refuse_in;
 use wit_tree::ParseResult;
-use wit_values::Table;
+use wit_maps::Table;
 
 /// Puts a name behind these, where it is none of them; tells whether it was new.
 fn insert<'p>(

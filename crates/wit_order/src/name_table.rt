@@ -5,7 +5,7 @@ ghost use Rattle.wit_graph.specs.Table.{Entry, AreNeedsAt, place_of, rows};
 
 use indexmap::IndexMap;
 use wit_type_tree::leaves::Id;
-use wit_values::Table;
+use wit_maps::Table;
 
 /// A table of names, each with the names that it needs: an [`IndexMap`], as the resolver that this one
 /// follows has, or a [`Table`], as packages have.

@@ -20,7 +20,7 @@ use wit_graph::OrderFault;
 use wit_graph::sorted::Sorted;
 use wit_type_tree::leaves::Id;
 use wit_type_tree::{ParseError, ParseErrorKind, ParseResult};
-use wit_values::Table;
+use wit_maps::Table;
 
 /// The sorted places, or the first edge both of whose ends reach a cycle.
 fn conclude(graph: &Graph, sorted: Sorted) -> Result<Vec<usize>, OrderFault>

@@ -3,7 +3,7 @@
 use std::alloc::AllocError;
 use wit_model::{Interface, UnresolvedPackage, World, WorldItem, WorldKey};
 use wit_types::{Arena, Docs, InterfacePlace, TypeDefKind, Types, WorldPlace};
-use wit_values::Table;
+use wit_maps::Table;
 
 /// Puts a name and its docs behind a text, as a line; an LF is written `|`.
 fn push_docs(text: &mut String, name: &str, docs: &Docs) -> Result<(), AllocError> {

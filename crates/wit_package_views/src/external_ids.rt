@@ -12,7 +12,8 @@ use wit_tree::tree::{
     SourceFile, TypeBody, TypeDef,
 };
 use wit_types::{Arena, InterfacePlace, Types, WorldPlace};
-use wit_values::{Rare, Table, Text};
+use wit_maps::Table;
+use wit_values::{Rare, Text};
 
 /// The external id that a feature is made, where it begins with `id-`.
 fn id_of<'a>(attribute: &Attribute<'a>) -> Option<Attribute<'a>> {

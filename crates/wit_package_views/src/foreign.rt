@@ -4,7 +4,8 @@
 use std::alloc::AllocError;
 use wit_model::{AstItem, UnresolvedPackage};
 use wit_types::Stability;
-use wit_values::{Rare, Release, Row, TextTable};
+use wit_maps::TextTable;
+use wit_values::{Rare, Release, Row};
 
 /// Puts the version from which on something is deprecated behind a text.
 fn push_deprecated(text: &mut String, deprecated: &Rare<Release>) -> Result<(), AllocError> {

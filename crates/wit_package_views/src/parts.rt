@@ -6,7 +6,7 @@ use std::alloc::AllocError;
 use wit_model::{Function, Interface, UnresolvedPackage, World, WorldItem, WorldKey};
 use wit_text::SourceMap;
 use wit_types::{Arena, InterfacePlace, TypeDefKind, Types};
-use wit_values::Table;
+use wit_maps::Table;
 
 /// Puts what stands where fields, flags or cases are behind a text.
 fn push_members(text: &mut String, map: &SourceMap, kind: &TypeDefKind) -> Result<(), AllocError> {

@@ -16,7 +16,7 @@ use Rattle.wit_names.specs.Mangled.{is_dotted, is_mangled}
 use Rattle.wit_names.specs.Setter.{getter_of, is_setter}
 use Rattle.wit_names.proofs.MadeNames.{is_mangled-get, is_mangled-method_get, is_mangled-static_get}
 use Rattle.indexmap.proofs.MapLemmas.{Found-position}
-use Rattle.wit_values.proofs.Indexed.{lookup_nowhere}
+use Rattle.wit_maps.proofs.Indexed.{lookup_nowhere}
 use Rattle.wit_syntax.proofs.Lists.{at_either, at_within, map_at}
 use Rattle.wit_syntax.proofs.Names.{name_equal}
 use Rattle.wit_syntax.proofs.Repeated.{differ_more}

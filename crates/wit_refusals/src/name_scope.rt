@@ -15,7 +15,8 @@ use std::alloc::{AllocError, Global};
 use std::marker::Model;
 use wit_names::{Folded, getter_for_setter, is_setter};
 use wit_type_tree::{ParseError, ParseResult};
-use wit_values::{Span, Table, Text};
+use wit_maps::Table;
+use wit_values::{Span, Text};
 
 /// A name of a scope, where it is not spelled as its key, and where it is written.
 #[derive(Debug, Drop)]

@@ -12,7 +12,7 @@ use std::alloc::{AllocError, Global};
 use wit_functions::Function;
 use wit_model::UnresolvedPackage;
 use wit_types::TypeId;
-use wit_values::TextTable;
+use wit_maps::TextTable;
 
 /// A function of a resolved package.
 #[derive(Clone, Copy)]

@@ -14,7 +14,7 @@ use std::alloc::{AllocError, Global};
 use wit_model::{Interface, UnresolvedPackage};
 use wit_package_names::PackageName;
 use wit_types::{InterfaceId, TypeId};
-use wit_values::TextTable;
+use wit_maps::TextTable;
 
 /// An interface of a resolved package.
 #[derive(Clone, Copy)]

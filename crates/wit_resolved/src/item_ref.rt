@@ -11,7 +11,7 @@ use crate::paths::interface_id;
 use crate::type_ref::TypeRef;
 use std::alloc::{AllocError, Global};
 use wit_model::{UnresolvedPackage, WorldItem, WorldKey};
-use wit_values::Table;
+use wit_maps::Table;
 
 /// An import or an export of a world, with its key.
 #[derive(Clone, Copy)]

@@ -8,7 +8,8 @@ use std::alloc::{AllocError, Global};
 use wit_model::{AstItem, UnresolvedPackage};
 use wit_package_names::PackageName;
 use wit_types::Stability;
-use wit_values::{Row, Table, TextTable};
+use wit_maps::{Table, TextTable};
+use wit_values::Row;
 
 /// The name of an item, if it is the interface at a place.
 fn name_of_item<'p>(name: &'p str, item: AstItem, place: usize) -> Option<&'p str>

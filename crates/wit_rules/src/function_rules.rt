@@ -20,7 +20,7 @@ use wit_refusals::repeats::first_folded_repeat;
 use wit_refusals::words::defined_twice;
 use wit_tree::tree::{FuncForm, Id, Type};
 use wit_tree::{ParseError, ParseResult, Span};
-use wit_values::TextTable;
+use wit_maps::TextTable;
 
 /// What is said of a setter whose result is no `result`, or gives something where all is well.
 const SETTER_RESULT: &str =

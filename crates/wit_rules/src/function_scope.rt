@@ -9,7 +9,7 @@ use crate::held::HeldFunction;
 use wit_tree::Span;
 use wit_tree::tree::Type;
 use wit_types::TypeId;
-use wit_values::TextTable;
+use wit_maps::TextTable;
 
 /// What the functions of a scope are read in.
 #[derive(Clone, Copy)]

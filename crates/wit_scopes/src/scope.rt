@@ -18,7 +18,7 @@ use wit_files::order_refusal::refuse_type_order;
 use wit_order::order_places;
 use wit_tree::ParseResult;
 use wit_tree::tree::Id;
-use wit_values::Table;
+use wit_maps::Table;
 
 /// The names that a name of a scope needs: those in its body, where it is a definition.
 fn needed_ids<'a>(alloc: Global, name: &ScopeName<'_, 'a>) -> Result<Vec<Id<'a>>, AllocError>

@@ -14,7 +14,7 @@ use std::alloc::{AllocError, Global};
 use wit_functions::items::behind_getters;
 use wit_functions::told::is_setter;
 use wit_model::{WorldItem, WorldKey, world_item_func};
-use wit_values::Table;
+use wit_maps::Table;
 
 /// Whether an item is a setter.
 fn is_setter_item(item: &WorldItem) -> bool

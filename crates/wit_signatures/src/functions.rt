@@ -37,7 +37,8 @@ use wit_rules::held::HeldFunction;
 use wit_tree::tree::{self, FuncForm, Id, ResourceFunc};
 use wit_tree::{ParseResult, Span};
 use wit_types::{Handle, Stability, Type, TypeDefKind, TypeId};
-use wit_values::{Row, Text, TextTable};
+use wit_maps::TextTable;
+use wit_values::{Row, Text};
 
 /// The kind of a function by itself.
 fn freestanding(form: FuncForm) -> FunctionKind

@@ -14,7 +14,7 @@ use wit_notes::path_id;
 use wit_refusals::refusal::{refuse, refuse_in, refuse_missing};
 use wit_tree::ParseResult;
 use wit_tree::tree::{AstItem, Id, PackageFile, PackageName, ToplevelUse, UsePath};
-use wit_values::Table;
+use wit_maps::Table;
 
 /// Where a path leads.
 #[derive(Clone, Copy, Debug)]

@@ -30,7 +30,7 @@ use wit_scopes::scope_name::{Source, UsedName, local_of};
 use wit_tree::tree::Id;
 use wit_tree::{ParseError, ParseResult};
 use wit_types::{Type, TypeDefKind};
-use wit_values::TextTable;
+use wit_maps::TextTable;
 
 /// The interface that a name comes from.
 fn used_interface<'i>(

@@ -1,6 +1,3 @@
-pub mod Indexed
-pub mod Slots
-pub mod TextEntries
 pub mod ReleaseOrder
 pub mod ReleaseParts
 pub mod ReleaseText

@@ -36,7 +36,8 @@ use wit_notes::{docs, path_id, told_notes};
 use wit_tree::Span;
 use wit_tree::tree::{Attribute, Id, UsePath, WorldSide};
 use wit_types::{Docs, InterfaceId, Stability, TypeId};
-use wit_values::{Rare, Table, Text, TextTable};
+use wit_maps::{Table, TextTable};
+use wit_values::{Rare, Text};
 
 /// Puts a type at a name of a world, as an import.
 fn add_import(

@@ -8,7 +8,7 @@ ghost use Rattle.wit_types.specs.Spans.{AllFit, on_value};
 
 use crate::spans::HasSpans;
 use std::hash::Hash;
-use wit_values::{Table, TextTable};
+use wit_maps::{Table, TextTable};
 
 fn fits_at<K: Eq + Hash + Ord, V: HasSpans>(table: &Table<K, V>, place: usize, offset: u32) -> bool
     requires { place < length table.now }

@@ -1,6 +1,6 @@
 use Rattle.std.proofs.Common.{◌≡◌, nat_eq, None, inl, inr, sym, subst, ◌∙◌}
 use Rattle.std.specs.Cmp.Lexicographic.{pointwise}
-use Rattle.wit_values.proofs.Indexed.{lookup_nowhere}
+use Rattle.wit_maps.proofs.Indexed.{lookup_nowhere}
 use Rattle.wit_refusals.specs.Names.{IsTaken}
 use Rattle.wit_refusals.proofs.Scoping.{taken-at, free-none, keyed-put}
 use Rattle.wit_refusals.proofs.name_scope.NameScope.define.Goals as goal

@@ -1,6 +1,0 @@
-use Rattle.std.specs.Map.{keys_of}
-use Rattle.wit_values.specs.Indexed.{AreKnown}
-use Rattle.wit_values.proofs.index.index_of.Given as goal
-
-abbrev pub invariant-loop-place : goal.invariant-loop-place
-invariant-loop-place g l = AreKnown g.K.Ord.cmp g.K.Hash.hash_input l.slots.items l.keys (keys_of l.entries) l.place

@@ -1,6 +1,0 @@
-use Rattle.std.specs.Map.{keys_of}
-use Rattle.wit_values.proofs.Indexed.{NoneBefore}
-use Rattle.wit_values.proofs.index.place_among.Given as goal
-
-abbrev pub invariant-loop-place : goal.invariant-loop-place
-invariant-loop-place g l = NoneBefore (g.Q.Equivalent.equivalent l.fn.key) (keys_of l.entries) l.place

@@ -1,7 +1,0 @@
-use Rattle.std.specs.Map.{keys_of}
-use Rattle.wit_values.specs.Slots.{AreTaken}
-use Rattle.wit_values.proofs.Sights.{NoneAmong}
-use Rattle.wit_values.proofs.slots.look.Given as goal
-
-abbrev pub invariant-loop-step : goal.invariant-loop-step
-invariant-loop-step g l = AreTaken l.slots l.home l.step × NoneAmong (g.Q.Equivalent.equivalent l.fn.key) (keys_of l.entries) l.slots l.home l.step

@@ -1,6 +1,0 @@
-use Rattle.std.proofs.Common.{◌∙◌, ap}
-use Rattle.wit_values.specs.TextEntries.{text_entries}
-use Rattle.wit_values.proofs.text_table.TextTable.reindex.Goals as goal
-
-pub returns : goal.returns
-returns g c = ap text_entries c.reindex.ensures ∙ c.self.view_is
