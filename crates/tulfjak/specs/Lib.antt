@@ -38,12 +38,12 @@ pub use Rattle.wit_functions.specs.Signature
 pub use Rattle.wit_model.specs.Same
 pub use Rattle.wit_model.specs.Worlds
 pub use Rattle.wit_intern.specs.FiniteMap
-pub use Rattle.wit_intern.specs.Keys
+pub use Rattle.wit_intern.specs.TypeKeys
 pub use Rattle.wit_syntax.specs.Address
 pub use Rattle.wit_syntax.specs.Broken
 pub use Rattle.wit_syntax.specs.Fault
 pub use Rattle.wit_syntax.specs.Foreign
-pub use Rattle.wit_syntax.specs.Notes
+pub use Rattle.wit_syntax.specs.Metadata
 pub use Rattle.wit_syntax.specs.Scope
 pub use Rattle.wit_syntax.specs.Source
 pub use Rattle.wit_syntax.specs.Splitting

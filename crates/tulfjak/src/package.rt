@@ -1,6 +1,6 @@
 //! Packages as data: types, functions, interfaces and worlds.
 //!
-//! These stand in arenas and refer to one another by ids. Texts, lists and maps are small types that
+//! These are in arenas and refer to one another by ids. Texts, lists and maps are small types that
 //! contracts see as lists.
 
 /// How functions are called and exported.

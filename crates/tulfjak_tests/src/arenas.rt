@@ -22,7 +22,7 @@ fn joined(alloc: Global) -> Result<Numbers, AllocError> {
     let mut numbers = made(alloc)?;
     let mut others = made(alloc)?;
     numbers.append(&mut others)?;
-    Ok(numbers.fitted())
+    Ok(numbers.shrunk())
 }
 
 fn has_both(numbers: &Numbers) -> bool {
@@ -36,8 +36,8 @@ fn has_both(numbers: &Numbers) -> bool {
 
 fn has_next_ids(numbers: &Numbers) -> bool {
     numbers.next_id().index() == 2
-        && numbers.id_behind(1).is_some()
-        && numbers.id_behind(usize::MAX).is_none()
+        && numbers.id_after(1).is_some()
+        && numbers.id_after(usize::MAX).is_none()
 }
 
 fn is_found(numbers: &Numbers) -> bool {

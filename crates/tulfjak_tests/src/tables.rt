@@ -13,7 +13,7 @@ fn made(alloc: Global) -> Result<Table<u8, u8>, AllocError> {
     if table.len() == 3 {
         *table.value_mut(0) = 5;
     }
-    Ok(table.fitted())
+    Ok(table.shrunk())
 }
 
 fn has_all(table: &Table<u8, u8>) -> bool {

@@ -12,7 +12,7 @@ fn made(alloc: Global) -> Result<TextTable<u8>, AllocError> {
     if table.len() == 2 {
         *table.value_mut(0) = 5;
     }
-    Ok(table.fitted())
+    Ok(table.shrunk())
 }
 
 fn has_both(table: &TextTable<u8>) -> bool {

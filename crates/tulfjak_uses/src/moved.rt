@@ -18,12 +18,12 @@ pub fn moved(alloc: Global, group: UnresolvedPackageGroup) -> ParseResult<String
     for source in source_map.sources() {
         map.push(alloc, source.path.as_str(), source.contents.as_str())?;
     }
-    let front = match map.sources().get(1) {
+    let prefix = match map.sources().get(1) {
         Some(source) => source.offset,
         None => 0,
     };
-    if main.spans_fit(front) {
-        main.adjust_spans(front);
+    if main.spans_fit(prefix) {
+        main.adjust_spans(prefix);
     }
     for interface in main.interfaces.iter() {
         if let Some((path, slice)) = map.locate(interface.span) {

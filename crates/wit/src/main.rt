@@ -3,7 +3,7 @@
 
 use std::process::ExitCode;
 
-/// Answers standard input on standard output, and ends with the status that tells what was written.
+/// Answers standard input on standard output, and ends with the status that says what was written.
 fn main(rt: HostRuntime) -> ExitCode {
     wit_program::run(rt)
 }

@@ -18,19 +18,19 @@ module _ {X : Type 0} (Adds : List TypeDef → List TypeDef → X → X → List
   pub adds_one : (a b : List TypeDef) (i j : X) (rs : List Required) (w : Item) → Adds a b i j rs w → AddsEach Adds a b i j rs (w ∷ [])
   adds_one a b i j rs w p = (b, j, rs, [], sym (append-nil rs), p, (refl, refl, refl))
 
--- behind entries that stand before, where each item adds one
-module _ {X : Type 0} (Adds : List TypeDef → List TypeDef → List X → List X → List Required → Item → Type 0) (grows : (old new : List TypeDef) (xs xs' : List X) (rs : List Required) (w : Item) → Adds old new xs xs' rs w → (x : X) × (xs' ≡ xs ++ x ∷ [])) (front : List X) where
-  abbrev pub Behind : List TypeDef → List TypeDef → List X → List X → List Required → Item → Type 0
-  Behind old new xs xs' rs w = Adds old new (front ++ xs) (front ++ xs') rs w
+-- after entries that come before, where each item adds one
+module _ {X : Type 0} (Adds : List TypeDef → List TypeDef → List X → List X → List Required → Item → Type 0) (extends : (old new : List TypeDef) (xs xs' : List X) (rs : List Required) (w : Item) → Adds old new xs xs' rs w → (x : X) × (xs' ≡ xs ++ x ∷ [])) (prefix : List X) where
+  abbrev pub After : List TypeDef → List TypeDef → List X → List X → List Required → Item → Type 0
+  After old new xs xs' rs w = Adds old new (prefix ++ xs) (prefix ++ xs') rs w
 
-  pub adds_behind : (xs ys : List X) (old new : List TypeDef) (rs : List Required) (ws : List Item) → AddsEach Adds old new (front ++ xs) ys rs ws → (own : List X) × (ys ≡ front ++ own) × AddsEach Behind old new xs own rs ws
-  adds_behind xs ys old new rs [] p = (xs, p.1, (p.0, refl, p.2))
-  adds_behind xs ys old new rs (w ∷ ws) p =
-      let x = grows old p.0 (front ++ xs) p.1 p.2 w p.5 in
+  pub adds_after : (xs ys : List X) (old new : List TypeDef) (rs : List Required) (ws : List Item) → AddsEach Adds old new (prefix ++ xs) ys rs ws → (own : List X) × (ys ≡ prefix ++ own) × AddsEach After old new xs own rs ws
+  adds_after xs ys old new rs [] p = (xs, p.1, (p.0, refl, p.2))
+  adds_after xs ys old new rs (w ∷ ws) p =
+      let x = extends old p.0 (prefix ++ xs) p.1 p.2 w p.5 in
       let more = xs ++ x.0 ∷ [] in
-      let between : p.1 ≡ front ++ more = x.1 ∙ append_assoc front xs (x.0 ∷ []) in
-      let rest = adds_behind more ys p.0 new p.3 ws (subst (λ l. AddsEach Adds p.0 new l ys p.3 ws) between p.6) in
-      (rest.0, rest.1, (p.0, more, p.2, p.3, p.4, subst (λ l. Adds old p.0 (front ++ xs) l p.2 w) between p.5, rest.2))
+      let between : p.1 ≡ prefix ++ more = x.1 ∙ append_assoc prefix xs (x.0 ∷ []) in
+      let rest = adds_after more ys p.0 new p.3 ws (subst (λ l. AddsEach Adds p.0 new l ys p.3 ws) between p.6) in
+      (rest.0, rest.1, (p.0, more, p.2, p.3, p.4, subst (λ l. Adds old p.0 (prefix ++ xs) l p.2 w) between p.5, rest.2))
 
 pub sounds_more : (ws : List Item) (w : Item) → AreSoundScopes ws → ((f : Fault) → IsBrokenScope (scope_names w) (functions w) f → IsNameless (scope_names w) (functions w)) → AreSoundScopes (ws ++ w ∷ [])
 sounds_more ws w sound one = record {

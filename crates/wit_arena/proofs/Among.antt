@@ -1,4 +1,4 @@
--- Where scopes stand among all, once all interfaces and all worlds are done.
+-- Where scopes are among all, once all interfaces and all worlds are done.
 use Rattle.std.proofs.Common.{◌≡◌, ℕ, ◌+◌, List, ◌++◌, length, Some, sym, ap, ◌∙◌, arith}
 use Rattle.std.specs.Prelude.{slice_get, map}
 use Rattle.std.specs.List.{flat_map}
@@ -11,21 +11,21 @@ use Rattle.wit_syntax.specs.Address.{Address}
 use Rattle.wit_syntax.specs.Source.{Item}
 use Rattle.wit_syntax.specs.Foreign.{ForeignVisit, visited, foreign_interfaces, foreign_worlds}
 use Rattle.wit_arena.specs.Whole.{all_inside}
-use Rattle.wit_arena.specs.Resolving.{Cell, Required}
+use Rattle.wit_arena.specs.Resolving.{ResolvedScope, Required}
 use Rattle.wit_arena.specs.Resolved.{WorldArenas}
-use Rattle.wit_syntax.proofs.Lists.{at_front, at_back}
-use Rattle.wit_arena.proofs.Standing.{DoneScope, cell_of}
-use Rattle.wit_arena.proofs.Front.{interface_scope, interface_scopes, world_scopes, front_scopes, interface_scope_at}
+use Rattle.wit_syntax.proofs.Lists.{at_prefix, at_back}
+use Rattle.wit_arena.proofs.Members.{DoneScope, resolved_scope_of}
+use Rattle.wit_arena.proofs.Prefix.{interface_scope, interface_scopes, world_scopes, prefix_scopes, interface_scope_at}
 use Rattle.wit_arena.proofs.Added.{InterfacesDone}
 use Rattle.wit_arena.proofs.Inside.{HasInside, inside_at, inside_count}
 use Rattle.wit_arena.proofs.DoneWorlds.{AreWorldsDone, own_scope, scopes_of, all_within, own_among, within_among}
 
-pub types_of_cell : (c : DoneScope) (x : Cell) → x ≡ cell_of c → x.types ≡ c.types
-types_of_cell c x same = ap (λ (y : Cell). y.types) same
+pub types_of_resolved_scope : (c : DoneScope) (x : ResolvedScope) → x ≡ resolved_scope_of c → x.types ≡ c.types
+types_of_resolved_scope c x same = ap (λ (y : ResolvedScope). y.types) same
 
-module _ (files : List PackageFile) (is ws : List Item) (middle new : List TypeDef) (front xs : List Interface) (wfront : List World) (irs wrs : List Required) (a : WorldArenas) (d : InterfacesDone files is ws front is middle xs irs) (e : AreWorldsDone files is ws wfront d.ordered (front_scopes files front ++ d.scopes) ws new a wrs) where
+module _ (files : List PackageFile) (is ws : List Item) (middle new : List TypeDef) (prefix xs : List Interface) (wprefix : List World) (irs wrs : List Required) (a : WorldArenas) (d : InterfacesDone files is ws prefix is middle xs irs) (e : AreWorldsDone files is ws wprefix d.ordered (prefix_scopes files prefix ++ d.scopes) ws new a wrs) where
   abbrev ahead : List DoneScope
-  ahead = front_scopes files front
+  ahead = prefix_scopes files prefix
 
   abbrev scopes : List DoneScope
   scopes = (ahead ++ d.scopes) ++ flat_map scopes_of e.scopes
@@ -33,12 +33,12 @@ module _ (files : List PackageFile) (is ws : List Item) (middle new : List TypeD
   abbrev ss : List Address
   ss = map visited (foreign_interfaces files)
 
-  -- where the scopes in front stand among all
-  in_front : (k : ℕ) (c : DoneScope) → slice_get ahead k ≡ Some c → slice_get scopes k ≡ Some c
-  in_front k c at = at_front (ahead ++ d.scopes) (flat_map scopes_of e.scopes) k c (at_front ahead d.scopes k c at)
+  -- where the scopes in front are among all
+  in_prefix : (k : ℕ) (c : DoneScope) → slice_get ahead k ≡ Some c → slice_get scopes k ≡ Some c
+  in_prefix k c at = at_prefix (ahead ++ d.scopes) (flat_map scopes_of e.scopes) k c (at_prefix ahead d.scopes k c at)
 
-  pub front_interface_at : (t : ℕ) (v : ForeignVisit) (i : Interface) → slice_get (foreign_interfaces files) t ≡ Some v → slice_get front t ≡ Some i → slice_get scopes t ≡ Some (interface_scope files t v i)
-  front_interface_at t v i v_at i_at = in_front t (interface_scope files t v i) (at_front (interface_scopes files 0 (foreign_interfaces files) front) (world_scopes 0 (foreign_worlds files)) t (interface_scope files t v i) (interface_scope_at files (foreign_interfaces files) front t v i v_at i_at))
+  pub prefix_interface_at : (t : ℕ) (v : ForeignVisit) (i : Interface) → slice_get (foreign_interfaces files) t ≡ Some v → slice_get prefix t ≡ Some i → slice_get scopes t ≡ Some (interface_scope files t v i)
+  prefix_interface_at t v i v_at i_at = in_prefix t (interface_scope files t v i) (at_prefix (interface_scopes files 0 (foreign_interfaces files) prefix) (world_scopes 0 (foreign_worlds files)) t (interface_scope files t v i) (interface_scope_at files (foreign_interfaces files) prefix t v i v_at i_at))
 
   -- a scope of a world, and one that is written in a world, among all
   pub world_scope_among : (t : ℕ) (c : DoneScope) → slice_get (map own_scope e.scopes) t ≡ Some c → (k : ℕ) × (slice_get scopes k ≡ Some c)

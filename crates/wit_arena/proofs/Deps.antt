@@ -36,7 +36,7 @@ same_entry-equal (entry.World i) (entry.World j) h = ap entry.World (eqb-true i 
 same_entry-equal (entry.Interface i) (entry.World j) h = absurd (let f : ⊥ = cc in f)
 same_entry-equal (entry.World i) (entry.Interface j) h = absurd (let f : ⊥ = cc in f)
 
--- a visit stands behind as many as its place says
+-- a visit comes after as many as its place says
 foreign_place-at : (vs : List ForeignVisit) (t : ℕ) (v : ForeignVisit) → AllDiffer (map visited vs) → slice_get vs t ≡ Some v → foreign_place vs v ≡ t
 foreign_place-at vs t v differ at = prefix_len-only (λ (u : ForeignVisit). same_item u v) vs t v at (same_address-from (visited v) (visited v) refl) (λ i u at_u same. differ_at visited vs differ i t u v at_u at (same_address-equal (visited u) (visited v) same))
 
@@ -153,7 +153,7 @@ module _ (files : List PackageFile) where
     pub foreign_world_owner : (t : ℕ) (v : ForeignVisit) → slice_get (foreign_worlds files) t ≡ Some v → foreign_owner p (entry.World t) ≡ Some (visited v)
     foreign_world_owner t v at = let q = world_visit files t v at in ap (foreign_owner p) (sym (entry_of_world t v at)) ∙ foreign_owner-entry q.0 v q.1
 
-    -- no interface behind those of other packages is one of them
+    -- no interface after those of other packages is one of them
     pub foreign_interface-none : (t : ℕ) → length (foreign_interfaces files) ≤ t → foreign_owner p (entry.Interface t) ≡ None
     foreign_interface-none t past = ap (option_map (λ (x : AstItem × Address). x.1)) (none_found (λ (e : AstItem × Address). same_entry e.0 (entry.Interface t)) listed (λ k e at passes. (
         let u = listed_at k e at in

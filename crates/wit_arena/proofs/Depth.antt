@@ -1,4 +1,4 @@
--- Where each type stands at its place, its tree is the same at every depth.
+-- Where each type is at its place, its tree is the same at every depth.
 use Rattle.std.proofs.Common.{◌≡◌, ℕ, zero, suc, true, List, [], ◌∷◌, map, Option, Some, refl, sym, ap, ◌∙◌, inl, inr, arith}
 use Rattle.std.specs.Prelude.{slice_get}
 use Rattle.std.specs.Option.{option_map_or, unwrap_or}
@@ -18,12 +18,12 @@ use Rattle.wit_type_tree.specs.declared.types.Primitive.{Primitive}
 use Rattle.wit_syntax.specs.Node.{Tree, Head, Leaf, Named, Unnamed, Nothing, node_map, primitive_type}
 use Rattle.wit_syntax.specs.Shape.{Shape, Shapes}
 use Rattle.wit_syntax.specs.Shape as shape
-use Rattle.wit_syntax.specs.Notes.{AreNotes}
+use Rattle.wit_syntax.specs.Metadata.{AreMetadata}
 use Rattle.wit_syntax.specs.Address.{Address}
 use Rattle.wit_syntax.specs.Source.{ScopeName, local_name, meaning, head, named_node, placed, about_name}
-use Rattle.wit_syntax.specs.Trees.{scope, source_tree}
+use Rattle.wit_syntax.specs.ScopesOfTrees.{scope, source_tree}
 use Rattle.wit_arena.specs.Expr.{expr_of, exprs_of, name_exprs}
-use Rattle.wit_arena.specs.Meet.{Key, Def, Whole, IsAt, AreAt, Decls, IsKeyed}
+use Rattle.wit_arena.specs.Occurrences.{Key, Def, Whole, IsAt, AreAt, Decls, IsKeyed}
 use Rattle.wit_arena.specs.Package.{package_tree, entry_head, entry_node, owner_of}
 use Rattle.wit_syntax.specs.Scope.{AreDistinct}
 use Rattle.wit_syntax.proofs.Repeated.{differ_at, differ_by}
@@ -71,14 +71,14 @@ module _ (files : List PackageFile) (decls : Decls) (ks : List Key) (p : Unresol
   parts_agree n agree s (shape.More x xs) [] h = absurd h
 
   -- the heads agree
-  head_agrees : (s : Address) (called : List ℕ) (x : ScopeName) (e : TypeDef) → local_name x ≡ called → e.span ≡ (about_name x).span → owner_of p e.owner ≡ Some s → AreNotes (about_name x).notes e.docs e.stability e.external_id → entry_head p called e ≡ head s x
-  head_agrees s called x e name span own told =
+  head_agrees : (s : Address) (called : List ℕ) (x : ScopeName) (e : TypeDef) → local_name x ≡ called → e.span ≡ (about_name x).span → owner_of p e.owner ≡ Some s → AreMetadata (about_name x).metadata e.docs e.stability e.external_id → entry_head p called e ≡ head s x
+  head_agrees s called x e name span own as_stated =
       ap (λ (o : Option Address). made o called e.span e.docs e.stability e.external_id) own
       ∙ ap (λ (n : List ℕ). made (Some s) n e.span e.docs e.stability e.external_id) (sym name)
       ∙ ap (λ (z : Span). made (Some s) (local_name x) z e.docs e.stability e.external_id) span
-      ∙ ap (λ (z : Docs). made (Some s) (local_name x) (about_name x).span z e.stability e.external_id) told.docs
-      ∙ ap (λ (z : Stability). made (Some s) (local_name x) (about_name x).span (about_name x).notes.docs z e.external_id) told.stability
-      ∙ ap (λ (z : Option (List ℕ)). made (Some s) (local_name x) (about_name x).span (about_name x).notes.docs (about_name x).notes.stability z) told.external_id
+      ∙ ap (λ (z : Docs). made (Some s) (local_name x) (about_name x).span z e.stability e.external_id) as_stated.docs
+      ∙ ap (λ (z : Stability). made (Some s) (local_name x) (about_name x).span (about_name x).metadata.docs z e.external_id) as_stated.stability
+      ∙ ap (λ (z : Option (List ℕ)). made (Some s) (local_name x) (about_name x).span (about_name x).metadata.docs (about_name x).metadata.stability z) as_stated.external_id
 
   name_agrees : (n : ℕ) → Agree n → (s : Address) (name : List ℕ) (i : ℕ) → slice_get ks i ≡ Some (Def s name) → package_tree p (suc n) (type.Id i) ≡ node_map (source_tree files n) (named_node s (meaning (scope files s) name))
   name_agrees n agree s name i there =

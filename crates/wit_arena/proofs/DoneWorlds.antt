@@ -1,4 +1,4 @@
--- What stands once worlds are done, each with the interfaces that are written in it.
+-- What is once worlds are done, each with the interfaces that are written in it.
 use Rattle.std.proofs.Common.{◌≡◌, ℕ, suc, ◌+◌, List, [], ◌∷◌, ◌++◌, length, map, Some, ◌⊎◌, inl, inr, refl, sym, ap, ◌∙◌, subst, append_assoc, arith}
 use Rattle.std.specs.Prelude.{slice_get}
 use Rattle.std.specs.List.{flat_map}
@@ -20,40 +20,40 @@ use Rattle.wit_syntax.specs.Address.{Address, WorldNamed}
 use Rattle.wit_syntax.specs.Function.{functions, name_types}
 use Rattle.wit_syntax.specs.Shape.{all_handles, handles}
 use Rattle.wit_type_tree.specs.declared.types.«Type».{«Type» as Written}
-use Rattle.wit_syntax.specs.Sides.{FunctionKey, side_items, inline_items, SideItem, SideFunction, SideLink, SideInline, item_inline, inline_behind}
-use Rattle.wit_syntax.specs.Source.{address, Item, TopName, leads, ScopeName, about, declared_notes, target_scope}
-use Rattle.wit_syntax.specs.Trees.{scope}
+use Rattle.wit_syntax.specs.Sides.{FunctionKey, side_items, inline_items, SideItem, SideFunction, SideLink, SideInline, item_inline, inline_after}
+use Rattle.wit_syntax.specs.Source.{address, Item, TopName, leads, ScopeName, about, declared_metadata, target_scope}
+use Rattle.wit_syntax.specs.ScopesOfTrees.{scope}
 use Rattle.wit_syntax.specs.Foreign.{visited, foreign_interfaces}
 use Rattle.wit_syntax.specs.Scope.{includes, local_names}
 use Rattle.wit_syntax.specs.Fault.{Fault}
 use Rattle.wit_syntax.specs.Broken.{IsSetterAlone}
-use Rattle.wit_syntax.proofs.Lists.{at_front, at_back, at_either, at_split, map_at, flat_map_at, flat_map_has}
+use Rattle.wit_syntax.proofs.Lists.{at_prefix, at_back, at_either, at_split, map_at, flat_map_at, flat_map_has}
 use Rattle.wit_syntax.proofs.Turns.{at_part}
-use Rattle.wit_syntax.proofs.Kept.{behind_one}
-use Rattle.wit_arena.specs.Meet.{Meeting, keys, Meets, Decls}
+use Rattle.wit_syntax.proofs.Kept.{after_one}
+use Rattle.wit_arena.specs.Occurrences.{Occurrence, keys, Collects, Decls}
 use Rattle.wit_arena.specs.Package.{IsWorld, import_types, world_types, world_functions}
 use Rattle.wit_arena.specs.Resolved.{WorldArenas}
-use Rattle.wit_arena.specs.Resolving.{Names, Cell, Required}
+use Rattle.wit_arena.specs.Resolving.{Names, ResolvedScope, Required}
 use Rattle.wit_arena.specs.SideItems.{AreSideItems, settled}
-use Rattle.wit_arena.specs.Whole.{Ordered, OrderedWorld, Turned, addresses, turned, side_turns, world_turns, all_turns, all_inside, turn_meetings, taking_meeting, all_meetings, turn_handles, AreRequired, type_imports, IsInclude, AreIncludes}
+use Rattle.wit_arena.specs.Whole.{Ordered, OrderedWorld, Turned, addresses, turned, side_turns, world_turns, all_turns, all_inside, turn_occurrences, foreign_use_occurrence, all_occurrences, turn_handles, AreRequired, type_imports, IsInclude, AreIncludes}
 use Rattle.wit_syntax.specs.Source as source
 use Rattle.wit_arena.proofs.Added.{WorldOwner, inside_of, interface_list, world_list, decls}
-use Rattle.wit_arena.proofs.Doing.{DoneFunction, IsDoing}
+use Rattle.wit_arena.proofs.FunctionPart.{DoneFunction, IsFunctionPart}
 use Rattle.wit_arena.proofs.Ends.{IsDeclared}
 use Rattle.wit_arena.proofs.FreeNames.{free_of}
 use Rattle.wit_arena.proofs.Inside.{AreInside}
-use Rattle.wit_arena.proofs.Laid.{AreLaid}
+use Rattle.wit_arena.proofs.ScopesInTurn.{AreLaid}
 use Rattle.wit_arena.proofs.Required.{in_scope}
-use Rattle.wit_arena.proofs.Standing.{DoneScope, IsNameOf, IsDone}
+use Rattle.wit_arena.proofs.Members.{DoneScope, IsNameOf, IsDone}
 use Rattle.wit_arena.proofs.Stating.{world_types-all}
-use Rattle.wit_arena.proofs.Turns.{item_of, own_item, names_turn, meetings, all_name_meetings}
+use Rattle.wit_arena.proofs.Turns.{item_of, own_item, names_turn, occurrences, all_name_occurrences}
 
 -- a world of the arena is the item, with its includes, where the worlds have these addresses
 pub record SaysWorld (worlds : List Address) (o : Ordered) (w : World) : Type 0 where
-  pub says : IsWorld (about o.item.declared).id.name.now (about o.item.declared).id.span (declared_notes o.item.declared) w
+  pub says : IsWorld (about o.item.declared).id.name.now (about o.item.declared).id.span (declared_metadata o.item.declared) w
   pub includes : AreIncludes worlds o.item w.includes
 
--- it has the types of a scope as its imports, and then, on its sides, what the item has there, each setter behind its getter where nothing is
+-- it has the types of a scope as its imports, and then, on its sides, what the item has there, each setter after its getter where nothing is
 -- included; the interfaces have these addresses
 pub record MakesWorld (interfaces : List Address) (o : Ordered) (c : DoneScope) (w : World) : Type 0 where
   pub imported : List (WorldKey × WorldItem)
@@ -66,8 +66,8 @@ pub record MakesWorld (interfaces : List Address) (o : Ordered) (c : DoneScope) 
   pub paired : (f : Fault) → IsSetterAlone o.item f → ⊥
 
 -- a world that was resolved, as a scope
-abbrev pub world_cell : World → Cell
-world_cell w = record { address = WorldNamed w.name; types = world_types w; functions = free_of (world_functions w) }
+abbrev pub world_resolved_scope : World → ResolvedScope
+world_resolved_scope w = record { address = WorldNamed w.name; types = world_types w; functions = free_of (world_functions w) }
 
 -- a world that is done, with the interfaces that are written in it
 pub record DoneWorld : Type 0 where
@@ -88,20 +88,20 @@ all_within ws = flat_map (λ w. w.inside) ws
 abbrev pub own_order : OrderedWorld → Ordered
 own_order w = w.own
 
--- the first of some worlds are done, in some orders of their names, behind interfaces
-pub record AreWorldsDone (files : List PackageFile) (is ws : List Item) (wfront : List World) (base : List Ordered) (first : List DoneScope) (us : List Item) (es : List TypeDef) (a : WorldArenas) (rs : List Required) : Type 0 where
+-- the first of some worlds are done, in some orders of their names, after interfaces
+pub record AreWorldsDone (files : List PackageFile) (is ws : List Item) (wprefix : List World) (base : List Ordered) (first : List DoneScope) (us : List Item) (es : List TypeDef) (a : WorldArenas) (rs : List Required) : Type 0 where
   pub ordered : List OrderedWorld
   pub scopes : List DoneWorld
   pub own : List World
-  pub arena : a.worlds ≡ wfront ++ own
+  pub arena : a.worlds ≡ wprefix ++ own
   pub all : map own_item ordered ≡ us
   pub each_inside : (t : ℕ) (o : OrderedWorld) → slice_get ordered t ≡ Some o → map item_of o.inside ≡ inline_items o.own.item
   pub inside : map item_of (all_inside ordered) ≡ inside_of us
-  pub laid : AreLaid (WorldOwner files) (SaysWorld (world_list files ws)) world_cell (MakesWorld (interface_list files is (inside_of ws))) ws (map own_order ordered) own (map own_scope scopes)
+  pub laid : AreLaid (WorldOwner files) (SaysWorld (world_list files ws)) world_resolved_scope (MakesWorld (interface_list files is (inside_of ws))) ws (map own_order ordered) own (map own_scope scopes)
   pub laid_inside : AreInside (length (map visited (foreign_interfaces files)) + length is) (all_inside ordered) (all_within scopes) a.inside
   pub addresses : a.addresses ≡ map address (inside_of us)
-  pub done : IsDone files (decls files is ws) (all_meetings files (all_turns base ordered)) (first ++ flat_map scopes_of scopes) es
-  pub required : (met : List Meeting) → Meets [] (all_meetings files (all_turns base ordered)) met → AreRequired files (keys met) (flat_map turn_handles (flat_map world_turns ordered)) rs
+  pub done : IsDone files (decls files is ws) (all_occurrences files (all_turns base ordered)) (first ++ flat_map scopes_of scopes) es
+  pub required : (seen : List Occurrence) → Collects [] (all_occurrences files (all_turns base ordered)) seen → AreRequired files (keys seen) (flat_map turn_handles (flat_map world_turns ordered)) rs
 
 -- an include that leads to one of some worlds leads to it among more of them
 pub include_wider : (some all : List Address) (top : List TopName) (written : Include) (i : WorldInclude) → ((t : ℕ) (a : Address) → slice_get some t ≡ Some a → slice_get all t ≡ Some a) → IsInclude some top written i → IsInclude all top written i
@@ -113,17 +113,17 @@ includes_wider some all item is wider h = record {
   each = λ k written i at there. include_wider some all item.top written i wider (h.each k written i at there);
 }
 
-abbrev pub named_world : Names → List (FunctionKey × Function) → List ℕ → Cell
+abbrev pub named_world : Names → List (FunctionKey × Function) → List ℕ → ResolvedScope
 named_world types stated name = record { address = WorldNamed name; types = types; functions = free_of stated }
 
-pub own_types : (xs : List ScopeName) (types : Names) (behind : List (WorldKey × WorldItem)) (w : World) → map (λ p. p.0) types ≡ local_names xs → w.imports ≡ type_imports xs types ++ behind → flat_map import_types behind ≡ [] → world_types w ≡ types
-own_types xs types behind w listed imports none = ap (flat_map import_types) imports ∙ world_types-all xs types behind listed none
+pub own_types : (xs : List ScopeName) (types : Names) (rest_after : List (WorldKey × WorldItem)) (w : World) → map (λ p. p.0) types ≡ local_names xs → w.imports ≡ type_imports xs types ++ rest_after → flat_map import_types rest_after ≡ [] → world_types w ≡ types
+own_types xs types rest_after w listed imports none = ap (flat_map import_types) imports ∙ world_types-all xs types rest_after listed none
 
--- behind one front, what stands in the first of two lists stands in the second
-pub front_longer : {X : Type 0} (front xs ys : List X) → ((k : ℕ) (x : X) → slice_get xs k ≡ Some x → slice_get ys k ≡ Some x) → (t : ℕ) (x : X) → slice_get (front ++ xs) t ≡ Some x → slice_get (front ++ ys) t ≡ Some x
-front_longer front xs ys longer t x at = elim (at_split front xs t x at) [
-  | inl h ↦ at_front front ys t x h
-  | inr h ↦ ap (slice_get (front ++ ys)) h.1 ∙ at_back front ys h.0 x (longer h.0 x h.2)
+-- after one prefix, what is in the first of two lists is in the second
+pub prefix_longer : {X : Type 0} (prefix xs ys : List X) → ((k : ℕ) (x : X) → slice_get xs k ≡ Some x → slice_get ys k ≡ Some x) → (t : ℕ) (x : X) → slice_get (prefix ++ xs) t ≡ Some x → slice_get (prefix ++ ys) t ≡ Some x
+prefix_longer prefix xs ys longer t x at = elim (at_split prefix xs t x at) [
+  | inl h ↦ at_prefix prefix ys t x h
+  | inr h ↦ ap (slice_get (prefix ++ ys)) h.1 ∙ at_back prefix ys h.0 x (longer h.0 x h.2)
 ]
 
 -- so it does in what they become
@@ -133,32 +133,32 @@ flat_map_longer f (x ∷ xs) [] longer t y at = absurd (let none = longer 0 x re
 flat_map_longer {X} {Y} f (x ∷ xs) (z ∷ ys) longer t y at =
     let here : Some z ≡ Some x = longer 0 x refl in
     let same : x ≡ z = cc in
-    ap (λ (u : X). slice_get (f u ++ flat_map f ys) t) (sym same) ∙ front_longer (f x) (flat_map f xs) (flat_map f ys) (flat_map_longer f xs ys (λ k. longer (suc k))) t y at
+    ap (λ (u : X). slice_get (f u ++ flat_map f ys) t) (sym same) ∙ prefix_longer (f x) (flat_map f xs) (flat_map f ys) (flat_map_longer f xs ys (λ k. longer (suc k))) t y at
 
 pub all_handles-append : (ts us : List Written) → all_handles (ts ++ us) ≡ all_handles ts ++ all_handles us
 all_handles-append [] us = refl
 all_handles-append (t ∷ ts) us = ap (λ (l : List Id). handles t ++ l) (all_handles-append ts us) ∙ sym (append_assoc (handles t) (all_handles ts) (all_handles us))
 
--- what is met in scopes behind others
-pub turns_meetings : (files : List PackageFile) (ts us : List Turned) → all_meetings files (ts ++ us) ≡ all_meetings files ts ++ meetings us
-turns_meetings files ts us =
-    let front : List Meeting = map taking_meeting (source.takings files) in
-    ap (λ (l : List Meeting). front ++ l) (flat_map-append turn_meetings ts us) ∙ sym (append_assoc front (meetings ts) (meetings us))
+-- what occurs in scopes after others
+pub turns_occurrences : (files : List PackageFile) (ts us : List Turned) → all_occurrences files (ts ++ us) ≡ all_occurrences files ts ++ occurrences us
+turns_occurrences files ts us =
+    let prefix : List Occurrence = map foreign_use_occurrence (source.foreign_uses files) in
+    ap (λ (l : List Occurrence). prefix ++ l) (flat_map-append turn_occurrences ts us) ∙ sym (append_assoc prefix (occurrences ts) (occurrences us))
 
 -- the turns of one world more
 pub turns_more : (ws : List OrderedWorld) (w : OrderedWorld) → flat_map world_turns (ws ++ w ∷ []) ≡ flat_map world_turns ws ++ world_turns w
 turns_more ws w = flat_map-append world_turns ws (w ∷ []) ∙ ap (λ (l : List Turned). flat_map world_turns ws ++ l) (append-nil (world_turns w))
 
--- what is met in a world: in its names, and then on its sides
-pub world_meetings : (w : OrderedWorld) (s : Address) (names : List ScopeName) → world_turns w ≡ names_turn s names ∷ side_turns s (side_items w.own.item) w.inside → meetings (world_turns w) ≡ all_name_meetings s names ++ meetings (side_turns s (side_items w.own.item) w.inside)
-world_meetings w s names is = ap meetings is ∙ ap (λ (l : List Meeting). l ++ meetings (side_turns s (side_items w.own.item) w.inside)) (append-nil (all_name_meetings s names))
+-- what occurs in a world: in its names, and then on its sides
+pub world_occurrences : (w : OrderedWorld) (s : Address) (names : List ScopeName) → world_turns w ≡ names_turn s names ∷ side_turns s (side_items w.own.item) w.inside → occurrences (world_turns w) ≡ all_name_occurrences s names ++ occurrences (side_turns s (side_items w.own.item) w.inside)
+world_occurrences w s names is = ap occurrences is ∙ ap (λ (l : List Occurrence). l ++ occurrences (side_turns s (side_items w.own.item) w.inside)) (append-nil (all_name_occurrences s names))
 
-pub written_more : (files : List PackageFile) (base : List Ordered) (ws : List OrderedWorld) (w : OrderedWorld) (s : Address) (names : List ScopeName) → world_turns w ≡ names_turn s names ∷ side_turns s (side_items w.own.item) w.inside → all_meetings files (all_turns base (ws ++ w ∷ [])) ≡ (all_meetings files (all_turns base ws) ++ all_name_meetings s names) ++ meetings (side_turns s (side_items w.own.item) w.inside)
+pub written_more : (files : List PackageFile) (base : List Ordered) (ws : List OrderedWorld) (w : OrderedWorld) (s : Address) (names : List ScopeName) → world_turns w ≡ names_turn s names ∷ side_turns s (side_items w.own.item) w.inside → all_occurrences files (all_turns base (ws ++ w ∷ [])) ≡ (all_occurrences files (all_turns base ws) ++ all_name_occurrences s names) ++ occurrences (side_turns s (side_items w.own.item) w.inside)
 written_more files base ws w s names is =
     let before : List Turned = map turned base in
-    let written : List Meeting = all_meetings files (all_turns base ws) in
+    let written : List Occurrence = all_occurrences files (all_turns base ws) in
     let turns : all_turns base (ws ++ w ∷ []) ≡ all_turns base ws ++ world_turns w = ap (λ (l : List Turned). before ++ l) (turns_more ws w) ∙ sym (append_assoc before (flat_map world_turns ws) (world_turns w)) in
-    ap (all_meetings files) turns ∙ turns_meetings files (all_turns base ws) (world_turns w) ∙ ap (λ (l : List Meeting). written ++ l) (world_meetings w s names is) ∙ sym (append_assoc written (all_name_meetings s names) (meetings (side_turns s (side_items w.own.item) w.inside)))
+    ap (all_occurrences files) turns ∙ turns_occurrences files (all_turns base ws) (world_turns w) ∙ ap (λ (l : List Occurrence). written ++ l) (world_occurrences w s names is) ∙ sym (append_assoc written (all_name_occurrences s names) (occurrences (side_turns s (side_items w.own.item) w.inside)))
 
 -- the scopes of one world more
 pub scopes_more : (first : List DoneScope) (ws : List DoneWorld) (w : DoneWorld) → first ++ flat_map scopes_of (ws ++ w ∷ []) ≡ ((first ++ flat_map scopes_of ws) ++ w.own ∷ []) ++ w.inside
@@ -181,7 +181,7 @@ handles_more ws w s names is =
 pub scope_either : (ws : List DoneWorld) (k : ℕ) (c : DoneScope) → slice_get (flat_map scopes_of ws) k ≡ Some c → ((t : ℕ) × (slice_get (map own_scope ws) t ≡ Some c)) ⊎ ((j : ℕ) × (slice_get (all_within ws) j ≡ Some c))
 scope_either ws k c at =
     let it = flat_map_at scopes_of ws k c at in
-    elim (behind_one it.1.own it.1.inside it.3.0 c it.3.1) [
+    elim (after_one it.1.own it.1.inside it.3.0 c it.3.1) [
       | inl own ↦ inl (it.0, slice_get-map own_scope ws it.0 ∙ ap (option_map own_scope) it.2 ∙ ap Some own)
       | inr h ↦ inr (flat_map_has (λ (w : DoneWorld). w.inside) ws it.0 h.0 it.1 c it.2 h.1)
     ]
@@ -204,12 +204,12 @@ one_of_three first ds c t b at = elim (at_part (first ++ c ∷ []) ds t b at) [
   | inr h ↦ inr (inr h)
 ]
 
--- the scope of a name that was met is declared by files
-pub doing_declared : (files : List PackageFile) (decls : Decls) (written : List Meeting) (cs : List DoneScope) (gs : List DoneFunction) (es : List TypeDef) (s : Address) (name : List ℕ) → IsDoing files decls written cs gs es → IsNameOf cs s name → IsDeclared files decls s
-doing_declared files decls written cs gs es s name d it = subst (λ (z : Address). IsDeclared files decls z) it.scope (record {
-  distinct = (d.each it.place it.cell it.at).turn.distinct;
-  whose = it.cell.owner;
-  own = d.own it.place it.cell it.at;
+-- the scope of a name that occurred is declared by files
+pub function_part_declared : (files : List PackageFile) (decls : Decls) (written : List Occurrence) (cs : List DoneScope) (gs : List DoneFunction) (es : List TypeDef) (s : Address) (name : List ℕ) → IsFunctionPart files decls written cs gs es → IsNameOf cs s name → IsDeclared files decls s
+function_part_declared files decls written cs gs es s name d it = subst (λ (z : Address). IsDeclared files decls z) it.scope (record {
+  distinct = (d.each it.place it.resolved_scope it.at).turn.distinct;
+  whose = it.resolved_scope.owner;
+  own = d.own it.place it.resolved_scope it.at;
 })
 
 pub none_left : {X : Type 0} (xs : List X) → length xs ≡ 0 → xs ≡ []
@@ -217,7 +217,7 @@ none_left [] none = refl
 none_left (x ∷ xs) none = absurd (let f : ⊥ = omega (arith, none) in f)
 
 -- as many interfaces are written in an item as it has on its sides
-pub inline_count : (before : List SideItem) (w : Item) (xs : List SideItem) → length (inline_behind w before xs) ≡ length (flat_map item_inline xs)
+pub inline_count : (before : List SideItem) (w : Item) (xs : List SideItem) → length (inline_after w before xs) ≡ length (flat_map item_inline xs)
 inline_count before w [] = refl
 inline_count before w (SideFunction fn ∷ xs) = inline_count (before ++ SideFunction fn ∷ []) w xs
 inline_count before w (SideLink link ∷ xs) = inline_count (before ++ SideLink link ∷ []) w xs

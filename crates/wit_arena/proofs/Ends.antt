@@ -20,22 +20,22 @@ use Rattle.wit_arena.specs.Kind.{kind_of}
 use Rattle.wit_syntax.specs.Node.{primitive_type}
 use Rattle.wit_syntax.specs.Shape.{Shape, Shapes, Prim, Word, More, one, written_body, body_of}
 use Rattle.wit_syntax.specs.Address.{Address}
-use Rattle.wit_syntax.specs.Source.{ScopeName, Used, Defined, Taken, local_name, meaning, about_name}
-use Rattle.wit_syntax.specs.Trees.{scope}
+use Rattle.wit_syntax.specs.Source.{ScopeName, Used, Defined, ForeignName, local_name, meaning, about_name}
+use Rattle.wit_syntax.specs.ScopesOfTrees.{scope}
 use Rattle.wit_arena.specs.Expr.{exprs_of, name_exprs}
-use Rattle.wit_arena.specs.Meet.{Key, Def, AreAt, Decls, IsKeyed}
+use Rattle.wit_arena.specs.Occurrences.{Key, Def, AreAt, Decls, IsKeyed}
 use Rattle.wit_arena.proofs.Parts.{HasPart}
 use Rattle.wit_syntax.specs.Scope.{AreDistinct}
 use Rattle.wit_syntax.specs.Ends.{End, AtResource, AtForeign, Elsewhere, named_end, shape_end, EndsAt}
 use Rattle.wit_arena.specs.EntryEnds.{EntryEnd, IsResource, IsUnknown, IsOther, part_end, kind_end, found_end, entry_end}
-use Rattle.wit_syntax.proofs.Lists.{at_front, at_within}
+use Rattle.wit_syntax.proofs.Lists.{at_prefix, at_within}
 use Rattle.wit_arena.proofs.Places.{all_at_untaken}
 use Rattle.wit_arena.proofs.Shape.{entry_of_key, backward}
 use Rattle.wit_arena.proofs.Depth.{meaning_found}
 use Rattle.std.specs.Option.{unwrap_or}
 use Rattle.wit_syntax.proofs.Ends.{meant_end}
 
--- two ways to tell where something ends never differ
+-- two ways to say where something ends never differ
 abbrev Agreeing : {X : Type 0} → (X → Option End) → (X → Option End) → Type 0
 Agreeing {X} f g = (x : X) (a b : End) → f x ≡ Some a → g x ≡ Some b → a ≡ b
 
@@ -64,10 +64,10 @@ entry_end-same zero es more i lt = refl
 entry_end-same (suc n) es more i lt =
     let before : take i (es ++ more) ≡ take i es = take-append-le i es more (omega arith) in
     let x = at_within es i lt in
-    let here : slice_get (es ++ more) i ≡ slice_get es i = at_front es more i x.0 x.1 ∙ sym x.1 in
+    let here : slice_get (es ++ more) i ≡ slice_get es i = at_prefix es more i x.0 x.1 ∙ sym x.1 in
     ap (λ (l : List TypeDef). found_end (entry_end n l) i (slice_get (es ++ more) i)) before ∙ ap (found_end (entry_end n (take i es)) i) here
 
--- what ends at a resource or at an unknown type stands in the arena
+-- what ends at a resource or at an unknown type is in the arena
 found_within : (f : ℕ → Option EntryEnd) (i : ℕ) (o : Option TypeDef) (e : EntryEnd) → (e ≡ IsOther → ⊥) → found_end f i o ≡ Some e → (x : TypeDef) × (o ≡ Some x)
 found_within f i None e known h = absurd (known (let same : e ≡ IsOther = cc in same))
 found_within f i (Some x) e known h = (x, refl)
@@ -99,14 +99,14 @@ alias_defined _ h = absurd (let f : ⊥ = cc in f)
 alias_named : (x : ScopeName) → (about_name x).body.form ≡ AliasForm → IsWord (about_name x).body.parts
 alias_named (Used from attributes n) h = inr (n.name, refl)
 alias_named (Defined d) h = alias_defined d.body h
-alias_named (Taken attributes id) h = absurd (let f : ⊥ = cc in f)
+alias_named (ForeignName attributes id) h = absurd (let f : ⊥ = cc in f)
 
 -- a primitive is no entry
 part_primitive : (f : ℕ → Option EntryEnd) (p : Primitive) (ts : List Ty) → part_end f (primitive_type p ∷ ts) ≡ Some IsOther
 part_primitive f primitive.Bool ts = refl
 part_primitive f p ts = refl
 
--- what the end of an entry tells of the name that the entry is of
+-- what the end of an entry says of the name that the entry is of
 abbrev pub EndIs : List PackageFile → List Key → Address → Id → EntryEnd → Type 0
 EndIs files ks s id IsResource = EndsAt files s id AtResource
 EndIs files ks s id (IsUnknown place) = (t : Address) × (name : List ℕ) × (slice_get ks place ≡ Some (Def t name)) × EndsAt files s id (AtForeign t name)
@@ -116,7 +116,7 @@ EndIs files ks s id IsOther = EndsAt files s id Elsewhere
 record Means (files : List PackageFile) (s : Address) (id : Id) (x : ScopeName) : Type 0 where
   found : meaning (scope files s) id.name.now ≡ Some x
 
--- where a name of a scope ends, in so many steps behind it
+-- where a name of a scope ends, in so many steps after it
 abbrev ends_in : List PackageFile → ℕ → Address → ScopeName → Form → Shapes → Option End
 ends_in files n s x form xs = named_end (shape_end files n (unwrap_or (about_name x).from s)) s (local_name x) form xs
 
@@ -159,9 +159,9 @@ pub record IsDeclared (files : List PackageFile) (decls : Decls) (s : Address) :
   pub own : decls s ≡ (scope files s, whose)
 
 module _ (files : List PackageFile) (decls : Decls) (ks : List Key) (es : List TypeDef) (m : IsKeyed decls ks es) (scopes : (j : ℕ) (s : Address) (name : List ℕ) → slice_get ks j ≡ Some (Def s name) → IsDeclared files decls s) where
-  -- in so many steps, an entry tells where its name ends
-  abbrev Told : ℕ → Type 0
-  Told n = (i : ℕ) (s : Address) (id : Id) (e : EntryEnd) → slice_get ks i ≡ Some (Def s id.name.now) → entry_end n es i ≡ Some e → EndIs files ks s id e
+  -- in so many steps, an entry says where its name ends
+  abbrev Stated : ℕ → Type 0
+  Stated n = (i : ℕ) (s : Address) (id : Id) (e : EntryEnd) → slice_get ks i ≡ Some (Def s id.name.now) → entry_end n es i ≡ Some e → EndIs files ks s id e
 
   -- the one part of another word for a type is a primitive
   end_primitive : (n : ℕ) (s : Address) (id : Id) (x : ScopeName) (p : Primitive) (parts : List Ty) (e : EntryEnd) → Means files s id x → AliasForm ≡ (about_name x).body.form → (about_name x).body.parts ≡ one (Prim p) → AreAt ks (exprs_of (unwrap_or (about_name x).from s) (one (Prim p))) parts → part_end (entry_end n es) parts ≡ Some e → EndIs files ks s id e
@@ -172,16 +172,16 @@ module _ (files : List PackageFile) (decls : Decls) (ks : List Key) (es : List T
       subst (EndIs files ks s id) here (ends_part files s id x (one (Prim p)) (suc zero) Elsewhere means same word refl)
 
   -- or a name
-  end_word : (n : ℕ) → Told n → (s : Address) (id : Id) (x : ScopeName) (word : Id) (parts : List Ty) (e : EntryEnd) → Means files s id x → AliasForm ≡ (about_name x).body.form → (about_name x).body.parts ≡ one (Word word) → AreAt ks (exprs_of (unwrap_or (about_name x).from s) (one (Word word))) parts → part_end (entry_end n es) parts ≡ Some e → EndIs files ks s id e
-  end_word n told s id x word [] e means same is_word at is = absurd at
-  end_word n told s id x word (t ∷ ts) e means same is_word at is =
+  end_word : (n : ℕ) → Stated n → (s : Address) (id : Id) (x : ScopeName) (word : Id) (parts : List Ty) (e : EntryEnd) → Means files s id x → AliasForm ≡ (about_name x).body.form → (about_name x).body.parts ≡ one (Word word) → AreAt ks (exprs_of (unwrap_or (about_name x).from s) (one (Word word))) parts → part_end (entry_end n es) parts ≡ Some e → EndIs files ks s id e
+  end_word n as_stated s id x word [] e means same is_word at is = absurd at
+  end_word n as_stated s id x word (t ∷ ts) e means same is_word at is =
       let there : entry_end n es at.0.0 ≡ Some e = ap (λ (u : Ty). part_end (entry_end n es) (u ∷ ts)) (sym at.0.1) ∙ is in
-      end_through files ks s id x word e means same is_word (told at.0.0 (unwrap_or (about_name x).from s) word e at.0.2 there)
+      end_through files ks s id x word e means same is_word (as_stated at.0.0 (unwrap_or (about_name x).from s) word e at.0.2 there)
 
-  end_alias : (n : ℕ) → Told n → (s : Address) (id : Id) (x : ScopeName) (parts : List Ty) (e : EntryEnd) → Means files s id x → AliasForm ≡ (about_name x).body.form → AreAt ks (name_exprs s x) parts → part_end (entry_end n es) parts ≡ Some e → EndIs files ks s id e
-  end_alias n told s id x parts e means same at is = elim (alias_named x (sym same)) [
+  end_alias : (n : ℕ) → Stated n → (s : Address) (id : Id) (x : ScopeName) (parts : List Ty) (e : EntryEnd) → Means files s id x → AliasForm ≡ (about_name x).body.form → AreAt ks (name_exprs s x) parts → part_end (entry_end n es) parts ≡ Some e → EndIs files ks s id e
+  end_alias n as_stated s id x parts e means same at is = elim (alias_named x (sym same)) [
     | inl p ↦ end_primitive n s id x p.0 parts e means same p.1 (subst (λ (xs : Shapes). AreAt ks (exprs_of (unwrap_or (about_name x).from s) xs) parts) p.1 at) is
-    | inr w ↦ end_word n told s id x w.0 parts e means same w.1 (subst (λ (xs : Shapes). AreAt ks (exprs_of (unwrap_or (about_name x).from s) xs) parts) w.1 at) is
+    | inr w ↦ end_word n as_stated s id x w.0 parts e means same w.1 (subst (λ (xs : Shapes). AreAt ks (exprs_of (unwrap_or (about_name x).from s) xs) parts) w.1 at) is
   ]
 
   -- a name of another package
@@ -201,13 +201,13 @@ module _ (files : List PackageFile) (decls : Decls) (ks : List Key) (es : List T
       let here : IsOther ≡ e = cc in
       subst (EndIs files ks s id) here (ends_formed files s id x form Elsewhere means same ends)
 
-  end_formed : (n : ℕ) → Told n → (i : ℕ) (s : Address) (id : Id) (x : ScopeName) (form : Form) (parts : List Ty) (e : EntryEnd) → Means files s id x → form ≡ (about_name x).body.form → local_name x ≡ id.name.now → AreAt ks (name_exprs s x) parts → slice_get ks i ≡ Some (Def s id.name.now) → kind_end (entry_end n es) i form parts ≡ Some e → EndIs files ks s id e
-  end_formed n told i s id x AliasForm parts e means same called at key is = end_alias n told s id x parts e means same at is
-  end_formed n told i s id x ResourceForm parts e means same called at key is = end_resource s id x e means same is
-  end_formed n told i s id x UnknownForm parts e means same called at key is = end_unknown i s id x e means same called key is
-  end_formed n told i s id x form parts e means same called at key is = end_other s id x form e means same refl is
+  end_formed : (n : ℕ) → Stated n → (i : ℕ) (s : Address) (id : Id) (x : ScopeName) (form : Form) (parts : List Ty) (e : EntryEnd) → Means files s id x → form ≡ (about_name x).body.form → local_name x ≡ id.name.now → AreAt ks (name_exprs s x) parts → slice_get ks i ≡ Some (Def s id.name.now) → kind_end (entry_end n es) i form parts ≡ Some e → EndIs files ks s id e
+  end_formed n as_stated i s id x AliasForm parts e means same called at key is = end_alias n as_stated s id x parts e means same at is
+  end_formed n as_stated i s id x ResourceForm parts e means same called at key is = end_resource s id x e means same is
+  end_formed n as_stated i s id x UnknownForm parts e means same called at key is = end_unknown i s id x e means same called key is
+  end_formed n as_stated i s id x form parts e means same called at key is = end_other s id x form e means same refl is
 
-  -- an entry ends where it does by those that stand before another one behind it
+  -- an entry ends where it does by those that come before another one after it
   end_before : (n i j : ℕ) (e : EntryEnd) → i < length es → j < i → entry_end n (take i es) j ≡ Some e → entry_end n es j ≡ Some e
   end_before n i j e within below there =
       let long : length (take i es) ≡ i = length-take-le i es (omega arith) in

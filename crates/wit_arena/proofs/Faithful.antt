@@ -11,10 +11,10 @@ use Rattle.wit_syntax.specs.Form.{Form, UnknownForm}
 use Rattle.wit_arena.specs.Kind.{kind_of}
 use Rattle.wit_syntax.specs.Shape.{Shape, Word}
 use Rattle.wit_syntax.specs.Address.{Address}
-use Rattle.wit_syntax.specs.Source.{ScopeName, Place, local_name, local_id, first_takings, named_node, about_name}
-use Rattle.wit_syntax.specs.Trees.{scope}
+use Rattle.wit_syntax.specs.Source.{ScopeName, Place, local_name, local_id, first_foreign_uses, named_node, about_name}
+use Rattle.wit_syntax.specs.ScopesOfTrees.{scope}
 use Rattle.wit_arena.specs.Expr.{Expr, Exprs, expr_of}
-use Rattle.wit_arena.specs.Meet.{Key, Def, Whole, Meeting, keys, IsAt, Decls, IsEntry}
+use Rattle.wit_arena.specs.Occurrences.{Key, Def, Whole, Occurrence, keys, IsAt, Decls, IsEntry}
 use Rattle.wit_arena.specs.Package.{owner_of, names_of, functions_of, function_types, IsBelow}
 use Rattle.std.proofs.lemmas.Option.{slice_get_within}
 use Rattle.wit_functions.specs.declared.function.Function.{Function}
@@ -30,27 +30,27 @@ use Rattle.wit_arena.specs.Whole.{functions_at}
 use Rattle.wit_arena.specs.Faithful.{node_parts, IsRoot, OfName, OfFunction, HasType, IsAnonymousForm, IsFaithful}
 use Rattle.wit_arena.specs.Resolving.{Names}
 use Rattle.wit_syntax.proofs.Names.{lookup-place}
-use Rattle.wit_arena.proofs.Places.{Grown, at_injective, at_functional}
-use Rattle.wit_arena.proofs.Meeting.{Has, meets_from, once_of}
+use Rattle.wit_arena.proofs.Places.{Extended, at_injective, at_functional}
+use Rattle.wit_arena.proofs.Occurrence.{Has, collects_from, once_of}
 use Rattle.wit_arena.proofs.Parts.{all_parts}
 use Rattle.wit_arena.proofs.Shape.{key_of, backward, interned}
-use Rattle.wit_arena.proofs.Forms.{met_anonymous, name_anonymous}
+use Rattle.wit_arena.proofs.Forms.{seen_anonymous, name_anonymous}
 use Rattle.wit_arena.proofs.Depth.{IsScope, same_tree}
 use Rattle.wit_arena.proofs.Positions.{type_parts, means, below_at, leads, all_lead}
 use Rattle.wit_syntax.specs.Sides.{role_side, FunctionKey, function_key}
-use Rattle.wit_arena.proofs.Standing.{DoneScope, IsWholeOf, IsInSignatureOf, IsStanding}
-use Rattle.wit_arena.proofs.Stated.{has_types, function_at, named_at, entry_of, owner_at_name, parts_at}
-use Rattle.wit_arena.proofs.Takings.{taking_key}
-use Rattle.wit_arena.proofs.Unknowns.{unknown_front}
+use Rattle.wit_arena.proofs.Members.{DoneScope, IsWholeOf, IsInSignatureOf, IsPresent}
+use Rattle.wit_arena.proofs.NamesOfDone.{has_types, function_at, named_at, entry_of, owner_at_name, parts_at}
+use Rattle.wit_arena.proofs.ForeignUses.{foreign_use_key}
+use Rattle.wit_arena.proofs.Unknowns.{unknown_prefix}
 use Rattle.std.specs.Option.{unwrap_or}
 
 -- an owner is that of one of these scopes
 pub record IsOwnerOf (cs : List DoneScope) (o : TypeOwner) (s : Address) : Type 0 where
   pub place : ℕ
-  pub cell : DoneScope
-  pub at : slice_get cs place ≡ Some cell
-  pub whose : cell.owner ≡ o
-  pub scope : cell.address ≡ s
+  pub resolved_scope : DoneScope
+  pub at : slice_get cs place ≡ Some resolved_scope
+  pub whose : resolved_scope.owner ≡ o
+  pub scope : resolved_scope.address ≡ s
 
 -- the owners of a package are those of these scopes, and have their names and their functions
 pub record AreOwners (p : UnresolvedPackage) (cs : List DoneScope) : Type 0 where
@@ -59,9 +59,9 @@ pub record AreOwners (p : UnresolvedPackage) (cs : List DoneScope) : Type 0 wher
   pub functions : (t : ℕ) (c : DoneScope) → slice_get cs t ≡ Some c → functions_of p c.owner ≡ c.stated
   pub all : (o : TypeOwner) (s : Address) → owner_of p o ≡ Some s → IsOwnerOf cs o s
 
-module _ (files : List PackageFile) (decls : Decls) (written : List Meeting) (cs : List DoneScope) (p : UnresolvedPackage) (d : IsStanding files decls written cs p.types) (owners : AreOwners p cs) (wholes : (form : Form) (parts : Exprs) → Has (keys written) (Whole form parts) → IsWholeOf cs form parts ⊎ IsInSignatureOf cs form parts) where
+module _ (files : List PackageFile) (decls : Decls) (written : List Occurrence) (cs : List DoneScope) (p : UnresolvedPackage) (d : IsPresent files decls written cs p.types) (owners : AreOwners p cs) (wholes : (form : Form) (parts : Exprs) → Has (keys written) (Whole form parts) → IsWholeOf cs form parts ⊎ IsInSignatureOf cs form parts) where
   abbrev ks : List Key
-  ks = keys d.met
+  ks = keys d.seen
 
   whole_key : (j : ℕ) (k : Key) (e : TypeDef) → IsEntry decls (take j ks) k e → e.name ≡ None → (parts : Exprs) × (k ≡ Whole (kind_of e.kind).form parts)
   whole_key j (Def s name) e it none = absurd (let named = it.4 in let f : ⊥ = cc in f)
@@ -74,19 +74,19 @@ module _ (files : List PackageFile) (decls : Decls) (written : List Meeting) (cs
       (s, ap (Def s) same)
   named_key j (Whole form parts) e name it some = absurd (let none = it.0 in let f : ⊥ = cc in f)
 
-  was_met : (j : ℕ) (form : Form) (parts : Exprs) → slice_get ks j ≡ Some (Whole form parts) → Has (keys written) (Whole form parts)
-  was_met j form parts at = elim (meets_from written [] d.met d.meets j (Whole form parts) at) [
+  was_seen : (j : ℕ) (form : Form) (parts : Exprs) → slice_get ks j ≡ Some (Whole form parts) → Has (keys written) (Whole form parts)
+  was_seen j form parts at = elim (collects_from written [] d.seen d.collects j (Whole form parts) at) [
     | inl none ↦ absurd (let wrong = none.1 in let f : ⊥ = cc in f)
     | inr listed ↦ listed
   ]
 
-  -- an unnamed entry is that of an unnamed type, which stands in a name of a scope or in a function
+  -- an unnamed entry is that of an unnamed type, which is in a name of a scope or in a function
   whole_at : (j : ℕ) (e : TypeDef) → slice_get p.types j ≡ Some e → e.name ≡ None → (parts : Exprs) × (slice_get ks j ≡ Some (Whole (kind_of e.kind).form parts)) × (IsWholeOf cs (kind_of e.kind).form parts ⊎ IsInSignatureOf cs (kind_of e.kind).form parts)
   whole_at j e at none =
-      let k = key_of decls ks p.types d.meeting.keyed j e at in
-      let w = whole_key j k.0 e (d.meeting.keyed.each j k.0 e k.1 at) none in
+      let k = key_of decls ks p.types d.occurrence.keyed j e at in
+      let w = whole_key j k.0 e (d.occurrence.keyed.each j k.0 e k.1 at) none in
       let there : slice_get ks j ≡ Some (Whole (kind_of e.kind).form w.0) = k.1 ∙ ap Some w.1 in
-      (w.0, there, wholes (kind_of e.kind).form w.0 (was_met j (kind_of e.kind).form w.0 there))
+      (w.0, there, wholes (kind_of e.kind).form w.0 (was_seen j (kind_of e.kind).form w.0 there))
 
   -- the function of a scope that one of the package is
   at_made : (t : ℕ) (c : DoneScope) → slice_get cs t ≡ Some c → (k : ℕ) (f : Function) → slice_get c.made k ≡ Some f → (j : ℕ) × (fn : SourceFunction) × (slice_get c.functions j ≡ Some fn) × (j ≡ k) × IsFunction ks c.address fn f
@@ -101,23 +101,23 @@ module _ (files : List PackageFile) (decls : Decls) (written : List Meeting) (cs
   formed j e at none =
       let it = whole_at j e at none in
       elim it.2 [
-        | inl w ↦ name_anonymous w.cell.address w.x (kind_of e.kind).form it.0 w.has
+        | inl w ↦ name_anonymous w.resolved_scope.address w.x (kind_of e.kind).form it.0 w.has
         | inr w ↦ (
-            let c = w.cell in
+            let c = w.resolved_scope in
             let there = ap (λ (l : List SourceFunction). slice_get l w.inside.index) (sym (d.each w.place c w.at).functions) ∙ w.inside.among in
-            met_anonymous c.address w.inside.shape (kind_of e.kind).form it.0 (signature_anonymous files c.address w.inside.index w.inside.fn there w.inside.position w.inside.shape w.inside.written) w.inside.has)
+            seen_anonymous c.address w.inside.shape (kind_of e.kind).form it.0 (signature_anonymous files c.address w.inside.index w.inside.fn there w.inside.position w.inside.shape w.inside.written) w.inside.has)
       ]
 
-  -- a function of a scope stands under its side and name among those of its owner
+  -- a function of a scope is under its side and name among those of its owner
   stated_at : (t : ℕ) (c : DoneScope) (k : ℕ) (fn : SourceFunction) (f : Function) → slice_get cs t ≡ Some c → slice_get c.functions k ≡ Some fn → slice_get c.made k ≡ Some f → IsFunction ks c.address fn f → Contains (functions_of p c.owner) (function_key fn, f)
   stated_at t c k fn f at fat made is =
       let place = (d.each t c at).stated.has k fn f fat made in
       contains_at (functions_of p c.owner) place.0 (function_key fn, f) (ap (λ (l : List (FunctionKey × Function)). slice_get l place.0) (owners.functions t c at) ∙ place.1 ∙ ap (λ (n : List ℕ). Some ((role_side fn.role, n), f)) is.name)
 
-  -- what a name of a scope is written with stands below it
+  -- what a name of a scope is written with is below it
   reached_from : (j : ℕ) (form : Form) (parts : Exprs) → slice_get ks j ≡ Some (Whole form parts) → IsWholeOf cs form parts → (x : Place) × HasType files p x (Id j)
   reached_from j form parts there w =
-      let c = w.cell in
+      let c = w.resolved_scope in
       let s = c.address in
       let x = w.x in
       let id = named_at files decls written cs p.types d w.place c w.index x w.at w.among in
@@ -133,14 +133,14 @@ module _ (files : List PackageFile) (decls : Decls) (written : List Meeting) (cs
           root = OfName c.owner x id.0 (owners.called w.place c w.at) (contains_at (scope files s) q.0 x q.1) (contains_at (names_of p c.owner) w.index (local_name x, id.0) (ap (λ (l : Names). slice_get l w.index) (owners.names w.place c w.at) ∙ id.1)) refl refl;
           path = one.number ∷ one.leads.path;
           below = (one.x, ap (λ (l : List Place). slice_get l one.number) found ∙ one.source, one.leads.below);
-          is = (one.t, ap (λ (l : List Ty). slice_get l one.number) (type_parts p id.0 top.0 top.1) ∙ one.stands, one.leads.is);
+          is = (one.t, ap (λ (l : List Ty). slice_get l one.number) (type_parts p id.0 top.0 top.1) ∙ one.present, one.leads.is);
         },
       )
 
   -- and what a function is written with, below a type of it
   reached_by : (j : ℕ) (form : Form) (parts : Exprs) → slice_get ks j ≡ Some (Whole form parts) → IsInSignatureOf cs form parts → (x : Place) × HasType files p x (Id j)
   reached_by j form parts there w =
-      let c = w.cell in
+      let c = w.resolved_scope in
       let i = w.inside in
       let f = function_at files decls written cs p.types d w.place c i.index i.fn w.at i.among in
       let typed = function_typed ks c.address i.fn f.0 f.2 in
@@ -158,57 +158,57 @@ module _ (files : List PackageFile) (decls : Decls) (written : List Meeting) (cs
         },
       )
 
-  reached : (j : ℕ) (e : TypeDef) → slice_get p.types j ≡ Some e → e.name ≡ None → (x : Place) × HasType files p x (Id j)
-  reached j e at none =
+  covered : (j : ℕ) (e : TypeDef) → slice_get p.types j ≡ Some e → e.name ≡ None → (x : Place) × HasType files p x (Id j)
+  covered j e at none =
       let it = whole_at j e at none in
       elim it.2 [
         | inl w ↦ reached_from j (kind_of e.kind).form it.0 it.1 w
         | inr w ↦ reached_by j (kind_of e.kind).form it.0 it.1 w
       ]
 
-  -- a name of a scope stands under its name among those of its owner
+  -- a name of a scope is under its name among those of its owner
   owned : (j : ℕ) (e : TypeDef) (name : List ℕ) (t : ℕ) (c : DoneScope) → slice_get cs t ≡ Some c → slice_get ks j ≡ Some (Def c.address name) → slice_get p.types j ≡ Some e → Contains (names_of p e.owner) (name, j)
   owned j e name t c at here there =
-      let stand = d.stand t c at in
-      let env = stand.has j name here in
-      let same : env.0 ≡ j = d.meeting.keyed.once.differ env.0 j (Def c.address name) (stand.stands name env.0 env.1) here in
+      let are_present = d.are_present t c at in
+      let env = are_present.has j name here in
+      let same : env.0 ≡ j = d.occurrence.keyed.once.differ env.0 j (Def c.address name) (are_present.present name env.0 env.1) here in
       let place = lookup-place c.types name env.0 env.1 in
       let own = owner_at_name files decls written cs p.types d t c j name e at here there in
       contains_at (names_of p e.owner) place.0 (name, j) (ap (λ (l : Names). slice_get l place.0) (ap (names_of p) own ∙ owners.names t c at) ∙ place.1 ∙ ap (λ (x : ℕ). Some (name, x)) same)
 
   named : (j : ℕ) (e : TypeDef) (name : List ℕ) → slice_get p.types j ≡ Some e → e.name ≡ Some name → Contains (names_of p e.owner) (name, j)
   named j e name at some =
-      let k = key_of decls ks p.types d.meeting.keyed j e at in
-      let it = named_key j k.0 e name (d.meeting.keyed.each j k.0 e k.1 at) some in
+      let k = key_of decls ks p.types d.occurrence.keyed j e at in
+      let it = named_key j k.0 e name (d.occurrence.keyed.each j k.0 e k.1 at) some in
       let here : slice_get ks j ≡ Some (Def it.0 name) = k.1 ∙ ap Some it.1 in
       let of = d.before j it.0 name here in
-      owned j e name of.place of.cell of.at (here ∙ ap (λ (s : Address). Some (Def s name)) (sym of.scope)) at
+      owned j e name of.place of.resolved_scope of.at (here ∙ ap (λ (s : Address). Some (Def s name)) (sym of.scope)) at
 
-  -- the scope of a name that was met is known
+  -- the scope of a name that occurred is known
   scopes : (j : ℕ) (s : Address) (name : List ℕ) → slice_get ks j ≡ Some (Def s name) → IsScope files decls p s
   scopes j s name here =
       let it = d.before j s name here in
       subst (λ (z : Address). IsScope files decls p z) it.scope (record {
-        distinct = (d.each it.place it.cell it.at).turn.distinct;
-        whose = it.cell.owner;
-        own = d.own it.place it.cell it.at;
-        called = owners.called it.place it.cell it.at;
+        distinct = (d.each it.place it.resolved_scope it.at).turn.distinct;
+        whose = it.resolved_scope.owner;
+        own = d.own it.place it.resolved_scope it.at;
+        called = owners.called it.place it.resolved_scope it.at;
       })
 
   -- the names of an owner, and its functions, are those of its scope
-  types_of : (o : TypeOwner) (s : Address) → (w : IsOwnerOf cs o s) → names_of p o ≡ w.cell.types
-  types_of o s w = ap (names_of p) (sym w.whose) ∙ owners.names w.place w.cell w.at
+  types_of : (o : TypeOwner) (s : Address) → (w : IsOwnerOf cs o s) → names_of p o ≡ w.resolved_scope.types
+  types_of o s w = ap (names_of p) (sym w.whose) ∙ owners.names w.place w.resolved_scope w.at
 
-  stated_of : (o : TypeOwner) (s : Address) → (w : IsOwnerOf cs o s) → functions_of p o ≡ w.cell.stated
-  stated_of o s w = ap (functions_of p) (sym w.whose) ∙ owners.functions w.place w.cell w.at
+  stated_of : (o : TypeOwner) (s : Address) → (w : IsOwnerOf cs o s) → functions_of p o ≡ w.resolved_scope.stated
+  stated_of o s w = ap (functions_of p) (sym w.whose) ∙ owners.functions w.place w.resolved_scope w.at
 
   -- each name of a scope is one of its owner
-  name_stands : (o : TypeOwner) (s : Address) (x : ScopeName) → owner_of p o ≡ Some s → Contains (scope files s) x → (id : ℕ) × Contains (names_of p o) (local_name x, id)
-  name_stands o s x called among =
+  name_present : (o : TypeOwner) (s : Address) (x : ScopeName) → owner_of p o ≡ Some s → Contains (scope files s) x → (id : ℕ) × Contains (names_of p o) (local_name x, id)
+  name_present o s x called among =
       let w = owners.all o s called in
       let k = at_contains (scope files s) x among in
-      let q = (d.each w.place w.cell w.at).turn.has k.0 x (ap (λ (z : Address). slice_get (scope files z) k.0) w.scope ∙ k.1) in
-      let id = named_at files decls written cs p.types d w.place w.cell q.0 x w.at q.1 in
+      let q = (d.each w.place w.resolved_scope w.at).turn.has k.0 x (ap (λ (z : Address). slice_get (scope files z) k.0) w.scope ∙ k.1) in
+      let id = named_at files decls written cs p.types d w.place w.resolved_scope q.0 x w.at q.1 in
       (id.0, contains_at (names_of p o) q.0 (local_name x, id.0) (ap (λ (l : Names). slice_get l q.0) (types_of o s w) ∙ id.1))
 
   -- the place of a function of a scope
@@ -218,35 +218,35 @@ module _ (files : List PackageFile) (decls : Decls) (written : List Meeting) (cs
       (k.0, ap (λ (l : List SourceFunction). slice_get l k.0) (d.each t c at).functions ∙ ap (λ (z : Address). slice_get (functions_at files z) k.0) same ∙ k.1)
 
   -- so is each function, with a type for each of its own
-  function_stands : (o : TypeOwner) (s : Address) (fn : SourceFunction) → owner_of p o ≡ Some s → Contains (functions_at files s) fn → (f : Function) × Contains (functions_of p o) (function_key fn, f) × (length (function_types f) ≡ length (signature fn))
-  function_stands o s fn called among =
+  function_present : (o : TypeOwner) (s : Address) (fn : SourceFunction) → owner_of p o ≡ Some s → Contains (functions_at files s) fn → (f : Function) × Contains (functions_of p o) (function_key fn, f) × (length (function_types f) ≡ length (signature fn))
+  function_present o s fn called among =
       let w = owners.all o s called in
-      let k = function_place s fn w.place w.cell w.at w.scope among in
-      let f = function_at files decls written cs p.types d w.place w.cell k.0 fn w.at k.1 in
-      let stated = stated_at w.place w.cell k.0 fn f.0 w.at k.1 f.1 f.2 in
-      (f.0, subst (λ (z : TypeOwner). Contains (functions_of p z) (function_key fn, f.0)) w.whose stated, (function_typed ks w.cell.address fn f.0 f.2).count)
+      let k = function_place s fn w.place w.resolved_scope w.at w.scope among in
+      let f = function_at files decls written cs p.types d w.place w.resolved_scope k.0 fn w.at k.1 in
+      let stated = stated_at w.place w.resolved_scope k.0 fn f.0 w.at k.1 f.1 f.2 in
+      (f.0, subst (λ (z : TypeOwner). Contains (functions_of p z) (function_key fn, f.0)) w.whose stated, (function_typed ks w.resolved_scope.address fn f.0 f.2).count)
 
-  -- a name of an owner stands for the place where it was met
+  -- a name of an owner means the place where it occurred
   pub name_at : (o : TypeOwner) (s : Address) (k : ℕ) (name : List ℕ) (id : ℕ) → owner_of p o ≡ Some s → slice_get (names_of p o) k ≡ Some (name, id) → slice_get ks id ≡ Some (Def s name)
   name_at o s k name id called at =
       let w = owners.all o s called in
-      let types : names_of p o ≡ w.cell.types = ap (names_of p) (sym w.whose) ∙ owners.names w.place w.cell w.at in
-      let there = (has_types files decls written cs p.types d w.place w.cell w.at).places k name id (ap (λ (l : Names). slice_get l k) (sym types) ∙ at) in
+      let types : names_of p o ≡ w.resolved_scope.types = ap (names_of p) (sym w.whose) ∙ owners.names w.place w.resolved_scope w.at in
+      let there = (has_types files decls written cs p.types d w.place w.resolved_scope w.at).places k name id (ap (λ (l : Names). slice_get l k) (sym types) ∙ at) in
       subst (λ (z : Address). slice_get ks id ≡ Some (Def z name)) w.scope there
 
   -- two written types are one type exactly where they are one expression
   pub one_type : (x y : Expr) (t u : Ty) → IsAt ks x t → IsAt ks y u → (t ≡ u) ↔ (x ≡ y)
-  one_type x y t u h k = (λ same. at_injective ks x y u (subst (IsAt ks x) same h) k, λ same. at_functional ks (once_of d.meeting.keyed) y t u (subst (λ (z : Expr). IsAt ks z t) same h) k)
+  one_type x y t u h k = (λ same. at_injective ks x y u (subst (IsAt ks x) same h) k, λ same. at_functional ks (once_of d.occurrence.keyed) y t u (subst (λ (z : Expr). IsAt ks z t) same h) k)
 
   -- where no two functions of a scope go by one side and name
   module _ (apart : (t : ℕ) (c : DoneScope) → slice_get cs t ≡ Some c → AllDiffer (map function_key c.functions)) where
     -- the function of an owner that goes by the key of one of its scope is that one
     function_is : (o : TypeOwner) (s : Address) (fn : SourceFunction) (f : Function) → owner_of p o ≡ Some s → Contains (functions_at files s) fn → Contains (functions_of p o) (function_key fn, f) → IsFunction ks s fn f
-    function_is o s fn f called among stands =
+    function_is o s fn f called among present =
         let w = owners.all o s called in
-        let c = w.cell in
+        let c = w.resolved_scope in
         let k = function_place s fn w.place c w.at w.scope among in
-        let there = at_contains (functions_of p o) (function_key fn, f) stands in
+        let there = at_contains (functions_of p o) (function_key fn, f) present in
         let made = (d.each w.place c w.at).stated.from there.0 (function_key fn) f (ap (λ (l : List (FunctionKey × Function)). slice_get l there.0) (sym (stated_of o s w)) ∙ there.1) in
         let index = at_made w.place c w.at made.0 f made.1 in
         let key : function_key index.1 ≡ function_key fn = ap (λ (n : List ℕ). (role_side index.1.role, n)) (sym index.4.name) ∙ made.2 index.1 (ap (slice_get c.functions) (sym index.3) ∙ index.2) in
@@ -257,29 +257,29 @@ module _ (files : List PackageFile) (decls : Decls) (written : List Meeting) (cs
 
     -- the type of a root
     root_at : (s : Address) (x : Shape) (ty : Ty) → IsRoot files p s x ty → IsAt ks (expr_of s x) ty
-    root_at s x ty (OfName o n id called among stands written is) =
-        let k = at_contains (names_of p o) (local_name n, id) stands in
+    root_at s x ty (OfName o n id called among present written is) =
+        let k = at_contains (names_of p o) (local_name n, id) present in
         subst (λ (z : Shape). IsAt ks (expr_of s z) ty) (sym written) (id, is, name_at o s k.0 (local_name n) id called k.1)
-    root_at s x ty (OfFunction o fn f k called among stands written is) = (function_typed ks s fn f (function_is o s fn f called among stands)).each k x ty written is
+    root_at s x ty (OfFunction o fn f k called among present written is) = (function_typed ks s fn f (function_is o s fn f called among present)).each k x ty written is
 
     pub type_at : (x : Place) (ty : Ty) → HasType files p x ty → IsAt ks (expr_of x.0 x.1) ty
     type_at x ty h = below_at files decls written cs p d h.path h.top x h.whole ty (root_at h.top.0 h.top.1 h.whole h.root) h.below h.is
 
-    -- where what is taken was met first, and the package tells where it is used
-    module _ (first : Grown (map taking_key (first_takings files)) ks) (count : length p.unknown_type_spans ≡ length (first_takings files)) where
-      front : (i : ℕ) (e : TypeDef) → slice_get p.types i ≡ Some e → ((kind_of e.kind).form ≡ UnknownForm) ↔ (i < length p.unknown_type_spans)
-      front i e at = subst (λ (n : ℕ). ((kind_of e.kind).form ≡ UnknownForm) ↔ (i < n)) (sym count) (unknown_front files decls written cs p.types d first formed i e at)
+    -- where what is taken occurred first, and the package says where it is used
+    module _ (first : Extended (map foreign_use_key (first_foreign_uses files)) ks) (count : length p.unknown_type_spans ≡ length (first_foreign_uses files)) where
+      prefix : (i : ℕ) (e : TypeDef) → slice_get p.types i ≡ Some e → ((kind_of e.kind).form ≡ UnknownForm) ↔ (i < length p.unknown_type_spans)
+      prefix i e at = subst (λ (n : ℕ). ((kind_of e.kind).form ≡ UnknownForm) ↔ (i < n)) (sym count) (unknown_prefix files decls written cs p.types d first formed i e at)
 
       pub faithful : IsFaithful files p
       faithful = record {
-        backward = λ i e at. all_parts (IsBelow i) (kind_of e.kind).parts (λ part has. backward decls ks p.types d.meeting.keyed i e part (record { is = at }) has);
-        interned = λ i j e f ati atj. interned decls ks p.types d.meeting.keyed i j e f (record { is = ati }) (record { is = atj });
+        backward = λ i e at. all_parts (IsBelow i) (kind_of e.kind).parts (λ part has. backward decls ks p.types d.occurrence.keyed i e part (record { is = at }) has);
+        interned = λ i j e f ati atj. interned decls ks p.types d.occurrence.keyed i j e f (record { is = ati }) (record { is = atj });
         formed = formed;
-        front = front;
+        prefix = prefix;
         named = named;
-        reached = reached;
-        names = name_stands;
-        functions = function_stands;
+        covered = covered;
+        names = name_present;
+        functions = function_present;
         same = λ x y t u h k. one_type (expr_of x.0 x.1) (expr_of y.0 y.1) t u (type_at x t h) (type_at y u k);
-        trees = λ x t n h. same_tree files decls ks p d.meeting.keyed scopes n x.0 x.1 t (type_at x t h);
+        trees = λ x t n h. same_tree files decls ks p d.occurrence.keyed scopes n x.0 x.1 t (type_at x t h);
       }

@@ -1,4 +1,4 @@
--- What is met in a type without a name: forms that an unnamed type can have.
+-- What occurs in a type without a name: forms that an unnamed type can have.
 use Rattle.std.proofs.Common.{◌≡◌, List, [], ◌∷◌, inl, inr, subst}
 use Rattle.wit_type_tree.specs.declared.types.«Type».{«Type» as Written, None', Some', Row_of-Type, end_of-Type, more_of-Type}
 use Rattle.wit_type_tree.specs.declared.types.ResultTypes.{ResultTypes, Neither, Ok', Err', Both'}
@@ -10,12 +10,12 @@ use Rattle.wit_syntax.specs.Form.{Form, UnknownForm}
 use Rattle.wit_syntax.specs.Shape.{Shape, Shapes, shape_of, result_shapes, row_shapes, all_shapes, head, written_body, body_of}
 use Rattle.wit_syntax.specs.Shape as shape
 use Rattle.wit_syntax.specs.Address.{Address}
-use Rattle.wit_syntax.specs.Source.{ScopeName, Used, Defined, Taken}
+use Rattle.wit_syntax.specs.Source.{ScopeName, Used, Defined, ForeignName}
 use Rattle.wit_arena.specs.Expr.{Exprs, expr_of, exprs_of, name_exprs}
-use Rattle.wit_arena.specs.Meet.{Whole}
+use Rattle.wit_arena.specs.Occurrences.{Whole}
 use Rattle.wit_arena.specs.Faithful.{IsAnonymousForm}
-use Rattle.wit_arena.specs.Resolving.{met, all_met}
-use Rattle.wit_arena.proofs.Meeting.{Has, has_either}
+use Rattle.wit_arena.specs.Resolving.{seen, all_seen}
+use Rattle.wit_arena.proofs.Occurrence.{Has, has_either}
 
 -- each form in a type is one that an unnamed type can have
 abbrev mutual
@@ -95,12 +95,12 @@ body_known (Enum span cases) h = let f : ⊥ = cc in f
 body_known (Resource funcs) h = let f : ⊥ = cc in f
 body_known (Plain t) h = written_known t h
 
--- what is met in such types has such a form
+-- what occurs in such types has such a form
 mutual
-  pub met_anonymous : (s : Address) (x : Shape) (form : Form) (parts : Exprs) → AreAnonymous x → Has (met (expr_of s x)) (Whole form parts) → IsAnonymousForm form
-  met_anonymous s (shape.Prim p) form parts a h = absurd h
-  met_anonymous s (shape.Word id) form parts a h = absurd h
-  met_anonymous s (shape.Of span own inner) form parts a h = elim (has_either (all_met (exprs_of s inner)) (Whole own (exprs_of s inner) ∷ []) (Whole form parts) h) [
+  pub seen_anonymous : (s : Address) (x : Shape) (form : Form) (parts : Exprs) → AreAnonymous x → Has (seen (expr_of s x)) (Whole form parts) → IsAnonymousForm form
+  seen_anonymous s (shape.Prim p) form parts a h = absurd h
+  seen_anonymous s (shape.Word id) form parts a h = absurd h
+  seen_anonymous s (shape.Of span own inner) form parts a h = elim (has_either (all_seen (exprs_of s inner)) (Whole own (exprs_of s inner) ∷ []) (Whole form parts) h) [
     | inl within ↦ all_anonymous s inner form parts a.1 within
     | inr last ↦ elim last [
       | inl here ↦ (let same : own ≡ form = cc in subst (λ (f : Form). IsAnonymousForm f) same a.0)
@@ -108,15 +108,15 @@ mutual
     ]
   ]
 
-  all_anonymous : (s : Address) (xs : Shapes) (form : Form) (parts : Exprs) → AllAnonymous xs → Has (all_met (exprs_of s xs)) (Whole form parts) → IsAnonymousForm form
+  all_anonymous : (s : Address) (xs : Shapes) (form : Form) (parts : Exprs) → AllAnonymous xs → Has (all_seen (exprs_of s xs)) (Whole form parts) → IsAnonymousForm form
   all_anonymous s shape.End form parts a h = absurd h
-  all_anonymous s (shape.More x xs) form parts a h = elim (has_either (met (expr_of s x)) (all_met (exprs_of s xs)) (Whole form parts) h) [
-    | inl first ↦ met_anonymous s x form parts a.0 first
+  all_anonymous s (shape.More x xs) form parts a h = elim (has_either (seen (expr_of s x)) (all_seen (exprs_of s xs)) (Whole form parts) h) [
+    | inl first ↦ seen_anonymous s x form parts a.0 first
     | inr rest ↦ all_anonymous s xs form parts a.1 rest
   ]
 
 -- a used name has no unnamed type, and a taken one neither
-pub name_anonymous : (s : Address) (x : ScopeName) (form : Form) (parts : Exprs) → Has (all_met (name_exprs s x)) (Whole form parts) → IsAnonymousForm form
+pub name_anonymous : (s : Address) (x : ScopeName) (form : Form) (parts : Exprs) → Has (all_seen (name_exprs s x)) (Whole form parts) → IsAnonymousForm form
 name_anonymous s (Used from attributes n) form parts h = absurd h
-name_anonymous s (Taken attributes id) form parts h = absurd h
+name_anonymous s (ForeignName attributes id) form parts h = absurd h
 name_anonymous s (Defined d) form parts h = all_anonymous s (body_of d.body).parts form parts (body_anonymous d.body) h

@@ -13,13 +13,13 @@ use Rattle.wit_type_tree.specs.declared.types.ResourceFunc.TheVariants as resour
 use Rattle.wit_functions.specs.declared.function.Function.{Function}
 use Rattle.wit_functions.specs.declared.function.FunctionKind.{FunctionKind}
 use Rattle.wit_syntax.specs.Address.{Address}
-use Rattle.wit_syntax.specs.Source.{Item, Part, Defining, Using, Including, Doing, Crossing, parts}
+use Rattle.wit_syntax.specs.Source.{Item, Part, DefinitionPart, UsePart, IncludePart, FunctionPart, ExternPart, parts}
 use Rattle.wit_syntax.specs.Function.{Role, Freestanding, Method, Static, Constructor, OnSide, SourceFunction, accessor, free_function, resource_function, definition_functions, part_functions, functions, role_names}
 use Rattle.wit_arena.specs.Functions.{IsKind, IsFunction, AreFunctions, freestanding_names}
 use Rattle.wit_tree.specs.declared.tree.WorldSide.{WorldSide}
 use Rattle.wit_syntax.specs.Sides.{role_side, FunctionKey}
 use Rattle.wit_arena.specs.Package.{keyed}
-use Rattle.wit_arena.specs.Meet.{Key}
+use Rattle.wit_arena.specs.Occurrences.{Key}
 use Rattle.wit_syntax.proofs.Lists.{at_within, map_at, flat_map_at, flat_map_has}
 use Rattle.wit_syntax.proofs.Found.{at_contains, contains_at}
 use Rattle.wit_syntax.proofs.Externs.{extern_at}
@@ -43,7 +43,7 @@ pub record AreStated (fns : List SourceFunction) (made : List Function) (stated 
   pub has : (k : ℕ) (fn : SourceFunction) (f : Function) → slice_get fns k ≡ Some fn → slice_get made k ≡ Some f → (place : ℕ) × (slice_get stated place ≡ Some (made_key fn f, f))
   pub from : (place : ℕ) (key : FunctionKey) (f : Function) → slice_get stated place ≡ Some (key, f) → (k : ℕ) × (slice_get made k ≡ Some f) × ((fn : SourceFunction) → slice_get fns k ≡ Some fn → made_key fn f ≡ key)
 
--- a function of no resource has its written name behind the mark of an accessor
+-- a function of no resource has its written name after the mark of an accessor
 abbrev IsCalled : Role → List ℕ → Type 0
 IsCalled (Freestanding id form) name = name ≡ accessor form ++ id.name.now
 IsCalled (Method of form) name = Unit {0}
@@ -97,12 +97,12 @@ definition_called r (body.Enum span cases) k fn at = absurd (let f : ⊥ = cc in
 definition_called r (body.Plain t) k fn at = absurd (let f : ⊥ = cc in f)
 
 part_called : (p : Part) (k : ℕ) (fn : SourceFunction) → slice_get (part_functions p) k ≡ Some fn → IsCalled fn.role fn.name
-part_called (Defining d) k fn at = definition_called d.name d.body k fn at
-part_called (Using u) k fn at = absurd (let f : ⊥ = cc in f)
-part_called (Including i) k fn at = absurd (let f : ⊥ = cc in f)
-part_called (Crossing x) k fn at = (let it = extern_at x x.kind k fn at in subst (λ (g : SourceFunction). IsCalled g.role g.name) it.2 refl)
-part_called (Doing g) zero fn at = let same : free_function g ≡ fn = cc in subst (λ (x : SourceFunction). IsCalled x.role x.name) same refl
-part_called (Doing g) (suc k) fn at = absurd (let f : ⊥ = cc in f)
+part_called (DefinitionPart d) k fn at = definition_called d.name d.body k fn at
+part_called (UsePart u) k fn at = absurd (let f : ⊥ = cc in f)
+part_called (IncludePart i) k fn at = absurd (let f : ⊥ = cc in f)
+part_called (ExternPart x) k fn at = (let it = extern_at x x.kind k fn at in subst (λ (g : SourceFunction). IsCalled g.role g.name) it.2 refl)
+part_called (FunctionPart g) zero fn at = let same : free_function g ≡ fn = cc in subst (λ (x : SourceFunction). IsCalled x.role x.name) same refl
+part_called (FunctionPart g) (suc k) fn at = absurd (let f : ⊥ = cc in f)
 
 function_called : (i : Item) (k : ℕ) (fn : SourceFunction) → slice_get (functions i) k ≡ Some fn → IsCalled fn.role fn.name
 function_called i k fn at =
@@ -129,12 +129,12 @@ module _ (ks : List Key) (s : Address) (i : Item) (made : List Function) (stated
       contains_at (free_of stated) it.0 name it.1
 
   written_at : (k j : ℕ) (f : Function) (name : List ℕ) → slice_get made k ≡ Some f → slice_get (freestanding_names f.kind f.name) j ≡ Some name → Contains (free_names i) name
-  written_at k j f name at told =
+  written_at k j f name at as_stated =
       let lt = slice_get_within made k f at in
       let count = are.count in
       let fn = at_within (functions i) k (omega arith) in
       let same : role_names fn.0.role ≡ freestanding_names f.kind f.name = names_again ks s i k fn.0 f fn.1 (are.each k fn.0 f fn.1 at) in
-      let it = flat_map_has (λ (fn : SourceFunction). role_names fn.role) (functions i) k j fn.0 name fn.1 (ap (λ (l : List (List ℕ)). slice_get l j) same ∙ told) in
+      let it = flat_map_has (λ (fn : SourceFunction). role_names fn.role) (functions i) k j fn.0 name fn.1 (ap (λ (l : List (List ℕ)). slice_get l j) same ∙ as_stated) in
       contains_at (free_names i) it.0 name it.1
 
   -- the written names of an item's functions are those that its owner states

@@ -23,7 +23,7 @@ use Rattle.wit_syntax.proofs.Kept.{differ_head, differ_tail}
 use Rattle.wit_syntax.proofs.Legal.{function_name}
 use Rattle.wit_syntax.proofs.Sides.{called_functions}
 
--- where the keys on a side of a scope differ on which only functions stand behind names, so do the names of these
+-- where the keys on a side of a scope differ on which only functions come after names, so do the names of these
 pub names_differ : (side : WorldSide) (xs : List ScopeName) (fns : List SourceFunction) (order : List ℕ) → AllDiffer (map called_key (side_called side xs (items_on side (map SideFunction fns)) order)) → AllDiffer (map function_name (on_side side fns))
 names_differ side xs fns order keys = differ_by function_name (on_side side fns) (λ i j x y at_x at_y same. (
     let names = map name_called (names_on side (in_turn xs order)) in
@@ -46,9 +46,9 @@ all_apart f (g ∷ fs) fresh = elim (name_cases f.name g.name) [
   | inr other ↦ (other, all_apart f fs (λ i h at. fresh (suc i) h at))
 ]
 
-told : (fs : List Function) → flat_map (λ (e : List ℕ × Function). name_in (Some e.1)) (map by_name fs) ≡ map made_name fs
-told [] = refl
-told (f ∷ fs) = ap (λ (l : List (List ℕ)). f.name ∷ l) (told fs)
+as_stated : (fs : List Function) → flat_map (λ (e : List ℕ × Function). name_in (Some e.1)) (map by_name fs) ≡ map made_name fs
+as_stated [] = refl
+as_stated (f ∷ fs) = ap (λ (l : List (List ℕ)). f.name ∷ l) (as_stated fs)
 
 distinct : (fs : List Function) → AllDiffer (map made_name fs) → IsDistinct (pointwise nat_eq) (map made_name fs)
 unfolding IsDistinct
@@ -57,4 +57,4 @@ distinct (f ∷ fs) d = (all_apart f fs (differ_head made_name f fs d), distinct
 
 -- functions whose names differ have distinct names, as setters to be placed want them
 pub names_distinct : (fs : List Function) → AllDiffer (map made_name fs) → HaveDistinctNames Some (map by_name fs)
-names_distinct fs d = subst (IsDistinct (pointwise nat_eq)) (sym (told fs)) (distinct fs d)
+names_distinct fs d = subst (IsDistinct (pointwise nat_eq)) (sym (as_stated fs)) (distinct fs d)

@@ -8,9 +8,9 @@ use Rattle.indexmap.specs.IndexMap.{insert_entry}
 use Rattle.wit_model.specs.declared.interface.Interface.{Interface}
 use Rattle.wit_model.specs.declared.world.World.{World}
 use Rattle.wit_syntax.specs.Address.{Address, InterfaceNamed, WorldNamed, is_foreign}
-use Rattle.wit_arena.specs.Resolving.{Names, Cell, cell_at, cell, cells, env_of, IsIndex, IsWorldIndex}
+use Rattle.wit_arena.specs.Resolving.{Names, ResolvedScope, resolved_scope_at, resolved_scope, resolved_scopes, env_of, IsIndex, IsWorldIndex}
 use Rattle.wit_arena.specs.Resolved.{interfaces_at, worlds_at}
-use Rattle.wit_syntax.proofs.Lists.{at_front, at_seam, at_either, map_map}
+use Rattle.wit_syntax.proofs.Lists.{at_prefix, at_seam, at_either, map_map}
 use Rattle.wit_syntax.proofs.Names.{name_cases, name_itself, lookup-insert_entry}
 
 -- what a name finds once another one was put into the table, and what that one finds
@@ -20,24 +20,24 @@ found_other by_name name place n other = lookup-insert_entry by_name name n plac
 found_itself : (by_name : Names) (name : List ℕ) (place : ℕ) (n : List ℕ) → n ≡ name → env_of (insert_entry (pointwise nat_eq) by_name name place) n ≡ Some place
 found_itself by_name name place n same = lookup-insert_entry by_name name n place ∙ ap (λ b. cond b (Some place) (env_of by_name n)) (ap (λ m. pointwise nat_eq m name) same ∙ name_itself name)
 
--- one scope more, behind the others
-pub index_more : (cs : List Cell) (by_name : Names) (c : Cell) (name : List ℕ) → IsIndex cs by_name → c.address ≡ InterfaceNamed name → IsIndex (cs ++ c ∷ []) (insert_entry (pointwise nat_eq) by_name name (length cs))
+-- one scope more, after the others
+pub index_more : (cs : List ResolvedScope) (by_name : Names) (c : ResolvedScope) (name : List ℕ) → IsIndex cs by_name → c.address ≡ InterfaceNamed name → IsIndex (cs ++ c ∷ []) (insert_entry (pointwise nat_eq) by_name name (length cs))
 index_more cs by_name c name index called = record {
-  stands = λ n t found. elim (name_cases n name) [
+  present = λ n t found. elim (name_cases n name) [
     | inl same ↦ (
         let here : Some t ≡ Some (length cs) = sym found ∙ found_itself by_name name (length cs) n same in
         let at : t ≡ length cs = cc in
         (c, ap (slice_get (cs ++ c ∷ [])) at ∙ at_seam cs c, called ∙ ap InterfaceNamed (sym same)))
     | inr other ↦ (
-        let old = index.stands n t (sym (found_other by_name name (length cs) n other) ∙ found) in
-        (old.0, at_front cs (c ∷ []) t old.0 old.1, old.2))
+        let old = index.present n t (sym (found_other by_name name (length cs) n other) ∙ found) in
+        (old.0, at_prefix cs (c ∷ []) t old.0 old.1, old.2))
   ];
   has = λ t d n at called_n. elim (name_cases n name) [
     | inl same ↦ subst IsSome (sym (found_itself by_name name (length cs) n same)) refl
     | inr other ↦ elim (at_either cs c t d at) [
       | inl old ↦ subst IsSome (sym (found_other by_name name (length cs) n other)) (index.has t d n old called_n)
       | inr new ↦ absurd (
-          let both : InterfaceNamed n ≡ InterfaceNamed name = sym called_n ∙ ap (λ (x : Cell). x.address) new.1 ∙ called in
+          let both : InterfaceNamed n ≡ InterfaceNamed name = sym called_n ∙ ap (λ (x : ResolvedScope). x.address) new.1 ∙ called in
           let same : n ≡ name = cc in
           let hit : pointwise nat_eq n name ≡ true = ap (λ m. pointwise nat_eq m name) same ∙ name_itself name in
           let f : ⊥ = cc in
@@ -47,64 +47,64 @@ index_more cs by_name c name index called = record {
 }
 
 -- an interface is addressed by its name
-pub cell_address : (i : Interface) (name : List ℕ) → i.name ≡ Some name → (cell i).address ≡ InterfaceNamed name
-cell_address i name called = ap (λ n. InterfaceNamed (unwrap_or n [])) called
+pub resolved_scope_address : (i : Interface) (name : List ℕ) → i.name ≡ Some name → (resolved_scope i).address ≡ InterfaceNamed name
+resolved_scope_address i name called = ap (λ n. InterfaceNamed (unwrap_or n [])) called
 
--- interfaces behind those of other packages
-pub cells-append : (ss : List Address) (front is : List Interface) → length front ≡ length ss → cells ss (front ++ is) ≡ cells ss front ++ map cell is
-cells-append [] [] is count = refl
-cells-append [] (i ∷ front) is count = absurd (let f : ⊥ = omega arith in f)
-cells-append (s ∷ ss) [] is count = absurd (let f : ⊥ = omega arith in f)
-cells-append (s ∷ ss) (i ∷ front) is count = ap (λ l. cell_at s i ∷ l) (cells-append ss front is (omega arith))
+-- interfaces after those of other packages
+pub resolved_scopes-append : (ss : List Address) (prefix is : List Interface) → length prefix ≡ length ss → resolved_scopes ss (prefix ++ is) ≡ resolved_scopes ss prefix ++ map resolved_scope is
+resolved_scopes-append [] [] is count = refl
+resolved_scopes-append [] (i ∷ prefix) is count = absurd (let f : ⊥ = omega arith in f)
+resolved_scopes-append (s ∷ ss) [] is count = absurd (let f : ⊥ = omega arith in f)
+resolved_scopes-append (s ∷ ss) (i ∷ prefix) is count = ap (λ l. resolved_scope_at s i ∷ l) (resolved_scopes-append ss prefix is (omega arith))
 
-cells-more : (ss : List Address) (is : List Interface) (i : Interface) → length ss ≤ length is → cells ss (is ++ i ∷ []) ≡ cells ss is ++ cell i ∷ []
-cells-more [] is i enough = map-append cell is (i ∷ [])
-cells-more (s ∷ ss) [] i enough = absurd (let f : ⊥ = omega arith in f)
-cells-more (s ∷ ss) (j ∷ is) i enough = ap (λ l. cell_at s j ∷ l) (cells-more ss is i (omega arith))
+resolved_scopes-more : (ss : List Address) (is : List Interface) (i : Interface) → length ss ≤ length is → resolved_scopes ss (is ++ i ∷ []) ≡ resolved_scopes ss is ++ resolved_scope i ∷ []
+resolved_scopes-more [] is i enough = map-append resolved_scope is (i ∷ [])
+resolved_scopes-more (s ∷ ss) [] i enough = absurd (let f : ⊥ = omega arith in f)
+resolved_scopes-more (s ∷ ss) (j ∷ is) i enough = ap (λ l. resolved_scope_at s j ∷ l) (resolved_scopes-more ss is i (omega arith))
 
-length-cells : (ss : List Address) (is : List Interface) → length ss ≤ length is → length (cells ss is) ≡ length is
-length-cells [] is enough = length-map is cell
-length-cells (s ∷ ss) [] enough = absurd (let f : ⊥ = omega arith in f)
-length-cells (s ∷ ss) (i ∷ is) enough = ap suc (length-cells ss is (omega arith))
+length-resolved_scopes : (ss : List Address) (is : List Interface) → length ss ≤ length is → length (resolved_scopes ss is) ≡ length is
+length-resolved_scopes [] is enough = length-map is resolved_scope
+length-resolved_scopes (s ∷ ss) [] enough = absurd (let f : ⊥ = omega arith in f)
+length-resolved_scopes (s ∷ ss) (i ∷ is) enough = ap suc (length-resolved_scopes ss is (omega arith))
 
 -- the addresses of interfaces: those of other packages, and then by their names
-pub interfaces_at-append : (ss : List Address) (front is : List Interface) → length front ≡ length ss → interfaces_at ss (front ++ is) ≡ ss ++ map (λ (i : Interface). (cell i).address) is
-interfaces_at-append [] [] is count = map_map (λ (c : Cell). c.address) cell is
-interfaces_at-append [] (i ∷ front) is count = absurd (let f : ⊥ = omega arith in f)
+pub interfaces_at-append : (ss : List Address) (prefix is : List Interface) → length prefix ≡ length ss → interfaces_at ss (prefix ++ is) ≡ ss ++ map (λ (i : Interface). (resolved_scope i).address) is
+interfaces_at-append [] [] is count = map_map (λ (c : ResolvedScope). c.address) resolved_scope is
+interfaces_at-append [] (i ∷ prefix) is count = absurd (let f : ⊥ = omega arith in f)
 interfaces_at-append (s ∷ ss) [] is count = absurd (let f : ⊥ = omega arith in f)
-interfaces_at-append (s ∷ ss) (i ∷ front) is count = ap (λ l. s ∷ l) (interfaces_at-append ss front is (omega arith))
+interfaces_at-append (s ∷ ss) (i ∷ prefix) is count = ap (λ l. s ∷ l) (interfaces_at-append ss prefix is (omega arith))
 
--- the interface of a cell in front, and its address
-pub front_cell : (ss : List Address) (front : List Interface) (t : ℕ) (c : Cell) → length front ≡ length ss → slice_get (cells ss front) t ≡ Some c → (s : Address) × (i : Interface) × (slice_get ss t ≡ Some s) × (slice_get front t ≡ Some i) × (c ≡ cell_at s i)
-front_cell [] [] t c count at = absurd (let f : ⊥ = cc in f)
-front_cell [] (i ∷ front) t c count at = absurd (let f : ⊥ = omega arith in f)
-front_cell (s ∷ ss) [] t c count at = absurd (let f : ⊥ = omega arith in f)
-front_cell (s ∷ ss) (i ∷ front) zero c count at = (s, i, refl, refl, (let same : c ≡ cell_at s i = cc in same))
-front_cell (s ∷ ss) (i ∷ front) (suc t) c count at = front_cell ss front t c (omega arith) at
+-- the interface of a resolved scope in front, and its address
+pub prefix_resolved_scope : (ss : List Address) (prefix : List Interface) (t : ℕ) (c : ResolvedScope) → length prefix ≡ length ss → slice_get (resolved_scopes ss prefix) t ≡ Some c → (s : Address) × (i : Interface) × (slice_get ss t ≡ Some s) × (slice_get prefix t ≡ Some i) × (c ≡ resolved_scope_at s i)
+prefix_resolved_scope [] [] t c count at = absurd (let f : ⊥ = cc in f)
+prefix_resolved_scope [] (i ∷ prefix) t c count at = absurd (let f : ⊥ = omega arith in f)
+prefix_resolved_scope (s ∷ ss) [] t c count at = absurd (let f : ⊥ = omega arith in f)
+prefix_resolved_scope (s ∷ ss) (i ∷ prefix) zero c count at = (s, i, refl, refl, (let same : c ≡ resolved_scope_at s i = cc in same))
+prefix_resolved_scope (s ∷ ss) (i ∷ prefix) (suc t) c count at = prefix_resolved_scope ss prefix t c (omega arith) at
 
 -- the interfaces of other packages have no place by name
-pub index_front : (ss : List Address) (front : List Interface) → length front ≡ length ss → ((t : ℕ) (s : Address) → slice_get ss t ≡ Some s → is_foreign s ≡ true) → IsIndex (cells ss front) []
-index_front ss front count foreign = record {
-  stands = λ n t found. absurd (let f : ⊥ = cc in f);
+pub index_prefix : (ss : List Address) (prefix : List Interface) → length prefix ≡ length ss → ((t : ℕ) (s : Address) → slice_get ss t ≡ Some s → is_foreign s ≡ true) → IsIndex (resolved_scopes ss prefix) []
+index_prefix ss prefix count foreign = record {
+  present = λ n t found. absurd (let f : ⊥ = cc in f);
   has = λ t c n at called. (
-      let it = front_cell ss front t c count at in
-      let here : it.0 ≡ InterfaceNamed n = ap (λ (x : Cell). x.address) (sym it.4) ∙ called in
+      let it = prefix_resolved_scope ss prefix t c count at in
+      let here : it.0 ≡ InterfaceNamed n = ap (λ (x : ResolvedScope). x.address) (sym it.4) ∙ called in
       let wrong : true ≡ false = sym (foreign t it.0 it.2) ∙ ap is_foreign here in
       absurd (let f : ⊥ = cc in f));
 }
 
--- one interface more, behind those of other packages
-pub index_interface : (ss : List Address) (is : List Interface) (by_name : Names) (i : Interface) (name : List ℕ) → length ss ≤ length is → IsIndex (cells ss is) by_name → i.name ≡ Some name → IsIndex (cells ss (is ++ i ∷ [])) (insert_entry (pointwise nat_eq) by_name name (length is))
+-- one interface more, after those of other packages
+pub index_interface : (ss : List Address) (is : List Interface) (by_name : Names) (i : Interface) (name : List ℕ) → length ss ≤ length is → IsIndex (resolved_scopes ss is) by_name → i.name ≡ Some name → IsIndex (resolved_scopes ss (is ++ i ∷ [])) (insert_entry (pointwise nat_eq) by_name name (length is))
 index_interface ss is by_name i name enough index called =
-    let more = index_more (cells ss is) by_name (cell i) name index (cell_address i name called) in
-    subst (λ (n : ℕ). IsIndex (cells ss (is ++ i ∷ [])) (insert_entry (pointwise nat_eq) by_name name n)) (length-cells ss is enough) (subst (λ (cs : List Cell). IsIndex cs (insert_entry (pointwise nat_eq) by_name name (length (cells ss is)))) (sym (cells-more ss is i enough)) more)
+    let more = index_more (resolved_scopes ss is) by_name (resolved_scope i) name index (resolved_scope_address i name called) in
+    subst (λ (n : ℕ). IsIndex (resolved_scopes ss (is ++ i ∷ [])) (insert_entry (pointwise nat_eq) by_name name n)) (length-resolved_scopes ss is enough) (subst (λ (cs : List ResolvedScope). IsIndex cs (insert_entry (pointwise nat_eq) by_name name (length (resolved_scopes ss is)))) (sym (resolved_scopes-more ss is i enough)) more)
 
--- worlds behind those of other packages
-pub worlds_at-append : (ss : List Address) (front ws : List World) → length front ≡ length ss → worlds_at ss (front ++ ws) ≡ ss ++ map (λ (w : World). WorldNamed w.name) ws
+-- worlds after those of other packages
+pub worlds_at-append : (ss : List Address) (prefix ws : List World) → length prefix ≡ length ss → worlds_at ss (prefix ++ ws) ≡ ss ++ map (λ (w : World). WorldNamed w.name) ws
 worlds_at-append [] [] ws count = refl
-worlds_at-append [] (w ∷ front) ws count = absurd (let f : ⊥ = omega arith in f)
+worlds_at-append [] (w ∷ prefix) ws count = absurd (let f : ⊥ = omega arith in f)
 worlds_at-append (s ∷ ss) [] ws count = absurd (let f : ⊥ = omega arith in f)
-worlds_at-append (s ∷ ss) (w ∷ front) ws count = ap (λ l. s ∷ l) (worlds_at-append ss front ws (omega arith))
+worlds_at-append (s ∷ ss) (w ∷ prefix) ws count = ap (λ l. s ∷ l) (worlds_at-append ss prefix ws (omega arith))
 
 worlds_at-more : (ss : List Address) (ws : List World) (w : World) → length ss ≤ length ws → worlds_at ss (ws ++ w ∷ []) ≡ worlds_at ss ws ++ WorldNamed w.name ∷ []
 worlds_at-more [] ws w enough = map-append (λ (x : World). WorldNamed x.name) ws (w ∷ [])
@@ -117,21 +117,21 @@ length-worlds_at (s ∷ ss) [] enough = absurd (let f : ⊥ = omega arith in f)
 length-worlds_at (s ∷ ss) (w ∷ ws) enough = ap suc (length-worlds_at ss ws (omega arith))
 
 -- the worlds of other packages have no place by name
-pub world_index_front : (ss : List Address) → ((t : ℕ) (s : Address) → slice_get ss t ≡ Some s → is_foreign s ≡ true) → IsWorldIndex ss []
-world_index_front ss foreign = record {
-  stands = λ n t found. absurd (let f : ⊥ = cc in f);
+pub world_index_prefix : (ss : List Address) → ((t : ℕ) (s : Address) → slice_get ss t ≡ Some s → is_foreign s ≡ true) → IsWorldIndex ss []
+world_index_prefix ss foreign = record {
+  present = λ n t found. absurd (let f : ⊥ = cc in f);
   has = λ t n at. (let wrong : true ≡ false = sym (foreign t (WorldNamed n) at) in absurd (let f : ⊥ = cc in f));
 }
 
 -- one address more
 pub world_index_more : (ss : List Address) (by_name : Names) (name : List ℕ) → IsWorldIndex ss by_name → IsWorldIndex (ss ++ WorldNamed name ∷ []) (insert_entry (pointwise nat_eq) by_name name (length ss))
 world_index_more ss by_name name index = record {
-  stands = λ n t found. elim (name_cases n name) [
+  present = λ n t found. elim (name_cases n name) [
     | inl same ↦ (
         let here : Some t ≡ Some (length ss) = sym found ∙ found_itself by_name name (length ss) n same in
         let at : t ≡ length ss = cc in
         ap (slice_get (ss ++ WorldNamed name ∷ [])) at ∙ at_seam ss (WorldNamed name) ∙ ap (λ m. Some (WorldNamed m)) (sym same))
-    | inr other ↦ at_front ss (WorldNamed name ∷ []) t (WorldNamed n) (index.stands n t (sym (found_other by_name name (length ss) n other) ∙ found))
+    | inr other ↦ at_prefix ss (WorldNamed name ∷ []) t (WorldNamed n) (index.present n t (sym (found_other by_name name (length ss) n other) ∙ found))
   ];
   has = λ t n at. elim (name_cases n name) [
     | inl same ↦ subst IsSome (sym (found_itself by_name name (length ss) n same)) refl
@@ -147,7 +147,7 @@ world_index_more ss by_name name index = record {
   ];
 }
 
--- one world more, behind those of other packages
+-- one world more, after those of other packages
 pub index_world : (ss : List Address) (ws : List World) (by_name : Names) (w : World) (name : List ℕ) → length ss ≤ length ws → IsWorldIndex (worlds_at ss ws) by_name → w.name ≡ name → IsWorldIndex (worlds_at ss (ws ++ w ∷ [])) (insert_entry (pointwise nat_eq) by_name name (length ws))
 index_world ss ws by_name w name enough index called =
     let more = world_index_more (worlds_at ss ws) by_name name index in

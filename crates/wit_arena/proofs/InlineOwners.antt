@@ -1,4 +1,4 @@
--- Where the interfaces that are written in worlds stand among what these have on their sides.
+-- Where the interfaces that are written in worlds are among what these have on their sides.
 use Rattle.std.proofs.Common.{◌≡◌, ℕ, zero, suc, true, false, List, [], ◌∷◌, ◌++◌, ◌+◌, length, map, Option, Some, None, ◌⊎◌, inl, inr, refl, sym, ap, ◌∙◌, arith, length-append}
 use Rattle.std.specs.Prelude.{slice_get}
 use Rattle.std.specs.List.{filter}
@@ -14,13 +14,13 @@ use Rattle.wit_model.specs.declared.world.World.{World}
 use Rattle.wit_model.specs.declared.world.WorldKey.{WorldKey}
 use Rattle.wit_model.specs.declared.world.WorldItem.{WorldItem}
 use Rattle.wit_syntax.specs.Address.{Address, InlineAt, InterfaceNamed}
-use Rattle.wit_syntax.specs.Crossing.{same_side}
+use Rattle.wit_syntax.specs.ExternPart.{same_side}
 use Rattle.wit_syntax.specs.Function.{SourceFunction}
-use Rattle.wit_syntax.specs.Sides.{role_side, Link, SideItem, SideFunction, SideLink, SideInline, is_interface, item_side, side_items, inline_behind, inline_items}
+use Rattle.wit_syntax.specs.Sides.{role_side, Link, SideItem, SideFunction, SideLink, SideInline, is_interface, item_side, side_items, inline_after, inline_items}
 use Rattle.wit_syntax.specs.Source.{Target, Local, Foreign, leads, path_scope, Item, item_name, address, ScopeName, target_scope}
 use Rattle.wit_syntax.proofs.Addresses.{same_side-equal, side_itself}
 use Rattle.wit_syntax.proofs.Inline.{is_inside, interfaces_on-append, interfaces_on}
-use Rattle.wit_syntax.proofs.Lists.{at_front, at_back}
+use Rattle.wit_syntax.proofs.Lists.{at_prefix, at_back}
 use Rattle.wit_syntax.proofs.Turns.{at_part}
 use Rattle.wit_arena.specs.Functions.{function_item}
 use Rattle.wit_arena.specs.Package.{is_interface_item, interface_items, interface_at, interfaces_from, world_interfaces}
@@ -38,7 +38,7 @@ no_interfaces [] types = refl
 no_interfaces (x ∷ xs) [] = refl
 no_interfaces (x ∷ xs) (t ∷ types) = no_interfaces xs types
 
--- of what is put on a side an interface stands among those there, and nothing else does
+-- of what is put on a side an interface is among those there, and nothing else does
 put_interface : (side own : WorldSide) (x : Entry) (rest : List Entry) → is_interface_item x ≡ true → interface_items (put_on side own x rest) ≡ put_on side own x (interface_items rest)
 put_interface side own x rest is = elim (cases_Bool (same_side side own)) [
   | inl hit ↦ ap interface_items (cond-true (same_side side own) (x ∷ rest) rest hit) ∙ cond-true (is_interface_item x) (x ∷ interface_items rest) (interface_items rest) is ∙ sym (cond-true (same_side side own) (x ∷ interface_items rest) (interface_items rest) hit)
@@ -51,7 +51,7 @@ put_other side own x rest is = elim (cases_Bool (same_side side own)) [
   | inr miss ↦ ap interface_items (cond-false (same_side side own) (x ∷ rest) rest miss)
 ]
 
--- how many interfaces stand on a side
+-- how many interfaces are on a side
 abbrev on : WorldSide → List SideItem → ℕ
 on side xs = length (interfaces_on side xs)
 
@@ -89,7 +89,7 @@ module _ (world : List ℕ) (side : WorldSide) (before : List SideItem) (x : Sid
       let next : on side before ≡ on side (before ++ x ∷ []) = omega arith in
       ap (interfaces_from world side (on side before)) (cond-false (same_side side (item_side x)) (z ∷ rest) rest miss) ∙ ap (λ (n : ℕ). interfaces_from world side n rest) next
 
-  -- what holds of an entry, and of those behind it, holds of all
+  -- what holds of an entry, and of those after it, holds of all
   put_each : (P : ℕ × Address → Type 0) → (same_side side (item_side x) ≡ true → (j : ℕ) (e : ℕ × Address) → slice_get (interface_at world side (on side before) z) j ≡ Some e → P e) → ((j : ℕ) (e : ℕ × Address) → slice_get later j ≡ Some e → P e) → (j : ℕ) (e : ℕ × Address) → slice_get all j ≡ Some e → P e
   put_each P own far j e at = elim (cases_Bool (same_side side (item_side x))) [
     | inl hit ↦ elim (at_part (interface_at world side (on side before) z) later j e (ap (λ l. slice_get l j) (sym (put_here hit)) ∙ at)) [
@@ -106,14 +106,14 @@ module _ (world : List ℕ) (side : WorldSide) (before : List SideItem) (x : Sid
   ]
 
   put_first : (j : ℕ) (e : ℕ × Address) → same_side side (item_side x) ≡ true → slice_get (interface_at world side (on side before) z) j ≡ Some e → (k : ℕ) × (slice_get all k ≡ Some e)
-  put_first j e hit at = (j, ap (λ l. slice_get l j) (put_here hit) ∙ at_front (interface_at world side (on side before) z) later j e at)
+  put_first j e hit at = (j, ap (λ l. slice_get l j) (put_here hit) ∙ at_prefix (interface_at world side (on side before) z) later j e at)
 
 -- no path leads to an interface that is written in a world
 used_outside : (t : Target) → is_inside (target_scope InterfaceNamed t) ≡ false
 used_outside (Local id) = refl
 used_outside (Foreign p id) = refl
 
--- the entry of an interface stands for it at the address that it has there, or for one that is written in no world
+-- the entry of an interface means it at the address that it has there, or for one that is written in no world
 abbrev pub IsInlineEntry : List Address → ℕ × Address → Type 0
 IsInlineEntry interfaces e = (slice_get interfaces e.0 ≡ Some e.1) ⊎ ((s : Address) × (slice_get interfaces e.0 ≡ Some s) × (is_inside s ≡ false))
 
@@ -128,7 +128,7 @@ module _ (interfaces : List Address) (w : Item) (side : WorldSide) where
       entry_one zero e own = inr (path_scope w.top link.path, (let same : e.0 ≡ place = (let both : Some (place, InlineAt (item_name w) side n) ≡ Some e = own in ap (λ (x : ℕ × Address). x.0) (let one : e ≡ (place, InlineAt (item_name w) side n) = cc in one)) in ap (slice_get interfaces) same ∙ at), used_outside (leads w.top link.path))
       entry_one (suc j) e own = absurd (let f : ⊥ = cc in f)
 
-  -- those of a function more are those behind it
+  -- those of a function more are those after it
   function_past : (before : List SideItem) (fn : SourceFunction) (f : Function) (xs rest : List Entry) → xs ≡ put_on side (role_side fn.role) (function_item f) rest → interfaces_from (item_name w) side (on side before) (interface_items xs) ≡ interfaces_from (item_name w) side (on side (before ++ SideFunction fn ∷ [])) (interface_items rest)
   function_past before fn f xs rest are =
       ap (λ (l : List Entry). interfaces_from (item_name w) side (on side before) l) (ap interface_items are ∙ put_other side (role_side fn.role) (function_item f) rest refl)
@@ -139,7 +139,7 @@ module _ (interfaces : List Address) (w : Item) (side : WorldSide) where
   interface_first before own z xs rest is are = ap (λ (l : List Entry). interfaces_from (item_name w) side (on side before) l) (ap interface_items are ∙ put_interface side own z rest is)
 
   -- each is such
-  pub entries_each : (before written : List SideItem) (fs : List Function) (xs : List Entry) → AreSideItems interfaces w.top side written fs (map address (inline_behind w before written)) xs → (j : ℕ) (e : ℕ × Address) → slice_get (interfaces_from (item_name w) side (on side before) (interface_items xs)) j ≡ Some e → IsInlineEntry interfaces e
+  pub entries_each : (before written : List SideItem) (fs : List Function) (xs : List Entry) → AreSideItems interfaces w.top side written fs (map address (inline_after w before written)) xs → (j : ℕ) (e : ℕ × Address) → slice_get (interfaces_from (item_name w) side (on side before) (interface_items xs)) j ≡ Some e → IsInlineEntry interfaces e
   entries_each before [] fs xs are j e at = absurd (let none : slice_get (interfaces_from (item_name w) side (on side before) (interface_items xs)) j ≡ None = rw are refl in let f : ⊥ = cc in f)
   entries_each before (SideFunction fn ∷ written) [] xs are j e at = absurd are
   entries_each before (SideFunction fn ∷ written) (f ∷ fs) xs are j e at = entries_each (before ++ SideFunction fn ∷ []) written fs are.0 are.2 j e (ap (λ l. slice_get l j) (sym (function_past before fn f xs are.0 are.1)) ∙ at)
@@ -155,7 +155,7 @@ module _ (interfaces : List Address) (w : Item) (side : WorldSide) where
       inline_own place own n hit is there (suc k) y at_y = absurd (let f : ⊥ = cc in f)
 
   -- and each that is written on the side has one
-  pub entries_has : (before written : List SideItem) (fs : List Function) (xs : List Entry) → AreSideItems interfaces w.top side written fs (map address (inline_behind w before written)) xs → (k : ℕ) (i : Item) (n : ℕ) → slice_get (inline_behind w before written) k ≡ Some i → address i ≡ InlineAt (item_name w) side n → (j : ℕ) × (place : ℕ) × (slice_get (interfaces_from (item_name w) side (on side before) (interface_items xs)) j ≡ Some (place, address i)) × (slice_get interfaces place ≡ Some (address i))
+  pub entries_has : (before written : List SideItem) (fs : List Function) (xs : List Entry) → AreSideItems interfaces w.top side written fs (map address (inline_after w before written)) xs → (k : ℕ) (i : Item) (n : ℕ) → slice_get (inline_after w before written) k ≡ Some i → address i ≡ InlineAt (item_name w) side n → (j : ℕ) × (place : ℕ) × (slice_get (interfaces_from (item_name w) side (on side before) (interface_items xs)) j ≡ Some (place, address i)) × (slice_get interfaces place ≡ Some (address i))
   entries_has before [] fs xs are k i n at is = absurd (let f : ⊥ = cc in f)
   entries_has before (SideFunction fn ∷ written) [] xs are k i n at is = absurd are
   entries_has before (SideFunction fn ∷ written) (f ∷ fs) xs are k i n at is =
@@ -199,7 +199,7 @@ module _ (interfaces : List Address) (item : Item) (w : World) (called : w.name 
   pub world_entry : (k : ℕ) (i : Item) (side : WorldSide) (n : ℕ) → slice_get (inline_items item) k ≡ Some i → address i ≡ InlineAt (item_name item) side n → (j : ℕ) × (place : ℕ) × (slice_get (world_interfaces w) j ≡ Some (place, address i)) × (slice_get interfaces place ≡ Some (address i))
   world_entry k i Imported n at is =
       let it = entries_has interfaces item Imported [] (side_items item) fs imported on_imports k i n at is in
-      (it.0, it.1, ap (λ l. slice_get l it.0) world_listed ∙ at_front (of_side Imported imported) (of_side Exported exported) it.0 (it.1, address i) it.2, it.3)
+      (it.0, it.1, ap (λ l. slice_get l it.0) world_listed ∙ at_prefix (of_side Imported imported) (of_side Exported exported) it.0 (it.1, address i) it.2, it.3)
   world_entry k i Exported n at is =
       let it = entries_has interfaces item Exported [] (side_items item) fs exported on_exports k i n at is in
       let first = of_side Imported imported in

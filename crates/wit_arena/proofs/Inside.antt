@@ -12,9 +12,9 @@ use Rattle.wit_arena.specs.Functions.{placed_functions}
 use Rattle.wit_arena.specs.Package.{interface_functions}
 use Rattle.wit_arena.specs.Resolved.{IsInterfaceOf}
 use Rattle.wit_arena.specs.Whole.{Ordered, turned}
-use Rattle.wit_arena.proofs.Standing.{DoneScope, turn_of}
+use Rattle.wit_arena.proofs.Members.{DoneScope, turn_of}
 
--- an interface that is written in a world is done, and stands at a place
+-- an interface that is written in a world is done, and is at a place
 pub record IsInside (place : ℕ) (o : Ordered) (c : DoneScope) (i : Interface) : Type 0 where
   pub least : IsOrder (rows_of (scope_names o.item)) o.order
   pub turn : turn_of c ≡ turned o
@@ -22,11 +22,11 @@ pub record IsInside (place : ℕ) (o : Ordered) (c : DoneScope) (i : Interface) 
   pub listed : map (λ p. p.0) c.types ≡ local_names c.names
   pub whose : c.owner ≡ owner.Interface place
   pub says : IsInterfaceOf o.item i
-  pub stand : i.functions ≡ placed_functions c.made
+  pub are_present : i.functions ≡ placed_functions c.made
   pub stated : c.stated ≡ interface_functions i
   pub paired : (f : Fault) → IsUnpairedSetter c.functions f → ⊥
 
--- so are these, one behind the other
+-- so are these, one after the other
 abbrev pub AreInside : ℕ → List Ordered → List DoneScope → List Interface → Type 0
 AreInside place [] [] [] = Unit {0}
 AreInside place [] [] (i ∷ is) = ⊥
@@ -70,7 +70,7 @@ inside_count place (o ∷ os) [] is a = absurd a
 inside_count place (o ∷ os) (c ∷ cs) [] a = absurd a
 inside_count place (o ∷ os) (c ∷ cs) (i ∷ is) a = ap suc (inside_count (suc place) os cs is a.1)
 
--- more of them behind
+-- more of them after
 pub inside_append : (place : ℕ) (os ps : List Ordered) (cs ds : List DoneScope) (is js : List Interface) → AreInside place os cs is → AreInside (place + length os) ps ds js → AreInside place (os ++ ps) (cs ++ ds) (is ++ js)
 inside_append place [] ps [] ds [] js a b = subst (λ (n : ℕ). AreInside n ps ds js) (let same : place + 0 ≡ place = omega arith in same) b
 inside_append place [] ps [] ds (i ∷ is) js a b = absurd a

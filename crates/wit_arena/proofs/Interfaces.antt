@@ -1,4 +1,4 @@
--- Where items stand by their names and by their scopes.
+-- Where items are by their names and by their scopes.
 use Rattle.std.proofs.Common.{◌≡◌, ℕ, zero, suc, ◌+◌, Bool, true, false, not, cond, List, [], ◌∷◌, ◌++◌, length, Option, Some, None, inl, inr, refl, sym, ap, ◌∙◌, subst, arith, get_or}
 use Rattle.std.specs.Prelude.{slice_get, map, nat_lt, position}
 use Rattle.std.specs.List.{filter, flat_map, prefix_len}
@@ -12,7 +12,7 @@ use Rattle.wit_tree.specs.declared.tree.PackageFile.{PackageFile}
 use Rattle.wit_types.specs.declared.types.TypeOwner.TheVariants as owner
 use Rattle.wit_syntax.specs.Address.{Address, InterfaceNamed, WorldNamed, InlineAt, ForeignNamed, same_address, is_foreign}
 use Rattle.wit_syntax.specs.Source.{Declared, TheInterface, TheWorld, TheInline, address, Item, all_items, item_name, is_world, item_named, item_at, scope_names, about}
-use Rattle.wit_syntax.specs.Trees.{scope}
+use Rattle.wit_syntax.specs.ScopesOfTrees.{scope}
 use Rattle.wit_syntax.specs.Scope.{interfaces_of, worlds_of}
 use Rattle.wit_syntax.specs.Repeats.{AllDiffer}
 use Rattle.wit_arena.specs.Whole.{place_at, owner_at, functions_at}
@@ -27,7 +27,7 @@ use Rattle.wit_syntax.proofs.Found.{find_at, find_passes}
 use Rattle.wit_syntax.proofs.Inline.{is_inside}
 use Rattle.wit_syntax.proofs.Scopes.{AreDeclared, all_declared, addresses_differ, inline_differ, scope_item_at, inside_one}
 
--- the only one that passes stands behind those that fail
+-- the only one that passes comes after those that fail
 pub prefix_len-only : {X : Type 0} (p : X → Bool) (xs : List X) (t : ℕ) (x : X) → slice_get xs t ≡ Some x → p x ≡ true → ((i : ℕ) (y : X) → slice_get xs i ≡ Some y → p y ≡ true → i ≡ t) → prefix_len (λ y. not (p y)) xs ≡ t
 prefix_len-only p [] t x at pass only = absurd (let f : ⊥ = cc in f)
 prefix_len-only p (y ∷ xs) zero x at pass only =
@@ -190,7 +190,7 @@ module _ (files : List PackageFile) (ws : List Item) (scopes : AreScopes files w
   pub functions_of : (t : ℕ) (w : Item) → slice_get ws t ≡ Some w → functions_at files (address w) ≡ functions w
   functions_of t w at = ap (λ (o : Option Item). option_map_or functions o []) (item_of_scope t w at)
 
--- the addresses of interfaces, those that are written in worlds behind the declared ones, and of worlds
+-- the addresses of interfaces, those that are written in worlds after the declared ones, and of worlds
 pub scope_addresses : (files : List PackageFile) (is ws : List Item) → AreOfSort false is → AreOfSort true ws → AreItems files is → AreItems files ws → AreAddresses (map address (is ++ flat_map inline_items ws)) (map address ws)
 scope_addresses files is ws interfaces worlds a b =
     let inside = flat_map inline_items ws in
@@ -208,7 +208,7 @@ scope_addresses files is ws interfaces worlds a b =
                 let wrong : InterfaceNamed (item_name v.0) ≡ WorldNamed (item_name w.0) = sym (interface_address files is a i v.0 own (interfaces.each i v.0 own)) ∙ v.2 ∙ sym w.2 ∙ world_address w.0 (worlds.each j w.0 w.1) in
                 let f : ⊥ = cc in
                 f)
-            | inr behind ↦ never_inside w.0 v.0 (items_declared files ws b j w.0 w.1) (inside_one ws behind.0 v.0 behind.2) (w.2 ∙ sym v.2)
+            | inr rest_after ↦ never_inside w.0 v.0 (items_declared files ws b j w.0 w.1) (inside_one ws rest_after.0 v.0 rest_after.2) (w.2 ∙ sym v.2)
           ]);
     }
   where

@@ -10,7 +10,7 @@ use Rattle.wit_tree.specs.declared.tree.Use.{Use}
 use Rattle.wit_tree.specs.declared.tree.PackageFile.{PackageFile}
 use Rattle.wit_graph.specs.Table.{IsOrder}
 use Rattle.wit_syntax.specs.Address.{Address}
-use Rattle.wit_syntax.specs.Source.{TopName, Item, Part, Defining, Using, Including, Doing, Crossing, Used, Taken, path_scope, part_names, parts, item_name, item_named, all_items, scope_names}
+use Rattle.wit_syntax.specs.Source.{TopName, Item, Part, DefinitionPart, UsePart, IncludePart, FunctionPart, ExternPart, Used, ForeignName, path_scope, part_names, parts, item_name, item_named, all_items, scope_names}
 use Rattle.wit_syntax.specs.Scope.{in_order, item_row, item_rows}
 use Rattle.std.specs.List.{flat_map}
 use Rattle.wit_syntax.specs.Repeats.{AllDiffer}
@@ -38,47 +38,47 @@ pub length-item_rows : (files : List PackageFile) → length (item_rows files) �
 length-item_rows files = length-map (all_items files) item_row
 
 -- a used name is that of a `use` among the parts, and comes from where its path leads to
-pub used_part : (top : List TopName) (ps : List Part) (k : ℕ) (from : Address) (attributes : List Attribute) (n : UseName) → slice_get (flat_map (part_names top) ps) k ≡ Some (Used from attributes n) → (m : ℕ) × (u : Use) × (slice_get ps m ≡ Some (Using u)) × ((j : ℕ) × (slice_get u.names.items j ≡ Some n)) × (from ≡ path_scope top u.from)
+pub used_part : (top : List TopName) (ps : List Part) (k : ℕ) (from : Address) (attributes : List Attribute) (n : UseName) → slice_get (flat_map (part_names top) ps) k ≡ Some (Used from attributes n) → (m : ℕ) × (u : Use) × (slice_get ps m ≡ Some (UsePart u)) × ((j : ℕ) × (slice_get u.names.items j ≡ Some n)) × (from ≡ path_scope top u.from)
 used_part top ps k from attributes n at =
     let it = flat_map_at (part_names top) ps k (Used from attributes n) at in
     of_part it.0 it.1 it.2 it.3.0 it.3.1
   where
-    of_part : (m : ℕ) (part : Part) → slice_get ps m ≡ Some part → (j : ℕ) → slice_get (part_names top part) j ≡ Some (Used from attributes n) → (m : ℕ) × (u : Use) × (slice_get ps m ≡ Some (Using u)) × ((j : ℕ) × (slice_get u.names.items j ≡ Some n)) × (from ≡ path_scope top u.from)
-    of_part m (Defining d) there zero is = absurd (let f : ⊥ = cc in f)
-    of_part m (Defining d) there (suc j) is = absurd (let f : ⊥ = cc in f)
-    of_part m (Using u) there j is =
+    of_part : (m : ℕ) (part : Part) → slice_get ps m ≡ Some part → (j : ℕ) → slice_get (part_names top part) j ≡ Some (Used from attributes n) → (m : ℕ) × (u : Use) × (slice_get ps m ≡ Some (UsePart u)) × ((j : ℕ) × (slice_get u.names.items j ≡ Some n)) × (from ≡ path_scope top u.from)
+    of_part m (DefinitionPart d) there zero is = absurd (let f : ⊥ = cc in f)
+    of_part m (DefinitionPart d) there (suc j) is = absurd (let f : ⊥ = cc in f)
+    of_part m (UsePart u) there j is =
         let x = map_at (Used (path_scope top u.from) u.attributes.items) u.names.items j (Used from attributes n) is in
         let same : Used (path_scope top u.from) u.attributes.items x.0 ≡ Used from attributes n = x.2 in
         let scope : from ≡ path_scope top u.from = cc in
         let name : x.0 ≡ n = cc in
         (m, u, there, (j, x.1 ∙ ap Some name), scope)
-    of_part m (Including i) there j is = absurd (let f : ⊥ = cc in f)
-    of_part m (Doing g) there j is = absurd (let f : ⊥ = cc in f)
-    of_part m (Crossing x) there j is = absurd (let f : ⊥ = cc in f)
+    of_part m (IncludePart i) there j is = absurd (let f : ⊥ = cc in f)
+    of_part m (FunctionPart g) there j is = absurd (let f : ⊥ = cc in f)
+    of_part m (ExternPart x) there j is = absurd (let f : ⊥ = cc in f)
 
 -- no name of an item is taken from another package
 pub own_names : (w : Item) → AreOwn (scope_names w)
 own_names w k attributes id at =
-    let it = flat_map_at (part_names w.top) (parts w) k (Taken attributes id) at in
+    let it = flat_map_at (part_names w.top) (parts w) k (ForeignName attributes id) at in
     of_part it.1 it.3.0 it.3.1
   where
-    of_part : (part : Part) (j : ℕ) → slice_get (part_names w.top part) j ≡ Some (Taken attributes id) → ⊥
-    of_part (Defining d) zero is = let f : ⊥ = cc in f
-    of_part (Defining d) (suc j) is = let f : ⊥ = cc in f
-    of_part (Using u) j is =
-        let x = map_at (Used (path_scope w.top u.from) u.attributes.items) u.names.items j (Taken attributes id) is in
-        let same : Used (path_scope w.top u.from) u.attributes.items x.0 ≡ Taken attributes id = x.2 in
+    of_part : (part : Part) (j : ℕ) → slice_get (part_names w.top part) j ≡ Some (ForeignName attributes id) → ⊥
+    of_part (DefinitionPart d) zero is = let f : ⊥ = cc in f
+    of_part (DefinitionPart d) (suc j) is = let f : ⊥ = cc in f
+    of_part (UsePart u) j is =
+        let x = map_at (Used (path_scope w.top u.from) u.attributes.items) u.names.items j (ForeignName attributes id) is in
+        let same : Used (path_scope w.top u.from) u.attributes.items x.0 ≡ ForeignName attributes id = x.2 in
         let f : ⊥ = cc in
         f
-    of_part (Including i) j is = let f : ⊥ = cc in f
-    of_part (Doing g) j is = let f : ⊥ = cc in f
-    of_part (Crossing x) j is = let f : ⊥ = cc in f
+    of_part (IncludePart i) j is = let f : ⊥ = cc in f
+    of_part (FunctionPart g) j is = let f : ⊥ = cc in f
+    of_part (ExternPart x) j is = let f : ⊥ = cc in f
 
 module _ (files : List PackageFile) (places : List ℕ) (order : IsOrder (item_rows files) places) where
   pub items_within : (j p : ℕ) → slice_get places j ≡ Some p → p < length (all_items files)
   items_within j p at = subst (λ (n : ℕ). p < n) (length-item_rows files) (order_within (item_rows files) places order j p at)
 
-  -- each item stands in the order
+  -- each item is in the order
   pub item_index : (p : ℕ) (w : Item) → slice_get (all_items files) p ≡ Some w → (t : ℕ) × (slice_get places t ≡ Some p) × (slice_get (in_order (all_items files) places) t ≡ Some w)
   item_index p w at =
       let lt = slice_get_within (all_items files) p w at in

@@ -1,4 +1,4 @@
--- There is one list of what is first met in files.
+-- There is one list of what is first seen in files.
 use Rattle.std.proofs.Common.{◌≡◌, ℕ, zero, suc, ◌+◌, List, [], ◌∷◌, ◌++◌, length, Some, refl, sym, ap, ◌∙◌, subst}
 use Rattle.std.specs.Prelude.{slice_get, map}
 use Rattle.wit_tree.specs.declared.tree.PackageFile.{PackageFile}
@@ -7,19 +7,19 @@ use Rattle.wit_graph.proofs.SameEdges.{one_answer}
 use Rattle.wit_syntax.specs.Source.{Item, all_items, scope_names}
 use Rattle.wit_syntax.specs.Scope.{item_rows, interfaces_of, worlds_of, in_order, rows_of}
 use Rattle.wit_syntax.specs.Sides.{inline_items}
-use Rattle.wit_syntax.proofs.Lists.{at_front, at_back}
-use Rattle.wit_arena.specs.Meet.{Meeting, Meets}
-use Rattle.wit_arena.specs.Whole.{Ordered, OrderedWorld, AreOrdered, all_inside, all_turns, all_meetings, AreFirstMeetings}
+use Rattle.wit_syntax.proofs.Lists.{at_prefix, at_back}
+use Rattle.wit_arena.specs.Occurrences.{Occurrence, Collects}
+use Rattle.wit_arena.specs.Whole.{Ordered, OrderedWorld, AreOrdered, all_inside, all_turns, all_occurrences, AreFirstOccurrences}
 use Rattle.wit_arena.proofs.JoinedWorlds.{HasInside}
-use Rattle.wit_arena.proofs.Meeting.{meets_one}
+use Rattle.wit_arena.proofs.Occurrence.{collects_one}
 use Rattle.wit_arena.proofs.Turns.{item_of, own_item}
 
 -- each of these scopes has the order of the table of its names
 abbrev HaveOrders : List Ordered → Type 0
 HaveOrders os = (t : ℕ) (o : Ordered) → slice_get os t ≡ Some o → IsOrder (rows_of (scope_names o.item)) o.order
 
-front_orders : (os qs : List Ordered) → HaveOrders (os ++ qs) → HaveOrders os
-front_orders os qs h t o at = h t o (at_front os qs t o at)
+prefix_orders : (os qs : List Ordered) → HaveOrders (os ++ qs) → HaveOrders os
+prefix_orders os qs h t o at = h t o (at_prefix os qs t o at)
 
 back_orders : (os qs : List Ordered) → HaveOrders (os ++ qs) → HaveOrders qs
 back_orders os qs h t q at = h (length os + t) q (at_back os qs t q at)
@@ -65,7 +65,7 @@ same_worlds [] (v ∷ vs) same in_w in_v h k h' k' = absurd (let f : ⊥ = cc in
 same_worlds (w ∷ ws) [] same in_w in_v h k h' k' = absurd (let f : ⊥ = cc in f)
 same_worlds (w ∷ ws) (v ∷ vs) same in_w in_v h k h' k' =
     let own : own_item w ≡ own_item v = cc in
-    let first : w ≡ v = same_world w v own (in_w 0 w refl) (in_v 0 v refl) (orders_of w.own w.inside (h 0 w.own refl) (front_orders w.inside (all_inside ws) h')) (orders_of v.own v.inside (k 0 v.own refl) (front_orders v.inside (all_inside vs) k')) in
+    let first : w ≡ v = same_world w v own (in_w 0 w refl) (in_v 0 v refl) (orders_of w.own w.inside (h 0 w.own refl) (prefix_orders w.inside (all_inside ws) h')) (orders_of v.own v.inside (k 0 v.own refl) (prefix_orders v.inside (all_inside vs) k')) in
     let rest : ws ≡ vs = same_worlds ws vs (let it : map own_item ws ≡ map own_item vs = cc in it) (λ t. in_w (suc t)) (λ t. in_v (suc t)) (λ t. h (suc t)) (λ t. k (suc t)) (back_orders w.inside (all_inside ws) h') (back_orders v.inside (all_inside vs) k') in
     ap (λ (x : OrderedWorld). x ∷ ws) first ∙ ap (λ (l : List OrderedWorld). v ∷ l) rest
 
@@ -75,19 +75,19 @@ module _ (files : List PackageFile) (is js : List Ordered) (ws vs : List Ordered
   same_places = (one_answer (item_rows files)).one a.places b.places a.item_order b.item_order
 
   pub interfaces_once : is ≡ js
-  interfaces_once = same_ordered is js (a.all_interfaces ∙ ap (λ (places : List ℕ). interfaces_of (in_order (all_items files) places)) same_places ∙ sym b.all_interfaces) (front_orders is (map own_of ws ++ all_inside ws) a.least) (front_orders js (map own_of vs ++ all_inside vs) b.least)
+  interfaces_once = same_ordered is js (a.all_interfaces ∙ ap (λ (places : List ℕ). interfaces_of (in_order (all_items files) places)) same_places ∙ sym b.all_interfaces) (prefix_orders is (map own_of ws ++ all_inside ws) a.least) (prefix_orders js (map own_of vs ++ all_inside vs) b.least)
 
   pub worlds_once : ws ≡ vs
   worlds_once =
       let of_a = back_orders is (map own_of ws ++ all_inside ws) a.least in
       let of_b = back_orders js (map own_of vs ++ all_inside vs) b.least in
-      same_worlds ws vs (a.all_worlds ∙ ap (λ (places : List ℕ). worlds_of (in_order (all_items files) places)) same_places ∙ sym b.all_worlds) a.inside b.inside (front_orders (map own_of ws) (all_inside ws) of_a) (front_orders (map own_of vs) (all_inside vs) of_b) (back_orders (map own_of ws) (all_inside ws) of_a) (back_orders (map own_of vs) (all_inside vs) of_b)
+      same_worlds ws vs (a.all_worlds ∙ ap (λ (places : List ℕ). worlds_of (in_order (all_items files) places)) same_places ∙ sym b.all_worlds) a.inside b.inside (prefix_orders (map own_of ws) (all_inside ws) of_a) (prefix_orders (map own_of vs) (all_inside vs) of_b) (back_orders (map own_of ws) (all_inside ws) of_a) (back_orders (map own_of vs) (all_inside vs) of_b)
 
--- and so what is first met in them is one list
-pub first_once : (files : List PackageFile) (met more : List Meeting) → AreFirstMeetings files met → AreFirstMeetings files more → met ≡ more
-first_once files met more a b =
+-- and so what is first seen in them is one list
+pub first_once : (files : List PackageFile) (seen more : List Occurrence) → AreFirstOccurrences files seen → AreFirstOccurrences files more → seen ≡ more
+first_once files seen more a b =
     let is = interfaces_once files a.interfaces b.interfaces a.worlds b.worlds a.ordered b.ordered in
     let ws = worlds_once files a.interfaces b.interfaces a.worlds b.worlds a.ordered b.ordered in
-    let all = all_meetings files (all_turns b.interfaces b.worlds) in
-    let same : all_meetings files (all_turns a.interfaces a.worlds) ≡ all = ap (λ (l : List Ordered). all_meetings files (all_turns l a.worlds)) is ∙ ap (λ (l : List OrderedWorld). all_meetings files (all_turns b.interfaces l)) ws in
-    meets_one all [] met more (subst (λ (ms : List Meeting). Meets [] ms met) same a.first) b.first
+    let all = all_occurrences files (all_turns b.interfaces b.worlds) in
+    let same : all_occurrences files (all_turns a.interfaces a.worlds) ≡ all = ap (λ (l : List Ordered). all_occurrences files (all_turns l a.worlds)) is ∙ ap (λ (l : List OrderedWorld). all_occurrences files (all_turns b.interfaces l)) ws in
+    collects_one all [] seen more (subst (λ (ms : List Occurrence). Collects [] ms seen) same a.first) b.first

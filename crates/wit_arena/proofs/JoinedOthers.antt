@@ -14,15 +14,15 @@ use Rattle.wit_model.specs.declared.interface.Interface.{Interface}
 use Rattle.wit_model.specs.declared.unresolved.UnresolvedPackage.{UnresolvedPackage}
 use Rattle.wit_syntax.specs.Address.{Address, same_package, same_address, package_of}
 use Rattle.wit_syntax.specs.Foreign.{ForeignVisit, visited, same_item, foreign_interfaces, foreign_worlds}
-use Rattle.wit_syntax.specs.Notes.{stability_of}
+use Rattle.wit_syntax.specs.Metadata.{stability_of}
 use Rattle.wit_syntax.specs.Repeats.{firsts}
-use Rattle.wit_syntax.specs.Source.{ScopeName, Taking, same_taking}
-use Rattle.wit_syntax.specs.Trees.{scope}
+use Rattle.wit_syntax.specs.Source.{ScopeName, ForeignUse, same_foreign_use}
+use Rattle.wit_syntax.specs.ScopesOfTrees.{scope}
 use Rattle.wit_syntax.proofs.JoinedFiles.{AreAlike, visits_same}
-use Rattle.wit_syntax.proofs.JoinedTrees.{takings_alike, scope_alike}
+use Rattle.wit_syntax.proofs.JoinedTrees.{foreign_uses_alike, scope_alike}
 use Rattle.wit_syntax.proofs.JoinedLegal.{ends_onward}
 use Rattle.wit_syntax.specs.Ends.{AtResource, AtForeign}
-use Rattle.wit_arena.specs.Meet.{Key, Decls, Def, Whole, IsEntry, IsMeeting, Meeting, keys}
+use Rattle.wit_arena.specs.Occurrences.{Key, Decls, Def, Whole, IsEntry, IsOccurrence, Occurrence, keys}
 use Rattle.wit_arena.specs.OneByOne.{OneByOne}
 use Rattle.wit_arena.specs.Whole.{foreign_place, NamesOthers, HandleRequires, AreRequired, owner_at, declarations, IsForeignInterface, HasTypes}
 use Rattle.wit_types.specs.declared.types.TypeOwner.{TypeOwner}
@@ -52,13 +52,13 @@ dep_by vs v = (package_of v.of, map (item_by vs) (filter (λ u. same_package (pa
 abbrev declared : List ScopeName → TypeOwner → List ScopeName × TypeOwner
 declared xs o = (xs, o)
 
--- declarations that are the same of each scope make the same meeting
+-- declarations that are the same of each scope make the same occurrence
 entry_again : (d e : Decls) → ((s : Address) → d s ≡ e s) → (ks : List Key) (k : Key) (t : TypeDef) → IsEntry d ks k t → IsEntry e ks k t
 entry_again d e same ks (Def s name) t h = (h.0, h.1, ap (λ (d : List ScopeName × TypeOwner). slice_get d.0 h.0) (sym (same s)) ∙ h.2, h.3, h.4, h.5, h.6 ∙ ap (λ (d : List ScopeName × TypeOwner). d.1) (same s), h.7, h.8, h.9)
 entry_again d e same ks (Whole form parts) t h = h
 
-pub meeting_again : (d e : Decls) → ((s : Address) → d s ≡ e s) → (ms : List Meeting) (ts : List TypeDef) → IsMeeting d ms ts → IsMeeting e ms ts
-meeting_again d e same ms ts h = record {
+pub occurrence_again : (d e : Decls) → ((s : Address) → d s ≡ e s) → (ms : List Occurrence) (ts : List TypeDef) → IsOccurrence d ms ts → IsOccurrence e ms ts
+occurrence_again d e same ms ts h = record {
   keyed = record { count = h.keyed.count; once = h.keyed.once; each = λ i k t at there. entry_again d e same (take i (keys ms)) k t (h.keyed.each i k t at there) };
   spans = h.spans;
   settled = h.settled;
@@ -69,7 +69,7 @@ module _ (files others : List PackageFile) (a : AreAlike files others) where
   others_onward p h = (
     h.0 ∙ ap (λ (vs : List ForeignVisit). map (dep_by vs) (packages_by vs)) (visits_same files others a),
     h.1 ∙ ap (λ (vs : List ForeignVisit). map (λ v. v.of.span) (packages_by vs)) (visits_same files others a),
-    h.2 ∙ ap (λ (ts : List Taking). map (λ t. t.id.span) (firsts same_taking ts)) (takings_alike files others a),
+    h.2 ∙ ap (λ (ts : List ForeignUse). map (λ t. t.id.span) (firsts same_foreign_use ts)) (foreign_uses_alike files others a),
   )
 
   pub foreign_interfaces_same : foreign_interfaces files ≡ foreign_interfaces others

@@ -13,11 +13,11 @@ use Rattle.wit_syntax.specs.Scope.{includes, in_turn}
 use Rattle.wit_syntax.specs.Sides.{SideItem, SideFunction, SideLink, SideInline, side_items}
 use Rattle.wit_syntax.proofs.JoinedTargets.{AreThemselves, used_same, included_same}
 use Rattle.wit_syntax.proofs.JoinedItems.{retop, names_same}
-use Rattle.wit_arena.specs.Meet.{Key}
+use Rattle.wit_arena.specs.Occurrences.{Key}
 use Rattle.wit_arena.specs.Package.{world_types}
 use Rattle.wit_arena.specs.SideItems.{AreSideItems, settled}
 use Rattle.wit_arena.specs.Whole.{Ordered, type_imports, AreIncludes, HasSides}
-use Rattle.wit_arena.proofs.JoinedTurns.{Told, told}
+use Rattle.wit_arena.proofs.JoinedTurns.{Stated, as_stated}
 
 -- an order of the names of an item, with other names at the top of its file
 abbrev pub reorder : List TopName → Ordered → Ordered
@@ -51,9 +51,9 @@ includes_retop worlds i top is own other h = record {
       (it.0, it.1 ∙ ap Some (included_same i.top top own other written.from), it.2, it.3));
 }
 
--- so for scopes that are told alike
-pub sides_onward : (ks : List Key) (interfaces inside : List Address) (o q : Ordered) (w : World) → AreThemselves o.item.top → AreThemselves q.item.top → told o ≡ told q → HasSides ks interfaces inside o w → HasSides ks interfaces inside q w
-sides_onward ks interfaces inside o q w own other same h = subst (λ (x : Told). HasSides ks interfaces inside (record { item = record { top = q.item.top; declared = x.0 }; order = x.2 }) w) same (sides_retop ks interfaces inside o q.item.top w own other h)
+-- so for scopes that are stated alike
+pub sides_onward : (ks : List Key) (interfaces inside : List Address) (o q : Ordered) (w : World) → AreThemselves o.item.top → AreThemselves q.item.top → as_stated o ≡ as_stated q → HasSides ks interfaces inside o w → HasSides ks interfaces inside q w
+sides_onward ks interfaces inside o q w own other same h = subst (λ (x : Stated). HasSides ks interfaces inside (record { item = record { top = q.item.top; declared = x.0 }; order = x.2 }) w) same (sides_retop ks interfaces inside o q.item.top w own other h)
 
-pub includes_onward : (worlds : List Address) (o q : Ordered) (is : List WorldInclude) → AreThemselves o.item.top → AreThemselves q.item.top → told o ≡ told q → AreIncludes worlds o.item is → AreIncludes worlds q.item is
-includes_onward worlds o q is own other same h = subst (λ (x : Told). AreIncludes worlds (record { top = q.item.top; declared = x.0 }) is) same (includes_retop worlds o.item q.item.top is own other h)
+pub includes_onward : (worlds : List Address) (o q : Ordered) (is : List WorldInclude) → AreThemselves o.item.top → AreThemselves q.item.top → as_stated o ≡ as_stated q → AreIncludes worlds o.item is → AreIncludes worlds q.item is
+includes_onward worlds o q is own other same h = subst (λ (x : Stated). AreIncludes worlds (record { top = q.item.top; declared = x.0 }) is) same (includes_retop worlds o.item q.item.top is own other h)

@@ -7,25 +7,25 @@ use Rattle.std.proofs.lemmas.Option.{slice_get-map}
 use Rattle.wit_syntax.specs.Source.{Declared, Item, ScopeName, scope_names, about}
 use Rattle.wit_syntax.specs.Scope.{in_order, interfaces_of, worlds_of}
 use Rattle.wit_syntax.specs.Splitting.{declared_of}
-use Rattle.wit_syntax.proofs.Kept.{behind_one, kept_at}
+use Rattle.wit_syntax.proofs.Kept.{after_one, kept_at}
 use Rattle.wit_syntax.proofs.JoinedLists.{filter-map}
 use Rattle.wit_syntax.proofs.JoinedTargets.{AreThemselves}
 use Rattle.wit_syntax.proofs.JoinedItems.{bare, AreTwins, names_of_bare}
 use Rattle.wit_arena.specs.Whole.{Ordered}
 use Rattle.wit_arena.proofs.Turns.{item_of}
 
--- what stands in an order stands in the list
-abbrev StandsIn : List Item → Item → Type 0
-StandsIn is i = (p : ℕ) × (slice_get is p ≡ Some i)
+-- what is in an order is in the list
+abbrev OccursIn : List Item → Item → Type 0
+OccursIn is i = (p : ℕ) × (slice_get is p ≡ Some i)
 
-first_among : (is : List Item) (p : ℕ) (rest : List Item) (k : ℕ) (i : Item) (o : Option Item) → slice_get is p ≡ o → ((j : ℕ) → slice_get rest j ≡ Some i → StandsIn is i) → slice_get (cons_option o rest) k ≡ Some i → StandsIn is i
+first_among : (is : List Item) (p : ℕ) (rest : List Item) (k : ℕ) (i : Item) (o : Option Item) → slice_get is p ≡ o → ((j : ℕ) → slice_get rest j ≡ Some i → OccursIn is i) → slice_get (cons_option o rest) k ≡ Some i → OccursIn is i
 first_among is p rest k i None none later at = later k at
-first_among is p rest k i (Some j) some later at = elim (behind_one j rest k i at) [
+first_among is p rest k i (Some j) some later at = elim (after_one j rest k i at) [
   | inl here ↦ (p, some ∙ ap Some here)
   | inr there ↦ later there.0 there.1
 ]
 
-in_order_among : (is : List Item) (places : List ℕ) (k : ℕ) (i : Item) → slice_get (in_order is places) k ≡ Some i → StandsIn is i
+in_order_among : (is : List Item) (places : List ℕ) (k : ℕ) (i : Item) → slice_get (in_order is places) k ≡ Some i → OccursIn is i
 in_order_among is [] k i at = absurd (let f : ⊥ = cc in f)
 in_order_among is (p ∷ places) k i at = first_among is p (in_order is places) k i (slice_get is p) refl (λ j. in_order_among is places j i) at
 
@@ -67,37 +67,37 @@ reordered (j ∷ js) [] = []
 reordered (j ∷ js) (o ∷ os) = record { item = j; order = o.order } ∷ reordered js os
 
 -- what a scope is apart from the names at the top of its file: what it declares, its names and the order of these
-abbrev pub Told : Type 0
-Told = Declared × List ScopeName × List ℕ
+abbrev pub Stated : Type 0
+Stated = Declared × List ScopeName × List ℕ
 
-abbrev pub told : Ordered → Told
-told o = (o.item.declared, scope_names o.item, o.order)
+abbrev pub as_stated : Ordered → Stated
+as_stated o = (o.item.declared, scope_names o.item, o.order)
 
 pub twins_first : (i j : Item) (is js : List Item) → AreTwins (i ∷ is) (j ∷ js) → i.declared ≡ j.declared
 twins_first i j is js t = (let same = t.same in cc)
 
-pub twins_behind : (i j : Item) (is js : List Item) → AreTwins (i ∷ is) (j ∷ js) → AreTwins is js
-twins_behind i j is js t = record { left = λ k. t.left (suc k); right = λ k. t.right (suc k); same = (let same = t.same in cc) }
+pub twins_after : (i j : Item) (is js : List Item) → AreTwins (i ∷ is) (j ∷ js) → AreTwins is js
+twins_after i j is js t = record { left = λ k. t.left (suc k); right = λ k. t.right (suc k); same = (let same = t.same in cc) }
 
-pub told_same : (i j : Item) (order : List ℕ) → AreThemselves i.top → AreThemselves j.top → i.declared ≡ j.declared → told (record { item = i; order = order }) ≡ told (record { item = j; order = order })
-told_same i j order own other same =
+pub stated_same : (i j : Item) (order : List ℕ) → AreThemselves i.top → AreThemselves j.top → i.declared ≡ j.declared → as_stated (record { item = i; order = order }) ≡ as_stated (record { item = j; order = order })
+stated_same i j order own other same =
     let names : scope_names i ≡ scope_names j = names_of_bare i own ∙ ap (λ (d : Declared). scope_names (bare d)) same ∙ sym (names_of_bare j other) in
-    ap (λ (d : Declared). told_by d (scope_names i)) same ∙ ap (told_by j.declared) names
+    ap (λ (d : Declared). stated_by d (scope_names i)) same ∙ ap (stated_by j.declared) names
   where
-    told_by : Declared → List ScopeName → Told
-    told_by d xs = (d, xs, order)
+    stated_by : Declared → List ScopeName → Stated
+    stated_by d xs = (d, xs, order)
 
 pub reordered_items : (os : List Ordered) (js : List Item) → AreTwins (map item_of os) js → map item_of (reordered js os) ≡ js
 reordered_items [] [] t = refl
 reordered_items [] (j ∷ js) t = (let same = t.same in absurd (let f : ⊥ = cc in f))
 reordered_items (o ∷ os) [] t = (let same = t.same in absurd (let f : ⊥ = cc in f))
-reordered_items (o ∷ os) (j ∷ js) t = ap (λ (l : List Item). j ∷ l) (reordered_items os js (twins_behind o.item j (map item_of os) js t))
+reordered_items (o ∷ os) (j ∷ js) t = ap (λ (l : List Item). j ∷ l) (reordered_items os js (twins_after o.item j (map item_of os) js t))
 
-pub reordered_told : (os : List Ordered) (js : List Item) → AreTwins (map item_of os) js → map told os ≡ map told (reordered js os)
-reordered_told [] [] t = refl
-reordered_told [] (j ∷ js) t = (let same = t.same in absurd (let f : ⊥ = cc in f))
-reordered_told (o ∷ os) [] t = (let same = t.same in absurd (let f : ⊥ = cc in f))
-reordered_told (o ∷ os) (j ∷ js) t =
-    let rest = reordered_told os js (twins_behind o.item j (map item_of os) js t) in
-    let first = told_same o.item j o.order (t.left 0 o.item refl) (t.right 0 j refl) (twins_first o.item j (map item_of os) js t) in
-    ap (λ (x : Told). x ∷ map told os) first ∙ ap (λ (l : List Told). told (record { item = j; order = o.order }) ∷ l) rest
+pub reordered_stated : (os : List Ordered) (js : List Item) → AreTwins (map item_of os) js → map as_stated os ≡ map as_stated (reordered js os)
+reordered_stated [] [] t = refl
+reordered_stated [] (j ∷ js) t = (let same = t.same in absurd (let f : ⊥ = cc in f))
+reordered_stated (o ∷ os) [] t = (let same = t.same in absurd (let f : ⊥ = cc in f))
+reordered_stated (o ∷ os) (j ∷ js) t =
+    let rest = reordered_stated os js (twins_after o.item j (map item_of os) js t) in
+    let first = stated_same o.item j o.order (t.left 0 o.item refl) (t.right 0 j refl) (twins_first o.item j (map item_of os) js t) in
+    ap (λ (x : Stated). x ∷ map as_stated os) first ∙ ap (λ (l : List Stated). as_stated (record { item = j; order = o.order }) ∷ l) rest

@@ -1,4 +1,4 @@
--- The items of a package in their orders: each stands at its address, and no two stand at one.
+-- The items of a package in their orders: each is at its address, and no two are at one.
 use Rattle.std.proofs.Common.{◌≡◌, ℕ, suc, ◌+◌, List, [], ◌∷◌, ◌++◌, length, Option, Some, refl, sym, ap, ◌∙◌, subst, Contains}
 use Rattle.std.specs.Prelude.{slice_get, map, not}
 use Rattle.std.specs.Option.{option_map, option_map_or}
@@ -14,20 +14,20 @@ use Rattle.wit_syntax.specs.Repeats.{AllDiffer}
 use Rattle.wit_syntax.specs.Scope.{rows_of, in_order, interfaces_of, worlds_of}
 use Rattle.wit_syntax.specs.Sides.{FoldedTwice, all_scopes, function_key, inline_items, side_items}
 use Rattle.wit_syntax.specs.Source.{Item, ScopeName, address, all_items, is_world, item_at, scope_names}
-use Rattle.wit_syntax.specs.Trees.{scope}
+use Rattle.wit_syntax.specs.ScopesOfTrees.{scope}
 use Rattle.wit_syntax.proofs.Legal.{functions_differ, functions_items}
-use Rattle.wit_syntax.proofs.Lists.{at_front, at_back, map_map}
+use Rattle.wit_syntax.proofs.Lists.{at_prefix, at_back, map_map}
 use Rattle.wit_arena.specs.Whole.{Ordered, OrderedWorld, AreOrdered, all_inside, functions_at, interface_addresses, ordered_names, world_addresses}
 use Rattle.wit_arena.proofs.Added.{inside_of, interface_list, world_list, all_addresses}
 use Rattle.wit_arena.proofs.DoneWorlds.{own_order}
 use Rattle.wit_arena.proofs.Interfaces.{AreAddresses, AreItems, interfaces_sort, worlds_sort, items_kept, item_scopes, inline_scopes, scope_at}
 use Rattle.wit_arena.proofs.Itemizing.{are_items}
-use Rattle.wit_arena.proofs.Laid.{ordered_addresses, in_turn_is}
+use Rattle.wit_arena.proofs.ScopesInTurn.{ordered_addresses, in_turn_is}
 use Rattle.wit_arena.proofs.LegalScopes.{distinct_items, names_differ, scope_among}
-use Rattle.wit_arena.proofs.Standing.{IsTurn}
+use Rattle.wit_arena.proofs.Members.{IsTurn}
 use Rattle.wit_arena.proofs.Turns.{item_of, own_item}
 
--- an item stands at its address, and has the order of the table of its names
+-- an item is at its address, and has the order of the table of its names
 pub record IsItem (files : List PackageFile) (o : Ordered) : Type 0 where
   pub found : item_at (all_scopes files) (address o.item) ≡ Some o.item
   pub least : IsOrder (rows_of (scope_names o.item)) o.order
@@ -83,7 +83,7 @@ module _ (files : List PackageFile) (legal : IsLegal files) where
     pub addresses_are : AreAddresses (interface_addresses files (os ++ all_inside ws)) (world_addresses files ws)
     addresses_are = subst (λ (l : List Address). AreAddresses l (world_addresses files ws)) interfaces_are (subst (λ (l : List Address). AreAddresses (interface_list files (interfaces_of all) (inside_of (worlds_of all))) l) worlds_are (all_addresses files (interfaces_of all) (worlds_of all) (interfaces_sort all) (worlds_sort all) are_interfaces are_worlds))
 
-    -- where the item of an order stands
+    -- where the item of an order is
     pub interface_place : (t : ℕ) (o : Ordered) → slice_get os t ≡ Some o → slice_get (interfaces_of all) t ≡ Some o.item
     interface_place t o at = ap (λ (l : List Item). slice_get l t) (sym ordered.all_interfaces) ∙ slice_get-map item_of os t ∙ ap (option_map item_of) at
 
@@ -97,13 +97,13 @@ module _ (files : List PackageFile) (legal : IsLegal files) where
     pub interface_item : (t : ℕ) (o : Ordered) → slice_get os t ≡ Some o → IsItem files o
     interface_item t o at = record {
       found = (item_scopes files (interfaces_of all) are_interfaces).found t o.item (interface_place t o at);
-      least = ordered.least t o (at_front os (map own_order ws ++ all_inside ws) t o at);
+      least = ordered.least t o (at_prefix os (map own_order ws ++ all_inside ws) t o at);
     }
 
     pub world_item : (t : ℕ) (w : OrderedWorld) → slice_get ws t ≡ Some w → IsItem files w.own
     world_item t w at = record {
       found = (item_scopes files (worlds_of all) are_worlds).found t w.own.item (world_place t w at);
-      least = ordered.least (length os + t) w.own (at_back os (map own_order ws ++ all_inside ws) t w.own (at_front (map own_order ws) (all_inside ws) t w.own (slice_get-map own_order ws t ∙ ap (option_map own_order) at)));
+      least = ordered.least (length os + t) w.own (at_back os (map own_order ws ++ all_inside ws) t w.own (at_prefix (map own_order ws) (all_inside ws) t w.own (slice_get-map own_order ws t ∙ ap (option_map own_order) at)));
     }
 
     pub inside_item : (t : ℕ) (o : Ordered) → slice_get (all_inside ws) t ≡ Some o → IsItem files o

@@ -21,20 +21,20 @@ use Rattle.wit_syntax.specs.Function.{functions}
 use Rattle.wit_syntax.specs.Repeats.{AllDiffer}
 use Rattle.wit_syntax.specs.Sides.{function_key}
 use Rattle.wit_syntax.specs.Source.{address, is_world}
-use Rattle.wit_syntax.proofs.Lists.{at_front, at_back}
+use Rattle.wit_syntax.proofs.Lists.{at_prefix, at_back}
 use Rattle.wit_syntax.proofs.Repeated.{differ_none}
 use Rattle.wit_syntax.proofs.Sides.{functions_imported}
 use Rattle.wit_arena.specs.Functions.{AreFunctions}
-use Rattle.wit_arena.specs.Meet.{Key, keys}
+use Rattle.wit_arena.specs.Occurrences.{Key, keys}
 use Rattle.wit_arena.specs.Package.{owner_of, names_of, functions_of, inline_owner, named_interface, named_world, interface_functions, interface_items, interfaces_from, import_types, item_functions, keyed, world_functions, world_interfaces, world_types}
 use Rattle.wit_arena.specs.Whole.{Ordered, OrderedWorld, all_inside, interface_addresses, owner_at, world_addresses, HasTypes, IsPackage}
 use Rattle.wit_arena.proofs.Deps.{foreign_interface_owner, foreign_world_owner}
-use Rattle.wit_arena.proofs.Front.{interface_scope, world_scope, front_interface_done, front_world_done, no_functions}
+use Rattle.wit_arena.proofs.Prefix.{interface_scope, world_scope, prefix_interface_done, prefix_world_done, no_functions}
 use Rattle.wit_arena.proofs.Interfaces.{AreAddresses, interface_owner_at, world_owner_at}
 use Rattle.wit_arena.proofs.KnownItems.{IsItem, addresses_are, functions_apart, functions_are, turn_is}
-use Rattle.wit_arena.proofs.Laid.{laid_scope}
+use Rattle.wit_arena.proofs.ScopesInTurn.{laid_scope}
 use Rattle.wit_arena.proofs.LegalScopes.{uses_lead}
-use Rattle.wit_arena.proofs.Standing.{DoneScope, turn_of, IsDoneScope}
+use Rattle.wit_arena.proofs.Members.{DoneScope, turn_of, IsDoneScope}
 use Rattle.wit_arena.proofs.Stating.{stated_placed}
 
 -- a scope that is done, and that the package knows by its owner, where the interfaces have these addresses and the worlds those
@@ -95,7 +95,7 @@ module _ (files : List PackageFile) (legal : IsLegal files) (p : UnresolvedPacka
   ws = h.first.worlds
 
   abbrev ks : List Key
-  ks = keys h.met
+  ks = keys h.seen
 
   abbrev interfaces : List Address
   interfaces = interface_addresses files (os ++ all_inside ws)
@@ -118,12 +118,12 @@ module _ (files : List PackageFile) (legal : IsLegal files) (p : UnresolvedPacka
   no_two : AreAddresses interfaces worlds
   no_two = addresses_are files legal os ws h.first.ordered
 
-  -- what stands in front of the arenas, and behind that
-  front_interface : (t : ℕ) (i : Interface) → slice_get h.interfaces.0 t ≡ Some i → slice_get p.interfaces t ≡ Some i
-  front_interface t i at = ap (λ (l : List Interface). slice_get l t) h.interfaces.2 ∙ at_front h.interfaces.0 h.interfaces.1 t i at
+  -- what comes before the arenas, and after that
+  prefix_interface : (t : ℕ) (i : Interface) → slice_get h.interfaces.0 t ≡ Some i → slice_get p.interfaces t ≡ Some i
+  prefix_interface t i at = ap (λ (l : List Interface). slice_get l t) h.interfaces.2 ∙ at_prefix h.interfaces.0 h.interfaces.1 t i at
 
-  front_world : (t : ℕ) (w : World) → slice_get h.worlds.0 t ≡ Some w → slice_get p.worlds t ≡ Some w
-  front_world t w at = ap (λ (l : List World). slice_get l t) h.worlds.2 ∙ at_front h.worlds.0 h.worlds.1 t w at
+  prefix_world : (t : ℕ) (w : World) → slice_get h.worlds.0 t ≡ Some w → slice_get p.worlds t ≡ Some w
+  prefix_world t w at = ap (λ (l : List World). slice_get l t) h.worlds.2 ∙ at_prefix h.worlds.0 h.worlds.1 t w at
 
   pub own_interface : (t : ℕ) (i : Interface) → slice_get h.interfaces.1 t ≡ Some i → slice_get p.interfaces (length ss + t) ≡ Some i
   own_interface t i at =
@@ -137,12 +137,12 @@ module _ (files : List PackageFile) (legal : IsLegal files) (p : UnresolvedPacka
 
   -- the scope of an interface of another package, and of a world
   pub foreign_interface : (t : ℕ) (v : ForeignVisit) (i : Interface) → slice_get (foreign_interfaces files) t ≡ Some v → slice_get h.interfaces.0 t ≡ Some i → slice_get interfaces t ≡ Some (visited v) → Known (interface_scope files t v i)
-  foreign_interface t v i at there stands =
+  foreign_interface t v i at there present =
       let is = h.interfaces.3.each t v i at there in
-      let here = front_interface t i there in
+      let here = prefix_interface t i there in
       record {
-        done = front_interface_done files ks t v i is;
-        whose = interface_owner_at interfaces worlds no_two t (visited v) stands;
+        done = prefix_interface_done files ks t v i is;
+        whose = interface_owner_at interfaces worlds no_two t (visited v) present;
         types = is.1;
         made = no_functions ks (visited v);
         apart = differ_none;
@@ -152,12 +152,12 @@ module _ (files : List PackageFile) (legal : IsLegal files) (p : UnresolvedPacka
       }
 
   pub foreign_world : (t : ℕ) (v : ForeignVisit) (w : World) → slice_get (foreign_worlds files) t ≡ Some v → slice_get h.worlds.0 t ≡ Some w → slice_get worlds t ≡ Some (visited v) → Known (world_scope t v)
-  foreign_world t v w at there stands =
+  foreign_world t v w at there present =
       let is = h.worlds.3.each t v w at there in
-      let here = front_world t w there in
+      let here = prefix_world t w there in
       record {
-        done = front_world_done files (uses_lead files legal) t v at;
-        whose = world_owner_at interfaces worlds no_two t (visited v) stands;
+        done = prefix_world_done files (uses_lead files legal) t v at;
+        whose = world_owner_at interfaces worlds no_two t (visited v) present;
         types = record { names = refl; places = λ k name id k_at. absurd (let f : ⊥ = cc in f) };
         made = no_functions ks (visited v);
         apart = differ_none;
@@ -168,7 +168,7 @@ module _ (files : List PackageFile) (legal : IsLegal files) (p : UnresolvedPacka
 
   -- the scope of an interface of the files, where the package calls it by its address
   pub resolved_interface : (t : ℕ) (o : Ordered) (i : Interface) → slice_get (os ++ all_inside ws) t ≡ Some o → slice_get h.interfaces.1 t ≡ Some i → slice_get interfaces (length ss + t) ≡ Some (address o.item) → IsItem files o → is_world o.item ≡ false → owner_of p (owner.Interface (length ss + t)) ≡ Some (address o.item) → Has (owner.Interface (length ss + t)) (address o.item)
-  resolved_interface t o i at there stands it own called =
+  resolved_interface t o i at there present it own called =
       let is = h.interfaces.4.each t o i at there in
       let here = own_interface t i there in
       record {
@@ -177,7 +177,7 @@ module _ (files : List PackageFile) (legal : IsLegal files) (p : UnresolvedPacka
         owner = refl;
         known = record {
           done = record { turn = turn_is files legal o it; listed = is.types.names; functions = sym (functions_are files legal o it); stated = stated_placed (functions o.item) is.functions.0 i (functions_imported o.item own) is.functions.2 };
-          whose = interface_owner_at interfaces worlds no_two (length ss + t) (address o.item) stands;
+          whose = interface_owner_at interfaces worlds no_two (length ss + t) (address o.item) present;
           types = is.types;
           made = is.functions.1;
           apart = functions_apart files legal o it;

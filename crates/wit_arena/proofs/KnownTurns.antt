@@ -14,18 +14,18 @@ use Rattle.wit_syntax.specs.Foreign.{visited, foreign_interfaces, foreign_worlds
 use Rattle.wit_syntax.specs.Function.{SourceFunction, functions}
 use Rattle.wit_syntax.specs.Sides.{SideItem, SideFunction, SideLink, SideInline, item_function, side_items}
 use Rattle.wit_syntax.specs.Source.{ScopeName, address}
-use Rattle.wit_syntax.specs.Trees.{scope}
-use Rattle.wit_syntax.proofs.Kept.{behind_one}
+use Rattle.wit_syntax.specs.ScopesOfTrees.{scope}
+use Rattle.wit_syntax.proofs.Kept.{after_one}
 use Rattle.wit_syntax.proofs.Legal.{functions_items}
-use Rattle.wit_syntax.proofs.Lists.{at_front, at_back, map_at, flat_map_at, flat_map_has}
+use Rattle.wit_syntax.proofs.Lists.{at_prefix, at_back, map_at, flat_map_at, flat_map_has}
 use Rattle.wit_syntax.proofs.Turns.{at_part}
-use Rattle.wit_arena.specs.Meet.{Key, keys}
+use Rattle.wit_arena.specs.Occurrences.{Key, keys}
 use Rattle.wit_arena.specs.Whole.{Ordered, OrderedWorld, Turned, addresses, all_inside, all_turns, functions_at, interface_addresses, ordered_names, side_turns, turned, world_addresses, world_turns, IsPackage}
 use Rattle.wit_arena.proofs.Faithful.{IsOwnerOf}
 use Rattle.wit_arena.proofs.KnownItems.{IsItem, functions_are, inside_item, interface_item, turn_is, world_item}
 use Rattle.wit_arena.proofs.KnownOwners.{has_interface, has_world}
 use Rattle.wit_arena.proofs.KnownScopes.{IsKnown}
-use Rattle.wit_arena.proofs.Standing.{DoneScope}
+use Rattle.wit_arena.proofs.Members.{DoneScope}
 use Rattle.wit_arena.proofs.Turns.{names_turn, function_turn}
 
 -- an element for each of a list, so that this holds of the two and of their place
@@ -53,24 +53,24 @@ chosen P (x ∷ xs) each = (let first = each 0 x refl in chosen_more P x xs firs
 -- a scope that is resolved has the address, some of the names and some of the functions of one of these
 pub record IsPartOf (cs : List DoneScope) (t : Turned) : Type 0 where
   pub place : ℕ
-  pub cell : DoneScope
-  pub at : slice_get cs place ≡ Some cell
-  pub scope : cell.address ≡ t.address
-  pub names : (k : ℕ) (x : ScopeName) → slice_get t.names k ≡ Some x → (j : ℕ) × (slice_get cell.names j ≡ Some x)
-  pub functions : (k : ℕ) (fn : SourceFunction) → slice_get t.functions k ≡ Some fn → (j : ℕ) × (slice_get cell.functions j ≡ Some fn)
+  pub resolved_scope : DoneScope
+  pub at : slice_get cs place ≡ Some resolved_scope
+  pub scope : resolved_scope.address ≡ t.address
+  pub names : (k : ℕ) (x : ScopeName) → slice_get t.names k ≡ Some x → (j : ℕ) × (slice_get resolved_scope.names j ≡ Some x)
+  pub functions : (k : ℕ) (fn : SourceFunction) → slice_get t.functions k ≡ Some fn → (j : ℕ) × (slice_get resolved_scope.functions j ≡ Some fn)
 
 -- its names alone, and one of its functions alone
 names_part : (cs : List DoneScope) (t : Turned) → IsPartOf cs t → IsPartOf cs (names_turn t.address t.names)
-names_part cs t h = record { place = h.place; cell = h.cell; at = h.at; scope = h.scope; names = h.names; functions = λ k fn at. absurd (let f : ⊥ = cc in f) }
+names_part cs t h = record { place = h.place; resolved_scope = h.resolved_scope; at = h.at; scope = h.scope; names = h.names; functions = λ k fn at. absurd (let f : ⊥ = cc in f) }
 
 function_part : (cs : List DoneScope) (t : Turned) (j : ℕ) (g : SourceFunction) → slice_get t.functions j ≡ Some g → IsPartOf cs t → IsPartOf cs (function_turn t.address g)
-function_part cs t j g there h = record { place = h.place; cell = h.cell; at = h.at; scope = h.scope; names = λ k x at. absurd (let f : ⊥ = cc in f); functions = only }
+function_part cs t j g there h = record { place = h.place; resolved_scope = h.resolved_scope; at = h.at; scope = h.scope; names = λ k x at. absurd (let f : ⊥ = cc in f); functions = only }
   where
-    only : (k : ℕ) (fn : SourceFunction) → slice_get (g ∷ []) k ≡ Some fn → (i : ℕ) × (slice_get h.cell.functions i ≡ Some fn)
+    only : (k : ℕ) (fn : SourceFunction) → slice_get (g ∷ []) k ≡ Some fn → (i : ℕ) × (slice_get h.resolved_scope.functions i ≡ Some fn)
     only zero fn at = h.functions j fn (there ∙ at)
     only (suc k) fn at = absurd (let f : ⊥ = cc in f)
 
--- what holds of functions and of interfaces that are written in a world holds of all that stands on its sides
+-- what holds of functions and of interfaces that are written in a world holds of all that is on its sides
 side_parts : (P : Turned → Type 0) (s : Address) (xs : List SideItem) (os : List Ordered) → ((k : ℕ) (fn : SourceFunction) → slice_get (flat_map item_function xs) k ≡ Some fn → P (function_turn s fn)) → ((k : ℕ) (o : Ordered) → slice_get os k ≡ Some o → P (turned o)) → (k : ℕ) (t : Turned) → slice_get (side_turns s xs os) k ≡ Some t → P t
 side_parts P s [] os fns inner k t at = absurd (let f : ⊥ = cc in f)
 side_parts P s (SideFunction fn ∷ xs) os fns inner zero t at = subst P (let same : function_turn s fn ≡ t = cc in same) (fns 0 fn refl)
@@ -88,7 +88,7 @@ module _ (files : List PackageFile) (legal : IsLegal files) (p : UnresolvedPacka
   ws = h.first.worlds
 
   abbrev ks : List Key
-  ks = keys h.met
+  ks = keys h.seen
 
   abbrev interfaces : List Address
   interfaces = interface_addresses files (os ++ all_inside ws)
@@ -118,49 +118,49 @@ module _ (files : List PackageFile) (legal : IsLegal files) (p : UnresolvedPacka
     | inr b ↦ (of_worlds.at b.0 c b.1).1.2
   ]
 
-  pub interface_cell : (t : ℕ) (s : Address) → slice_get interfaces t ≡ Some s → IsOwnerOf scopes (owner.Interface t) s
-  interface_cell t s at = let c = of_interfaces.has t s at in record { place = t; cell = c.0; at = at_front of_interfaces.all of_worlds.all t c.0 c.1; whose = c.2.1; scope = c.2.0 }
+  pub interface_resolved_scope : (t : ℕ) (s : Address) → slice_get interfaces t ≡ Some s → IsOwnerOf scopes (owner.Interface t) s
+  interface_resolved_scope t s at = let c = of_interfaces.has t s at in record { place = t; resolved_scope = c.0; at = at_prefix of_interfaces.all of_worlds.all t c.0 c.1; whose = c.2.1; scope = c.2.0 }
 
-  pub world_cell : (t : ℕ) (s : Address) → slice_get worlds t ≡ Some s → IsOwnerOf scopes (owner.World t) s
-  world_cell t s at = let c = of_worlds.has t s at in record { place = length of_interfaces.all + t; cell = c.0; at = at_back of_interfaces.all of_worlds.all t c.0 c.1; whose = c.2.1; scope = c.2.0 }
+  pub world_resolved_scope : (t : ℕ) (s : Address) → slice_get worlds t ≡ Some s → IsOwnerOf scopes (owner.World t) s
+  world_resolved_scope t s at = let c = of_worlds.has t s at in record { place = length of_interfaces.all + t; resolved_scope = c.0; at = at_back of_interfaces.all of_worlds.all t c.0 c.1; whose = c.2.1; scope = c.2.0 }
 
   -- an item is resolved as the scope at its address
   item_part : (o : Ordered) (whose : TypeOwner) → IsItem files o → IsOwnerOf scopes whose (address o.item) → IsPartOf scopes (turned o)
   item_part o whose it c =
-      let done = (known_at c.place c.cell c.at).done in
+      let done = (known_at c.place c.resolved_scope c.at).done in
       let turn = turn_is files legal o it in
-      let same : c.cell.functions ≡ functions o.item = done.functions ∙ ap (functions_at files) c.scope ∙ functions_are files legal o it in
+      let same : c.resolved_scope.functions ≡ functions o.item = done.functions ∙ ap (functions_at files) c.scope ∙ functions_are files legal o it in
       record {
         place = c.place;
-        cell = c.cell;
+        resolved_scope = c.resolved_scope;
         at = c.at;
         scope = c.scope;
         names = λ k x at. (let q = turn.among k x at in done.turn.has q.0 x (ap (λ (s : Address). slice_get (scope files s) q.0) c.scope ∙ q.1));
         functions = λ k fn at. (k, ap (λ (l : List SourceFunction). slice_get l k) same ∙ at);
       }
 
-  -- an interface of the files stands behind those of other packages
+  -- an interface of the files comes after those of other packages
   listed : (t : ℕ) (o : Ordered) → slice_get (os ++ all_inside ws) t ≡ Some o → slice_get interfaces (length (map visited (foreign_interfaces files)) + t) ≡ Some (address o.item)
   listed t o at = at_back (map visited (foreign_interfaces files)) (addresses (os ++ all_inside ws)) t (address o.item) (slice_get-map (λ (o : Ordered). address o.item) (os ++ all_inside ws) t ∙ ap (option_map (λ (o : Ordered). address o.item)) at)
 
   interface_part : (t : ℕ) (o : Ordered) → slice_get os t ≡ Some o → IsPartOf scopes (turned o)
   interface_part t o at =
       let place = length (map visited (foreign_interfaces files)) + t in
-      item_part o (owner.Interface place) (interface_item files legal os ws h.first.ordered t o at) (interface_cell place (address o.item) (listed t o (at_front os (all_inside ws) t o at)))
+      item_part o (owner.Interface place) (interface_item files legal os ws h.first.ordered t o at) (interface_resolved_scope place (address o.item) (listed t o (at_prefix os (all_inside ws) t o at)))
 
   inside_part : (t : ℕ) (o : Ordered) → slice_get (all_inside ws) t ≡ Some o → IsPartOf scopes (turned o)
   inside_part t o at =
       let place = length (map visited (foreign_interfaces files)) + (length os + t) in
-      item_part o (owner.Interface place) (inside_item files legal os ws h.first.ordered t o at) (interface_cell place (address o.item) (listed (length os + t) o (at_back os (all_inside ws) t o at)))
+      item_part o (owner.Interface place) (inside_item files legal os ws h.first.ordered t o at) (interface_resolved_scope place (address o.item) (listed (length os + t) o (at_back os (all_inside ws) t o at)))
 
   world_part : (t : ℕ) (w : OrderedWorld) → slice_get ws t ≡ Some w → IsPartOf scopes (turned w.own)
   world_part t w at =
       let others = map visited (foreign_worlds files) in
       let place = length others + t in
-      let stands = at_back others (map (λ (w : OrderedWorld). address w.own.item) ws) t (address w.own.item) (slice_get-map (λ (w : OrderedWorld). address w.own.item) ws t ∙ ap (option_map (λ (w : OrderedWorld). address w.own.item)) at) in
-      item_part w.own (owner.World place) (world_item files legal os ws h.first.ordered t w at) (world_cell place (address w.own.item) stands)
+      let present = at_back others (map (λ (w : OrderedWorld). address w.own.item) ws) t (address w.own.item) (slice_get-map (λ (w : OrderedWorld). address w.own.item) ws t ∙ ap (option_map (λ (w : OrderedWorld). address w.own.item)) at) in
+      item_part w.own (owner.World place) (world_item files legal os ws h.first.ordered t w at) (world_resolved_scope place (address w.own.item) present)
 
-  -- what stands on the sides of a world
+  -- what is on the sides of a world
   on_sides : (t : ℕ) (w : OrderedWorld) → slice_get ws t ≡ Some w → (k : ℕ) (turn : Turned) → slice_get (side_turns (address w.own.item) (side_items w.own.item) w.inside) k ≡ Some turn → IsPartOf scopes turn
   on_sides t w at = side_parts (IsPartOf scopes) (address w.own.item) (side_items w.own.item) w.inside (λ k fn fn_at. function_part scopes (turned w.own) k fn (ap (λ (l : List SourceFunction). slice_get l k) (functions_items w.own.item) ∙ fn_at) (world_part t w at)) (λ k o o_at. (let q = flat_map_has (λ (v : OrderedWorld). v.inside) ws t k w o at o_at in inside_part q.0 o q.1))
 
@@ -170,7 +170,7 @@ module _ (files : List PackageFile) (legal : IsLegal files) (p : UnresolvedPacka
     | inl own ↦ (let o = map_at turned os own.0 t own.1 in subst (IsPartOf scopes) o.2 (interface_part own.0 o.0 o.1))
     | inr far ↦ (
         let w = flat_map_at world_turns ws far.0 t far.1 in
-        elim (behind_one (names_turn (address w.1.own.item) (ordered_names w.1.own)) (side_turns (address w.1.own.item) (side_items w.1.own.item) w.1.inside) w.3.0 t w.3.1) [
+        elim (after_one (names_turn (address w.1.own.item) (ordered_names w.1.own)) (side_turns (address w.1.own.item) (side_items w.1.own.item) w.1.inside) w.3.0 t w.3.1) [
           | inl names ↦ subst (IsPartOf scopes) names (names_part scopes (turned w.1.own) (world_part w.0 w.1 w.2))
           | inr side ↦ on_sides w.0 w.1 w.2 side.0 t side.1
         ])

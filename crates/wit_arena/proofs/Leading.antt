@@ -20,14 +20,14 @@ use Rattle.wit_package_names.specs.declared.package_name.PackageName.{PackageNam
 use Rattle.wit_graph.specs.Table.{Row, target, IsEdge, Leads, IsOrder}
 use Rattle.wit_graph.proofs.Tables.{slice_get-take}
 use Rattle.wit_syntax.specs.Address.{Address, InterfaceNamed, ForeignNamed, is_foreign}
-use Rattle.wit_syntax.specs.Source.{TopName, Declared, TheInterface, TheWorld, TheInline, Part, Defining, Using, Including, Doing, Crossing, interface_part, Target, Local, Foreign, leads, path_scope, Item, Used, all_items, item_name, is_world, parts, item_named, scope_names, taking, takings, about, target_scope}
+use Rattle.wit_syntax.specs.Source.{TopName, Declared, TheInterface, TheWorld, TheInline, Part, DefinitionPart, UsePart, IncludePart, FunctionPart, ExternPart, interface_part, Target, Local, Foreign, leads, path_scope, Item, Used, all_items, item_name, is_world, parts, item_named, scope_names, use_of_foreign, foreign_uses, about, target_scope}
 use Rattle.wit_syntax.specs.Foreign.{ForeignVisit, visited, foreign_interfaces}
 use Rattle.wit_syntax.specs.Scope.{in_order, include_path, use_paths, include_paths, needed_paths, local_target, item_row, item_rows, uses, part_includes, includes}
 use Rattle.wit_syntax.specs.Sides.{with_inline, all_scopes}
 use Rattle.wit_syntax.specs.Broken.{is_world_at}
 use Rattle.wit_arena.specs.Resolved.{AreUsableUses}
 use Rattle.wit_syntax.specs.Repeats.{AllDiffer}
-use Rattle.wit_syntax.proofs.Lists.{at_front, at_within, flat_map_at, flat_map_has}
+use Rattle.wit_syntax.proofs.Lists.{at_prefix, at_within, flat_map_at, flat_map_has}
 use Rattle.wit_syntax.proofs.Names.{name_equal}
 use Rattle.wit_syntax.proofs.Tables.{place_of-Some}
 use Rattle.wit_syntax.proofs.Orders.{in_order-append, in_order_has}
@@ -37,7 +37,7 @@ use Rattle.wit_syntax.proofs.Inline.{with_uses}
 use Rattle.wit_arena.proofs.Itemizing.{named_found, used_part, length-item_rows}
 use Rattle.wit_syntax.proofs.Rows.{item_row_at}
 use Rattle.wit_arena.proofs.Visits.{use_at, use_path_at, used_interface_visit}
-use Rattle.wit_arena.proofs.Takings.{taking_has}
+use Rattle.wit_arena.proofs.ForeignUses.{foreign_use_has}
 
 pub same_some : {X : Type 0} (o : Option X) (x y : X) → o ≡ Some x → o ≡ Some y → x ≡ y
 same_some o x y a b = let both : Some x ≡ Some y = sym a ∙ b in cc
@@ -46,13 +46,13 @@ pub option_cases : {X : Type 0} (o : Option X) (R : Type 0) → ((x : X) → o �
 option_cases None R some none = none refl
 option_cases (Some x) R some none = some x refl
 
--- what a test keeps of those at the first places stands in the front of what it keeps of all
-pub kept_front : {X : Type 0} (test : X → Bool) (xs : List X) (places : List ℕ) (n i : ℕ) (x : X) → slice_get (filter test (in_order xs (take n places))) i ≡ Some x → slice_get (filter test (in_order xs places)) i ≡ Some x
-kept_front test xs places n i x at =
-    let front = in_order xs (take n places) in
+-- what a test keeps of those at the first places is in the prefix of what it keeps of all
+pub kept_prefix : {X : Type 0} (test : X → Bool) (xs : List X) (places : List ℕ) (n i : ℕ) (x : X) → slice_get (filter test (in_order xs (take n places))) i ≡ Some x → slice_get (filter test (in_order xs places)) i ≡ Some x
+kept_prefix test xs places n i x at =
+    let prefix = in_order xs (take n places) in
     let back = in_order xs (drop n places) in
-    let whole : filter test (in_order xs places) ≡ filter test front ++ filter test back = ap (λ ps. filter test (in_order xs ps)) (sym (take-append-drop n places)) ∙ ap (filter test) (in_order-append xs (take n places) (drop n places)) ∙ filter-append test front back in
-    ap (λ l. slice_get l i) whole ∙ at_front (filter test front) (filter test back) i x at
+    let whole : filter test (in_order xs places) ≡ filter test prefix ++ filter test back = ap (λ ps. filter test (in_order xs ps)) (sym (take-append-drop n places)) ∙ ap (filter test) (in_order-append xs (take n places) (drop n places)) ∙ filter-append test prefix back in
+    ap (λ l. slice_get l i) whole ∙ at_prefix (filter test prefix) (filter test back) i x at
 
 -- and one of those at the first places that passes it is kept
 pub kept_early : {X : Type 0} (test : X → Bool) (xs : List X) (places : List ℕ) (n t q : ℕ) (x : X) → t < n → slice_get places t ≡ Some q → slice_get xs q ≡ Some x → test x ≡ true → (i : ℕ) × (slice_get (filter test (in_order xs (take n places))) i ≡ Some x)
@@ -70,12 +70,12 @@ paths_of_world w h = ap (λ (world : Bool). if world then include_paths w else u
 -- the path of an include is that of one of the includes
 include_of : (ps : List Part) (k : ℕ) (path : UsePath) → slice_get (flat_map include_path ps) k ≡ Some path → (i : Include) × (slice_get (flat_map part_includes ps) k ≡ Some i) × (path ≡ i.from)
 include_of [] k path at = absurd (let f : ⊥ = cc in f)
-include_of (Defining d ∷ ps) k path at = include_of ps k path at
-include_of (Using u ∷ ps) k path at = include_of ps k path at
-include_of (Doing f ∷ ps) k path at = include_of ps k path at
-include_of (Crossing x ∷ ps) k path at = include_of ps k path at
-include_of (Including i ∷ ps) zero path at = (i, refl, cc)
-include_of (Including i ∷ ps) (suc k) path at = include_of ps k path at
+include_of (DefinitionPart d ∷ ps) k path at = include_of ps k path at
+include_of (UsePart u ∷ ps) k path at = include_of ps k path at
+include_of (FunctionPart f ∷ ps) k path at = include_of ps k path at
+include_of (ExternPart x ∷ ps) k path at = include_of ps k path at
+include_of (IncludePart i ∷ ps) zero path at = (i, refl, cc)
+include_of (IncludePart i ∷ ps) (suc k) path at = include_of ps k path at
 
 pub include_at : (w : Item) (path : UsePath) → Contains (include_paths w) path → (k : ℕ) × (i : Include) × (slice_get (includes w) k ≡ Some i) × (path ≡ i.from)
 include_at w path among =
@@ -115,7 +115,7 @@ module _ (files : List PackageFile) where
       let is = same_some (slice_get rs b) r.0 (item_row v.0) r.1 (item_row_at files b v.0 v.1) in
       (v.0, v.1, r.2 ∙ row_name r.0 v.0 is)
 
-  -- what an edge of an item leads to stands before it in the order
+  -- what an edge of an item leads to comes before it in the order
   edge_before : (places : List ℕ) → IsOrder (item_rows files) places → (k p j : ℕ) (id : Id) → slice_get places k ≡ Some p → IsEdge (item_rows files) p j id → (t : ℕ) × (q : ℕ) × (v : Item) × (t < k) × (slice_get places t ≡ Some q) × (slice_get all q ≡ Some v) × (id.name.now ≡ item_name v)
   edge_before places order k p j id next edge =
       let rs = item_rows files in
@@ -130,7 +130,7 @@ module _ (files : List PackageFile) where
       let v = row_item id b.0 b.1 in
       (before.index, b.0, v.0, below, m, v.1, v.2)
 
-  -- what a path of an item that has to come before it leads to stands before it in the order
+  -- what a path of an item that has to come before it leads to comes before it in the order
   pub needed_before : (places : List ℕ) → IsOrder (item_rows files) places → (k p : ℕ) (w : Item) (path : UsePath) (id : Id) → slice_get places k ≡ Some p → slice_get all p ≡ Some w → Contains (needed_paths w) path → leads w.top path ≡ Local id → (t : ℕ) × (q : ℕ) × (v : Item) × (t < k) × (slice_get places t ≡ Some q) × (slice_get all q ≡ Some v) × (id.name.now ≡ item_name v)
   needed_before places order k p w path id next at among lead =
       let i = at_contains (needed_paths w) path among in
@@ -149,7 +149,7 @@ module _ (files : List PackageFile) where
     pub sort : is_world item ≡ false
     pub is : from ≡ InterfaceNamed (item_name item)
 
-  -- and that interface stands before this place in an order
+  -- and that interface comes before this place in an order
   pub record IsUseBefore (places : List ℕ) (k : ℕ) (from : Address) : Type 0 where
     pub own : IsOwnUse from
     pub index : ℕ
@@ -164,9 +164,9 @@ module _ (files : List PackageFile) where
     pub is : visited v ≡ from
     pub attributes : List Attribute
     pub index : ℕ
-    pub taken : slice_get (takings files) index ≡ Some (taking from attributes n)
+    pub in_use : slice_get (foreign_uses files) index ≡ Some (use_of_foreign from attributes n)
 
-  -- a scope stands in an item, with its uses
+  -- a scope is in an item, with its uses
   pub record IsScopeIn (i : Item) : Type 0 where
     pub place : ℕ
     pub item : Item
@@ -197,8 +197,8 @@ module _ (files : List PackageFile) where
     foreign_use q w u j n p id at among name lead =
         let v = used_interface_visit files usable q w u p id at among lead in
         let from : path_scope w.top u.from ≡ ForeignNamed p id.name.now = ap (target_scope InterfaceNamed) lead in
-        let t = taking_has files q w u j n at among name (ap is_foreign from) in
-        record { place = v.0; v = v.1; at = v.2; is = v.3 ∙ sym from; attributes = u.attributes.items; index = t.0; taken = t.1 }
+        let t = foreign_use_has files q w u j n at among name (ap is_foreign from) in
+        record { place = v.0; v = v.1; at = v.2; is = v.3 ∙ sym from; attributes = u.attributes.items; index = t.0; in_use = t.1 }
 
     -- a name that a scope uses comes from an interface of the package, or is taken from one of another
     pub used_interface : (i : Item) (from : Address) (attributes : List Attribute) (n : UseName) → Contains (all_scopes files) i → Contains (scope_names i) (Used from attributes n) → IsOwnUse from ⊎ IsForeignUse from n
@@ -221,14 +221,14 @@ module _ (files : List PackageFile) where
             f))
         by_target q w u j at used name is (Foreign p id) lead = inr (subst (λ (s : Address). IsForeignUse s n) (sym is) (foreign_use q w u j n p id at used name lead))
 
-    -- what an interface of the package uses from stands before it in the order, or is of another package
+    -- what an interface of the package uses from comes before it in the order, or is of another package
     pub used_before : AllDiffer (map item_name all) → (places : List ℕ) → IsOrder (item_rows files) places → (k p : ℕ) (w : Item) (from : Address) (attributes : List Attribute) (n : UseName) → is_world w ≡ false → slice_get places k ≡ Some p → slice_get all p ≡ Some w → Contains (scope_names w) (Used from attributes n) → IsUseBefore places k from ⊎ IsForeignUse from n
     used_before differ places order k p w from attributes n sort next at among =
         let i = at_contains (scope_names w) (Used from attributes n) among in
         let it = used_part w.top (parts w) i.0 from attributes n i.1 in
         by_target it.0 it.1 it.3.0 it.2 it.3.1 it.4 (leads w.top it.1.from) refl
       where
-        by_target : (m : ℕ) (u : Use) (j : ℕ) → slice_get (parts w) m ≡ Some (Using u) → slice_get u.names.items j ≡ Some n → from ≡ path_scope w.top u.from → (t : Target) → leads w.top u.from ≡ t → IsUseBefore places k from ⊎ IsForeignUse from n
+        by_target : (m : ℕ) (u : Use) (j : ℕ) → slice_get (parts w) m ≡ Some (UsePart u) → slice_get u.names.items j ≡ Some n → from ≡ path_scope w.top u.from → (t : Target) → leads w.top u.from ≡ t → IsUseBefore places k from ⊎ IsForeignUse from n
         by_target m u j part name is (Local id) lead =
             let b = needed_before places order k p w u.from id next at (subst (λ (l : List UsePath). Contains l u.from) (sym (paths_of_interface w sort)) (use_path_at w m u part)) lead in
             let found = named_at differ id.name.now b.1 b.2 b.5 b.6 in

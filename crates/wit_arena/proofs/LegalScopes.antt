@@ -9,30 +9,30 @@ use Rattle.wit_tree.specs.declared.tree.Use.{Use as WrittenUse}
 use Rattle.wit_syntax.specs.Address.{Address, InterfaceNamed, WorldNamed, InlineAt, ForeignNamed, same_address}
 use Rattle.wit_syntax.specs.Bodies.{IsSecond}
 use Rattle.wit_syntax.specs.Broken.{is_world_at, IsBrokenNames, DuplicateItem, Items, DefinedTwice, MissingUse, WorldUsed, Scope, Use, IsLegal}
-use Rattle.wit_syntax.specs.Crossing.{extern_paths, inline_uses}
+use Rattle.wit_syntax.specs.ExternPart.{extern_paths, inline_uses}
 use Rattle.wit_syntax.specs.Fault.{Fault, fault, missing_at, item_word}
 use Rattle.wit_syntax.specs.Foreign.{foreign_at, ForeignVisit}
 use Rattle.wit_syntax.specs.Repeats.{AllDiffer}
 use Rattle.wit_syntax.specs.Scope.{AreDistinct, used, defined, use_path, use_paths, part_uses, uses}
 use Rattle.wit_syntax.specs.Sides.{all_scopes}
-use Rattle.wit_syntax.specs.Source.{Part, Defining, Using, Including, Doing, Crossing, Target, Local, Foreign, Item, address, all_items, item_at, item_name, item_named, is_world, leads, local_id, local_name, parts, path_id, scope_names, about}
-use Rattle.wit_syntax.specs.Trees.{scope}
+use Rattle.wit_syntax.specs.Source.{Part, DefinitionPart, UsePart, IncludePart, FunctionPart, ExternPart, Target, Local, Foreign, Item, address, all_items, item_at, item_name, item_named, is_world, leads, local_id, local_name, parts, path_id, scope_names, about}
+use Rattle.wit_syntax.specs.ScopesOfTrees.{scope}
 use Rattle.wit_syntax.proofs.Found.{at_contains, contains_at, find_at}
 use Rattle.wit_syntax.proofs.Legal.{three_ways}
-use Rattle.wit_syntax.proofs.Lists.{at_front, flat_map_at, flat_map_has}
+use Rattle.wit_syntax.proofs.Lists.{at_prefix, flat_map_at, flat_map_has}
 use Rattle.wit_syntax.proofs.Repeated.{differ_by}
 use Rattle.wit_syntax.proofs.Turns.{distinct_names, distinct_none}
 use Rattle.wit_arena.specs.Resolved.{AreUsableUses}
-use Rattle.wit_arena.proofs.Takings.{taken_distinct}
+use Rattle.wit_arena.proofs.ForeignUses.{used_distinct}
 use Rattle.wit_arena.proofs.Visits.{visit_listed, foreign_at-visited, leads_visited}
 
--- where nothing stands behind another of its key, no two have one
-pub all_differ : {X : Type 0} (key : X → List ℕ) (told : X → Fault) (xs : List X) → ((f : Fault) → IsSecond key told xs f → ⊥) → AllDiffer (map key xs)
-all_differ key told xs never = differ_by key xs (λ i j x y at_x at_y same. elim (three_ways i j) [
-  | inl before ↦ absurd (never (told y) (y, (i, j, before, x, at_x, at_y, same), refl))
+-- where nothing comes after another of its key, no two have one
+pub all_differ : {X : Type 0} (key : X → List ℕ) (as_stated : X → Fault) (xs : List X) → ((f : Fault) → IsSecond key as_stated xs f → ⊥) → AllDiffer (map key xs)
+all_differ key as_stated xs never = differ_by key xs (λ i j x y at_x at_y same. elim (three_ways i j) [
+  | inl before ↦ absurd (never (as_stated y) (y, (i, j, before, x, at_x, at_y, same), refl))
   | inr rest ↦ elim rest [
     | inl one ↦ one
-    | inr behind ↦ absurd (never (told x) (x, (j, i, behind, y, at_y, at_x, sym same), refl))
+    | inr rest_after ↦ absurd (never (as_stated x) (x, (j, i, rest_after, y, at_y, at_x, sym same), refl))
   ]
 ])
 
@@ -42,12 +42,12 @@ distinct_items files legal = all_differ item_name (λ (i : Item). fault 5 (about
 
 -- the path of a `use` of a part is one of it
 path_of_use : (x : Part) (j : ℕ) (u : WrittenUse) → slice_get (part_uses x) j ≡ Some u → (i : ℕ) × (slice_get (use_path x) i ≡ Some u.from)
-path_of_use (Defining d) j u at = absurd (let f : ⊥ = cc in f)
-path_of_use (Using y) zero u at = (0, (let same : y ≡ u = cc in ap (λ (z : WrittenUse). Some z.from) same))
-path_of_use (Using y) (suc j) u at = absurd (let f : ⊥ = cc in f)
-path_of_use (Including n) j u at = absurd (let f : ⊥ = cc in f)
-path_of_use (Doing g) j u at = absurd (let f : ⊥ = cc in f)
-path_of_use (Crossing x) j u at = (j, at_front (map (λ (u : WrittenUse). u.from) (inline_uses x.kind)) (extern_paths x.kind) j u.from (slice_get-map (λ (u : WrittenUse). u.from) (inline_uses x.kind) j ∙ ap (option_map (λ (u : WrittenUse). u.from)) at))
+path_of_use (DefinitionPart d) j u at = absurd (let f : ⊥ = cc in f)
+path_of_use (UsePart y) zero u at = (0, (let same : y ≡ u = cc in ap (λ (z : WrittenUse). Some z.from) same))
+path_of_use (UsePart y) (suc j) u at = absurd (let f : ⊥ = cc in f)
+path_of_use (IncludePart n) j u at = absurd (let f : ⊥ = cc in f)
+path_of_use (FunctionPart g) j u at = absurd (let f : ⊥ = cc in f)
+path_of_use (ExternPart x) j u at = (j, at_prefix (map (λ (u : WrittenUse). u.from) (inline_uses x.kind)) (extern_paths x.kind) j u.from (slice_get-map (λ (u : WrittenUse). u.from) (inline_uses x.kind) j ∙ ap (option_map (λ (u : WrittenUse). u.from)) at))
 
 -- so it is one of its item
 path_among : (w : Item) (u : WrittenUse) → Contains (uses w) u → Contains (use_paths w) u.from
@@ -63,7 +63,7 @@ module _ (files : List PackageFile) (legal : IsLegal files) where
   pub names_differ : (i : Item) → Contains (all_scopes files) i → AreDistinct (scope_names i)
   names_differ i among = distinct_names (scope_names i) (all_differ local_name (λ x. fault 14 (local_id x).span) (used (scope_names i) ++ defined (scope_names i)) (λ f second. legal f (Scope i among (DefinedTwice second))))
 
-  -- what stands at an address is a scope of the files
+  -- what is at an address is a scope of the files
   pub scope_among : (s : Address) (i : Item) → item_at (all_scopes files) s ≡ Some i → Contains (all_scopes files) i
   scope_among s i found = (let it = find_at (λ (w : Item). same_address (address w) s) (all_scopes files) i found in contains_at (all_scopes files) it.0 i it.1)
 
@@ -79,13 +79,13 @@ module _ (files : List PackageFile) (legal : IsLegal files) where
   scope_differs (InterfaceNamed name) = at_address (InterfaceNamed name)
   scope_differs (WorldNamed name) = at_address (WorldNamed name)
   scope_differs (InlineAt world side place) = at_address (InlineAt world side place)
-  scope_differs (ForeignNamed p name) = taken_distinct files (ForeignNamed p name)
+  scope_differs (ForeignNamed p name) = used_distinct files (ForeignNamed p name)
 
   -- no `use` leads to a world
   no_world_used : (w : Item) (u : WrittenUse) → Contains (all_items files) w → Contains (uses w) u → is_world_at files (leads w.top u.from) ≡ Some true → ⊥
   no_world_used w u among used to = legal (fault 10 (path_id u.from).span) (Use w among (WorldUsed u.from (path_among w u used) to refl))
 
-  -- where a `use` leads to a name, an item of that name stands there, and it is an interface
+  -- where a `use` leads to a name, an item of that name is there, and it is an interface
   local_use : (w : Item) (u : WrittenUse) → Contains (all_items files) w → Contains (uses w) u → (t : Target) → leads w.top u.from ≡ t → (o : Option Item) → is_world_at files t ≡ option_map is_world o → (o ≡ None → ⊥) → is_world_at files t ≡ Some false
   local_use w u among used t lead None at missing = absurd (missing refl)
   local_use w u among used t lead (Some i) at missing = elim (cases_Bool (is_world i)) [

@@ -1,4 +1,4 @@
--- Where a function tells the place of each key, the arenas of interfaces and of worlds are told.
+-- Where a function gives the place of each key, the arenas of interfaces and of worlds are stated.
 use Rattle.std.proofs.Common.{◌≡◌, ℕ, suc, List, [], ◌∷◌, ◌++◌, Some, refl, ap, ◌∙◌, sym, arith}
 use Rattle.std.specs.Prelude.{slice_get, map}
 use Rattle.wit_tree.specs.declared.tree.PackageFile.{PackageFile}
@@ -9,39 +9,39 @@ use Rattle.wit_syntax.specs.Foreign.{ForeignVisit, foreign_interfaces}
 use Rattle.wit_syntax.specs.Sides.{inline_items}
 use Rattle.wit_syntax.proofs.Lists.{map_map}
 use Rattle.wit_arena.specs.Made.{names_in_turn, foreign_interface, own_interface, foreign_world, own_world}
-use Rattle.wit_arena.specs.Meet.{Key}
+use Rattle.wit_arena.specs.Occurrences.{Key}
 use Rattle.wit_arena.specs.OneByOne.{OneByOne, BothParts}
 use Rattle.wit_arena.specs.Package.{IsForeignWorld}
 use Rattle.wit_arena.specs.Whole.{Ordered, OrderedWorld, ordered_names, IsForeignInterface, IsResolvedInterface, IsResolvedWorld}
-use Rattle.wit_arena.proofs.MadeInterfaces.{foreign_interface-told, own_interface-told}
+use Rattle.wit_arena.proofs.MadeInterfaces.{foreign_interface-as_stated, own_interface-as_stated}
 use Rattle.wit_arena.proofs.MadeSides.{ArePlaced}
-use Rattle.wit_arena.proofs.MadeWorlds.{foreign_world-told, own_world-told}
-use Rattle.wit_arena.proofs.Placing.{TellsPlaces}
+use Rattle.wit_arena.proofs.MadeWorlds.{foreign_world-as_stated, own_world-as_stated}
+use Rattle.wit_arena.proofs.Placing.{GivesPlaces}
 use Rattle.wit_arena.proofs.PlacingFunctions.{one_by_one-map}
 use Rattle.wit_arena.proofs.Turns.{item_of, own_item}
 
--- what stands one by one beside a list, where what stands beside each of its elements is told, is its image
+-- what is one by one beside a list, where what is beside each of its elements is stated, is its image
 one_by_one-image : {X Y : Type 0} (Holds : X → Y → Type 0) (f : X → Y) (xs : List X) (ys : List Y) → ((k : ℕ) (x : X) (y : Y) → slice_get xs k ≡ Some x → Holds x y → y ≡ f x) → OneByOne Holds xs ys → ys ≡ map f xs
-one_by_one-image Holds f [] [] told h = refl
-one_by_one-image Holds f [] (y ∷ ys) told h = absurd (let count = h.count in let f : ⊥ = omega (arith, count) in f)
-one_by_one-image Holds f (x ∷ xs) [] told h = absurd (let count = h.count in let f : ⊥ = omega (arith, count) in f)
-one_by_one-image Holds f (x ∷ xs) (y ∷ ys) told h =
+one_by_one-image Holds f [] [] as_stated h = refl
+one_by_one-image Holds f [] (y ∷ ys) as_stated h = absurd (let count = h.count in let f : ⊥ = omega (arith, count) in f)
+one_by_one-image Holds f (x ∷ xs) [] as_stated h = absurd (let count = h.count in let f : ⊥ = omega (arith, count) in f)
+one_by_one-image Holds f (x ∷ xs) (y ∷ ys) as_stated h =
     let count = h.count in
     let rest : OneByOne Holds xs ys = record { count = omega (arith, count); each = λ k. h.each (suc k) } in
-    ap (λ z. z ∷ ys) (told 0 x y refl (h.each 0 x y refl refl)) ∙ ap (λ l. f x ∷ l) (one_by_one-image Holds f xs ys (λ k. told (suc k)) rest)
+    ap (λ z. z ∷ ys) (as_stated 0 x y refl (h.each 0 x y refl refl)) ∙ ap (λ l. f x ∷ l) (one_by_one-image Holds f xs ys (λ k. as_stated (suc k)) rest)
 
 module _ {X Y Z : Type 0} (First : X → Z → Type 0) (Then : Y → Z → Type 0) (f : X → Z) (g : Y → Z) where
   both_parts-images : (xs : List X) (ys : List Y) (zs : List Z) → ((x : X) (z : Z) → First x z → z ≡ f x) → ((k : ℕ) (y : Y) (z : Z) → slice_get ys k ≡ Some y → Then y z → z ≡ g y) → BothParts First Then xs ys zs → zs ≡ map f xs ++ map g ys
   both_parts-images xs ys zs first then both = both.2 ∙ ap (λ (l : List Z). l ++ both.1) (one_by_one-map First f first xs both.0 both.3) ∙ ap (λ (l : List Z). map f xs ++ l) (one_by_one-image Then g ys both.1 then both.4)
 
-module _ (id : Key → ℕ) (ks : List Key) (tells : TellsPlaces id ks) (order : Address → List ℕ) where
-  pub interfaces-told : (files : List PackageFile) (os : List Ordered) (xs : List Interface) → ((k : ℕ) (o : Ordered) → slice_get os k ≡ Some o → ordered_names o ≡ names_in_turn order o.item) → BothParts (IsForeignInterface files ks) (IsResolvedInterface ks) (foreign_interfaces files) os xs → xs ≡ map (foreign_interface files id) (foreign_interfaces files) ++ map (own_interface id order) (map item_of os)
-  interfaces-told files os xs in_turn both =
-      let own = both_parts-images (IsForeignInterface files ks) (IsResolvedInterface ks) (foreign_interface files id) (λ (o : Ordered). own_interface id order o.item) (foreign_interfaces files) os xs (foreign_interface-told id ks tells files) (λ k o i at. own_interface-told id ks tells order o i (in_turn k o at)) both in
+module _ (id : Key → ℕ) (ks : List Key) (gives : GivesPlaces id ks) (order : Address → List ℕ) where
+  pub interfaces-as_stated : (files : List PackageFile) (os : List Ordered) (xs : List Interface) → ((k : ℕ) (o : Ordered) → slice_get os k ≡ Some o → ordered_names o ≡ names_in_turn order o.item) → BothParts (IsForeignInterface files ks) (IsResolvedInterface ks) (foreign_interfaces files) os xs → xs ≡ map (foreign_interface files id) (foreign_interfaces files) ++ map (own_interface id order) (map item_of os)
+  interfaces-as_stated files os xs in_turn both =
+      let own = both_parts-images (IsForeignInterface files ks) (IsResolvedInterface ks) (foreign_interface files id) (λ (o : Ordered). own_interface id order o.item) (foreign_interfaces files) os xs (foreign_interface-as_stated id ks gives files) (λ k o i at. own_interface-as_stated id ks gives order o i (in_turn k o at)) both in
       own ∙ ap (λ (l : List Interface). map (foreign_interface files id) (foreign_interfaces files) ++ l) (sym (map_map (own_interface id order) item_of os))
 
   module _ (ss : List Address) (placed : ArePlaced ss) (ws : List Address) (worlds_placed : ArePlaced ws) where
-    pub worlds-told : (vs : List ForeignVisit) (os : List OrderedWorld) (xs : List World) → ((k : ℕ) (o : OrderedWorld) → slice_get os k ≡ Some o → (ordered_names o.own ≡ names_in_turn order o.own.item) × (map (λ x. x.item) o.inside ≡ inline_items o.own.item)) → BothParts IsForeignWorld (IsResolvedWorld ks ss ws) vs os xs → xs ≡ map foreign_world vs ++ map (own_world id order ss ws) (map own_item os)
-    worlds-told vs os xs each both =
-        let own = both_parts-images IsForeignWorld (IsResolvedWorld ks ss ws) foreign_world (λ (o : OrderedWorld). own_world id order ss ws o.own.item) vs os xs foreign_world-told (λ k o w at. (let it = each k o at in own_world-told id ks tells ss placed ws worlds_placed order o w it.0 it.1)) both in
+    pub worlds-as_stated : (vs : List ForeignVisit) (os : List OrderedWorld) (xs : List World) → ((k : ℕ) (o : OrderedWorld) → slice_get os k ≡ Some o → (ordered_names o.own ≡ names_in_turn order o.own.item) × (map (λ x. x.item) o.inside ≡ inline_items o.own.item)) → BothParts IsForeignWorld (IsResolvedWorld ks ss ws) vs os xs → xs ≡ map foreign_world vs ++ map (own_world id order ss ws) (map own_item os)
+    worlds-as_stated vs os xs each both =
+        let own = both_parts-images IsForeignWorld (IsResolvedWorld ks ss ws) foreign_world (λ (o : OrderedWorld). own_world id order ss ws o.own.item) vs os xs foreign_world-as_stated (λ k o w at. (let it = each k o at in own_world-as_stated id ks gives ss placed ws worlds_placed order o w it.0 it.1)) both in
         own ∙ ap (λ (l : List World). map foreign_world vs ++ l) (sym (map_map (own_world id order ss ws) own_item os))

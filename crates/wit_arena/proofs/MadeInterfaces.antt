@@ -1,4 +1,4 @@
--- Where a function tells the place of each key, each interface of the package is told.
+-- Where a function gives the place of each key, each interface of the package is stated.
 use Rattle.std.proofs.Common.{◌≡◌, ℕ, List, [], Option, Some, None, ap, ◌∙◌}
 use Rattle.wit_values.specs.declared.span.Span.{Span}
 use Rattle.wit_types.specs.declared.docs.Docs.{Docs}
@@ -10,26 +10,26 @@ use Rattle.wit_model.specs.declared.interface.Interface.{Interface}
 use Rattle.wit_syntax.specs.Address.{Address}
 use Rattle.wit_syntax.specs.Foreign.{ForeignVisit}
 use Rattle.wit_syntax.specs.Function.{functions as item_functions}
-use Rattle.wit_syntax.specs.Notes.{Notes, no_notes}
-use Rattle.wit_syntax.specs.Source.{address, about, declared_notes}
+use Rattle.wit_syntax.specs.Metadata.{Metadata, no_metadata}
+use Rattle.wit_syntax.specs.Source.{address, about, declared_metadata}
 use Rattle.wit_syntax.proofs.Lists.{map_map}
 use Rattle.wit_arena.specs.Functions.{by_name, placed_functions}
 use Rattle.wit_arena.specs.Made.{function_in, interface, foreign_interface, name_places, names_in_turn, own_interface}
-use Rattle.wit_arena.specs.Meet.{Key}
+use Rattle.wit_arena.specs.Occurrences.{Key}
 use Rattle.wit_arena.specs.Package.{IsInterface}
 use Rattle.wit_arena.specs.Whole.{Ordered, ordered_names, turned, IsForeignInterface, IsResolvedInterface}
-use Rattle.wit_arena.proofs.Placing.{TellsPlaces}
+use Rattle.wit_arena.proofs.Placing.{GivesPlaces}
 use Rattle.wit_arena.proofs.PlacingFunctions.{functions-in, types-places}
 use Rattle.wit_arena.proofs.Turns.{foreign_turned}
 
 abbrev fields : Option (List ℕ) → List (List ℕ × ℕ) → List (List ℕ × Function) → Docs → Stability → Option ℕ → Span → Option ℕ → Interface
 fields name types functions docs stability of span source = record { name = name; types = types; functions = functions; docs = docs; stability = stability; «package» = of; span = span; clone_of = source }
 
--- an interface is told by what it says, its types and its functions
-interface_told : (name : Option (List ℕ)) (span : Span) (n : Notes) (i : Interface) (types : List (List ℕ × ℕ)) (functions : List (List ℕ × Function)) → IsInterface name span n i → i.types ≡ types → i.functions ≡ functions → i ≡ interface name types functions n span
-interface_told name span n i types functions says same_types same_functions =
+-- an interface is given by what it says, its types and its functions
+interface_stated : (name : Option (List ℕ)) (span : Span) (n : Metadata) (i : Interface) (types : List (List ℕ × ℕ)) (functions : List (List ℕ × Function)) → IsInterface name span n i → i.types ≡ types → i.functions ≡ functions → i ≡ interface name types functions n span
+interface_stated name span n i types functions says same_types same_functions =
     let called = says.0 in
-    let stands = says.1 in
+    let present = says.1 in
     let docs = says.2 in
     let stability = says.3 in
     let of = says.4 in
@@ -37,14 +37,14 @@ interface_told name span n i types functions says same_types same_functions =
     let same : fields i.name i.types i.functions i.docs i.stability i.package i.span i.clone_of ≡ interface name types functions n span = cc in
     same
 
-module _ (id : Key → ℕ) (ks : List Key) (tells : TellsPlaces id ks) where
-  pub foreign_interface-told : (files : List PackageFile) (v : ForeignVisit) (i : Interface) → IsForeignInterface files ks v i → i ≡ foreign_interface files id v
-  foreign_interface-told files v i h = interface_told None v.id.span no_notes i (foreign_interface files id v).types [] h.0 (types-places id ks tells (foreign_turned files v) i.types h.1) h.2
+module _ (id : Key → ℕ) (ks : List Key) (gives : GivesPlaces id ks) where
+  pub foreign_interface-as_stated : (files : List PackageFile) (v : ForeignVisit) (i : Interface) → IsForeignInterface files ks v i → i ≡ foreign_interface files id v
+  foreign_interface-as_stated files v i h = interface_stated None v.id.span no_metadata i (foreign_interface files id v).types [] h.0 (types-places id ks gives (foreign_turned files v) i.types h.1) h.2
 
-  pub own_interface-told : (order : Address → List ℕ) (o : Ordered) (i : Interface) → ordered_names o ≡ names_in_turn order o.item → IsResolvedInterface ks o i → i ≡ own_interface id order o.item
-  own_interface-told order o i in_turn h =
+  pub own_interface-as_stated : (order : Address → List ℕ) (o : Ordered) (i : Interface) → ordered_names o ≡ names_in_turn order o.item → IsResolvedInterface ks o i → i ≡ own_interface id order o.item
+  own_interface-as_stated order o i in_turn h =
       let s = address o.item in
-      let types = types-places id ks tells (turned o) i.types h.types ∙ ap (name_places id s) in_turn in
-      let made = functions-in id ks tells s (item_functions o.item) h.functions.0 h.functions.1 in
+      let types = types-places id ks gives (turned o) i.types h.types ∙ ap (name_places id s) in_turn in
+      let made = functions-in id ks gives s (item_functions o.item) h.functions.0 h.functions.1 in
       let functions = h.functions.2 ∙ ap placed_functions made ∙ ap (placed Some) (map_map by_name (function_in id s) (item_functions o.item)) in
-      interface_told (about o.item.declared).called (about o.item.declared).id.span (declared_notes o.item.declared) i (own_interface id order o.item).types (own_interface id order o.item).functions h.says types functions
+      interface_stated (about o.item.declared).called (about o.item.declared).id.span (declared_metadata o.item.declared) i (own_interface id order o.item).types (own_interface id order o.item).functions h.says types functions

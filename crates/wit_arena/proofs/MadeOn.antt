@@ -1,56 +1,56 @@
--- Functions of a package that stand on a side.
+-- Functions of a package that are on a side.
 use Rattle.std.proofs.Common.{◌≡◌, ℕ, zero, suc, Bool, true, false, List, [], ◌∷◌, Some, inl, inr, refl, sym, ap, ◌∙◌}
 use Rattle.std.specs.Prelude.{slice_get, if◌then◌else◌}
 use Rattle.std.proofs.lemmas.Bool.{cases_Bool, cond-true, cond-false}
 use Rattle.wit_tree.specs.declared.tree.WorldSide.{WorldSide}
 use Rattle.wit_functions.specs.declared.function.Function.{Function}
 use Rattle.wit_syntax.specs.Function.{SourceFunction}
-use Rattle.wit_syntax.specs.Crossing.{same_side}
+use Rattle.wit_syntax.specs.ExternPart.{same_side}
 use Rattle.wit_syntax.specs.Sides.{role_side}
-use Rattle.wit_syntax.proofs.Kept.{behind_one}
+use Rattle.wit_syntax.proofs.Kept.{after_one}
 use Rattle.wit_syntax.proofs.Addresses.{side_itself, same_side-equal}
 
--- those functions of a package that stand on a side, where these are the written ones
+-- those functions of a package that are on a side, where these are the written ones
 abbrev pub made_on : WorldSide → List SourceFunction → List Function → List Function
 made_on side [] fs = []
 made_on side (fn ∷ fns) [] = []
 made_on side (fn ∷ fns) (f ∷ fs) = if same_side side (role_side fn.role) then f ∷ made_on side fns fs else made_on side fns fs
 
--- whether a written function stands on a side
-abbrev pub stands_on : WorldSide → SourceFunction → Bool
-stands_on side fn = same_side side (role_side fn.role)
+-- whether a written function is on a side
+abbrev pub members_on : WorldSide → SourceFunction → Bool
+members_on side fn = same_side side (role_side fn.role)
 
-pub stands_there : (side : WorldSide) (fn : SourceFunction) → role_side fn.role ≡ side → stands_on side fn ≡ true
-stands_there side fn is = ap (same_side side) is ∙ side_itself side
+pub present_there : (side : WorldSide) (fn : SourceFunction) → role_side fn.role ≡ side → members_on side fn ≡ true
+present_there side fn is = ap (same_side side) is ∙ side_itself side
 
--- one function more, that stands there or not
-pub made_on-here : (side : WorldSide) (fn : SourceFunction) (fns : List SourceFunction) (f : Function) (fs : List Function) → stands_on side fn ≡ true → made_on side (fn ∷ fns) (f ∷ fs) ≡ f ∷ made_on side fns fs
-made_on-here side fn fns f fs hit = cond-true (stands_on side fn) (f ∷ made_on side fns fs) (made_on side fns fs) hit
+-- one function more, that is there or not
+pub made_on-here : (side : WorldSide) (fn : SourceFunction) (fns : List SourceFunction) (f : Function) (fs : List Function) → members_on side fn ≡ true → made_on side (fn ∷ fns) (f ∷ fs) ≡ f ∷ made_on side fns fs
+made_on-here side fn fns f fs hit = cond-true (members_on side fn) (f ∷ made_on side fns fs) (made_on side fns fs) hit
 
-pub made_on-past : (side : WorldSide) (fn : SourceFunction) (fns : List SourceFunction) (f : Function) (fs : List Function) → stands_on side fn ≡ false → made_on side (fn ∷ fns) (f ∷ fs) ≡ made_on side fns fs
-made_on-past side fn fns f fs miss = cond-false (stands_on side fn) (f ∷ made_on side fns fs) (made_on side fns fs) miss
+pub made_on-past : (side : WorldSide) (fn : SourceFunction) (fns : List SourceFunction) (f : Function) (fs : List Function) → members_on side fn ≡ false → made_on side (fn ∷ fns) (f ∷ fs) ≡ made_on side fns fs
+made_on-past side fn fns f fs miss = cond-false (members_on side fn) (f ∷ made_on side fns fs) (made_on side fns fs) miss
 
--- a function stands on its side
+-- a function is on its side
 pub made_on_has : (side : WorldSide) (fns : List SourceFunction) (fs : List Function) (k : ℕ) (fn : SourceFunction) (f : Function) → slice_get fns k ≡ Some fn → slice_get fs k ≡ Some f → role_side fn.role ≡ side → (j : ℕ) × (slice_get (made_on side fns fs) j ≡ Some f)
 made_on_has side [] fs k fn f at there is = absurd (let wrong : ⊥ = cc in wrong)
 made_on_has side (x ∷ fns) [] k fn f at there is = absurd (let wrong : ⊥ = cc in wrong)
 made_on_has side (x ∷ fns) (g ∷ fs) zero fn f at there is =
     let same : x ≡ fn = cc in
-    let hit : stands_on side x ≡ true = ap (stands_on side) same ∙ stands_there side fn is in
+    let hit : members_on side x ≡ true = ap (members_on side) same ∙ present_there side fn is in
     (0, ap (λ l. slice_get l 0) (made_on-here side x fns g fs hit) ∙ there)
 made_on_has side (x ∷ fns) (g ∷ fs) (suc k) fn f at there is =
     let it = made_on_has side fns fs k fn f at there is in
-    elim (cases_Bool (stands_on side x)) [
+    elim (cases_Bool (members_on side x)) [
       | inl hit ↦ (suc it.0, ap (λ l. slice_get l (suc it.0)) (made_on-here side x fns g fs hit) ∙ it.1)
       | inr miss ↦ (it.0, ap (λ l. slice_get l it.0) (made_on-past side x fns g fs miss) ∙ it.1)
     ]
 
--- what stands on a side is made of a written one that does
+-- what is on a side is made of a written one that does
 pub made_on_pair : (side : WorldSide) (fns : List SourceFunction) (fs : List Function) (k : ℕ) (f : Function) → slice_get (made_on side fns fs) k ≡ Some f → (j : ℕ) × (fn : SourceFunction) × (slice_get fns j ≡ Some fn) × (slice_get fs j ≡ Some f) × (role_side fn.role ≡ side)
 made_on_pair side [] fs k f at = absurd (let wrong : ⊥ = cc in wrong)
 made_on_pair side (x ∷ fns) [] k f at = absurd (let wrong : ⊥ = cc in wrong)
-made_on_pair side (x ∷ fns) (g ∷ fs) k f at = elim (cases_Bool (stands_on side x)) [
-  | inl hit ↦ elim (behind_one g (made_on side fns fs) k f (sym (ap (λ l. slice_get l k) (made_on-here side x fns g fs hit)) ∙ at)) [
+made_on_pair side (x ∷ fns) (g ∷ fs) k f at = elim (cases_Bool (members_on side x)) [
+  | inl hit ↦ elim (after_one g (made_on side fns fs) k f (sym (ap (λ l. slice_get l k) (made_on-here side x fns g fs hit)) ∙ at)) [
     | inl here ↦ (0, x, refl, ap Some here, sym (same_side-equal side (role_side x.role) hit))
     | inr rest ↦ (let it = made_on_pair side fns fs rest.0 f rest.1 in (suc it.0, it.1, it.2, it.3, it.4))
   ]

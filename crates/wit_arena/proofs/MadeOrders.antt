@@ -1,4 +1,4 @@
--- The orders of the names of scopes, told by their addresses.
+-- The orders of the names of scopes, given by their addresses.
 use Rattle.std.proofs.Common.{◌≡◌, ℕ, ◌+◌, List, [], ◌++◌, length, Some, inl, inr, refl, sym, ap, ◌∙◌, subst, Contains}
 use Rattle.std.specs.Prelude.{slice_get, map, not, find}
 use Rattle.std.specs.List.{flat_map}
@@ -17,7 +17,7 @@ use Rattle.wit_syntax.proofs.Addresses.{same_address-itself, same_address-equal}
 use Rattle.wit_syntax.proofs.Found.{at_contains, find_at, find_passes, find_some}
 use Rattle.wit_syntax.proofs.Inline.{inline_items_none}
 use Rattle.wit_syntax.proofs.Kept.{kept_has}
-use Rattle.wit_syntax.proofs.Lists.{at_front, at_back, flat_map_has, map_at, map_map}
+use Rattle.wit_syntax.proofs.Lists.{at_prefix, at_back, flat_map_has, map_at, map_map}
 use Rattle.wit_syntax.proofs.Repeated.{differ_at, differ_join}
 use Rattle.wit_syntax.proofs.Scopes.{scopes_either}
 use Rattle.wit_syntax.proofs.Turns.{at_part}
@@ -27,23 +27,23 @@ use Rattle.wit_arena.proofs.DoneWorlds.{own_order}
 use Rattle.wit_arena.proofs.Interfaces.{interfaces_sort, worlds_sort, scope_addresses}
 use Rattle.wit_arena.proofs.Itemizing.{item_index}
 use Rattle.wit_arena.proofs.KnownItems.{IsItem, are_interfaces, are_worlds, inside_are, interfaces_are, worlds_are, interface_item, world_item, inside_item}
-use Rattle.wit_arena.proofs.Laid.{ordered_addresses}
+use Rattle.wit_arena.proofs.ScopesInTurn.{ordered_addresses}
 use Rattle.wit_arena.proofs.Turns.{item_of}
 
--- the order of the first of these that stands at an address
+-- the order of the first of these that is at an address
 abbrev pub order_among : List Ordered → Address → List ℕ
 order_among os s = option_map_or (λ (o : Ordered). o.order) (find (λ (o : Ordered). same_address (address o.item) s) os) []
 
--- where no two stand at one address, that of each is told
-pub order_told : (os : List Ordered) → AllDiffer (addresses os) → (t : ℕ) (o : Ordered) → slice_get os t ≡ Some o → o.order ≡ order_among os (address o.item)
-order_told os differ t o at =
+-- where no two are at one address, that of each is stated
+pub order_stated : (os : List Ordered) → AllDiffer (addresses os) → (t : ℕ) (o : Ordered) → slice_get os t ≡ Some o → o.order ≡ order_among os (address o.item)
+order_stated os differ t o at =
     let test = λ (v : Ordered). same_address (address v.item) (address o.item) in
     let it = find_some test os t o at (same_address-itself (address o.item)) in
     let there = find_at test os it.0 it.1 in
     let place : there.0 ≡ t = differ_at (λ (v : Ordered). address v.item) os differ there.0 t it.0 o there.1 at (same_address-equal (address it.0.item) (address o.item) (find_passes test os it.0 it.1)) in
     sym (ap (λ x. option_map_or (λ (v : Ordered). v.order) x []) (it.1 ∙ sym there.1 ∙ ap (slice_get os) place ∙ at))
 
--- all interfaces, those that are written in worlds behind the declared ones, and then the worlds
+-- all interfaces, those that are written in worlds after the declared ones, and then the worlds
 abbrev pub listed : List Ordered → List OrderedWorld → List Ordered
 listed os ws = (os ++ all_inside ws) ++ map own_order ws
 
@@ -70,7 +70,7 @@ module _ (files : List PackageFile) (legal : IsLegal files) (os : List Ordered) 
   all_are : map item_of (listed os ws) ≡ all
   all_are = map-append item_of (os ++ all_inside ws) (map own_order ws) ∙ ap (λ l. l ++ map item_of (map own_order ws)) own_interfaces_are ∙ ap (λ l. own_interfaces items ++ l) (map_map item_of own_order ws ∙ ordered.all_worlds)
 
-  -- no two of them stand at one address
+  -- no two of them are at one address
   pub listed_differ : AllDiffer (addresses (listed os ws))
   listed_differ =
       let a = scope_addresses files (interfaces_of items) (worlds_of items) (interfaces_sort items) (worlds_sort items) (are_interfaces files legal os ws ordered) (are_worlds files legal os ws ordered) in
@@ -96,7 +96,7 @@ module _ (files : List PackageFile) (legal : IsLegal files) (os : List Ordered) 
         | inl world ↦ (let k = kept_has is_world items t.0 i world t.2 in (length (own_interfaces items) + k.0, at_back (own_interfaces items) (worlds_of items) k.0 i k.1))
         | inr other ↦ (
             let k = kept_has (λ (v : Item). not (is_world v)) items t.0 i (ap not other) t.2 in
-            (k.0, at_front (own_interfaces items) (worlds_of items) k.0 i (at_front (interfaces_of items) (flat_map inline_items (worlds_of items)) k.0 i k.1)))
+            (k.0, at_prefix (own_interfaces items) (worlds_of items) k.0 i (at_prefix (interfaces_of items) (flat_map inline_items (worlds_of items)) k.0 i k.1)))
       ]
 
   inside_listed : (w i : Item) → Contains (all_items files) w → Contains (inline_items w) i → (k : ℕ) × (slice_get all k ≡ Some i)
@@ -108,7 +108,7 @@ module _ (files : List PackageFile) (legal : IsLegal files) (os : List Ordered) 
         | inl world ↦ (
             let k = kept_has is_world items t.0 w world t.2 in
             let n = flat_map_has inline_items (worlds_of items) k.0 j.0 w i k.1 j.1 in
-            (length (interfaces_of items) + n.0, at_front (own_interfaces items) (worlds_of items) (length (interfaces_of items) + n.0) i (at_back (interfaces_of items) (flat_map inline_items (worlds_of items)) n.0 i n.1)))
+            (length (interfaces_of items) + n.0, at_prefix (own_interfaces items) (worlds_of items) (length (interfaces_of items) + n.0) i (at_back (interfaces_of items) (flat_map inline_items (worlds_of items)) n.0 i n.1)))
         | inr other ↦ absurd (let none : slice_get [] j.0 ≡ Some i = ap (λ (l : List Item). slice_get l j.0) (sym (inline_items_none w other)) ∙ j.1 in let f : ⊥ = cc in f)
       ]
 
@@ -118,11 +118,11 @@ module _ (files : List PackageFile) (legal : IsLegal files) (os : List Ordered) 
     | inr it ↦ inside_listed it.0 i it.1 it.2
   ]
 
-  -- so each has the order that is told at its address
+  -- so each has the order that is stated at its address
   pub names_in_order : AreNamesInOrder files (order_among (listed os ws))
   names_in_order i among =
       let k = scope_listed i among in
       let o = map_at item_of (listed os ws) k.0 i (ap (λ (l : List Item). slice_get l k.0) all_are ∙ k.1) in
-      let told = order_told (listed os ws) listed_differ k.0 o.0 o.1 in
-      let least = subst (λ (l : List ℕ). IsOrder (rows_of (scope_names o.0.item)) l) told (listed_item k.0 o.0 o.1).least in
+      let as_stated = order_stated (listed os ws) listed_differ k.0 o.0 o.1 in
+      let least = subst (λ (l : List ℕ). IsOrder (rows_of (scope_names o.0.item)) l) as_stated (listed_item k.0 o.0 o.1).least in
       subst (λ (v : Item). IsOrder (rows_of (scope_names v)) (order_among (listed os ws) (address v))) o.2 least

@@ -1,4 +1,4 @@
--- Of legal files, a package that is told by its relations is what they make.
+-- Of legal files, a package that is given by its relations is what they make.
 use Rattle.std.proofs.Common.{◌≡◌, ℕ, List, ◌++◌, Some, refl, sym, ap, ◌∙◌, subst}
 use Rattle.std.specs.Prelude.{slice_get, map, take}
 use Rattle.std.specs.List.{flat_map, position_or_len}
@@ -11,20 +11,20 @@ use Rattle.wit_syntax.specs.Foreign.{foreign_interfaces, foreign_worlds}
 use Rattle.wit_syntax.specs.Repeats.{firsts}
 use Rattle.wit_syntax.specs.Scope.{in_order, worlds_of}
 use Rattle.wit_syntax.specs.Source.{Item, all_items}
-use Rattle.wit_syntax.specs.Trees.{scope}
-use Rattle.wit_arena.specs.Meet.{Key, Meeting, keys}
+use Rattle.wit_syntax.specs.ScopesOfTrees.{scope}
+use Rattle.wit_arena.specs.Occurrences.{Key, Occurrence, keys}
 use Rattle.wit_arena.specs.Made.{IsEntryOf, Makes, foreign_interface, foreign_world, own_interface, own_interfaces, own_world, interface_scopes, world_scopes, item_turns}
-use Rattle.wit_arena.specs.Whole.{Ordered, OrderedWorld, all_inside, all_meetings, all_turns, interface_addresses, owner_at, turn_handles, world_addresses, AreRequired, IsPackage}
-use Rattle.wit_arena.proofs.SameKeys.{same_key, same_key_tells}
-use Rattle.wit_arena.proofs.FirstsOf.{meets-firsts}
-use Rattle.wit_arena.proofs.Placing.{TellsPlaces, tells_places}
-use Rattle.wit_arena.proofs.MadeEntries.{entries_count, entries_told}
+use Rattle.wit_arena.specs.Whole.{Ordered, OrderedWorld, all_inside, all_occurrences, all_turns, interface_addresses, owner_at, turn_handles, world_addresses, AreRequired, IsPackage}
+use Rattle.wit_arena.proofs.SameKeys.{same_key, same_key_determines}
+use Rattle.wit_arena.proofs.FirstsOf.{collects-firsts}
+use Rattle.wit_arena.proofs.Placing.{GivesPlaces, gives_places}
+use Rattle.wit_arena.proofs.MadeEntries.{entries_count, entries_stated}
 use Rattle.wit_arena.proofs.MadeHeads.{name_made, name_span_made}
 use Rattle.wit_arena.proofs.MadeScopes.{scope_place-found, interface_scopes-differ, world_scopes-differ}
 use Rattle.wit_arena.proofs.MadeSides.{ArePlaced}
-use Rattle.wit_arena.proofs.MadeArenas.{interfaces-told, worlds-told}
+use Rattle.wit_arena.proofs.MadeArenas.{interfaces-as_stated, worlds-as_stated}
 use Rattle.wit_arena.proofs.MadeOrders.{items_in_order, listed, order_among, names_in_order, own_interfaces_are, interface_scopes_are, world_scopes_are}
-use Rattle.wit_arena.proofs.MadeTurns.{interface_names, world_names, all_turns_told}
+use Rattle.wit_arena.proofs.MadeTurns.{interface_names, world_names, all_turns_stated}
 
 module _ (files : List PackageFile) (p : UnresolvedPackage) (legal : IsLegal files) (h : IsPackage files p) where
   abbrev interfaces : List Ordered
@@ -40,12 +40,12 @@ module _ (files : List PackageFile) (p : UnresolvedPackage) (legal : IsLegal fil
   order = order_among (listed interfaces worlds)
 
   abbrev place : Key → ℕ
-  place k = position_or_len (λ (m : Meeting). same_key k m.key) h.met
+  place k = position_or_len (λ (m : Occurrence). same_key k m.key) h.seen
 
-  tells : TellsPlaces place (keys h.met)
-  tells = tells_places same_key same_key_tells h.met place (λ k. refl) h.meeting.keyed.once
+  gives : GivesPlaces place (keys h.seen)
+  gives = gives_places same_key same_key_determines h.seen place (λ k. refl) h.occurrence.keyed.once
 
-  -- the scopes of interfaces and worlds, as they are told here and there
+  -- the scopes of interfaces and worlds, as they are stated here and there
   abbrev ss : List Address
   ss = interface_addresses files (interfaces ++ all_inside worlds)
 
@@ -65,25 +65,25 @@ module _ (files : List PackageFile) (p : UnresolvedPackage) (legal : IsLegal fil
   ws_placed i s at = scope_place-found (world_scopes files items) s i (world_scopes-differ files legal items (items_in_order files legal interfaces worlds h.first.ordered)) at
 
   turns_are : all_turns interfaces worlds ≡ item_turns order items
-  turns_are = all_turns_told files legal interfaces worlds h.first.ordered
+  turns_are = all_turns_stated files legal interfaces worlds h.first.ordered
 
-  types_made : (n : ℕ) (m : Meeting) (e : TypeDef) → slice_get h.met n ≡ Some m → slice_get p.types n ≡ Some e
+  types_made : (n : ℕ) (m : Occurrence) (e : TypeDef) → slice_get h.seen n ≡ Some m → slice_get p.types n ≡ Some e
       → IsEntryOf (scope files) (owner_at (interface_scopes files items) (world_scopes files items)) place (take n p.types) m.key m.span m.given e
   types_made n m e at_m at_e =
-      let told = entries_told place h.met tells files ss ws p.types h.meeting n m e at_m at_e in
+      let as_stated = entries_stated place h.seen gives files ss ws p.types h.occurrence n m e at_m at_e in
       subst (λ (l : List Address). IsEntryOf (scope files) (owner_at (interface_scopes files items) l) place (take n p.types) m.key m.span m.given e) ws_are
-      (subst (λ (l : List Address). IsEntryOf (scope files) (owner_at l ws) place (take n p.types) m.key m.span m.given e) ss_are told)
+      (subst (λ (l : List Address). IsEntryOf (scope files) (owner_at l ws) place (take n p.types) m.key m.span m.given e) ss_are as_stated)
 
   interfaces_made : p.interfaces ≡ map (foreign_interface files place) (foreign_interfaces files) ++ map (own_interface place order) (own_interfaces items)
   interfaces_made =
-      interfaces-told place (keys h.met) tells order files (interfaces ++ all_inside worlds) p.interfaces (interface_names files legal interfaces worlds h.first.ordered) h.interfaces
+      interfaces-as_stated place (keys h.seen) gives order files (interfaces ++ all_inside worlds) p.interfaces (interface_names files legal interfaces worlds h.first.ordered) h.interfaces
       ∙ ap (λ (is : List Item). map (foreign_interface files place) (foreign_interfaces files) ++ map (own_interface place order) is) (own_interfaces_are files legal interfaces worlds h.first.ordered)
 
   worlds_made : p.worlds ≡ map foreign_world (foreign_worlds files) ++ map (own_world place order (interface_scopes files items) (world_scopes files items)) (worlds_of items)
   worlds_made =
       let placed : ArePlaced ss = subst ArePlaced (sym ss_are) ss_placed in
       let worlds_placed : ArePlaced ws = subst ArePlaced (sym ws_are) ws_placed in
-      worlds-told place (keys h.met) tells order ss placed ws worlds_placed (foreign_worlds files) worlds p.worlds
+      worlds-as_stated place (keys h.seen) gives order ss placed ws worlds_placed (foreign_worlds files) worlds p.worlds
       (λ k o at. (world_names files legal interfaces worlds h.first.ordered k o at, h.first.ordered.inside k o at)) h.worlds
       ∙ ap (λ (l : List Address). map foreign_world (foreign_worlds files) ++ map (own_world place order l ws) (map (λ (w : OrderedWorld). w.own.item) worlds)) ss_are
       ∙ ap (λ (l : List Address). map foreign_world (foreign_worlds files) ++ map (own_world place order (interface_scopes files items) l) (map (λ (w : OrderedWorld). w.own.item) worlds)) ws_are
@@ -102,14 +102,14 @@ module _ (files : List PackageFile) (p : UnresolvedPackage) (legal : IsLegal fil
     order = order;
     names_in_order = names_in_order files legal interfaces worlds h.first.ordered;
     same = same_key;
-    tells = same_key_tells;
-    met = h.met;
-    first = meets-firsts same_key same_key_tells (all_meetings files (all_turns interfaces worlds)) h.met h.first.first ∙ ap (λ ts. firsts (λ (a b : Meeting). same_key a.key b.key) (all_meetings files ts)) turns_are;
+    gives = same_key_determines;
+    seen = h.seen;
+    first = collects-firsts same_key same_key_determines (all_occurrences files (all_turns interfaces worlds)) h.seen h.first.first ∙ ap (λ ts. firsts (λ (a b : Occurrence). same_key a.key b.key) (all_occurrences files ts)) turns_are;
     id = place;
     places = λ k. refl;
-    count = entries_count place h.met tells files ss ws p.types h.meeting;
+    count = entries_count place h.seen gives files ss ws p.types h.occurrence;
     types = types_made;
     interfaces = interfaces_made;
     worlds = worlds_made;
-    required = subst (λ ts. AreRequired files (keys h.met) (flat_map turn_handles ts) p.required_resource_types) turns_are h.required;
+    required = subst (λ ts. AreRequired files (keys h.seen) (flat_map turn_handles ts) p.required_resource_types) turns_are h.required;
   }

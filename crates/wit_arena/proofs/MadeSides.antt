@@ -1,4 +1,4 @@
--- What stands on a side of a world is what the written ones make there.
+-- What is on a side of a world is what the written ones make there.
 use Rattle.std.proofs.Common.{◌≡◌, ℕ, Bool, true, false, cond, List, [], ◌∷◌, Some, None, refl, sym, ap, ◌∙◌}
 use Rattle.std.specs.Prelude.{slice_get, map}
 use Rattle.std.specs.List.{cons_option, flat_map}
@@ -9,7 +9,7 @@ use Rattle.wit_model.specs.declared.world.WorldKey.TheVariants as key
 use Rattle.wit_model.specs.declared.world.WorldItem.{WorldItem}
 use Rattle.wit_model.specs.declared.world.WorldItem.TheVariants as item
 use Rattle.wit_syntax.specs.Address.{Address}
-use Rattle.wit_syntax.specs.Crossing.{same_side}
+use Rattle.wit_syntax.specs.ExternPart.{same_side}
 use Rattle.wit_syntax.specs.Function.{SourceFunction}
 use Rattle.wit_syntax.specs.Sides.{role_side, SideItem, SideFunction, SideLink, SideInline, item_function}
 use Rattle.wit_syntax.specs.Source.{Item, TopName, address, path_scope}
@@ -19,7 +19,7 @@ use Rattle.wit_arena.specs.SideItems.{AreSideItems, put_on, link_item, inline_en
 abbrev Entry : Type 0
 Entry = WorldKey × WorldItem
 
--- what is put on a side is kept of what is told with its side
+-- what is put on a side is kept of what is stated with its side
 put_kept : (side own : WorldSide) (x : Entry) (xs : List Entry) → put_on side own x xs ≡ cons_option (cond (same_side side own) (Some x) None) xs
 put_kept side own x xs = kept (same_side side own)
   where
@@ -27,27 +27,27 @@ put_kept side own x xs = kept (same_side side own)
     kept true = refl
     kept false = refl
 
--- these scopes stand where they are told to stand
+-- these scopes are where they are stated to be
 abbrev pub ArePlaced : List Address → Type 0
 ArePlaced ss = (i : ℕ) (s : Address) → slice_get ss i ≡ Some s → scope_place ss s ≡ i
 
 module _ (ss : List Address) (places : ArePlaced ss) (function : SourceFunction → Function) (named : (fn : SourceFunction) → (function fn).name ≡ fn.name) (top : List TopName) (side : WorldSide) where
-  pub side_items-told : (written : List SideItem) (is : List Item) (xs : List Entry) → AreSideItems ss top side written (map function (flat_map item_function written)) (map address is) xs → xs ≡ entries_on side (side_entries function ss top written is)
-  side_items-told [] is xs are = are
-  side_items-told (SideFunction fn ∷ written) is xs are =
+  pub side_items-as_stated : (written : List SideItem) (is : List Item) (xs : List Entry) → AreSideItems ss top side written (map function (flat_map item_function written)) (map address is) xs → xs ≡ entries_on side (side_entries function ss top written is)
+  side_items-as_stated [] is xs are = are
+  side_items-as_stated (SideFunction fn ∷ written) is xs are =
       are.1
       ∙ ap (λ (name : List ℕ). put_on side (role_side fn.role) (key.Name name, item.Function (function fn)) are.0) (named fn)
-      ∙ ap (put_on side (role_side fn.role) (key.Name fn.name, item.Function (function fn))) (side_items-told written is are.0 are.2)
+      ∙ ap (put_on side (role_side fn.role) (key.Name fn.name, item.Function (function fn))) (side_items-as_stated written is are.0 are.2)
       ∙ put_kept side (role_side fn.role) (key.Name fn.name, item.Function (function fn)) (entries_on side (side_entries function ss top written is))
-  side_items-told (SideLink link ∷ written) is xs are =
+  side_items-as_stated (SideLink link ∷ written) is xs are =
       let s = path_scope top link.path in
       are.3
       ∙ ap (λ (n : ℕ). put_on side link.side (link_item link n) are.1) (sym (places are.0 s are.2))
-      ∙ ap (put_on side link.side (link_item link (scope_place ss s))) (side_items-told written is are.1 are.4)
+      ∙ ap (put_on side link.side (link_item link (scope_place ss s))) (side_items-as_stated written is are.1 are.4)
       ∙ put_kept side link.side (link_item link (scope_place ss s)) (entries_on side (side_entries function ss top written is))
-  side_items-told (SideInline x name items ∷ written) [] xs are = absurd are
-  side_items-told (SideInline x name items ∷ written) (i ∷ is) xs are =
+  side_items-as_stated (SideInline x name items ∷ written) [] xs are = absurd are
+  side_items-as_stated (SideInline x name items ∷ written) (i ∷ is) xs are =
       are.3
       ∙ ap (λ (n : ℕ). put_on side x.side (inline_entry x name n) are.1) (sym (places are.0 (address i) are.2))
-      ∙ ap (put_on side x.side (inline_entry x name (scope_place ss (address i)))) (side_items-told written is are.1 are.4)
+      ∙ ap (put_on side x.side (inline_entry x name (scope_place ss (address i)))) (side_items-as_stated written is are.1 are.4)
       ∙ put_kept side x.side (inline_entry x name (scope_place ss (address i))) (entries_on side (side_entries function ss top written is))

@@ -1,4 +1,4 @@
--- Where a function tells the place of each key, and scopes stand where they are told to, each world of the package is told.
+-- Where a function gives the place of each key, and scopes are where they are stated to, each world of the package is stated.
 use Rattle.std.proofs.Common.{◌≡◌, ℕ, List, [], ◌∷◌, ◌++◌, Option, refl, sym, ap, ◌∙◌, subst}
 use Rattle.std.specs.Prelude.{map}
 use Rattle.std.specs.List.{flat_map}
@@ -19,19 +19,19 @@ use Rattle.wit_model.specs.declared.world.WorldKey.TheVariants as key
 use Rattle.wit_syntax.specs.Address.{Address, WorldNamed}
 use Rattle.wit_syntax.specs.Foreign.{ForeignVisit}
 use Rattle.wit_syntax.specs.Function.{functions as item_functions}
-use Rattle.wit_syntax.specs.Notes.{Notes, no_notes}
+use Rattle.wit_syntax.specs.Metadata.{Metadata, no_metadata}
 use Rattle.wit_syntax.specs.Scope.{includes}
 use Rattle.wit_syntax.specs.Sides.{item_function, side_items, inline_items}
-use Rattle.wit_syntax.specs.Source.{Item, TopName, ScopeName, address, about, declared_notes, leads, local_id, local_name, target_scope}
+use Rattle.wit_syntax.specs.Source.{Item, TopName, ScopeName, address, about, declared_metadata, leads, local_id, local_name, target_scope}
 use Rattle.wit_syntax.proofs.Legal.{functions_items}
 use Rattle.wit_arena.specs.Made.{function_in, name_places, names_in_turn, entries_on, name_imports, include_in, world, foreign_world, world_entries, own_world}
-use Rattle.wit_arena.specs.Meet.{Key, Def}
+use Rattle.wit_arena.specs.Occurrences.{Key, Def}
 use Rattle.wit_arena.specs.Package.{IsWorld, IsForeignWorld, world_types}
 use Rattle.wit_arena.specs.SideItems.{AreSideItems, settled}
 use Rattle.wit_arena.specs.Whole.{OrderedWorld, addresses, ordered_names, turned, type_imports, IsInclude, IsResolvedWorld}
-use Rattle.wit_arena.proofs.Laid.{ordered_addresses}
-use Rattle.wit_arena.proofs.MadeSides.{ArePlaced, side_items-told}
-use Rattle.wit_arena.proofs.Placing.{TellsPlaces}
+use Rattle.wit_arena.proofs.ScopesInTurn.{ordered_addresses}
+use Rattle.wit_arena.proofs.MadeSides.{ArePlaced, side_items-as_stated}
+use Rattle.wit_arena.proofs.Placing.{GivesPlaces}
 use Rattle.wit_arena.proofs.PlacingFunctions.{one_by_one-map, functions-in, types-places}
 
 abbrev Entries : Type 0
@@ -40,26 +40,26 @@ Entries = List (WorldKey × WorldItem)
 abbrev fields : List ℕ → Entries → Entries → Option ℕ → Docs → Stability → List WorldInclude → Span → World
 fields name imports exports of docs stability includes span = record { name = name; imports = imports; exports = exports; «package» = of; docs = docs; stability = stability; includes = includes; span = span }
 
--- a world is told by what it says, its imports, its exports and its includes
-world_told : (name : List ℕ) (span : Span) (n : Notes) (w : World) (imports exports : Entries) (includes : List WorldInclude) → IsWorld name span n w → w.imports ≡ imports → w.exports ≡ exports → w.includes ≡ includes → w ≡ world name imports exports includes n span
-world_told name span n w imports exports includes says same_imports same_exports same_includes =
+-- a world is given by what it says, its imports, its exports and its includes
+world_stated : (name : List ℕ) (span : Span) (n : Metadata) (w : World) (imports exports : Entries) (includes : List WorldInclude) → IsWorld name span n w → w.imports ≡ imports → w.exports ≡ exports → w.includes ≡ includes → w ≡ world name imports exports includes n span
+world_stated name span n w imports exports includes says same_imports same_exports same_includes =
     let called = says.0 in
-    let stands = says.1 in
+    let present = says.1 in
     let docs = says.2 in
     let stability = says.3 in
     let of = says.4 in
     let same : fields w.name w.imports w.exports w.package w.docs w.stability w.includes w.span ≡ world name imports exports includes n span = cc in
     same
 
-pub foreign_world-told : (v : ForeignVisit) (w : World) → IsForeignWorld v w → w ≡ foreign_world v
-foreign_world-told v w h = world_told [] v.id.span no_notes w [] [] [] h.0 h.1 h.2 h.3
+pub foreign_world-as_stated : (v : ForeignVisit) (w : World) → IsForeignWorld v w → w ≡ foreign_world v
+foreign_world-as_stated v w h = world_stated [] v.id.span no_metadata w [] [] [] h.0 h.1 h.2 h.3
 
 abbrev include : Stability → ℕ → List IncludeName → Span → WorldInclude
 include stability id names span = record { stability = stability; id = id; names = names; span = span }
 
 module _ (ws : List Address) (placed : ArePlaced ws) where
-  include_told : (top : List TopName) (x : Include) (i : WorldInclude) → IsInclude ws top x i → i ≡ include_in ws top x
-  include_told top x i h =
+  include_stated : (top : List TopName) (x : Include) (i : WorldInclude) → IsInclude ws top x i → i ≡ include_in ws top x
+  include_stated top x i h =
       let stability = h.0 in
       let place = sym (placed i.id (target_scope WorldNamed (leads top x.from)) h.1) in
       let names = h.2 in
@@ -67,35 +67,35 @@ module _ (ws : List Address) (placed : ArePlaced ws) where
       let same : include i.stability i.id i.names i.span ≡ include_in ws top x = cc in
       same
 
--- names as imports, where their places are told
-type_imports-told : (id : Key → ℕ) (s : Address) (xs : List ScopeName) → type_imports xs (name_places id s xs) ≡ name_imports id s xs
-type_imports-told id s [] = refl
-type_imports-told id s (x ∷ xs) = ap (λ (l : Entries). (key.Name (local_name x), Type_ (id (Def s (local_name x))) (local_id x).span) ∷ l) (type_imports-told id s xs)
+-- names as imports, where their places are stated
+type_imports-as_stated : (id : Key → ℕ) (s : Address) (xs : List ScopeName) → type_imports xs (name_places id s xs) ≡ name_imports id s xs
+type_imports-as_stated id s [] = refl
+type_imports-as_stated id s (x ∷ xs) = ap (λ (l : Entries). (key.Name (local_name x), Type_ (id (Def s (local_name x))) (local_id x).span) ∷ l) (type_imports-as_stated id s xs)
 
-module _ (id : Key → ℕ) (ks : List Key) (tells : TellsPlaces id ks) (ss : List Address) (placed : ArePlaced ss) where
+module _ (id : Key → ℕ) (ks : List Key) (gives : GivesPlaces id ks) (ss : List Address) (placed : ArePlaced ss) where
   -- what a world has on a side
-  side_told : (side : WorldSide) (i : Item) (inside : List Address) (fs : List Function) (on : Entries) → map address (inline_items i) ≡ inside → fs ≡ map (function_in id (address i)) (item_functions i) → AreSideItems ss i.top side (side_items i) fs inside on → on ≡ entries_on side (world_entries id ss i)
-  side_told side i inside fs on written made are =
+  side_stated : (side : WorldSide) (i : Item) (inside : List Address) (fs : List Function) (on : Entries) → map address (inline_items i) ≡ inside → fs ≡ map (function_in id (address i)) (item_functions i) → AreSideItems ss i.top side (side_items i) fs inside on → on ≡ entries_on side (world_entries id ss i)
+  side_stated side i inside fs on written made are =
       let function = function_in id (address i) in
       let same = made ∙ ap (map function) (functions_items i) in
       let of_functions = subst (λ (l : List Function). AreSideItems ss i.top side (side_items i) l inside on) same are in
       let of_items = subst (λ (l : List Address). AreSideItems ss i.top side (side_items i) (map function (flat_map item_function (side_items i))) l on) (sym written) of_functions in
-      side_items-told ss placed function (λ fn. refl) i.top side (side_items i) (inline_items i) on of_items
+      side_items-as_stated ss placed function (λ fn. refl) i.top side (side_items i) (inline_items i) on of_items
 
   module _ (ws : List Address) (worlds_placed : ArePlaced ws) where
-    pub own_world-told : (order : Address → List ℕ) (o : OrderedWorld) (w : World) → ordered_names o.own ≡ names_in_turn order o.own.item → map (λ x. x.item) o.inside ≡ inline_items o.own.item → IsResolvedWorld ks ss ws o w → w ≡ own_world id order ss ws o.own.item
-    own_world-told order o w in_turn inside h =
+    pub own_world-as_stated : (order : Address → List ℕ) (o : OrderedWorld) (w : World) → ordered_names o.own ≡ names_in_turn order o.own.item → map (λ x. x.item) o.inside ≡ inline_items o.own.item → IsResolvedWorld ks ss ws o w → w ≡ own_world id order ss ws o.own.item
+    own_world-as_stated order o w in_turn inside h =
         let i = o.own.item in
         let s = address i in
         let names = ordered_names o.own in
         let written = ordered_addresses o.inside (inline_items i) inside in
-        let made = functions-in id ks tells s (item_functions i) h.sides.functions h.sides.are in
-        let types = types-places id ks tells (turned o.own) (world_types w) h.types in
-        let named = ap (type_imports names) types ∙ type_imports-told id s names ∙ ap (name_imports id s) in_turn in
-        let imported = side_told Imported i (addresses o.inside) h.sides.functions h.sides.imports.0 written made h.sides.imports.1 in
-        let exported = side_told Exported i (addresses o.inside) h.sides.functions h.sides.exports.0 written made h.sides.exports.1 in
+        let made = functions-in id ks gives s (item_functions i) h.sides.functions h.sides.are in
+        let types = types-places id ks gives (turned o.own) (world_types w) h.types in
+        let named = ap (type_imports names) types ∙ type_imports-as_stated id s names ∙ ap (name_imports id s) in_turn in
+        let imported = side_stated Imported i (addresses o.inside) h.sides.functions h.sides.imports.0 written made h.sides.imports.1 in
+        let exported = side_stated Exported i (addresses o.inside) h.sides.functions h.sides.exports.0 written made h.sides.exports.1 in
         let imports = h.sides.imports.2 ∙ ap (λ (l : Entries). settled (includes i) (l ++ h.sides.imports.0)) named ∙ ap (λ (l : Entries). settled (includes i) (name_imports id s (names_in_turn order i) ++ l)) imported in
         let exports = h.sides.exports.2 ∙ ap (settled (includes i)) exported in
-        let included = one_by_one-map (IsInclude ws i.top) (include_in ws i.top) (include_told ws worlds_placed i.top) (includes i) w.includes h.includes in
+        let included = one_by_one-map (IsInclude ws i.top) (include_in ws i.top) (include_stated ws worlds_placed i.top) (includes i) w.includes h.includes in
         let made_world = own_world id order ss ws i in
-        world_told (about i.declared).id.name.now (about i.declared).id.span (declared_notes i.declared) w made_world.imports made_world.exports made_world.includes h.says imports exports included
+        world_stated (about i.declared).id.name.now (about i.declared).id.span (declared_metadata i.declared) w made_world.imports made_world.exports made_world.includes h.says imports exports included

@@ -13,7 +13,7 @@ use Rattle.wit_syntax.proofs.Names.{name_equal}
 use Rattle.wit_syntax.proofs.Found.{find_passes, find_at}
 use Rattle.wit_arena.proofs.Leading.{option_cases}
 use Rattle.wit_syntax.proofs.Turns.{in_turn_has}
-use Rattle.wit_arena.proofs.Using.{lookup-listed}
+use Rattle.wit_arena.proofs.UsePart.{lookup-listed}
 
 -- a table that has the names of a scope, in whichever order
 module _ (xs ys : List ScopeName) (types : Names) (listed : map (λ p. p.0) types ≡ local_names ys) (name : List ℕ) where
@@ -28,7 +28,7 @@ module _ (xs ys : List ScopeName) (types : Names) (listed : map (λ p. p.0) type
       let f : ⊥ = cc in
       f)) (λ none. none)
 
-  -- what stands in it is one of them
+  -- what is in it is one of them
   listed_at : (k id : ℕ) → slice_get types k ≡ Some (name, id) → (x : ScopeName) × (slice_get ys k ≡ Some x) × (local_name x ≡ name)
   listed_at k id at = map_at local_name ys k name (ap (λ (l : List (List ℕ)). slice_get l k) (sym listed) ∙ slice_get-map (λ (q : List ℕ × ℕ). q.0) types k ∙ ap (option_map (λ (q : List ℕ × ℕ). q.0)) at)
 

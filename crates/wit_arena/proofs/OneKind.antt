@@ -1,4 +1,4 @@
--- A type of the arena is told by its form and its parts.
+-- A type of the arena is given by its form and its parts.
 use Rattle.std.proofs.Common.{◌≡◌, ℕ, Bool, true, false, List, [], ◌∷◌, Option, Some, None, refl, sym, ap, ◌∙◌}
 use Rattle.std.specs.Prelude.{map}
 use Rattle.wit_values.specs.declared.span.Span.{Span}
@@ -25,10 +25,10 @@ abbrev rest : List Ty → List Ty
 rest [] = []
 rest (t ∷ ts) = ts
 
--- the first, where one is told
-abbrev told : Bool → List Ty → Option Ty
-told true ts = Some (first ts)
-told false ts = None
+-- the first, where one is stated
+abbrev as_stated : Bool → List Ty → Option Ty
+as_stated true ts = Some (first ts)
+as_stated false ts = None
 
 abbrev place : Ty → ℕ
 place (type.Id i) = i
@@ -55,7 +55,7 @@ cases [] ts = []
 cases ((m, true) ∷ ms) ts = case_of m (Some (first ts)) ∷ cases ms (rest ts)
 cases ((m, false) ∷ ms) ts = case_of m None ∷ cases ms ts
 
--- the types of a result, where these are told
+-- the types of a result, where these are stated
 abbrev results : Bool → Bool → List Ty → TypeDefKind
 results true true ts = kind.Result (record { ok = Some (first ts); err = Some (first (rest ts)) })
 results true false ts = kind.Result (record { ok = Some (first ts); err = None })
@@ -77,8 +77,8 @@ made (ResultForm ok err) ts = results ok err ts
 made ListForm ts = kind.List (first ts)
 made MapForm ts = kind.Map (first ts) (first (rest ts))
 made (FixedLengthListForm n) ts = kind.FixedLengthList (first ts) n
-made (FutureForm held) ts = kind.Future (told held ts)
-made (StreamForm held) ts = kind.Stream (told held ts)
+made (FutureForm borrowed) ts = kind.Future (as_stated borrowed ts)
+made (StreamForm borrowed) ts = kind.Stream (as_stated borrowed ts)
 made AliasForm ts = kind.Type_ (first ts)
 made UnknownForm ts = kind.Unknown
 

@@ -5,31 +5,31 @@ use Rattle.std.proofs.lemmas.Option.{slice_get_within}
 use Rattle.wit_syntax.proofs.Lists.{take_seam, at_within}
 use Rattle.wit_arena.specs.OneByOne.{OneByOne}
 
--- what stands behind a front stands at its length
-at_next : {X : Type 0} (front xs : List X) (x : X) → slice_get (front ++ x ∷ xs) (length front) ≡ Some x
+-- what comes after a prefix is at its length
+at_next : {X : Type 0} (prefix xs : List X) (x : X) → slice_get (prefix ++ x ∷ xs) (length prefix) ≡ Some x
 at_next [] xs x = refl
-at_next (y ∷ front) xs x = at_next front xs x
+at_next (y ∷ prefix) xs x = at_next prefix xs x
 
--- lists that agree at each place where all before it agrees, behind a front that they share
-same_behind : {X : Type 0} (es fs front xs ys : List X) → es ≡ front ++ xs → fs ≡ front ++ ys → length xs ≡ length ys → ((k : ℕ) (x y : X) → take k es ≡ take k fs → slice_get es k ≡ Some x → slice_get fs k ≡ Some y → x ≡ y) → es ≡ fs
-same_behind es fs front [] [] a b count h = a ∙ sym b
-same_behind es fs front [] (y ∷ ys) a b count h = absurd (let f : ⊥ = cc in f)
-same_behind es fs front (x ∷ xs) [] a b count h = absurd (let f : ⊥ = cc in f)
-same_behind es fs front (x ∷ xs) (y ∷ ys) a b count h =
-    let k = length front in
-    let fronts : take k es ≡ take k fs = ap (take k) a ∙ take_seam front (x ∷ xs) ∙ sym (ap (take k) b ∙ take_seam front (y ∷ ys)) in
-    let here : x ≡ y = h k x y fronts (ap (λ l. slice_get l k) a ∙ at_next front xs x) (ap (λ l. slice_get l k) b ∙ at_next front ys y) in
+-- lists that agree at each place where all before it agrees, after a prefix that they share
+same_after : {X : Type 0} (es fs prefix xs ys : List X) → es ≡ prefix ++ xs → fs ≡ prefix ++ ys → length xs ≡ length ys → ((k : ℕ) (x y : X) → take k es ≡ take k fs → slice_get es k ≡ Some x → slice_get fs k ≡ Some y → x ≡ y) → es ≡ fs
+same_after es fs prefix [] [] a b count h = a ∙ sym b
+same_after es fs prefix [] (y ∷ ys) a b count h = absurd (let f : ⊥ = cc in f)
+same_after es fs prefix (x ∷ xs) [] a b count h = absurd (let f : ⊥ = cc in f)
+same_after es fs prefix (x ∷ xs) (y ∷ ys) a b count h =
+    let k = length prefix in
+    let prefixes : take k es ≡ take k fs = ap (take k) a ∙ take_seam prefix (x ∷ xs) ∙ sym (ap (take k) b ∙ take_seam prefix (y ∷ ys)) in
+    let here : x ≡ y = h k x y prefixes (ap (λ l. slice_get l k) a ∙ at_next prefix xs x) (ap (λ l. slice_get l k) b ∙ at_next prefix ys y) in
     let rest : length xs ≡ length ys = omega (arith, count) in
-    same_behind es fs (front ++ x ∷ []) xs ys (a ∙ sym (append_assoc front (x ∷ []) xs)) (b ∙ ap (λ z. front ++ z ∷ ys) (sym here) ∙ sym (append_assoc front (x ∷ []) ys)) rest h
+    same_after es fs (prefix ++ x ∷ []) xs ys (a ∙ sym (append_assoc prefix (x ∷ []) xs)) (b ∙ ap (λ z. prefix ++ z ∷ ys) (sym here) ∙ sym (append_assoc prefix (x ∷ []) ys)) rest h
 
 -- lists of one length are one where they agree at each place, or at each where all before it agrees
-pub same_by_fronts : {X : Type 0} (es fs : List X) → length es ≡ length fs → ((k : ℕ) (x y : X) → take k es ≡ take k fs → slice_get es k ≡ Some x → slice_get fs k ≡ Some y → x ≡ y) → es ≡ fs
-same_by_fronts es fs count h = same_behind es fs [] es fs refl refl count h
+pub same_by_prefixes : {X : Type 0} (es fs : List X) → length es ≡ length fs → ((k : ℕ) (x y : X) → take k es ≡ take k fs → slice_get es k ≡ Some x → slice_get fs k ≡ Some y → x ≡ y) → es ≡ fs
+same_by_prefixes es fs count h = same_after es fs [] es fs refl refl count h
 
 pub same_by_places : {X : Type 0} (es fs : List X) → length es ≡ length fs → ((k : ℕ) (x y : X) → slice_get es k ≡ Some x → slice_get fs k ≡ Some y → x ≡ y) → es ≡ fs
-same_by_places es fs count h = same_by_fronts es fs count (λ k x y before. h k x y)
+same_by_places es fs count h = same_by_prefixes es fs count (λ k x y before. h k x y)
 
--- one list stands one by one beside another where only one can stand beside each
+-- one list is one by one beside another where only one can be beside each
 pub one_by_one : {X Y : Type 0} (Holds : X → Y → Type 0) (xs : List X) (ys zs : List Y) → ((x : X) (y z : Y) → Holds x y → Holds x z → y ≡ z) → OneByOne Holds xs ys → OneByOne Holds xs zs → ys ≡ zs
 one_by_one {X} {Y} Holds xs ys zs one a b = same_by_places ys zs (a.count ∙ sym b.count) agree
   where

@@ -21,10 +21,10 @@ use Rattle.wit_syntax.specs.Foreign.{foreign_interfaces, foreign_worlds}
 use Rattle.wit_syntax.specs.Repeats.{AllDiffer, firsts}
 use Rattle.wit_syntax.specs.Scope.{worlds_of}
 use Rattle.wit_syntax.specs.Source.{Item}
-use Rattle.wit_syntax.specs.Trees.{scope}
+use Rattle.wit_syntax.specs.ScopesOfTrees.{scope}
 use Rattle.wit_arena.specs.Made.{foreign_interface, own_interface, foreign_world, own_world, item_turns, own_interfaces, interface_scopes, world_scopes, Makes}
-use Rattle.wit_arena.specs.Meet.{Key, Def, Meeting, keys}
-use Rattle.wit_arena.specs.Whole.{Turned, all_meetings, turn_handles, owner_at, HandleRequires, AreRequired, IsPackage}
+use Rattle.wit_arena.specs.Occurrences.{Key, Def, Occurrence, keys}
+use Rattle.wit_arena.specs.Whole.{Turned, all_occurrences, turn_handles, owner_at, HandleRequires, AreRequired, IsPackage}
 use Rattle.wit_arena.proofs.Ends.{ends_one}
 use Rattle.wit_arena.proofs.FirstsOf.{firsts-differ}
 use Rattle.wit_arena.proofs.LegalScopes.{scope_differs}
@@ -50,7 +50,7 @@ one_requires files ks differ h (Some (i, span)) (Some (j, other)) a b =
 one_required : (files : List PackageFile) (ks : List Key) → AllDiffer ks → (hs : List (Address × Id)) (rs qs : List (ℕ × Span)) → AreRequired files ks hs rs → AreRequired files ks hs qs → rs ≡ qs
 one_required files ks differ hs rs qs a b = a.2 ∙ ap (filter_map (λ r. r)) (one_by_one (HandleRequires files ks) hs a.0 b.0 (one_requires files ks differ) a.1 b.1) ∙ sym b.2
 
--- tests that tell the same are one
+-- tests that say the same are one
 one_test : (s t : Bool) → (s ≡ true → t ≡ true) → (t ≡ true → s ≡ true) → s ≡ t
 one_test true true onward back = refl
 one_test true false onward back = sym (onward refl)
@@ -58,7 +58,7 @@ one_test false true onward back = back refl
 one_test false false onward back = refl
 
 one_same : (same other : Key → Key → Bool) → ((x y : Key) → (same x y ≡ true) ↔ (x ≡ y)) → ((x y : Key) → (other x y ≡ true) ↔ (x ≡ y)) → same ≡ other
-one_same same other tells told = fun_ext (λ x. fun_ext (λ y. one_test (same x y) (other x y) (λ is. (told x y).1 ((tells x y).0 is)) (λ is. (tells x y).1 ((told x y).0 is))))
+one_same same other gives as_stated = fun_ext (λ x. fun_ext (λ y. one_test (same x y) (other x y) (λ is. (as_stated x y).1 ((gives x y).0 is)) (λ is. (gives x y).1 ((as_stated x y).0 is))))
 
 abbrev with_parts : PackageName → List World → List Interface → List TypeDef → List (PackageName × List (List ℕ × (AstItem × List Stability))) → Docs → Span → List Span → List Span → List (ℕ × Span) → UnresolvedPackage
 with_parts name worlds interfaces types deps docs span unknown dep_spans required = record { name = name; worlds = worlds; interfaces = interfaces; types = types; foreign_deps = deps; docs = docs; name_span = span; unknown_type_spans = unknown; foreign_dep_spans = dep_spans; required_resource_types = required }
@@ -69,9 +69,9 @@ same_package p q name worlds interfaces types deps docs span unknown dep_spans r
     let same : with_parts p.name p.worlds p.interfaces p.types p.foreign_deps p.docs p.name_span p.unknown_type_spans p.foreign_dep_spans p.required_resource_types ≡ with_parts q.name q.worlds q.interfaces q.types q.foreign_deps q.docs q.name_span q.unknown_type_spans q.foreign_dep_spans q.required_resource_types = cc in
     same
 
--- what holds over some items, orders, meetings and places holds over the same ones
-onward : (P : List Item → List Meeting → (Key → ℕ) → Type 0) (is js : List Item) (met more : List Meeting) (id at : Key → ℕ) → is ≡ js → met ≡ more → id ≡ at → P is met id → P js more at
-onward P is js met more id at same_is same same_id h = subst (λ (f : Key → ℕ). P js more f) same_id (subst (λ (l : List Meeting). P js l id) same (subst (λ (l : List Item). P l met id) same_is h))
+-- what holds over some items, orders, occurrences and places holds over the same ones
+onward : (P : List Item → List Occurrence → (Key → ℕ) → Type 0) (is js : List Item) (seen more : List Occurrence) (id at : Key → ℕ) → is ≡ js → seen ≡ more → id ≡ at → P is seen id → P js more at
+onward P is js seen more id at same_is same same_id h = subst (λ (f : Key → ℕ). P js more f) same_id (subst (λ (l : List Occurrence). P js l id) same (subst (λ (l : List Item). P l seen id) same_is h))
 
 module _ (files : List PackageFile) (p q : UnresolvedPackage) (legal : IsLegal files) (a : Makes files p) (b : Makes files q) where
   items_once : a.items ≡ b.items
@@ -86,52 +86,52 @@ module _ (files : List PackageFile) (p q : UnresolvedPackage) (legal : IsLegal f
       (on_inline files a.order b.order a.names_in_order b.names_in_order b.items b.in_order)
 
   same_once : a.same ≡ b.same
-  same_once = one_same a.same b.same a.tells b.tells
+  same_once = one_same a.same b.same a.gives b.gives
 
-  met_once : a.met ≡ b.met
-  met_once =
+  seen_once : a.seen ≡ b.seen
+  seen_once =
       a.first
-      ∙ ap (λ (same : Key → Key → Bool). firsts (λ (x y : Meeting). same x.key y.key) (all_meetings files (item_turns a.order a.items))) same_once
-      ∙ ap (λ (ts : List Turned). firsts (λ (x y : Meeting). b.same x.key y.key) (all_meetings files ts)) turns_once
+      ∙ ap (λ (same : Key → Key → Bool). firsts (λ (x y : Occurrence). same x.key y.key) (all_occurrences files (item_turns a.order a.items))) same_once
+      ∙ ap (λ (ts : List Turned). firsts (λ (x y : Occurrence). b.same x.key y.key) (all_occurrences files ts)) turns_once
       ∙ sym b.first
 
   id_once : a.id ≡ b.id
   id_once = fun_ext (λ k.
       a.places k
-      ∙ ap (λ (same : Key → Key → Bool). position_or_len (λ (m : Meeting). same k m.key) a.met) same_once
-      ∙ ap (position_or_len (λ (m : Meeting). b.same k m.key)) met_once
+      ∙ ap (λ (same : Key → Key → Bool). position_or_len (λ (m : Occurrence). same k m.key) a.seen) same_once
+      ∙ ap (position_or_len (λ (m : Occurrence). b.same k m.key)) seen_once
       ∙ sym (b.places k))
 
-  -- what holds over what is told of the one holds over what is told of the other
-  as_of : (P : List Item → List Meeting → (Key → ℕ) → Type 0) → P a.items a.met a.id → P b.items b.met b.id
-  as_of P h = onward P a.items b.items a.met b.met a.id b.id items_once met_once id_once h
+  -- what holds over what is stated of the one holds over what is stated of the other
+  as_of : (P : List Item → List Occurrence → (Key → ℕ) → Type 0) → P a.items a.seen a.id → P b.items b.seen b.id
+  as_of P h = onward P a.items b.items a.seen b.seen a.id b.id items_once seen_once id_once h
 
-  differ : AllDiffer (keys b.met)
-  differ = subst (λ (ms : List Meeting). AllDiffer (keys ms)) (sym b.first) (firsts-differ b.same b.tells (all_meetings files (item_turns b.order b.items)))
+  differ : AllDiffer (keys b.seen)
+  differ = subst (λ (ms : List Occurrence). AllDiffer (keys ms)) (sym b.first) (firsts-differ b.same b.gives (all_occurrences files (item_turns b.order b.items)))
 
   types_once : p.types ≡ q.types
   types_once =
-      one_arena (scope files) (scope_differs files legal) (owner_at (interface_scopes files b.items) (world_scopes files b.items)) b.id b.met p.types q.types
-      (a.count ∙ ap length met_once) b.count
-      (as_of (λ is met id. AreEntries (scope files) (scope_differs files legal) (owner_at (interface_scopes files is) (world_scopes files is)) id met p.types) a.types)
+      one_arena (scope files) (scope_differs files legal) (owner_at (interface_scopes files b.items) (world_scopes files b.items)) b.id b.seen p.types q.types
+      (a.count ∙ ap length seen_once) b.count
+      (as_of (λ is seen id. AreEntries (scope files) (scope_differs files legal) (owner_at (interface_scopes files is) (world_scopes files is)) id seen p.types) a.types)
       b.types
 
   interfaces_once : p.interfaces ≡ q.interfaces
   interfaces_once =
-      as_of (λ is met id. p.interfaces ≡ map (foreign_interface files id) (foreign_interfaces files) ++ map (own_interface id a.order) (own_interfaces is)) a.interfaces
+      as_of (λ is seen id. p.interfaces ≡ map (foreign_interface files id) (foreign_interfaces files) ++ map (own_interface id a.order) (own_interfaces is)) a.interfaces
       ∙ ap (λ (l : List Interface). map (foreign_interface files b.id) (foreign_interfaces files) ++ l) (same_interfaces a.order b.order b.id (own_interfaces b.items) (on_own files a.order b.order a.names_in_order b.names_in_order b.items b.in_order))
       ∙ sym b.interfaces
 
   worlds_once : p.worlds ≡ q.worlds
   worlds_once =
-      as_of (λ is met id. p.worlds ≡ map foreign_world (foreign_worlds files) ++ map (own_world id a.order (interface_scopes files is) (world_scopes files is)) (worlds_of is)) a.worlds
+      as_of (λ is seen id. p.worlds ≡ map foreign_world (foreign_worlds files) ++ map (own_world id a.order (interface_scopes files is) (world_scopes files is)) (worlds_of is)) a.worlds
       ∙ ap (λ (l : List World). map foreign_world (foreign_worlds files) ++ l) (same_worlds a.order b.order b.id (interface_scopes files b.items) (world_scopes files b.items) (worlds_of b.items) (on_worlds files a.order b.order a.names_in_order b.names_in_order b.items b.in_order))
       ∙ sym b.worlds
 
   required_once : p.required_resource_types ≡ q.required_resource_types
   required_once =
-      one_required files (keys b.met) differ (flat_map turn_handles (item_turns b.order b.items)) p.required_resource_types q.required_resource_types
-      (subst (λ (ts : List Turned). AreRequired files (keys b.met) (flat_map turn_handles ts) p.required_resource_types) turns_once (subst (λ (ms : List Meeting). AreRequired files (keys ms) (flat_map turn_handles (item_turns a.order a.items)) p.required_resource_types) met_once a.required))
+      one_required files (keys b.seen) differ (flat_map turn_handles (item_turns b.order b.items)) p.required_resource_types q.required_resource_types
+      (subst (λ (ts : List Turned). AreRequired files (keys b.seen) (flat_map turn_handles ts) p.required_resource_types) turns_once (subst (λ (ms : List Occurrence). AreRequired files (keys ms) (flat_map turn_handles (item_turns a.order a.items)) p.required_resource_types) seen_once a.required))
       b.required
 
   name_once : p.name ≡ q.name
@@ -153,6 +153,6 @@ module _ (files : List PackageFile) (p q : UnresolvedPackage) (legal : IsLegal f
 pub one_made : (files : List PackageFile) (p q : UnresolvedPackage) → IsLegal files → Makes files p → Makes files q → p ≡ q
 one_made files p q legal a b = are_one files p q legal a b
 
--- so is one that its relations tell
+-- so is one that its relations say
 pub one_package : (files : List PackageFile) (p q : UnresolvedPackage) → IsLegal files → IsPackage files p → IsPackage files q → p ≡ q
 one_package files p q legal a b = one_made files p q legal (made_of_package files p legal a) (made_of_package files q legal b)

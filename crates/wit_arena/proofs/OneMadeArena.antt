@@ -1,4 +1,4 @@
--- One arena of types is what some first meetings make, where each scope has one name that is called so.
+-- One arena of types is what some first occurrences make, where each scope has one name that is called so.
 use Rattle.std.proofs.Common.{◌≡◌, ℕ, List, ◌∷◌, length, take, Some, None, sym, ap, ◌∙◌, subst, arith, Contains}
 use Rattle.std.specs.Prelude.{slice_get, map}
 use Rattle.std.proofs.lemmas.Option.{slice_get_within}
@@ -11,7 +11,7 @@ use Rattle.wit_types.specs.declared.types.TypeOwner.TheVariants as owner
 use Rattle.wit_types.specs.declared.types.«Type».{«Type» as Ty}
 use Rattle.wit_syntax.specs.Address.{Address}
 use Rattle.wit_syntax.specs.Form.{Form}
-use Rattle.wit_syntax.specs.Notes.{no_docs, first_known}
+use Rattle.wit_syntax.specs.Metadata.{no_docs, first_known}
 use Rattle.wit_syntax.specs.Scope.{AreDistinct}
 use Rattle.wit_syntax.specs.Source.{ScopeName, local_name, about_name}
 use Rattle.wit_syntax.proofs.Found.{at_contains}
@@ -20,9 +20,9 @@ use Rattle.wit_syntax.proofs.Repeated.{differ_at}
 use Rattle.wit_arena.specs.Expr.{name_exprs}
 use Rattle.wit_arena.specs.Kind.{Kind, kind_of}
 use Rattle.wit_arena.specs.Made.{types_of, entry, IsEntryOf}
-use Rattle.wit_arena.specs.Meet.{Key, Def, Whole, Meeting, stability_at}
+use Rattle.wit_arena.specs.Occurrences.{Key, Def, Whole, Occurrence, stability_at}
 use Rattle.wit_arena.proofs.OneKind.{one_kind}
-use Rattle.wit_arena.proofs.OneList.{same_by_fronts}
+use Rattle.wit_arena.proofs.OneList.{same_by_prefixes}
 
 -- of distinct names one is called so
 one_called : (xs : List ScopeName) → AreDistinct xs → (x y : ScopeName) → Contains xs x → Contains xs y → local_name x ≡ local_name y → x ≡ y
@@ -33,21 +33,21 @@ one_called xs differ x y in_x in_y same =
     let both : Some x ≡ Some y = sym a.1 ∙ ap (slice_get xs) place ∙ b.1 in
     cc
 
-abbrev kind_told : Form → List Ty → Kind
-kind_told form parts = record { form = form; parts = parts }
+abbrev kind_stated : Form → List Ty → Kind
+kind_stated form parts = record { form = form; parts = parts }
 
 same_kind : (k l : TypeDefKind) → kind_of k ≡ kind_of l → k ≡ l
 same_kind k l same = one_kind k l (ap (λ (t : Kind). t.form) same) (ap (λ (t : Kind). t.parts) same)
 
 module _ (names : Address → List ScopeName) (differ : (s : Address) → AreDistinct (names s)) (owner_of : Address → TypeOwner) (id : Key → ℕ) where
-  -- there is one entry of what is met, behind the same ones
+  -- there is one entry of what occurs, after the same ones
   one_entry : (es : List TypeDef) (k : Key) (span : Span) (given : Stability) (e f : TypeDef) → IsEntryOf names owner_of id es k span given e → IsEntryOf names owner_of id es k span given f → e ≡ f
   one_entry es (Def s name) span given e f a b =
       let one : a.0 ≡ b.0 = one_called (names s) (differ s) a.0 b.0 a.2 b.2 (a.3 ∙ sym b.3) in
-      let kind : a.1 ≡ b.1 = same_kind a.1 b.1 (a.4 ∙ ap (λ (x : ScopeName). kind_told (about_name x).body.form (types_of id (name_exprs s x))) one ∙ sym b.4) in
+      let kind : a.1 ≡ b.1 = same_kind a.1 b.1 (a.4 ∙ ap (λ (x : ScopeName). kind_stated (about_name x).body.form (types_of id (name_exprs s x))) one ∙ sym b.4) in
       a.5
-      ∙ ap (λ (x : ScopeName). entry (Some name) (owner_of s) (about_name x).notes span a.1) one
-      ∙ ap (λ (k : TypeDefKind). entry (Some name) (owner_of s) (about_name b.0).notes span k) kind
+      ∙ ap (λ (x : ScopeName). entry (Some name) (owner_of s) (about_name x).metadata span a.1) one
+      ∙ ap (λ (k : TypeDefKind). entry (Some name) (owner_of s) (about_name b.0).metadata span k) kind
       ∙ sym b.5
   one_entry es (Whole form parts) span given e f a b =
       let kind : a.0 ≡ b.0 = same_kind a.0 b.0 (a.1 ∙ sym b.1) in
@@ -55,15 +55,15 @@ module _ (names : Address → List ScopeName) (differ : (s : Address) → AreDis
       ∙ ap (λ (k : TypeDefKind). entry None owner.None (record { docs = no_docs; stability = first_known (given ∷ map (stability_at es) (types_of id parts)); external_id = None }) span k) kind
       ∙ sym b.2
 
-  -- these are the entries of what is met, each behind those before it
-  abbrev pub AreEntries : List Meeting → List TypeDef → Type 0
-  AreEntries met es = (n : ℕ) (m : Meeting) (e : TypeDef) → slice_get met n ≡ Some m → slice_get es n ≡ Some e → IsEntryOf names owner_of id (take n es) m.key m.span m.given e
+  -- these are the entries of what occurs, each after those before it
+  abbrev pub AreEntries : List Occurrence → List TypeDef → Type 0
+  AreEntries seen es = (n : ℕ) (m : Occurrence) (e : TypeDef) → slice_get seen n ≡ Some m → slice_get es n ≡ Some e → IsEntryOf names owner_of id (take n es) m.key m.span m.given e
 
-  pub one_arena : (met : List Meeting) (es fs : List TypeDef) → length es ≡ length met → length fs ≡ length met → AreEntries met es → AreEntries met fs → es ≡ fs
-  one_arena met es fs count count' a b = same_by_fronts es fs (count ∙ sym count') agree
+  pub one_arena : (seen : List Occurrence) (es fs : List TypeDef) → length es ≡ length seen → length fs ≡ length seen → AreEntries seen es → AreEntries seen fs → es ≡ fs
+  one_arena seen es fs count count' a b = same_by_prefixes es fs (count ∙ sym count') agree
     where
       agree : (n : ℕ) (e f : TypeDef) → take n es ≡ take n fs → slice_get es n ≡ Some e → slice_get fs n ≡ Some f → e ≡ f
-      agree n e f front at_e at_f =
+      agree n e f prefix at_e at_f =
           let lt = slice_get_within es n e at_e in
-          let m = at_within met n (omega (arith, lt, count)) in
-          one_entry (take n es) m.0.key m.0.span m.0.given e f (a n m.0 e m.1 at_e) (subst (λ (l : List TypeDef). IsEntryOf names owner_of id l m.0.key m.0.span m.0.given f) (sym front) (b n m.0 f m.1 at_f))
+          let m = at_within seen n (omega (arith, lt, count)) in
+          one_entry (take n es) m.0.key m.0.span m.0.given e f (a n m.0 e m.1 at_e) (subst (λ (l : List TypeDef). IsEntryOf names owner_of id l m.0.key m.0.span m.0.given f) (sym prefix) (b n m.0 f m.1 at_f))

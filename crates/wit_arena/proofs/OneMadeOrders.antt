@@ -1,4 +1,4 @@
--- There is one order of the items of files, and one of the names of each, so that two that are told agree on all items.
+-- There is one order of the items of files, and one of the names of each, so that two that are stated agree on all items.
 use Rattle.std.proofs.Common.{◌≡◌, ℕ, suc, ◌<◌, Bool, not, List, length, Some, inl, inr, refl, sym, ap, ◌∙◌, subst, Contains}
 use Rattle.std.specs.Prelude.{slice_get}
 use Rattle.std.specs.List.{filter, flat_map}
@@ -29,7 +29,7 @@ module _ (files : List PackageFile) where
     inline_among : (j : ℕ) (w : Item) → slice_get (inline_items i) j ≡ Some w → Contains (all_scopes files) w
     inline_among j w at_w = (let it = flat_map_has with_inline (all_items files) k (suc j) i w at at_w in contains_at (all_scopes files) it.0 w it.1)
 
-  -- what is in order stands among all items
+  -- what is in order is among all items
   ordered_at : (is : List Item) → AreInOrder files is → (k : ℕ) (i : Item) → slice_get is k ≡ Some i → (j : ℕ) × (slice_get (all_items files) j ≡ Some i)
   ordered_at is ordered k i at =
       let it = in_order_at (all_items files) ordered.0 k i within (ap (λ (l : List Item). slice_get l k) (sym ordered.2) ∙ at) in
@@ -57,6 +57,6 @@ module _ (files : List PackageFile) where
 
     pub on_own : Agree order other (own_interfaces is)
     on_own k i at = elim (at_split (interfaces_of is) (flat_map inline_items (worlds_of is)) k i at) [
-      | inl front ↦ on_interfaces k i front
-      | inr behind ↦ (let it = flat_map_at inline_items (worlds_of is) behind.0 i behind.2 in on_inline it.0 it.1 it.2 it.3.0 i it.3.1)
+      | inl prefix ↦ on_interfaces k i prefix
+      | inr rest_after ↦ (let it = flat_map_at inline_items (worlds_of is) rest_after.0 i rest_after.2 in on_inline it.0 it.1 it.2 it.3.0 i it.3.1)
     ]

@@ -7,7 +7,7 @@ use Rattle.wit_syntax.specs.Shape.{Shapes, End, More}
 use Rattle.wit_syntax.specs.Address.{Address}
 use Rattle.wit_syntax.specs.Source.{Place, placed}
 use Rattle.wit_arena.specs.Expr.{expr_of, exprs_of}
-use Rattle.wit_arena.specs.Meet.{Key, IsAt, AreAt}
+use Rattle.wit_arena.specs.Occurrences.{Key, IsAt, AreAt}
 
 -- a type is one of these
 abbrev pub HasPart : List Ty → Ty → Type 0

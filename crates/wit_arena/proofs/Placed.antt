@@ -1,17 +1,17 @@
--- Functions whose setters were put directly behind their getters are the same functions.
+-- Functions whose setters were put directly after their getters are the same functions.
 use Rattle.std.proofs.Common.{◌≡◌, ℕ, zero, suc, Bool, true, false, ◌&&◌, ◌||◌, List, [], ◌∷◌, map, Option, Some, None, ◌⊎◌, inl, inr, refl, sym, ap, ◌∙◌}
 use Rattle.std.specs.Prelude.{slice_get}
 use Rattle.std.specs.List.{filter, list_any}
 use Rattle.std.specs.Option.{option_map}
 use Rattle.std.proofs.lemmas.Bool.{cases_Bool, cond-true, cond-false}
 use Rattle.std.proofs.lemmas.Option.{slice_get-map}
-use Rattle.wit_functions.specs.Setters.{fronts, is_getter, is_getter_of, goes_on_alike, goes_with, early, others, with_setters, setters_placed, pairs}
+use Rattle.wit_functions.specs.Setters.{prefixes, is_getter, is_getter_of, goes_on_alike, goes_with, early, others, with_setters, setters_placed, pairs}
 use Rattle.wit_functions.specs.declared.function.Function.{Function}
 use Rattle.wit_functions.specs.declared.function.FunctionKind.{FunctionKind}
 use Rattle.wit_functions.specs.declared.function.FunctionKind.TheVariants as kind
 use Rattle.wit_arena.specs.Functions.{by_name, placed_functions}
 use Rattle.wit_syntax.proofs.Lists.{map_at, flat_map_at, flat_map_has}
-use Rattle.wit_syntax.proofs.Kept.{behind_one, kept_at, kept_has}
+use Rattle.wit_syntax.proofs.Kept.{after_one, kept_at, kept_has}
 
 -- what passes a test that one of a list passes
 pub any_at : {X : Type 0} (test : X → Bool) (xs : List X) → list_any test xs ≡ true → (i : ℕ) × (x : X) × (slice_get xs i ≡ Some x) × (test x ≡ true)
@@ -22,11 +22,11 @@ any_at test (x ∷ xs) h = elim (cases_Bool (test x)) [
 ]
 
 module _ {X : Type 0} (goes : X → X → Bool) where
-  -- what comes early stands in the list, and what is left too
+  -- what comes early is in the list, and what is left too
   early_at : (es : List X) (i : ℕ) (x : X) → slice_get (early goes es) i ≡ Some x → (k : ℕ) × (slice_get es k ≡ Some x)
   early_at [] i x at = absurd (let f : ⊥ = cc in f)
   early_at (e ∷ es) i x at = elim (cases_Bool (list_any (goes e) es)) [
-    | inl hit ↦ elim (behind_one e (early goes es) i x (sym (ap (λ zs. slice_get zs i) (cond-true (list_any (goes e) es) (e ∷ early goes es) (early goes es) hit)) ∙ at)) [
+    | inl hit ↦ elim (after_one e (early goes es) i x (sym (ap (λ zs. slice_get zs i) (cond-true (list_any (goes e) es) (e ∷ early goes es) (early goes es) hit)) ∙ at)) [
       | inl here ↦ (0, ap Some here)
       | inr rest ↦ (let it = early_at es rest.0 x rest.1 in (suc it.0, it.1))
     ]
@@ -37,16 +37,16 @@ module _ {X : Type 0} (goes : X → X → Bool) where
   others_at [] i x at = absurd (let f : ⊥ = cc in f)
   others_at (e ∷ es) i x at = elim (cases_Bool (list_any (goes e) es)) [
     | inl hit ↦ (let it = others_at es i x (sym (ap (λ zs. slice_get zs i) (cond-true (list_any (goes e) es) (others goes es) (e ∷ others goes es) hit)) ∙ at) in (suc it.0, it.1))
-    | inr miss ↦ elim (behind_one e (others goes es) i x (sym (ap (λ zs. slice_get zs i) (cond-false (list_any (goes e) es) (others goes es) (e ∷ others goes es) miss)) ∙ at)) [
+    | inr miss ↦ elim (after_one e (others goes es) i x (sym (ap (λ zs. slice_get zs i) (cond-false (list_any (goes e) es) (others goes es) (e ∷ others goes es) miss)) ∙ at)) [
       | inl here ↦ (0, ap Some here)
       | inr rest ↦ (let it = others_at es rest.0 x rest.1 in (suc it.0, it.1))
     ]
   ]
 
   -- something comes early, where its getter is one of these
-  record IsEarly (es front : List X) (x : X) : Type 0 where
+  record IsEarly (es prefix : List X) (x : X) : Type 0 where
     place : ℕ
-    at : slice_get front place ≡ Some x
+    at : slice_get prefix place ≡ Some x
     index : ℕ
     getter : X
     there : slice_get es index ≡ Some getter
@@ -72,16 +72,16 @@ module _ {X : Type 0} (goes : X → X → Bool) where
     ]
   ]
 
-  -- what is placed stands in the list
+  -- what is placed is in the list
   pub placed_at : (es : List X) (i : ℕ) (x : X) → slice_get (setters_placed goes es) i ≡ Some x → (k : ℕ) × (slice_get es k ≡ Some x)
   placed_at es i x at =
       let it = flat_map_at (with_setters goes (early goes es)) (others goes es) i x at in
-      elim (behind_one it.1 (filter (λ s. goes s it.1) (early goes es)) it.3.0 x it.3.1) [
+      elim (after_one it.1 (filter (λ s. goes s it.1) (early goes es)) it.3.0 x it.3.1) [
         | inl here ↦ (let o = others_at es it.0 it.1 it.2 in (o.0, o.1 ∙ ap Some here))
         | inr rest ↦ (let k = kept_at (λ s. goes s it.1) (early goes es) rest.0 x rest.1 in early_at es k.0 x k.1)
       ]
 
-  -- what stands in the list is placed, where no getter has a getter
+  -- what is in the list is placed, where no getter has a getter
   pub placed_has : ((s g x : X) → goes s g ≡ true → goes g x ≡ true → ⊥) → (es : List X) (i : ℕ) (x : X) → slice_get es i ≡ Some x → (k : ℕ) × (slice_get (setters_placed goes es) k ≡ Some x)
   placed_has apart es i x at = elim (early_or es i x at) [
     | inl left ↦ flat_map_has (with_setters goes (early goes es)) (others goes es) left.0 0 x x left.1 refl
@@ -94,20 +94,20 @@ module _ {X : Type 0} (goes : X → X → Bool) where
   ]
 
 -- a getter is no setter
-getter_front : (k : FunctionKind) → is_getter k ≡ true → fronts k ≡ None
-getter_front kind.Getter h = refl
-getter_front (kind.MethodGetter r) h = refl
-getter_front (kind.StaticGetter r) h = refl
-getter_front kind.Freestanding h = refl
-getter_front kind.AsyncFreestanding h = refl
-getter_front kind.Setter h = absurd (let f : ⊥ = cc in f)
-getter_front (kind.Method r) h = refl
-getter_front (kind.AsyncMethod r) h = refl
-getter_front (kind.MethodSetter r) h = absurd (let f : ⊥ = cc in f)
-getter_front (kind.Static r) h = refl
-getter_front (kind.AsyncStatic r) h = refl
-getter_front (kind.StaticSetter r) h = absurd (let f : ⊥ = cc in f)
-getter_front (kind.Constructor r) h = refl
+getter_prefix : (k : FunctionKind) → is_getter k ≡ true → prefixes k ≡ None
+getter_prefix kind.Getter h = refl
+getter_prefix (kind.MethodGetter r) h = refl
+getter_prefix (kind.StaticGetter r) h = refl
+getter_prefix kind.Freestanding h = refl
+getter_prefix kind.AsyncFreestanding h = refl
+getter_prefix kind.Setter h = absurd (let f : ⊥ = cc in f)
+getter_prefix (kind.Method r) h = refl
+getter_prefix (kind.AsyncMethod r) h = refl
+getter_prefix (kind.MethodSetter r) h = absurd (let f : ⊥ = cc in f)
+getter_prefix (kind.Static r) h = refl
+getter_prefix (kind.AsyncStatic r) h = refl
+getter_prefix (kind.StaticSetter r) h = absurd (let f : ⊥ = cc in f)
+getter_prefix (kind.Constructor r) h = refl
 
 both_pass : (a b : Bool) → (a && b) ≡ true → (a ≡ true) × (b ≡ true)
 both_pass true true h = (refl, refl)
@@ -116,21 +116,21 @@ both_pass false b h = absurd (let f : ⊥ = cc in f)
 
 function_alone : (s g x : Function) → is_getter_of s g ≡ true → is_getter_of g x ≡ true → ⊥
 function_alone s g x one two =
-    let getter = (both_pass (is_getter g.kind) (goes_on_alike (fronts s.kind) s.name g.name) one).0 in
-    let goes = (both_pass (is_getter x.kind) (goes_on_alike (fronts g.kind) g.name x.name) two).1 in
-    let wrong : false ≡ true = sym (ap (λ f. goes_on_alike f g.name x.name) (getter_front g.kind getter)) ∙ goes in
+    let getter = (both_pass (is_getter g.kind) (goes_on_alike (prefixes s.kind) s.name g.name) one).0 in
+    let goes = (both_pass (is_getter x.kind) (goes_on_alike (prefixes g.kind) g.name x.name) two).1 in
+    let wrong : false ≡ true = sym (ap (λ f. goes_on_alike f g.name x.name) (getter_prefix g.kind getter)) ∙ goes in
     let f : ⊥ = cc in
     f
 
-told_alone : (s g x : Option Function) → goes_with s g ≡ true → goes_with g x ≡ true → ⊥
-told_alone None g x one two = absurd (let f : ⊥ = cc in f)
-told_alone (Some s) None x one two = absurd (let f : ⊥ = cc in f)
-told_alone (Some s) (Some g) None one two = absurd (let f : ⊥ = cc in f)
-told_alone (Some s) (Some g) (Some x) one two = function_alone s g x one two
+stated_alone : (s g x : Option Function) → goes_with s g ≡ true → goes_with g x ≡ true → ⊥
+stated_alone None g x one two = absurd (let f : ⊥ = cc in f)
+stated_alone (Some s) None x one two = absurd (let f : ⊥ = cc in f)
+stated_alone (Some s) (Some g) None one two = absurd (let f : ⊥ = cc in f)
+stated_alone (Some s) (Some g) (Some x) one two = function_alone s g x one two
 
 -- so no getter has a getter
-pub getters_alone : {K V : Type 0} (tells : V → Option Function) (s g x : K × V) → pairs tells s g ≡ true → pairs tells g x ≡ true → ⊥
-getters_alone tells s g x one two = told_alone (tells s.1) (tells g.1) (tells x.1) one two
+pub getters_alone : {K V : Type 0} (gives : V → Option Function) (s g x : K × V) → pairs gives s g ≡ true → pairs gives g x ≡ true → ⊥
+getters_alone gives s g x one two = stated_alone (gives s.1) (gives g.1) (gives x.1) one two
 
 -- functions, each at its name, and then placed
 pub function_placed : (fs : List Function) (k : ℕ) (f : Function) → slice_get fs k ≡ Some f → (place : ℕ) × (slice_get (placed_functions fs) place ≡ Some (f.name, f))

@@ -1,4 +1,4 @@
--- Where types stand among the keys that were met.
+-- Where types are among the keys that occurred.
 use Rattle.std.proofs.Common.{◌≡◌, ℕ, List, [], ◌∷◌, ◌++◌, take, Some, refl, sym, ap, ◌∙◌, append_assoc}
 use Rattle.std.specs.Prelude.{slice_get}
 use Rattle.std.proofs.lemmas.List.{append-nil}
@@ -6,35 +6,35 @@ use Rattle.wit_types.specs.declared.types.«Type».{«Type» as Ty}
 use Rattle.wit_types.specs.declared.types.«Type».TheVariants.{Id}
 use Rattle.wit_arena.specs.Expr.{Expr, Prim, Use, Of, Exprs, End, More, joined}
 use Rattle.wit_syntax.specs.Repeats.{AllDiffer}
-use Rattle.wit_arena.specs.Meet.{Key, Def, Whole, IsAt, AreAt}
-use Rattle.wit_arena.specs.Resolving.{met, all_met}
-use Rattle.wit_syntax.proofs.Lists.{at_front, at_take}
+use Rattle.wit_arena.specs.Occurrences.{Key, Def, Whole, IsAt, AreAt}
+use Rattle.wit_arena.specs.Resolving.{seen, all_seen}
+use Rattle.wit_syntax.proofs.Lists.{at_prefix, at_take}
 use Rattle.wit_arena.proofs.Primitives.{primitive_type-injective, primitive_type-id}
 
 -- the second list is the first and more
-pub record Grown (a b : List Key) : Type 0 where
+pub record Extended (a b : List Key) : Type 0 where
   pub more : List Key
   pub is : b ≡ a ++ more
 
-pub grown_refl : (ks : List Key) → Grown ks ks
-grown_refl ks = record { more = []; is = sym (append-nil ks) }
+pub extended_refl : (ks : List Key) → Extended ks ks
+extended_refl ks = record { more = []; is = sym (append-nil ks) }
 
-pub grown_trans : {a b c : List Key} → Grown a b → Grown b c → Grown a c
-grown_trans {a} {b} {c} g h = record { more = g.more ++ h.more; is = rw (h.is, g.is) (append_assoc a g.more h.more) }
+pub extended_trans : {a b c : List Key} → Extended a b → Extended b c → Extended a c
+extended_trans {a} {b} {c} g h = record { more = g.more ++ h.more; is = rw (h.is, g.is) (append_assoc a g.more h.more) }
 
-pub key_grown : {a b : List Key} → Grown a b → (i : ℕ) (k : Key) → slice_get a i ≡ Some k → slice_get b i ≡ Some k
-key_grown {a} g i k h = rw g.is (at_front a g.more i k h)
+pub key_extended : {a b : List Key} → Extended a b → (i : ℕ) (k : Key) → slice_get a i ≡ Some k → slice_get b i ≡ Some k
+key_extended {a} g i k h = rw g.is (at_prefix a g.more i k h)
 
-pub at_grown : {a b : List Key} → Grown a b → (e : Expr) (t : Ty) → IsAt a e t → IsAt b e t
-at_grown g (Prim p) t h = h
-at_grown g (Use s name) t h = (h.0, h.1, key_grown g h.0 (Def s name) h.2)
-at_grown g (Of form parts) t h = (h.0, h.1, key_grown g h.0 (Whole form parts) h.2)
+pub at_extended : {a b : List Key} → Extended a b → (e : Expr) (t : Ty) → IsAt a e t → IsAt b e t
+at_extended g (Prim p) t h = h
+at_extended g (Use s name) t h = (h.0, h.1, key_extended g h.0 (Def s name) h.2)
+at_extended g (Of form parts) t h = (h.0, h.1, key_extended g h.0 (Whole form parts) h.2)
 
-pub all_at_grown : {a b : List Key} → Grown a b → (es : Exprs) (ts : List Ty) → AreAt a es ts → AreAt b es ts
-all_at_grown g End [] h = tt
-all_at_grown g (More e es) (t ∷ ts) h = (at_grown g e t h.0, all_at_grown g es ts h.1)
-all_at_grown g End (t ∷ ts) h = absurd h
-all_at_grown g (More e es) [] h = absurd h
+pub all_at_extended : {a b : List Key} → Extended a b → (es : Exprs) (ts : List Ty) → AreAt a es ts → AreAt b es ts
+all_at_extended g End [] h = tt
+all_at_extended g (More e es) (t ∷ ts) h = (at_extended g e t h.0, all_at_extended g es ts h.1)
+all_at_extended g End (t ∷ ts) h = absurd h
+all_at_extended g (More e es) [] h = absurd h
 
 -- from the first n to the whole
 at_untaken : (n : ℕ) (ks : List Key) (e : Expr) (t : Ty) → IsAt (take n ks) e t → IsAt ks e t
@@ -90,6 +90,6 @@ all_at_functional ks o End (t ∷ ts) us p q = absurd p
 all_at_functional ks o (More e es) [] us p q = absurd p
 all_at_functional ks o (More e es) (t ∷ ts) [] p q = absurd q
 
-pub all_met-joined : (es fs : Exprs) → all_met (joined es fs) ≡ all_met es ++ all_met fs
-all_met-joined End fs = refl
-all_met-joined (More e es) fs = ap (λ ks. met e ++ ks) (all_met-joined es fs) ∙ sym (append_assoc (met e) (all_met es) (all_met fs))
+pub all_seen-joined : (es fs : Exprs) → all_seen (joined es fs) ≡ all_seen es ++ all_seen fs
+all_seen-joined End fs = refl
+all_seen-joined (More e es) fs = ap (λ ks. seen e ++ ks) (all_seen-joined es fs) ∙ sym (append_assoc (seen e) (all_seen es) (all_seen fs))

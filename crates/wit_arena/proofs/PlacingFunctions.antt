@@ -1,4 +1,4 @@
--- Where a function tells the place of each key, what stands for written functions and for names is told.
+-- Where a function gives the place of each key, what means written functions and for names is stated.
 use Rattle.std.proofs.Common.{◌≡◌, ℕ, suc, List, [], ◌∷◌, Option, Some, None, refl, sym, ap, ◌∙◌, arith}
 use Rattle.std.specs.Prelude.{slice_get, map}
 use Rattle.std.specs.Option.{option_map, option_to_list}
@@ -18,20 +18,20 @@ use Rattle.wit_syntax.specs.Source.{ScopeName, local_name}
 use Rattle.wit_arena.specs.Expr.{expr_of}
 use Rattle.wit_arena.specs.Functions.{kinds_of, IsKind, IsParam, IsFunction}
 use Rattle.wit_arena.specs.Made.{type_of, role_kind, function_in, name_places}
-use Rattle.wit_arena.specs.Meet.{Key, Def, IsAt}
+use Rattle.wit_arena.specs.Occurrences.{Key, Def, IsAt}
 use Rattle.wit_arena.specs.OneByOne.{OneByOne}
 use Rattle.wit_arena.specs.Whole.{Turned, HasTypes}
-use Rattle.wit_arena.proofs.Placing.{TellsPlaces, at-type_of}
+use Rattle.wit_arena.proofs.Placing.{GivesPlaces, at-type_of}
 
--- what stands one by one beside a list, where what stands beside each is told, is its image
+-- what is one by one beside a list, where what is beside each is stated, is its image
 pub one_by_one-map : {X Y : Type 0} (Holds : X → Y → Type 0) (f : X → Y) → ((x : X) (y : Y) → Holds x y → y ≡ f x) → (xs : List X) (ys : List Y) → OneByOne Holds xs ys → ys ≡ map f xs
-one_by_one-map Holds f told [] [] h = refl
-one_by_one-map Holds f told [] (y ∷ ys) h = absurd (let count = h.count in let f : ⊥ = omega (arith, count) in f)
-one_by_one-map Holds f told (x ∷ xs) [] h = absurd (let count = h.count in let f : ⊥ = omega (arith, count) in f)
-one_by_one-map Holds f told (x ∷ xs) (y ∷ ys) h =
+one_by_one-map Holds f as_stated [] [] h = refl
+one_by_one-map Holds f as_stated [] (y ∷ ys) h = absurd (let count = h.count in let f : ⊥ = omega (arith, count) in f)
+one_by_one-map Holds f as_stated (x ∷ xs) [] h = absurd (let count = h.count in let f : ⊥ = omega (arith, count) in f)
+one_by_one-map Holds f as_stated (x ∷ xs) (y ∷ ys) h =
     let count = h.count in
     let rest : OneByOne Holds xs ys = record { count = omega (arith, count); each = λ k. h.each (suc k) } in
-    ap (λ z. z ∷ ys) (told x y (h.each 0 x y refl refl)) ∙ ap (λ l. f x ∷ l) (one_by_one-map Holds f told xs ys rest)
+    ap (λ z. z ∷ ys) (as_stated x y (h.each 0 x y refl refl)) ∙ ap (λ l. f x ∷ l) (one_by_one-map Holds f as_stated xs ys rest)
 
 abbrev param : List ℕ → Ty → Span → Param
 param name ty span = record { name = name; ty = ty; span = span }
@@ -39,58 +39,58 @@ param name ty span = record { name = name; ty = ty; span = span }
 abbrev function : List ℕ → FunctionKind → List Param → Option Ty → Docs → Stability → Span → Option (List ℕ) → Function
 function name kind params result docs stability span id = record { name = name; kind = kind; params = params; result = result; docs = docs; stability = stability; span = span; external_id = id }
 
-module _ (id : Key → ℕ) (ks : List Key) (tells : TellsPlaces id ks) where
+module _ (id : Key → ℕ) (ks : List Key) (gives : GivesPlaces id ks) where
   kind-role : (s : Address) (role : Role) (k : FunctionKind) → IsKind ks s role k → k ≡ role_kind (λ (of : Id). id (Def s of.name.now)) role
   kind-role s (Freestanding of form) k h = h
-  kind-role s (Method of form) k h = h.1 ∙ ap (kinds_of form).method (sym (tells.at h.0 (Def s of.name.now) h.2))
-  kind-role s (Static of form) k h = h.1 ∙ ap (kinds_of form).static (sym (tells.at h.0 (Def s of.name.now) h.2))
-  kind-role s (Constructor of) k h = h.1 ∙ ap kind.Constructor (sym (tells.at h.0 (Def s of.name.now) h.2))
+  kind-role s (Method of form) k h = h.1 ∙ ap (kinds_of form).method (sym (gives.at h.0 (Def s of.name.now) h.2))
+  kind-role s (Static of form) k h = h.1 ∙ ap (kinds_of form).static (sym (gives.at h.0 (Def s of.name.now) h.2))
+  kind-role s (Constructor of) k h = h.1 ∙ ap kind.Constructor (sym (gives.at h.0 (Def s of.name.now) h.2))
   kind-role s (OnSide side of form) k h = h
 
   abbrev param_in : Address → SourceParam → Param
   param_in s x = param x.name (type_of id (expr_of s x.shape)) x.span
 
-  param_told : (s : Address) (x : SourceParam) (p : Param) → IsParam ks s x p → p ≡ param_in s x
-  param_told s x p h =
+  param_stated : (s : Address) (x : SourceParam) (p : Param) → IsParam ks s x p → p ≡ param_in s x
+  param_stated s x p h =
       let name = h.0 in
-      let type = at-type_of id ks tells (expr_of s x.shape) p.ty h.2 in
+      let type = at-type_of id ks gives (expr_of s x.shape) p.ty h.2 in
       let span = h.1 in
       let same : param p.name p.ty p.span ≡ param_in s x = cc in
       same
 
-  result_told : (s : Address) (x : Option Shape) (t : Option Ty) → OneByOne (λ (y : Shape) (u : Ty). IsAt ks (expr_of s y) u) (option_to_list x) (option_to_list t) → t ≡ option_map (λ y. type_of id (expr_of s y)) x
-  result_told s None None h = refl
-  result_told s None (Some t) h = absurd (let count = h.count in let f : ⊥ = omega (arith, count) in f)
-  result_told s (Some x) None h = absurd (let count = h.count in let f : ⊥ = omega (arith, count) in f)
-  result_told s (Some x) (Some t) h = ap Some (at-type_of id ks tells (expr_of s x) t (h.each 0 x t refl refl))
+  result_stated : (s : Address) (x : Option Shape) (t : Option Ty) → OneByOne (λ (y : Shape) (u : Ty). IsAt ks (expr_of s y) u) (option_to_list x) (option_to_list t) → t ≡ option_map (λ y. type_of id (expr_of s y)) x
+  result_stated s None None h = refl
+  result_stated s None (Some t) h = absurd (let count = h.count in let f : ⊥ = omega (arith, count) in f)
+  result_stated s (Some x) None h = absurd (let count = h.count in let f : ⊥ = omega (arith, count) in f)
+  result_stated s (Some x) (Some t) h = ap Some (at-type_of id ks gives (expr_of s x) t (h.each 0 x t refl refl))
 
   pub function-in : (s : Address) (written : SourceFunction) (f : Function) → IsFunction ks s written f → f ≡ function_in id s written
   function-in s written f h =
       let name = h.name in
       let kind = kind-role s written.role f.kind h.kind in
-      let params = one_by_one-map (IsParam ks s) (param_in s) (param_told s) (all_params written) f.params h.params in
-      let result = result_told s written.result f.result h.result in
-      let docs = h.notes.docs in
-      let stability = h.notes.stability in
+      let params = one_by_one-map (IsParam ks s) (param_in s) (param_stated s) (all_params written) f.params h.params in
+      let result = result_stated s written.result f.result h.result in
+      let docs = h.metadata.docs in
+      let stability = h.metadata.stability in
       let span = h.span in
-      let external_id = h.notes.external_id in
+      let external_id = h.metadata.external_id in
       let same : function f.name f.kind f.params f.result f.docs f.stability f.span f.external_id ≡ function_in id s written = cc in
       same
 
   pub functions-in : (s : Address) (written : List SourceFunction) (fs : List Function) → OneByOne (IsFunction ks s) written fs → fs ≡ map (function_in id s) written
   functions-in s written fs h = one_by_one-map (IsFunction ks s) (function_in id s) (function-in s) written fs h
 
-  places_told : (s : Address) (xs : List ScopeName) (types : List (List ℕ × ℕ)) → map (λ n. n.0) types ≡ map local_name xs → ((k : ℕ) (name : List ℕ) (i : ℕ) → slice_get types k ≡ Some (name, i) → slice_get ks i ≡ Some (Def s name)) → types ≡ name_places id s xs
-  places_told s [] [] names at = refl
-  places_told s [] (t ∷ ts) names at = absurd (let f : ⊥ = cc in f)
-  places_told s (x ∷ xs) [] names at = absurd (let f : ⊥ = cc in f)
-  places_told s (x ∷ xs) (t ∷ ts) names at =
+  places_stated : (s : Address) (xs : List ScopeName) (types : List (List ℕ × ℕ)) → map (λ n. n.0) types ≡ map local_name xs → ((k : ℕ) (name : List ℕ) (i : ℕ) → slice_get types k ≡ Some (name, i) → slice_get ks i ≡ Some (Def s name)) → types ≡ name_places id s xs
+  places_stated s [] [] names at = refl
+  places_stated s [] (t ∷ ts) names at = absurd (let f : ⊥ = cc in f)
+  places_stated s (x ∷ xs) [] names at = absurd (let f : ⊥ = cc in f)
+  places_stated s (x ∷ xs) (t ∷ ts) names at =
       let name : t.0 ≡ local_name x = cc in
       let others : map (λ (n : List ℕ × ℕ). n.0) ts ≡ map local_name xs = cc in
-      let place : t.1 ≡ id (Def s t.0) = sym (tells.at t.1 (Def s t.0) (at 0 t.0 t.1 refl)) in
+      let place : t.1 ≡ id (Def s t.0) = sym (gives.at t.1 (Def s t.0) (at 0 t.0 t.1 refl)) in
       ap (λ (i : ℕ). (t.0, i) ∷ ts) place
       ∙ ap (λ (n : List ℕ). (n, id (Def s n)) ∷ ts) name
-      ∙ ap (λ l. (local_name x, id (Def s (local_name x))) ∷ l) (places_told s xs ts others (λ k. at (suc k)))
+      ∙ ap (λ l. (local_name x, id (Def s (local_name x))) ∷ l) (places_stated s xs ts others (λ k. at (suc k)))
 
   pub types-places : (t : Turned) (types : List (List ℕ × ℕ)) → HasTypes ks t types → types ≡ name_places id t.address t.names
-  types-places t types h = places_told t.address t.names types h.names h.places
+  types-places t types h = places_stated t.address t.names types h.names h.places

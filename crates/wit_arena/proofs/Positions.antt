@@ -1,4 +1,4 @@
--- Where each type stands at its place, so do those below it, by one path.
+-- Where each type is at its place, so do those below it, by one path.
 use Rattle.std.proofs.Common.{◌≡◌, ℕ, suc, List, [], ◌∷◌, Option, Some, None, inl, inr, refl, sym, ap, ◌∙◌, subst}
 use Rattle.std.specs.Prelude.{slice_get}
 use Rattle.std.specs.Option.{option_map_or, unwrap_or}
@@ -15,21 +15,21 @@ use Rattle.wit_syntax.specs.Shape.{Shape, Shapes}
 use Rattle.wit_syntax.specs.Shape as shape
 use Rattle.wit_syntax.specs.Address.{Address}
 use Rattle.wit_syntax.specs.Source.{ScopeName, Place, local_name, meaning, named_node, placed, about_name}
-use Rattle.wit_syntax.specs.Trees.{scope, source_node}
+use Rattle.wit_syntax.specs.ScopesOfTrees.{scope, source_node}
 use Rattle.wit_arena.specs.Kind.{kind_of}
 use Rattle.wit_arena.specs.Expr.{Exprs, expr_of, exprs_of, name_exprs}
-use Rattle.wit_arena.specs.Meet.{Key, Def, Whole, Meeting, keys, IsAt, AreAt, Decls}
+use Rattle.wit_arena.specs.Occurrences.{Key, Def, Whole, Occurrence, keys, IsAt, AreAt, Decls}
 use Rattle.wit_arena.specs.Package.{package_node, entry_node}
-use Rattle.wit_arena.specs.Faithful.{node_parts, StandsBelow}
-use Rattle.wit_arena.specs.Resolving.{met, all_met}
+use Rattle.wit_arena.specs.Faithful.{node_parts, LiesBelow}
+use Rattle.wit_arena.specs.Resolving.{seen, all_seen}
 use Rattle.wit_arena.proofs.Primitives.{primitive_node}
 use Rattle.wit_arena.proofs.Places.{all_at_untaken}
-use Rattle.wit_arena.proofs.Meeting.{Has, has_either}
+use Rattle.wit_arena.proofs.Occurrence.{Has, has_either}
 use Rattle.wit_arena.proofs.Shape.{entry_of_key}
 use Rattle.wit_arena.proofs.Depth.{meaning_found}
 use Rattle.wit_arena.proofs.Parts.{part_type}
-use Rattle.wit_arena.proofs.Standing.{DoneScope, IsStanding}
-use Rattle.wit_arena.proofs.Stated.{entry_of, parts_at}
+use Rattle.wit_arena.proofs.Members.{DoneScope, IsPresent}
+use Rattle.wit_arena.proofs.NamesOfDone.{entry_of, parts_at}
 
 -- an entry has the parts of its kind
 entry_parts : (p : UnresolvedPackage) (name : Option (List ℕ)) (e : TypeDef) → node_parts (entry_node p name e) ≡ (kind_of e.kind).parts
@@ -39,11 +39,11 @@ entry_parts p (Some name) e = refl
 pub type_parts : (p : UnresolvedPackage) (i : ℕ) (e : TypeDef) → slice_get p.types i ≡ Some e → node_parts (package_node p (type.Id i)) ≡ (kind_of e.kind).parts
 type_parts p i e at = ap (λ (o : Option TypeDef). node_parts (option_map_or (λ (e : TypeDef). entry_node p e.name e) o Nothing)) at ∙ entry_parts p e.name e
 
-module _ (files : List PackageFile) (decls : Decls) (written : List Meeting) (cs : List DoneScope) (p : UnresolvedPackage) (d : IsStanding files decls written cs p.types) where
+module _ (files : List PackageFile) (decls : Decls) (written : List Occurrence) (cs : List DoneScope) (p : UnresolvedPackage) (d : IsPresent files decls written cs p.types) where
   abbrev ks : List Key
-  ks = keys d.met
+  ks = keys d.seen
 
-  -- the parts of a written type are these of a scope, and the parts of its type stand at their places
+  -- the parts of a written type are these of a scope, and the parts of its type are at their places
   pub record HasParts (x : Place) (t : Ty) : Type 0 where
     pub scope : Address
     pub parts : Shapes
@@ -60,7 +60,7 @@ module _ (files : List PackageFile) (decls : Decls) (written : List Meeting) (cs
   name_has_parts : (s : Address) (id : Id) (i : ℕ) → slice_get ks i ≡ Some (Def s id.name.now) → HasParts (s, shape.Word id) (type.Id i)
   name_has_parts s id i here =
       let it = d.before i s id.name.now here in
-      let c = it.cell in
+      let c = it.resolved_scope in
       let x = it.x in
       let q = (d.each it.place c it.at).turn.among it.index x it.among in
       let there : slice_get ks i ≡ Some (Def c.address (local_name x)) = here ∙ ap (λ (z : Address). Some (Def z id.name.now)) (sym it.scope) ∙ ap (λ (n : List ℕ). Some (Def c.address n)) (sym it.called) in
@@ -77,8 +77,8 @@ module _ (files : List PackageFile) (decls : Decls) (written : List Meeting) (cs
   whole_has_parts : (s : Address) (form : Form) (parts : Shapes) (i : ℕ) → slice_get ks i ≡ Some (Whole form (exprs_of s parts)) → AreAt ks (exprs_of s parts) (node_parts (package_node p (type.Id i)))
   whole_has_parts s form parts i there =
       let k = Whole form (exprs_of s parts) in
-      let e = entry_of_key decls ks p.types d.meeting.keyed i k there in
-      let it = d.meeting.keyed.each i k e.0 there e.1 in
+      let e = entry_of_key decls ks p.types d.occurrence.keyed i k there in
+      let it = d.occurrence.keyed.each i k e.0 there e.1 in
       subst (AreAt ks (exprs_of s parts)) (sym (type_parts p i e.0 e.1)) (all_at_untaken i ks (exprs_of s parts) (kind_of e.0.kind).parts it.3)
 
   whole_parts : (s : Address) (span : Span) (form : Form) (parts : Shapes) (t : Ty) → IsAt ks (expr_of s (shape.Of span form parts)) t → AreAt ks (exprs_of s parts) (node_parts (package_node p t))
@@ -99,8 +99,8 @@ module _ (files : List PackageFile) (decls : Decls) (written : List Meeting) (cs
     are = whole_parts s span form parts t h;
   }
 
-  -- what stands below a written type has the type that stands so below its type
-  pub below_at : (path : List ℕ) (x y : Place) (t u : Ty) → IsAt ks (expr_of x.0 x.1) t → StandsBelow (source_node files) x path y → StandsBelow (package_node p) t path u → IsAt ks (expr_of y.0 y.1) u
+  -- what is below a written type has the type that is so below its type
+  pub below_at : (path : List ℕ) (x y : Place) (t u : Ty) → IsAt ks (expr_of x.0 x.1) t → LiesBelow (source_node files) x path y → LiesBelow (package_node p) t path u → IsAt ks (expr_of y.0 y.1) u
   below_at [] x y t u h below is = subst (λ (z : Place). IsAt ks (expr_of z.0 z.1) u) below (subst (IsAt ks (expr_of x.0 x.1)) is h)
   below_at (k ∷ path) x y t u h below is =
       let q = has_parts x.0 x.1 t h in
@@ -111,8 +111,8 @@ module _ (files : List PackageFile) (decls : Decls) (written : List Meeting) (cs
   pub record LeadsTo (x : Place) (t : Ty) (j : ℕ) : Type 0 where
     pub inner : Place
     pub path : List ℕ
-    pub below : StandsBelow (source_node files) x path inner
-    pub is : StandsBelow (package_node p) t path (type.Id j)
+    pub below : LiesBelow (source_node files) x path inner
+    pub is : LiesBelow (package_node p) t path (type.Id j)
 
   -- so it is below one of these
   pub record OneLeadsTo (xs : List Place) (ts : List Ty) (j : ℕ) : Type 0 where
@@ -120,7 +120,7 @@ module _ (files : List PackageFile) (decls : Decls) (written : List Meeting) (cs
     pub x : Place
     pub t : Ty
     pub source : slice_get xs number ≡ Some x
-    pub stands : slice_get ts number ≡ Some t
+    pub present : slice_get ts number ≡ Some t
     pub leads : LeadsTo x t j
 
   -- a part leads where its whole does
@@ -129,26 +129,26 @@ module _ (files : List PackageFile) (decls : Decls) (written : List Meeting) (cs
     inner = h.leads.inner;
     path = h.number ∷ h.leads.path;
     below = (h.x, h.source, h.leads.below);
-    is = (h.t, h.stands, h.leads.is);
+    is = (h.t, h.present, h.leads.is);
   }
 
   -- a written type leads to each unnamed one in it
   mutual
-    pub leads : (s : Address) (x : Shape) (t : Ty) (j : ℕ) (form : Form) (parts : Exprs) → IsAt ks (expr_of s x) t → slice_get ks j ≡ Some (Whole form parts) → Has (met (expr_of s x)) (Whole form parts) → LeadsTo (s, x) t j
+    pub leads : (s : Address) (x : Shape) (t : Ty) (j : ℕ) (form : Form) (parts : Exprs) → IsAt ks (expr_of s x) t → slice_get ks j ≡ Some (Whole form parts) → Has (seen (expr_of s x)) (Whole form parts) → LeadsTo (s, x) t j
     leads s (shape.Prim q) t j form parts at there has = absurd has
     leads s (shape.Word id) t j form parts at there has = absurd has
-    leads s (shape.Of span own xs) t j form parts at there has = elim (has_either (all_met (exprs_of s xs)) (Whole own (exprs_of s xs) ∷ []) (Whole form parts) has) [
+    leads s (shape.Of span own xs) t j form parts at there has = elim (has_either (all_seen (exprs_of s xs)) (Whole own (exprs_of s xs) ∷ []) (Whole form parts) has) [
       | inl inner ↦ whole_leads (s, shape.Of span own xs) t j (all_lead s xs (node_parts (package_node p t)) j form parts (whole_parts s span own xs t at) there inner)
       | inr last ↦ elim last [
-        | inl here ↦ record { inner = (s, shape.Of span own xs); path = []; below = refl; is = at.1 ∙ ap type.Id (d.meeting.keyed.once.differ at.0 j (Whole form parts) (at.2 ∙ ap Some here) there) }
+        | inl here ↦ record { inner = (s, shape.Of span own xs); path = []; below = refl; is = at.1 ∙ ap type.Id (d.occurrence.keyed.once.differ at.0 j (Whole form parts) (at.2 ∙ ap Some here) there) }
         | inr none ↦ absurd none
       ]
     ]
 
-    pub all_lead : (s : Address) (xs : Shapes) (ts : List Ty) (j : ℕ) (form : Form) (parts : Exprs) → AreAt ks (exprs_of s xs) ts → slice_get ks j ≡ Some (Whole form parts) → Has (all_met (exprs_of s xs)) (Whole form parts) → OneLeadsTo (placed s xs) ts j
+    pub all_lead : (s : Address) (xs : Shapes) (ts : List Ty) (j : ℕ) (form : Form) (parts : Exprs) → AreAt ks (exprs_of s xs) ts → slice_get ks j ≡ Some (Whole form parts) → Has (all_seen (exprs_of s xs)) (Whole form parts) → OneLeadsTo (placed s xs) ts j
     all_lead s shape.End ts j form parts at there has = absurd has
-    all_lead s (shape.More x xs) (t ∷ ts) j form parts at there has = elim (has_either (met (expr_of s x)) (all_met (exprs_of s xs)) (Whole form parts) has) [
-      | inl first ↦ record { number = 0; x = (s, x); t = t; source = refl; stands = refl; leads = leads s x t j form parts at.0 there first }
-      | inr rest ↦ (let it = all_lead s xs ts j form parts at.1 there rest in record { number = suc it.number; x = it.x; t = it.t; source = it.source; stands = it.stands; leads = it.leads })
+    all_lead s (shape.More x xs) (t ∷ ts) j form parts at there has = elim (has_either (seen (expr_of s x)) (all_seen (exprs_of s xs)) (Whole form parts) has) [
+      | inl first ↦ record { number = 0; x = (s, x); t = t; source = refl; present = refl; leads = leads s x t j form parts at.0 there first }
+      | inr rest ↦ (let it = all_lead s xs ts j form parts at.1 there rest in record { number = suc it.number; x = it.x; t = it.t; source = it.source; present = it.present; leads = it.leads })
     ]
     all_lead s (shape.More x xs) [] j form parts at there has = absurd at

@@ -1,4 +1,4 @@
--- What handles require of other packages: what is told by the arena is what the files say.
+-- What handles require of other packages: what is given by the arena is what the files say.
 use Rattle.std.proofs.Common.{◌≡◌, ℕ, zero, suc, ◌+◌, List, [], ◌∷◌, ◌++◌, length, map, Option, Some, None, ◌⊎◌, inl, inr, refl, sym, ap, ◌∙◌, subst, Contains, arith, length-append}
 use Rattle.std.specs.Prelude.{slice_get}
 use Rattle.std.specs.List.{cons_option, filter_map, flat_map}
@@ -15,22 +15,22 @@ use Rattle.wit_syntax.specs.Fault.{Fault}
 use Rattle.wit_syntax.specs.Function.{SourceFunction, name_types, written_types, all_types}
 use Rattle.wit_arena.specs.EntryEnds.{EntryEnd, IsResource, IsOther, entry_end}
 use Rattle.wit_arena.specs.EntryEnds as ends
-use Rattle.wit_arena.specs.Meet.{Key, Def, Meeting, keys, Decls, IsKeyed}
+use Rattle.wit_arena.specs.Occurrences.{Key, Def, Occurrence, keys, Decls, IsKeyed}
 use Rattle.wit_syntax.specs.Ends.{IsNoResource}
 use Rattle.wit_arena.specs.Whole.{HandleRequires, AreRequired}
 use Rattle.wit_arena.specs.Resolving.{Env, Names, env_of, AreNames, Required, AreEnded, IsWrongHandle, IsDefined}
-use Rattle.wit_arena.proofs.Places.{Grown, key_grown}
-use Rattle.wit_syntax.proofs.Lists.{at_front, at_back, at_split, flat_map_at, flat_map_has}
+use Rattle.wit_arena.proofs.Places.{Extended, key_extended}
+use Rattle.wit_syntax.proofs.Lists.{at_prefix, at_back, at_split, flat_map_at, flat_map_has}
 use Rattle.wit_arena.proofs.Written.{handles_at}
 use Rattle.wit_arena.proofs.Ends.{EndIs, IsDeclared, entry_end-more, end_source, end_source-more}
 
 -- those of names, and of further ones
 pub ended_append : (env : Env) (es : List TypeDef) (ids more : List Id) (rs new : List Required) → AreEnded env es ids rs → AreEnded env es more new → AreEnded env es (ids ++ more) (rs ++ new)
 ended_append env es [] more rs new h k = subst (λ (x : List Required). AreEnded env es more (x ++ new)) (sym h) k
-ended_append env es (id ∷ ids) more rs new (place, steps, stands, inl own) k = (place, steps, stands, inl (own.0, ended_append env es ids more rs new own.1 k))
-ended_append env es (id ∷ ids) more rs new (place, steps, stands, inr far) k = (place, steps, stands, inr (far.0, far.1 ++ new, far.2, ap (λ (x : List Required). x ++ new) far.3, ended_append env es ids more far.1 new far.4 k))
+ended_append env es (id ∷ ids) more rs new (place, steps, present, inl own) k = (place, steps, present, inl (own.0, ended_append env es ids more rs new own.1 k))
+ended_append env es (id ∷ ids) more rs new (place, steps, present, inr far) k = (place, steps, present, inr (far.0, far.1 ++ new, far.2, ap (λ (x : List Required). x ++ new) far.3, ended_append env es ids more far.1 new far.4 k))
 
--- what stands at one place of two lists, each behind another, where the first ones are as long
+-- what is at one place of two lists, each after another, where the first ones are as long
 pub both_parts : {X Y : Type 0} (us vs : List X) (xs ys : List Y) → length xs ≡ length us → (t : ℕ) (a : X) (x : Y) → slice_get (us ++ vs) t ≡ Some a → slice_get (xs ++ ys) t ≡ Some x → ((slice_get us t ≡ Some a) × (slice_get xs t ≡ Some x)) ⊎ ((j : ℕ) × (slice_get vs j ≡ Some a) × (slice_get ys j ≡ Some x))
 both_parts us vs xs ys count t a x at there = elim (at_split us vs t a at) [
   | inl h ↦ elim (at_split xs ys t x there) [
@@ -47,7 +47,7 @@ both_parts us vs xs ys count t a x at there = elim (at_split us vs t a at) [
 pub required_none : (files : List PackageFile) (ks : List Key) → AreRequired files ks [] []
 required_none files ks = ([], record { count = refl; each = λ k h r at there. absurd (let f : ⊥ = cc in f) }, refl)
 
--- what one name more requires stands in front
+-- what one name more requires comes first
 pub required_more : (files : List PackageFile) (ks : List Key) (h : Address × Id) (r : Option Required) (hs : List (Address × Id)) (rs : List Required) → HandleRequires files ks h r → AreRequired files ks hs rs → AreRequired files ks (h ∷ hs) (cons_option r rs)
 required_more files ks h r hs rs own rest = (r ∷ rest.0, record { count = ap suc rest.1.count; each = says }, ap (cons_option r) rest.2)
   where
@@ -64,8 +64,8 @@ required_append files ks hs more rs new h k = (
   record {
     count = length-append h.0 k.0 ∙ ap (λ n. n + length k.0) h.1.count ∙ ap (λ n. length hs + n) k.1.count ∙ sym (length-append hs more);
     each = λ i x r at there. elim (both_parts hs more h.0 k.0 h.1.count i x r at there) [
-      | inl front ↦ h.1.each i x r front.0 front.1
-      | inr behind ↦ k.1.each behind.0 x r behind.1 behind.2
+      | inl prefix ↦ h.1.each i x r prefix.0 prefix.1
+      | inr rest_after ↦ k.1.each rest_after.0 x r rest_after.1 rest_after.2
     ];
   },
   ap (λ (l : List Required). l ++ new) h.2 ∙ ap (λ (l : List Required). filter_map (λ (r : Option Required). r) h.0 ++ l) k.2 ∙ sym (filter_map-append (λ (r : Option Required). r) h.0 k.0),
@@ -74,32 +74,32 @@ required_append files ks hs more rs new h k = (
 -- in a grown arena, and with more names, they are what they were
 pub ended_more : (env env' : Env) (es more : List TypeDef) (ids : List Id) (rs : List Required) → ((name : List ℕ) (i : ℕ) → env name ≡ Some i → env' name ≡ Some i) → AreEnded env es ids rs → AreEnded env' (es ++ more) ids rs
 ended_more env env' es more [] rs keep h = h
-ended_more env env' es more (id ∷ ids) rs keep (place, steps, stands, inl own) = (place, steps, keep id.name.now place stands, inl (entry_end-more steps es more place IsResource (λ wrong. let f : ⊥ = cc in f) own.0, ended_more env env' es more ids rs keep own.1))
-ended_more env env' es more (id ∷ ids) rs keep (place, steps, stands, inr far) = (place, steps, keep id.name.now place stands, inr (far.0, far.1, entry_end-more steps es more place (ends.IsUnknown far.0) (λ wrong. let f : ⊥ = cc in f) far.2, far.3, ended_more env env' es more ids far.1 keep far.4))
+ended_more env env' es more (id ∷ ids) rs keep (place, steps, present, inl own) = (place, steps, keep id.name.now place present, inl (entry_end-more steps es more place IsResource (λ wrong. let f : ⊥ = cc in f) own.0, ended_more env env' es more ids rs keep own.1))
+ended_more env env' es more (id ∷ ids) rs keep (place, steps, present, inr far) = (place, steps, keep id.name.now place present, inr (far.0, far.1, entry_end-more steps es more place (ends.IsUnknown far.0) (λ wrong. let f : ⊥ = cc in f) far.2, far.3, ended_more env env' es more ids far.1 keep far.4))
 
--- where more was met, too
-pub required_grown : (files : List PackageFile) {a b : List Key} → Grown a b → (hs : List (Address × Id)) (rs : List Required) → AreRequired files a hs rs → AreRequired files b hs rs
-required_grown files {a} {b} g hs rs h = (h.0, record { count = h.1.count; each = λ k x r at there. grown x r (h.1.each k x r at there) }, h.2)
+-- where more occurred, too
+pub required_extended : (files : List PackageFile) {a b : List Key} → Extended a b → (hs : List (Address × Id)) (rs : List Required) → AreRequired files a hs rs → AreRequired files b hs rs
+required_extended files {a} {b} g hs rs h = (h.0, record { count = h.1.count; each = λ k x r at there. extended x r (h.1.each k x r at there) }, h.2)
   where
-    grown : (x : Address × Id) (r : Option Required) → HandleRequires files a x r → HandleRequires files b x r
-    grown x None own = own
-    grown x (Some r) far = (far.0, far.1, far.2, key_grown g r.0 (Def far.0 far.1) far.3, far.4)
+    extended : (x : Address × Id) (r : Option Required) → HandleRequires files a x r → HandleRequires files b x r
+    extended x None own = own
+    extended x (Some r) far = (far.0, far.1, far.2, key_extended g r.0 (Def far.0 far.1) far.3, far.4)
 
 -- a name in a handle, with its scope
 abbrev pub in_scope : Address → Id → Address × Id
 in_scope s id = (s, id)
 
 module _ (files : List PackageFile) (decls : Decls) (ks : List Key) (es : List TypeDef) (m : IsKeyed decls ks es) (scopes : (j : ℕ) (t : Address) (name : List ℕ) → slice_get ks j ≡ Some (Def t name) → IsDeclared files decls t) (s : Address) (env : Env) (names : AreNames ks s env) where
-  -- the entry that a name stands for ends where the name does
-  told : (place steps : ℕ) (id : Id) (e : EntryEnd) → env id.name.now ≡ Some place → entry_end steps es place ≡ Some e → EndIs files ks s id e
-  told place steps id e stands is = end_source files decls ks es m scopes steps place s id e (names.stands id.name.now place stands) is
+  -- the entry that a name means ends where the name does
+  as_stated : (place steps : ℕ) (id : Id) (e : EntryEnd) → env id.name.now ≡ Some place → entry_end steps es place ≡ Some e → EndIs files ks s id e
+  as_stated place steps id e present is = end_source files decls ks es m scopes steps place s id e (names.present id.name.now place present) is
 
   -- what is required is what the files say
   pub ended_required : (ids : List Id) (rs : List Required) → AreEnded env es ids rs → AreRequired files ks (map (in_scope s) ids) rs
   ended_required [] rs h = subst (AreRequired files ks []) (sym h) (required_none files ks)
-  ended_required (id ∷ ids) rs (place, steps, stands, inl own) = required_more files ks (s, id) None (map (in_scope s) ids) rs (told place steps id IsResource stands own.0) (ended_required ids rs own.1)
-  ended_required (id ∷ ids) rs (place, steps, stands, inr far) =
-      let it = told place steps id (ends.IsUnknown far.0) stands far.2 in
+  ended_required (id ∷ ids) rs (place, steps, present, inl own) = required_more files ks (s, id) None (map (in_scope s) ids) rs (as_stated place steps id IsResource present own.0) (ended_required ids rs own.1)
+  ended_required (id ∷ ids) rs (place, steps, present, inr far) =
+      let it = as_stated place steps id (ends.IsUnknown far.0) present far.2 in
       subst (AreRequired files ks (map (in_scope s) (id ∷ ids))) (sym far.3) (required_more files ks (s, id) (Some (far.0, id.span)) (map (in_scope s) ids) far.1 (it.0, it.1, it.3, it.2, refl) (ended_required ids far.1 far.4))
 
 -- one of theirs is in one of them
@@ -113,11 +113,11 @@ handle_of (u ∷ ts) id h = elim (Contains-append_cases (handles u) (all_handles
 -- a type that is written in names of a scope is written in them in another order
 pub type_turned : (xs ys : List ScopeName) (fns : List SourceFunction) → ((p : ℕ) (x : ScopeName) → slice_get xs p ≡ Some x → (i : ℕ) × (slice_get ys i ≡ Some x)) → (k : ℕ) (t : Written) → slice_get (all_types xs fns) k ≡ Some t → (j : ℕ) × (slice_get (all_types ys fns) j ≡ Some t)
 type_turned xs ys fns has k t at = elim (at_split (flat_map name_types xs) (flat_map written_types fns) k t at) [
-  | inl front ↦ (
-      let it = flat_map_at name_types xs k t front in
+  | inl prefix ↦ (
+      let it = flat_map_at name_types xs k t prefix in
       let there = has it.0 it.1 it.2 in
       let place = flat_map_has name_types ys there.0 it.3.0 it.1 t there.1 it.3.1 in
-      (place.0, at_front (flat_map name_types ys) (flat_map written_types fns) place.0 t place.1))
+      (place.0, at_prefix (flat_map name_types ys) (flat_map written_types fns) place.0 t place.1))
   | inr back ↦ (length (flat_map name_types ys) + back.0, at_back (flat_map name_types ys) (flat_map written_types fns) back.0 t back.2)
 ]
 
@@ -130,7 +130,7 @@ handle_turned xs ys fns has id h =
 
 -- also where the arena has grown since
 pub wrong_broken-more : (files : List PackageFile) (decls : Decls) (ks : List Key) (es more : List TypeDef) → IsKeyed decls ks es → ((j : ℕ) (t : Address) (name : List ℕ) → slice_get ks j ≡ Some (Def t name) → IsDeclared files decls t) → (s : Address) (env : Env) → AreNames ks s env → (types : List Written) (f : Fault) → IsWrongHandle env (es ++ more) (all_handles types) f → IsNoResource files s types f
-wrong_broken-more files decls ks es more m scopes s env names types f h = (h.id, h.among, end_source-more files decls ks es more m scopes h.steps h.place s h.id IsOther (names.stands h.id.name.now h.place h.stands) h.other, h.is)
+wrong_broken-more files decls ks es more m scopes s env names types f h = (h.id, h.among, end_source-more files decls ks es more m scopes h.steps h.place s h.id IsOther (names.present h.id.name.now h.place h.present) h.other, h.is)
 
-pub defined_broken-more : (files : List PackageFile) (decls : Decls) (ms : List Meeting) (mid more : List TypeDef) (s : Address) (before names : Names) (xs : List ScopeName) (d : IsDefined decls ms mid s before names xs) → ((j : ℕ) (t : Address) (name : List ℕ) → slice_get (keys d.now) j ≡ Some (Def t name) → IsDeclared files decls t) → (types : List Written) (f : Fault) → IsWrongHandle (env_of names) (mid ++ more) (all_handles types) f → IsNoResource files s types f
-defined_broken-more files decls ms mid more s before names xs d scopes types f wrong = wrong_broken-more files decls (keys d.now) mid more d.meeting.keyed scopes s (env_of names) d.stand types f wrong
+pub defined_broken-more : (files : List PackageFile) (decls : Decls) (ms : List Occurrence) (mid more : List TypeDef) (s : Address) (before names : Names) (xs : List ScopeName) (d : IsDefined decls ms mid s before names xs) → ((j : ℕ) (t : Address) (name : List ℕ) → slice_get (keys d.now) j ≡ Some (Def t name) → IsDeclared files decls t) → (types : List Written) (f : Fault) → IsWrongHandle (env_of names) (mid ++ more) (all_handles types) f → IsNoResource files s types f
+defined_broken-more files decls ms mid more s before names xs d scopes types f wrong = wrong_broken-more files decls (keys d.now) mid more d.occurrence.keyed scopes s (env_of names) d.are_present types f wrong

@@ -1,4 +1,4 @@
--- What the handles of a scope require is told apart from what stands while scopes are resolved.
+-- What the handles of a scope require is distinguished from what is while scopes are resolved.
 use Rattle.std.proofs.Common.{◌≡◌, ℕ, ◌+◌, List, [], ◌∷◌, ◌++◌, length, map, Some, ◌⊎◌, inl, inr, sym, ap, ◌∙◌, subst}
 use Rattle.std.specs.Prelude.{slice_get}
 use Rattle.std.proofs.lemmas.List.{map-append}
@@ -8,20 +8,20 @@ use Rattle.wit_syntax.specs.Address.{Address}
 use Rattle.wit_syntax.specs.Function.{functions}
 use Rattle.wit_syntax.specs.Repeats.{AllDiffer}
 use Rattle.wit_syntax.specs.Source.{address}
-use Rattle.wit_syntax.specs.Trees.{scope}
-use Rattle.wit_syntax.proofs.Lists.{at_front, at_back, at_seam}
-use Rattle.wit_arena.specs.Meet.{Meeting, keys, Decls}
-use Rattle.wit_arena.specs.Resolving.{env_of, Required, cell, AreNames}
+use Rattle.wit_syntax.specs.ScopesOfTrees.{scope}
+use Rattle.wit_syntax.proofs.Lists.{at_prefix, at_back, at_seam}
+use Rattle.wit_arena.specs.Occurrences.{Occurrence, keys, Decls}
+use Rattle.wit_arena.specs.Resolving.{env_of, Required, resolved_scope, AreNames}
 use Rattle.wit_arena.proofs.Added.{decls}
-use Rattle.wit_arena.proofs.Doing.{DoneFunction, AreDoneNames, IsDoing}
-use Rattle.wit_arena.proofs.Standing.{DoneScope, done_address, IsNameOf}
+use Rattle.wit_arena.proofs.FunctionPart.{DoneFunction, AreDoneNames, IsFunctionPart}
+use Rattle.wit_arena.proofs.Members.{DoneScope, done_address, IsNameOf}
 use Rattle.wit_arena.proofs.DoneWorlds.{one_of_three}
 
 -- a scope with other requirements
 abbrev pub requiring : DoneScope → List Required → DoneScope
 requiring c rs = record { address = c.address; owner = c.owner; names = c.names; types = c.types; functions = c.functions; made = c.made; stated = c.stated; required = rs }
 
-module _ (files : List PackageFile) (decls : Decls) (written : List Meeting) (first ds : List DoneScope) (c : DoneScope) (rs : List Required) (gs : List DoneFunction) (es : List TypeDef) (d : IsDoing files decls written ((first ++ c ∷ []) ++ ds) gs es) where
+module _ (files : List PackageFile) (decls : Decls) (written : List Occurrence) (first ds : List DoneScope) (c : DoneScope) (rs : List Required) (gs : List DoneFunction) (es : List TypeDef) (d : IsFunctionPart files decls written ((first ++ c ∷ []) ++ ds) gs es) where
   abbrev was : List DoneScope
   was = (first ++ c ∷ []) ++ ds
 
@@ -29,14 +29,14 @@ module _ (files : List PackageFile) (decls : Decls) (written : List Meeting) (fi
   now = (first ++ requiring c rs ∷ []) ++ ds
 
   here_was : slice_get was (length first) ≡ Some c
-  here_was = at_front (first ++ c ∷ []) ds (length first) c (at_seam first c)
+  here_was = at_prefix (first ++ c ∷ []) ds (length first) c (at_seam first c)
 
   here_now : slice_get now (length first) ≡ Some (requiring c rs)
-  here_now = at_front (first ++ requiring c rs ∷ []) ds (length first) (requiring c rs) (at_seam first (requiring c rs))
+  here_now = at_prefix (first ++ requiring c rs ∷ []) ds (length first) (requiring c rs) (at_seam first (requiring c rs))
 
   in_both : (x y : DoneScope) (t : ℕ) (b : DoneScope) → slice_get ((first ++ x ∷ []) ++ ds) t ≡ Some b → ((k : ℕ) × (slice_get ((first ++ y ∷ []) ++ ds) k ≡ Some b)) ⊎ (b ≡ x)
   in_both x y t b at = elim (one_of_three first ds x t b at) [
-    | inl h ↦ inl (h.0, at_front (first ++ y ∷ []) ds h.0 b (at_front first (y ∷ []) h.0 b h.1))
+    | inl h ↦ inl (h.0, at_prefix (first ++ y ∷ []) ds h.0 b (at_prefix first (y ∷ []) h.0 b h.1))
     | inr h ↦ elim h [
       | inl is ↦ inr is
       | inr far ↦ inl (length (first ++ y ∷ []) + far.0, at_back (first ++ y ∷ []) ds far.0 b far.1)
@@ -44,11 +44,11 @@ module _ (files : List PackageFile) (decls : Decls) (written : List Meeting) (fi
   ]
 
   name_requiring : (s : Address) (name : List ℕ) → IsNameOf was s name → IsNameOf now s name
-  name_requiring s name it = elim (in_both c (requiring c rs) it.place it.cell it.at) [
-    | inl h ↦ record { place = h.0; cell = it.cell; at = h.1; scope = it.scope; index = it.index; x = it.x; among = it.among; called = it.called }
+  name_requiring s name it = elim (in_both c (requiring c rs) it.place it.resolved_scope it.at) [
+    | inl h ↦ record { place = h.0; resolved_scope = it.resolved_scope; at = h.1; scope = it.scope; index = it.index; x = it.x; among = it.among; called = it.called }
     | inr is ↦ record {
       place = length first;
-      cell = requiring c rs;
+      resolved_scope = requiring c rs;
       at = here_now;
       scope = ap (λ (b : DoneScope). b.address) (sym is) ∙ it.scope;
       index = it.index;
@@ -64,12 +64,12 @@ module _ (files : List PackageFile) (decls : Decls) (written : List Meeting) (fi
       of : (x : DoneScope) → map done_address ((first ++ x ∷ []) ++ ds) ≡ (map done_address first ++ x.address ∷ []) ++ map done_address ds
       of x = map-append done_address (first ++ x ∷ []) ds ∙ ap (λ (l : List Address). l ++ map done_address ds) (map-append done_address first (x ∷ []))
 
-  -- what is required is told apart
-  pub doing_requiring : IsDoing files decls written now gs es
-  doing_requiring = record {
-    met = d.met;
-    meets = d.meets;
-    meeting = d.meeting;
+  -- what is required is distinguished
+  pub function_part_requiring : IsFunctionPart files decls written now gs es
+  function_part_requiring = record {
+    seen = d.seen;
+    collects = d.collects;
+    occurrence = d.occurrence;
     each = λ t b at. elim (in_both (requiring c rs) c t b at) [
       | inl h ↦ d.each h.0 b h.1
       | inr is ↦ subst (λ (x : DoneScope). AreDoneNames files x) (sym is) (let it = d.each (length first) c here_was in record { turn = it.turn; listed = it.listed })
@@ -78,9 +78,9 @@ module _ (files : List PackageFile) (decls : Decls) (written : List Meeting) (fi
       | inl h ↦ d.own h.0 b h.1
       | inr is ↦ subst (λ (x : DoneScope). decls x.address ≡ (scope files x.address, x.owner)) (sym is) (d.own (length first) c here_was)
     ];
-    stand = λ t b at. elim (in_both (requiring c rs) c t b at) [
-      | inl h ↦ d.stand h.0 b h.1
-      | inr is ↦ subst (λ (x : DoneScope). AreNames (keys d.met) x.address (env_of x.types)) (sym is) (d.stand (length first) c here_was)
+    are_present = λ t b at. elim (in_both (requiring c rs) c t b at) [
+      | inl h ↦ d.are_present h.0 b h.1
+      | inr is ↦ subst (λ (x : DoneScope). AreNames (keys d.seen) x.address (env_of x.types)) (sym is) (d.are_present (length first) c here_was)
     ];
     before = λ j s name at. name_requiring s name (d.before j s name at);
     unique = subst AllDiffer addresses_requiring d.unique;

@@ -21,26 +21,26 @@ use Rattle.wit_syntax.specs.Source.{address, Target, scope_names, Local, Foreign
 use Rattle.wit_syntax.specs.Foreign.{visited, foreign_interfaces, foreign_worlds, foreign_at, ForeignVisit}
 use Rattle.wit_syntax.specs.Scope.{in_order, uses as uses_of, include_paths, includes, item_rows, interfaces_of, worlds_of}
 use Rattle.std.specs.List.{flat_map}
-use Rattle.wit_arena.specs.Meet.{Meeting}
+use Rattle.wit_arena.specs.Occurrences.{Occurrence}
 use Rattle.wit_arena.specs.Resolving.{Required}
 use Rattle.wit_syntax.specs.Fault.{Fault}
-use Rattle.wit_syntax.specs.Notes.{IsBrokenNotes}
-use Rattle.wit_syntax.specs.Broken.{is_world_at, IsBrokenScope, IsBrokenNames, Headerless, Names, ItemStability, UseNotes, IncludeStability, Use, InterfaceIncluded, MissingName, Scope, Sides, LinkedTwice, Handle, Setter, IsLinkedTwice, IsSetterAlone, IsLegal, headers, last_header}
+use Rattle.wit_syntax.specs.Metadata.{IsBrokenMetadata}
+use Rattle.wit_syntax.specs.Broken.{is_world_at, IsBrokenScope, IsBrokenNames, Headerless, Names, ItemStability, UseMetadata, IncludeStability, Use, InterfaceIncluded, MissingName, Scope, Sides, LinkedTwice, Handle, Setter, IsLinkedTwice, IsSetterAlone, IsLegal, headers, last_header}
 use Rattle.wit_syntax.specs.Repeats.{AllDiffer}
-use Rattle.wit_arena.specs.Whole.{all_turns, all_meetings, AreIncludes, NamesOthers, first_docs, IsPackage}
-use Rattle.wit_arena.specs.Resolved.{WorldArenas, front_worlds, AddsInterfaces, AddsWorlds, AddsForeign, AreLegalSides, AreUsableUses, AreUsableLinks, AreSoundScopes, IsBrokenItemStability, OwnStability, OfInclude, HaveLegalStability}
+use Rattle.wit_arena.specs.Whole.{all_turns, all_occurrences, AreIncludes, NamesOthers, first_docs, IsPackage}
+use Rattle.wit_arena.specs.Resolved.{WorldArenas, prefix_worlds, AddsInterfaces, AddsWorlds, AddsForeign, AreLegalSides, AreUsableUses, AreUsableLinks, AreSoundScopes, IsBrokenItemStability, OwnStability, OfInclude, HaveLegalStability}
 use Rattle.wit_syntax.proofs.Lists.{at_within, flat_map_at, flat_map_has, map_at}
 use Rattle.wit_syntax.proofs.Turns.{at_part}
 use Rattle.wit_syntax.proofs.Setters.{among_alone}
 use Rattle.wit_syntax.specs.Sides.{Link, SideItem, SideLink, item_link, item_side, links, side_items, inline_items, with_inline, all_scopes}
-use Rattle.wit_syntax.specs.Crossing.{same_side}
+use Rattle.wit_syntax.specs.ExternPart.{same_side}
 use Rattle.wit_syntax.specs.Function.{functions}
 use Rattle.wit_syntax.proofs.Kept.{kept_at}
 use Rattle.wit_syntax.proofs.Sides.{links_none}
 use Rattle.wit_syntax.proofs.Inline.{inline_items_none, inline_interface}
 use Rattle.wit_syntax.proofs.Scopes.{all_declared, first_named, scopes_either}
-use Rattle.wit_arena.proofs.Standing.{DoneScope}
-use Rattle.wit_arena.proofs.Front.{front_scopes}
+use Rattle.wit_arena.proofs.Members.{DoneScope}
+use Rattle.wit_arena.proofs.Prefix.{prefix_scopes}
 use Rattle.wit_syntax.proofs.Found.{at_contains, contains_at}
 use Rattle.wit_arena.proofs.Interfaces.{AreItems, AreOfSort, world_address, interfaces_sort, worlds_sort}
 use Rattle.wit_arena.proofs.Itemizing.{items_within, item_index}
@@ -48,14 +48,14 @@ use Rattle.wit_syntax.proofs.Orders.{in_order_at}
 use Rattle.wit_arena.proofs.Visits.{world_visit, foreign_at-visited, visited_foreign, address_own}
 use Rattle.wit_arena.proofs.Linked.{no_broken_use}
 use Rattle.wit_arena.proofs.Leading.{include_at, interface_includes_none}
-use Rattle.wit_arena.proofs.Laid.{entry_of_item}
-use Rattle.wit_arena.proofs.Upheld.{IsWholeItem, interface_done, world_done, inline_done, names_stated, handles_stated, names_meant, interface_paired, world_paired, inline_paired}
+use Rattle.wit_arena.proofs.ScopesInTurn.{entry_of_item}
+use Rattle.wit_arena.proofs.RulesOfDone.{IsWholeItem, interface_done, world_done, inline_done, names_stated, handles_stated, names_meant, interface_paired, world_paired, inline_paired}
 use Rattle.wit_arena.proofs.Added.{inside_of, world_list, decls, InterfacesDone, interfaces_done}
 use Rattle.wit_arena.proofs.DoneWorlds.{scopes_of, own_order, AreWorldsDone}
 use Rattle.wit_arena.proofs.Worlds.{worlds_done}
-use Rattle.wit_arena.proofs.Finished.{are_interfaces, are_worlds, interface_at, world_at}
+use Rattle.wit_arena.proofs.LegalIfDone.{are_interfaces, are_worlds, interface_at, world_at}
 use Rattle.wit_arena.proofs.LegalScopes.{distinct_items}
-use Rattle.wit_arena.proofs.Packaged.{package_of}
+use Rattle.wit_arena.proofs.PackageIfDone.{package_of}
 use Rattle.wit_arena.proofs.Turns.{own_item}
 
 world_named : (a b : List ℕ) → WorldNamed a ≡ WorldNamed b → a ≡ b
@@ -99,7 +99,7 @@ module _ (files : List PackageFile) (ws : List Item) (items : AreItems files ws)
       let i = at_within is k.0 (omega arith) in
       included_world i.0.id (leads w.top path) ((says.each k.0 k.1 i.0 k.2 i.1).1 ∙ ap (λ (x : UsePath). Some (target_scope WorldNamed (leads w.top x))) (sym k.3))
 
-module _ (files : List PackageFile) (places : List ℕ) (order : IsOrder (item_rows files) places) (names : (f : Fault) → IsBrokenNames files f → ⊥) (uses : AreUsableUses files (all_items files)) (es middle new : List TypeDef) (front is : List Interface) (wfront : List World) (a : WorldArenas) (irs wrs : List Required) (foreign : AddsForeign files es front wfront) (added : AddsInterfaces (map visited (foreign_interfaces files)) es middle front is irs (interfaces_of (in_order (all_items files) places))) (more : AddsWorlds (map visited (foreign_interfaces files)) (map visited (foreign_worlds files)) is middle new (front_worlds wfront) a wrs (worlds_of (in_order (all_items files) places))) where
+module _ (files : List PackageFile) (places : List ℕ) (order : IsOrder (item_rows files) places) (names : (f : Fault) → IsBrokenNames files f → ⊥) (uses : AreUsableUses files (all_items files)) (es middle new : List TypeDef) (prefix is : List Interface) (wprefix : List World) (a : WorldArenas) (irs wrs : List Required) (foreign : AddsForeign files es prefix wprefix) (added : AddsInterfaces (map visited (foreign_interfaces files)) es middle prefix is irs (interfaces_of (in_order (all_items files) places))) (more : AddsWorlds (map visited (foreign_interfaces files)) (map visited (foreign_worlds files)) is middle new (prefix_worlds wprefix) a wrs (worlds_of (in_order (all_items files) places))) where
   abbrev differ : AllDiffer (map item_name (all_items files))
   differ = distinct_items files names
 
@@ -122,14 +122,14 @@ module _ (files : List PackageFile) (places : List ℕ) (order : IsOrder (item_r
   abbrev pub scopes_in_order : List Item
   scopes_in_order = flat_map with_inline in_turns
 
-  -- the interfaces of the package, and its worlds, behind those of other packages
-  pub is_done : (own : List Interface) × (is ≡ front ++ own) × InterfacesDone files is_items ws_items front is_items middle own irs
-  is_done = interfaces_done files is_items ws_items is_sort ws_sort (are_interfaces files places order differ) (are_worlds files places order differ) uses es front wfront foreign middle is irs is_items (λ k w at. at) added
+  -- the interfaces of the package, and its worlds, after those of other packages
+  pub is_done : (own : List Interface) × (is ≡ prefix ++ own) × InterfacesDone files is_items ws_items prefix is_items middle own irs
+  is_done = interfaces_done files is_items ws_items is_sort ws_sort (are_interfaces files places order differ) (are_worlds files places order differ) uses es prefix wprefix foreign middle is irs is_items (λ k w at. at) added
 
-  pub ws_done : AreWorldsDone files is_items ws_items wfront is_done.2.ordered (front_scopes files front ++ is_done.2.scopes) ws_items new a wrs
-  ws_done = worlds_done files is_items ws_items is_sort ws_sort (are_interfaces files places order differ) (are_worlds files places order differ) uses es front wfront foreign middle is_done.0 irs is_done.2 new a wrs ws_items (λ k w at. at) (subst (λ (l : List Interface). AddsWorlds (map visited (foreign_interfaces files)) (map visited (foreign_worlds files)) l middle new (front_worlds wfront) a wrs ws_items) is_done.1 more)
+  pub ws_done : AreWorldsDone files is_items ws_items wprefix is_done.2.ordered (prefix_scopes files prefix ++ is_done.2.scopes) ws_items new a wrs
+  ws_done = worlds_done files is_items ws_items is_sort ws_sort (are_interfaces files places order differ) (are_worlds files places order differ) uses es prefix wprefix foreign middle is_done.0 irs is_done.2 new a wrs ws_items (λ k w at. at) (subst (λ (l : List Interface). AddsWorlds (map visited (foreign_interfaces files)) (map visited (foreign_worlds files)) l middle new (prefix_worlds wprefix) a wrs ws_items) is_done.1 more)
 
-  -- each item stands in the order, and each interface that is written in one
+  -- each item is in the order, and each interface that is written in one
   in_turn_at : (w : Item) → Contains (all_items files) w → (t : ℕ) × (slice_get in_turns t ≡ Some w)
   in_turn_at w among =
       let p = at_contains (all_items files) w among in
@@ -161,38 +161,38 @@ module _ (files : List PackageFile) (places : List ℕ) (order : IsOrder (item_r
   ]
 
   abbrev scopes_done : List DoneScope
-  scopes_done = (front_scopes files front ++ is_done.2.scopes) ++ flat_map scopes_of ws_done.scopes
+  scopes_done = (prefix_scopes files prefix ++ is_done.2.scopes) ++ flat_map scopes_of ws_done.scopes
 
-  abbrev written : List Meeting
-  written = all_meetings files (all_turns is_done.2.ordered ws_done.ordered)
+  abbrev written : List Occurrence
+  written = all_occurrences files (all_turns is_done.2.ordered ws_done.ordered)
 
   -- the scope of an item
   abbrev IsDoneItem : Item → Type 0
-  IsDoneItem w = IsWholeItem files is_items ws_items middle new front is_done.0 wfront a irs wrs is_done.2 ws_done w
+  IsDoneItem w = IsWholeItem files is_items ws_items middle new prefix is_done.0 wprefix a irs wrs is_done.2 ws_done w
 
   declared_done : (w : Item) → Contains (all_items files) w → IsDoneItem w
   declared_done w among = elim (cases_Bool (is_world w)) [
-    | inl world ↦ (let t = world_at files places order differ w world among in world_done files is_items ws_items middle new front is_done.0 wfront a irs wrs is_done.2 ws_done (are_worlds files places order differ) t.0 w t.1)
-    | inr other ↦ (let t = interface_at files places order differ w other among in interface_done files is_items ws_items middle new front is_done.0 wfront a irs wrs is_done.2 ws_done (are_interfaces files places order differ) t.0 w t.1)
+    | inl world ↦ (let t = world_at files places order differ w world among in world_done files is_items ws_items middle new prefix is_done.0 wprefix a irs wrs is_done.2 ws_done (are_worlds files places order differ) t.0 w t.1)
+    | inr other ↦ (let t = interface_at files places order differ w other among in interface_done files is_items ws_items middle new prefix is_done.0 wprefix a irs wrs is_done.2 ws_done (are_interfaces files places order differ) t.0 w t.1)
   ]
 
   item_done : (w : Item) → Contains (all_scopes files) w → IsDoneItem w
   item_done w among = elim (scopes_either files w among) [
     | inl declared ↦ declared_done w declared
-    | inr inside ↦ (let q = inline_index inside.0 w inside.1 inside.2 in inline_done files is_items ws_items middle new front is_done.0 wfront a irs wrs is_done.2 ws_done (are_worlds files places order differ) q.0 w q.1)
+    | inr inside ↦ (let q = inline_index inside.0 w inside.1 inside.2 in inline_done files is_items ws_items middle new prefix is_done.0 wprefix a irs wrs is_done.2 ws_done (are_worlds files places order differ) q.0 w q.1)
   ]
 
   -- no setter is alone on its side
   setter_paired : (w : Item) → Contains (all_scopes files) w → (f : Fault) → IsSetterAlone w f → ⊥
   setter_paired w among f alone = elim (scopes_either files w among) [
     | inl declared ↦ elim (cases_Bool (is_world w)) [
-      | inl world ↦ (let t = world_at files places order differ w world declared in world_paired files is_items ws_items middle new front is_done.0 wfront a irs wrs is_done.2 ws_done (are_worlds files places order differ) t.0 w t.1 f alone)
-      | inr other ↦ (let t = interface_at files places order differ w other declared in interface_paired files is_items ws_items middle new front is_done.0 wfront a irs wrs is_done.2 ws_done (are_interfaces files places order differ) t.0 w t.1 f (among_alone w other f alone))
+      | inl world ↦ (let t = world_at files places order differ w world declared in world_paired files is_items ws_items middle new prefix is_done.0 wprefix a irs wrs is_done.2 ws_done (are_worlds files places order differ) t.0 w t.1 f alone)
+      | inr other ↦ (let t = interface_at files places order differ w other declared in interface_paired files is_items ws_items middle new prefix is_done.0 wprefix a irs wrs is_done.2 ws_done (are_interfaces files places order differ) t.0 w t.1 f (among_alone w other f alone))
     ]
     | inr inside ↦ (
         let q = inline_index inside.0 w inside.1 inside.2 in
         let k = at_contains (inline_items inside.0) w inside.2 in
-        inline_paired files is_items ws_items middle new front is_done.0 wfront a irs wrs is_done.2 ws_done (are_worlds files places order differ) q.0 w q.1 f (among_alone w (inline_interface inside.0 k.0 w k.1) f alone))
+        inline_paired files is_items ws_items middle new prefix is_done.0 wprefix a irs wrs is_done.2 ws_done (are_worlds files places order differ) q.0 w q.1 f (among_alone w (inline_interface inside.0 k.0 w k.1) f alone))
   ]
 
   -- the include of a world leads to a world
@@ -241,33 +241,33 @@ module _ (files : List PackageFile) (places : List ℕ) (order : IsOrder (item_r
       names_meant files (decls files is_items ws_items) written scopes_done new ws_done.done w (item_done w among) it.k it.fn it.id it.at it.among it.missing
 
   -- nothing is wrong with the stability of an item
-  stability_told : HaveLegalStability in_turns → (w : Item) → Contains (all_items files) w → (f : Fault) → IsBrokenItemStability w f → ⊥
-  stability_told stability w among f h = (let t = in_turn_at w among in stability.legal t.0 w f t.1 h)
+  stability_stated : HaveLegalStability in_turns → (w : Item) → Contains (all_items files) w → (f : Fault) → IsBrokenItemStability w f → ⊥
+  stability_stated stability w among f h = (let t = in_turn_at w among in stability.legal t.0 w f t.1 h)
 
-  -- no rule is broken, where the scopes are sound by themselves, what stands on the sides, the paths of links, the stability of items and the
-  -- notes of their uses
-  pub files_legal : AreSoundScopes scopes_in_order → AreLegalSides scopes_in_order → AreUsableLinks files ws_items → HaveLegalStability in_turns → ((i : Item) → Contains (all_items files) i → (u : WrittenUse) → Contains (uses_of i) u → (f : Fault) → IsBrokenNotes u.attributes.items f → ⊥) → (header : Header) → last_header files ≡ Some header → IsLegal files
-  files_legal scopes sides usable stability notes header last f (Headerless none h) = absurd (let g : ⊥ = cc in g)
-  files_legal scopes sides usable stability notes header last f (Names h) = names f h
-  files_legal scopes sides usable stability notes header last f (ItemStability i among h) = stability_told stability i among f (OwnStability h)
-  files_legal scopes sides usable stability notes header last f (UseNotes i among u used h) = notes i among u used f h
-  files_legal scopes sides usable stability notes header last f (IncludeStability i among n included h) = stability_told stability i among f (OfInclude n included h)
-  files_legal scopes sides usable stability notes header last f (Use i among h) = no_broken_use files i (λ u used. uses.usable i u among used) (λ link linked. link_usable usable i among link linked) f h
-  files_legal scopes sides usable stability notes header last f (InterfaceIncluded i among path included other told) = includes_stated i among path included other
-  files_legal scopes sides usable stability notes header last f (MissingName i among from attributes n used target here first missing told) = names_stated files (decls files is_items ws_items) written scopes_done new ws_done.done i (item_done i among) from attributes n target used (ap (item_at (all_items files)) here ∙ first_named (all_items files) target (all_declared files) differ first) missing
-  files_legal scopes sides usable stability notes header last f (LinkedTwice i among h) = links_apart usable i among f h
-  files_legal scopes sides usable stability notes header last f (Handle i among names h) = handles_stated files (decls files is_items ws_items) written scopes_done new ws_done.done i (item_done i among) f h
-  files_legal scopes sides usable stability notes header last f (Setter i among h) = setter_paired i among f h
-  files_legal scopes sides usable stability notes header last f (Sides i among h) = (let t = scope_index i among in sides.legal t.0 i f t.1 h)
-  files_legal scopes sides usable stability notes header last f (Scope i among h) = scopes_legal scopes i among f h
+  -- no rule is broken, where the scopes are sound by themselves, what is on the sides, the paths of links, the stability of items and the
+  -- metadata of their uses
+  pub files_legal : AreSoundScopes scopes_in_order → AreLegalSides scopes_in_order → AreUsableLinks files ws_items → HaveLegalStability in_turns → ((i : Item) → Contains (all_items files) i → (u : WrittenUse) → Contains (uses_of i) u → (f : Fault) → IsBrokenMetadata u.attributes.items f → ⊥) → (header : Header) → last_header files ≡ Some header → IsLegal files
+  files_legal scopes sides usable stability metadata header last f (Headerless none h) = absurd (let g : ⊥ = cc in g)
+  files_legal scopes sides usable stability metadata header last f (Names h) = names f h
+  files_legal scopes sides usable stability metadata header last f (ItemStability i among h) = stability_stated stability i among f (OwnStability h)
+  files_legal scopes sides usable stability metadata header last f (UseMetadata i among u used h) = metadata i among u used f h
+  files_legal scopes sides usable stability metadata header last f (IncludeStability i among n included h) = stability_stated stability i among f (OfInclude n included h)
+  files_legal scopes sides usable stability metadata header last f (Use i among h) = no_broken_use files i (λ u used. uses.usable i u among used) (λ link linked. link_usable usable i among link linked) f h
+  files_legal scopes sides usable stability metadata header last f (InterfaceIncluded i among path included other as_stated) = includes_stated i among path included other
+  files_legal scopes sides usable stability metadata header last f (MissingName i among from attributes n used target here first missing as_stated) = names_stated files (decls files is_items ws_items) written scopes_done new ws_done.done i (item_done i among) from attributes n target used (ap (item_at (all_items files)) here ∙ first_named (all_items files) target (all_declared files) differ first) missing
+  files_legal scopes sides usable stability metadata header last f (LinkedTwice i among h) = links_apart usable i among f h
+  files_legal scopes sides usable stability metadata header last f (Handle i among names h) = handles_stated files (decls files is_items ws_items) written scopes_done new ws_done.done i (item_done i among) f h
+  files_legal scopes sides usable stability metadata header last f (Setter i among h) = setter_paired i among f h
+  files_legal scopes sides usable stability metadata header last f (Sides i among h) = (let t = scope_index i among in sides.legal t.0 i f t.1 h)
+  files_legal scopes sides usable stability metadata header last f (Scope i among h) = scopes_legal scopes i among f h
 
   -- a package that has these arenas, and names what the files name of other packages
   module _ (p : UnresolvedPackage) (types : p.types ≡ new) (interfaces : p.interfaces ≡ is ++ a.inside) (worlds : p.worlds ≡ a.worlds) (others : NamesOthers files p) where
-    pub package_worlds : AreWorldsDone files is_items ws_items wfront is_done.2.ordered (front_scopes files front ++ is_done.2.scopes) ws_items p.types a wrs
-    package_worlds = subst (λ (l : List TypeDef). AreWorldsDone files is_items ws_items wfront is_done.2.ordered (front_scopes files front ++ is_done.2.scopes) ws_items l a wrs) (sym types) ws_done
+    pub package_worlds : AreWorldsDone files is_items ws_items wprefix is_done.2.ordered (prefix_scopes files prefix ++ is_done.2.scopes) ws_items p.types a wrs
+    package_worlds = subst (λ (l : List TypeDef). AreWorldsDone files is_items ws_items wprefix is_done.2.ordered (prefix_scopes files prefix ++ is_done.2.scopes) ws_items l a wrs) (sym types) ws_done
 
-    interface_arena : p.interfaces ≡ (front ++ is_done.0) ++ a.inside
+    interface_arena : p.interfaces ≡ (prefix ++ is_done.0) ++ a.inside
     interface_arena = interfaces ∙ ap (λ (l : List Interface). l ++ a.inside) is_done.1
 
     pub files_package : p.required_resource_types ≡ irs ++ wrs → (header : Header) → last_header files ≡ Some header → p.name.namespace ≡ header.namespace.name.now → p.name.name ≡ header.name.name.now → option_map release_parts p.name.version ≡ option_map parts_of header.version → p.name_span ≡ header.span → p.docs ≡ first_docs (headers files) → IsPackage files p
-    files_package requires header last namespace name version span docs = package_of files is_items ws_items es middle front is_done.0 wfront foreign irs wrs p a is_done.2 package_worlds interface_arena worlds others requires header places order refl refl last namespace name version span docs
+    files_package requires header last namespace name version span docs = package_of files is_items ws_items es middle prefix is_done.0 wprefix foreign irs wrs p a is_done.2 package_worlds interface_arena worlds others requires header places order refl refl last namespace name version span docs

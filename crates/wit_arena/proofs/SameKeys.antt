@@ -15,7 +15,7 @@ use Rattle.wit_syntax.specs.Address.{Address, same_address}
 use Rattle.wit_syntax.proofs.Addresses.{same_address-equal, same_address-from}
 use Rattle.wit_syntax.specs.Form.{Form, Member, RecordForm, ResourceForm, OwnForm, BorrowForm, FlagsForm, TupleForm, VariantForm, EnumForm, OptionForm, ResultForm, ListForm, MapForm, FixedLengthListForm, FutureForm, StreamForm, AliasForm, UnknownForm}
 use Rattle.wit_arena.specs.Expr.{Expr, Prim, Use, Of, Exprs, End, More}
-use Rattle.wit_arena.specs.Meet.{Key, Def, Whole}
+use Rattle.wit_arena.specs.Occurrences.{Key, Def, Whole}
 use Rattle.wit_arena.proofs.Primitives.{primitive_type-injective}
 
 abbrev same_primitive : Primitive → Primitive → Bool
@@ -42,8 +42,8 @@ same_form (ResultForm ok err) (ResultForm ok' err') = beq ok ok' && beq err err'
 same_form ListForm ListForm = true
 same_form MapForm MapForm = true
 same_form (FixedLengthListForm m) (FixedLengthListForm n) = nat_eq m n
-same_form (FutureForm held) (FutureForm held') = beq held held'
-same_form (StreamForm held) (StreamForm held') = beq held held'
+same_form (FutureForm borrowed) (FutureForm borrowed') = beq borrowed borrowed'
+same_form (StreamForm borrowed) (StreamForm borrowed') = beq borrowed borrowed'
 same_form AliasForm AliasForm = true
 same_form UnknownForm UnknownForm = true
 same_form _ _ = false
@@ -78,7 +78,7 @@ Decides-member : (a b : Member) → Decides (same_member a b) (a ≡ b)
 Decides-member a b = search rules
 
 Decides-case : (a b : Member × Bool) → Decides (same_case a b) (a ≡ b)
-Decides-case a b = Decides-like _ (two (λ m held. (m, held))) (λ e. (ap (λ c. c.0) e, ap (λ c. c.1) e)) (Decides-and _ _ (Decides-member a.0 b.0) (booleans_Decides a.1 b.1))
+Decides-case a b = Decides-like _ (two (λ m borrowed. (m, borrowed))) (λ e. (ap (λ c. c.0) e, ap (λ c. c.1) e)) (Decides-and _ _ (Decides-member a.0 b.0) (booleans_Decides a.1 b.1))
 
 Decides-form : (f g : Form) → Decides (same_form f g) (f ≡ g)
 Decides-form (RecordForm xs) (RecordForm ys) = Decides-like _ (λ e. ap RecordForm e) (λ e. cc) (Decides-row Decides-member xs ys)
@@ -94,8 +94,8 @@ Decides-form (ResultForm ok err) (ResultForm ok' err') = Decides-like _ (two Res
 Decides-form ListForm ListForm = (λ h. refl, λ e. refl)
 Decides-form MapForm MapForm = (λ h. refl, λ e. refl)
 Decides-form (FixedLengthListForm m) (FixedLengthListForm n) = Decides-like _ (λ e. ap FixedLengthListForm e) (λ e. cc) (Decides-eqb m n)
-Decides-form (FutureForm held) (FutureForm held') = Decides-like _ (λ e. ap FutureForm e) (λ e. cc) (booleans_Decides held held')
-Decides-form (StreamForm held) (StreamForm held') = Decides-like _ (λ e. ap StreamForm e) (λ e. cc) (booleans_Decides held held')
+Decides-form (FutureForm borrowed) (FutureForm borrowed') = Decides-like _ (λ e. ap FutureForm e) (λ e. cc) (booleans_Decides borrowed borrowed')
+Decides-form (StreamForm borrowed) (StreamForm borrowed') = Decides-like _ (λ e. ap StreamForm e) (λ e. cc) (booleans_Decides borrowed borrowed')
 Decides-form AliasForm AliasForm = (λ h. refl, λ e. refl)
 Decides-form UnknownForm UnknownForm = (λ h. refl, λ e. refl)
 -- the last line is read of each other pair
@@ -113,7 +113,7 @@ mutual
   Decides-exprs (More e es) (More f fs) = Decides-like _ (two More) (λ e. (cc, cc)) (Decides-and _ _ (Decides-expr e f) (Decides-exprs es fs))
   Decides-exprs es fs = (λ h. cc, λ h. cc)
 
-pub same_key_tells : (a b : Key) → (same_key a b ≡ true) ↔ (a ≡ b)
-same_key_tells (Def s name) (Def t other) = Decides-like _ (two Def) (λ e. (cc, cc)) (Decides-and _ _ (Decides-address s t) (Decides-text name other))
-same_key_tells (Whole form parts) (Whole other parts') = Decides-like _ (two Whole) (λ e. (cc, cc)) (Decides-and _ _ (Decides-form form other) (Decides-exprs parts parts'))
-same_key_tells a b = (λ h. cc, λ h. cc)
+pub same_key_determines : (a b : Key) → (same_key a b ≡ true) ↔ (a ≡ b)
+same_key_determines (Def s name) (Def t other) = Decides-like _ (two Def) (λ e. (cc, cc)) (Decides-and _ _ (Decides-address s t) (Decides-text name other))
+same_key_determines (Whole form parts) (Whole other parts') = Decides-like _ (two Whole) (λ e. (cc, cc)) (Decides-and _ _ (Decides-form form other) (Decides-exprs parts parts'))
+same_key_determines a b = (λ h. cc, λ h. cc)

@@ -13,8 +13,8 @@ use Rattle.wit_syntax.specs.Source.{ScopeName, Defined, local_name}
 use Rattle.wit_syntax.specs.Fault.{Fault}
 use Rattle.wit_syntax.specs.Scope.{needed_ids, rows_of, in_order}
 use Rattle.wit_syntax.specs.Bodies.{IsBrokenBody}
-use Rattle.wit_syntax.specs.Notes.{IsBrokenNotes}
-use Rattle.wit_arena.specs.Resolving.{AreLegalBodies, AreLegalNotes, Env, Names, env_of, HasNames, IsStored}
+use Rattle.wit_syntax.specs.Metadata.{IsBrokenMetadata}
+use Rattle.wit_arena.specs.Resolving.{AreLegalBodies, AreLegalMetadata, Env, Names, env_of, HasNames, IsStored}
 use Rattle.wit_syntax.proofs.Lists.{at_either}
 use Rattle.wit_syntax.proofs.Names.{name_itself, lookup-insert_entry}
 use Rattle.wit_syntax.proofs.Tables.{place_of-Some}
@@ -25,7 +25,7 @@ use Rattle.wit_syntax.proofs.Rows.{row_of}
 pub row_at : (xs : List ScopeName) (i : ℕ) (x : ScopeName) → slice_get xs i ≡ Some x → slice_get (rows_of xs) i ≡ Some (row_of x)
 row_at xs i x at = slice_get-map row_of xs i ∙ ap (option_map row_of) at
 
--- the name behind a row
+-- the name after a row
 pub name_at : (xs : List ScopeName) (i : ℕ) (r : Row) → slice_get (rows_of xs) i ≡ Some r → (x : ScopeName) × (slice_get xs i ≡ Some x) × (row_of x ≡ r)
 name_at [] i r at = absurd (let f : ⊥ = cc in f)
 name_at (x ∷ xs) zero r at = (x, refl, cc)
@@ -57,13 +57,13 @@ some_cond : (b : Bool) (place : ℕ) (o : Option ℕ) → IsSome o → IsSome (c
 some_cond true place o h = refl
 some_cond false place o h = h
 
--- those that stand in a table stand in one with a name more
+-- those that are in a table are in one with a name more
 pub names_kept : (names names' : Names) (xs : List ScopeName) (name : List ℕ) → HasNames (env_of names) xs → IsStored names names' name → HasNames (env_of names') xs
 names_kept names names' xs name has stored = record {
   has = λ i y at. subst IsSome (sym (ap (λ ns. env_of ns (local_name y)) stored.is ∙ lookup-insert_entry names name (local_name y) stored.place)) (some_cond (pointwise nat_eq (local_name y) name) stored.place (env_of names (local_name y)) (has.has i y at));
 }
 
--- one more that stands in a table
+-- one more that is in a table
 pub names_one : (env : Env) (xs : List ScopeName) (x : ScopeName) → HasNames env xs → IsSome (env (local_name x)) → HasNames env (xs ++ x ∷ [])
 names_one env xs x has one = record {
   has = λ i y at. elim (at_either xs x i y at) [
@@ -72,7 +72,7 @@ names_one env xs x has one = record {
   ];
 }
 
--- a name that was put into a table stands in it
+-- a name that was put into a table is in it
 pub stored_some : (names names' : Names) (name : List ℕ) → IsStored names names' name → IsSome (env_of names' name)
 stored_some names names' name stored =
     let found = ap (λ ns. env_of ns name) stored.is ∙ lookup-insert_entry names name name stored.place in
@@ -93,13 +93,13 @@ legal_more xs d legal one = record {
   ];
 }
 
-pub noted_none : AreLegalNotes []
+pub noted_none : AreLegalMetadata []
 noted_none = record { legal = λ i d f at. absurd (let f : ⊥ = cc in f) }
 
-pub noted_more : (xs : List ScopeName) (d : Definition) → AreLegalNotes xs → ((f : Fault) → IsBrokenNotes d.attributes.items f → ⊥) → AreLegalNotes (xs ++ Defined d ∷ [])
+pub noted_more : (xs : List ScopeName) (d : Definition) → AreLegalMetadata xs → ((f : Fault) → IsBrokenMetadata d.attributes.items f → ⊥) → AreLegalMetadata (xs ++ Defined d ∷ [])
 noted_more xs d legal one = record {
   legal = λ i e f at broken. elim (at_either xs (Defined d) i (Defined e) at) [
     | inl old ↦ legal.legal i e f old broken
-    | inr new ↦ (let same : e ≡ d = (let q = new.1 in cc) in one f (subst (λ (x : Definition). IsBrokenNotes x.attributes.items f) same broken))
+    | inr new ↦ (let same : e ≡ d = (let q = new.1 in cc) in one f (subst (λ (x : Definition). IsBrokenMetadata x.attributes.items f) same broken))
   ];
 }

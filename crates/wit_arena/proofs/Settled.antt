@@ -25,7 +25,7 @@ use Rattle.wit_arena.proofs.Placed.{any_at, getters_alone, placed_at, placed_has
 abbrev Entry : Type 0
 Entry = WorldKey × WorldItem
 
--- what stands on a settled side was there, and what was there stands on it
+-- what is on a settled side was there, and what was there is on it
 pub settled_at : (is : List Include) (xs : List Entry) (k : ℕ) (x : Entry) → slice_get (settled is xs) k ≡ Some x → (j : ℕ) × (slice_get xs j ≡ Some x)
 settled_at [] xs k x at = placed_at (pairs function_of) xs k x at
 settled_at (i ∷ is) xs k x at = (k, at)
@@ -61,33 +61,33 @@ any_none test (x ∷ xs) none = rw (none x) (any_none test xs none)
 module _ {X : Type 0} (goes : X → X → Bool) where
   -- none of these goes with any
   abbrev AreApart : List X → Type 0
-  AreApart front = (k : ℕ) (x : X) → slice_get front k ≡ Some x → (y : X) → (goes x y ≡ false) × (goes y x ≡ false)
+  AreApart prefix = (k : ℕ) (x : X) → slice_get prefix k ≡ Some x → (y : X) → (goes x y ≡ false) × (goes y x ≡ false)
 
-  early_front : (front ys : List X) → AreApart front → early goes (front ++ ys) ≡ early goes ys
-  early_front [] ys apart = refl
-  early_front (e ∷ front) ys apart =
-      let es = front ++ ys in
-      cond-false (list_any (goes e) es) (e ∷ early goes es) (early goes es) (any_none (goes e) es (λ y. (apart 0 e refl y).0)) ∙ early_front front ys (λ k. apart (suc k))
+  early_prefix : (prefix ys : List X) → AreApart prefix → early goes (prefix ++ ys) ≡ early goes ys
+  early_prefix [] ys apart = refl
+  early_prefix (e ∷ prefix) ys apart =
+      let es = prefix ++ ys in
+      cond-false (list_any (goes e) es) (e ∷ early goes es) (early goes es) (any_none (goes e) es (λ y. (apart 0 e refl y).0)) ∙ early_prefix prefix ys (λ k. apart (suc k))
 
-  others_front : (front ys : List X) → AreApart front → others goes (front ++ ys) ≡ front ++ others goes ys
-  others_front [] ys apart = refl
-  others_front (e ∷ front) ys apart =
-      let es = front ++ ys in
-      cond-false (list_any (goes e) es) (others goes es) (e ∷ others goes es) (any_none (goes e) es (λ y. (apart 0 e refl y).0)) ∙ ap (λ (l : List X). e ∷ l) (others_front front ys (λ k. apart (suc k)))
+  others_prefix : (prefix ys : List X) → AreApart prefix → others goes (prefix ++ ys) ≡ prefix ++ others goes ys
+  others_prefix [] ys apart = refl
+  others_prefix (e ∷ prefix) ys apart =
+      let es = prefix ++ ys in
+      cond-false (list_any (goes e) es) (others goes es) (e ∷ others goes es) (any_none (goes e) es (λ y. (apart 0 e refl y).0)) ∙ ap (λ (l : List X). e ∷ l) (others_prefix prefix ys (λ k. apart (suc k)))
 
-  each_front : (setters front : List X) → AreApart front → flat_map (with_setters goes setters) front ≡ front
-  each_front setters [] apart = refl
-  each_front setters (e ∷ front) apart =
-      ap (λ (l : List X). (e ∷ l) ++ flat_map (with_setters goes setters) front) (kept_none (λ s. goes s e) setters (λ i s at. (apart 0 e refl s).1))
-      ∙ ap (λ (l : List X). e ∷ l) (each_front setters front (λ k. apart (suc k)))
+  each_prefix : (setters prefix : List X) → AreApart prefix → flat_map (with_setters goes setters) prefix ≡ prefix
+  each_prefix setters [] apart = refl
+  each_prefix setters (e ∷ prefix) apart =
+      ap (λ (l : List X). (e ∷ l) ++ flat_map (with_setters goes setters) prefix) (kept_none (λ s. goes s e) setters (λ i s at. (apart 0 e refl s).1))
+      ∙ ap (λ (l : List X). e ∷ l) (each_prefix setters prefix (λ k. apart (suc k)))
 
-  placed_front : (front ys : List X) → AreApart front → setters_placed goes (front ++ ys) ≡ front ++ setters_placed goes ys
-  placed_front front ys apart =
+  placed_prefix : (prefix ys : List X) → AreApart prefix → setters_placed goes (prefix ++ ys) ≡ prefix ++ setters_placed goes ys
+  placed_prefix prefix ys apart =
       let set = with_setters goes (early goes ys) in
-      ap (λ (l : List X). flat_map (with_setters goes l) (others goes (front ++ ys))) (early_front front ys apart)
-      ∙ ap (flat_map set) (others_front front ys apart)
-      ∙ flat_map-append set front (others goes ys)
-      ∙ ap (λ (l : List X). l ++ flat_map set (others goes ys)) (each_front (early goes ys) front apart)
+      ap (λ (l : List X). flat_map (with_setters goes l) (others goes (prefix ++ ys))) (early_prefix prefix ys apart)
+      ∙ ap (flat_map set) (others_prefix prefix ys apart)
+      ∙ flat_map-append set prefix (others goes ys)
+      ∙ ap (λ (l : List X). l ++ flat_map set (others goes ys)) (each_prefix (early goes ys) prefix apart)
 
   -- a test that no setter passes keeps of what is placed what it keeps of the list
   module _ (test : X → Bool) (fails : (s g : X) → goes s g ≡ true → test s ≡ false) where
@@ -116,20 +116,20 @@ goes_none None = refl
 goes_none (Some s) = refl
 
 -- names of types are no functions
-pub types_told : (xs : List ScopeName) (types : Names) (k : ℕ) (x : Entry) → slice_get (type_imports xs types) k ≡ Some x → function_of x.1 ≡ None
-types_told [] types k x at = absurd (let f : ⊥ = cc in f)
-types_told (n ∷ xs) [] k x at = absurd (let f : ⊥ = cc in f)
-types_told (n ∷ xs) (t ∷ types) zero x at = ap (λ (o : Option Entry). told o) (sym at)
+pub types_stated : (xs : List ScopeName) (types : Names) (k : ℕ) (x : Entry) → slice_get (type_imports xs types) k ≡ Some x → function_of x.1 ≡ None
+types_stated [] types k x at = absurd (let f : ⊥ = cc in f)
+types_stated (n ∷ xs) [] k x at = absurd (let f : ⊥ = cc in f)
+types_stated (n ∷ xs) (t ∷ types) zero x at = ap (λ (o : Option Entry). as_stated o) (sym at)
   where
-    told : Option Entry → Option Function
-    told None = None
-    told (Some e) = function_of e.1
-types_told (n ∷ xs) (t ∷ types) (suc k) x at = types_told xs types k x at
+    as_stated : Option Entry → Option Function
+    as_stated None = None
+    as_stated (Some e) = function_of e.1
+types_stated (n ∷ xs) (t ∷ types) (suc k) x at = types_stated xs types k x at
 
 -- so they stay in front
 pub settled_types : (is : List Include) (xs : List ScopeName) (types : Names) (ys : List Entry) → settled is (type_imports xs types ++ ys) ≡ type_imports xs types ++ settled is ys
-settled_types [] xs types ys = placed_front (pairs function_of) (type_imports xs types) ys (λ k x at y. (
-    let none = types_told xs types k x at in
+settled_types [] xs types ys = placed_prefix (pairs function_of) (type_imports xs types) ys (λ k x at y. (
+    let none = types_stated xs types k x at in
     (ap (λ o. goes_with o (function_of y.1)) none, ap (λ o. goes_with (function_of y.1) o) none ∙ goes_none (function_of y.1))))
 settled_types (i ∷ is) xs types ys = refl
 

@@ -1,4 +1,4 @@
--- The functions and the types among what stands on a side, and the addresses of its interfaces.
+-- The functions and the types among what is on a side, and the addresses of its interfaces.
 use Rattle.std.proofs.Common.{◌≡◌, ℕ, List, [], ◌∷◌, ◌++◌, Option, Some, None, refl, sym, ap, ◌∙◌, map, inl, inr}
 use Rattle.std.specs.Prelude.{slice_get}
 use Rattle.std.specs.List.{flat_map}
@@ -9,7 +9,7 @@ use Rattle.wit_functions.specs.declared.function.Function.{Function}
 use Rattle.wit_model.specs.declared.world.WorldKey.{WorldKey}
 use Rattle.wit_model.specs.declared.world.WorldItem.{WorldItem}
 use Rattle.wit_syntax.specs.Address.{Address}
-use Rattle.wit_syntax.specs.Crossing.{same_side}
+use Rattle.wit_syntax.specs.ExternPart.{same_side}
 use Rattle.wit_syntax.specs.Source.{TopName, path_scope}
 use Rattle.wit_syntax.specs.Sides.{role_side, SideItem, SideFunction, SideLink, SideInline, Link, item_function}
 use Rattle.wit_arena.specs.Functions.{by_name, function_item}
@@ -70,7 +70,7 @@ side_types interfaces top side (SideInline x name items ∷ written) fs [] xs ar
 side_types interfaces top side (SideInline x name items ∷ written) fs (s ∷ ss) xs are =
     ap (flat_map import_types) are.3 ∙ put_nothing import_types side x.side (inline_entry x name are.0) are.1 refl ∙ side_types interfaces top side written fs ss are.1 are.4
 
--- where each of some addresses stands at its place among all, these are what they are among all
+-- where each of some addresses is at its place among all, these are what they are among all
 module _ (some all : List Address) (wider : (t : ℕ) (a : Address) → slice_get some t ≡ Some a → slice_get all t ≡ Some a) (top : List TopName) (side : WorldSide) where
   pub side_items_wider : (written : List SideItem) (fs : List Function) (ss : List Address) (xs : List (WorldKey × WorldItem)) → AreSideItems some top side written fs ss xs → AreSideItems all top side written fs ss xs
   side_items_wider [] fs ss xs are = are

@@ -1,4 +1,4 @@
--- What stands on the sides of a world is done, one after another: its functions, and the interfaces that are written there.
+-- What is on the sides of a world is done, one after another: its functions, and the interfaces that are written there.
 use Rattle.std.proofs.Common.{◌≡◌, ℕ, suc, ◌+◌, false, List, [], ◌∷◌, ◌++◌, length, map, Some, inl, inr, refl, sym, ap, ◌∙◌, subst, append_assoc, arith, length-append}
 use Rattle.std.specs.Prelude.{slice_get}
 use Rattle.std.specs.List.{flat_map}
@@ -19,65 +19,65 @@ use Rattle.wit_syntax.specs.Scope.{in_turn}
 use Rattle.wit_syntax.specs.Shape.{all_handles}
 use Rattle.wit_syntax.specs.Sides.{SideItem, SideFunction, Link, SideLink, SideInline, item_function, item_inline}
 use Rattle.wit_syntax.specs.Source.{address, Item, is_world, ScopeName, scope_names}
-use Rattle.wit_syntax.specs.Trees.{scope}
-use Rattle.wit_syntax.proofs.Kept.{behind_one, differ_head, differ_tail}
-use Rattle.wit_syntax.proofs.Lists.{at_front, at_back, at_seam, at_either}
+use Rattle.wit_syntax.specs.ScopesOfTrees.{scope}
+use Rattle.wit_syntax.proofs.Kept.{after_one, differ_head, differ_tail}
+use Rattle.wit_syntax.proofs.Lists.{at_prefix, at_back, at_seam, at_either}
 use Rattle.wit_syntax.proofs.Sides.{functions_imported}
 use Rattle.wit_syntax.proofs.Turns.{at_part}
 use Rattle.wit_arena.specs.Functions.{IsFunction}
-use Rattle.wit_arena.specs.Meet.{Key, Def, Meeting, keys, Meets, Decls, all_function_meetings}
+use Rattle.wit_arena.specs.Occurrences.{Key, Def, Occurrence, keys, Collects, Decls, all_function_occurrences}
 use Rattle.wit_arena.specs.Package.{interface_functions}
-use Rattle.wit_arena.specs.Resolving.{env_of, Cell, Required, HasFunctions, AddsFunctions, AreEnded}
+use Rattle.wit_arena.specs.Resolving.{env_of, ResolvedScope, Required, HasFunctions, AddsFunctions, AreEnded}
 use Rattle.wit_arena.specs.Resolved.{AddsInterface, AddsFunction, AddsSides}
-use Rattle.wit_arena.specs.Whole.{Ordered, Turned, turned, functions_at, side_turns, turn_meetings, turn_handles, AreRequired}
+use Rattle.wit_arena.specs.Whole.{Ordered, Turned, turned, functions_at, side_turns, turn_occurrences, turn_handles, AreRequired}
 use Rattle.wit_arena.proofs.Added.{defines_wider}
-use Rattle.wit_arena.proofs.Begun.{done_function, done_function_from, names_doing}
-use Rattle.wit_arena.proofs.Doing.{DoneFunction, done_functions, scope_functions, IsDoing}
-use Rattle.wit_arena.proofs.DoneWorlds.{all_handles-append, doing_declared}
+use Rattle.wit_arena.proofs.DoneNames.{done_function, done_function_from, names_of_functions}
+use Rattle.wit_arena.proofs.FunctionPart.{DoneFunction, done_functions, scope_functions, IsFunctionPart}
+use Rattle.wit_arena.proofs.DoneWorlds.{all_handles-append, function_part_declared}
 use Rattle.wit_arena.proofs.FreeNames.{AreStated}
 use Rattle.wit_arena.proofs.Inside.{IsInside, AreInside}
-use Rattle.wit_arena.proofs.Laid.{laid_scope, in_turn_is}
-use Rattle.wit_arena.proofs.Meeting.{meets_append, meets_from, meets_grown, meets_longer}
-use Rattle.wit_arena.proofs.Required.{in_scope, ended_required, required_none, required_append, required_grown}
-use Rattle.wit_arena.proofs.Signatures.{function_grown, names_beside, no_name_in_functions}
-use Rattle.wit_arena.proofs.Standing.{DoneScope, turn_of, cell_of, IsTurn}
+use Rattle.wit_arena.proofs.ScopesInTurn.{laid_scope, in_turn_is}
+use Rattle.wit_arena.proofs.Occurrence.{collects_append, collects_from, collects_extended, collects_longer}
+use Rattle.wit_arena.proofs.Required.{in_scope, ended_required, required_none, required_append, required_extended}
+use Rattle.wit_arena.proofs.Signatures.{function_extended, names_beside, no_name_in_functions}
+use Rattle.wit_arena.proofs.Members.{DoneScope, turn_of, resolved_scope_of, IsTurn}
 use Rattle.wit_arena.proofs.Stating.{stated_placed}
-use Rattle.wit_arena.proofs.Turns.{item_of, function_turn, meetings, all_name_meetings}
+use Rattle.wit_arena.proofs.Turns.{item_of, function_turn, occurrences, all_name_occurrences}
 
-module _ (files : List PackageFile) (decls : Decls) (written : List Meeting) (cs : List DoneScope) (gs : List DoneFunction) (es es' : List TypeDef) (d : IsDoing files decls written cs gs es) (t : ℕ) (c : DoneScope) (at_c : slice_get cs t ≡ Some c) (fns : List SourceFunction) (fs : List Function) (adds : AddsFunctions es es' c.address c.types fns fs) where
+module _ (files : List PackageFile) (decls : Decls) (written : List Occurrence) (cs : List DoneScope) (gs : List DoneFunction) (es es' : List TypeDef) (d : IsFunctionPart files decls written cs gs es) (t : ℕ) (c : DoneScope) (at_c : slice_get cs t ≡ Some c) (fns : List SourceFunction) (fs : List Function) (adds : AddsFunctions es es' c.address c.types fns fs) where
   abbrev s : Address
   s = c.address
 
-  abbrev behind : List Meeting
-  behind = all_function_meetings s fns
+  abbrev rest_after : List Occurrence
+  rest_after = all_function_occurrences s fns
 
   abbrev more : List DoneFunction
   more = done_functions s fns fs
 
-  added : HasFunctions decls d.met es' s fns fs
-  added = adds.from decls d.met d.meeting (d.stand t c at_c)
+  added : HasFunctions decls d.seen es' s fns fs
+  added = adds.from decls d.seen d.occurrence (d.are_present t c at_c)
 
   pub functions_count : length fs ≡ length fns
   functions_count = added.are.count
 
   all_made : (k : ℕ) (g : DoneFunction) → slice_get (gs ++ more) k ≡ Some g → IsFunction (keys added.now) g.address g.fn g.made
   all_made k g at = elim (at_part gs more k g at) [
-    | inl h ↦ function_grown (meets_grown behind d.met added.now added.meets) g.address g.fn g.made (d.made h.0 g h.1)
+    | inl h ↦ function_extended (collects_extended rest_after d.seen added.now added.collects) g.address g.fn g.made (d.made h.0 g h.1)
     | inr h ↦ (
         let one = done_function_from s fns fs h.0 g h.1 in
         subst (λ (x : Address). IsFunction (keys added.now) x g.fn g.made) (sym one.whose) (added.are.each h.0 g.fn g.made one.written one.made_at))
   ]
 
   -- functions of a scope that is there
-  pub functions_doing : IsDoing files decls (written ++ behind) cs (gs ++ more) es'
-  functions_doing = record {
-    met = added.now;
-    meets = meets_append written behind [] d.met added.now d.meets added.meets;
-    meeting = added.meeting;
+  pub functions_of_parts : IsFunctionPart files decls (written ++ rest_after) cs (gs ++ more) es'
+  functions_of_parts = record {
+    seen = added.now;
+    collects = collects_append written rest_after [] d.seen added.now d.collects added.collects;
+    occurrence = added.occurrence;
     each = d.each;
     own = d.own;
-    stand = λ k b at. names_beside s fns d.met added.now b.address (env_of b.types) added.meets (d.stand k b at);
-    before = λ j x name at. elim (meets_from behind d.met added.now added.meets j (Def x name) at) [
+    are_present = λ k b at. names_beside s fns d.seen added.now b.address (env_of b.types) added.collects (d.are_present k b at);
+    before = λ j x name at. elim (collects_from rest_after d.seen added.now added.collects j (Def x name) at) [
       | inl was ↦ d.before was.0 x name was.1
       | inr new ↦ absurd (no_name_in_functions s fns x name new)
     ];
@@ -85,9 +85,9 @@ module _ (files : List PackageFile) (decls : Decls) (written : List Meeting) (cs
     made = all_made;
   }
 
--- what handles require, where it stands in the arena by now, and what was met since
-required_since : (files : List PackageFile) (decls : Decls) (written more : List Meeting) (cs : List DoneScope) (gs : List DoneFunction) (es : List TypeDef) (d : IsDoing files decls written cs gs es) (t : ℕ) (c : DoneScope) → slice_get cs t ≡ Some c → (ids : List Id) (rs : List Required) → AreEnded (env_of c.types) es ids rs → (met : List Meeting) → Meets [] (written ++ more) met → AreRequired files (keys met) (map (in_scope c.address) ids) rs
-required_since files decls written more cs gs es d t c at ids rs ended met meets = required_grown files (meets_longer written more [] d.met met d.meets meets) (map (in_scope c.address) ids) rs (ended_required files decls (keys d.met) es d.meeting.keyed (λ j x name there. doing_declared files decls written cs gs es x name d (d.before j x name there)) c.address (env_of c.types) (d.stand t c at) ids rs ended)
+-- what handles require, where it is in the arena by now, and what occurred since
+required_since : (files : List PackageFile) (decls : Decls) (written more : List Occurrence) (cs : List DoneScope) (gs : List DoneFunction) (es : List TypeDef) (d : IsFunctionPart files decls written cs gs es) (t : ℕ) (c : DoneScope) → slice_get cs t ≡ Some c → (ids : List Id) (rs : List Required) → AreEnded (env_of c.types) es ids rs → (seen : List Occurrence) → Collects [] (written ++ more) seen → AreRequired files (keys seen) (map (in_scope c.address) ids) rs
+required_since files decls written more cs gs es d t c at ids rs ended seen collects = required_extended files (collects_longer written more [] d.seen seen d.collects collects) (map (in_scope c.address) ids) rs (ended_required files decls (keys d.seen) es d.occurrence.keyed (λ j x name there. function_part_declared files decls written cs gs es x name d (d.before j x name there)) c.address (env_of c.types) (d.are_present t c at) ids rs ended)
 
 -- a scope has its functions, as they were made and are stated
 pub record IsScopeWhole (files : List PackageFile) (c : DoneScope) : Type 0 where
@@ -103,14 +103,14 @@ pub record IsFreshInside (files : List PackageFile) (decls : Decls) (cs : List D
   pub does : functions_at files (address i) ≡ functions i
   pub own : decls (address i) ≡ (scope files (address i), (owner.Interface place))
 
--- what is required in what stands on sides: in the interfaces that are written there, in functions, and in all of it
-pub record AreTold (files : List PackageFile) (ks : List Key) (s : Address) (xs : List SideItem) (turns : List Turned) (scopes : List DoneScope) (own rs : List Required) : Type 0 where
+-- what is required in what is on sides: in the interfaces that are written there, in functions, and in all of it
+pub record AreAsStated (files : List PackageFile) (ks : List Key) (s : Address) (xs : List SideItem) (turns : List Turned) (scopes : List DoneScope) (own rs : List Required) : Type 0 where
   pub each : (t : ℕ) (c : DoneScope) → slice_get scopes t ≡ Some c → AreRequired files ks (turn_handles (turn_of c)) c.required
   pub by_functions : AreRequired files ks (map (in_scope s) (all_handles (flat_map written_types (flat_map item_function xs)))) own
   pub in_all : AreRequired files ks (flat_map turn_handles turns) rs
 
--- What stands on the sides of a world is done: the interfaces that are written there, which are the first of these items, and its functions.
-pub record AreSided (files : List PackageFile) (decls : Decls) (written : List Meeting) (cs : List DoneScope) (gs : List DoneFunction) (place : ℕ) (s : Address) (new : List TypeDef) (is is' : List Interface) (fs : List Function) (rs : List Required) (xs : List SideItem) (inside : List Item) : Type 0 where
+-- What is on the sides of a world is done: the interfaces that are written there, which are the first of these items, and its functions.
+pub record AreSided (files : List PackageFile) (decls : Decls) (written : List Occurrence) (cs : List DoneScope) (gs : List DoneFunction) (place : ℕ) (s : Address) (new : List TypeDef) (is is' : List Interface) (fs : List Function) (rs : List Required) (xs : List SideItem) (inside : List Item) : Type 0 where
   pub ordered : List Ordered
   pub scopes : List DoneScope
   pub added : List Interface
@@ -120,16 +120,16 @@ pub record AreSided (files : List PackageFile) (decls : Decls) (written : List M
   pub items : map item_of ordered ++ left ≡ inside
   pub consumed : length ordered ≡ length (flat_map item_inline xs)
   pub laid : AreInside place ordered scopes added
-  pub doing : IsDoing files decls (written ++ meetings (side_turns s xs ordered)) (cs ++ scopes) (gs ++ more) new
+  pub function_part : IsFunctionPart files decls (written ++ occurrences (side_turns s xs ordered)) (cs ++ scopes) (gs ++ more) new
   pub count : length fs ≡ length (flat_map item_function xs)
   pub own : (k : ℕ) (g : DoneFunction) → slice_get (done_functions s (flat_map item_function xs) fs) k ≡ Some g → (j : ℕ) × (slice_get more j ≡ Some g)
   pub within : (t k : ℕ) (c : DoneScope) (g : DoneFunction) → slice_get scopes t ≡ Some c → slice_get (scope_functions c) k ≡ Some g → (j : ℕ) × (slice_get more j ≡ Some g)
   pub whole : (t : ℕ) (c : DoneScope) → slice_get scopes t ≡ Some c → IsScopeWhole files c
   pub own_required : List Required
-  pub told : (met : List Meeting) → Meets [] (written ++ meetings (side_turns s xs ordered)) met → AreTold files (keys met) s xs (side_turns s xs ordered) scopes own_required rs
+  pub as_stated : (seen : List Occurrence) → Collects [] (written ++ occurrences (side_turns s xs ordered)) seen → AreAsStated files (keys seen) s xs (side_turns s xs ordered) scopes own_required rs
 
--- nothing more stands there
-sided_none : (files : List PackageFile) (decls : Decls) (written : List Meeting) (cs : List DoneScope) (gs : List DoneFunction) (place : ℕ) (s : Address) (es : List TypeDef) (is : List Interface) (inside : List Item) → IsDoing files decls written cs gs es → AreSided files decls written cs gs place s es is is [] [] [] inside
+-- nothing more is there
+sided_none : (files : List PackageFile) (decls : Decls) (written : List Occurrence) (cs : List DoneScope) (gs : List DoneFunction) (place : ℕ) (s : Address) (es : List TypeDef) (is : List Interface) (inside : List Item) → IsFunctionPart files decls written cs gs es → AreSided files decls written cs gs place s es is is [] [] [] inside
 sided_none files decls written cs gs place s es is inside d = record {
   ordered = [];
   scopes = [];
@@ -140,43 +140,43 @@ sided_none files decls written cs gs place s es is inside d = record {
   items = refl;
   consumed = refl;
   laid = tt;
-  doing = subst (λ (l : List Meeting). IsDoing files decls l (cs ++ []) (gs ++ []) es) (sym (append-nil written)) (subst (λ (l : List DoneScope). IsDoing files decls written l (gs ++ []) es) (sym (append-nil cs)) (subst (λ (l : List DoneFunction). IsDoing files decls written cs l es) (sym (append-nil gs)) d));
+  function_part = subst (λ (l : List Occurrence). IsFunctionPart files decls l (cs ++ []) (gs ++ []) es) (sym (append-nil written)) (subst (λ (l : List DoneScope). IsFunctionPart files decls written l (gs ++ []) es) (sym (append-nil cs)) (subst (λ (l : List DoneFunction). IsFunctionPart files decls written cs l es) (sym (append-nil gs)) d));
   count = refl;
   own = λ k g at. absurd (let f : ⊥ = cc in f);
   within = λ t k c g at there. absurd (let f : ⊥ = cc in f);
   whole = λ t c at. absurd (let f : ⊥ = cc in f);
   own_required = [];
-  told = λ met meets. record { each = λ t c at. absurd (let f : ⊥ = cc in f); by_functions = required_none files (keys met); in_all = required_none files (keys met) };
+  as_stated = λ seen collects. record { each = λ t c at. absurd (let f : ⊥ = cc in f); by_functions = required_none files (keys seen); in_all = required_none files (keys seen) };
 }
 
--- a function, and what stands behind it
-module _ (files : List PackageFile) (decls : Decls) (written : List Meeting) (cs : List DoneScope) (gs : List DoneFunction) (place : ℕ) (old mid new : List TypeDef) (is is' : List Interface) (fn : SourceFunction) (f : Function) (fs : List Function) (own rest : List Required) (xs : List SideItem) (inside : List Item) (d : IsDoing files decls written cs gs old) (t : ℕ) (c : DoneScope) (at_c : slice_get cs t ≡ Some c) (a : AddsFunction c.address c.types old mid fn f own) where
-  abbrev met_there : List Meeting
-  met_there = all_function_meetings c.address (fn ∷ [])
+-- a function, and what comes after it
+module _ (files : List PackageFile) (decls : Decls) (written : List Occurrence) (cs : List DoneScope) (gs : List DoneFunction) (place : ℕ) (old mid new : List TypeDef) (is is' : List Interface) (fn : SourceFunction) (f : Function) (fs : List Function) (own rest : List Required) (xs : List SideItem) (inside : List Item) (d : IsFunctionPart files decls written cs gs old) (t : ℕ) (c : DoneScope) (at_c : slice_get cs t ≡ Some c) (a : AddsFunction c.address c.types old mid fn f own) where
+  abbrev seen_there : List Occurrence
+  seen_there = all_function_occurrences c.address (fn ∷ [])
 
   abbrev one : DoneFunction
   one = done_function c.address fn f
 
-  pub function_step : IsDoing files decls (written ++ met_there) cs (gs ++ one ∷ []) mid
-  function_step = functions_doing files decls written cs gs old mid d t c at_c (fn ∷ []) (f ∷ []) a.adds
+  pub function_step : IsFunctionPart files decls (written ++ seen_there) cs (gs ++ one ∷ []) mid
+  function_step = functions_of_parts files decls written cs gs old mid d t c at_c (fn ∷ []) (f ∷ []) a.adds
 
-  module _ (r : AreSided files decls (written ++ met_there) cs (gs ++ one ∷ []) place c.address new is is' fs rest xs inside) where
+  module _ (r : AreSided files decls (written ++ seen_there) cs (gs ++ one ∷ []) place c.address new is is' fs rest xs inside) where
     abbrev sides : List Turned
     sides = side_turns c.address xs r.ordered
 
-    told_function : (met : List Meeting) → Meets [] (written ++ (met_there ++ meetings sides)) met → AreTold files (keys met) c.address (SideFunction fn ∷ xs) (function_turn c.address fn ∷ sides) r.scopes (own ++ r.own_required) (own ++ rest)
-    told_function met meets =
-        let behind : Meets [] ((written ++ met_there) ++ meetings sides) met = subst (λ (l : List Meeting). Meets [] l met) (sym (append_assoc written met_there (meetings sides))) meets in
-        let it = r.told met behind in
+    stated_function : (seen : List Occurrence) → Collects [] (written ++ (seen_there ++ occurrences sides)) seen → AreAsStated files (keys seen) c.address (SideFunction fn ∷ xs) (function_turn c.address fn ∷ sides) r.scopes (own ++ r.own_required) (own ++ rest)
+    stated_function seen collects =
+        let rest_after : Collects [] ((written ++ seen_there) ++ occurrences sides) seen = subst (λ (l : List Occurrence). Collects [] l seen) (sym (append_assoc written seen_there (occurrences sides))) collects in
+        let it = r.as_stated seen rest_after in
         let ids : List Id = all_handles (written_types fn) in
         let later : List Id = all_handles (flat_map written_types (flat_map item_function xs)) in
-        let here = required_since files decls (written ++ met_there) (meetings sides) cs (gs ++ one ∷ []) mid function_step t c at_c ids own a.ended met behind in
+        let here = required_since files decls (written ++ seen_there) (occurrences sides) cs (gs ++ one ∷ []) mid function_step t c at_c ids own a.ended seen rest_after in
         let alone : map (in_scope c.address) ids ≡ turn_handles (function_turn c.address fn) = ap (λ (l : List Written). map (in_scope c.address) (all_handles l)) (sym (append-nil (written_types fn))) in
         let together : map (in_scope c.address) ids ++ map (in_scope c.address) later ≡ map (in_scope c.address) (all_handles (written_types fn ++ flat_map written_types (flat_map item_function xs))) = sym (map-append (in_scope c.address) ids later) ∙ ap (map (in_scope c.address)) (sym (all_handles-append (written_types fn) (flat_map written_types (flat_map item_function xs)))) in
         record {
           each = it.each;
-          by_functions = subst (λ (hs : List (Address × Id)). AreRequired files (keys met) hs (own ++ r.own_required)) together (required_append files (keys met) (map (in_scope c.address) ids) (map (in_scope c.address) later) own r.own_required here it.by_functions);
-          in_all = required_append files (keys met) (turn_handles (function_turn c.address fn)) (flat_map turn_handles sides) own rest (subst (λ (hs : List (Address × Id)). AreRequired files (keys met) hs own) alone here) it.in_all;
+          by_functions = subst (λ (hs : List (Address × Id)). AreRequired files (keys seen) hs (own ++ r.own_required)) together (required_append files (keys seen) (map (in_scope c.address) ids) (map (in_scope c.address) later) own r.own_required here it.by_functions);
+          in_all = required_append files (keys seen) (turn_handles (function_turn c.address fn)) (flat_map turn_handles sides) own rest (subst (λ (hs : List (Address × Id)). AreRequired files (keys seen) hs own) alone here) it.in_all;
         }
 
     pub sided_function : AreSided files decls written cs gs place c.address new is is' (f ∷ fs) (own ++ rest) (SideFunction fn ∷ xs) inside
@@ -190,20 +190,20 @@ module _ (files : List PackageFile) (decls : Decls) (written : List Meeting) (cs
       items = r.items;
       consumed = r.consumed;
       laid = r.laid;
-      doing = subst (λ (l : List Meeting). IsDoing files decls l (cs ++ r.scopes) (gs ++ one ∷ r.more) new) (append_assoc written met_there (meetings sides)) (subst (λ (l : List DoneFunction). IsDoing files decls ((written ++ met_there) ++ meetings sides) (cs ++ r.scopes) l new) (append_assoc gs (one ∷ []) r.more) r.doing);
+      function_part = subst (λ (l : List Occurrence). IsFunctionPart files decls l (cs ++ r.scopes) (gs ++ one ∷ r.more) new) (append_assoc written seen_there (occurrences sides)) (subst (λ (l : List DoneFunction). IsFunctionPart files decls ((written ++ seen_there) ++ occurrences sides) (cs ++ r.scopes) l new) (append_assoc gs (one ∷ []) r.more) r.function_part);
       count = ap suc r.count;
-      own = λ k g at. elim (behind_one one (done_functions c.address (flat_map item_function xs) fs) k g at) [
+      own = λ k g at. elim (after_one one (done_functions c.address (flat_map item_function xs) fs) k g at) [
         | inl here ↦ (0, ap Some here)
         | inr later ↦ (let it = r.own later.0 g later.1 in (suc it.0, it.1))
       ];
       within = λ k j b g at there. (let it = r.within k j b g at there in (suc it.0, it.1));
       whole = r.whole;
       own_required = own ++ r.own_required;
-      told = told_function;
+      as_stated = stated_function;
     }
 
 -- an interface by its path adds nothing
-sided_link : (files : List PackageFile) (decls : Decls) (written : List Meeting) (cs : List DoneScope) (gs : List DoneFunction) (place : ℕ) (s : Address) (new : List TypeDef) (is is' : List Interface) (fs : List Function) (rs : List Required) (link : Link) (xs : List SideItem) (inside : List Item) → AreSided files decls written cs gs place s new is is' fs rs xs inside → AreSided files decls written cs gs place s new is is' fs rs (SideLink link ∷ xs) inside
+sided_link : (files : List PackageFile) (decls : Decls) (written : List Occurrence) (cs : List DoneScope) (gs : List DoneFunction) (place : ℕ) (s : Address) (new : List TypeDef) (is is' : List Interface) (fs : List Function) (rs : List Required) (link : Link) (xs : List SideItem) (inside : List Item) → AreSided files decls written cs gs place s new is is' fs rs xs inside → AreSided files decls written cs gs place s new is is' fs rs (SideLink link ∷ xs) inside
 sided_link files decls written cs gs place s new is is' fs rs link xs inside r = record {
   ordered = r.ordered;
   scopes = r.scopes;
@@ -214,17 +214,17 @@ sided_link files decls written cs gs place s new is is' fs rs link xs inside r =
   items = r.items;
   consumed = r.consumed;
   laid = r.laid;
-  doing = r.doing;
+  function_part = r.function_part;
   count = r.count;
   own = r.own;
   within = r.within;
   whole = r.whole;
   own_required = r.own_required;
-  told = λ met meets. (let it = r.told met meets in record { each = it.each; by_functions = it.by_functions; in_all = it.in_all });
+  as_stated = λ seen collects. (let it = r.as_stated seen collects in record { each = it.each; by_functions = it.by_functions; in_all = it.in_all });
 }
 
--- an interface that is written there, and what stands behind it
-module _ (files : List PackageFile) (decls : Decls) (written : List Meeting) (cs : List DoneScope) (gs : List DoneFunction) (ccs : List Cell) (place : ℕ) (old mid : List TypeDef) (added : Interface) (own : List Required) (i : Item) (d : IsDoing files decls written cs gs old) (known : (k : ℕ) (x : Cell) → slice_get ccs k ≡ Some x → (j : ℕ) × (slice_get (map cell_of cs) j ≡ Some x)) (fresh : IsFreshInside files decls cs place i) (a : AddsInterface ccs place old mid added own i) where
+-- an interface that is written there, and what comes after it
+module _ (files : List PackageFile) (decls : Decls) (written : List Occurrence) (cs : List DoneScope) (gs : List DoneFunction) (ccs : List ResolvedScope) (place : ℕ) (old mid : List TypeDef) (added : Interface) (own : List Required) (i : Item) (d : IsFunctionPart files decls written cs gs old) (known : (k : ℕ) (x : ResolvedScope) → slice_get ccs k ≡ Some x → (j : ℕ) × (slice_get (map resolved_scope_of cs) j ≡ Some x)) (fresh : IsFreshInside files decls cs place i) (a : AddsInterface ccs place old mid added own i) where
   abbrev pub o : Ordered
   o = record { item = i; order = a.adds.order }
 
@@ -234,17 +234,17 @@ module _ (files : List PackageFile) (decls : Decls) (written : List Meeting) (cs
   abbrev pub b : DoneScope
   b = laid_scope (owner.Interface place) o added.types a.functions (interface_functions added) own
 
-  abbrev named : List Meeting
-  named = all_name_meetings (address i) names
+  abbrev named : List Occurrence
+  named = all_name_occurrences (address i) names
 
-  names_step : IsDoing files decls (written ++ named) (cs ++ b ∷ []) gs a.middle
-  names_step = names_doing files decls written cs gs old a.middle b d fresh.fresh fresh.own (subst (λ (l : List ScopeName). IsTurn l names) (sym fresh.has) (in_turn_is (scope_names i) a.adds.order a.adds.least a.adds.distinct)) (defines_wider old a.middle ccs (map cell_of cs) (owner.Interface place) (address i) [] added.types names known (a.adds.defines (address i)))
+  names_step : IsFunctionPart files decls (written ++ named) (cs ++ b ∷ []) gs a.middle
+  names_step = names_of_functions files decls written cs gs old a.middle b d fresh.fresh fresh.own (subst (λ (l : List ScopeName). IsTurn l names) (sym fresh.has) (in_turn_is (scope_names i) a.adds.order a.adds.least a.adds.distinct)) (defines_wider old a.middle ccs (map resolved_scope_of cs) (owner.Interface place) (address i) [] added.types names known (a.adds.defines (address i)))
 
-  functions_step : IsDoing files decls ((written ++ named) ++ all_function_meetings (address i) (functions i)) (cs ++ b ∷ []) (gs ++ scope_functions b) mid
-  functions_step = functions_doing files decls (written ++ named) (cs ++ b ∷ []) gs a.middle mid names_step (length cs) b (at_seam cs b) (functions i) a.functions a.behind.adds
+  functions_step : IsFunctionPart files decls ((written ++ named) ++ all_function_occurrences (address i) (functions i)) (cs ++ b ∷ []) (gs ++ scope_functions b) mid
+  functions_step = functions_of_parts files decls (written ++ named) (cs ++ b ∷ []) gs a.middle mid names_step (length cs) b (at_seam cs b) (functions i) a.functions a.rest_after.adds
 
-  pub inline_step : IsDoing files decls (written ++ turn_meetings (turned o)) (cs ++ b ∷ []) (gs ++ scope_functions b) mid
-  inline_step = subst (λ (l : List Meeting). IsDoing files decls l (cs ++ b ∷ []) (gs ++ scope_functions b) mid) (append_assoc written named (all_function_meetings (address i) (functions i))) functions_step
+  pub inline_step : IsFunctionPart files decls (written ++ turn_occurrences (turned o)) (cs ++ b ∷ []) (gs ++ scope_functions b) mid
+  inline_step = subst (λ (l : List Occurrence). IsFunctionPart files decls l (cs ++ b ∷ []) (gs ++ scope_functions b) mid) (append_assoc written named (all_function_occurrences (address i) (functions i))) functions_step
 
   inline_inside : IsInside place o b added
   inline_inside = record {
@@ -254,7 +254,7 @@ module _ (files : List PackageFile) (decls : Decls) (written : List Meeting) (cs
     listed = (names_step.each (length cs) b (at_seam cs b)).listed;
     whose = refl;
     says = a.says;
-    stand = a.stand;
+    are_present = a.are_present;
     stated = refl;
     paired = a.paired;
   }
@@ -262,38 +262,38 @@ module _ (files : List PackageFile) (decls : Decls) (written : List Meeting) (cs
   inline_whole : IsScopeWhole files b
   inline_whole = record {
     functions = sym fresh.does;
-    stated = stated_placed (functions i) a.functions added (functions_imported i fresh.interface) a.stand;
-    count = functions_count files decls (written ++ named) (cs ++ b ∷ []) gs a.middle mid names_step (length cs) b (at_seam cs b) (functions i) a.functions a.behind.adds;
+    stated = stated_placed (functions i) a.functions added (functions_imported i fresh.interface) a.are_present;
+    count = functions_count files decls (written ++ named) (cs ++ b ∷ []) gs a.middle mid names_step (length cs) b (at_seam cs b) (functions i) a.functions a.rest_after.adds;
   }
 
-  module _ (s : Address) (new : List TypeDef) (is is' : List Interface) (fs : List Function) (rest : List Required) (x : Extern) (name : Id) (items : List InterfaceItem) (xs : List SideItem) (inside : List Item) (r : AreSided files decls (written ++ turn_meetings (turned o)) (cs ++ b ∷ []) (gs ++ scope_functions b) (suc place) s new (is ++ added ∷ []) is' fs rest xs inside) where
+  module _ (s : Address) (new : List TypeDef) (is is' : List Interface) (fs : List Function) (rest : List Required) (x : Extern) (name : Id) (items : List InterfaceItem) (xs : List SideItem) (inside : List Item) (r : AreSided files decls (written ++ turn_occurrences (turned o)) (cs ++ b ∷ []) (gs ++ scope_functions b) (suc place) s new (is ++ added ∷ []) is' fs rest xs inside) where
     abbrev rest_turns : List Turned
     rest_turns = side_turns s xs r.ordered
 
     abbrev all : List DoneScope
     all = b ∷ r.scopes
 
-    told_inline : (met : List Meeting) → Meets [] (written ++ (turn_meetings (turned o) ++ meetings rest_turns)) met → AreTold files (keys met) s (SideInline x name items ∷ xs) (turned o ∷ rest_turns) all r.own_required (own ++ rest)
-    told_inline met meets =
-        let behind : Meets [] ((written ++ turn_meetings (turned o)) ++ meetings rest_turns) met = subst (λ (l : List Meeting). Meets [] l met) (sym (append_assoc written (turn_meetings (turned o)) (meetings rest_turns))) meets in
-        let it = r.told met behind in
-        let here : AreRequired files (keys met) (turn_handles (turned o)) own = required_since files decls (written ++ turn_meetings (turned o)) (meetings rest_turns) (cs ++ b ∷ []) (gs ++ scope_functions b) mid inline_step (length cs) b (at_seam cs b) (all_handles (all_types names (functions i))) own a.behind.ended met behind in
+    stated_inline : (seen : List Occurrence) → Collects [] (written ++ (turn_occurrences (turned o) ++ occurrences rest_turns)) seen → AreAsStated files (keys seen) s (SideInline x name items ∷ xs) (turned o ∷ rest_turns) all r.own_required (own ++ rest)
+    stated_inline seen collects =
+        let rest_after : Collects [] ((written ++ turn_occurrences (turned o)) ++ occurrences rest_turns) seen = subst (λ (l : List Occurrence). Collects [] l seen) (sym (append_assoc written (turn_occurrences (turned o)) (occurrences rest_turns))) collects in
+        let it = r.as_stated seen rest_after in
+        let here : AreRequired files (keys seen) (turn_handles (turned o)) own = required_since files decls (written ++ turn_occurrences (turned o)) (occurrences rest_turns) (cs ++ b ∷ []) (gs ++ scope_functions b) mid inline_step (length cs) b (at_seam cs b) (all_handles (all_types names (functions i))) own a.rest_after.ended seen rest_after in
         record {
-          each = λ k c at. elim (behind_one b r.scopes k c at) [
-            | inl same ↦ subst (λ (y : DoneScope). AreRequired files (keys met) (turn_handles (turn_of y)) y.required) same here
+          each = λ k c at. elim (after_one b r.scopes k c at) [
+            | inl same ↦ subst (λ (y : DoneScope). AreRequired files (keys seen) (turn_handles (turn_of y)) y.required) same here
             | inr later ↦ it.each later.0 c later.1
           ];
           by_functions = it.by_functions;
-          in_all = required_append files (keys met) (turn_handles (turned o)) (flat_map turn_handles rest_turns) own rest here it.in_all;
+          in_all = required_append files (keys seen) (turn_handles (turned o)) (flat_map turn_handles rest_turns) own rest here it.in_all;
         }
 
-    front_more : (g : DoneFunction) → (j : ℕ) × (slice_get r.more j ≡ Some g) → (j : ℕ) × (slice_get (scope_functions b ++ r.more) j ≡ Some g)
-    front_more g it = (length (scope_functions b) + it.0, at_back (scope_functions b) r.more it.0 g it.1)
+    prefix_more : (g : DoneFunction) → (j : ℕ) × (slice_get r.more j ≡ Some g) → (j : ℕ) × (slice_get (scope_functions b ++ r.more) j ≡ Some g)
+    prefix_more g it = (length (scope_functions b) + it.0, at_back (scope_functions b) r.more it.0 g it.1)
 
     within_inline : (k j : ℕ) (c : DoneScope) (g : DoneFunction) → slice_get all k ≡ Some c → slice_get (scope_functions c) j ≡ Some g → (n : ℕ) × (slice_get (scope_functions b ++ r.more) n ≡ Some g)
-    within_inline k j c g at there = elim (behind_one b r.scopes k c at) [
-      | inl same ↦ (j, at_front (scope_functions b) r.more j g (ap (λ (y : DoneScope). slice_get (scope_functions y) j) same ∙ there))
-      | inr later ↦ front_more g (r.within later.0 j c g later.1 there)
+    within_inline k j c g at there = elim (after_one b r.scopes k c at) [
+      | inl same ↦ (j, at_prefix (scope_functions b) r.more j g (ap (λ (y : DoneScope). slice_get (scope_functions y) j) same ∙ there))
+      | inr later ↦ prefix_more g (r.within later.0 j c g later.1 there)
     ]
 
     pub sided_inline : AreSided files decls written cs gs place s new is is' fs (own ++ rest) (SideInline x name items ∷ xs) (i ∷ inside)
@@ -307,16 +307,16 @@ module _ (files : List PackageFile) (decls : Decls) (written : List Meeting) (cs
       items = ap (λ (l : List Item). i ∷ l) r.items;
       consumed = ap suc r.consumed;
       laid = (inline_inside, r.laid);
-      doing = subst (λ (l : List Meeting). IsDoing files decls l (cs ++ all) (gs ++ (scope_functions b ++ r.more)) new) (append_assoc written (turn_meetings (turned o)) (meetings rest_turns)) (subst (λ (l : List DoneScope). IsDoing files decls ((written ++ turn_meetings (turned o)) ++ meetings rest_turns) l (gs ++ (scope_functions b ++ r.more)) new) (append_assoc cs (b ∷ []) r.scopes) (subst (λ (l : List DoneFunction). IsDoing files decls ((written ++ turn_meetings (turned o)) ++ meetings rest_turns) ((cs ++ b ∷ []) ++ r.scopes) l new) (append_assoc gs (scope_functions b) r.more) r.doing));
+      function_part = subst (λ (l : List Occurrence). IsFunctionPart files decls l (cs ++ all) (gs ++ (scope_functions b ++ r.more)) new) (append_assoc written (turn_occurrences (turned o)) (occurrences rest_turns)) (subst (λ (l : List DoneScope). IsFunctionPart files decls ((written ++ turn_occurrences (turned o)) ++ occurrences rest_turns) l (gs ++ (scope_functions b ++ r.more)) new) (append_assoc cs (b ∷ []) r.scopes) (subst (λ (l : List DoneFunction). IsFunctionPart files decls ((written ++ turn_occurrences (turned o)) ++ occurrences rest_turns) ((cs ++ b ∷ []) ++ r.scopes) l new) (append_assoc gs (scope_functions b) r.more) r.function_part));
       count = r.count;
-      own = λ k g at. front_more g (r.own k g at);
+      own = λ k g at. prefix_more g (r.own k g at);
       within = within_inline;
-      whole = λ k c at. elim (behind_one b r.scopes k c at) [
+      whole = λ k c at. elim (after_one b r.scopes k c at) [
         | inl same ↦ subst (λ (y : DoneScope). IsScopeWhole files y) same inline_whole
         | inr later ↦ r.whole later.0 c later.1
       ];
       own_required = r.own_required;
-      told = told_inline;
+      as_stated = stated_inline;
     }
 
 -- one fresh item less, once a scope at another address was added
@@ -329,12 +329,12 @@ fresh_later files decls cs place i b other f = record {
   own = f.own;
 }
 
--- what stands on the sides of a world, where its names are done
-pub are_sided : (files : List PackageFile) (decls : Decls) (written : List Meeting) (cs : List DoneScope) (gs : List DoneFunction) (es new : List TypeDef) (ccs : List Cell) (count t : ℕ) (c : DoneScope) (is is' : List Interface) (fs : List Function) (rs : List Required) (xs : List SideItem) (inside : List Item) → IsDoing files decls written cs gs es → slice_get cs t ≡ Some c → ((k : ℕ) (x : Cell) → slice_get ccs k ≡ Some x → (j : ℕ) × (slice_get (map cell_of cs) j ≡ Some x)) → AllDiffer (map address inside) → ((k : ℕ) (i : Item) → slice_get inside k ≡ Some i → IsFreshInside files decls cs ((count + length is) + k) i) → AddsSides ccs count c.address c.types es new is is' fs rs xs inside → AreSided files decls written cs gs (count + length is) c.address new is is' fs rs xs inside
+-- what is on the sides of a world, where its names are done
+pub are_sided : (files : List PackageFile) (decls : Decls) (written : List Occurrence) (cs : List DoneScope) (gs : List DoneFunction) (es new : List TypeDef) (ccs : List ResolvedScope) (count t : ℕ) (c : DoneScope) (is is' : List Interface) (fs : List Function) (rs : List Required) (xs : List SideItem) (inside : List Item) → IsFunctionPart files decls written cs gs es → slice_get cs t ≡ Some c → ((k : ℕ) (x : ResolvedScope) → slice_get ccs k ≡ Some x → (j : ℕ) × (slice_get (map resolved_scope_of cs) j ≡ Some x)) → AllDiffer (map address inside) → ((k : ℕ) (i : Item) → slice_get inside k ≡ Some i → IsFreshInside files decls cs ((count + length is) + k) i) → AddsSides ccs count c.address c.types es new is is' fs rs xs inside → AreSided files decls written cs gs (count + length is) c.address new is is' fs rs xs inside
 are_sided files decls written cs gs es new ccs count t c is is' fs rs [] inside d at known differ fresh a = rw (a.0, a.1, a.2, a.3) (sided_none files decls written cs gs (count + length is) c.address es is inside d)
 are_sided files decls written cs gs es new ccs count t c is is' fs rs (SideFunction fn ∷ xs) inside d at known differ fresh a =
     let step = function_step files decls written cs gs (count + length is) es a.0 new is is' fn a.1 a.2 a.3 a.4 xs inside d t c at a.7 in
-    let r = are_sided files decls (written ++ all_function_meetings c.address (fn ∷ [])) cs (gs ++ done_function c.address fn a.1 ∷ []) a.0 new ccs count t c is is' a.2 a.4 xs inside step at known differ fresh a.8 in
+    let r = are_sided files decls (written ++ all_function_occurrences c.address (fn ∷ [])) cs (gs ++ done_function c.address fn a.1 ∷ []) a.0 new ccs count t c is is' a.2 a.4 xs inside step at known differ fresh a.8 in
     let whole = sided_function files decls written cs gs (count + length is) es a.0 new is is' fn a.1 a.2 a.3 a.4 xs inside d t c at a.7 r in
     subst (λ (l : List Function). AreSided files decls written cs gs (count + length is) c.address new is is' l rs (SideFunction fn ∷ xs) inside) (sym a.5) (subst (λ (l : List Required). AreSided files decls written cs gs (count + length is) c.address new is is' (a.1 ∷ a.2) l (SideFunction fn ∷ xs) inside) (sym a.6) whole)
 are_sided files decls written cs gs es new ccs count t c is is' fs rs (SideLink link ∷ xs) inside d at known differ fresh a = sided_link files decls written cs gs (count + length is) c.address new is is' fs rs link xs inside (are_sided files decls written cs gs es new ccs count t c is is' fs rs xs inside d at known differ fresh a)
@@ -346,8 +346,8 @@ are_sided files decls written cs gs es new ccs count t c is is' fs rs (SideInlin
     let turn : Turned = turned (o files decls written cs gs ccs place es a.0 a.1 a.2 i d known first a.5) in
     let step = inline_step files decls written cs gs ccs place es a.0 a.1 a.2 i d known first a.5 in
     let longer : length (is ++ a.1 ∷ []) ≡ length is + 1 = length-append is (a.1 ∷ []) in
-    let known_more : (k : ℕ) (y : Cell) → slice_get ccs k ≡ Some y → (j : ℕ) × (slice_get (map cell_of (cs ++ next ∷ [])) j ≡ Some y) = λ k y h. (let it = known k y h in (it.0, ap (λ (l : List Cell). slice_get l it.0) (map-append cell_of cs (next ∷ [])) ∙ at_front (map cell_of cs) (map cell_of (next ∷ [])) it.0 y it.1)) in
+    let known_more : (k : ℕ) (y : ResolvedScope) → slice_get ccs k ≡ Some y → (j : ℕ) × (slice_get (map resolved_scope_of (cs ++ next ∷ [])) j ≡ Some y) = λ k y h. (let it = known k y h in (it.0, ap (λ (l : List ResolvedScope). slice_get l it.0) (map-append resolved_scope_of cs (next ∷ [])) ∙ at_prefix (map resolved_scope_of cs) (map resolved_scope_of (next ∷ [])) it.0 y it.1)) in
     let fresh_more = λ (k : ℕ) (j : Item) (h : slice_get inside k ≡ Some j). subst (λ (n : ℕ). IsFreshInside files decls (cs ++ next ∷ []) n j) (let same : (count + length is) + suc k ≡ (count + length (is ++ a.1 ∷ [])) + k = omega (arith, longer) in same) (fresh_later files decls cs ((count + length is) + suc k) j next (λ same. differ_head address i inside differ k j h (sym same)) (fresh (suc k) j h)) in
-    let r = are_sided files decls (written ++ turn_meetings turn) (cs ++ next ∷ []) (gs ++ scope_functions next) a.0 new ccs count t c (is ++ a.1 ∷ []) is' fs a.3 xs inside step (at_front cs (next ∷ []) t c at) known_more (differ_tail address i inside differ) fresh_more a.6 in
-    let spot : AreSided files decls (written ++ turn_meetings turn) (cs ++ next ∷ []) (gs ++ scope_functions next) (suc place) c.address new (is ++ a.1 ∷ []) is' fs a.3 xs inside = subst (λ (n : ℕ). AreSided files decls (written ++ turn_meetings turn) (cs ++ next ∷ []) (gs ++ scope_functions next) n c.address new (is ++ a.1 ∷ []) is' fs a.3 xs inside) (let same : count + length (is ++ a.1 ∷ []) ≡ suc (count + length is) = omega (arith, longer) in same) r in
+    let r = are_sided files decls (written ++ turn_occurrences turn) (cs ++ next ∷ []) (gs ++ scope_functions next) a.0 new ccs count t c (is ++ a.1 ∷ []) is' fs a.3 xs inside step (at_prefix cs (next ∷ []) t c at) known_more (differ_tail address i inside differ) fresh_more a.6 in
+    let spot : AreSided files decls (written ++ turn_occurrences turn) (cs ++ next ∷ []) (gs ++ scope_functions next) (suc place) c.address new (is ++ a.1 ∷ []) is' fs a.3 xs inside = subst (λ (n : ℕ). AreSided files decls (written ++ turn_occurrences turn) (cs ++ next ∷ []) (gs ++ scope_functions next) n c.address new (is ++ a.1 ∷ []) is' fs a.3 xs inside) (let same : count + length (is ++ a.1 ∷ []) ≡ suc (count + length is) = omega (arith, longer) in same) r in
     subst (λ (l : List Required). AreSided files decls written cs gs place c.address new is is' fs l (SideInline x name items ∷ xs) (i ∷ inside)) (sym a.4) (sided_inline files decls written cs gs ccs place es a.0 a.1 a.2 i d known first a.5 c.address new is is' fs a.3 x name items xs inside spot)

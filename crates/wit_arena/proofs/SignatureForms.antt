@@ -13,7 +13,7 @@ use Rattle.wit_type_tree.specs.declared.types.ResourceFunc.TheVariants as resour
 use Rattle.wit_tree.specs.declared.tree.PackageFile.{PackageFile}
 use Rattle.wit_syntax.specs.Shape.{Shape, Word, shape_of}
 use Rattle.wit_syntax.specs.Address.{Address}
-use Rattle.wit_syntax.specs.Source.{Item, item_at, Part, Defining, Using, Including, Doing, Crossing, parts}
+use Rattle.wit_syntax.specs.Source.{Item, item_at, Part, DefinitionPart, UsePart, IncludePart, FunctionPart, ExternPart, parts}
 use Rattle.wit_syntax.specs.Sides.{all_scopes}
 use Rattle.wit_syntax.specs.Function.{Role, SourceParam, SourceFunction, all_params, written_param, self_param, free_function, resource_function, definition_functions, part_functions, functions, signature, function_of, side_function}
 use Rattle.wit_arena.specs.Whole.{functions_at}
@@ -41,8 +41,8 @@ plain_params ps k p at =
 
 plain_signature : (fn : SourceFunction) → IsPlain fn → (k : ℕ) (x : Shape) → slice_get (signature fn) k ≡ Some x → AreAnonymous x
 plain_signature fn h k x at = elim (at_split (map (λ (p : SourceParam). p.shape) (all_params fn)) (option_to_list fn.result) k x at) [
-  | inl front ↦ (
-      let p = map_at (λ (p : SourceParam). p.shape) (all_params fn) k x front in
+  | inl prefix ↦ (
+      let p = map_at (λ (p : SourceParam). p.shape) (all_params fn) k x prefix in
       subst AreAnonymous p.2 (elim (at_split fn.given (map written_param fn.func.params.items) k p.0 p.1) [
         | inl g ↦ h.given k p.0 g
         | inr g ↦ plain_params fn.func.params.items g.0 p.0 g.2
@@ -87,16 +87,16 @@ plain_definition r (body.Enum span cases) k fn at = absurd (let f : ⊥ = cc in 
 plain_definition r (body.Plain t) k fn at = absurd (let f : ⊥ = cc in f)
 
 plain_part : (p : Part) (k : ℕ) (fn : SourceFunction) → slice_get (part_functions p) k ≡ Some fn → IsPlain fn
-plain_part (Defining d) k fn at = plain_definition d.name d.body k fn at
-plain_part (Using u) k fn at = absurd (let f : ⊥ = cc in f)
-plain_part (Including i) k fn at = absurd (let f : ⊥ = cc in f)
-plain_part (Crossing x) k fn at =
+plain_part (DefinitionPart d) k fn at = plain_definition d.name d.body k fn at
+plain_part (UsePart u) k fn at = absurd (let f : ⊥ = cc in f)
+plain_part (IncludePart i) k fn at = absurd (let f : ⊥ = cc in f)
+plain_part (ExternPart x) k fn at =
     let it = extern_at x x.kind k fn at in
     subst IsPlain it.2 (plain_of (side_function x.side x.docs x.attributes.items it.0 it.1).name (side_function x.side x.docs x.attributes.items it.0 it.1).role [] x.docs x.attributes.items it.0 it.1 none_given)
-plain_part (Doing g) zero fn at =
+plain_part (FunctionPart g) zero fn at =
     let same : free_function g ≡ fn = cc in
     subst IsPlain same (plain_with (free_function g).name (free_function g).role [] g none_given)
-plain_part (Doing g) (suc k) fn at = absurd (let f : ⊥ = cc in f)
+plain_part (FunctionPart g) (suc k) fn at = absurd (let f : ⊥ = cc in f)
 
 -- so it is in the functions of a scope
 pub signature_anonymous : (files : List PackageFile) (s : Address) (k : ℕ) (fn : SourceFunction) → slice_get (functions_at files s) k ≡ Some fn → (j : ℕ) (x : Shape) → slice_get (signature fn) j ≡ Some x → AreAnonymous x

@@ -1,4 +1,4 @@
--- What is met in functions, and the types of functions of the package.
+-- What occurs in functions, and the types of functions of the package.
 use Rattle.std.proofs.Common.{◌≡◌, ℕ, suc, List, [], ◌∷◌, ◌++◌, length, map, Some, inl, inr, refl, sym, ap, ◌∙◌, subst, length-append, arith}
 use Rattle.std.specs.Prelude.{slice_get}
 use Rattle.std.specs.List.{flat_map}
@@ -17,55 +17,55 @@ use Rattle.wit_syntax.specs.Address.{Address}
 use Rattle.wit_syntax.specs.Function.{Role, Freestanding, Method, Static, Constructor, OnSide, SourceParam, SourceFunction, all_params, signature}
 use Rattle.wit_arena.specs.Functions.{IsKind, IsFunction, AreFunctions, IsParam}
 use Rattle.wit_arena.specs.Expr.{Exprs, expr_of, exprs_of}
-use Rattle.wit_arena.specs.Meet.{Key, Def, Whole, Meeting, keys, Meets, IsAt, shape_meetings, shapes_meetings, all_function_meetings}
+use Rattle.wit_arena.specs.Occurrences.{Key, Def, Whole, Occurrence, keys, Collects, IsAt, shape_occurrences, shapes_occurrences, all_function_occurrences}
 use Rattle.wit_arena.specs.Package.{function_types}
-use Rattle.wit_arena.specs.Resolving.{Cell, Env, env_of, met, all_met, AreNames, AreKnown}
+use Rattle.wit_arena.specs.Resolving.{ResolvedScope, Env, env_of, seen, all_seen, AreNames, AreKnown}
 use Rattle.wit_arena.specs.Adding.{gathered}
 use Rattle.wit_syntax.proofs.Lists.{at_split, at_within, map_at}
 use Rattle.wit_arena.proofs.Keys.{keys-shape, keys-shapes}
-use Rattle.wit_arena.proofs.Meeting.{Has, has_either, keys-append, names_kept, no_defs}
-use Rattle.wit_arena.proofs.Places.{Grown, key_grown, at_grown}
+use Rattle.wit_arena.proofs.Occurrence.{Has, has_either, keys-append, names_kept, no_defs}
+use Rattle.wit_arena.proofs.Places.{Extended, key_extended, at_extended}
 use Rattle.wit_arena.specs.OneByOne.{OneByOne}
 
 -- the expressions in functions
 abbrev pub function_exprs : Address → List SourceFunction → Exprs
 function_exprs s fns = exprs_of s (gathered (flat_map signature fns))
 
-gathered_meetings : (s : Address) (xs : List Shape) → flat_map (shape_meetings s Unknown) xs ≡ shapes_meetings s Unknown (gathered xs)
-gathered_meetings s [] = refl
-gathered_meetings s (x ∷ xs) = ap (λ ms. shape_meetings s Unknown x ++ ms) (gathered_meetings s xs)
+gathered_occurrences : (s : Address) (xs : List Shape) → flat_map (shape_occurrences s Unknown) xs ≡ shapes_occurrences s Unknown (gathered xs)
+gathered_occurrences s [] = refl
+gathered_occurrences s (x ∷ xs) = ap (λ ms. shape_occurrences s Unknown x ++ ms) (gathered_occurrences s xs)
 
 flat_map_twice : {X Y Z : Type 0} (g : Y → List Z) (f : X → List Y) (xs : List X) → flat_map (λ x. flat_map g (f x)) xs ≡ flat_map g (flat_map f xs)
 flat_map_twice g f [] = refl
 flat_map_twice g f (x ∷ xs) = ap (λ zs. flat_map g (f x) ++ zs) (flat_map_twice g f xs) ∙ sym (flat_map-append g (f x) (flat_map f xs))
 
--- what is met in functions are the unnamed expressions in them
-pub function_keys : (s : Address) (fns : List SourceFunction) → keys (all_function_meetings s fns) ≡ all_met (function_exprs s fns)
-function_keys s fns = ap keys (flat_map_twice (shape_meetings s Unknown) signature fns ∙ gathered_meetings s (flat_map signature fns)) ∙ keys-shapes s Unknown (gathered (flat_map signature fns))
+-- what occurs in functions are the unnamed expressions in them
+pub function_keys : (s : Address) (fns : List SourceFunction) → keys (all_function_occurrences s fns) ≡ all_seen (function_exprs s fns)
+function_keys s fns = ap keys (flat_map_twice (shape_occurrences s Unknown) signature fns ∙ gathered_occurrences s (flat_map signature fns)) ∙ keys-shapes s Unknown (gathered (flat_map signature fns))
 
--- no name is met in functions
-pub no_name_in_functions : (s : Address) (fns : List SourceFunction) (t : Address) (name : List ℕ) → Has (keys (all_function_meetings s fns)) (Def t name) → ⊥
+-- no name occurs in functions
+pub no_name_in_functions : (s : Address) (fns : List SourceFunction) (t : Address) (name : List ℕ) → Has (keys (all_function_occurrences s fns)) (Def t name) → ⊥
 no_name_in_functions s fns t name h = no_defs (function_exprs s fns) t name (subst (λ (ks : List Key). Has ks (Def t name)) (function_keys s fns) h)
 
--- so names stand for their places once functions were met
-pub names_beside : (s : Address) (fns : List SourceFunction) (a b : List Meeting) (t : Address) (env : Env) → Meets a (all_function_meetings s fns) b → AreNames (keys a) t env → AreNames (keys b) t env
-names_beside s fns a b t env h names = names_kept a b (all_function_meetings s fns) t env (function_exprs s fns) (function_keys s fns) h names
+-- so names mean their places once functions occurred
+pub names_beside : (s : Address) (fns : List SourceFunction) (a b : List Occurrence) (t : Address) (env : Env) → Collects a (all_function_occurrences s fns) b → AreNames (keys a) t env → AreNames (keys b) t env
+names_beside s fns a b t env h names = names_kept a b (all_function_occurrences s fns) t env (function_exprs s fns) (function_keys s fns) h names
 
-pub known_beside : (s : Address) (fns : List SourceFunction) (a b : List Meeting) (t : Address) (cs : List Cell) → Meets a (all_function_meetings s fns) b → AreKnown (keys a) t cs → AreKnown (keys b) t cs
+pub known_beside : (s : Address) (fns : List SourceFunction) (a b : List Occurrence) (t : Address) (cs : List ResolvedScope) → Collects a (all_function_occurrences s fns) b → AreKnown (keys a) t cs → AreKnown (keys b) t cs
 known_beside s fns a b t cs h known = record {
   names = λ i c at. names_beside s fns a b c.address (env_of c.types) h (known.names i c at);
   others = known.others;
 }
 
--- a type that is met in a list of types is met in one of them
-whole_in_shapes : (s : Address) (xs : List Shape) (form : Form) (parts : Exprs) → Has (keys (flat_map (shape_meetings s Unknown) xs)) (Whole form parts) → (j : ℕ) × (x : Shape) × (slice_get xs j ≡ Some x) × Has (met (expr_of s x)) (Whole form parts)
+-- a type that occurs in a list of types occurs in one of them
+whole_in_shapes : (s : Address) (xs : List Shape) (form : Form) (parts : Exprs) → Has (keys (flat_map (shape_occurrences s Unknown) xs)) (Whole form parts) → (j : ℕ) × (x : Shape) × (slice_get xs j ≡ Some x) × Has (seen (expr_of s x)) (Whole form parts)
 whole_in_shapes s [] form parts h = absurd h
-whole_in_shapes s (x ∷ xs) form parts h = elim (has_either (keys (shape_meetings s Unknown x)) (keys (flat_map (shape_meetings s Unknown) xs)) (Whole form parts) (subst (λ (ks : List Key). Has ks (Whole form parts)) (keys-append (shape_meetings s Unknown x) (flat_map (shape_meetings s Unknown) xs)) h)) [
+whole_in_shapes s (x ∷ xs) form parts h = elim (has_either (keys (shape_occurrences s Unknown x)) (keys (flat_map (shape_occurrences s Unknown) xs)) (Whole form parts) (subst (λ (ks : List Key). Has ks (Whole form parts)) (keys-append (shape_occurrences s Unknown x) (flat_map (shape_occurrences s Unknown) xs)) h)) [
   | inl first ↦ (0, x, refl, subst (λ (ks : List Key). Has ks (Whole form parts)) (keys-shape s Unknown x) first)
   | inr rest ↦ (let it = whole_in_shapes s xs form parts rest in (suc it.0, it.1, it.2, it.3))
 ]
 
--- an unnamed type that is met in functions is written in the signature of one
+-- an unnamed type that occurs in functions is written in the signature of one
 pub record IsInFunctions (s : Address) (fns : List SourceFunction) (form : Form) (parts : Exprs) : Type 0 where
   pub index : ℕ
   pub fn : SourceFunction
@@ -73,40 +73,40 @@ pub record IsInFunctions (s : Address) (fns : List SourceFunction) (form : Form)
   pub position : ℕ
   pub shape : Shape
   pub written : slice_get (signature fn) position ≡ Some shape
-  pub has : Has (met (expr_of s shape)) (Whole form parts)
+  pub has : Has (seen (expr_of s shape)) (Whole form parts)
 
-pub whole_in_functions : (s : Address) (fns : List SourceFunction) (form : Form) (parts : Exprs) → Has (keys (all_function_meetings s fns)) (Whole form parts) → IsInFunctions s fns form parts
+pub whole_in_functions : (s : Address) (fns : List SourceFunction) (form : Form) (parts : Exprs) → Has (keys (all_function_occurrences s fns)) (Whole form parts) → IsInFunctions s fns form parts
 whole_in_functions s [] form parts h = absurd h
-whole_in_functions s (fn ∷ fns) form parts h = elim (has_either (keys (flat_map (shape_meetings s Unknown) (signature fn))) (keys (all_function_meetings s fns)) (Whole form parts) (subst (λ (ks : List Key). Has ks (Whole form parts)) (keys-append (flat_map (shape_meetings s Unknown) (signature fn)) (all_function_meetings s fns)) h)) [
+whole_in_functions s (fn ∷ fns) form parts h = elim (has_either (keys (flat_map (shape_occurrences s Unknown) (signature fn))) (keys (all_function_occurrences s fns)) (Whole form parts) (subst (λ (ks : List Key). Has ks (Whole form parts)) (keys-append (flat_map (shape_occurrences s Unknown) (signature fn)) (all_function_occurrences s fns)) h)) [
   | inl first ↦ (let it = whole_in_shapes s (signature fn) form parts first in record { index = 0; fn = fn; among = refl; position = it.0; shape = it.1; written = it.2; has = it.3 })
   | inr rest ↦ (let it = whole_in_functions s fns form parts rest in record { index = suc it.index; fn = it.fn; among = it.among; position = it.position; shape = it.shape; written = it.written; has = it.has })
 ]
 
 -- a function is the written one over more keys, too
-kind_grown : {a b : List Key} → Grown a b → (s : Address) (role : Role) (k : FunctionKind) → IsKind a s role k → IsKind b s role k
-kind_grown g s (Freestanding id form) k h = h
-kind_grown g s (Method of form) k h = (h.0, h.1, key_grown g h.0 (Def s of.name.now) h.2)
-kind_grown g s (Static of form) k h = (h.0, h.1, key_grown g h.0 (Def s of.name.now) h.2)
-kind_grown g s (Constructor of) k h = (h.0, h.1, key_grown g h.0 (Def s of.name.now) h.2)
-kind_grown g s (OnSide side id form) k h = h
+kind_extended : {a b : List Key} → Extended a b → (s : Address) (role : Role) (k : FunctionKind) → IsKind a s role k → IsKind b s role k
+kind_extended g s (Freestanding id form) k h = h
+kind_extended g s (Method of form) k h = (h.0, h.1, key_extended g h.0 (Def s of.name.now) h.2)
+kind_extended g s (Static of form) k h = (h.0, h.1, key_extended g h.0 (Def s of.name.now) h.2)
+kind_extended g s (Constructor of) k h = (h.0, h.1, key_extended g h.0 (Def s of.name.now) h.2)
+kind_extended g s (OnSide side id form) k h = h
 
-pub function_grown : {a b : List Key} → Grown a b → (s : Address) (fn : SourceFunction) (f : Function) → IsFunction a s fn f → IsFunction b s fn f
-function_grown g s fn f h = record {
+pub function_extended : {a b : List Key} → Extended a b → (s : Address) (fn : SourceFunction) (f : Function) → IsFunction a s fn f → IsFunction b s fn f
+function_extended g s fn f h = record {
   name = h.name;
-  kind = kind_grown g s fn.role f.kind h.kind;
+  kind = kind_extended g s fn.role f.kind h.kind;
   params = record {
     count = h.params.count;
-    each = λ k w p at there. (let it = h.params.each k w p at there in (it.0, it.1, at_grown g (expr_of s w.shape) p.ty it.2));
+    each = λ k w p at there. (let it = h.params.each k w p at there in (it.0, it.1, at_extended g (expr_of s w.shape) p.ty it.2));
   };
-  result = record { count = h.result.count; each = λ k x t at there. at_grown g (expr_of s x) t (h.result.each k x t at there) };
+  result = record { count = h.result.count; each = λ k x t at there. at_extended g (expr_of s x) t (h.result.each k x t at there) };
   span = h.span;
-  notes = h.notes;
+  metadata = h.metadata;
 }
 
-pub functions_grown : {a b : List Key} → Grown a b → (s : Address) (fns : List SourceFunction) (fs : List Function) → AreFunctions a s fns fs → AreFunctions b s fns fs
-functions_grown g s fns fs h = record { count = h.count; each = λ k fn f at there. function_grown g s fn f (h.each k fn f at there) }
+pub functions_extended : {a b : List Key} → Extended a b → (s : Address) (fns : List SourceFunction) (fs : List Function) → AreFunctions a s fns fs → AreFunctions b s fns fs
+functions_extended g s fns fs h = record { count = h.count; each = λ k fn f at there. function_extended g s fn f (h.each k fn f at there) }
 
--- types stand at the places of shapes, one for each
+-- types are at the places of shapes, one for each
 pub record AreTyped (ks : List Key) (s : Address) (xs : List Shape) (ts : List Ty) : Type 0 where
   pub count : length ts ≡ length xs
   pub each : (k : ℕ) (x : Shape) (t : Ty) → slice_get xs k ≡ Some x → slice_get ts k ≡ Some t → IsAt ks (expr_of s x) t
@@ -140,7 +140,7 @@ params_typed ks s written ps h = record {
       subst (λ (y : Shape). IsAt ks (expr_of s y) t) w.2 (subst (IsAt ks (expr_of s w.0.shape)) p.2 (h.each k w.0 p.0 w.1 p.1).2));
 }
 
--- the types of a function of the package stand at the places of its signature
+-- the types of a function of the package are at the places of its signature
 pub function_typed : (ks : List Key) (s : Address) (fn : SourceFunction) (f : Function) → IsFunction ks s fn f → AreTyped ks s (signature fn) (function_types f)
 function_typed ks s fn f h = typed_append ks s (map (λ p. p.shape) (all_params fn)) (option_to_list fn.result) (map (λ (x : Param). x.ty) f.params) (option_to_list f.result) (params_typed ks s (all_params fn) f.params h.params) (record { count = h.result.count; each = h.result.each })
 

@@ -8,8 +8,8 @@ use Rattle.wit_tree.specs.declared.tree.PackageFile.{PackageFile}
 use Rattle.wit_syntax.specs.Fault.{Fault}
 use Rattle.wit_syntax.specs.Source.{interface_part, Item, all_items, about}
 use Rattle.wit_syntax.specs.Scope.{part_includes, includes}
-use Rattle.wit_syntax.specs.Notes.{IsBrokenStability}
-use Rattle.wit_syntax.specs.Sides.{SideInline, side_items, inline_items, IsBrokenSides, InterfaceNotes}
+use Rattle.wit_syntax.specs.Metadata.{IsBrokenStability}
+use Rattle.wit_syntax.specs.Sides.{SideInline, side_items, inline_items, IsBrokenSides, InterfaceMetadata}
 use Rattle.std.specs.List.{flat_map}
 use Rattle.wit_syntax.specs.Broken.{IsBroken, ItemStability, IncludeStability}
 use Rattle.wit_arena.specs.Resolved.{IsBrokenItemStability, OwnStability, OfInclude}
@@ -25,7 +25,7 @@ stability_broken files w here f (OfInclude n among h) = IncludeStability w here 
 pub inline_stability : (w : Item) (k : ℕ) (i : Item) → slice_get (inline_items w) k ≡ Some i → (f : Fault) → IsBrokenItemStability i f → IsBrokenSides w f
 inline_stability w k i at f (OwnStability h) =
     let it = inline_items_at w k i at in
-    InterfaceNotes (SideInline it.x it.name it.items) (contains_at (side_items w) it.place (SideInline it.x it.name it.items) it.at) (inl (subst (λ (v : Item). IsBrokenStability (about v.declared).attributes f) (sym it.is) h))
+    InterfaceMetadata (SideInline it.x it.name it.items) (contains_at (side_items w) it.place (SideInline it.x it.name it.items) it.at) (inl (subst (λ (v : Item). IsBrokenStability (about v.declared).attributes f) (sym it.is) h))
 inline_stability w k i at f (OfInclude n among h) =
     let it = inline_items_at w k i at in
     absurd (none_included it.items n (subst (λ (v : Item). Contains (includes v) n) (sym it.is) among))

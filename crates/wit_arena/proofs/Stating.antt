@@ -24,7 +24,7 @@ use Rattle.wit_arena.specs.SideItems.{AreSideItems, settled}
 use Rattle.wit_arena.specs.Package.{import_types, item_functions, keyed, interface_functions, world_functions}
 use Rattle.wit_arena.specs.Whole.{type_imports}
 use Rattle.wit_arena.specs.Resolving.{Names}
-use Rattle.wit_syntax.proofs.Lists.{at_front, at_back, at_split, map_at}
+use Rattle.wit_syntax.proofs.Lists.{at_prefix, at_back, at_split, map_at}
 use Rattle.wit_arena.proofs.FreeNames.{made_key, AreStated}
 use Rattle.wit_arena.proofs.MadeOn.{made_on, made_on_has, made_on_pair}
 use Rattle.wit_arena.proofs.SideItems.{side_functions}
@@ -34,7 +34,7 @@ use Rattle.wit_arena.proofs.Settled.{moved, settled_at, settled_has}
 abbrev Entry : Type 0
 Entry = WorldKey × WorldItem
 
--- what stands in one list stands in the other
+-- what is in one list is in the other
 abbrev AreAmong : List Entry → List Entry → Type 0
 AreAmong xs ys = (k : ℕ) (x : Entry) → slice_get xs k ≡ Some x → (j : ℕ) × (slice_get ys j ≡ Some x)
 
@@ -55,16 +55,16 @@ no_functions_of [] (t ∷ types) = refl
 no_functions_of (x ∷ xs) [] = refl
 no_functions_of (x ∷ xs) ((name, id) ∷ types) = no_functions_of xs types
 
--- the types among imports, where nothing behind them is one
-pub world_types-all : (xs : List ScopeName) (types : Names) (behind : List (WorldKey × WorldItem)) → map (λ p. p.0) types ≡ local_names xs → flat_map import_types behind ≡ [] → flat_map import_types (type_imports xs types ++ behind) ≡ types
-world_types-all xs types behind listed none = flat_map-append import_types (type_imports xs types) behind ∙ ap (λ (l : Names). l ++ flat_map import_types behind) (world_types_of xs types listed) ∙ ap (λ (l : Names). types ++ l) none ∙ append-nil types
+-- the types among imports, where nothing after them is one
+pub world_types-all : (xs : List ScopeName) (types : Names) (rest_after : List (WorldKey × WorldItem)) → map (λ p. p.0) types ≡ local_names xs → flat_map import_types rest_after ≡ [] → flat_map import_types (type_imports xs types ++ rest_after) ≡ types
+world_types-all xs types rest_after listed none = flat_map-append import_types (type_imports xs types) rest_after ∙ ap (λ (l : Names). l ++ flat_map import_types rest_after) (world_types_of xs types listed) ∙ ap (λ (l : Names). types ++ l) none ∙ append-nil types
 
 -- the functions among imports and exports, where these were made of the written ones
 abbrev both_sides : List SourceFunction → List Function → List (FunctionKey × Function)
 both_sides fns fs = map (keyed Imported) (map by_name (made_on Imported fns fs)) ++ map (keyed Exported) (map by_name (made_on Exported fns fs))
 
-import_functions-all : (xs : List ScopeName) (types : Names) (behind : List (WorldKey × WorldItem)) → flat_map item_functions (type_imports xs types ++ behind) ≡ flat_map item_functions behind
-import_functions-all xs types behind = flat_map-append item_functions (type_imports xs types) behind ∙ ap (λ (l : List (List ℕ × Function)). l ++ flat_map item_functions behind) (no_functions_of xs types)
+import_functions-all : (xs : List ScopeName) (types : Names) (rest_after : List (WorldKey × WorldItem)) → flat_map item_functions (type_imports xs types ++ rest_after) ≡ flat_map item_functions rest_after
+import_functions-all xs types rest_after = flat_map-append item_functions (type_imports xs types) rest_after ∙ ap (λ (l : List (List ℕ × Function)). l ++ flat_map item_functions rest_after) (no_functions_of xs types)
 
 -- those of a side under their names
 side_has : (side : WorldSide) (fns : List SourceFunction) (fs : List Function) (k : ℕ) (fn : SourceFunction) (f : Function) → slice_get fns k ≡ Some fn → slice_get fs k ≡ Some f → role_side fn.role ≡ side → (place : ℕ) × (slice_get (map (keyed side) (map by_name (made_on side fns fs))) place ≡ Some (made_key fn f, f))
@@ -76,7 +76,7 @@ side_has side fns fs k fn f at there is =
 abbrev at_side : WorldSide → List ℕ → FunctionKey
 at_side side name = (side, name)
 
--- what a function goes by, where it stands on a side under its name
+-- what a function goes by, where it is on a side under its name
 goes_by : (side : WorldSide) (x fn : SourceFunction) (name : List ℕ) (g f : Function) (key : FunctionKey) → Some x ≡ Some fn → role_side fn.role ≡ side → g.name ≡ name → keyed side (name, g) ≡ (key, f) → made_key x f ≡ key
 goes_by side x fn name g f key both is named whole =
     let own : x ≡ fn = cc in
@@ -98,11 +98,11 @@ side_from side fns fs place key f at =
 stated_has : (side : WorldSide) (fns : List SourceFunction) (fs : List Function) (k : ℕ) (fn : SourceFunction) (f : Function) → slice_get fns k ≡ Some fn → slice_get fs k ≡ Some f → role_side fn.role ≡ side → (place : ℕ) × (slice_get (both_sides fns fs) place ≡ Some (made_key fn f, f))
 stated_has Imported fns fs k fn f at there is =
     let it = side_has Imported fns fs k fn f at there is in
-    (it.0, at_front (map (keyed Imported) (map by_name (made_on Imported fns fs))) (map (keyed Exported) (map by_name (made_on Exported fns fs))) it.0 (made_key fn f, f) it.1)
+    (it.0, at_prefix (map (keyed Imported) (map by_name (made_on Imported fns fs))) (map (keyed Exported) (map by_name (made_on Exported fns fs))) it.0 (made_key fn f, f) it.1)
 stated_has Exported fns fs k fn f at there is =
     let it = side_has Exported fns fs k fn f at there is in
-    let front = map (keyed Imported) (map by_name (made_on Imported fns fs)) in
-    (length front + it.0, at_back front (map (keyed Exported) (map by_name (made_on Exported fns fs))) it.0 (made_key fn f, f) it.1)
+    let prefix = map (keyed Imported) (map by_name (made_on Imported fns fs)) in
+    (length prefix + it.0, at_back prefix (map (keyed Exported) (map by_name (made_on Exported fns fs))) it.0 (made_key fn f, f) it.1)
 
 -- those of both sides are stated
 stated_on_sides : (fns : List SourceFunction) (fs : List Function) → AreStated fns fs (both_sides fns fs)
@@ -114,7 +114,7 @@ stated_on_sides fns fs = record {
   ];
 }
 
--- what is stated may stand in another order
+-- what is stated may be in another order
 stated_moved : (fns : List SourceFunction) (fs : List Function) (xs ys : List (FunctionKey × Function)) → ((k : ℕ) (x : FunctionKey × Function) → slice_get xs k ≡ Some x → (j : ℕ) × (slice_get ys j ≡ Some x)) → ((k : ℕ) (x : FunctionKey × Function) → slice_get ys k ≡ Some x → (j : ℕ) × (slice_get xs j ≡ Some x)) → AreStated fns fs xs → AreStated fns fs ys
 stated_moved fns fs xs ys there back h = record {
   has = λ k fn f at made. (let it = h.has k fn f at made in there it.0 (made_key fn f, f) it.1);
@@ -132,7 +132,7 @@ side_moved side xs ys among k x at =
 
 sides_moved : (xs xs' ys ys' : List Entry) → AreAmong xs xs' → AreAmong ys ys' → (k : ℕ) (x : FunctionKey × Function) → slice_get (of_side Imported xs ++ of_side Exported ys) k ≡ Some x → (j : ℕ) × (slice_get (of_side Imported xs' ++ of_side Exported ys') j ≡ Some x)
 sides_moved xs xs' ys ys' first second k x at = elim (at_split (of_side Imported xs) (of_side Exported ys) k x at) [
-  | inl h ↦ (let it = side_moved Imported xs xs' first k x h in (it.0, at_front (of_side Imported xs') (of_side Exported ys') it.0 x it.1))
+  | inl h ↦ (let it = side_moved Imported xs xs' first k x h in (it.0, at_prefix (of_side Imported xs') (of_side Exported ys') it.0 x it.1))
   | inr h ↦ (let it = side_moved Exported ys ys' second h.0 x h.2 in (length (of_side Imported xs') + it.0, at_back (of_side Imported xs') (of_side Exported ys') it.0 x it.1))
 ]
 

@@ -1,20 +1,20 @@
--- Words for what the definitions of meetings, of turns and of kinds say in place.
+-- Words for what the definitions of occurrences, of turns and of kinds say in place.
 use Rattle.std.specs.Prelude.{ℕ, List, [], ◌∷◌, map}
 use Rattle.std.specs.List.{flat_map, filter}
 use Rattle.wit_types.specs.declared.stability.Stability.{Stability}
 use Rattle.wit_tree.specs.declared.tree.PackageFile.{PackageFile}
 use Rattle.wit_model.specs.declared.ast_item.AstItem.{AstItem}
 use Rattle.wit_syntax.specs.Address.{Address, same_address}
-use Rattle.wit_syntax.specs.Notes.{stability_of}
+use Rattle.wit_syntax.specs.Metadata.{stability_of}
 use Rattle.wit_syntax.specs.Source.{Item, ScopeName, about_name}
-use Rattle.wit_syntax.specs.Trees.{scope}
+use Rattle.wit_syntax.specs.ScopesOfTrees.{scope}
 use Rattle.wit_syntax.specs.Foreign.{ForeignVisit, visited, foreign_visits}
 use Rattle.wit_syntax.specs.Function.{SourceFunction}
 use Rattle.wit_type_tree.specs.declared.types.FuncForm.{FuncForm}
 use Rattle.wit_functions.specs.declared.function.FunctionKind.{FunctionKind}
 use Rattle.wit_arena.specs.Functions.{kinds_of}
-use Rattle.wit_arena.specs.Meet.{Meeting, shapes_meetings, name_meetings}
-use Rattle.wit_arena.specs.Whole.{Ordered, OrderedWorld, Turned, turn_meetings, foreign_entry}
+use Rattle.wit_arena.specs.Occurrences.{Occurrence, shapes_occurrences, name_occurrences}
+use Rattle.wit_arena.specs.Whole.{Ordered, OrderedWorld, Turned, turn_occurrences, foreign_entry}
 use Rattle.std.specs.Option.{unwrap_or}
 
 abbrev pub item_of : Ordered → Item
@@ -34,16 +34,16 @@ function_turn s fn = record { address = s; names = []; functions = fn ∷ [] }
 abbrev pub foreign_turned : List PackageFile → ForeignVisit → Turned
 foreign_turned files v = names_turn (visited v) (scope files (visited v))
 
--- what is met in the parts of a name of a scope
-abbrev pub parts_meetings : Address → ScopeName → List Meeting
-parts_meetings s x = shapes_meetings (unwrap_or (about_name x).from s) (about_name x).notes.stability (about_name x).body.parts
+-- what occurs in the parts of a name of a scope
+abbrev pub parts_occurrences : Address → ScopeName → List Occurrence
+parts_occurrences s x = shapes_occurrences (unwrap_or (about_name x).from s) (about_name x).metadata.stability (about_name x).body.parts
 
--- what is met in names of a scope, and in scopes, in order
-abbrev pub all_name_meetings : Address → List ScopeName → List Meeting
-all_name_meetings s xs = flat_map (name_meetings s) xs
+-- what occurs in names of a scope, and in scopes, in order
+abbrev pub all_name_occurrences : Address → List ScopeName → List Occurrence
+all_name_occurrences s xs = flat_map (name_occurrences s) xs
 
-abbrev pub meetings : List Turned → List Meeting
-meetings ts = flat_map turn_meetings ts
+abbrev pub occurrences : List Turned → List Occurrence
+occurrences ts = flat_map turn_occurrences ts
 
 -- an item of another package by its name, with its entry and the stability of each of its visits
 abbrev pub dep_item : List PackageFile → ForeignVisit → List ℕ × (AstItem × List Stability)

@@ -1,4 +1,4 @@
--- Names that stand for nothing yet.
+-- Names that mean nothing yet.
 use Rattle.std.proofs.Common.{◌≡◌, [], ◌∷◌, None, refl, arith}
 use Rattle.wit_type_tree.specs.declared.leaves.Id.{Id}
 use Rattle.wit_syntax.specs.Fault.{Fault, missing_type_at}

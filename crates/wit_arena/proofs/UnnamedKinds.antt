@@ -9,7 +9,7 @@ use Rattle.wit_types.specs.declared.types.TypeDefKind.TheVariants as kind
 use Rattle.wit_syntax.specs.Form.{Form, BorrowForm, TupleForm, OptionForm, ResultForm, ListForm, MapForm, FixedLengthListForm, FutureForm, StreamForm}
 use Rattle.wit_arena.specs.Kind.{kind_of}
 use Rattle.wit_arena.specs.Faithful.{IsAnonymousForm}
-use Rattle.wit_arena.proofs.Meeting.{IsOnly}
+use Rattle.wit_arena.proofs.Occurrence.{IsOnly}
 
 -- the kind of an unnamed type from its form and parts
 abbrev kind_from : Form → List Ty → TypeDefKind

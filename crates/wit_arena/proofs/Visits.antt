@@ -17,14 +17,14 @@ use Rattle.wit_tree.specs.declared.tree.WorldSide.{WorldSide}
 use Rattle.wit_tree.specs.declared.tree.WorldSide.TheVariants.{Imported, Exported}
 use Rattle.wit_package_names.specs.declared.package_name.PackageName.{PackageName}
 use Rattle.wit_syntax.specs.Address.{Address, ForeignNamed, package_of, same_address, is_foreign}
-use Rattle.wit_syntax.specs.Crossing.{extern_paths, inline_uses}
-use Rattle.wit_syntax.specs.Source.{Local, Foreign, Defining, Using, Including, Doing, Crossing, TopName, top_name, top_names, top_text, leads, Part, Item, declared_items, file_items, all_items, address, parts, TheInterface, TheWorld, at_side, walk}
+use Rattle.wit_syntax.specs.ExternPart.{extern_paths, inline_uses}
+use Rattle.wit_syntax.specs.Source.{Local, Foreign, DefinitionPart, UsePart, IncludePart, FunctionPart, ExternPart, TopName, top_name, top_names, top_text, leads, Part, Item, declared_items, file_items, all_items, address, parts, TheInterface, TheWorld, at_side, walk}
 use Rattle.wit_syntax.specs.Foreign.{ForeignVisit, visited, path_visits, part_visits, extern_visits, declaration_visits, file_visits, foreign_visits, same_item, foreign_items, foreign_interfaces, foreign_worlds, foreign_at}
 use Rattle.wit_syntax.specs.Scope.{use_path, use_paths, part_uses, uses}
 use Rattle.wit_syntax.specs.Broken.{is_world_at}
 use Rattle.wit_arena.specs.Resolved.{AreUsableUses}
 use Rattle.wit_syntax.specs.Repeats.{AllDiffer}
-use Rattle.wit_syntax.proofs.Lists.{at_front, at_back, map_at, flat_map_at, flat_map_has}
+use Rattle.wit_syntax.proofs.Lists.{at_prefix, at_back, map_at, flat_map_at, flat_map_has}
 use Rattle.wit_syntax.proofs.Addresses.{side_itself, same_address-from, same_address-equal}
 use Rattle.wit_syntax.proofs.Repeated.{differ_at, differ_join}
 use Rattle.wit_syntax.proofs.Kept.{kept_at, kept_has, kept_differ}
@@ -49,7 +49,7 @@ visit-equal : (u v : ForeignVisit) → same_item u v ≡ true → visited u ≡ 
 visit-equal u v h = same_address-equal (visited u) (visited v) h
 
 module _ (files : List PackageFile) where
-  -- no item stands twice
+  -- no item is twice
   pub visits_differ : AllDiffer (map visited (foreign_items files))
   visits_differ = firsts_differ same_item visited visit-from visit-equal (foreign_visits files)
 
@@ -101,14 +101,14 @@ module _ (files : List PackageFile) where
   pub visit_listed : (k : ℕ) (v : ForeignVisit) → slice_get (foreign_visits files) k ≡ Some v → (p : ℕ) × (u : ForeignVisit) × (slice_get (foreign_items files) p ≡ Some u) × (visited u ≡ visited v)
   visit_listed k v at = firsts_has same_item visited visit-from visit-equal (foreign_visits files) k v at
 
--- two lists of addresses behind others that are foreign
+-- two lists of addresses after others that are foreign
 pub addresses_join : (cs ds is ws : List Address) → AreAddresses cs ds → AreAddresses is ws → ((i : ℕ) (s : Address) → slice_get cs i ≡ Some s → is_foreign s ≡ true) → ((i : ℕ) (s : Address) → slice_get ds i ≡ Some s → is_foreign s ≡ true) → ((i : ℕ) (s : Address) → slice_get is i ≡ Some s → is_foreign s ≡ false) → ((i : ℕ) (s : Address) → slice_get ws i ≡ Some s → is_foreign s ≡ false) → AreAddresses (cs ++ is) (ds ++ ws)
-addresses_join cs ds is ws front back cs_foreign ds_foreign is_own ws_own = record {
-  interfaces = differ_join cs is front.interfaces back.interfaces (λ i j s at_i at_j. never_both s (cs_foreign i s at_i) (is_own j s at_j));
-  worlds = differ_join ds ws front.worlds back.worlds (λ i j s at_i at_j. never_both s (ds_foreign i s at_i) (ws_own j s at_j));
+addresses_join cs ds is ws prefix back cs_foreign ds_foreign is_own ws_own = record {
+  interfaces = differ_join cs is prefix.interfaces back.interfaces (λ i j s at_i at_j. never_both s (cs_foreign i s at_i) (is_own j s at_j));
+  worlds = differ_join ds ws prefix.worlds back.worlds (λ i j s at_i at_j. never_both s (ds_foreign i s at_i) (ws_own j s at_j));
   apart = λ i j s at_i at_j. elim (at_part cs is i s at_i) [
     | inl a ↦ elim (at_part ds ws j s at_j) [
-      | inl b ↦ front.apart a.0 b.0 s a.1 b.1
+      | inl b ↦ prefix.apart a.0 b.0 s a.1 b.1
       | inr w ↦ never_both s (cs_foreign a.0 s a.1) (ws_own w.0 s w.1)
     ]
     | inr b ↦ elim (at_part ds ws j s at_j) [
@@ -206,17 +206,17 @@ path_among files q w attributes world from p id at among lead = by_path (item_or
 pub path_visited : (files : List PackageFile) (q : ℕ) (w : Item) (m : ℕ) (x : Part) (attributes : List Attribute) (world : Bool) (from : UsePath) (p : PackageName) (id : Id) → slice_get (all_items files) q ≡ Some w → slice_get (parts w) m ≡ Some x → part_visits x ≡ path_visits attributes world from → leads w.top from ≡ Foreign p id → IsVisited files p id
 path_visited files q w m x attributes world from p id at part visits lead = path_among files q w attributes world from p id at (λ v first. (
     let inner = flat_map_has part_visits (parts w) m 0 x v part (ap (λ (l : List ForeignVisit). slice_get l 0) visits ∙ first) in
-    (inner.0, at_front (flat_map part_visits (parts w)) (flat_map (at_side extern_visits Imported) (parts w) ++ flat_map (at_side extern_visits Exported) (parts w)) inner.0 v inner.1))) lead
+    (inner.0, at_prefix (flat_map part_visits (parts w)) (flat_map (at_side extern_visits Imported) (parts w) ++ flat_map (at_side extern_visits Exported) (parts w)) inner.0 v inner.1))) lead
 
--- what stands for a side stands behind a front, and the other way round
-pub side_has : {Y : Type 0} (front : List Y) (of : WorldSide → List Y) (side : WorldSide) (j : ℕ) (y : Y) → slice_get (of side) j ≡ Some y → (k : ℕ) × (slice_get (front ++ (of Imported ++ of Exported)) k ≡ Some y)
-side_has front of Imported j y at = (length front + j, at_back front (of Imported ++ of Exported) j y (at_front (of Imported) (of Exported) j y at))
-side_has front of Exported j y at = (length front + (length (of Imported) + j), at_back front (of Imported ++ of Exported) (length (of Imported) + j) y (at_back (of Imported) (of Exported) j y at))
+-- what means a side comes after a prefix, and the other way round
+pub side_has : {Y : Type 0} (prefix : List Y) (of : WorldSide → List Y) (side : WorldSide) (j : ℕ) (y : Y) → slice_get (of side) j ≡ Some y → (k : ℕ) × (slice_get (prefix ++ (of Imported ++ of Exported)) k ≡ Some y)
+side_has prefix of Imported j y at = (length prefix + j, at_back prefix (of Imported ++ of Exported) j y (at_prefix (of Imported) (of Exported) j y at))
+side_has prefix of Exported j y at = (length prefix + (length (of Imported) + j), at_back prefix (of Imported ++ of Exported) (length (of Imported) + j) y (at_back (of Imported) (of Exported) j y at))
 
-pub side_at : {Y : Type 0} (front : List Y) (of : WorldSide → List Y) (k : ℕ) (y : Y) → slice_get (front ++ (of Imported ++ of Exported)) k ≡ Some y → ((j : ℕ) × (slice_get front j ≡ Some y)) ⊎ ((side : WorldSide) × (j : ℕ) × (slice_get (of side) j ≡ Some y))
-side_at front of k y at = elim (at_part front (of Imported ++ of Exported) k y at) [
+pub side_at : {Y : Type 0} (prefix : List Y) (of : WorldSide → List Y) (k : ℕ) (y : Y) → slice_get (prefix ++ (of Imported ++ of Exported)) k ≡ Some y → ((j : ℕ) × (slice_get prefix j ≡ Some y)) ⊎ ((side : WorldSide) × (j : ℕ) × (slice_get (of side) j ≡ Some y))
+side_at prefix of k y at = elim (at_part prefix (of Imported ++ of Exported) k y at) [
   | inl own ↦ inl own
-  | inr behind ↦ elim (at_part (of Imported) (of Exported) behind.0 y behind.1) [
+  | inr rest_after ↦ elim (at_part (of Imported) (of Exported) rest_after.0 y rest_after.1) [
     | inl imported ↦ inr (Imported, imported.0, imported.1)
     | inr exported ↦ inr (Exported, exported.0, exported.1)
   ]
@@ -224,20 +224,20 @@ side_at front of k y at = elim (at_part front (of Imported ++ of Exported) k y a
 
 -- the visit of a `use` of a part is one of the item's
 use_visited : (ps : List Part) (m : ℕ) (x : Part) (j : ℕ) (u : Use) (v : ForeignVisit) → slice_get ps m ≡ Some x → slice_get (part_uses x) j ≡ Some u → slice_get (path_visits u.attributes.items false u.from) 0 ≡ Some v → (n : ℕ) × (slice_get (walk part_visits extern_visits ps) n ≡ Some v)
-use_visited ps m (Defining d) j u v part at first = absurd (let f : ⊥ = cc in f)
-use_visited ps m (Using y) zero u v part at first =
+use_visited ps m (DefinitionPart d) j u v part at first = absurd (let f : ⊥ = cc in f)
+use_visited ps m (UsePart y) zero u v part at first =
     let same : y ≡ u = cc in
-    let inner = flat_map_has part_visits ps m 0 (Using y) v part (ap (λ (z : Use). slice_get (path_visits z.attributes.items false z.from) 0) same ∙ first) in
-    (inner.0, at_front (flat_map part_visits ps) (flat_map (at_side extern_visits Imported) ps ++ flat_map (at_side extern_visits Exported) ps) inner.0 v inner.1)
-use_visited ps m (Using y) (suc j) u v part at first = absurd (let f : ⊥ = cc in f)
-use_visited ps m (Including i) j u v part at first = absurd (let f : ⊥ = cc in f)
-use_visited ps m (Doing g) j u v part at first = absurd (let f : ⊥ = cc in f)
-use_visited ps m (Crossing x) j u v part at first =
+    let inner = flat_map_has part_visits ps m 0 (UsePart y) v part (ap (λ (z : Use). slice_get (path_visits z.attributes.items false z.from) 0) same ∙ first) in
+    (inner.0, at_prefix (flat_map part_visits ps) (flat_map (at_side extern_visits Imported) ps ++ flat_map (at_side extern_visits Exported) ps) inner.0 v inner.1)
+use_visited ps m (UsePart y) (suc j) u v part at first = absurd (let f : ⊥ = cc in f)
+use_visited ps m (IncludePart i) j u v part at first = absurd (let f : ⊥ = cc in f)
+use_visited ps m (FunctionPart g) j u v part at first = absurd (let f : ⊥ = cc in f)
+use_visited ps m (ExternPart x) j u v part at first =
     let visits = λ (z : Use). path_visits z.attributes.items false z.from in
     let own = flat_map_has visits (inline_uses x.kind) j 0 u v at first in
-    let there = at_front (flat_map visits (inline_uses x.kind)) (flat_map (path_visits x.attributes.items false) (extern_paths x.kind)) own.0 v own.1 in
-    let here : slice_get (at_side extern_visits x.side (Crossing x)) own.0 ≡ Some v = ap (λ (b : Bool). slice_get (cond b (extern_visits x) []) own.0) (side_itself x.side) ∙ there in
-    let on_side = flat_map_has (at_side extern_visits x.side) ps m own.0 (Crossing x) v part here in
+    let there = at_prefix (flat_map visits (inline_uses x.kind)) (flat_map (path_visits x.attributes.items false) (extern_paths x.kind)) own.0 v own.1 in
+    let here : slice_get (at_side extern_visits x.side (ExternPart x)) own.0 ≡ Some v = ap (λ (b : Bool). slice_get (cond b (extern_visits x) []) own.0) (side_itself x.side) ∙ there in
+    let on_side = flat_map_has (at_side extern_visits x.side) ps m own.0 (ExternPart x) v part here in
     side_has (flat_map part_visits ps) (λ side. flat_map (at_side extern_visits side) ps) x.side on_side.0 v on_side.1
 
 -- so where the path of a `use` of an item leads to another package, what it leads to is visited
@@ -251,11 +251,11 @@ leads_visited files q w u p id at among lead =
 pub part_use_at : (w : Item) (m : ℕ) (x : Part) (j : ℕ) (u : Use) → slice_get (parts w) m ≡ Some x → slice_get (part_uses x) j ≡ Some u → Contains (uses w) u
 part_use_at w m x j u part at = let it = flat_map_has part_uses (parts w) m j x u part at in contains_at (uses w) it.0 u it.1
 
-pub use_at : (w : Item) (m : ℕ) (u : Use) → slice_get (parts w) m ≡ Some (Using u) → Contains (uses w) u
-use_at w m u part = part_use_at w m (Using u) 0 u part refl
+pub use_at : (w : Item) (m : ℕ) (u : Use) → slice_get (parts w) m ≡ Some (UsePart u) → Contains (uses w) u
+use_at w m u part = part_use_at w m (UsePart u) 0 u part refl
 
-pub use_path_at : (w : Item) (m : ℕ) (u : Use) → slice_get (parts w) m ≡ Some (Using u) → Contains (use_paths w) u.from
-use_path_at w m u part = let it = flat_map_has use_path (parts w) m 0 (Using u) u.from part refl in contains_at (use_paths w) it.0 u.from it.1
+pub use_path_at : (w : Item) (m : ℕ) (u : Use) → slice_get (parts w) m ≡ Some (UsePart u) → Contains (use_paths w) u.from
+use_path_at w m u part = let it = flat_map_has use_path (parts w) m 0 (UsePart u) u.from part refl in contains_at (use_paths w) it.0 u.from it.1
 
 -- where uses lead to interfaces, one that leads to another package leads to an interface
 pub used_interface_visit : (files : List PackageFile) → AreUsableUses files (all_items files) → (q : ℕ) (w : Item) (u : Use) (p : PackageName) (id : Id) → slice_get (all_items files) q ≡ Some w → Contains (uses w) u → leads w.top u.from ≡ Foreign p id → (t : ℕ) × (v : ForeignVisit) × (slice_get (foreign_interfaces files) t ≡ Some v) × (visited v ≡ ForeignNamed p id.name.now)

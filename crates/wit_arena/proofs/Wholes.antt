@@ -1,4 +1,4 @@
--- Where unnamed types are met in scopes.
+-- Where unnamed types occur in scopes.
 use Rattle.std.proofs.Common.{◌≡◌, ℕ, suc, List, [], ◌∷◌, ◌++◌, Some, ◌⊎◌, inl, inr, refl, subst}
 use Rattle.std.specs.Prelude.{slice_get}
 use Rattle.wit_syntax.specs.Form.{Form}
@@ -6,31 +6,31 @@ use Rattle.wit_syntax.specs.Address.{Address}
 use Rattle.wit_syntax.specs.Source.{ScopeName, local_name}
 use Rattle.wit_syntax.specs.Function.{SourceFunction}
 use Rattle.wit_arena.specs.Expr.{Exprs, name_exprs}
-use Rattle.wit_arena.specs.Meet.{Key, Def, Whole, keys, name_meetings, all_function_meetings}
-use Rattle.wit_arena.specs.Resolving.{all_met}
-use Rattle.wit_arena.proofs.Meeting.{Has, has_either, keys-append}
-use Rattle.wit_arena.proofs.Defining.{name_keys, parts_keys}
+use Rattle.wit_arena.specs.Occurrences.{Key, Def, Whole, keys, name_occurrences, all_function_occurrences}
+use Rattle.wit_arena.specs.Resolving.{all_seen}
+use Rattle.wit_arena.proofs.Occurrence.{Has, has_either, keys-append}
+use Rattle.wit_arena.proofs.DefinitionPart.{name_keys, parts_keys}
 use Rattle.wit_arena.proofs.Signatures.{IsInFunctions, whole_in_functions}
-use Rattle.wit_arena.proofs.Turns.{parts_meetings, all_name_meetings}
+use Rattle.wit_arena.proofs.Turns.{parts_occurrences, all_name_occurrences}
 
--- an unnamed type that is met in a name is met in its parts
-whole_in_name : (s : Address) (x : ScopeName) (form : Form) (parts : Exprs) → Has (keys (name_meetings s x)) (Whole form parts) → Has (all_met (name_exprs s x)) (Whole form parts)
-whole_in_name s x form parts h = elim (has_either (keys (parts_meetings s x)) (Def s (local_name x) ∷ []) (Whole form parts) (subst (λ (ks : List Key). Has ks (Whole form parts)) (name_keys s x) h)) [
+-- an unnamed type that occurs in a name occurs in its parts
+whole_in_name : (s : Address) (x : ScopeName) (form : Form) (parts : Exprs) → Has (keys (name_occurrences s x)) (Whole form parts) → Has (all_seen (name_exprs s x)) (Whole form parts)
+whole_in_name s x form parts h = elim (has_either (keys (parts_occurrences s x)) (Def s (local_name x) ∷ []) (Whole form parts) (subst (λ (ks : List Key). Has ks (Whole form parts)) (name_keys s x) h)) [
   | inl inner ↦ subst (λ (ks : List Key). Has ks (Whole form parts)) (parts_keys s x) inner
   | inr last ↦ elim last [ inl here ↦ absurd (let f : ⊥ = cc in f) | inr none ↦ absurd none ]
 ]
 
--- an unnamed type that is met in names is written in one
-pub whole_in_names : (s : Address) (xs : List ScopeName) (form : Form) (parts : Exprs) → Has (keys (all_name_meetings s xs)) (Whole form parts) → (k : ℕ) × (x : ScopeName) × (slice_get xs k ≡ Some x) × Has (all_met (name_exprs s x)) (Whole form parts)
+-- an unnamed type that occurs in names is written in one
+pub whole_in_names : (s : Address) (xs : List ScopeName) (form : Form) (parts : Exprs) → Has (keys (all_name_occurrences s xs)) (Whole form parts) → (k : ℕ) × (x : ScopeName) × (slice_get xs k ≡ Some x) × Has (all_seen (name_exprs s x)) (Whole form parts)
 whole_in_names s [] form parts h = absurd h
-whole_in_names s (x ∷ xs) form parts h = elim (has_either (keys (name_meetings s x)) (keys (all_name_meetings s xs)) (Whole form parts) (subst (λ (ks : List Key). Has ks (Whole form parts)) (keys-append (name_meetings s x) (all_name_meetings s xs)) h)) [
+whole_in_names s (x ∷ xs) form parts h = elim (has_either (keys (name_occurrences s x)) (keys (all_name_occurrences s xs)) (Whole form parts) (subst (λ (ks : List Key). Has ks (Whole form parts)) (keys-append (name_occurrences s x) (all_name_occurrences s xs)) h)) [
   | inl first ↦ (0, x, refl, whole_in_name s x form parts first)
   | inr rest ↦ (let it = whole_in_names s xs form parts rest in (suc it.0, it.1, it.2, it.3))
 ]
 
--- an unnamed type that is met there is in one of its names, or in one of its functions
-pub whole_in_turn : (s : Address) (xs : List ScopeName) (fns : List SourceFunction) (form : Form) (parts : Exprs) → Has (keys (all_name_meetings s xs ++ all_function_meetings s fns)) (Whole form parts) → Has (keys (all_name_meetings s xs)) (Whole form parts) ⊎ IsInFunctions s fns form parts
-whole_in_turn s xs fns form parts h = elim (has_either (keys (all_name_meetings s xs)) (keys (all_function_meetings s fns)) (Whole form parts) (subst (λ (l : List Key). Has l (Whole form parts)) (keys-append (all_name_meetings s xs) (all_function_meetings s fns)) h)) [
+-- an unnamed type that occurs there is in one of its names, or in one of its functions
+pub whole_in_turn : (s : Address) (xs : List ScopeName) (fns : List SourceFunction) (form : Form) (parts : Exprs) → Has (keys (all_name_occurrences s xs ++ all_function_occurrences s fns)) (Whole form parts) → Has (keys (all_name_occurrences s xs)) (Whole form parts) ⊎ IsInFunctions s fns form parts
+whole_in_turn s xs fns form parts h = elim (has_either (keys (all_name_occurrences s xs)) (keys (all_function_occurrences s fns)) (Whole form parts) (subst (λ (l : List Key). Has l (Whole form parts)) (keys-append (all_name_occurrences s xs) (all_function_occurrences s fns)) h)) [
   | inl named ↦ inl named
   | inr other ↦ inr (whole_in_functions s fns form parts other)
 ]

@@ -1,4 +1,4 @@
--- The names of a world that comes next, and what stands on its sides, behind interfaces and worlds that are done.
+-- The names of a world that comes next, and what is on its sides, after interfaces and worlds that are done.
 use Rattle.std.proofs.Common.{◌≡◌, ℕ, ◌+◌, true, false, List, [], ◌∷◌, ◌++◌, length, map, Some, inl, inr, sym, ap, ◌∙◌, subst, append_assoc, arith, length-append}
 use Rattle.std.specs.Prelude.{slice_get}
 use Rattle.std.specs.List.{flat_map}
@@ -16,33 +16,33 @@ use Rattle.wit_types.specs.declared.types.TypeOwner.TheVariants as owner
 use Rattle.wit_syntax.specs.Address.{Address, WorldNamed}
 use Rattle.wit_syntax.specs.Sides.{FunctionKey, SideItem, inline_items}
 use Rattle.wit_syntax.specs.Source.{address, Item, all_items, ScopeName, scope_names}
-use Rattle.wit_syntax.specs.Trees.{scope}
+use Rattle.wit_syntax.specs.ScopesOfTrees.{scope}
 use Rattle.wit_syntax.specs.Foreign.{visited, foreign_interfaces, foreign_worlds}
 use Rattle.wit_syntax.specs.Scope.{in_turn}
-use Rattle.wit_syntax.proofs.Lists.{at_front, at_back, at_seam, at_either, map_at}
+use Rattle.wit_syntax.proofs.Lists.{at_prefix, at_back, at_seam, at_either, map_at}
 use Rattle.wit_syntax.proofs.Turns.{at_part}
 use Rattle.wit_syntax.proofs.Repeated.{differ_at, differ_by}
 use Rattle.wit_syntax.proofs.Inline.{is_inside, inline_inside, inline_interface, inline_items_differ}
 use Rattle.wit_syntax.proofs.Scopes.{inside_one}
-use Rattle.wit_arena.specs.Meet.{Meeting}
+use Rattle.wit_arena.specs.Occurrences.{Occurrence}
 use Rattle.wit_arena.specs.Resolved.{interfaces_at, worlds_at, WorldArenas, AddsScope, AddsSides, AddsForeign, AreUsableUses}
-use Rattle.wit_arena.specs.Resolving.{Names, Cell, Required, cells, Defines}
-use Rattle.wit_arena.specs.Whole.{Ordered, Turned, addresses, all_turns, all_inside, all_meetings}
+use Rattle.wit_arena.specs.Resolving.{Names, ResolvedScope, Required, resolved_scopes, Defines}
+use Rattle.wit_arena.specs.Whole.{Ordered, Turned, addresses, all_turns, all_inside, all_occurrences}
 use Rattle.wit_syntax.specs.Source as source
-use Rattle.wit_arena.proofs.Added.{InterfacesDone, WorldOwner, inside_of, interface_list, world_list, decls, defines_wider, front_apart, cells_among, next_world, inline_declared, world_item_declared}
+use Rattle.wit_arena.proofs.Added.{InterfacesDone, WorldOwner, inside_of, interface_list, world_list, decls, defines_wider, prefix_apart, resolved_scopes_among, next_world, inline_declared, world_item_declared}
 use Rattle.wit_arena.proofs.Sided.{AreSided, IsFreshInside, are_sided}
-use Rattle.wit_arena.proofs.Begun.{doing_of, names_doing}
-use Rattle.wit_arena.proofs.Doing.{DoneFunction, scope_functions, IsDoing}
-use Rattle.wit_arena.proofs.Front.{front_scopes}
+use Rattle.wit_arena.proofs.DoneNames.{function_part_of, names_of_functions}
+use Rattle.wit_arena.proofs.FunctionPart.{DoneFunction, scope_functions, IsFunctionPart}
+use Rattle.wit_arena.proofs.Prefix.{prefix_scopes}
 use Rattle.wit_arena.proofs.Indexing.{interfaces_at-append, worlds_at-append}
 use Rattle.wit_arena.proofs.Inside.{inside_at, inside_scopes-count, inside_count}
 use Rattle.wit_arena.proofs.Interfaces.{AreItems, AreOfSort, item_scopes, inline_scopes, scope_of, functions_of, items_declared, interface_address, world_address}
-use Rattle.wit_arena.proofs.Laid.{laid_scope, laid_addresses, laid_place, ordered_at, ordered_addresses, none_is_next, in_turn_is}
-use Rattle.wit_arena.proofs.Standing.{DoneScope, cell_of, IsTurn}
-use Rattle.wit_arena.proofs.DoneWorlds.{scopes_of, all_within, own_order, AreWorldsDone, front_longer, flat_map_longer, scope_either}
-use Rattle.wit_arena.proofs.Turns.{item_of, own_item, all_name_meetings}
+use Rattle.wit_arena.proofs.ScopesInTurn.{laid_scope, laid_addresses, laid_place, ordered_at, ordered_addresses, none_is_next, in_turn_is}
+use Rattle.wit_arena.proofs.Members.{DoneScope, resolved_scope_of, IsTurn}
+use Rattle.wit_arena.proofs.DoneWorlds.{scopes_of, all_within, own_order, AreWorldsDone, prefix_longer, flat_map_longer, scope_either}
+use Rattle.wit_arena.proofs.Turns.{item_of, own_item, all_name_occurrences}
 
-module _ (files : List PackageFile) (is ws : List Item) (interfaces : AreOfSort false is) (worlds : AreOfSort true ws) (is_items : AreItems files is) (ws_items : AreItems files ws) (uses : AreUsableUses files (all_items files)) (es : List TypeDef) (front : List Interface) (wfront : List World) (foreign : AddsForeign files es front wfront) (middle : List TypeDef) (xs : List Interface) (irs : List Required) (d : InterfacesDone files is ws front is middle xs irs) where
+module _ (files : List PackageFile) (is ws : List Item) (interfaces : AreOfSort false is) (worlds : AreOfSort true ws) (is_items : AreItems files is) (ws_items : AreItems files ws) (uses : AreUsableUses files (all_items files)) (es : List TypeDef) (prefix : List Interface) (wprefix : List World) (foreign : AddsForeign files es prefix wprefix) (middle : List TypeDef) (xs : List Interface) (irs : List Required) (d : InterfacesDone files is ws prefix is middle xs irs) where
   abbrev ss : List Address
   ss = map visited (foreign_interfaces files)
 
@@ -50,31 +50,31 @@ module _ (files : List PackageFile) (is ws : List Item) (interfaces : AreOfSort 
   others = map visited (foreign_worlds files)
 
   abbrev before : List DoneScope
-  before = front_scopes files front ++ d.scopes
+  before = prefix_scopes files prefix ++ d.scopes
 
-  abbrev known : List Cell
-  known = cells ss (front ++ xs)
+  abbrev known : List ResolvedScope
+  known = resolved_scopes ss (prefix ++ xs)
 
-  -- the first worlds are done, behind all interfaces
+  -- the first worlds are done, after all interfaces
   abbrev pub WorldsDone : List Item → List TypeDef → WorldArenas → List Required → Type 0
-  WorldsDone us new a rs = AreWorldsDone files is ws wfront d.ordered before us new a rs
+  WorldsDone us new a rs = AreWorldsDone files is ws wprefix d.ordered before us new a rs
 
-  -- as many interfaces stand in front as other packages have, and as many behind as are declared
-  long_front : length (front ++ xs) ≡ length ss + length is
-  long_front =
-      let ahead : length front ≡ length ss = foreign.interfaces.count ∙ sym (length-map (foreign_interfaces files) visited) in
+  -- as many interfaces come first as other packages have, and as many after as are declared
+  long_prefix : length (prefix ++ xs) ≡ length ss + length is
+  long_prefix =
+      let ahead : length prefix ≡ length ss = foreign.interfaces.count ∙ sym (length-map (foreign_interfaces files) visited) in
       let own : length xs ≡ length is = d.laid.count ∙ sym (length-map d.ordered item_of) ∙ ap length d.all in
-      length-append front xs ∙ ap (λ n. n + length xs) ahead ∙ ap (λ n. length ss + n) own
+      length-append prefix xs ∙ ap (λ n. n + length xs) ahead ∙ ap (λ n. length ss + n) own
 
   -- the addresses of all interfaces
-  interface_names : interfaces_at ss (front ++ xs) ≡ ss ++ map address is
-  interface_names = interfaces_at-append ss front xs (foreign.interfaces.count ∙ sym (length-map (foreign_interfaces files) visited)) ∙ ap (λ (l : List Address). ss ++ l) (laid_addresses d.laid ∙ sym (ordered_addresses d.ordered is d.all))
+  interface_names : interfaces_at ss (prefix ++ xs) ≡ ss ++ map address is
+  interface_names = interfaces_at-append ss prefix xs (foreign.interfaces.count ∙ sym (length-map (foreign_interfaces files) visited)) ∙ ap (λ (l : List Address). ss ++ l) (laid_addresses d.laid ∙ sym (ordered_addresses d.ordered is d.all))
 
   -- no scope of an interface is written in a world, and none is a world's
   interface_outside : (k : ℕ) (c : DoneScope) → slice_get d.scopes k ≡ Some c → (is_inside c.address ≡ false) × ((name : List ℕ) → c.address ≡ WorldNamed name → ⊥)
   interface_outside k c at =
       let o = ordered_at d.laid k c at in
-      let there = d.laid.front k o.0 o.1 in
+      let there = d.laid.prefix k o.0 o.1 in
       let here : address o.0.item ≡ c.address = ap (λ (x : Turned). x.address) o.2 in
       let called = interface_address files is is_items k o.0.item there (interfaces.each k o.0.item there) in (
         ap is_inside (sym here) ∙ ap is_inside called,
@@ -86,8 +86,8 @@ module _ (files : List PackageFile) (is ws : List Item) (interfaces : AreOfSort 
 
   -- the scope of a world is none of the interfaces
   pub world_apart : (t : ℕ) (w : Item) → slice_get ws t ≡ Some w → (k : ℕ) (c : DoneScope) → slice_get before k ≡ Some c → c.address ≡ address w → ⊥
-  world_apart t w at k c there same = elim (at_part (front_scopes files front) d.scopes k c there) [
-    | inl h ↦ front_apart files is ws interfaces worlds is_items ws_items uses es front wfront foreign w h.0 c h.1 same
+  world_apart t w at k c there same = elim (at_part (prefix_scopes files prefix) d.scopes k c there) [
+    | inl h ↦ prefix_apart files is ws interfaces worlds is_items ws_items uses es prefix wprefix foreign w h.0 c h.1 same
     | inr h ↦ (interface_outside h.0 c h.1).1 (source.item_name w) (same ∙ world_address w (worlds.each t w at))
   ]
 
@@ -101,8 +101,8 @@ module _ (files : List PackageFile) (is ws : List Item) (interfaces : AreOfSort 
     abbrev made_before : List DoneFunction
     made_before = flat_map scope_functions first
 
-    abbrev written : List Meeting
-    written = all_meetings files (all_turns d.ordered e.ordered)
+    abbrev written : List Occurrence
+    written = all_occurrences files (all_turns d.ordered e.ordered)
 
     pub place : length (map own_order e.ordered) ≡ length us
     place = length-map e.ordered own_order ∙ sym (length-map e.ordered own_item) ∙ ap length e.all
@@ -114,34 +114,34 @@ module _ (files : List PackageFile) (is ws : List Item) (interfaces : AreOfSort 
     at_own = ap (slice_get ws) own_place ∙ next
 
     -- the worlds so far are the first
-    us_front : (k : ℕ) (v : Item) → slice_get (us ++ w ∷ []) k ≡ Some v → slice_get ws k ≡ Some v
-    us_front k v at = elim (at_either us w k v at) [
+    us_prefix : (k : ℕ) (v : Item) → slice_get (us ++ w ∷ []) k ≡ Some v → slice_get ws k ≡ Some v
+    us_prefix k v at = elim (at_either us w k v at) [
       | inl h ↦ (
           let o = map_at own_item e.ordered k v (ap (λ (l : List Item). slice_get l k) e.all ∙ h) in
-          e.laid.front k (own_order o.0) (slice_get-map own_order e.ordered k ∙ ap (option_map own_order) o.1) ∙ ap Some o.2)
+          e.laid.prefix k (own_order o.0) (slice_get-map own_order e.ordered k ∙ ap (option_map own_order) o.1) ∙ ap Some o.2)
       | inr h ↦ ap (slice_get ws) h.0 ∙ next ∙ ap Some (sym h.1)
     ]
 
     -- so are the interfaces that are written in them
-    inside_front : (k : ℕ) (i : Item) → slice_get (inside_of (us ++ w ∷ [])) k ≡ Some i → slice_get (inside_of ws) k ≡ Some i
-    inside_front k i at = flat_map_longer inline_items (us ++ w ∷ []) ws us_front k i at
+    inside_prefix : (k : ℕ) (i : Item) → slice_get (inside_of (us ++ w ∷ [])) k ≡ Some i → slice_get (inside_of ws) k ≡ Some i
+    inside_prefix k i at = flat_map_longer inline_items (us ++ w ∷ []) ws us_prefix k i at
 
     pub inside_split : inside_of (us ++ w ∷ []) ≡ inside_of us ++ inline_items w
     inside_split = flat_map-append inline_items us (w ∷ []) ∙ ap (λ (l : List Item). inside_of us ++ l) (append-nil (inline_items w))
 
     earlier_inside : (k : ℕ) (i : Item) → slice_get (inside_of us) k ≡ Some i → slice_get (inside_of ws) k ≡ Some i
-    earlier_inside k i at = inside_front k i (ap (λ (l : List Item). slice_get l k) inside_split ∙ at_front (inside_of us) (inline_items w) k i at)
+    earlier_inside k i at = inside_prefix k i (ap (λ (l : List Item). slice_get l k) inside_split ∙ at_prefix (inside_of us) (inline_items w) k i at)
 
     own_inside : (k : ℕ) (i : Item) → slice_get (inline_items w) k ≡ Some i → slice_get (inside_of ws) (length (inside_of us) + k) ≡ Some i
-    own_inside k i at = inside_front (length (inside_of us) + k) i (ap (λ (l : List Item). slice_get l (length (inside_of us) + k)) inside_split ∙ at_back (inside_of us) (inline_items w) k i at)
+    own_inside k i at = inside_prefix (length (inside_of us) + k) i (ap (λ (l : List Item). slice_get l (length (inside_of us) + k)) inside_split ∙ at_back (inside_of us) (inline_items w) k i at)
 
     pub long_inside : length (all_inside e.ordered) ≡ length (inside_of us)
     long_inside = sym (length-map (all_inside e.ordered) item_of) ∙ ap length e.inside
 
-    -- where the next interface that is written in a world stands
-    pub next_place : length (front ++ xs) + length a.inside ≡ length ss + (length is + length (inside_of us))
+    -- where the next interface that is written in a world is
+    pub next_place : length (prefix ++ xs) + length a.inside ≡ length ss + (length is + length (inside_of us))
     next_place =
-        let ahead = long_front in
+        let ahead = long_prefix in
         let own = inside_count (length ss + length is) (all_inside e.ordered) (all_within e.scopes) a.inside e.laid_inside in
         let long = long_inside in
         omega arith
@@ -177,14 +177,14 @@ module _ (files : List PackageFile) (is ws : List Item) (interfaces : AreOfSort 
         let inner : is_inside (address i) ≡ true = inline_inside w k i at in
         let outer : is_inside c.address ≡ false → ⊥ = λ h. (let wrong : true ≡ false = sym inner ∙ ap is_inside (sym same) ∙ h in let f : ⊥ = cc in f) in
         elim (at_part before (flat_map scopes_of e.scopes) t c there) [
-          | inl h ↦ elim (at_part (front_scopes files front) d.scopes h.0 c h.1) [
-            | inl g ↦ front_apart files is ws interfaces worlds is_items ws_items uses es front wfront foreign i g.0 c g.1 same
+          | inl h ↦ elim (at_part (prefix_scopes files prefix) d.scopes h.0 c h.1) [
+            | inl g ↦ prefix_apart files is ws interfaces worlds is_items ws_items uses es prefix wprefix foreign i g.0 c g.1 same
             | inr g ↦ outer (interface_outside g.0 c g.1).0
           ]
           | inr h ↦ elim (scope_either e.scopes h.0 c h.1) [
             | inl own ↦ (
                 let o = ordered_at e.laid own.0 c own.1 in
-                outer (ap is_inside (sym (ap (λ (x : Turned). x.address) o.2)) ∙ items_declared files ws ws_items own.0 o.0.item (e.laid.front own.0 o.0 o.1)))
+                outer (ap is_inside (sym (ap (λ (x : Turned). x.address) o.2)) ∙ items_declared files ws ws_items own.0 o.0.item (e.laid.prefix own.0 o.0 o.1)))
             | inr far ↦ (
                 let j = within_item far.0 c far.1 in
                 let lt = slice_get_within (inside_of us) far.0 j.0 j.1 in
@@ -198,28 +198,28 @@ module _ (files : List PackageFile) (is ws : List Item) (interfaces : AreOfSort 
     pub world_added : (t : ℕ) (x : Address) → slice_get (worlds_at others a.worlds) t ≡ Some x → slice_get (world_list files ws) t ≡ Some x
     world_added t x at =
         let named = map (λ (v : World). WorldNamed v.name) e.own in
-        let whole : worlds_at others a.worlds ≡ others ++ named = ap (worlds_at others) e.arena ∙ worlds_at-append others wfront e.own (foreign.worlds.count ∙ sym (length-map (foreign_worlds files) visited)) in
-        front_longer others named (map address ws) (laid_place e.laid) t x (ap (λ (l : List Address). slice_get l t) (sym whole) ∙ at)
+        let whole : worlds_at others a.worlds ≡ others ++ named = ap (worlds_at others) e.arena ∙ worlds_at-append others wprefix e.own (foreign.worlds.count ∙ sym (length-map (foreign_worlds files) visited)) in
+        prefix_longer others named (map address ws) (laid_place e.laid) t x (ap (λ (l : List Address). slice_get l t) (sym whole) ∙ at)
 
     -- so is that of an interface
-    pub interface_added : (ts : List Address) → ts ≡ a.addresses ++ map address (inline_items w) → (t : ℕ) (x : Address) → slice_get (interfaces_at ss (front ++ xs) ++ ts) t ≡ Some x → slice_get (interface_list files is (inside_of ws)) t ≡ Some x
+    pub interface_added : (ts : List Address) → ts ≡ a.addresses ++ map address (inline_items w) → (t : ℕ) (x : Address) → slice_get (interfaces_at ss (prefix ++ xs) ++ ts) t ≡ Some x → slice_get (interface_list files is (inside_of ws)) t ≡ Some x
     interface_added ts are t x at =
         let own : ts ≡ map address (inside_of (us ++ w ∷ [])) = are ∙ ap (λ (l : List Address). l ++ map address (inline_items w)) e.addresses ∙ sym (map-append address (inside_of us) (inline_items w)) ∙ ap (map address) (sym inside_split) in
         let some : List Address = map address (inside_of (us ++ w ∷ [])) in
-        let whole : interfaces_at ss (front ++ xs) ++ ts ≡ (ss ++ map address is) ++ some = ap (λ (l : List Address). l ++ ts) interface_names ∙ ap (λ (l : List Address). (ss ++ map address is) ++ l) own in
+        let whole : interfaces_at ss (prefix ++ xs) ++ ts ≡ (ss ++ map address is) ++ some = ap (λ (l : List Address). l ++ ts) interface_names ∙ ap (λ (l : List Address). (ss ++ map address is) ++ l) own in
         let all : (ss ++ map address is) ++ map address (inside_of ws) ≡ interface_list files is (inside_of ws) = append_assoc ss (map address is) (map address (inside_of ws)) ∙ ap (λ (l : List Address). ss ++ l) (sym (map-append address is (inside_of ws))) in
-        let longer = λ (k : ℕ) (y : Address) (h : slice_get some k ≡ Some y). (let i = map_at address (inside_of (us ++ w ∷ [])) k y h in slice_get-map address (inside_of ws) k ∙ ap (option_map address) (inside_front k i.0 i.1) ∙ ap Some i.2) in
-        ap (λ (l : List Address). slice_get l t) (sym all) ∙ front_longer (ss ++ map address is) some (map address (inside_of ws)) longer t x (ap (λ (l : List Address). slice_get l t) (sym whole) ∙ at)
+        let longer = λ (k : ℕ) (y : Address) (h : slice_get some k ≡ Some y). (let i = map_at address (inside_of (us ++ w ∷ [])) k y h in slice_get-map address (inside_of ws) k ∙ ap (option_map address) (inside_prefix k i.0 i.1) ∙ ap Some i.2) in
+        ap (λ (l : List Address). slice_get l t) (sym all) ∙ prefix_longer (ss ++ map address is) some (map address (inside_of ws)) longer t x (ap (λ (l : List Address). slice_get l t) (sym whole) ∙ at)
 
     -- the scopes of interfaces are among those that are done
-    known_among : (cs : List DoneScope) (t : ℕ) (c : Cell) → slice_get known t ≡ Some c → (j : ℕ) × (slice_get (map cell_of (first ++ cs)) j ≡ Some c)
+    known_among : (cs : List DoneScope) (t : ℕ) (c : ResolvedScope) → slice_get known t ≡ Some c → (j : ℕ) × (slice_get (map resolved_scope_of (first ++ cs)) j ≡ Some c)
     known_among cs t c at =
-        let it = cells_among files is ws interfaces worlds is_items ws_items uses es front wfront foreign xs d.scopes d.laid.types t c at in
+        let it = resolved_scopes_among files is ws interfaces worlds is_items ws_items uses es prefix wprefix foreign xs d.scopes d.laid.types t c at in
         let more = flat_map scopes_of e.scopes in
-        let whole : map cell_of (first ++ cs) ≡ map cell_of before ++ map cell_of (more ++ cs) = ap (map cell_of) (append_assoc before more cs) ∙ map-append cell_of before (more ++ cs) in
-        (it.0, ap (λ (l : List Cell). slice_get l it.0) whole ∙ at_front (map cell_of before) (map cell_of (more ++ cs)) it.0 c it.1)
+        let whole : map resolved_scope_of (first ++ cs) ≡ map resolved_scope_of before ++ map resolved_scope_of (more ++ cs) = ap (map resolved_scope_of) (append_assoc before more cs) ∙ map-append resolved_scope_of before (more ++ cs) in
+        (it.0, ap (λ (l : List ResolvedScope). slice_get l it.0) whole ∙ at_prefix (map resolved_scope_of before) (map resolved_scope_of (more ++ cs)) it.0 c it.1)
 
-    -- once the names of this world were added; nothing hangs on what is told of its scope besides
+    -- once the names of this world were added; nothing hangs on what is stated of its scope besides
     module _ (mid : List TypeDef) (types : Names) (adds : AddsScope old mid known (owner.World (length a.worlds)) (scope_names w) types) (made : List Function) (stated : List (FunctionKey × Function)) (required : List Required) where
       abbrev pub o : Ordered
       o = record { item = w; order = adds.order }
@@ -230,27 +230,27 @@ module _ (files : List PackageFile) (is ws : List Item) (interfaces : AreOfSort 
       abbrev pub c : DoneScope
       c = laid_scope (WorldOwner files (length e.own)) o types made stated required
 
-      abbrev named : List Meeting
-      named = all_name_meetings s names
+      abbrev named : List Occurrence
+      named = all_name_occurrences s names
 
       whose : owner.World (length a.worlds) ≡ WorldOwner files (length e.own)
-      whose = ap (λ (l : List World). owner.World (length l)) e.arena ∙ next_world files is ws interfaces worlds is_items ws_items uses es front wfront foreign e.own
+      whose = ap (λ (l : List World). owner.World (length l)) e.arena ∙ next_world files is ws interfaces worlds is_items ws_items uses es prefix wprefix foreign e.own
 
-      defines : Defines old mid (map cell_of first) (WorldOwner files (length e.own)) s [] types names
-      defines = subst (λ (x : TypeOwner). Defines old mid (map cell_of first) x s [] types names) whose (defines_wider old mid known (map cell_of first) (owner.World (length a.worlds)) s [] types names (λ t x at. (let it = known_among [] t x at in (it.0, ap (λ (l : List DoneScope). slice_get (map cell_of l) it.0) (sym (append-nil first)) ∙ it.1))) (adds.defines s))
+      defines : Defines old mid (map resolved_scope_of first) (WorldOwner files (length e.own)) s [] types names
+      defines = subst (λ (x : TypeOwner). Defines old mid (map resolved_scope_of first) x s [] types names) whose (defines_wider old mid known (map resolved_scope_of first) (owner.World (length a.worlds)) s [] types names (λ t x at. (let it = known_among [] t x at in (it.0, ap (λ (l : List DoneScope). slice_get (map resolved_scope_of l) it.0) (sym (append-nil first)) ∙ it.1))) (adds.defines s))
 
       turn : IsTurn (scope files s) names
       turn = subst (λ (l : List ScopeName). IsTurn l names) (sym (scope_of files ws (item_scopes files ws ws_items) (length us) w next)) (in_turn_is (scope_names w) adds.order adds.least adds.distinct)
 
       -- its names are done
-      pub names_done : IsDoing files (decls files is ws) (written ++ named) (first ++ c ∷ []) made_before mid
-      names_done = names_doing files (decls files is ws) written first made_before old mid c (doing_of files (decls files is ws) written first old e.done) world_fresh (world_item_declared files is ws interfaces worlds is_items ws_items (length e.own) w at_own) turn defines
+      pub names_done : IsFunctionPart files (decls files is ws) (written ++ named) (first ++ c ∷ []) made_before mid
+      names_done = names_of_functions files (decls files is ws) written first made_before old mid c (function_part_of files (decls files is ws) written first old e.done) world_fresh (world_item_declared files is ws interfaces worlds is_items ws_items (length e.own) w at_own) turn defines
 
       -- an interface that is written in it can come next
-      pub fresh_inside : (k : ℕ) (i : Item) → slice_get (inline_items w) k ≡ Some i → IsFreshInside files (decls files is ws) (first ++ c ∷ []) ((length (front ++ xs) + length a.inside) + k) i
+      pub fresh_inside : (k : ℕ) (i : Item) → slice_get (inline_items w) k ≡ Some i → IsFreshInside files (decls files is ws) (first ++ c ∷ []) ((length (prefix ++ xs) + length a.inside) + k) i
       fresh_inside k i at =
           let there = own_inside k i at in
-          let spot : length ss + (length is + (length (inside_of us) + k)) ≡ (length (front ++ xs) + length a.inside) + k = (let p = next_place in omega arith) in
+          let spot : length ss + (length is + (length (inside_of us) + k)) ≡ (length (prefix ++ xs) + length a.inside) + k = (let p = next_place in omega arith) in
           record {
             interface = inline_interface w k i at;
             fresh = λ t b b_at same. elim (at_either first c t b b_at) [
@@ -265,6 +265,6 @@ module _ (files : List PackageFile) (is ws : List Item) (interfaces : AreOfSort 
             own = inline_declared files is ws interfaces worlds is_items ws_items (length (inside_of us) + k) i there ∙ ap (λ (n : ℕ). (scope files (address i), (owner.Interface n))) spot;
           }
 
-      -- and so is what stands on its sides, as far as it was added
-      pub sides_done : (new : List TypeDef) (js : List Interface) (fs : List Function) (rs : List Required) (items : List SideItem) (inside : List Item) → ((k : ℕ) (i : Item) → slice_get inside k ≡ Some i → slice_get (inline_items w) k ≡ Some i) → AddsSides known (length (front ++ xs)) s types mid new a.inside js fs rs items inside → AreSided files (decls files is ws) (written ++ named) (first ++ c ∷ []) made_before (length (front ++ xs) + length a.inside) s new a.inside js fs rs items inside
-      sides_done new js fs rs items inside among sides = are_sided files (decls files is ws) (written ++ named) (first ++ c ∷ []) made_before mid new known (length (front ++ xs)) (length first) c a.inside js fs rs items inside names_done (at_seam first c) (known_among (c ∷ [])) (differ_by address inside (λ i j x y at_i at_j same. differ_at address (inline_items w) (inline_items_differ w) i j x y (among i x at_i) (among j y at_j) same)) (λ k i at. fresh_inside k i (among k i at)) sides
+      -- and so is what is on its sides, as far as it was added
+      pub sides_done : (new : List TypeDef) (js : List Interface) (fs : List Function) (rs : List Required) (items : List SideItem) (inside : List Item) → ((k : ℕ) (i : Item) → slice_get inside k ≡ Some i → slice_get (inline_items w) k ≡ Some i) → AddsSides known (length (prefix ++ xs)) s types mid new a.inside js fs rs items inside → AreSided files (decls files is ws) (written ++ named) (first ++ c ∷ []) made_before (length (prefix ++ xs) + length a.inside) s new a.inside js fs rs items inside
+      sides_done new js fs rs items inside among sides = are_sided files (decls files is ws) (written ++ named) (first ++ c ∷ []) made_before mid new known (length (prefix ++ xs)) (length first) c a.inside js fs rs items inside names_done (at_seam first c) (known_among (c ∷ [])) (differ_by address inside (λ i j x y at_i at_j same. differ_at address (inline_items w) (inline_items_differ w) i j x y (among i x at_i) (among j y at_j) same)) (λ k i at. fresh_inside k i (among k i at)) sides

@@ -1,4 +1,4 @@
--- Worlds that were added are done, behind interfaces, each with the interfaces that are written in it.
+-- Worlds that were added are done, after interfaces, each with the interfaces that are written in it.
 use Rattle.std.proofs.Common.{◌≡◌, ℕ, suc, ◌+◌, true, false, List, [], ◌∷◌, ◌++◌, length, map, Some, inl, inr, refl, sym, ap, ◌∙◌, subst, append_assoc, arith, length-append, zero-add, add-zero}
 use Rattle.std.specs.Prelude.{slice_get}
 use Rattle.std.specs.List.{flat_map}
@@ -19,36 +19,36 @@ use Rattle.wit_syntax.specs.Sides.{FunctionKey, item_function, side_items, inlin
 use Rattle.wit_syntax.specs.Source.{address, Item, all_items, ScopeName, scope_names}
 use Rattle.wit_syntax.specs.Foreign.{visited, foreign_interfaces, foreign_worlds}
 use Rattle.wit_syntax.specs.Scope.{in_turn, includes, local_names}
-use Rattle.wit_syntax.proofs.Lists.{at_front, at_back, at_seam, at_either, flat_map_has}
+use Rattle.wit_syntax.proofs.Lists.{at_prefix, at_back, at_seam, at_either, flat_map_has}
 use Rattle.wit_syntax.proofs.Legal.{functions_items}
-use Rattle.wit_arena.specs.Meet.{Meeting, keys, Meets}
+use Rattle.wit_arena.specs.Occurrences.{Occurrence, keys, Collects}
 use Rattle.wit_arena.specs.Package.{import_types, world_functions}
 use Rattle.wit_arena.specs.SideItems.{settled}
-use Rattle.wit_arena.specs.Resolved.{interfaces_at, worlds_at, WorldArenas, front_worlds, AddsWorld, AddsWorlds, AddsForeign, AreUsableUses}
-use Rattle.wit_arena.specs.Resolving.{Names, env_of, Cell, Required, cells}
-use Rattle.wit_arena.specs.Whole.{Ordered, OrderedWorld, Turned, addresses, turned, side_turns, world_turns, all_turns, all_inside, all_meetings, turn_handles, AreRequired, functions_at}
+use Rattle.wit_arena.specs.Resolved.{interfaces_at, worlds_at, WorldArenas, prefix_worlds, AddsWorld, AddsWorlds, AddsForeign, AreUsableUses}
+use Rattle.wit_arena.specs.Resolving.{Names, env_of, ResolvedScope, Required, resolved_scopes}
+use Rattle.wit_arena.specs.Whole.{Ordered, OrderedWorld, Turned, addresses, turned, side_turns, world_turns, all_turns, all_inside, all_occurrences, turn_handles, AreRequired, functions_at}
 use Rattle.wit_arena.proofs.Added.{InterfacesDone, WorldOwner, inside_of, interface_list, world_list, decls}
-use Rattle.wit_arena.proofs.Sided.{AreTold, AreSided}
-use Rattle.wit_arena.proofs.Begun.{done_of}
-use Rattle.wit_arena.proofs.Doing.{AreWhole, DoneFunction, done_functions, scope_functions, IsDoing}
+use Rattle.wit_arena.proofs.Sided.{AreAsStated, AreSided}
+use Rattle.wit_arena.proofs.DoneNames.{done_of}
+use Rattle.wit_arena.proofs.FunctionPart.{AreWhole, DoneFunction, done_functions, scope_functions, IsFunctionPart}
 use Rattle.wit_arena.proofs.FreeNames.{free_of, AreStated}
-use Rattle.wit_arena.proofs.Front.{front_scopes}
+use Rattle.wit_arena.proofs.Prefix.{prefix_scopes}
 use Rattle.wit_arena.proofs.Inside.{AreInside, inside_append}
 use Rattle.wit_arena.proofs.Interfaces.{AreItems, AreOfSort, item_scopes, functions_of, world_address}
-use Rattle.wit_arena.proofs.Laid.{AreLaid, laid_none, laid_more}
-use Rattle.wit_arena.proofs.Meeting.{meets_one, meets_longer}
-use Rattle.wit_arena.proofs.Places.{Grown, grown_trans}
-use Rattle.wit_arena.proofs.Required.{in_scope, ended_required, required_none, required_append, required_grown}
+use Rattle.wit_arena.proofs.ScopesInTurn.{AreLaid, laid_none, laid_more}
+use Rattle.wit_arena.proofs.Occurrence.{collects_one, collects_longer}
+use Rattle.wit_arena.proofs.Places.{Extended, extended_trans}
+use Rattle.wit_arena.proofs.Required.{in_scope, ended_required, required_none, required_append, required_extended}
 use Rattle.wit_arena.proofs.SideItems.{side_types, side_items_wider}
-use Rattle.wit_arena.proofs.Standing.{DoneScope, turn_of, cell_of, IsDone}
+use Rattle.wit_arena.proofs.Members.{DoneScope, turn_of, resolved_scope_of, IsDone}
 use Rattle.wit_arena.proofs.Settled.{settled_none, settled_types}
 use Rattle.wit_arena.proofs.Stating.{stated_settled}
-use Rattle.wit_arena.proofs.DoneWorlds.{none_left, inline_count, SaysWorld, MakesWorld, world_cell, DoneWorld, own_scope, scopes_of, all_within, own_order, AreWorldsDone, includes_wider, named_world, own_types, all_handles-append, written_more, scopes_more, handles_more, one_of_three, doing_declared}
-use Rattle.wit_arena.proofs.Requiring.{requiring, doing_requiring}
+use Rattle.wit_arena.proofs.DoneWorlds.{none_left, inline_count, SaysWorld, MakesWorld, world_resolved_scope, DoneWorld, own_scope, scopes_of, all_within, own_order, AreWorldsDone, includes_wider, named_world, own_types, all_handles-append, written_more, scopes_more, handles_more, one_of_three, function_part_declared}
+use Rattle.wit_arena.proofs.Requiring.{requiring, function_part_requiring}
 use Rattle.wit_arena.proofs.WorldSides.{place, next_place, long_inside, inside_split, world_added, interface_added, c, names_done, sides_done}
-use Rattle.wit_arena.proofs.Turns.{item_of, own_item, meetings, all_name_meetings}
+use Rattle.wit_arena.proofs.Turns.{item_of, own_item, occurrences, all_name_occurrences}
 
-module _ (files : List PackageFile) (is ws : List Item) (interfaces : AreOfSort false is) (worlds : AreOfSort true ws) (is_items : AreItems files is) (ws_items : AreItems files ws) (uses : AreUsableUses files (all_items files)) (es : List TypeDef) (front : List Interface) (wfront : List World) (foreign : AddsForeign files es front wfront) (middle : List TypeDef) (xs : List Interface) (irs : List Required) (d : InterfacesDone files is ws front is middle xs irs) where
+module _ (files : List PackageFile) (is ws : List Item) (interfaces : AreOfSort false is) (worlds : AreOfSort true ws) (is_items : AreItems files is) (ws_items : AreItems files ws) (uses : AreUsableUses files (all_items files)) (es : List TypeDef) (prefix : List Interface) (wprefix : List World) (foreign : AddsForeign files es prefix wprefix) (middle : List TypeDef) (xs : List Interface) (irs : List Required) (d : InterfacesDone files is ws prefix is middle xs irs) where
   abbrev ss : List Address
   ss = map visited (foreign_interfaces files)
 
@@ -56,14 +56,14 @@ module _ (files : List PackageFile) (is ws : List Item) (interfaces : AreOfSort 
   others = map visited (foreign_worlds files)
 
   abbrev before : List DoneScope
-  before = front_scopes files front ++ d.scopes
+  before = prefix_scopes files prefix ++ d.scopes
 
-  abbrev known : List Cell
-  known = cells ss (front ++ xs)
+  abbrev known : List ResolvedScope
+  known = resolved_scopes ss (prefix ++ xs)
 
-  -- the first worlds are done, behind all interfaces
+  -- the first worlds are done, after all interfaces
   abbrev WorldsDone : List Item → List TypeDef → WorldArenas → List Required → Type 0
-  WorldsDone us new a rs = AreWorldsDone files is ws wfront d.ordered before us new a rs
+  WorldsDone us new a rs = AreWorldsDone files is ws wprefix d.ordered before us new a rs
 
   module _ (us : List Item) (old : List TypeDef) (a : WorldArenas) (qs : List Required) (e : WorldsDone us old a qs) (w : Item) (next : slice_get ws (length us) ≡ Some w) where
     abbrev s : Address
@@ -75,16 +75,16 @@ module _ (files : List PackageFile) (is ws : List Item) (interfaces : AreOfSort 
     abbrev made_before : List DoneFunction
     made_before = flat_map scope_functions first
 
-    abbrev written : List Meeting
-    written = all_meetings files (all_turns d.ordered e.ordered)
+    abbrev written : List Occurrence
+    written = all_occurrences files (all_turns d.ordered e.ordered)
 
     -- what this world adds
-    module _ (new : List TypeDef) (b : WorldArenas) (rs : List Required) (adds : AddsWorld ss others (front ++ xs) old new a b rs w) where
+    module _ (new : List TypeDef) (b : WorldArenas) (rs : List Required) (adds : AddsWorld ss others (prefix ++ xs) old new a b rs w) where
       abbrev turns_names : List ScopeName
       turns_names = in_turn (scope_names w) adds.adds.order
 
       abbrev all_addresses : List Address
-      all_addresses = interfaces_at ss (front ++ xs) ++ b.addresses
+      all_addresses = interfaces_at ss (prefix ++ xs) ++ b.addresses
 
       abbrev inside_addresses : List Address
       inside_addresses = map address (inline_items w)
@@ -96,13 +96,13 @@ module _ (files : List PackageFile) (is ws : List Item) (interfaces : AreOfSort 
       stated_all = subst (λ (l : List SourceFunction). AreStated l adds.functions both) (sym (functions_items w)) (stated_settled all_addresses w.top turns_names adds.types (side_items w) adds.functions inside_addresses (includes w) adds.imported adds.exported adds.added adds.imports adds.exports adds.are_imported adds.are_exported)
 
       abbrev opened : DoneScope
-      opened = c files is ws interfaces worlds is_items ws_items uses es front wfront foreign middle xs irs d us old a qs e w next adds.middle adds.types adds.adds adds.functions both []
+      opened = c files is ws interfaces worlds is_items ws_items uses es prefix wprefix foreign middle xs irs d us old a qs e w next adds.middle adds.types adds.adds adds.functions both []
 
-      opened_names : IsDoing files (decls files is ws) (written ++ all_name_meetings s turns_names) (first ++ opened ∷ []) made_before adds.middle
-      opened_names = names_done files is ws interfaces worlds is_items ws_items uses es front wfront foreign middle xs irs d us old a qs e w next adds.middle adds.types adds.adds adds.functions both []
+      opened_names : IsFunctionPart files (decls files is ws) (written ++ all_name_occurrences s turns_names) (first ++ opened ∷ []) made_before adds.middle
+      opened_names = names_done files is ws interfaces worlds is_items ws_items uses es prefix wprefix foreign middle xs irs d us old a qs e w next adds.middle adds.types adds.adds adds.functions both []
 
-      sided : AreSided files (decls files is ws) (written ++ all_name_meetings s turns_names) (first ++ opened ∷ []) made_before (length (front ++ xs) + length a.inside) s new a.inside b.inside adds.functions adds.rest (side_items w) (inline_items w)
-      sided = sides_done files is ws interfaces worlds is_items ws_items uses es front wfront foreign middle xs irs d us old a qs e w next adds.middle adds.types adds.adds adds.functions both [] new b.inside adds.functions adds.rest (side_items w) (inline_items w) (λ k i at. at) adds.sides
+      sided : AreSided files (decls files is ws) (written ++ all_name_occurrences s turns_names) (first ++ opened ∷ []) made_before (length (prefix ++ xs) + length a.inside) s new a.inside b.inside adds.functions adds.rest (side_items w) (inline_items w)
+      sided = sides_done files is ws interfaces worlds is_items ws_items uses es prefix wprefix foreign middle xs irs d us old a qs e w next adds.middle adds.types adds.adds adds.functions both [] new b.inside adds.functions adds.rest (side_items w) (inline_items w) (λ k i at. at) adds.sides
 
       -- its scope, with what its handles require
       abbrev closed : DoneScope
@@ -114,14 +114,14 @@ module _ (files : List PackageFile) (is ws : List Item) (interfaces : AreOfSort 
       abbrev all_scopes_now : List DoneScope
       all_scopes_now = (first ++ closed ∷ []) ++ sided.scopes
 
-      doing : IsDoing files (decls files is ws) ((written ++ all_name_meetings s turns_names) ++ meetings sides) all_scopes_now (made_before ++ sided.more) new
-      doing = doing_requiring files (decls files is ws) ((written ++ all_name_meetings s turns_names) ++ meetings sides) first sided.scopes opened (adds.own ++ sided.own_required) (made_before ++ sided.more) new sided.doing
+      function_part : IsFunctionPart files (decls files is ws) ((written ++ all_name_occurrences s turns_names) ++ occurrences sides) all_scopes_now (made_before ++ sided.more) new
+      function_part = function_part_requiring files (decls files is ws) ((written ++ all_name_occurrences s turns_names) ++ occurrences sides) first sided.scopes opened (adds.own ++ sided.own_required) (made_before ++ sided.more) new sided.function_part
 
       -- what is required on its sides
-      told : AreTold files (keys doing.met) s (side_items w) sides sided.scopes sided.own_required adds.rest
-      told = sided.told doing.met doing.meets
+      as_stated : AreAsStated files (keys function_part.seen) s (side_items w) sides sided.scopes sided.own_required adds.rest
+      as_stated = sided.as_stated function_part.seen function_part.collects
 
-      -- all that are written in it stand there
+      -- all that are written in it are there
       items_all : map item_of sided.ordered ≡ inline_items w
       items_all =
           let long : length (map item_of sided.ordered ++ sided.left) ≡ length (inline_items w) = ap length sided.items in
@@ -132,38 +132,38 @@ module _ (files : List PackageFile) (is ws : List Item) (interfaces : AreOfSort 
           let none : sided.left ≡ [] = none_left sided.left (omega (arith, long, parts, own, used, count)) in
           sym (append-nil (map item_of sided.ordered)) ∙ ap (λ (l : List Item). map item_of sided.ordered ++ l) (sym none) ∙ sided.items
 
-      grown_names : Grown (keys opened_names.met) (keys doing.met)
-      grown_names = meets_longer (written ++ all_name_meetings s turns_names) (meetings sides) [] opened_names.met doing.met opened_names.meets doing.meets
+      extended_names : Extended (keys opened_names.seen) (keys function_part.seen)
+      extended_names = collects_longer (written ++ all_name_occurrences s turns_names) (occurrences sides) [] opened_names.seen function_part.seen opened_names.collects function_part.collects
 
-      grown_before : Grown (keys e.done.met) (keys doing.met)
-      grown_before = grown_trans (meets_longer written (all_name_meetings s turns_names) [] e.done.met opened_names.met e.done.meets opened_names.meets) grown_names
+      extended_before : Extended (keys e.done.seen) (keys function_part.seen)
+      extended_before = extended_trans (collects_longer written (all_name_occurrences s turns_names) [] e.done.seen opened_names.seen e.done.collects opened_names.collects) extended_names
 
       -- what its names require
-      names_required : AreRequired files (keys doing.met) (map (in_scope s) (all_handles (flat_map name_types turns_names))) adds.own
-      names_required = required_grown files grown_names (map (in_scope s) (all_handles (flat_map name_types turns_names))) adds.own (ended_required files (decls files is ws) (keys opened_names.met) adds.middle opened_names.meeting.keyed (λ j t name at. doing_declared files (decls files is ws) (written ++ all_name_meetings s turns_names) (first ++ opened ∷ []) made_before adds.middle t name opened_names (opened_names.before j t name at)) s (env_of adds.types) (opened_names.stand (length first) opened (at_seam first opened)) (all_handles (flat_map name_types turns_names)) adds.own adds.ended)
+      names_required : AreRequired files (keys function_part.seen) (map (in_scope s) (all_handles (flat_map name_types turns_names))) adds.own
+      names_required = required_extended files extended_names (map (in_scope s) (all_handles (flat_map name_types turns_names))) adds.own (ended_required files (decls files is ws) (keys opened_names.seen) adds.middle opened_names.occurrence.keyed (λ j t name at. function_part_declared files (decls files is ws) (written ++ all_name_occurrences s turns_names) (first ++ opened ∷ []) made_before adds.middle t name opened_names (opened_names.before j t name at)) s (env_of adds.types) (opened_names.are_present (length first) opened (at_seam first opened)) (all_handles (flat_map name_types turns_names)) adds.own adds.ended)
 
       -- and with them its functions
-      own_required : AreRequired files (keys doing.met) (turn_handles (turn_of closed)) closed.required
+      own_required : AreRequired files (keys function_part.seen) (turn_handles (turn_of closed)) closed.required
       own_required =
           let ts : List Written = flat_map name_types turns_names in
           let fns : List Written = flat_map written_types (functions w) in
-          let functions_required : AreRequired files (keys doing.met) (map (in_scope s) (all_handles fns)) sided.own_required = subst (λ (l : List SourceFunction). AreRequired files (keys doing.met) (map (in_scope s) (all_handles (flat_map written_types l))) sided.own_required) (sym (functions_items w)) told.by_functions in
+          let functions_required : AreRequired files (keys function_part.seen) (map (in_scope s) (all_handles fns)) sided.own_required = subst (λ (l : List SourceFunction). AreRequired files (keys function_part.seen) (map (in_scope s) (all_handles (flat_map written_types l))) sided.own_required) (sym (functions_items w)) as_stated.by_functions in
           let whole : map (in_scope s) (all_handles (ts ++ fns)) ≡ map (in_scope s) (all_handles ts) ++ map (in_scope s) (all_handles fns) = ap (map (in_scope s)) (all_handles-append ts fns) ∙ map-append (in_scope s) (all_handles ts) (all_handles fns) in
-          subst (λ (hs : List (Address × Id)). AreRequired files (keys doing.met) hs (adds.own ++ sided.own_required)) (sym whole) (required_append files (keys doing.met) (map (in_scope s) (all_handles ts)) (map (in_scope s) (all_handles fns)) adds.own sided.own_required names_required functions_required)
+          subst (λ (hs : List (Address × Id)). AreRequired files (keys function_part.seen) hs (adds.own ++ sided.own_required)) (sym whole) (required_append files (keys function_part.seen) (map (in_scope s) (all_handles ts)) (map (in_scope s) (all_handles fns)) adds.own sided.own_required names_required functions_required)
 
-      -- its functions, as they are written and as they stand on its sides
+      -- its functions, as they are written and as they are on its sides
       by_items : (k : ℕ) → slice_get (scope_functions closed) k ≡ slice_get (done_functions s (flat_map item_function (side_items w)) adds.functions) k
       by_items k = ap (λ (l : List SourceFunction). slice_get (done_functions s l adds.functions) k) (functions_items w)
 
-      behind_made : (g : DoneFunction) → (j : ℕ) × (slice_get sided.more j ≡ Some g) → (j : ℕ) × (slice_get (made_before ++ sided.more) j ≡ Some g)
-      behind_made g it = (length made_before + it.0, at_back made_before sided.more it.0 g it.1)
+      after_made : (g : DoneFunction) → (j : ℕ) × (slice_get sided.more j ≡ Some g) → (j : ℕ) × (slice_get (made_before ++ sided.more) j ≡ Some g)
+      after_made g it = (length made_before + it.0, at_back made_before sided.more it.0 g it.1)
 
       made_among : (t k : ℕ) (x : DoneScope) (g : DoneFunction) → slice_get all_scopes_now t ≡ Some x → slice_get (scope_functions x) k ≡ Some g → (j : ℕ) × (slice_get (made_before ++ sided.more) j ≡ Some g)
       made_among t k x g at there = elim (one_of_three first sided.scopes closed t x at) [
-        | inl h ↦ (let it = flat_map_has scope_functions first h.0 k x g h.1 there in (it.0, at_front made_before sided.more it.0 g it.1))
+        | inl h ↦ (let it = flat_map_has scope_functions first h.0 k x g h.1 there in (it.0, at_prefix made_before sided.more it.0 g it.1))
         | inr h ↦ elim h [
-          | inl own ↦ behind_made g (sided.own k g (sym (by_items k) ∙ ap (λ (y : DoneScope). slice_get (scope_functions y) k) (sym own) ∙ there))
-          | inr far ↦ behind_made g (sided.within far.0 k x g far.1 there)
+          | inl own ↦ after_made g (sided.own k g (sym (by_items k) ∙ ap (λ (y : DoneScope). slice_get (scope_functions y) k) (sym own) ∙ there))
+          | inr far ↦ after_made g (sided.within far.0 k x g far.1 there)
         ]
       ]
 
@@ -174,13 +174,13 @@ module _ (files : List PackageFile) (is ws : List Item) (interfaces : AreOfSort 
         | inr h ↦ elim h [ inl is ↦ subst P (sym is) own | inr it ↦ far it.0 x it.1 ]
       ]
 
-      all_of : AreWhole files all_scopes_now (made_before ++ sided.more) (keys doing.met)
+      all_of : AreWhole files all_scopes_now (made_before ++ sided.more) (keys function_part.seen)
       all_of = record {
         functions = of_each (λ (x : DoneScope). x.functions ≡ functions_at files x.address) (λ k x at. (e.done.each k x at).functions) (sym (functions_of files ws (item_scopes files ws ws_items) (length us) w next)) (λ k x at. (sided.whole k x at).functions);
         stated = of_each (λ (x : DoneScope). AreStated x.functions x.made x.stated) (λ k x at. (e.done.each k x at).stated) stated_all (λ k x at. (sided.whole k x at).stated);
         count = of_each (λ (x : DoneScope). length x.made ≡ length x.functions) (λ k x at. (e.done.made k x at).count) (sided.count ∙ ap length (sym (functions_items w))) (λ k x at. (sided.whole k x at).count);
         made = made_among;
-        required = of_each (λ (x : DoneScope). AreRequired files (keys doing.met) (turn_handles (turn_of x)) x.required) (λ k x at. required_grown files grown_before (turn_handles (turn_of x)) x.required (e.done.required k x at)) own_required told.each;
+        required = of_each (λ (x : DoneScope). AreRequired files (keys function_part.seen) (turn_handles (turn_of x)) x.required) (λ k x at. required_extended files extended_before (turn_handles (turn_of x)) x.required (e.done.required k x at)) own_required as_stated.each;
       }
 
       abbrev world : OrderedWorld
@@ -189,31 +189,31 @@ module _ (files : List PackageFile) (is ws : List Item) (interfaces : AreOfSort 
       abbrev world_done : DoneWorld
       world_done = record { own = closed; inside = sided.scopes }
 
-      abbrev then_written : List Meeting
-      then_written = all_meetings files (all_turns d.ordered (e.ordered ++ world ∷ []))
+      abbrev then_written : List Occurrence
+      then_written = all_occurrences files (all_turns d.ordered (e.ordered ++ world ∷ []))
 
-      then_meets : then_written ≡ (written ++ all_name_meetings s turns_names) ++ meetings sides
-      then_meets = written_more files d.ordered e.ordered world s turns_names refl
+      then_collects : then_written ≡ (written ++ all_name_occurrences s turns_names) ++ occurrences sides
+      then_collects = written_more files d.ordered e.ordered world s turns_names refl
 
       all_done : IsDone files (decls files is ws) then_written (before ++ flat_map scopes_of (e.scopes ++ world_done ∷ [])) new
-      all_done = subst (λ (ms : List Meeting). IsDone files (decls files is ws) ms (before ++ flat_map scopes_of (e.scopes ++ world_done ∷ [])) new) (sym then_meets) (subst (λ (l : List DoneScope). IsDone files (decls files is ws) ((written ++ all_name_meetings s turns_names) ++ meetings sides) l new) (sym (scopes_more before e.scopes world_done)) (done_of files (decls files is ws) ((written ++ all_name_meetings s turns_names) ++ meetings sides) all_scopes_now (made_before ++ sided.more) new doing all_of))
+      all_done = subst (λ (ms : List Occurrence). IsDone files (decls files is ws) ms (before ++ flat_map scopes_of (e.scopes ++ world_done ∷ [])) new) (sym then_collects) (subst (λ (l : List DoneScope). IsDone files (decls files is ws) ((written ++ all_name_occurrences s turns_names) ++ occurrences sides) l new) (sym (scopes_more before e.scopes world_done)) (done_of files (decls files is ws) ((written ++ all_name_occurrences s turns_names) ++ occurrences sides) all_scopes_now (made_before ++ sided.more) new function_part all_of))
 
-      all_required : (met : List Meeting) → Meets [] then_written met → AreRequired files (keys met) (flat_map turn_handles (flat_map world_turns (e.ordered ++ world ∷ []))) (qs ++ rs)
-      all_required met meets =
-          let same : doing.met ≡ met = meets_one ((written ++ all_name_meetings s turns_names) ++ meetings sides) [] doing.met met doing.meets (subst (λ (ms : List Meeting). Meets [] ms met) then_meets meets) in
+      all_required : (seen : List Occurrence) → Collects [] then_written seen → AreRequired files (keys seen) (flat_map turn_handles (flat_map world_turns (e.ordered ++ world ∷ []))) (qs ++ rs)
+      all_required seen collects =
+          let same : function_part.seen ≡ seen = collects_one ((written ++ all_name_occurrences s turns_names) ++ occurrences sides) [] function_part.seen seen function_part.collects (subst (λ (ms : List Occurrence). Collects [] ms seen) then_collects collects) in
           let old_handles = flat_map turn_handles (flat_map world_turns e.ordered) in
           let own_handles = map (in_scope s) (all_handles (flat_map name_types turns_names)) in
           let side_handles = flat_map turn_handles sides in
-          let old_required = required_grown files grown_before old_handles qs (e.required e.done.met e.done.meets) in
-          let new_required = required_append files (keys doing.met) own_handles side_handles adds.own adds.rest names_required told.in_all in
-          let whole = required_append files (keys doing.met) old_handles (own_handles ++ side_handles) qs (adds.own ++ adds.rest) old_required new_required in
-          subst (λ (ms : List Meeting). AreRequired files (keys ms) (flat_map turn_handles (flat_map world_turns (e.ordered ++ world ∷ []))) (qs ++ rs)) same (subst (λ (hs : List (Address × Id)). AreRequired files (keys doing.met) hs (qs ++ rs)) (sym (handles_more e.ordered world s turns_names refl)) (subst (λ (ts : List Required). AreRequired files (keys doing.met) (old_handles ++ (own_handles ++ side_handles)) (qs ++ ts)) (sym adds.requires) whole))
+          let old_required = required_extended files extended_before old_handles qs (e.required e.done.seen e.done.collects) in
+          let new_required = required_append files (keys function_part.seen) own_handles side_handles adds.own adds.rest names_required as_stated.in_all in
+          let whole = required_append files (keys function_part.seen) old_handles (own_handles ++ side_handles) qs (adds.own ++ adds.rest) old_required new_required in
+          subst (λ (ms : List Occurrence). AreRequired files (keys ms) (flat_map turn_handles (flat_map world_turns (e.ordered ++ world ∷ []))) (qs ++ rs)) same (subst (λ (hs : List (Address × Id)). AreRequired files (keys function_part.seen) hs (qs ++ rs)) (sym (handles_more e.ordered world s turns_names refl)) (subst (λ (ts : List Required). AreRequired files (keys function_part.seen) (old_handles ++ (own_handles ++ side_handles)) (qs ++ ts)) (sym adds.requires) whole))
 
       listed : map (λ p. p.0) adds.types ≡ local_names turns_names
       listed = (opened_names.each (length first) opened (at_seam first opened)).listed
 
-      is_cell : cell_of closed ≡ world_cell adds.added
-      is_cell =
+      is_resolved_scope : resolved_scope_of closed ≡ world_resolved_scope adds.added
+      is_resolved_scope =
           let none = settled_none import_types (includes w) adds.imported (side_types all_addresses w.top Imported (side_items w) adds.functions inside_addresses adds.imported adds.are_imported) in
           let types = own_types turns_names adds.types (settled (includes w) adds.imported) adds.added listed (adds.imports ∙ settled_types (includes w) turns_names adds.types adds.imported) none in
           ap (λ (x : Address). record { address = x; types = adds.types; functions = free_of both }) (world_address w (worlds.each (length us) w next))
@@ -226,8 +226,8 @@ module _ (files : List PackageFile) (is ws : List Item) (interfaces : AreOfSort 
         imports = adds.imports;
         exported = adds.exported;
         exports = adds.exports;
-        are_imported = side_items_wider all_addresses (interface_list files is (inside_of ws)) (interface_added files is ws interfaces worlds is_items ws_items uses es front wfront foreign middle xs irs d us old a qs e w next b.addresses adds.more) w.top Imported (side_items w) adds.functions inside_addresses adds.imported adds.are_imported;
-        are_exported = side_items_wider all_addresses (interface_list files is (inside_of ws)) (interface_added files is ws interfaces worlds is_items ws_items uses es front wfront foreign middle xs irs d us old a qs e w next b.addresses adds.more) w.top Exported (side_items w) adds.functions inside_addresses adds.exported adds.are_exported;
+        are_imported = side_items_wider all_addresses (interface_list files is (inside_of ws)) (interface_added files is ws interfaces worlds is_items ws_items uses es prefix wprefix foreign middle xs irs d us old a qs e w next b.addresses adds.more) w.top Imported (side_items w) adds.functions inside_addresses adds.imported adds.are_imported;
+        are_exported = side_items_wider all_addresses (interface_list files is (inside_of ws)) (interface_added files is ws interfaces worlds is_items ws_items uses es prefix wprefix foreign middle xs irs d us old a qs e w next b.addresses adds.more) w.top Exported (side_items w) adds.functions inside_addresses adds.exported adds.are_exported;
         stated = refl;
         paired = adds.paired;
       }
@@ -235,14 +235,14 @@ module _ (files : List PackageFile) (is ws : List Item) (interfaces : AreOfSort 
       says : SaysWorld (world_list files ws) world.own adds.added
       says = record {
         says = adds.says;
-        includes = includes_wider (worlds_at others a.worlds) (world_list files ws) w adds.added.includes (world_added files is ws interfaces worlds is_items ws_items uses es front wfront foreign middle xs irs d us old a qs e w next) adds.includes;
+        includes = includes_wider (worlds_at others a.worlds) (world_list files ws) w adds.added.includes (world_added files is ws interfaces worlds is_items ws_items uses es prefix wprefix foreign middle xs irs d us old a qs e w next) adds.includes;
       }
 
-      abbrev Laid : List Ordered → List DoneScope → Type 0
-      Laid os cs = AreLaid (WorldOwner files) (SaysWorld (world_list files ws)) world_cell (MakesWorld (interface_list files is (inside_of ws))) ws os (e.own ++ adds.added ∷ []) cs
+      abbrev ScopesInTurn : List Ordered → List DoneScope → Type 0
+      ScopesInTurn os cs = AreLaid (WorldOwner files) (SaysWorld (world_list files ws)) world_resolved_scope (MakesWorld (interface_list files is (inside_of ws))) ws os (e.own ++ adds.added ∷ []) cs
 
-      all_laid : Laid (map own_order (e.ordered ++ world ∷ [])) (map own_scope (e.scopes ++ world_done ∷ []))
-      all_laid = subst (λ (os : List Ordered). Laid os (map own_scope (e.scopes ++ world_done ∷ []))) (sym (map-append own_order e.ordered (world ∷ []))) (subst (λ (cs : List DoneScope). Laid (map own_order e.ordered ++ world.own ∷ []) cs) (sym (map-append own_scope e.scopes (world_done ∷ []))) (laid_more (WorldOwner files) (SaysWorld (world_list files ws)) world_cell (MakesWorld (interface_list files is (inside_of ws))) ws (map own_order e.ordered) e.own (e.own ++ adds.added ∷ []) (map own_scope e.scopes) world.own closed adds.added e.laid (ap (slice_get ws) (place files is ws interfaces worlds is_items ws_items uses es front wfront foreign middle xs irs d us old a qs e w next) ∙ next) adds.adds.least refl says refl is_cell refl makes))
+      all_laid : ScopesInTurn (map own_order (e.ordered ++ world ∷ [])) (map own_scope (e.scopes ++ world_done ∷ []))
+      all_laid = subst (λ (os : List Ordered). ScopesInTurn os (map own_scope (e.scopes ++ world_done ∷ []))) (sym (map-append own_order e.ordered (world ∷ []))) (subst (λ (cs : List DoneScope). ScopesInTurn (map own_order e.ordered ++ world.own ∷ []) cs) (sym (map-append own_scope e.scopes (world_done ∷ []))) (laid_more (WorldOwner files) (SaysWorld (world_list files ws)) world_resolved_scope (MakesWorld (interface_list files is (inside_of ws))) ws (map own_order e.ordered) e.own (e.own ++ adds.added ∷ []) (map own_scope e.scopes) world.own closed adds.added e.laid (ap (slice_get ws) (place files is ws interfaces worlds is_items ws_items uses es prefix wprefix foreign middle xs irs d us old a qs e w next) ∙ next) adds.adds.least refl says refl is_resolved_scope refl makes))
 
       inside_orders : all_inside (e.ordered ++ world ∷ []) ≡ all_inside e.ordered ++ sided.ordered
       inside_orders = flat_map-append (λ (x : OrderedWorld). x.inside) e.ordered (world ∷ []) ∙ ap (λ (l : List Ordered). all_inside e.ordered ++ l) (append-nil sided.ordered)
@@ -252,7 +252,7 @@ module _ (files : List PackageFile) (is ws : List Item) (interfaces : AreOfSort 
 
       inside_laid : AreInside (length ss + length is) (all_inside (e.ordered ++ world ∷ [])) (all_within (e.scopes ++ world_done ∷ [])) b.inside
       inside_laid =
-          let spot : length (front ++ xs) + length a.inside ≡ (length ss + length is) + length (all_inside e.ordered) = (let p = (next_place files is ws interfaces worlds is_items ws_items uses es front wfront foreign middle xs irs d us old a qs e w next) in let q = (long_inside files is ws interfaces worlds is_items ws_items uses es front wfront foreign middle xs irs d us old a qs e w next) in omega arith) in
+          let spot : length (prefix ++ xs) + length a.inside ≡ (length ss + length is) + length (all_inside e.ordered) = (let p = (next_place files is ws interfaces worlds is_items ws_items uses es prefix wprefix foreign middle xs irs d us old a qs e w next) in let q = (long_inside files is ws interfaces worlds is_items ws_items uses es prefix wprefix foreign middle xs irs d us old a qs e w next) in omega arith) in
           let more = inside_append (length ss + length is) (all_inside e.ordered) sided.ordered (all_within e.scopes) sided.scopes a.inside sided.added e.laid_inside (subst (λ (n : ℕ). AreInside n sided.ordered sided.scopes sided.added) spot sided.laid) in
           subst (λ (os : List Ordered). AreInside (length ss + length is) os (all_within (e.scopes ++ world_done ∷ [])) b.inside) (sym inside_orders) (subst (λ (cs : List DoneScope). AreInside (length ss + length is) (all_inside e.ordered ++ sided.ordered) cs b.inside) (sym inside_scopes) (subst (λ (js : List Interface). AreInside (length ss + length is) (all_inside e.ordered ++ sided.ordered) (all_within e.scopes ++ sided.scopes) js) (sym sided.last) more))
 
@@ -262,39 +262,39 @@ module _ (files : List PackageFile) (is ws : List Item) (interfaces : AreOfSort 
         ordered = e.ordered ++ world ∷ [];
         scopes = e.scopes ++ world_done ∷ [];
         own = e.own ++ adds.added ∷ [];
-        arena = adds.last ∙ ap (λ (l : List World). l ++ adds.added ∷ []) e.arena ∙ append_assoc wfront e.own (adds.added ∷ []);
+        arena = adds.last ∙ ap (λ (l : List World). l ++ adds.added ∷ []) e.arena ∙ append_assoc wprefix e.own (adds.added ∷ []);
         all = map-append own_item e.ordered (world ∷ []) ∙ ap (λ (l : List Item). l ++ w ∷ []) e.all;
         each_inside = λ t p at. elim (at_either e.ordered world t p at) [
           | inl old ↦ e.each_inside t p old
           | inr new ↦ subst (λ (x : OrderedWorld). map item_of x.inside ≡ inline_items x.own.item) (sym new.1) items_all
         ];
-        inside = ap (map item_of) inside_orders ∙ map-append item_of (all_inside e.ordered) sided.ordered ∙ ap (λ (l : List Item). l ++ map item_of sided.ordered) e.inside ∙ ap (λ (l : List Item). inside_of us ++ l) items_all ∙ sym (inside_split files is ws interfaces worlds is_items ws_items uses es front wfront foreign middle xs irs d us old a qs e w next);
+        inside = ap (map item_of) inside_orders ∙ map-append item_of (all_inside e.ordered) sided.ordered ∙ ap (λ (l : List Item). l ++ map item_of sided.ordered) e.inside ∙ ap (λ (l : List Item). inside_of us ++ l) items_all ∙ sym (inside_split files is ws interfaces worlds is_items ws_items uses es prefix wprefix foreign middle xs irs d us old a qs e w next);
         laid = all_laid;
         laid_inside = inside_laid;
-        addresses = adds.more ∙ ap (λ (l : List Address). l ++ inside_addresses) e.addresses ∙ sym (map-append address (inside_of us) (inline_items w)) ∙ ap (map address) (sym (inside_split files is ws interfaces worlds is_items ws_items uses es front wfront foreign middle xs irs d us old a qs e w next));
+        addresses = adds.more ∙ ap (λ (l : List Address). l ++ inside_addresses) e.addresses ∙ sym (map-append address (inside_of us) (inline_items w)) ∙ ap (map address) (sym (inside_split files is ws interfaces worlds is_items ws_items uses es prefix wprefix foreign middle xs irs d us old a qs e w next));
         done = all_done;
         required = all_required;
       }
 
   -- no world is done yet
-  no_world : WorldsDone [] middle (front_worlds wfront) []
+  no_world : WorldsDone [] middle (prefix_worlds wprefix) []
   no_world = record {
     ordered = [];
     scopes = [];
     own = [];
-    arena = sym (append-nil wfront);
+    arena = sym (append-nil wprefix);
     all = refl;
     each_inside = λ t o at. absurd (let f : ⊥ = cc in f);
     inside = refl;
-    laid = laid_none (WorldOwner files) (SaysWorld (world_list files ws)) world_cell (MakesWorld (interface_list files is (inside_of ws))) ws;
+    laid = laid_none (WorldOwner files) (SaysWorld (world_list files ws)) world_resolved_scope (MakesWorld (interface_list files is (inside_of ws))) ws;
     laid_inside = tt;
     addresses = refl;
-    done = subst (λ (l : List DoneScope). IsDone files (decls files is ws) (all_meetings files (all_turns d.ordered [])) l middle) (sym (append-nil before)) (subst (λ (ts : List Turned). IsDone files (decls files is ws) (all_meetings files ts) before middle) (sym (append-nil (map turned d.ordered))) d.done);
-    required = λ met meets. required_none files (keys met);
+    done = subst (λ (l : List DoneScope). IsDone files (decls files is ws) (all_occurrences files (all_turns d.ordered [])) l middle) (sym (append-nil before)) (subst (λ (ts : List Turned). IsDone files (decls files is ws) (all_occurrences files ts) before middle) (sym (append-nil (map turned d.ordered))) d.done);
+    required = λ seen collects. required_none files (keys seen);
   }
 
   -- all that are left
-  more_worlds : (us : List Item) (old new : List TypeDef) (a b : WorldArenas) (qs rs : List Required) (vs : List Item) → ((k : ℕ) (w : Item) → slice_get vs k ≡ Some w → slice_get ws (length us + k) ≡ Some w) → WorldsDone us old a qs → AddsWorlds ss others (front ++ xs) old new a b rs vs → WorldsDone (us ++ vs) new b (qs ++ rs)
+  more_worlds : (us : List Item) (old new : List TypeDef) (a b : WorldArenas) (qs rs : List Required) (vs : List Item) → ((k : ℕ) (w : Item) → slice_get vs k ≡ Some w → slice_get ws (length us + k) ≡ Some w) → WorldsDone us old a qs → AddsWorlds ss others (prefix ++ xs) old new a b rs vs → WorldsDone (us ++ vs) new b (qs ++ rs)
   more_worlds us old new a b qs rs [] there e adds = rw (append-nil us, adds.0, adds.1, adds.2, append-nil qs) e
   more_worlds us old new a b qs rs (w ∷ vs) there e adds =
       let at : slice_get ws (length us) ≡ Some w = subst (λ (m : ℕ). slice_get ws m ≡ Some w) (add-zero (length us)) (there 0 w refl) in
@@ -304,6 +304,6 @@ module _ (files : List PackageFile) (is ws : List Item) (interfaces : AreOfSort 
       let whole = more_worlds (us ++ w ∷ []) adds.0 new adds.1 b (qs ++ adds.2) adds.3 vs rest (world_more us old a qs e w at adds.0 adds.1 adds.2 adds.5) adds.6 in
       subst (λ (x : List Item). WorldsDone x new b (qs ++ rs)) (append_assoc us (w ∷ []) vs) (subst (λ (x : List Required). WorldsDone ((us ++ w ∷ []) ++ vs) new b x) more whole)
 
-  -- the first worlds, behind all interfaces and behind the worlds of other packages
-  pub worlds_done : (new : List TypeDef) (b : WorldArenas) (rs : List Required) (vs : List Item) → ((k : ℕ) (w : Item) → slice_get vs k ≡ Some w → slice_get ws k ≡ Some w) → AddsWorlds ss others (front ++ xs) middle new (front_worlds wfront) b rs vs → WorldsDone vs new b rs
-  worlds_done new b rs vs there adds = more_worlds [] middle new (front_worlds wfront) b [] rs vs (λ k w h. subst (λ (m : ℕ). slice_get ws m ≡ Some w) (sym (zero-add k)) (there k w h)) no_world adds
+  -- the first worlds, after all interfaces and after the worlds of other packages
+  pub worlds_done : (new : List TypeDef) (b : WorldArenas) (rs : List Required) (vs : List Item) → ((k : ℕ) (w : Item) → slice_get vs k ≡ Some w → slice_get ws k ≡ Some w) → AddsWorlds ss others (prefix ++ xs) middle new (prefix_worlds wprefix) b rs vs → WorldsDone vs new b rs
+  worlds_done new b rs vs there adds = more_worlds [] middle new (prefix_worlds wprefix) b [] rs vs (λ k w h. subst (λ (m : ℕ). slice_get ws m ≡ Some w) (sym (zero-add k)) (there k w h)) no_world adds

@@ -17,7 +17,7 @@ use Rattle.wit_syntax.specs.Shape.{Shape, Prim, Word, Of, Shapes, End, More, sha
 use Rattle.wit_syntax.specs.Address.{Address}
 use Rattle.wit_arena.specs.Expr.{joined, expr_of, exprs_of}
 use Rattle.wit_arena.specs.Expr as exprs
-use Rattle.wit_arena.specs.Meet.{shape_meetings, shapes_meetings}
+use Rattle.wit_arena.specs.Occurrences.{shape_occurrences, shapes_occurrences}
 use Rattle.wit_syntax.specs.Fault.{Fault}
 use Rattle.wit_syntax.specs.Bodies.{IsBrokenForm, IsBrokenType, Itself, Inside, IsBrokenPart}
 use Rattle.wit_arena.specs.Resolving.{Env, IsWrongWord, IsWrongType, AreWrongTypes}
@@ -58,14 +58,14 @@ inner-parts _ h = refl
 pub tuple_inner : (span : Span) (v : Vec Written Global) → inner (shape_of (written.Tuple span v)) ≡ all_shapes v.items
 tuple_inner span v = inner-parts (written.Tuple span v) tt ∙ ap all_shapes (tuple_types span v)
 
--- types behind others
+-- types after others
 pub all_exprs-append : (s : Address) (ts us : List Written) → exprs_of s (all_shapes (ts ++ us)) ≡ joined (exprs_of s (all_shapes ts)) (exprs_of s (all_shapes us))
 all_exprs-append s [] us = refl
 all_exprs-append s (t ∷ ts) us = ap (exprs.More (expr_of s (shape_of t))) (all_exprs-append s ts us)
 
-pub all_meetings-append : (s : Address) (given : Stability) (ts us : List Written) → shapes_meetings s given (all_shapes (ts ++ us)) ≡ shapes_meetings s given (all_shapes ts) ++ shapes_meetings s given (all_shapes us)
-all_meetings-append s given [] us = refl
-all_meetings-append s given (t ∷ ts) us = ap (λ ms. shape_meetings s given (shape_of t) ++ ms) (all_meetings-append s given ts us) ∙ sym (append_assoc (shape_meetings s given (shape_of t)) (shapes_meetings s given (all_shapes ts)) (shapes_meetings s given (all_shapes us)))
+pub all_occurrences-append : (s : Address) (given : Stability) (ts us : List Written) → shapes_occurrences s given (all_shapes (ts ++ us)) ≡ shapes_occurrences s given (all_shapes ts) ++ shapes_occurrences s given (all_shapes us)
+all_occurrences-append s given [] us = refl
+all_occurrences-append s given (t ∷ ts) us = ap (λ ms. shape_occurrences s given (shape_of t) ++ ms) (all_occurrences-append s given ts us) ∙ sym (append_assoc (shape_occurrences s given (shape_of t)) (shapes_occurrences s given (all_shapes ts)) (shapes_occurrences s given (all_shapes us)))
 
 pub all_words-append : (ts us : List Written) → all_words (all_shapes (ts ++ us)) ≡ all_words (all_shapes ts) ++ all_words (all_shapes us)
 all_words-append [] us = refl
@@ -142,7 +142,7 @@ handles_inside t id h = subst (λ (l : List Id). Contains l id) (sym (handles-pa
 -- names that are wrong are so among more of them
 pub word_wider : (env : Env) (es : List TypeDef) (ids hs jds gs : List Id) (f : Fault) → ((id : Id) → Contains ids id → Contains jds id) → ((id : Id) → Contains hs id → Contains gs id) → IsWrongWord env es ids hs f → IsWrongWord env es jds gs f
 word_wider env es ids hs jds gs f p q (inl unknown) = inl (record { id = unknown.id; among = p unknown.id unknown.among; free = unknown.free; is = unknown.is })
-word_wider env es ids hs jds gs f p q (inr handle) = inr (record { id = handle.id; among = q handle.id handle.among; place = handle.place; stands = handle.stands; steps = handle.steps; other = handle.other; is = handle.is })
+word_wider env es ids hs jds gs f p q (inr handle) = inr (record { id = handle.id; among = q handle.id handle.among; place = handle.place; present = handle.present; steps = handle.steps; other = handle.other; is = handle.is })
 
 pub wrong_at : (env : Env) (es : List TypeDef) (ts : List Written) (i : ℕ) (t : Written) (f : Fault) → slice_get ts i ≡ Some t → IsWrongType env es t f → AreWrongTypes env es ts f
 wrong_at env es ts i t f at (inl broken) = inl (t, contains_at ts i t at, broken)

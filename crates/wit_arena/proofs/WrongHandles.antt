@@ -14,82 +14,82 @@ use Rattle.wit_types.specs.declared.types.TypeOwner.{TypeOwner}
 use Rattle.wit_types.specs.declared.types.TypeOwner.TheVariants as owner
 use Rattle.wit_syntax.specs.Address.{Address}
 use Rattle.wit_syntax.specs.Source.{address, Item, all_items, ScopeName, local_name, scope_names}
-use Rattle.wit_syntax.specs.Trees.{scope}
+use Rattle.wit_syntax.specs.ScopesOfTrees.{scope}
 use Rattle.wit_syntax.specs.Foreign.{visited, foreign_interfaces}
 use Rattle.wit_syntax.specs.Ends.{IsNoResource}
 use Rattle.wit_syntax.specs.Function.{item_types}
 use Rattle.wit_syntax.specs.Scope.{in_turn, AreDistinct}
 use Rattle.wit_syntax.specs.Sides.{side_items, inline_items}
 use Rattle.wit_syntax.specs.Fault.{Fault}
-use Rattle.wit_arena.specs.Meet.{Def, Meeting, keys, Decls}
-use Rattle.wit_arena.specs.Whole.{Turned, turned, all_meetings, all_turns}
-use Rattle.wit_arena.specs.Resolving.{Names, Cell, Required, env_of, cells, AreNames, AreKnown, IsDefined, AreOwned}
+use Rattle.wit_arena.specs.Occurrences.{Def, Occurrence, keys, Decls}
+use Rattle.wit_arena.specs.Whole.{Turned, turned, all_occurrences, all_turns}
+use Rattle.wit_arena.specs.Resolving.{Names, ResolvedScope, Required, env_of, resolved_scopes, AreNames, AreKnown, IsDefined, AreOwned}
 use Rattle.wit_arena.specs.Resolved.{WorldArenas, AddsScope, AddsSides, AddsForeign, AreUsableUses, IsWrongHandleNow}
-use Rattle.wit_syntax.proofs.Lists.{at_front, at_take, map_at}
+use Rattle.wit_syntax.proofs.Lists.{at_prefix, at_take, map_at}
 use Rattle.wit_syntax.proofs.Repeated.{differ_at, differ_by}
 use Rattle.wit_syntax.proofs.Turns.{at_part, in_turn_among, in_turn_distinct}
 use Rattle.wit_syntax.proofs.Inline.{inline_items_differ}
-use Rattle.wit_arena.proofs.Meeting.{meets_from}
-use Rattle.wit_arena.proofs.Defining.{name_met_in}
+use Rattle.wit_arena.proofs.Occurrence.{collects_from}
+use Rattle.wit_arena.proofs.DefinitionPart.{name_seen_in}
 use Rattle.wit_arena.proofs.Ends.{IsDeclared}
 use Rattle.wit_arena.proofs.Required.{defined_broken-more}
-use Rattle.wit_arena.proofs.Standing.{DoneScope, done_address, cell_of, IsNameOf}
-use Rattle.wit_arena.proofs.Doing.{DoneFunction, scope_functions, IsDoing}
+use Rattle.wit_arena.proofs.Members.{DoneScope, done_address, resolved_scope_of, IsNameOf}
+use Rattle.wit_arena.proofs.FunctionPart.{DoneFunction, scope_functions, IsFunctionPart}
 use Rattle.wit_arena.proofs.Interfaces.{AreItems, AreOfSort, item_scopes, scope_of}
-use Rattle.wit_arena.proofs.Front.{front_scopes}
-use Rattle.wit_arena.proofs.Laid.{none_is_next}
-use Rattle.wit_arena.proofs.Added.{decls, InterfacesDone, defines_wider, item_declared, world_item_declared, front_apart, cells_among, next_interface, next_world}
+use Rattle.wit_arena.proofs.Prefix.{prefix_scopes}
+use Rattle.wit_arena.proofs.ScopesInTurn.{none_is_next}
+use Rattle.wit_arena.proofs.Added.{decls, InterfacesDone, defines_wider, item_declared, world_item_declared, prefix_apart, resolved_scopes_among, next_interface, next_world}
 use Rattle.wit_arena.proofs.Inside.{inside_at, inside_scopes-count}
-use Rattle.wit_arena.proofs.Begun.{doing_of}
+use Rattle.wit_arena.proofs.DoneNames.{function_part_of}
 use Rattle.wit_arena.proofs.Sided.{AreSided, IsFreshInside}
 use Rattle.wit_arena.proofs.DoneWorlds.{scopes_of, own_order, AreWorldsDone}
 use Rattle.wit_arena.proofs.WorldSides.{world_fresh, fresh_inside, sides_done}
 use Rattle.wit_arena.proofs.WorldSides as done
-use Rattle.wit_arena.proofs.Turns.{item_of, own_item, all_name_meetings}
+use Rattle.wit_arena.proofs.Turns.{item_of, own_item, all_name_occurrences}
 
 -- these scopes are among those that are being resolved
-abbrev AreAmong : List Cell → List DoneScope → Type 0
-AreAmong known cs = (t : ℕ) (c : Cell) → slice_get known t ≡ Some c → (j : ℕ) × (slice_get (map cell_of cs) j ≡ Some c)
+abbrev AreAmong : List ResolvedScope → List DoneScope → Type 0
+AreAmong known cs = (t : ℕ) (c : ResolvedScope) → slice_get known t ≡ Some c → (j : ℕ) × (slice_get (map resolved_scope_of cs) j ≡ Some c)
 
-among_more : (known : List Cell) (cs more : List DoneScope) → AreAmong known cs → AreAmong known (cs ++ more)
+among_more : (known : List ResolvedScope) (cs more : List DoneScope) → AreAmong known cs → AreAmong known (cs ++ more)
 among_more known cs more among t c at =
     let it = among t c at in
-    (it.0, ap (λ (l : List Cell). slice_get l it.0) (map-append cell_of cs more) ∙ at_front (map cell_of cs) (map cell_of more) it.0 c it.1)
+    (it.0, ap (λ (l : List ResolvedScope). slice_get l it.0) (map-append resolved_scope_of cs more) ∙ at_prefix (map resolved_scope_of cs) (map resolved_scope_of more) it.0 c it.1)
 
 -- the names of an item are those of its address, and a name in one of its handles ends at no resource
 abbrev pub IsWronglyHandled : List PackageFile → Item → Fault → Type 0
 IsWronglyHandled files w f = (scope files (address w) ≡ scope_names w) × IsNoResource files (address w) (item_types w) f
 
 -- An item whose scope comes next, while others are being resolved
-module _ (files : List PackageFile) (declares : Decls) (written : List Meeting) (cs : List DoneScope) (gs : List DoneFunction) (es : List TypeDef) (d : IsDoing files declares written cs gs es) (w : Item) (o : TypeOwner) (fresh : (t : ℕ) (c : DoneScope) → slice_get cs t ≡ Some c → c.address ≡ address w → ⊥) (own : declares (address w) ≡ (scope files (address w), o)) (names_are : scope files (address w) ≡ scope_names w) where
+module _ (files : List PackageFile) (declares : Decls) (written : List Occurrence) (cs : List DoneScope) (gs : List DoneFunction) (es : List TypeDef) (d : IsFunctionPart files declares written cs gs es) (w : Item) (o : TypeOwner) (fresh : (t : ℕ) (c : DoneScope) → slice_get cs t ≡ Some c → c.address ≡ address w → ⊥) (own : declares (address w) ≡ (scope files (address w), o)) (names_are : scope files (address w) ≡ scope_names w) where
   abbrev s : Address
   s = address w
 
-  -- the names of the others stand for their places, and none of its own is met
-  known : AreKnown (keys d.met) s (map cell_of cs)
+  -- the names of the others mean their places, and none of its own occurs
+  known : AreKnown (keys d.seen) s (map resolved_scope_of cs)
   known = record {
-    names = λ t k at. (let c = map_at cell_of cs t k at in subst (λ (x : Cell). AreNames (keys d.met) x.address (env_of x.types)) c.2 (d.stand t c.0 c.1));
-    others = λ t k at same. (let c = map_at cell_of cs t k at in fresh t c.0 c.1 (ap (λ (x : Cell). x.address) c.2 ∙ same));
+    names = λ t k at. (let c = map_at resolved_scope_of cs t k at in subst (λ (x : ResolvedScope). AreNames (keys d.seen) x.address (env_of x.types)) c.2 (d.are_present t c.0 c.1));
+    others = λ t k at same. (let c = map_at resolved_scope_of cs t k at in fresh t c.0 c.1 (ap (λ (x : ResolvedScope). x.address) c.2 ∙ same));
   }
 
-  unmet : (j : ℕ) (name : List ℕ) → slice_get (keys d.met) j ≡ Some (Def s name) → ⊥
-  unmet j name at = let it = d.before j s name at in fresh it.place it.cell it.at it.scope
+  unmet : (j : ℕ) (name : List ℕ) → slice_get (keys d.seen) j ≡ Some (Def s name) → ⊥
+  unmet j name at = let it = d.before j s name at in fresh it.place it.resolved_scope it.at it.scope
 
-  nothing : AreNames (keys d.met) s (env_of [])
+  nothing : AreNames (keys d.seen) s (env_of [])
   nothing = record {
-    stands = λ name i h. absurd (let f : ⊥ = cc in f);
+    present = λ name i h. absurd (let f : ⊥ = cc in f);
     has = λ j name at. absurd (unmet j name at);
   }
 
-  -- the scope of what was met before is declared by files
+  -- the scope of what occurred before is declared by files
   declared_before : (t : Address) (name : List ℕ) → IsNameOf cs t name → IsDeclared files declares t
   declared_before t name it = subst (λ (z : Address). IsDeclared files declares z) it.scope (record {
-    distinct = (d.each it.place it.cell it.at).turn.distinct;
-    whose = it.cell.owner;
-    own = d.own it.place it.cell it.at;
+    distinct = (d.each it.place it.resolved_scope it.at).turn.distinct;
+    whose = it.resolved_scope.owner;
+    own = d.own it.place it.resolved_scope it.at;
   })
 
-  module _ (cells : List Cell) (among : AreAmong cells cs) (f : Fault) (h : IsWrongHandleNow es cells o w f) where
+  module _ (resolved_scopes : List ResolvedScope) (among : AreAmong resolved_scopes cs) (f : Fault) (h : IsWrongHandleNow es resolved_scopes o w f) where
     abbrev turn : List ScopeName
     turn = in_turn (scope_names w) h.order
 
@@ -105,96 +105,96 @@ module _ (files : List PackageFile) (declares : Decls) (written : List Meeting) 
     apart : AreDistinct some
     apart = differ_by local_name some (λ i j x y at_x at_y same. differ_at local_name turn (in_turn_distinct (scope_names w) h.order h.least h.distinct) i j x y (at_take turn h.count i x at_x).0 (at_take turn h.count j y at_y).0 same)
 
-    defined : IsDefined declares d.met h.mid s [] h.names some
-    defined = (defines_wider es h.mid cells (map cell_of cs) o s [] h.names some among (h.defines s)).from declares d.met declared apart (record { new = λ i x at was. unmet was.0 (local_name x) was.1 }) known d.meeting nothing
+    defined : IsDefined declares d.seen h.mid s [] h.names some
+    defined = (defines_wider es h.mid resolved_scopes (map resolved_scope_of cs) o s [] h.names some among (h.defines s)).from declares d.seen declared apart (record { new = λ i x at was. unmet was.0 (local_name x) was.1 }) known d.occurrence nothing
 
-    -- the scope of what was met is declared by files
-    met_declared : (j : ℕ) (t : Address) (name : List ℕ) → slice_get (keys defined.now) j ≡ Some (Def t name) → IsDeclared files declares t
-    met_declared j t name at = elim (meets_from (all_name_meetings s some) d.met defined.now defined.meets j (Def t name) at) [
+    -- the scope of what occurred is declared by files
+    seen_declared : (j : ℕ) (t : Address) (name : List ℕ) → slice_get (keys defined.now) j ≡ Some (Def t name) → IsDeclared files declares t
+    seen_declared j t name at = elim (collects_from (all_name_occurrences s some) d.seen defined.now defined.collects j (Def t name) at) [
       | inl was ↦ declared_before t name (d.before was.0 t name was.1)
       | inr new ↦ (
-          let same = (name_met_in s some t name new).0 in
+          let same = (name_seen_in s some t name new).0 in
           subst (λ (z : Address). IsDeclared files declares z) (sym same) (record { distinct = subst AreDistinct (sym names_are) h.distinct; whose = o; own = own }))
     ]
 
     pub handle_wrong : IsWronglyHandled files w f
-    handle_wrong = (names_are, defined_broken-more files declares d.met h.mid h.more s [] h.names some defined met_declared (item_types w) f h.wrong)
+    handle_wrong = (names_are, defined_broken-more files declares d.seen h.mid h.more s [] h.names some defined seen_declared (item_types w) f h.wrong)
 
-module _ (files : List PackageFile) (is ws : List Item) (interfaces : AreOfSort false is) (worlds : AreOfSort true ws) (is_items : AreItems files is) (ws_items : AreItems files ws) (uses : AreUsableUses files (all_items files)) (es : List TypeDef) (front : List Interface) (wfront : List World) (foreign : AddsForeign files es front wfront) where
+module _ (files : List PackageFile) (is ws : List Item) (interfaces : AreOfSort false is) (worlds : AreOfSort true ws) (is_items : AreItems files is) (ws_items : AreItems files ws) (uses : AreUsableUses files (all_items files)) (es : List TypeDef) (prefix : List Interface) (wprefix : List World) (foreign : AddsForeign files es prefix wprefix) where
   abbrev fore : List Address
   fore = map visited (foreign_interfaces files)
 
   -- of an interface that comes next
-  pub interface_handle : (us : List Item) (old : List TypeDef) (xs : List Interface) (rs : List Required) (w : Item) → slice_get is (length us) ≡ Some w → (d : InterfacesDone files is ws front us old xs rs) → (f : Fault) → IsWrongHandleNow old (cells fore (front ++ xs)) (owner.Interface (length (front ++ xs))) w f → IsWronglyHandled files w f
+  pub interface_handle : (us : List Item) (old : List TypeDef) (xs : List Interface) (rs : List Required) (w : Item) → slice_get is (length us) ≡ Some w → (d : InterfacesDone files is ws prefix us old xs rs) → (f : Fault) → IsWrongHandleNow old (resolved_scopes fore (prefix ++ xs)) (owner.Interface (length (prefix ++ xs))) w f → IsWronglyHandled files w f
   interface_handle us old xs rs w there d f h =
-      let cs = front_scopes files front ++ d.scopes in
+      let cs = prefix_scopes files prefix ++ d.scopes in
       let long : length us ≡ length d.ordered = sym (ap length d.all) ∙ length-map d.ordered item_of in
       let next : slice_get is (length d.ordered) ≡ Some w = subst (λ (n : ℕ). slice_get is n ≡ Some w) long there in
       let at : slice_get is (length xs) ≡ Some w = subst (λ (n : ℕ). slice_get is n ≡ Some w) (sym d.laid.count) next in
       let own = item_declared files is ws interfaces worlds is_items ws_items (length xs) w at in
-      let whose = next_interface files is ws interfaces worlds is_items ws_items uses es front wfront foreign xs in
-      let written = all_meetings files (map turned d.ordered) in
-      handle_wrong files (decls files is ws) written cs (flat_map scope_functions cs) old (doing_of files (decls files is ws) written cs old d.done) w (owner.Interface (length (front ++ xs))) (λ t c c_at same. elim (at_part (front_scopes files front) d.scopes t c c_at) [
-        | inl g ↦ front_apart files is ws interfaces worlds is_items ws_items uses es front wfront foreign w g.0 c g.1 same
+      let whose = next_interface files is ws interfaces worlds is_items ws_items uses es prefix wprefix foreign xs in
+      let written = all_occurrences files (map turned d.ordered) in
+      handle_wrong files (decls files is ws) written cs (flat_map scope_functions cs) old (function_part_of files (decls files is ws) written cs old d.done) w (owner.Interface (length (prefix ++ xs))) (λ t c c_at same. elim (at_part (prefix_scopes files prefix) d.scopes t c c_at) [
+        | inl g ↦ prefix_apart files is ws interfaces worlds is_items ws_items uses es prefix wprefix foreign w g.0 c g.1 same
         | inr g ↦ none_is_next d.laid (item_scopes files is is_items).unique w next g.0 c g.1 same
-      ]) (own ∙ ap (λ (o : TypeOwner). (scope files (address w), o)) (sym whose)) (scope_of files is (item_scopes files is is_items) (length xs) w at) (cells fore (front ++ xs)) (cells_among files is ws interfaces worlds is_items ws_items uses es front wfront foreign xs d.scopes d.laid.types) f h
+      ]) (own ∙ ap (λ (o : TypeOwner). (scope files (address w), o)) (sym whose)) (scope_of files is (item_scopes files is is_items) (length xs) w at) (resolved_scopes fore (prefix ++ xs)) (resolved_scopes_among files is ws interfaces worlds is_items ws_items uses es prefix wprefix foreign xs d.scopes d.laid.types) f h
 
-  -- what comes next behind all interfaces and some worlds
-  module _ (middle : List TypeDef) (xs : List Interface) (irs : List Required) (d : InterfacesDone files is ws front is middle xs irs) (us : List Item) (old : List TypeDef) (a : WorldArenas) (qs : List Required) (w : Item) (there : slice_get ws (length us) ≡ Some w) (e : AreWorldsDone files is ws wfront d.ordered (front_scopes files front ++ d.scopes) us old a qs) where
+  -- what comes next after all interfaces and some worlds
+  module _ (middle : List TypeDef) (xs : List Interface) (irs : List Required) (d : InterfacesDone files is ws prefix is middle xs irs) (us : List Item) (old : List TypeDef) (a : WorldArenas) (qs : List Required) (w : Item) (there : slice_get ws (length us) ≡ Some w) (e : AreWorldsDone files is ws wprefix d.ordered (prefix_scopes files prefix ++ d.scopes) us old a qs) where
     abbrev before : List DoneScope
-    before = (front_scopes files front ++ d.scopes) ++ flat_map scopes_of e.scopes
+    before = (prefix_scopes files prefix ++ d.scopes) ++ flat_map scopes_of e.scopes
 
-    abbrev pub resolved : List Cell
-    resolved = cells fore (front ++ xs)
+    abbrev pub resolved : List ResolvedScope
+    resolved = resolved_scopes fore (prefix ++ xs)
 
     known_before : AreAmong resolved before
-    known_before = among_more resolved (front_scopes files front ++ d.scopes) (flat_map scopes_of e.scopes) (cells_among files is ws interfaces worlds is_items ws_items uses es front wfront foreign xs d.scopes d.laid.types)
+    known_before = among_more resolved (prefix_scopes files prefix ++ d.scopes) (flat_map scopes_of e.scopes) (resolved_scopes_among files is ws interfaces worlds is_items ws_items uses es prefix wprefix foreign xs d.scopes d.laid.types)
 
     -- of a world
     pub world_handle : (f : Fault) → IsWrongHandleNow old resolved (owner.World (length a.worlds)) w f → IsWronglyHandled files w f
     world_handle f h =
-        let written = all_meetings files (all_turns d.ordered e.ordered) in
+        let written = all_occurrences files (all_turns d.ordered e.ordered) in
         let place : length e.own ≡ length us = e.laid.count ∙ length-map e.ordered own_order ∙ sym (length-map e.ordered own_item) ∙ ap length e.all in
         let own = world_item_declared files is ws interfaces worlds is_items ws_items (length e.own) w (ap (slice_get ws) place ∙ there) in
-        let whose = ap (λ (l : List World). owner.World (length l)) e.arena ∙ next_world files is ws interfaces worlds is_items ws_items uses es front wfront foreign e.own in
-        handle_wrong files (decls files is ws) written before (flat_map scope_functions before) old (doing_of files (decls files is ws) written before old e.done) w (owner.World (length a.worlds)) (world_fresh files is ws interfaces worlds is_items ws_items uses es front wfront foreign middle xs irs d us old a qs e w there) (own ∙ ap (λ (o : TypeOwner). (scope files (address w), o)) (sym whose)) (scope_of files ws (item_scopes files ws ws_items) (length us) w there) resolved known_before f h
+        let whose = ap (λ (l : List World). owner.World (length l)) e.arena ∙ next_world files is ws interfaces worlds is_items ws_items uses es prefix wprefix foreign e.own in
+        handle_wrong files (decls files is ws) written before (flat_map scope_functions before) old (function_part_of files (decls files is ws) written before old e.done) w (owner.World (length a.worlds)) (world_fresh files is ws interfaces worlds is_items ws_items uses es prefix wprefix foreign middle xs irs d us old a qs e w there) (own ∙ ap (λ (o : TypeOwner). (scope files (address w), o)) (sym whose)) (scope_of files ws (item_scopes files ws ws_items) (length us) w there) resolved known_before f h
 
-    -- and of an interface that is written in it, once its names and what stands in front on its sides were added
-    module _ (inner_place count : ℕ) (inner : Item) (next : slice_get (inline_items w) count ≡ Some inner) (types : Names) (named mid : List TypeDef) (adds : AddsScope old named resolved (owner.World (length a.worlds)) (scope_names w) types) (now : List Interface) (made : List Function) (rs : List Required) (sides : AddsSides resolved (length (front ++ xs)) (address w) types named mid a.inside now made rs (take inner_place (side_items w)) (take count (inline_items w))) (reached : length now ≡ length a.inside + count) where
+    -- and of an interface that is written in it, once its names and what comes first on its sides were added
+    module _ (inner_place count : ℕ) (inner : Item) (next : slice_get (inline_items w) count ≡ Some inner) (types : Names) (named mid : List TypeDef) (adds : AddsScope old named resolved (owner.World (length a.worlds)) (scope_names w) types) (now : List Interface) (made : List Function) (rs : List Required) (sides : AddsSides resolved (length (prefix ++ xs)) (address w) types named mid a.inside now made rs (take inner_place (side_items w)) (take count (inline_items w))) (covered : length now ≡ length a.inside + count) where
       abbrev own_scope : DoneScope
-      own_scope = done.c files is ws interfaces worlds is_items ws_items uses es front wfront foreign middle xs irs d us old a qs e w there named types adds [] [] []
+      own_scope = done.c files is ws interfaces worlds is_items ws_items uses es prefix wprefix foreign middle xs irs d us old a qs e w there named types adds [] [] []
 
       abbrev IsSided : Type 0
-      IsSided = AreSided files (decls files is ws) (all_meetings files (all_turns d.ordered e.ordered) ++ all_name_meetings (address w) own_scope.names) (before ++ own_scope ∷ []) (flat_map scope_functions before) (length (front ++ xs) + length a.inside) (address w) mid a.inside now made rs (take inner_place (side_items w)) (take count (inline_items w))
+      IsSided = AreSided files (decls files is ws) (all_occurrences files (all_turns d.ordered e.ordered) ++ all_name_occurrences (address w) own_scope.names) (before ++ own_scope ∷ []) (flat_map scope_functions before) (length (prefix ++ xs) + length a.inside) (address w) mid a.inside now made rs (take inner_place (side_items w)) (take count (inline_items w))
 
       sided : IsSided
-      sided = sides_done files is ws interfaces worlds is_items ws_items uses es front wfront foreign middle xs irs d us old a qs e w there named types adds [] [] [] mid now made rs (take inner_place (side_items w)) (take count (inline_items w)) (λ k i at. (at_take (inline_items w) count k i at).0) sides
+      sided = sides_done files is ws interfaces worlds is_items ws_items uses es prefix wprefix foreign middle xs irs d us old a qs e w there named types adds [] [] [] mid now made rs (take inner_place (side_items w)) (take count (inline_items w)) (λ k i at. (at_take (inline_items w) count k i at).0) sides
 
-      can_be_next : IsFreshInside files (decls files is ws) (before ++ own_scope ∷ []) ((length (front ++ xs) + length a.inside) + count) inner
-      can_be_next = fresh_inside files is ws interfaces worlds is_items ws_items uses es front wfront foreign middle xs irs d us old a qs e w there named types adds [] [] [] count inner next
+      can_be_next : IsFreshInside files (decls files is ws) (before ++ own_scope ∷ []) ((length (prefix ++ xs) + length a.inside) + count) inner
+      can_be_next = fresh_inside files is ws interfaces worlds is_items ws_items uses es prefix wprefix foreign middle xs irs d us old a qs e w there named types adds [] [] [] count inner next
 
       -- what was written before it in this world is another one
       apart_inside : (t : ℕ) (b : DoneScope) → slice_get sided.scopes t ≡ Some b → b.address ≡ address inner → ⊥
       apart_inside t b at same =
-          let start = length (front ++ xs) + length a.inside in
+          let start = length (prefix ++ xs) + length a.inside in
           let lt = slice_get_within sided.scopes t b at in
           let long = inside_scopes-count start sided.ordered sided.scopes sided.added sided.laid in
           let it = inside_at start sided.ordered sided.scopes sided.added sided.laid t (omega arith) in
           let both : Some it.c ≡ Some b = sym it.at_c ∙ at in
           let one : b ≡ it.c = cc in
-          let listed : slice_get (take count (inline_items w)) t ≡ Some it.o.item = ap (λ (l : List Item). slice_get l t) (sym sided.items) ∙ at_front (map item_of sided.ordered) sided.left t it.o.item (slice_get-map item_of sided.ordered t ∙ ap (option_map item_of) it.at_o) in
+          let listed : slice_get (take count (inline_items w)) t ≡ Some it.o.item = ap (λ (l : List Item). slice_get l t) (sym sided.items) ∙ at_prefix (map item_of sided.ordered) sided.left t it.o.item (slice_get-map item_of sided.ordered t ∙ ap (option_map item_of) it.at_o) in
           let early = at_take (inline_items w) count t it.o.item listed in
           let here : address it.o.item ≡ address inner = sym (ap (λ (x : Turned). x.address) it.holds.turn) ∙ ap done_address (sym one) ∙ same in
           let place = differ_at address (inline_items w) (inline_items_differ w) t count it.o.item inner early.0 next here in
           let less = early.1 in
           omega (arith, place, less)
 
-      pub inline_handle : (f : Fault) → IsWrongHandleNow mid resolved (owner.Interface (length (front ++ xs) + length now)) inner f → IsWronglyHandled files inner f
+      pub inline_handle : (f : Fault) → IsWrongHandleNow mid resolved (owner.Interface (length (prefix ++ xs) + length now)) inner f → IsWronglyHandled files inner f
       inline_handle f h =
-          let o = owner.Interface (length (front ++ xs) + length now) in
+          let o = owner.Interface (length (prefix ++ xs) + length now) in
           let scopes = (before ++ own_scope ∷ []) ++ sided.scopes in
-          let place : (length (front ++ xs) + length a.inside) + count ≡ length (front ++ xs) + length now = omega (arith, reached) in
-          handle_wrong files (decls files is ws) _ scopes _ mid sided.doing inner o (λ t b at same. elim (at_part (before ++ own_scope ∷ []) sided.scopes t b at) [
+          let place : (length (prefix ++ xs) + length a.inside) + count ≡ length (prefix ++ xs) + length now = omega (arith, covered) in
+          handle_wrong files (decls files is ws) _ scopes _ mid sided.function_part inner o (λ t b at same. elim (at_part (before ++ own_scope ∷ []) sided.scopes t b at) [
             | inl g ↦ can_be_next.fresh g.0 b g.1 same
             | inr g ↦ apart_inside g.0 b g.1 same
           ]) (can_be_next.own ∙ ap (λ (n : ℕ). (scope files (address inner), (owner.Interface n))) place) can_be_next.has resolved (among_more resolved (before ++ own_scope ∷ []) sided.scopes (among_more resolved before (own_scope ∷ []) known_before)) f h

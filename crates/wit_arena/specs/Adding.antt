@@ -1,4 +1,4 @@
--- What resolving a function does to the arena, and what the function then says, from what the names of a scope stand for.
+-- What resolving a function does to the arena, and what the function then says, from what the names of a scope mean.
 use Rattle.std.specs.Prelude.{◌≡◌, ℕ, List, [], ◌∷◌, Some}
 use Rattle.std.specs.List.{flat_map}
 use Rattle.wit_types.specs.declared.stability.Stability.TheVariants.{Unknown}
@@ -12,7 +12,7 @@ use Rattle.wit_syntax.specs.Address.{Address}
 use Rattle.wit_syntax.specs.Function.{Role, Freestanding, Method, Static, Constructor, OnSide, SourceParam}
 use Rattle.wit_arena.specs.Functions.{kinds_of}
 use Rattle.wit_arena.specs.Expr.{exprs_of}
-use Rattle.wit_arena.specs.Meet.{shape_meetings}
+use Rattle.wit_arena.specs.Occurrences.{shape_occurrences}
 use Rattle.wit_arena.specs.Resolving.{Env, AreResolved}
 
 -- shapes, one after another
@@ -20,11 +20,11 @@ abbrev pub gathered : List Shape → Shapes
 gathered [] = End
 gathered (x ∷ xs) = More x (gathered xs)
 
--- From whatever was met, the new arena is that with what is met in these types, and they stand for those.
+-- From whatever occurred, the new arena is that with what occurs in these types, and they mean those.
 abbrev pub AreShapes : List TypeDef → List TypeDef → Address → Env → List Shape → List Ty → Type 0
-AreShapes old new s env xs ts = AreResolved old new s env (flat_map (shape_meetings s Unknown) xs) (exprs_of s (gathered xs)) ts
+AreShapes old new s env xs ts = AreResolved old new s env (flat_map (shape_occurrences s Unknown) xs) (exprs_of s (gathered xs)) ts
 
--- the kind of a function of a role, where the names of a scope stand for these places
+-- the kind of a function of a role, where the names of a scope mean these places
 abbrev pub IsKindIn : Env → Role → FunctionKind → Type 0
 IsKindIn env (Freestanding id form) k = k ≡ (kinds_of form).freestanding
 IsKindIn env (Method of form) k = (r : ℕ) × (k ≡ (kinds_of form).method r) × (env of.name.now ≡ Some r)

@@ -23,12 +23,12 @@ kind_end ends place ResourceForm parts = Some IsResource
 kind_end ends place UnknownForm parts = Some (IsUnknown place)
 kind_end ends place form parts = Some IsOther
 
--- nothing is known of a place where nothing stands
+-- nothing is known of a place where nothing is
 abbrev pub found_end : (ℕ → Option EntryEnd) → ℕ → Option TypeDef → Option EntryEnd
 found_end ends place None = Some IsOther
 found_end ends place (Some e) = kind_end ends place (kind_of e.kind).form (kind_of e.kind).parts
 
--- where the entry at a place ends, in so many steps, by those that stand before it
+-- where the entry at a place ends, in so many steps, by those that come before it
 abbrev pub entry_end : ℕ → List TypeDef → ℕ → Option EntryEnd
 entry_end zero es place = None
 entry_end (suc n) es place = found_end (entry_end n (take place es)) place (slice_get es place)

@@ -1,4 +1,4 @@
--- Types as expressions: without spans, each name with the scope that it stands in.
+-- Types as expressions: without spans, each name with the scope that it is in.
 use Rattle.std.specs.Prelude.{ℕ, List}
 use Rattle.wit_syntax.specs.Form.{Form}
 use Rattle.wit_type_tree.specs.declared.types.Primitive.{Primitive}

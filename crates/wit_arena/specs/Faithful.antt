@@ -1,4 +1,4 @@
--- What holds of a resolved package: each written type has one at its position, with its tree, and nothing else stands there.
+-- What holds of a resolved package: each written type has one at its position, with its tree, and nothing else is there.
 use Rattle.std.specs.Prelude.{◌≡◌, ◌↔◌, ◌<◌, ℕ, All, List, [], ◌∷◌, ◌++◌, length, Some, None, slice_get, Contains}
 use Rattle.wit_tree.specs.declared.tree.PackageFile.{PackageFile}
 use Rattle.wit_functions.specs.declared.function.Function.{Function}
@@ -12,15 +12,15 @@ use Rattle.wit_syntax.specs.Shape.{Shape, Word}
 use Rattle.wit_syntax.specs.Address.{Address}
 use Rattle.wit_syntax.specs.Node.{Node, Leaf, Named, Unnamed, Nothing}
 use Rattle.wit_syntax.specs.Source.{ScopeName, Place, local_name, local_id}
-use Rattle.wit_syntax.specs.Trees.{scope, source_node, source_tree}
+use Rattle.wit_syntax.specs.ScopesOfTrees.{scope, source_node, source_tree}
 use Rattle.wit_syntax.specs.Function.{SourceFunction, signature}
 use Rattle.wit_syntax.specs.Sides.{function_key}
 use Rattle.wit_arena.specs.Kind.{kind_of}
 use Rattle.wit_arena.specs.Expr.{expr_of}
 use Rattle.wit_arena.specs.Package.{owner_of, names_of, functions_of, function_types, package_node, package_tree, IsBelow}
-use Rattle.wit_arena.specs.Meet.{Def, Meeting, keys, IsAt, IsMeeting}
+use Rattle.wit_arena.specs.Occurrences.{Def, Occurrence, keys, IsAt, IsOccurrence}
 use Rattle.wit_syntax.specs.Broken.{IsLegal}
-use Rattle.wit_arena.specs.Whole.{functions_at, all_inside, interface_addresses, world_addresses, declarations, AreFirstMeetings, IsPackage}
+use Rattle.wit_arena.specs.Whole.{functions_at, all_inside, interface_addresses, world_addresses, declarations, AreFirstOccurrences, IsPackage}
 
 -- the parts of one level
 abbrev pub node_parts : {X : Type 0} → Node X → List X
@@ -29,25 +29,25 @@ node_parts (Named head form parts) = parts
 node_parts (Unnamed form parts) = parts
 node_parts Nothing = []
 
--- y stands below x, where step gives one level: it is the part at this path of numbers, from whole to part
-abbrev pub StandsBelow : {X : Type 0} → (X → Node X) → X → List ℕ → X → Type 0
-StandsBelow step x [] y = x ≡ y
-StandsBelow {X} step x (k ∷ path) y = (part : X) × (slice_get (node_parts (step x)) k ≡ Some part) × StandsBelow step part path y
+-- y is below x, where step gives one level: it is the part at this path of numbers, from whole to part
+abbrev pub LiesBelow : {X : Type 0} → (X → Node X) → X → List ℕ → X → Type 0
+LiesBelow step x [] y = x ≡ y
+LiesBelow {X} step x (k ∷ path) y = (part : X) × (slice_get (node_parts (step x)) k ≡ Some part) × LiesBelow step part path y
 
--- A written type of a scope, and the type of the package that it is: a name of the scope, and what it stands for among the names of the
+-- A written type of a scope, and the type of the package that it is: a name of the scope, and what it means among the names of the
 -- scope's owner; or a type in the signature of a function of the scope, and the one at its index in the owner's function.
 pub data IsRoot (files : List PackageFile) (p : UnresolvedPackage) (s : Address) (x : Shape) (ty : Ty) : Type 0 where
   OfName : (o : TypeOwner) (n : ScopeName) (id : ℕ) → owner_of p o ≡ Some s → Contains (scope files s) n → Contains (names_of p o) (local_name n, id) → x ≡ Word (local_id n) → ty ≡ Id id → IsRoot files p s x ty
   OfFunction : (o : TypeOwner) (fn : SourceFunction) (f : Function) (k : ℕ) → owner_of p o ≡ Some s → Contains (functions_at files s) fn → Contains (functions_of p o) (function_key fn, f) → slice_get (signature fn) k ≡ Some x → slice_get (function_types f) k ≡ Some ty → IsRoot files p s x ty
 
--- a written type has this type at its position in the package: they stand below such two, both by one path
+-- a written type has this type at its position in the package: they are below such two, both by one path
 pub record HasType (files : List PackageFile) (p : UnresolvedPackage) (written : Place) (ty : Ty) : Type 0 where
   pub top : Place
   pub whole : Ty
   pub root : IsRoot files p top.0 top.1 whole
   pub path : List ℕ
-  pub below : StandsBelow (source_node files) top path written
-  pub is : StandsBelow (package_node p) whole path ty
+  pub below : LiesBelow (source_node files) top path written
+  pub is : LiesBelow (package_node p) whole path ty
 
 -- a form that an unnamed type can have
 abbrev pub IsAnonymousForm : Form → Type 0
@@ -68,12 +68,12 @@ pub record IsFaithful (files : List PackageFile) (p : UnresolvedPackage) : Type 
   pub interned : (i j : ℕ) (e f : TypeDef) → slice_get p.types i ≡ Some e → slice_get p.types j ≡ Some f → e.name ≡ None → f.name ≡ None → e.kind ≡ f.kind → i ≡ j
   -- an unnamed entry has a form that a type can have without a name: it is no own handle, no other word for a type, no resource
   pub formed : (i : ℕ) (e : TypeDef) → slice_get p.types i ≡ Some e → e.name ≡ None → IsAnonymousForm (kind_of e.kind).form
-  -- the types of unknown form are exactly the front of the arena: as many as there are spans of unknown types
-  pub front : (i : ℕ) (e : TypeDef) → slice_get p.types i ≡ Some e → ((kind_of e.kind).form ≡ UnknownForm) ↔ (i < length p.unknown_type_spans)
-  -- a named entry stands among the names of its owner
+  -- the types of unknown form are exactly the prefix of the arena: as many as there are spans of unknown types
+  pub prefix : (i : ℕ) (e : TypeDef) → slice_get p.types i ≡ Some e → ((kind_of e.kind).form ≡ UnknownForm) ↔ (i < length p.unknown_type_spans)
+  -- a named entry is among the names of its owner
   pub named : (j : ℕ) (e : TypeDef) (name : List ℕ) → slice_get p.types j ≡ Some e → e.name ≡ Some name → Contains (names_of p e.owner) (name, j)
   -- an unnamed one is that of a written type
-  pub reached : (j : ℕ) (e : TypeDef) → slice_get p.types j ≡ Some e → e.name ≡ None → (x : Place) × HasType files p x (Id j)
+  pub covered : (j : ℕ) (e : TypeDef) → slice_get p.types j ≡ Some e → e.name ≡ None → (x : Place) × HasType files p x (Id j)
   -- each name of a scope is one of its owner, and so is each function, with a type for each of its own
   pub names : (o : TypeOwner) (s : Address) (n : ScopeName) → owner_of p o ≡ Some s → Contains (scope files s) n → (id : ℕ) × Contains (names_of p o) (local_name n, id)
   pub functions : (o : TypeOwner) (s : Address) (fn : SourceFunction) → owner_of p o ≡ Some s → Contains (functions_at files s) fn → (f : Function) × Contains (functions_of p o) (function_key fn, f) × (length (function_types f) ≡ length (signature fn))
@@ -82,15 +82,15 @@ pub record IsFaithful (files : List PackageFile) (p : UnresolvedPackage) : Type 
   -- and the tree of each, at every depth, is that of its type
   pub trees : (x : Place) (t : Ty) (n : ℕ) → HasType files p x t → package_tree p n t ≡ source_tree files n x
 
--- The arena of types is what is first met in files, where their scopes are resolved in their orders, in the order in which it is met: an
--- entry is that of its key, and has the span of its first meeting, and an unnamed one the stability that follows from it. Each name of an
--- owner stands for the place where it is first met, and at the position of each written type stands that of its expression.
+-- The arena of types is what is first seen in files, where their scopes are resolved in their orders, in the order in which it occurs: an
+-- entry is that of its key, and has the span of its first occurrence, and an unnamed one the stability that follows from it. Each name of an
+-- owner means the place where it is first seen, and at the position of each written type is that of its expression.
 pub record HasArena (files : List PackageFile) (p : UnresolvedPackage) : Type 0 where
-  pub met : List Meeting
-  pub first : AreFirstMeetings files met
-  pub entries : IsMeeting (declarations files (interface_addresses files (first.interfaces ++ all_inside first.worlds)) (world_addresses files first.worlds)) met p.types
-  pub names : (o : TypeOwner) (s : Address) (k : ℕ) (name : List ℕ) (id : ℕ) → owner_of p o ≡ Some s → slice_get (names_of p o) k ≡ Some (name, id) → slice_get (keys met) id ≡ Some (Def s name)
-  pub positions : (x : Place) (ty : Ty) → HasType files p x ty → IsAt (keys met) (expr_of x.0 x.1) ty
+  pub seen : List Occurrence
+  pub first : AreFirstOccurrences files seen
+  pub entries : IsOccurrence (declarations files (interface_addresses files (first.interfaces ++ all_inside first.worlds)) (world_addresses files first.worlds)) seen p.types
+  pub names : (o : TypeOwner) (s : Address) (k : ℕ) (name : List ℕ) (id : ℕ) → owner_of p o ≡ Some s → slice_get (names_of p o) k ≡ Some (name, id) → slice_get (keys seen) id ≡ Some (Def s name)
+  pub positions : (x : Place) (ty : Ty) → HasType files p x ty → IsAt (keys seen) (expr_of x.0 x.1) ty
 
 -- files break no rule, and this is the package that they make
 pub record IsMadeOf (files : List PackageFile) (p : UnresolvedPackage) : Type 0 where

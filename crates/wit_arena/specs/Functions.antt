@@ -1,7 +1,7 @@
--- What the functions of a package say: each is a written function, whose types stand at the places of their expressions.
+-- What the functions of a package say: each is a written function, whose types are at the places of their expressions.
 use Rattle.std.specs.Prelude.{◌≡◌, ℕ, List, [], ◌∷◌, map, Some, slice_get, codes}
 use Rattle.std.specs.Option.{option_to_list}
-use Rattle.wit_names.specs.Front.{behind}
+use Rattle.wit_names.specs.Prefix.{rest_after}
 use Rattle.wit_type_tree.specs.declared.types.FuncForm.{FuncForm}
 use Rattle.wit_type_tree.specs.declared.types.FuncForm.TheVariants as form
 use Rattle.wit_types.specs.declared.types.«Type».{«Type» as Ty}
@@ -18,8 +18,8 @@ use Rattle.wit_syntax.specs.Address.{Address}
 use Rattle.wit_syntax.specs.Shape.{Shape}
 use Rattle.wit_syntax.specs.Function.{Role, Freestanding, Method, Static, Constructor, OnSide, SourceParam, SourceFunction, all_params}
 use Rattle.wit_arena.specs.Expr.{expr_of}
-use Rattle.wit_arena.specs.Meet.{Key, Def, IsAt}
-use Rattle.wit_syntax.specs.Notes.{AreNotes, notes, docs_of}
+use Rattle.wit_arena.specs.Occurrences.{Key, Def, IsAt}
+use Rattle.wit_syntax.specs.Metadata.{AreMetadata, metadata, docs_of}
 use Rattle.wit_arena.specs.OneByOne.{OneByOne}
 
 -- the kind of a function that is no resource's, and, over the place of its resource, that of a method and that of a static function
@@ -54,7 +54,7 @@ pub record IsFunction (ks : List Key) (s : Address) (written : SourceFunction) (
   pub params : OneByOne (IsParam ks s) (all_params written) f.params
   pub result : OneByOne (λ (x : Shape) (t : Ty). IsAt ks (expr_of s x) t) (option_to_list written.result) (option_to_list f.result)
   pub span : f.span ≡ written.span
-  pub notes : AreNotes (notes (docs_of written.docs) written.attributes) f.docs f.stability f.external_id
+  pub metadata : AreMetadata (metadata (docs_of written.docs) written.attributes) f.docs f.stability f.external_id
 
 -- these are the functions of a scope, in source order
 abbrev pub AreFunctions : List Key → Address → List SourceFunction → List Function → Type 0
@@ -64,18 +64,18 @@ AreFunctions ks s written fs = OneByOne (IsFunction ks s) written fs
 abbrev pub freestanding_names : FunctionKind → List ℕ → List (List ℕ)
 freestanding_names kind.Freestanding name = name ∷ []
 freestanding_names kind.AsyncFreestanding name = name ∷ []
-freestanding_names kind.Getter name = option_to_list (behind (codes "[get]") name)
-freestanding_names kind.Setter name = option_to_list (behind (codes "[set]") name)
+freestanding_names kind.Getter name = option_to_list (rest_after (codes "[get]") name)
+freestanding_names kind.Setter name = option_to_list (rest_after (codes "[set]") name)
 freestanding_names k name = []
 
--- a function stands at its name
+-- a function is at its name
 abbrev pub by_name : Function → List ℕ × Function
 by_name f = (f.name, f)
 
--- in an interface, each setter that is written before its getter stands directly behind it
+-- in an interface, each setter that is written before its getter comes directly after it
 abbrev pub placed_functions : List Function → List (List ℕ × Function)
 placed_functions fs = placed Some (map by_name fs)
 
--- in a world, a function stands at its name
+-- in a world, a function is at its name
 abbrev pub function_item : Function → WorldKey × WorldItem
 function_item f = (key.Name f.name, item.Function f)

@@ -1,6 +1,6 @@
 pub mod Kind
 pub mod Expr
-pub mod Meet
+pub mod Occurrences
 pub mod EntryEnds
 pub mod Functions
 pub mod SideItems

@@ -10,7 +10,7 @@ use Rattle.wit_tree.specs.declared.tree.WorldSide.{WorldSide}
 use Rattle.wit_tree.specs.declared.tree.WorldSide.TheVariants.{Imported, Exported}
 use Rattle.wit_type_tree.specs.declared.leaves.Id.{Id}
 use Rattle.wit_type_tree.specs.declared.attribute_kind.AttributeKind.TheVariants.{ExternalId}
-use Rattle.wit_type_tree.specs.Attributes.{told_text}
+use Rattle.wit_type_tree.specs.Attributes.{stated_text}
 use Rattle.wit_types.specs.declared.stability.Stability.{Stability}
 use Rattle.wit_types.specs.declared.types.TypeDef.{TypeDef}
 use Rattle.wit_types.specs.declared.types.TypeDefKind.{TypeDefKind}
@@ -33,12 +33,12 @@ use Rattle.wit_model.specs.declared.unresolved.UnresolvedPackage.{UnresolvedPack
 use Rattle.wit_graph.specs.Table.{IsOrder}
 use Rattle.wit_syntax.specs.Form.{Form}
 use Rattle.wit_syntax.specs.Repeats.{firsts}
-use Rattle.wit_syntax.specs.Crossing.{same_side}
+use Rattle.wit_syntax.specs.ExternPart.{same_side}
 use Rattle.wit_syntax.specs.Address.{Address, package_of, same_address, WorldNamed}
 use Rattle.wit_syntax.specs.Node.{primitive_type}
-use Rattle.wit_syntax.specs.Notes.{Notes, notes, docs_of, no_docs, no_notes, stability_of, first_known}
-use Rattle.wit_syntax.specs.Source.{path_id, path_scope, leads, TopName, Item, address, ScopeName, all_items, scope_names, local_name, local_id, Taking, first_takings, about, declared_notes, target_scope, about_name}
-use Rattle.wit_syntax.specs.Trees.{scope}
+use Rattle.wit_syntax.specs.Metadata.{Metadata, metadata, docs_of, no_docs, no_metadata, stability_of, first_known}
+use Rattle.wit_syntax.specs.Source.{path_id, path_scope, leads, TopName, Item, address, ScopeName, all_items, scope_names, local_name, local_id, ForeignUse, first_foreign_uses, about, declared_metadata, target_scope, about_name}
+use Rattle.wit_syntax.specs.ScopesOfTrees.{scope}
 use Rattle.wit_syntax.specs.Foreign.{ForeignVisit, visited, foreign_interfaces, foreign_worlds, foreign_packages}
 use Rattle.wit_syntax.specs.Function.{Role, Freestanding, Method, Static, Constructor, OnSide, SourceParam, SourceFunction, functions, all_params}
 use Rattle.wit_syntax.specs.Scope.{item_rows, interfaces_of, worlds_of, includes, rows_of, in_order, in_turn}
@@ -46,12 +46,12 @@ use Rattle.wit_syntax.specs.Sides.{SideItem, SideFunction, SideLink, SideInline,
 use Rattle.wit_syntax.specs.Broken.{last_header, headers}
 use Rattle.wit_arena.specs.Kind.{kind_of}
 use Rattle.wit_arena.specs.Expr.{Expr, Prim, Use, Of, Exprs, End, More, expr_of, name_exprs}
-use Rattle.wit_arena.specs.Meet.{Key, Def, Whole, Meeting, keys, stability_at}
+use Rattle.wit_arena.specs.Occurrences.{Key, Def, Whole, Occurrence, keys, stability_at}
 use Rattle.wit_arena.specs.Functions.{kinds_of}
 use Rattle.wit_arena.specs.SideItems.{link_item, inline_entry, settled}
-use Rattle.wit_arena.specs.Whole.{Turned, turn_handles, all_meetings, AreRequired, place_at, owner_at, dep, renamed, first_docs}
+use Rattle.wit_arena.specs.Whole.{Turned, turn_handles, all_occurrences, AreRequired, place_at, owner_at, dep, renamed, first_docs}
 
--- the type of an expression, where this tells the place of what is met
+-- the type of an expression, where this gives the place of what occurs
 abbrev pub type_of : (Key → ℕ) → Expr → Ty
 type_of id (Prim p) = primitive_type p
 type_of id (Use s name) = type.Id (id (Def s name))
@@ -61,15 +61,15 @@ abbrev pub types_of : (Key → ℕ) → Exprs → List Ty
 types_of id End = []
 types_of id (More e es) = type_of id e ∷ types_of id es
 
--- an entry of the arena of types: one of this name, if it has one, in a scope of this owner, of which this is told, which stands there
-abbrev pub entry : Option (List ℕ) → TypeOwner → Notes → Span → TypeDefKind → TypeDef
+-- an entry of the arena of types: one of this name, if it has one, in a scope of this owner, of which this is stated, which is there
+abbrev pub entry : Option (List ℕ) → TypeOwner → Metadata → Span → TypeDefKind → TypeDef
 entry name owner n span kind = record { name = name; kind = kind; owner = owner; docs = n.docs; stability = n.stability; external_id = n.external_id; span = span }
 
--- The entry of what is met, behind these. That of a name of a scope has the form that the name stands for, over the types of its parts, and what is
--- told of the name. That of an unnamed type has its form over those of its parts, and the first known of the stability that it is met with and of theirs.
+-- The entry of what occurs, after these. That of a name of a scope has the form that the name means, over the types of its parts, and what is
+-- stated of the name. That of an unnamed type has its form over those of its parts, and the first known of the stability that it occurs with and of theirs.
 abbrev pub IsEntryOf : (Address → List ScopeName) → (Address → TypeOwner) → (Key → ℕ) → List TypeDef → Key → Span → Stability → TypeDef → Type 0
 IsEntryOf names owner_of id es (Def s name) span given e = (x : ScopeName) × (kind : TypeDefKind) × Contains (names s) x × (local_name x ≡ name)
-    × (kind_of kind ≡ record { form = (about_name x).body.form; parts = types_of id (name_exprs s x) }) × (e ≡ entry (Some name) (owner_of s) (about_name x).notes span kind)
+    × (kind_of kind ≡ record { form = (about_name x).body.form; parts = types_of id (name_exprs s x) }) × (e ≡ entry (Some name) (owner_of s) (about_name x).metadata span kind)
 IsEntryOf names owner_of id es (Whole form parts) span given e = (kind : TypeDefKind) × (kind_of kind ≡ record { form = form; parts = types_of id parts })
     × (e ≡ entry None owner.None (record { docs = no_docs; stability = first_known (given ∷ map (stability_at es) (types_of id parts)); external_id = None }) span kind)
 
@@ -77,7 +77,7 @@ IsEntryOf names owner_of id es (Whole form parts) span given e = (kind : TypeDef
 abbrev pub name_places : (Key → ℕ) → Address → List ScopeName → List (List ℕ × ℕ)
 name_places id s xs = map (λ x. (local_name x, id (Def s (local_name x)))) xs
 
--- the kind of a function of a role, where this tells the place of a resource
+-- the kind of a function of a role, where this gives the place of a resource
 abbrev pub role_kind : (Id → ℕ) → Role → FunctionKind
 role_kind place (Freestanding name form) = (kinds_of form).freestanding
 role_kind place (Method of form) = (kinds_of form).method (place of)
@@ -95,30 +95,30 @@ function_in id s fn = record {
   result = option_map (λ x. type_of id (expr_of s x)) fn.result;
   docs = docs_of fn.docs;
   stability = stability_of fn.attributes;
-  external_id = told_text ExternalId fn.attributes;
+  external_id = stated_text ExternalId fn.attributes;
 }
 
--- an interface of this name, if it has one, with these types and functions, of which this is told, which stands there
-abbrev pub interface : Option (List ℕ) → List (List ℕ × ℕ) → List (List ℕ × Function) → Notes → Span → Interface
+-- an interface of this name, if it has one, with these types and functions, of which this is stated, which is there
+abbrev pub interface : Option (List ℕ) → List (List ℕ × ℕ) → List (List ℕ × Function) → Metadata → Span → Interface
 interface name types functions n span = record { name = name; types = types; functions = functions; docs = n.docs; stability = n.stability; «package» = None; span = span; clone_of = None }
 
 -- an interface of another package, where a path first leads to it, with the names that are taken from it
 abbrev pub foreign_interface : List PackageFile → (Key → ℕ) → ForeignVisit → Interface
-foreign_interface files id v = interface None (name_places id (visited v) (scope files (visited v))) [] no_notes v.id.span
+foreign_interface files id v = interface None (name_places id (visited v) (scope files (visited v))) [] no_metadata v.id.span
 
 -- the names of an item as they are resolved: the used ones, and then the definitions in their order
 abbrev pub names_in_turn : (Address → List ℕ) → Item → List ScopeName
 names_in_turn order i = in_turn (scope_names i) (order (address i))
 
--- an interface of files, with its names in turn, and with its functions, each setter that is written before its getter directly behind it
+-- an interface of files, with its names in turn, and with its functions, each setter that is written before its getter directly after it
 abbrev pub own_interface : (Key → ℕ) → (Address → List ℕ) → Item → Interface
-own_interface id order i = interface (about i.declared).called (name_places id (address i) (names_in_turn order i)) (placed Some (map (λ fn. (fn.name, function_in id (address i) fn)) (functions i))) (declared_notes i.declared) (about i.declared).id.span
+own_interface id order i = interface (about i.declared).called (name_places id (address i) (names_in_turn order i)) (placed Some (map (λ fn. (fn.name, function_in id (address i) fn)) (functions i))) (declared_metadata i.declared) (about i.declared).id.span
 
 -- the place of a scope among these
 abbrev pub scope_place : List Address → Address → ℕ
 scope_place ss s = unwrap_or (place_at ss s) 0
 
--- What stands on the sides of a world, each with its side, where this makes its functions, the interfaces have these scopes, and these are
+-- What is on the sides of a world, each with its side, where this makes its functions, the interfaces have these scopes, and these are
 -- written in it.
 abbrev pub side_entries : (SourceFunction → Function) → List Address → List TopName → List SideItem → List Item → List (WorldSide × (WorldKey × WorldItem))
 side_entries function ss top [] is = []
@@ -131,7 +131,7 @@ side_entries function ss top (SideInline x name items ∷ xs) (i ∷ is) = (x.si
 abbrev pub entries_on : WorldSide → List (WorldSide × (WorldKey × WorldItem)) → List (WorldKey × WorldItem)
 entries_on side es = filter_map (λ e. if same_side side e.0 then Some e.1 else None) es
 
--- the names of a world as imports: each is the type that it stands for, at its local name
+-- the names of a world as imports: each is the type that it means, at its local name
 abbrev pub name_imports : (Key → ℕ) → Address → List ScopeName → List (WorldKey × WorldItem)
 name_imports id s xs = map (λ x. (key.Name (local_name x), item.Type_ (id (Def s (local_name x))) (local_id x).span)) xs
 
@@ -139,29 +139,29 @@ name_imports id s xs = map (λ x. (key.Name (local_name x), item.Type_ (id (Def 
 abbrev pub include_in : List Address → List TopName → Include → WorldInclude
 include_in ss top n = record { stability = stability_of n.attributes.items; id = scope_place ss (target_scope WorldNamed (leads top n.from)); names = map renamed n.names.items; span = (path_id n.from).span }
 
--- a world of this name, with these imports, exports and includes, of which this is told, which stands there
-abbrev pub world : List ℕ → List (WorldKey × WorldItem) → List (WorldKey × WorldItem) → List WorldInclude → Notes → Span → World
+-- a world of this name, with these imports, exports and includes, of which this is stated, which is there
+abbrev pub world : List ℕ → List (WorldKey × WorldItem) → List (WorldKey × WorldItem) → List WorldInclude → Metadata → Span → World
 world name imports exports includes n span = record { name = name; imports = imports; exports = exports; «package» = None; docs = n.docs; stability = n.stability; includes = includes; span = span }
 
 -- a world of another package, where a path first leads to it
 abbrev pub foreign_world : ForeignVisit → World
-foreign_world v = world [] [] [] [] no_notes v.id.span
+foreign_world v = world [] [] [] [] no_metadata v.id.span
 
--- what stands on the sides of a world, where the interfaces have these scopes
+-- what is on the sides of a world, where the interfaces have these scopes
 abbrev pub world_entries : (Key → ℕ) → List Address → Item → List (WorldSide × (WorldKey × WorldItem))
 world_entries id ss i = side_entries (function_in id (address i)) ss i.top (side_items i) (inline_items i)
 
--- a world of files, where the interfaces have these scopes and the worlds those: it imports its names in turn, and then what stands on that side
+-- a world of files, where the interfaces have these scopes and the worlds those: it imports its names in turn, and then what is on that side
 abbrev pub own_world : (Key → ℕ) → (Address → List ℕ) → List Address → List Address → Item → World
 own_world id order ss ws i = world (about i.declared).id.name.now
     (settled (includes i) (name_imports id (address i) (names_in_turn order i) ++ entries_on Imported (world_entries id ss i)))
-    (settled (includes i) (entries_on Exported (world_entries id ss i))) (map (include_in ws i.top) (includes i)) (declared_notes i.declared) (about i.declared).id.span
+    (settled (includes i) (entries_on Exported (world_entries id ss i))) (map (include_in ws i.top) (includes i)) (declared_metadata i.declared) (about i.declared).id.span
 
 -- an interface, as it is resolved: whole
 abbrev pub interface_turn : (Address → List ℕ) → Item → Turned
 interface_turn order i = record { address = address i; names = names_in_turn order i; functions = functions i }
 
--- what stands on the sides of a world, as it is resolved: its functions, each by itself, and the interfaces that are written there, whole
+-- what is on the sides of a world, as it is resolved: its functions, each by itself, and the interfaces that are written there, whole
 abbrev pub turns_on_sides : (Address → List ℕ) → Address → List SideItem → List Item → List Turned
 turns_on_sides order s [] is = []
 turns_on_sides order s (SideFunction fn ∷ xs) is = record { address = s; names = []; functions = fn ∷ [] } ∷ turns_on_sides order s xs is
@@ -169,7 +169,7 @@ turns_on_sides order s (SideLink link ∷ xs) is = turns_on_sides order s xs is
 turns_on_sides order s (SideInline x name items ∷ xs) [] = turns_on_sides order s xs []
 turns_on_sides order s (SideInline x name items ∷ xs) (i ∷ is) = interface_turn order i ∷ turns_on_sides order s xs is
 
--- a world, as it is resolved: its names, and then what stands on its sides
+-- a world, as it is resolved: its names, and then what is on its sides
 abbrev pub turns_of_world : (Address → List ℕ) → Item → List Turned
 turns_of_world order i = record { address = address i; names = names_in_turn order i; functions = [] } ∷ turns_on_sides order (address i) (side_items i) (inline_items i)
 
@@ -207,21 +207,21 @@ pub record Makes (files : List PackageFile) (p : UnresolvedPackage) : Type 0 whe
   pub docs : p.docs ≡ first_docs (headers files)
   pub deps : p.foreign_deps ≡ map (dep files) (foreign_packages files)
   pub dep_spans : p.foreign_dep_spans ≡ map (λ (v : ForeignVisit). v.of.span) (foreign_packages files)
-  pub unknown : p.unknown_type_spans ≡ map (λ (t : Taking). t.id.span) (first_takings files)
+  pub unknown : p.unknown_type_spans ≡ map (λ (t : ForeignUse). t.id.span) (first_foreign_uses files)
   pub items : List Item
   pub in_order : AreInOrder files items
   pub order : Address → List ℕ
   pub names_in_order : AreNamesInOrder files order
   -- a test of whether two are one and the same
   pub same : Key → Key → Bool
-  pub tells : (a b : Key) → (same a b ≡ true) ↔ (a ≡ b)
-  pub met : List Meeting
-  pub first : met ≡ firsts (λ a b. same a.key b.key) (all_meetings files (item_turns order items))
+  pub gives : (a b : Key) → (same a b ≡ true) ↔ (a ≡ b)
+  pub seen : List Occurrence
+  pub first : seen ≡ firsts (λ a b. same a.key b.key) (all_occurrences files (item_turns order items))
   pub id : Key → ℕ
-  pub places : (k : Key) → id k ≡ position_or_len (λ (m : Meeting). same k m.key) met
-  pub count : length p.types ≡ length met
-  pub types : (n : ℕ) (m : Meeting) (e : TypeDef) → slice_get met n ≡ Some m → slice_get p.types n ≡ Some e → IsEntryOf (scope files) (owner_at (interface_scopes files items) (world_scopes files items)) id (take n p.types) m.key m.span m.given e
+  pub places : (k : Key) → id k ≡ position_or_len (λ (m : Occurrence). same k m.key) seen
+  pub count : length p.types ≡ length seen
+  pub types : (n : ℕ) (m : Occurrence) (e : TypeDef) → slice_get seen n ≡ Some m → slice_get p.types n ≡ Some e → IsEntryOf (scope files) (owner_at (interface_scopes files items) (world_scopes files items)) id (take n p.types) m.key m.span m.given e
   pub interfaces : p.interfaces ≡ map (foreign_interface files id) (foreign_interfaces files) ++ map (own_interface id order) (own_interfaces items)
   pub worlds : p.worlds ≡ map foreign_world (foreign_worlds files) ++ map (own_world id order (interface_scopes files items) (world_scopes files items)) (worlds_of items)
   -- the types of other packages that must be resources: those at which names in handles end, of all interfaces and then of all worlds
-  pub required : AreRequired files (keys met) (flat_map turn_handles (item_turns order items)) p.required_resource_types
+  pub required : AreRequired files (keys seen) (flat_map turn_handles (item_turns order items)) p.required_resource_types

@@ -28,7 +28,7 @@ use Rattle.wit_syntax.specs.Node.{Head, Node, Leaf, Named, Unnamed, Nothing, Tre
 use Rattle.wit_tree.specs.declared.tree.WorldSide.{WorldSide}
 use Rattle.wit_tree.specs.declared.tree.WorldSide.TheVariants.{Imported, Exported}
 use Rattle.wit_syntax.specs.Sides.{FunctionKey}
-use Rattle.wit_syntax.specs.Notes.{Notes, no_notes}
+use Rattle.wit_syntax.specs.Metadata.{Metadata, no_metadata}
 use Rattle.wit_values.specs.declared.span.Span.{Span}
 
 -- what other packages' items a package names, each with its address
@@ -45,7 +45,7 @@ same_entry _ _ = false
 abbrev pub foreign_owner : UnresolvedPackage → AstItem → Option Address
 foreign_owner p i = option_map (λ e. e.1) (find (λ e. same_entry e.0 i) (flat_map dep_items p.foreign_deps))
 
--- the interfaces among what stands on a side
+-- the interfaces among what is on a side
 abbrev pub is_interface_item : WorldKey × WorldItem → Bool
 is_interface_item (key, item.Interface id stability external_id docs span) = true
 is_interface_item _ = false
@@ -53,7 +53,7 @@ is_interface_item _ = false
 abbrev pub interface_items : List (WorldKey × WorldItem) → List (WorldKey × WorldItem)
 interface_items xs = filter is_interface_item xs
 
--- an interface that stands under a name, at a place among those of a side of a world, with the address that it has where it is written there
+-- an interface that is under a name, at a place among those of a side of a world, with the address that it has where it is written there
 abbrev pub interface_at : List ℕ → WorldSide → ℕ → WorldKey × WorldItem → List (ℕ × Address)
 interface_at world side place (key.Name name, item.Interface id stability external_id docs span) = (id, InlineAt world side place) ∷ []
 interface_at world side place _ = []
@@ -66,7 +66,7 @@ interfaces_from world side place (x ∷ xs) = interface_at world side place x ++
 abbrev pub world_interfaces : World → List (ℕ × Address)
 world_interfaces w = interfaces_from w.name Imported 0 (interface_items w.imports) ++ interfaces_from w.name Exported 0 (interface_items w.exports)
 
--- an interface that is written in a world, by the place where it stands there
+-- an interface that is written in a world, by the place where it is there
 abbrev pub inline_owner : UnresolvedPackage → ℕ → Option Address
 inline_owner p place = option_map (λ e. e.1) (find (λ e. nat_eq e.0 place) (flat_map world_interfaces p.worlds))
 
@@ -108,7 +108,7 @@ keyed side f = ((side, f.0), f.1)
 abbrev pub world_functions : World → List (FunctionKey × Function)
 world_functions w = map (keyed Imported) (flat_map item_functions w.imports) ++ map (keyed Exported) (flat_map item_functions w.exports)
 
--- those of an interface stand where imports do
+-- those of an interface are where imports do
 abbrev pub interface_functions : Interface → List (FunctionKey × Function)
 interface_functions i = map (keyed Imported) i.functions
 
@@ -145,7 +145,7 @@ package_node p t = Leaf t
 abbrev pub package_tree : UnresolvedPackage → (n : ℕ) → Ty → Tree n
 package_tree p n ty = unfolded (package_node p) n ty
 
--- an entry stands at a place
+-- an entry is at a place
 pub record At (es : List TypeDef) (i : ℕ) (e : TypeDef) : Type 0 where
   pub is : slice_get es i ≡ Some e
 
@@ -154,14 +154,14 @@ abbrev pub IsBelow : ℕ → Ty → Type 0
 IsBelow n (type.Id i) = i < n
 IsBelow n _ = Unit {0}
 
--- an interface of the arena has this name, stands there, and has these notes, apart from its types and functions
-abbrev pub IsInterface : Option (List ℕ) → Span → Notes → Interface → Type 0
+-- an interface of the arena has this name, is there, and has these metadata, apart from its types and functions
+abbrev pub IsInterface : Option (List ℕ) → Span → Metadata → Interface → Type 0
 IsInterface name span n i = (i.name ≡ name) × (i.span ≡ span) × (i.docs ≡ n.docs) × (i.stability ≡ n.stability) × (i.package ≡ None) × (i.clone_of ≡ None)
 
--- a world of the arena is the declared one of a name and these notes, apart from its imports, exports and includes
-abbrev pub IsWorld : List ℕ → Span → Notes → World → Type 0
+-- a world of the arena is the declared one of a name and these metadata, apart from its imports, exports and includes
+abbrev pub IsWorld : List ℕ → Span → Metadata → World → Type 0
 IsWorld name span n w = (w.name ≡ name) × (w.span ≡ span) × (w.docs ≡ n.docs) × (w.stability ≡ n.stability) × (w.package ≡ None)
 
 -- a world of another package, where a path first leads to it
 abbrev pub IsForeignWorld : ForeignVisit → World → Type 0
-IsForeignWorld v w = IsWorld [] v.id.span no_notes w × (w.imports ≡ []) × (w.exports ≡ []) × (w.includes ≡ [])
+IsForeignWorld v w = IsWorld [] v.id.span no_metadata w × (w.imports ≡ []) × (w.exports ≡ []) × (w.includes ≡ [])

@@ -1,4 +1,4 @@
--- What resolving types and names does to the arena, from whatever was met before.
+-- What resolving types and names does to the arena, from whatever occurred before.
 use Rattle.std.specs.Prelude.{◌≡◌, ℕ, false, List, [], ◌∷◌, ◌++◌, length, map, Option, Some, None, ◌⊎◌, slice_get, nat_eq, Contains, IsSome}
 use Rattle.std.specs.Cmp.Lexicographic.{pointwise}
 use Rattle.std.specs.List.{flat_map}
@@ -29,9 +29,9 @@ use Rattle.wit_syntax.specs.Source.{path_id, Target, Local, Foreign, leads, Item
 use Rattle.wit_syntax.specs.Foreign.{foreign_at, ForeignVisit}
 use Rattle.wit_syntax.specs.Scope.{include_paths, AreDistinct, local_names}
 use Rattle.wit_syntax.specs.Shape.{shape_of, all_shapes, words, all_words, handles, all_handles, body_of}
-use Rattle.wit_syntax.specs.Notes.{Notes, notes, no_docs, IsBrokenNotes}
+use Rattle.wit_syntax.specs.Metadata.{Metadata, metadata, no_docs, IsBrokenMetadata}
 use Rattle.wit_arena.specs.Expr.{Expr, Prim, Use, Of, Exprs, End, More}
-use Rattle.wit_arena.specs.Meet.{Key, Def, Whole, Meeting, keys, IsMet, Meets, AreAt, Decls, IsMeeting, name_meetings, all_function_meetings, settled}
+use Rattle.wit_arena.specs.Occurrences.{Key, Def, Whole, Occurrence, keys, IsSeen, Collects, AreAt, Decls, IsOccurrence, name_occurrences, all_function_occurrences, settled}
 use Rattle.wit_syntax.specs.Fault.{Fault, fault, missing_at, missing_type_at, item_word, name_word}
 use Rattle.wit_arena.specs.Package.{At}
 use Rattle.wit_syntax.specs.Bodies.{IsBrokenType, IsBrokenPart, IsBrokenBody}
@@ -42,7 +42,7 @@ use Rattle.wit_arena.specs.EntryEnds.{IsResource, IsUnknown as IsUnknownEntry, I
 use Rattle.wit_syntax.specs.Sides.{Link, links}
 use Rattle.wit_syntax.specs.Broken.{is_world_at, IsBrokenScope}
 
--- what the names of a scope stand for
+-- what the names of a scope mean
 abbrev pub Env : Type 0
 Env = List ℕ → Option ℕ
 
@@ -57,33 +57,33 @@ env_of names name = lookup (pointwise nat_eq name) names
 abbrev pub names_in : Names → List (List ℕ)
 names_in names = map (λ p. p.0) names
 
--- the names of a scope stand for their places
+-- the names of a scope mean their places
 pub record AreNames (ks : List Key) (s : Address) (env : Env) : Type 0 where
-  pub stands : (name : List ℕ) (i : ℕ) → env name ≡ Some i → slice_get ks i ≡ Some (Def s name)
+  pub present : (name : List ℕ) (i : ℕ) → env name ≡ Some i → slice_get ks i ≡ Some (Def s name)
   pub has : (j : ℕ) (name : List ℕ) → slice_get ks j ≡ Some (Def s name) → (i : ℕ) × (env name ≡ Some i)
 
--- everything that is met in expressions
+-- everything that occurs in expressions
 abbrev mutual
-  pub met : Expr → List Key
-  met (Prim p) = []
-  met (Use scope name) = []
-  met (Of form parts) = all_met parts ++ Whole form parts ∷ []
+  pub seen : Expr → List Key
+  seen (Prim p) = []
+  seen (Use scope name) = []
+  seen (Of form parts) = all_seen parts ++ Whole form parts ∷ []
 
-  pub all_met : Exprs → List Key
-  all_met End = []
-  all_met (More e es) = met e ++ all_met es
+  pub all_seen : Exprs → List Key
+  all_seen End = []
+  all_seen (More e es) = seen e ++ all_seen es
 
--- what was met, extended by what is met in types, and their places
-pub record IsExtended (decls : Decls) (ms : List Meeting) (new : List TypeDef) (more : List Meeting) (es : Exprs) (tys : List Ty) : Type 0 where
-  pub now : List Meeting
-  pub meets : Meets ms more now
-  pub meeting : IsMeeting decls now new
+-- what occurred, extended by what occurs in types, and their places
+pub record IsExtended (decls : Decls) (ms : List Occurrence) (new : List TypeDef) (more : List Occurrence) (es : Exprs) (tys : List Ty) : Type 0 where
+  pub now : List Occurrence
+  pub collects : Collects ms more now
+  pub occurrence : IsOccurrence decls now new
   pub at : AreAt (keys now) es tys
 
--- From whatever was met, the new arena is that with what is met in the types, and they stand at their places.
-pub record AreResolved (old new : List TypeDef) (s : Address) (env : Env) (more : List Meeting) (es : Exprs) (tys : List Ty) : Type 0 where
-  pub same : keys more ≡ all_met es
-  pub from : (decls : Decls) (ms : List Meeting) → IsMeeting decls ms old → AreNames (keys ms) s env → IsExtended decls ms new more es tys
+-- From whatever occurred, the new arena is that with what occurs in the types, and they are at their places.
+pub record AreResolved (old new : List TypeDef) (s : Address) (env : Env) (more : List Occurrence) (es : Exprs) (tys : List Ty) : Type 0 where
+  pub same : keys more ≡ all_seen es
+  pub from : (decls : Decls) (ms : List Occurrence) → IsOccurrence decls ms old → AreNames (keys ms) s env → IsExtended decls ms new more es tys
 
 -- the unnamed type of a kind and a stability, written at a span
 abbrev pub unnamed : TypeDefKind → Stability → Span → TypeDef
@@ -94,16 +94,16 @@ pub record IsUnnamedOf (what : TypeDefKind) (e : TypeDef) : Type 0 where
   pub name : e.name ≡ None
   pub kind : e.kind ≡ what
 
--- the unnamed type of a kind stands at a place of the new arena: an old entry, or the one that was added, where this is the stability of the definition that it stands in
+-- the unnamed type of a kind is at a place of the new arena: an old entry, or the one that was added, where this is the stability of the definition that it is in
 pub record IsInterned (old new : List TypeDef) (kind : TypeDefKind) (given : Stability) (span : Span) (i : ℕ) : Type 0 where
   pub either : ((new ≡ old) × ((e : TypeDef) × At old i e × IsUnnamedOf kind e)) ⊎ ((new ≡ old ++ unnamed kind (settled old given kind) span ∷ []) × (i ≡ length old) × ((j : ℕ) (e : TypeDef) → At old j e → IsUnnamedOf kind e → ⊥))
 
--- the named type of an owner, with its notes
-abbrev pub named : TypeOwner → List ℕ → TypeDefKind → Notes → Span → TypeDef
+-- the named type of an owner, with its metadata
+abbrev pub named : TypeOwner → List ℕ → TypeDefKind → Metadata → Span → TypeDef
 named o name kind n span = record { name = Some name; kind = kind; owner = o; docs = n.docs; stability = n.stability; span = span; external_id = n.external_id }
 
--- one entry was added, and its name stands for it
-pub record IsAdded (old new : List TypeDef) (o : TypeOwner) (names names' : Names) (name : List ℕ) (n : Notes) (span : Span) (kind : TypeDefKind) : Type 0 where
+-- one entry was added, and its name means it
+pub record IsAdded (old new : List TypeDef) (o : TypeOwner) (names names' : Names) (name : List ℕ) (n : Metadata) (span : Span) (kind : TypeDefKind) : Type 0 where
   pub last : new ≡ old ++ named o name kind n span ∷ []
   pub inserted : names' ≡ insert_entry (pointwise nat_eq) names name (length old)
 
@@ -111,12 +111,12 @@ pub record IsAdded (old new : List TypeDef) (o : TypeOwner) (names names' : Name
 abbrev pub AreOwned : Decls → TypeOwner → Address → List ScopeName → Type 0
 AreOwned decls o s xs = (i : ℕ) (x : ScopeName) → slice_get xs i ≡ Some x → (k : ℕ) × (slice_get (decls s).0 k ≡ Some x) × ((decls s).1 ≡ o)
 
--- none of these was met in the scope
+-- none of these occurred in the scope
 pub record AreNew (ks : List Key) (s : Address) (xs : List ScopeName) : Type 0 where
-  pub new : (i : ℕ) (x : ScopeName) → slice_get xs i ≡ Some x → IsMet ks (Def s (local_name x)) → ⊥
+  pub new : (i : ℕ) (x : ScopeName) → slice_get xs i ≡ Some x → IsSeen ks (Def s (local_name x)) → ⊥
 
--- a scope that was resolved, with what its names stand for, and the names of its functions
-pub record Cell : Type 0 where
+-- a scope that was resolved, with what its names mean, and the names of its functions
+pub record ResolvedScope : Type 0 where
   pub address : Address
   pub types : Names
   pub functions : List (List ℕ)
@@ -126,37 +126,37 @@ abbrev pub free_functions : Interface → List (List ℕ)
 free_functions i = flat_map (λ f. freestanding_names f.1.kind f.1.name) i.functions
 
 -- an interface at an address
-abbrev pub cell_at : Address → Interface → Cell
-cell_at s i = record { address = s; types = i.types; functions = free_functions i }
+abbrev pub resolved_scope_at : Address → Interface → ResolvedScope
+resolved_scope_at s i = record { address = s; types = i.types; functions = free_functions i }
 
 -- an interface that was resolved, as a scope
-abbrev pub cell : Interface → Cell
-cell i = cell_at (InterfaceNamed (unwrap_or i.name [])) i
+abbrev pub resolved_scope : Interface → ResolvedScope
+resolved_scope i = resolved_scope_at (InterfaceNamed (unwrap_or i.name [])) i
 
 -- interfaces that were resolved: at first those of other packages, at these addresses
-abbrev pub cells : List Address → List Interface → List Cell
-cells [] is = map cell is
-cells (s ∷ ss) [] = []
-cells (s ∷ ss) (i ∷ is) = cell_at s i ∷ cells ss is
+abbrev pub resolved_scopes : List Address → List Interface → List ResolvedScope
+resolved_scopes [] is = map resolved_scope is
+resolved_scopes (s ∷ ss) [] = []
+resolved_scopes (s ∷ ss) (i ∷ is) = resolved_scope_at s i ∷ resolved_scopes ss is
 
--- the names of scopes that were resolved stand for their places, and the scope is none of them
-pub record AreKnown (ks : List Key) (s : Address) (cs : List Cell) : Type 0 where
-  pub names : (t : ℕ) (c : Cell) → slice_get cs t ≡ Some c → AreNames ks c.address (env_of c.types)
-  pub others : (t : ℕ) (c : Cell) → slice_get cs t ≡ Some c → c.address ≡ s → ⊥
+-- the names of scopes that were resolved mean their places, and the scope is none of them
+pub record AreKnown (ks : List Key) (s : Address) (cs : List ResolvedScope) : Type 0 where
+  pub names : (t : ℕ) (c : ResolvedScope) → slice_get cs t ≡ Some c → AreNames ks c.address (env_of c.types)
+  pub others : (t : ℕ) (c : ResolvedScope) → slice_get cs t ≡ Some c → c.address ≡ s → ⊥
 
--- what was met, extended by what is met in names of a scope, and what the names then stand for
-pub record IsDefined (decls : Decls) (ms : List Meeting) (new : List TypeDef) (s : Address) (names names' : Names) (xs : List ScopeName) : Type 0 where
-  pub now : List Meeting
-  pub meets : Meets ms (flat_map (name_meetings s) xs) now
-  pub meeting : IsMeeting decls now new
-  pub stand : AreNames (keys now) s (env_of names')
+-- what occurred, extended by what occurs in names of a scope, and what the names then mean
+pub record IsDefined (decls : Decls) (ms : List Occurrence) (new : List TypeDef) (s : Address) (names names' : Names) (xs : List ScopeName) : Type 0 where
+  pub now : List Occurrence
+  pub collects : Collects ms (flat_map (name_occurrences s) xs) now
+  pub occurrence : IsOccurrence decls now new
+  pub are_present : AreNames (keys now) s (env_of names')
   pub listed : map (λ p. p.0) names' ≡ map (λ p. p.0) names ++ local_names xs
 
--- From whatever was met, the new arena is that with what is met in the names; `cs` are the scopes that they may use.
-pub record Defines (old new : List TypeDef) (cs : List Cell) (o : TypeOwner) (s : Address) (names names' : Names) (xs : List ScopeName) : Type 0 where
-  pub from : (decls : Decls) (ms : List Meeting) → AreOwned decls o s xs → AreDistinct xs → AreNew (keys ms) s xs → AreKnown (keys ms) s cs → IsMeeting decls ms old → AreNames (keys ms) s (env_of names) → IsDefined decls ms new s names names' xs
+-- From whatever occurred, the new arena is that with what occurs in the names; `cs` are the scopes that they may use.
+pub record Defines (old new : List TypeDef) (cs : List ResolvedScope) (o : TypeOwner) (s : Address) (names names' : Names) (xs : List ScopeName) : Type 0 where
+  pub from : (decls : Decls) (ms : List Occurrence) → AreOwned decls o s xs → AreDistinct xs → AreNew (keys ms) s xs → AreKnown (keys ms) s cs → IsOccurrence decls ms old → AreNames (keys ms) s (env_of names) → IsDefined decls ms new s names names' xs
 
--- a name stands for nothing yet
+-- a name means nothing yet
 pub record IsUnknown (env : Env) (ids : List Id) (f : Fault) : Type 0 where
   pub id : Id
   pub among : Contains ids id
@@ -168,12 +168,12 @@ pub record IsWrongHandle (env : Env) (es : List TypeDef) (ids : List Id) (f : Fa
   pub id : Id
   pub among : Contains ids id
   pub place : ℕ
-  pub stands : env id.name.now ≡ Some place
+  pub present : env id.name.now ≡ Some place
   pub steps : ℕ
   pub other : entry_end steps es place ≡ Some IsOther
   pub is : f ≡ fault 27 id.span
 
--- a name stands for nothing yet, or one in a handle ends, in the arena, at something else than a resource
+-- a name means nothing yet, or one in a handle ends, in the arena, at something else than a resource
 abbrev pub IsWrongWord : Env → List TypeDef → List Id → List Id → Fault → Type 0
 IsWrongWord env es ids handled f = IsUnknown env ids f ⊎ IsWrongHandle env es handled f
 
@@ -199,20 +199,20 @@ pub record AreLegalBodies (xs : List ScopeName) : Type 0 where
   pub legal : (i : ℕ) (d : Definition) (f : Fault) → slice_get xs i ≡ Some (Defined d) → IsBrokenBody d.body f → ⊥
 
 -- no attributes of definitions among these are broken
-pub record AreLegalNotes (xs : List ScopeName) : Type 0 where
-  pub legal : (i : ℕ) (d : Definition) (f : Fault) → slice_get xs i ≡ Some (Defined d) → IsBrokenNotes d.attributes.items f → ⊥
+pub record AreLegalMetadata (xs : List ScopeName) : Type 0 where
+  pub legal : (i : ℕ) (d : Definition) (f : Fault) → slice_get xs i ≡ Some (Defined d) → IsBrokenMetadata d.attributes.items f → ⊥
 
--- each of these stands in a table of names
+-- each of these is in a table of names
 pub record HasNames (env : Env) (xs : List ScopeName) : Type 0 where
   pub has : (i : ℕ) (x : ScopeName) → slice_get xs i ≡ Some x → IsSome (env (local_name x))
 
 -- interfaces that were resolved, and their places by name
-pub record IsIndex (cs : List Cell) (by_name : Names) : Type 0 where
-  pub stands : (name : List ℕ) (t : ℕ) → env_of by_name name ≡ Some t → (c : Cell) × (slice_get cs t ≡ Some c) × (c.address ≡ InterfaceNamed name)
-  pub has : (t : ℕ) (c : Cell) (name : List ℕ) → slice_get cs t ≡ Some c → c.address ≡ InterfaceNamed name → IsSome (env_of by_name name)
+pub record IsIndex (cs : List ResolvedScope) (by_name : Names) : Type 0 where
+  pub present : (name : List ℕ) (t : ℕ) → env_of by_name name ≡ Some t → (c : ResolvedScope) × (slice_get cs t ≡ Some c) × (c.address ≡ InterfaceNamed name)
+  pub has : (t : ℕ) (c : ResolvedScope) (name : List ℕ) → slice_get cs t ≡ Some c → c.address ≡ InterfaceNamed name → IsSome (env_of by_name name)
 
 -- the scope at an address was resolved
-pub record IsFound (cs : List Cell) (from : Address) (c : Cell) : Type 0 where
+pub record IsFound (cs : List ResolvedScope) (from : Address) (c : ResolvedScope) : Type 0 where
   pub place : ℕ
   pub at : slice_get cs place ≡ Some c
   pub called : c.address ≡ from
@@ -221,37 +221,37 @@ pub record IsFound (cs : List Cell) (from : Address) (c : Cell) : Type 0 where
 abbrev pub IsUnresolved : Names → Id → Fault → Type 0
 IsUnresolved by_name path f = (env_of by_name path.name.now ≡ None) × (f ≡ missing_at 7 item_word path)
 
--- a used name was added, as another word for what it stands for in the interface that it comes from
-pub record IsUsed (old new : List TypeDef) (cs : List Cell) (o : TypeOwner) (names names' : Names) (from : Address) (attributes : List Attribute) (n : UseName) : Type 0 where
-  pub target : Cell
+-- a used name was added, as another word for what it means in the interface that it comes from
+pub record IsUsed (old new : List TypeDef) (cs : List ResolvedScope) (o : TypeOwner) (names names' : Names) (from : Address) (attributes : List Attribute) (n : UseName) : Type 0 where
+  pub target : ResolvedScope
   pub found : IsFound cs from target
   pub id : ℕ
-  pub stands : env_of target.types n.name.name.now ≡ Some id
+  pub present : env_of target.types n.name.name.now ≡ Some id
   pub free : env_of names (local_name (Used from attributes n)) ≡ None
-  pub added : IsAdded old new o names names' (local_name (Used from attributes n)) (notes no_docs attributes) n.name.span (Type_ (type.Id id))
+  pub added : IsAdded old new o names names' (local_name (Used from attributes n)) (metadata no_docs attributes) n.name.span (Type_ (type.Id id))
 
 -- a used name is wrong by what was resolved before: its interface was not, or it is none of that interface's, or that of a function there
-pub data IsWrongName (cs : List Cell) (by_name : Names) (from : Address) (n : UseName) (f : Fault) : Type 0 where
+pub data IsWrongName (cs : List ResolvedScope) (by_name : Names) (from : Address) (n : UseName) (f : Fault) : Type 0 where
   Unresolved : (path : Id) → from ≡ InterfaceNamed path.name.now → IsUnresolved by_name path f → IsWrongName cs by_name from n f
-  Unstated : (target : Cell) → IsFound cs from target → env_of target.types n.name.name.now ≡ None → (Contains target.functions n.name.name.now → ⊥) → f ≡ missing_at 12 name_word n.name → IsWrongName cs by_name from n f
-  OfFunction : (target : Cell) → IsFound cs from target → env_of target.types n.name.name.now ≡ None → Contains target.functions n.name.name.now → f ≡ fault 13 n.name.span → IsWrongName cs by_name from n f
+  Unstated : (target : ResolvedScope) → IsFound cs from target → env_of target.types n.name.name.now ≡ None → (Contains target.functions n.name.name.now → ⊥) → f ≡ missing_at 12 name_word n.name → IsWrongName cs by_name from n f
+  OfFunction : (target : ResolvedScope) → IsFound cs from target → env_of target.types n.name.name.now ≡ None → Contains target.functions n.name.name.now → f ≡ fault 13 n.name.span → IsWrongName cs by_name from n f
 
 -- what is wrong with a used name: it is by what was resolved before, or its local name is taken
-pub data IsWrongUse (cs : List Cell) (by_name names : Names) (from : Address) (attributes : List Attribute) (n : UseName) (f : Fault) : Type 0 where
+pub data IsWrongUse (cs : List ResolvedScope) (by_name names : Names) (from : Address) (attributes : List Attribute) (n : UseName) (f : Fault) : Type 0 where
   Wrong : IsWrongName cs by_name from n f → IsWrongUse cs by_name names from attributes n f
-  Taken : IsSome (env_of names (local_name (Used from attributes n))) → f ≡ fault 14 (local_id (Used from attributes n)).span → IsWrongUse cs by_name names from attributes n f
+  ForeignName : IsSome (env_of names (local_name (Used from attributes n))) → f ≡ fault 14 (local_id (Used from attributes n)).span → IsWrongUse cs by_name names from attributes n f
 
 -- what is wrong with a scope, by what was resolved before, where it has these functions
-pub data IsWrongScope (cs : List Cell) (by_name : Names) (xs : List ScopeName) (fns : List SourceFunction) (f : Fault) : Type 0 where
+pub data IsWrongScope (cs : List ResolvedScope) (by_name : Names) (xs : List ScopeName) (fns : List SourceFunction) (f : Fault) : Type 0 where
   WrongName : (from : Address) (attributes : List Attribute) (n : UseName) → Contains xs (Used from attributes n) → IsWrongName cs by_name from n f → IsWrongScope cs by_name xs fns f
   WrongItself : IsBrokenScope xs fns f → IsWrongScope cs by_name xs fns f
 
 -- worlds that were resolved, at these addresses, and the places of those of the package by name
 pub record IsWorldIndex (worlds : List Address) (by_name : Names) : Type 0 where
-  pub stands : (name : List ℕ) (t : ℕ) → env_of by_name name ≡ Some t → slice_get worlds t ≡ Some (WorldNamed name)
+  pub present : (name : List ℕ) (t : ℕ) → env_of by_name name ≡ Some t → slice_get worlds t ≡ Some (WorldNamed name)
   pub has : (t : ℕ) (name : List ℕ) → slice_get worlds t ≡ Some (WorldNamed name) → IsSome (env_of by_name name)
 
--- no world stands where a path leads: of the package none that was resolved, of another package an interface
+-- no world is where a path leads: of the package none that was resolved, of another package an interface
 abbrev pub IsNoWorld : List PackageFile → Names → Target → Type 0
 IsNoWorld files by_name (Local id) = env_of by_name id.name.now ≡ None
 IsNoWorld files by_name (Foreign p id) = option_map (λ (v : ForeignVisit). v.wants_world) (foreign_at files (ForeignNamed p id.name.now)) ≡ Some false
@@ -273,16 +273,16 @@ pub record IsLostLink (files : List PackageFile) (by_name : Names) (item : Item)
   pub lost : env_of by_name id.name.now ≡ None
   pub is : f ≡ missing_at 7 item_word id
 
--- what was met, extended by what is met in functions of a scope, and the functions over that
-pub record HasFunctions (decls : Decls) (ms : List Meeting) (new : List TypeDef) (s : Address) (fns : List SourceFunction) (fs : List Function) : Type 0 where
-  pub now : List Meeting
-  pub meets : Meets ms (all_function_meetings s fns) now
-  pub meeting : IsMeeting decls now new
+-- what occurred, extended by what occurs in functions of a scope, and the functions over that
+pub record HasFunctions (decls : Decls) (ms : List Occurrence) (new : List TypeDef) (s : Address) (fns : List SourceFunction) (fs : List Function) : Type 0 where
+  pub now : List Occurrence
+  pub collects : Collects ms (all_function_occurrences s fns) now
+  pub occurrence : IsOccurrence decls now new
   pub are : AreFunctions (keys now) s fns fs
 
--- From whatever was met, the new arena is that with what is met in functions of a scope, whose names these are.
+-- From whatever occurred, the new arena is that with what occurs in functions of a scope, whose names these are.
 pub record AddsFunctions (old new : List TypeDef) (s : Address) (names : Names) (fns : List SourceFunction) (fs : List Function) : Type 0 where
-  pub from : (decls : Decls) (ms : List Meeting) → IsMeeting decls ms old → AreNames (keys ms) s (env_of names) → HasFunctions decls ms new s fns fs
+  pub from : (decls : Decls) (ms : List Occurrence) → IsOccurrence decls ms old → AreNames (keys ms) s (env_of names) → HasFunctions decls ms new s fns fs
 
 -- a type of another package that a handle needs to be a resource, and where it is written
 abbrev pub Required : Type 0

@@ -1,10 +1,10 @@
--- What stands on the sides of a world in a package, behind types: functions, and interfaces at their places; and where its setters stand.
+-- What is on the sides of a world in a package, after types: functions, and interfaces at their places; and where its setters are.
 use Rattle.std.specs.Prelude.{◌≡◌, ℕ, List, [], ◌∷◌, Option, Some, slice_get, if◌then◌else◌}
 use Rattle.std.specs.Option.{option_map_or}
 use Rattle.wit_tree.specs.declared.tree.Extern.{Extern}
 use Rattle.wit_type_tree.specs.declared.leaves.Id.{Id}
 use Rattle.wit_type_tree.specs.declared.attribute_kind.AttributeKind.TheVariants.{ExternalId}
-use Rattle.wit_type_tree.specs.Attributes.{told_text}
+use Rattle.wit_type_tree.specs.Attributes.{stated_text}
 use Rattle.wit_tree.specs.declared.tree.Include.{Include}
 use Rattle.wit_tree.specs.declared.tree.UsePath.{UsePath}
 use Rattle.wit_tree.specs.declared.tree.WorldSide.{WorldSide}
@@ -17,8 +17,8 @@ use Rattle.wit_model.specs.declared.world.WorldItem.TheVariants as item
 use Rattle.wit_functions.specs.Setters.{placed}
 use Rattle.wit_model.specs.Worlds.{function_of}
 use Rattle.wit_syntax.specs.Address.{Address}
-use Rattle.wit_syntax.specs.Crossing.{same_side}
-use Rattle.wit_syntax.specs.Notes.{docs_of, no_docs, stability_of}
+use Rattle.wit_syntax.specs.ExternPart.{same_side}
+use Rattle.wit_syntax.specs.Metadata.{docs_of, no_docs, stability_of}
 use Rattle.wit_syntax.specs.Source.{TopName, path_id, path_scope}
 use Rattle.wit_syntax.specs.Sides.{role_side, Link, SideItem, SideFunction, SideLink, SideInline}
 use Rattle.wit_arena.specs.Functions.{function_item}
@@ -27,23 +27,23 @@ use Rattle.wit_arena.specs.Functions.{function_item}
 abbrev pub link_key : Option Id → ℕ → WorldKey
 link_key name place = option_map_or (λ (id : Id). key.Name id.name.now) name (key.Interface place)
 
--- it stands where its name does, or else its path
+-- it is where its name does, or else its path
 abbrev pub link_span : Option Id → UsePath → Span
 link_span name path = option_map_or (λ (id : Id). id.span) name (path_id path).span
 
--- an interface that is imported or exported, at its place, with what is told of it there
+-- an interface that is imported or exported, at its place, with what is stated of it there
 abbrev pub link_item : Link → ℕ → WorldKey × WorldItem
-link_item link place = (link_key link.name place, item.Interface place (stability_of link.attributes) (told_text ExternalId link.attributes) (docs_of link.docs) (link_span link.name link.path))
+link_item link place = (link_key link.name place, item.Interface place (stability_of link.attributes) (stated_text ExternalId link.attributes) (docs_of link.docs) (link_span link.name link.path))
 
--- an interface that is written there, at its place: what is told of it is told of the interface, but for the name that it has elsewhere
+-- an interface that is written there, at its place: what is stated of it is stated of the interface, but for the name that it has elsewhere
 abbrev pub inline_entry : Extern → Id → ℕ → WorldKey × WorldItem
-inline_entry x name place = (key.Name name.name.now, item.Interface place (stability_of x.attributes.items) (told_text ExternalId x.attributes.items) no_docs name.span)
+inline_entry x name place = (key.Name name.name.now, item.Interface place (stability_of x.attributes.items) (stated_text ExternalId x.attributes.items) no_docs name.span)
 
--- what stands on a side stands there in front of the others; what stands on the other one does not
+-- what is on a side is there before the others; what is on the other one does not
 abbrev pub put_on : WorldSide → WorldSide → WorldKey × WorldItem → List (WorldKey × WorldItem) → List (WorldKey × WorldItem)
 put_on side own x xs = if same_side side own then x ∷ xs else xs
 
--- These stand on a side, where these are the written ones, and these functions were made; the interfaces of the package have these addresses,
+-- These are on a side, where these are the written ones, and these functions were made; the interfaces of the package have these addresses,
 -- and those that are written there have those.
 abbrev pub AreSideItems : List Address → List TopName → WorldSide → List SideItem → List Function → List Address → List (WorldKey × WorldItem) → Type 0
 AreSideItems interfaces top side [] fs ss xs = xs ≡ []
@@ -52,7 +52,7 @@ AreSideItems interfaces top side (SideLink link ∷ written) fs ss xs = (place :
 AreSideItems interfaces top side (SideInline x name items ∷ written) fs (s ∷ ss) xs = (place : ℕ) × (rest : List (WorldKey × WorldItem)) × (slice_get interfaces place ≡ Some s) × (xs ≡ put_on side x.side (inline_entry x name place) rest) × AreSideItems interfaces top side written fs ss rest
 AreSideItems interfaces top side written fs ss xs = ⊥
 
--- A side of a world with these includes: where there is none, each setter that is written before its getter stands directly behind it, as in
+-- A side of a world with these includes: where there is none, each setter that is written before its getter comes directly after it, as in
 -- an interface; with an include, whose getters may come, all stays as it is written.
 abbrev pub settled : List Include → List (WorldKey × WorldItem) → List (WorldKey × WorldItem)
 settled [] xs = placed function_of xs

@@ -1,14 +1,14 @@
--- The first meetings of files, and that they are the same of files that say the same.
+-- The first occurrences of files, and that they are the same of files that say the same.
 use Rattle.std.specs.Prelude.{◌≡◌, ◌↔◌, List}
 use Rattle.wit_tree.specs.declared.tree.PackageFile.{PackageFile}
 use Rattle.wit_model.specs.declared.unresolved.UnresolvedPackage.{UnresolvedPackage}
-use Rattle.wit_arena.specs.Meet.{Meeting}
-use Rattle.wit_arena.specs.Whole.{AreFirstMeetings, IsPackage}
+use Rattle.wit_arena.specs.Occurrences.{Occurrence}
+use Rattle.wit_arena.specs.Whole.{AreFirstOccurrences, IsPackage}
 
--- what is first met in the one is first met in the others, in the same order, and each where it is written there; and it is one list
-pub record HaveSameMeetings (files others : List PackageFile) : Type 0 where
-  pub both : (met : List Meeting) → AreFirstMeetings files met ↔ AreFirstMeetings others met
-  pub one : (met more : List Meeting) → AreFirstMeetings files met → AreFirstMeetings others more → met ≡ more
+-- what is first seen in the one is first seen in the others, in the same order, and each where it is written there; and it is one list
+pub record HaveSameOccurrences (files others : List PackageFile) : Type 0 where
+  pub both : (seen : List Occurrence) → AreFirstOccurrences files seen ↔ AreFirstOccurrences others seen
+  pub one : (seen more : List Occurrence) → AreFirstOccurrences files seen → AreFirstOccurrences others more → seen ≡ more
 
 -- what is a package of the one is one of the others
 abbrev pub HaveSamePackages : List PackageFile → List PackageFile → Type 0

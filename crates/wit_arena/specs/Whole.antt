@@ -27,8 +27,8 @@ use Rattle.wit_model.specs.declared.unresolved.UnresolvedPackage.{UnresolvedPack
 use Rattle.std.specs.List.{flat_map, filter_map, prefix_len, filter}
 use Rattle.wit_syntax.specs.Shape.{all_handles}
 use Rattle.wit_syntax.specs.Address.{Address, same_address, WorldNamed, package_of, same_package}
-use Rattle.wit_syntax.specs.Source.{path_id, leads, TopName, Item, address, ScopeName, all_items, item_at, scope_names, local_name, local_id, Taking, takings, first_takings, about, declared_notes, target_scope}
-use Rattle.wit_syntax.specs.Trees.{scope}
+use Rattle.wit_syntax.specs.Source.{path_id, leads, TopName, Item, address, ScopeName, all_items, item_at, scope_names, local_name, local_id, ForeignUse, foreign_uses, first_foreign_uses, about, declared_metadata, target_scope}
+use Rattle.wit_syntax.specs.ScopesOfTrees.{scope}
 use Rattle.wit_syntax.specs.Foreign.{ForeignVisit, visited, same_item, foreign_interfaces, foreign_worlds, foreign_packages, foreign_visits, foreign_items}
 use Rattle.wit_functions.specs.declared.function.Function.{Function}
 use Rattle.wit_syntax.specs.Function.{SourceFunction, functions as item_functions, all_types}
@@ -39,10 +39,10 @@ use Rattle.wit_arena.specs.Functions.{IsFunction, placed_functions}
 use Rattle.wit_arena.specs.SideItems.{AreSideItems, settled}
 use Rattle.wit_syntax.specs.Scope.{item_rows, interfaces_of, worlds_of, includes, rows_of, in_order, in_turn}
 use Rattle.wit_types.specs.declared.docs.Docs.{Docs}
-use Rattle.wit_syntax.specs.Notes.{docs_of, no_docs, stability_of, no_notes}
+use Rattle.wit_syntax.specs.Metadata.{docs_of, no_docs, stability_of, no_metadata}
 use Rattle.wit_syntax.specs.Broken.{last_header, headers}
 use Rattle.wit_syntax.specs.Sides.{SideItem, SideFunction, SideLink, SideInline, side_items, inline_items, all_scopes}
-use Rattle.wit_arena.specs.Meet.{Key, Def, Meeting, keys, name_meetings, Meets, all_function_meetings, Decls, IsMeeting}
+use Rattle.wit_arena.specs.Occurrences.{Key, Def, Occurrence, keys, name_occurrences, Collects, all_function_occurrences, Decls, IsOccurrence}
 use Rattle.wit_arena.specs.OneByOne.{OneByOne, BothParts}
 use Rattle.wit_arena.specs.Package.{IsInterface, IsWorld, IsForeignWorld, world_types}
 
@@ -69,7 +69,7 @@ pub record OrderedWorld : Type 0 where
   pub own : Ordered
   pub inside : List Ordered
 
--- what stands on the sides of a world, one after another: its functions, each by itself, and the interfaces that are written there, whole
+-- what is on the sides of a world, one after another: its functions, each by itself, and the interfaces that are written there, whole
 abbrev pub side_turns : Address → List SideItem → List Ordered → List Turned
 side_turns s [] os = []
 side_turns s (SideFunction fn ∷ xs) os = record { address = s; names = []; functions = fn ∷ [] } ∷ side_turns s xs os
@@ -77,7 +77,7 @@ side_turns s (SideLink link ∷ xs) os = side_turns s xs os
 side_turns s (SideInline x name items ∷ xs) [] = side_turns s xs []
 side_turns s (SideInline x name items ∷ xs) (o ∷ os) = turned o ∷ side_turns s xs os
 
--- a world, as it is resolved: its names, and then what stands on its sides
+-- a world, as it is resolved: its names, and then what is on its sides
 abbrev pub world_turns : OrderedWorld → List Turned
 world_turns w = record { address = address w.own.item; names = ordered_names w.own; functions = [] } ∷ side_turns (address w.own.item) (side_items w.own.item) w.inside
 
@@ -99,9 +99,9 @@ pub record AreOrdered (files : List PackageFile) (interfaces : List Ordered) (wo
   pub inside : (t : ℕ) (w : OrderedWorld) → slice_get worlds t ≡ Some w → map (λ o. o.item) w.inside ≡ inline_items w.own.item
   pub least : (t : ℕ) (o : Ordered) → slice_get (interfaces ++ (map (λ w. w.own) worlds ++ all_inside worlds)) t ≡ Some o → IsOrder (rows_of (scope_names o.item)) o.order
 
--- what is met in a scope: in its names, and then in its functions
-abbrev pub turn_meetings : Turned → List Meeting
-turn_meetings t = flat_map (name_meetings t.address) t.names ++ all_function_meetings t.address t.functions
+-- what occurs in a scope: in its names, and then in its functions
+abbrev pub turn_occurrences : Turned → List Occurrence
+turn_occurrences t = flat_map (name_occurrences t.address) t.names ++ all_function_occurrences t.address t.functions
 
 -- the place of an address among these
 abbrev pub place_at : List Address → Address → Option ℕ
@@ -119,18 +119,18 @@ declarations files is ws s = (scope files s, owner_at is ws s)
 abbrev pub addresses : List Ordered → List Address
 addresses os = map (λ o. address o.item) os
 
--- these are the names of a scope in turn, and they stand for their places
+-- these are the names of a scope in turn, and they mean their places
 pub record HasTypes (ks : List Key) (t : Turned) (types : List (List ℕ × ℕ)) : Type 0 where
   pub names : map (λ n. n.0) types ≡ map local_name t.names
   pub places : (k : ℕ) (name : List ℕ) (id : ℕ) → slice_get types k ≡ Some (name, id) → slice_get ks id ≡ Some (Def t.address name)
 
 -- an interface of files, with its names in turn, and its functions
 pub record IsResolvedInterface (ks : List Key) (o : Ordered) (i : Interface) : Type 0 where
-  pub says : IsInterface (about o.item.declared).called (about o.item.declared).id.span (declared_notes o.item.declared) i
+  pub says : IsInterface (about o.item.declared).called (about o.item.declared).id.span (declared_metadata o.item.declared) i
   pub types : HasTypes ks (turned o) i.types
   pub functions : (fs : List Function) × OneByOne (IsFunction ks (address o.item)) (item_functions o.item) fs × (i.functions ≡ placed_functions fs)
 
--- names of a scope as imports: each is the type that it stands for, at its local name
+-- names of a scope as imports: each is the type that it means, at its local name
 abbrev pub type_imports : List ScopeName → List (List ℕ × ℕ) → List (WorldKey × WorldItem)
 type_imports (x ∷ xs) (t ∷ types) = (key.Name (local_name x), Type_ t.1 (local_id x).span) ∷ type_imports xs types
 type_imports _ _ = []
@@ -148,7 +148,7 @@ abbrev pub AreIncludes : List Address → Item → List WorldInclude → Type 0
 AreIncludes worlds item is = OneByOne (IsInclude worlds item.top) (includes item) is
 
 -- Behind the names of types a world has on its sides what an item has there, with functions over the types of the package, and each setter
--- behind its getter where nothing is included; the interfaces have these addresses, and those that are written in it have those.
+-- after its getter where nothing is included; the interfaces have these addresses, and those that are written in it have those.
 pub record HasSides (ks : List Key) (interfaces inside : List Address) (o : Ordered) (w : World) : Type 0 where
   pub functions : List Function
   pub are : OneByOne (IsFunction ks (address o.item)) (item_functions o.item) functions
@@ -159,7 +159,7 @@ pub record HasSides (ks : List Key) (interfaces inside : List Address) (o : Orde
 -- A world of files, with its names in turn as its imports, and then the functions and interfaces that it imports, with those that it exports,
 -- and with its includes, where the interfaces and the worlds have these addresses.
 pub record IsResolvedWorld (ks : List Key) (interfaces worlds : List Address) (o : OrderedWorld) (w : World) : Type 0 where
-  pub says : IsWorld (about o.own.item.declared).id.name.now (about o.own.item.declared).id.span (declared_notes o.own.item.declared) w
+  pub says : IsWorld (about o.own.item.declared).id.name.now (about o.own.item.declared).id.span (declared_metadata o.own.item.declared) w
   pub types : HasTypes ks (turned o.own) (world_types w)
   pub sides : HasSides ks interfaces (addresses o.inside) o.own w
   pub includes : AreIncludes worlds o.own.item w.includes
@@ -169,7 +169,7 @@ abbrev pub turn_handles : Turned → List (Address × Id)
 turn_handles t = map (λ id. (t.address, id)) (all_handles (all_types t.names t.functions))
 
 -- What a name in a handle requires: nothing, where it ends at a resource; where it ends at a name of another package, that type, by the place
--- of its meeting, and where the name in the handle is written.
+-- of its occurrence, and where the name in the handle is written.
 abbrev pub HandleRequires : List PackageFile → List Key → Address × Id → Option (ℕ × Span) → Type 0
 HandleRequires files ks h None = EndsAt files h.0 h.1 AtResource
 HandleRequires files ks h (Some r) = (s : Address) × (name : List ℕ) × EndsAt files h.0 h.1 (AtForeign s name) × (slice_get ks r.0 ≡ Some (Def s name)) × (r.1 ≡ h.1.span)
@@ -179,12 +179,12 @@ abbrev pub AreRequired : List PackageFile → List Key → List (Address × Id) 
 AreRequired files ks hs rs = (each : List (Option (ℕ × Span))) × OneByOne (HandleRequires files ks) hs each × (rs ≡ filter_map (λ r. r) each)
 
 -- a name that is taken from another package, where it is used
-abbrev pub taking_meeting : Taking → Meeting
-taking_meeting t = record { key = Def t.from t.id.name.now; span = t.id.span; given = stability_of t.attributes }
+abbrev pub foreign_use_occurrence : ForeignUse → Occurrence
+foreign_use_occurrence t = record { key = Def t.from t.id.name.now; span = t.id.span; given = stability_of t.attributes }
 
--- what is met in files: first what they take from other packages, then what stands in these scopes
-abbrev pub all_meetings : List PackageFile → List Turned → List Meeting
-all_meetings files ts = map taking_meeting (takings files) ++ flat_map turn_meetings ts
+-- what occurs in files: first what they take from other packages, then what is in these scopes
+abbrev pub all_occurrences : List PackageFile → List Turned → List Occurrence
+all_occurrences files ts = map foreign_use_occurrence (foreign_uses files) ++ flat_map turn_occurrences ts
 
 -- the addresses of other packages' interfaces, and of these
 abbrev pub interface_addresses : List PackageFile → List Ordered → List Address
@@ -196,9 +196,9 @@ world_addresses files ws = map visited (foreign_worlds files) ++ map (λ w. addr
 
 -- an interface of another package, where a path first leads to it, with the names that are taken from it
 abbrev pub IsForeignInterface : List PackageFile → List Key → ForeignVisit → Interface → Type 0
-IsForeignInterface files ks v i = IsInterface None v.id.span no_notes i × HasTypes ks (record { address = visited v; names = scope files (visited v); functions = [] }) i.types × (i.functions ≡ [])
+IsForeignInterface files ks v i = IsInterface None v.id.span no_metadata i × HasTypes ks (record { address = visited v; names = scope files (visited v); functions = [] }) i.types × (i.functions ≡ [])
 
--- how many of these stand before the first that is the item
+-- how many of these come before the first that is the item
 abbrev pub foreign_place : List ForeignVisit → ForeignVisit → ℕ
 foreign_place vs v = prefix_len (λ u. not (same_item u v)) vs
 
@@ -213,24 +213,24 @@ dep files v = (package_of v.of, map (λ i. (i.id.name.now, (foreign_entry files 
 -- what the package names of others: each of them in the order of its first visit, with its items in the order of theirs, and the types
 -- that are taken from them in the order of their first uses
 abbrev pub NamesOthers : List PackageFile → UnresolvedPackage → Type 0
-NamesOthers files p = (p.foreign_deps ≡ map (dep files) (foreign_packages files)) × (p.foreign_dep_spans ≡ map (λ v. v.of.span) (foreign_packages files)) × (p.unknown_type_spans ≡ map (λ t. t.id.span) (first_takings files))
+NamesOthers files p = (p.foreign_deps ≡ map (dep files) (foreign_packages files)) × (p.foreign_dep_spans ≡ map (λ v. v.of.span) (foreign_packages files)) × (p.unknown_type_spans ≡ map (λ t. t.id.span) (first_foreign_uses files))
 
 -- the docs of the first of these headers that has some
 abbrev pub first_docs : List Header → Docs
 first_docs [] = no_docs
 first_docs (h ∷ hs) = if length h.docs.docs.items == 0 then first_docs hs else docs_of h.docs
 
--- this is what is first met in files, where their scopes are resolved in these orders
-pub record AreFirstMeetings (files : List PackageFile) (met : List Meeting) : Type 0 where
+-- this is what is first seen in files, where their scopes are resolved in these orders
+pub record AreFirstOccurrences (files : List PackageFile) (seen : List Occurrence) : Type 0 where
   pub interfaces : List Ordered
   pub worlds : List OrderedWorld
   pub ordered : AreOrdered files interfaces worlds
-  pub first : Meets [] (all_meetings files (all_turns interfaces worlds)) met
+  pub first : Collects [] (all_occurrences files (all_turns interfaces worlds)) seen
 
 -- The package has the name and the version of the last header, and the docs of the one that has some. Its arenas begin with the items of other packages, in the order of
 -- their first visits; then they have the interfaces and the worlds in the least order in which each item comes after those that it
 -- needs, each with its used names and then its definitions in the least dependency-first order. Its arena of types is the list of first
--- meetings: of what is taken from other packages, then of all declared interfaces, then of all worlds. Behind the declared interfaces stand
+-- occurrences: of what is taken from other packages, then of all declared interfaces, then of all worlds. After the declared interfaces are
 -- those that are written in worlds.
 pub record IsPackage (files : List PackageFile) (p : UnresolvedPackage) : Type 0 where
   pub header : Header
@@ -241,13 +241,13 @@ pub record IsPackage (files : List PackageFile) (p : UnresolvedPackage) : Type 0
   pub name_span : p.name_span ≡ header.span
   pub docs : p.docs ≡ first_docs (headers files)
   pub others : NamesOthers files p
-  pub met : List Meeting
-  pub first : AreFirstMeetings files met
-  pub meeting : IsMeeting (declarations files (interface_addresses files (first.interfaces ++ all_inside first.worlds)) (world_addresses files first.worlds)) met p.types
-  pub interfaces : BothParts (IsForeignInterface files (keys met)) (IsResolvedInterface (keys met)) (foreign_interfaces files) (first.interfaces ++ all_inside first.worlds) p.interfaces
-  pub worlds : BothParts IsForeignWorld (IsResolvedWorld (keys met) (interface_addresses files (first.interfaces ++ all_inside first.worlds)) (world_addresses files first.worlds)) (foreign_worlds files) first.worlds p.worlds
+  pub seen : List Occurrence
+  pub first : AreFirstOccurrences files seen
+  pub occurrence : IsOccurrence (declarations files (interface_addresses files (first.interfaces ++ all_inside first.worlds)) (world_addresses files first.worlds)) seen p.types
+  pub interfaces : BothParts (IsForeignInterface files (keys seen)) (IsResolvedInterface (keys seen)) (foreign_interfaces files) (first.interfaces ++ all_inside first.worlds) p.interfaces
+  pub worlds : BothParts IsForeignWorld (IsResolvedWorld (keys seen) (interface_addresses files (first.interfaces ++ all_inside first.worlds)) (world_addresses files first.worlds)) (foreign_worlds files) first.worlds p.worlds
   -- the types of other packages that must be resources: those at which names in handles end, of all interfaces and then of all worlds
-  pub required : AreRequired files (keys met) (flat_map turn_handles (all_turns first.interfaces first.worlds)) p.required_resource_types
+  pub required : AreRequired files (keys seen) (flat_map turn_handles (all_turns first.interfaces first.worlds)) p.required_resource_types
 
 -- the functions of a scope
 abbrev pub functions_at : List PackageFile → Address → List SourceFunction

@@ -1,2 +1,2 @@
-//! What is met in sources, and what a package is, with what follows from them about lists. It has no code.
+//! What occurs in sources, and what a package is, with what follows from them about lists. It has no code.
 #![tactic(auto)]

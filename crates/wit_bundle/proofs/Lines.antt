@@ -7,8 +7,8 @@ use Rattle.wit_bundle.specs.Bundle.{put_first, lines_of, without_end}
 abbrev pub HasNoFeed : List ℕ → Type 0
 HasNoFeed xs = (i : ℕ) → i < length xs → get_or xs i 0 ≢ 10
 
-pub no_feed_behind : (b : ℕ) (xs : List ℕ) → HasNoFeed (b ∷ xs) → HasNoFeed xs
-no_feed_behind b xs h = λ i lt. h (suc i) (omega arith)
+pub no_feed_after : (b : ℕ) (xs : List ℕ) → HasNoFeed (b ∷ xs) → HasNoFeed xs
+no_feed_after b xs h = λ i lt. h (suc i) (omega arith)
 
 pub no_feed_more : (b : ℕ) (xs : List ℕ) → b ≢ 10 → HasNoFeed xs → HasNoFeed (b ∷ xs)
 no_feed_more b xs other h zero lt = other
@@ -17,7 +17,7 @@ no_feed_more b xs other h (suc i) lt = h i (omega arith)
 not_feed : (b : ℕ) (xs : List ℕ) → HasNoFeed (b ∷ xs) → (b == 10) ≡ false
 not_feed b xs h = ne_eqb b 10 (h 0 (omega arith))
 
--- some lines one behind the other
+-- some lines one after the other
 abbrev pub joined : List (List ℕ) → List ℕ
 joined [] = []
 joined (line ∷ lines) = line ++ joined lines
@@ -52,7 +52,7 @@ first_append : (b : ℕ) (lines more : List (List ℕ)) → 0 < length lines →
 first_append b [] more some = absurd (omega arith)
 first_append b (line ∷ lines) more some = refl
 
--- behind an LF begin further lines
+-- after an LF begin further lines
 pub lines_append : (text more : List ℕ) → lines_of ((text ++ 10 ∷ []) ++ more) ≡ lines_of (text ++ 10 ∷ []) ++ lines_of more
 lines_append [] more = refl
 lines_append (b ∷ text) more =
@@ -67,26 +67,26 @@ pub line_then : (line more : List ℕ) → HasNoFeed line → lines_of (line ++ 
 line_then [] more h = refl
 line_then (b ∷ line) more h =
     ap (λ d. if d then ((b ∷ []) ∷ lines_of (line ++ 10 ∷ more)) else (put_first b (lines_of (line ++ 10 ∷ more)))) (not_feed b line h)
-    ∙ ap (put_first b) (line_then line more (no_feed_behind b line h))
+    ∙ ap (put_first b) (line_then line more (no_feed_after b line h))
 
 -- a text without LF is one line
 pub line_last : (b : ℕ) (line : List ℕ) → HasNoFeed (b ∷ line) → lines_of (b ∷ line) ≡ (b ∷ line) ∷ []
 line_last b [] h = ap (λ d. if d then ((b ∷ []) ∷ []) else ((b ∷ []) ∷ [])) (not_feed b [] h)
 line_last b (d ∷ line) h =
     ap (λ t. if t then ((b ∷ []) ∷ lines_of (d ∷ line)) else (put_first b (lines_of (d ∷ line)))) (not_feed b (d ∷ line) h)
-    ∙ ap (put_first b) (line_last d line (no_feed_behind b (d ∷ line) h))
+    ∙ ap (put_first b) (line_last d line (no_feed_after b (d ∷ line) h))
 
 pub without_end-there : (c : ℕ) (xs : List ℕ) → without_end c (xs ++ c ∷ []) ≡ xs
 without_end-there c [] = ap (λ d. if d then [] else (c ∷ [])) (eq-eqb c c refl)
 without_end-there c (b ∷ []) = ap (λ t. b ∷ t) (without_end-there c [])
 without_end-there c (b ∷ d ∷ xs) = ap (λ t. b ∷ t) (without_end-there c (d ∷ xs))
 
-pub without_end-not : (c : ℕ) (xs : List ℕ) → ((front : List ℕ) → xs ≢ front ++ c ∷ []) → without_end c xs ≡ xs
+pub without_end-not : (c : ℕ) (xs : List ℕ) → ((prefix : List ℕ) → xs ≢ prefix ++ c ∷ []) → without_end c xs ≡ xs
 without_end-not c [] never = refl
 without_end-not c (b ∷ []) never = ap (λ d. if d then [] else (b ∷ [])) (ne_eqb b c (λ e. never [] (ap (λ x. x ∷ []) e)))
-without_end-not c (b ∷ d ∷ xs) never = ap (λ t. b ∷ t) (without_end-not c (d ∷ xs) (λ front e. never (b ∷ front) (ap (λ t. b ∷ t) e)))
+without_end-not c (b ∷ d ∷ xs) never = ap (λ t. b ∷ t) (without_end-not c (d ∷ xs) (λ prefix e. never (b ∷ prefix) (ap (λ t. b ∷ t) e)))
 
 pub without_feed : (xs : List ℕ) → HasNoFeed xs → without_end 10 xs ≡ xs
 without_feed [] h = refl
 without_feed (b ∷ []) h = ap (λ d. if d then [] else (b ∷ [])) (not_feed b [] h)
-without_feed (b ∷ d ∷ xs) h = ap (λ t. b ∷ t) (without_feed (d ∷ xs) (no_feed_behind b (d ∷ xs) h))
+without_feed (b ∷ d ∷ xs) h = ap (λ t. b ∷ t) (without_feed (d ∷ xs) (no_feed_after b (d ∷ xs) h))

@@ -21,10 +21,10 @@ paired_first pieces sources none = record { done = []; laid = record { are = rw 
 pub paired_rest : (pieces rest other : List (List ℕ)) (sources : List Source) → ArePaired pieces rest sources → rest ≡ other → ArePaired pieces other sources
 paired_rest pieces rest other sources p same = subst (λ r. ArePaired pieces r sources) same p
 
--- what is left behind two pieces, as it is cut off
-pub paired_behind : (pieces : List (List ℕ)) (xs : List (Bor (List ℕ))) (sources : List Source) → ArePaired pieces (map (λ (p : Bor (List ℕ)). p.now) (drop 2 xs)) sources →
+-- what is left after two pieces, as it is cut off
+pub paired_after : (pieces : List (List ℕ)) (xs : List (Bor (List ℕ))) (sources : List Source) → ArePaired pieces (map (λ (p : Bor (List ℕ)). p.now) (drop 2 xs)) sources →
     ArePaired pieces (map (λ (p : Bor (List ℕ)). p.now) (take (length xs - 2) (drop 2 xs))) sources
-paired_behind pieces xs sources p =
+paired_after pieces xs sources p =
     let all : take (length xs - 2) (drop 2 xs) ≡ drop 2 xs = take_all (length xs - 2) (drop 2 xs) (rw (length-drop 2 xs) (omega arith)) in
     paired_rest pieces _ _ sources p (ap (map (λ (p : Bor (List ℕ)). p.now)) (sym all))
 
@@ -36,7 +36,7 @@ paired_more pieces path text rest sources more s p is e = record {
   whole = p.whole ∙ sym (append_assoc p.done ((path, text) ∷ []) (pairs_of rest));
 }
 
--- a list of texts with two at its front
+-- a list of texts with two at its prefix
 pub first_two : (xs : List (Bor (List ℕ))) (d : Bor (List ℕ)) → 2 ≤ length xs → map (λ (p : Bor (List ℕ)). p.now) xs ≡ (slice_index_or xs 0 d).now ∷ (slice_index_or xs 1 d).now ∷ map (λ (p : Bor (List ℕ)). p.now) (drop 2 xs)
 first_two [] d some = absurd (omega arith)
 first_two (x ∷ []) d some = absurd (omega arith)

@@ -49,8 +49,8 @@ plain_from text (line ∷ lines) e none h = (first_plain text line lines e none,
 others_plain : (text : List ℕ) → HasNoNext text → AllPlain (others (lines_of text))
 others_plain [] h = tt
 others_plain (b ∷ text) h =
-    let behind : HasNoNext text = λ xs ys e. h (b ∷ xs) ys (ap (λ t. b ∷ t) e) in
-    let rest = others_plain text behind in
+    let rest_after : HasNoNext text = λ xs ys e. h (b ∷ xs) ys (ap (λ t. b ∷ t) e) in
+    let rest = others_plain text rest_after in
     elim (b == 10) as (λ d. (b == 10) ≡ d → AllPlain (others (if d then ((b ∷ []) ∷ lines_of text) else (put_first b (lines_of text))))) [
       | true ↦ λ e. plain_from text (lines_of text) refl (λ ys f. h [] ys (ap₂ (λ x t. x ∷ t) (eqb-true b 10 e) f)) rest
       | false ↦ λ e. rw (others_first b (lines_of text)) rest
@@ -71,74 +71,74 @@ first_marked : (lines : List (List ℕ)) → (parts_of (put_first 61 (put_first 
 first_marked [] = refl
 first_marked (line ∷ lines) = refl
 
--- nothing stands in front of a line that starts a source
-pub marked_front : (behind : List ℕ) → (parts (mark ++ behind)).0 ≡ []
-marked_front behind = first_marked (lines_of behind)
+-- nothing comes before a line that starts a source
+pub marked_prefix : (rest_after : List ℕ) → (parts (mark ++ rest_after)).0 ≡ []
+marked_prefix rest_after = first_marked (lines_of rest_after)
 
-pub marked_parts : (text behind : List ℕ) → text ≡ mark ++ behind → parts text ≡ ([], (parts (mark ++ behind)).1)
-marked_parts text behind e = ap parts e ∙ ap (λ t. (t, (parts (mark ++ behind)).1)) (marked_front behind)
+pub marked_parts : (text rest_after : List ℕ) → text ≡ mark ++ rest_after → parts text ≡ ([], (parts (mark ++ rest_after)).1)
+marked_parts text rest_after e = ap parts e ∙ ap (λ t. (t, (parts (mark ++ rest_after)).1)) (marked_prefix rest_after)
 
 -- a text in which no line starts a source
 pub plain_whole : (text : List ℕ) → HasNoNext text → StartsNone text → parts text ≡ (text, [])
 plain_whole text h none =
     ap parts_of (sym (append-nil (lines_of text))) ∙ (plain_parts (lines_of text) [] (all_plain text h none) ∙ ap (λ t. (t, [])) (append-nil (joined (lines_of text)) ∙ joined_lines text))
 
-ended : (front behind : List ℕ) → front ++ (next ++ behind) ≡ (front ++ 10 ∷ []) ++ (mark ++ behind)
-ended front behind = sym (append_assoc front (10 ∷ []) (mark ++ behind))
+ended : (prefix rest_after : List ℕ) → prefix ++ (next ++ rest_after) ≡ (prefix ++ 10 ∷ []) ++ (mark ++ rest_after)
+ended prefix rest_after = sym (append_assoc prefix (10 ∷ []) (mark ++ rest_after))
 
-drop_front : (xs ys : List ℕ) → drop (length xs) (xs ++ ys) ≡ ys
-drop_front [] ys = refl
-drop_front (x ∷ xs) ys = drop_front xs ys
+drop_prefix : (xs ys : List ℕ) → drop (length xs) (xs ++ ys) ≡ ys
+drop_prefix [] ys = refl
+drop_prefix (x ∷ xs) ys = drop_prefix xs ys
 
 -- a text whose first line that starts a source is not its first one
-pub plain_front : (text front behind : List ℕ) → text ≡ front ++ (next ++ behind) → ((i : ℕ) → i < length front → LacksTextAt next text i) → StartsNone text →
-    parts text ≡ (front ++ 10 ∷ [], (parts (mark ++ behind)).1)
-plain_front text front behind e lacks none =
-    let line = front ++ 10 ∷ [] in
-    let whole : text ≡ line ++ (mark ++ behind) = e ∙ ended front behind in
-    let no_start : StartsNone line = λ ys f. none (ys ++ (mark ++ behind)) (whole ∙ ap (λ t. t ++ (mark ++ behind)) f) in
+pub plain_prefix : (text prefix rest_after : List ℕ) → text ≡ prefix ++ (next ++ rest_after) → ((i : ℕ) → i < length prefix → LacksTextAt next text i) → StartsNone text →
+    parts text ≡ (prefix ++ 10 ∷ [], (parts (mark ++ rest_after)).1)
+plain_prefix text prefix rest_after e lacks none =
+    let line = prefix ++ 10 ∷ [] in
+    let whole : text ≡ line ++ (mark ++ rest_after) = e ∙ ended prefix rest_after in
+    let no_start : StartsNone line = λ ys f. none (ys ++ (mark ++ rest_after)) (whole ∙ ap (λ t. t ++ (mark ++ rest_after)) f) in
     let no_next : HasNoNext line = λ xs ys f.
-    let is : text ≡ xs ++ (next ++ (ys ++ (mark ++ behind))) = whole ∙ (ap (λ t. t ++ (mark ++ behind)) f ∙ append_assoc xs (next ++ ys) (mark ++ behind)) in
+    let is : text ≡ xs ++ (next ++ (ys ++ (mark ++ rest_after))) = whole ∙ (ap (λ t. t ++ (mark ++ rest_after)) f ∙ append_assoc xs (next ++ ys) (mark ++ rest_after)) in
     let lengths : length line ≡ length (xs ++ (next ++ ys)) = ap length f in
-    let left : length line ≡ length front + 1 = length-append front (10 ∷ []) in
+    let left : length line ≡ length prefix + 1 = length-append prefix (10 ∷ []) in
     let right : length (xs ++ (next ++ ys)) ≡ length xs + length (next ++ ys) = length-append xs (next ++ ys) in
     let long : length (next ++ ys) ≡ 5 + length ys = length-append next ys in
-    let before : length xs < length front = omega arith in
-    lacks (length xs) before (ys ++ (mark ++ behind)) (ap (drop (length xs)) is ∙ drop_front xs (next ++ (ys ++ (mark ++ behind)))) in
+    let before : length xs < length prefix = omega arith in
+    lacks (length xs) before (ys ++ (mark ++ rest_after)) (ap (drop (length xs)) is ∙ drop_prefix xs (next ++ (ys ++ (mark ++ rest_after)))) in
     ap parts whole
-    ∙ (ap parts_of (lines_append front (mark ++ behind)) ∙ (plain_parts (lines_of line) (lines_of (mark ++ behind)) (all_plain line no_next no_start)
-    ∙ ap (λ t. (t, (parts (mark ++ behind)).1)) (ap (λ t. joined (lines_of line) ++ t) (marked_front behind) ∙ (append-nil (joined (lines_of line)) ∙ joined_lines line))))
+    ∙ (ap parts_of (lines_append prefix (mark ++ rest_after)) ∙ (plain_parts (lines_of line) (lines_of (mark ++ rest_after)) (all_plain line no_next no_start)
+    ∙ ap (λ t. (t, (parts (mark ++ rest_after)).1)) (ap (λ t. joined (lines_of line) ++ t) (marked_prefix rest_after) ∙ (append-nil (joined (lines_of line)) ∙ joined_lines line))))
 
 no_feed_marked : (line : List ℕ) → HasNoFeed line → HasNoFeed (mark ++ line)
 no_feed_marked line h =
     let other : (b : ℕ) → 10 < b → b ≢ 10 = λ b lt e. absurd (omega arith) in
     no_feed_more 61 (61 ∷ 61 ∷ 32 ∷ line) (other 61 (omega arith)) (no_feed_more 61 (61 ∷ 32 ∷ line) (other 61 (omega arith)) (no_feed_more 61 (32 ∷ line) (other 61 (omega arith)) (no_feed_more 32 line (other 32 (omega arith)) h)))
 
--- the path behind a mark ends with its line
-pub named_then : (line behind path : List ℕ) → HasNoFeed line → path ≡ without_end 13 line → parts (mark ++ (line ++ 10 ∷ behind)) ≡ ([], (path, (parts behind).0) ∷ (parts behind).1)
-named_then line behind path h e =
-    ap parts_of (line_then (mark ++ line) behind (no_feed_marked line h))
-    ∙ ap (λ p. ([], (p, (parts behind).0) ∷ (parts behind).1)) (ap (without_end 13) (without_end-there 10 line) ∙ sym e)
+-- the path after a mark ends with its line
+pub named_then : (line rest_after path : List ℕ) → HasNoFeed line → path ≡ without_end 13 line → parts (mark ++ (line ++ 10 ∷ rest_after)) ≡ ([], (path, (parts rest_after).0) ∷ (parts rest_after).1)
+named_then line rest_after path h e =
+    ap parts_of (line_then (mark ++ line) rest_after (no_feed_marked line h))
+    ∙ ap (λ p. ([], (p, (parts rest_after).0) ∷ (parts rest_after).1)) (ap (without_end 13) (without_end-there 10 line) ∙ sym e)
 
 -- or with the text
 pub named_last : (line path : List ℕ) → HasNoFeed line → path ≡ without_end 13 line → parts (mark ++ line) ≡ ([], (path, []) ∷ [])
 named_last line path h e =
     ap parts_of (line_last 61 (61 ∷ 61 ∷ 32 ∷ line) (no_feed_marked line h)) ∙ ap (λ p. ([], (p, []) ∷ [])) (ap (without_end 13) (without_feed line h) ∙ sym e)
 
-take_more : (front rest : List ℕ) (b : ℕ) → take (length front + 1) (front ++ b ∷ rest) ≡ front ++ b ∷ []
+take_more : (prefix rest : List ℕ) (b : ℕ) → take (length prefix + 1) (prefix ++ b ∷ rest) ≡ prefix ++ b ∷ []
 take_more [] rest b = refl
-take_more (x ∷ front) rest b =
-    let e : length (x ∷ front) + 1 ≡ suc (length front + 1) = omega arith in
-    ap (λ n. take n (x ∷ (front ++ b ∷ rest))) e ∙ ap (λ t. x ∷ t) (take_more front rest b)
+take_more (x ∷ prefix) rest b =
+    let e : length (x ∷ prefix) + 1 ≡ suc (length prefix + 1) = omega arith in
+    ap (λ n. take n (x ∷ (prefix ++ b ∷ rest))) e ∙ ap (λ t. x ∷ t) (take_more prefix rest b)
 
 -- a text around the first place where it goes on with `next`
-pub found_is : (text front behind : List ℕ) (i j : ℕ) → HasTextAt next text i j → front ≡ take i text → behind ≡ drop j text → text ≡ front ++ (next ++ behind)
-found_is text front behind i j at e f = sym (take-append-drop i text) ∙ ap₂ (λ x y. x ++ y) (sym e) (at.split ∙ ap (λ t. next ++ t) (sym f))
+pub found_is : (text prefix rest_after : List ℕ) (i j : ℕ) → HasTextAt next text i j → prefix ≡ take i text → rest_after ≡ drop j text → text ≡ prefix ++ (next ++ rest_after)
+found_is text prefix rest_after i j at e f = sym (take-append-drop i text) ∙ ap₂ (λ x y. x ++ y) (sym e) (at.split ∙ ap (λ t. next ++ t) (sym f))
 
-pub found_front : (text front behind whole : List ℕ) → text ≡ front ++ (next ++ behind) → ((i : ℕ) → i < length front → LacksTextAt next text i) → StartsNone text →
-    whole ≡ take (length front + 1) text → parts text ≡ (whole, (parts (mark ++ behind)).1)
-found_front text front behind whole e lacks none is =
-    plain_front text front behind e lacks none ∙ ap (λ t. (t, (parts (mark ++ behind)).1)) (sym (is ∙ (ap (take (length front + 1)) e ∙ take_more front (mark ++ behind) 10)))
+pub found_prefix : (text prefix rest_after whole : List ℕ) → text ≡ prefix ++ (next ++ rest_after) → ((i : ℕ) → i < length prefix → LacksTextAt next text i) → StartsNone text →
+    whole ≡ take (length prefix + 1) text → parts text ≡ (whole, (parts (mark ++ rest_after)).1)
+found_prefix text prefix rest_after whole e lacks none is =
+    plain_prefix text prefix rest_after e lacks none ∙ ap (λ t. (t, (parts (mark ++ rest_after)).1)) (sym (is ∙ (ap (take (length prefix + 1)) e ∙ take_more prefix (mark ++ rest_after) 10)))
 
 pub found_none : (text : List ℕ) → ((i : ℕ) → i ≤ length text → LacksTextAt next text i) → StartsNone text → parts text ≡ (text, [])
 found_none text lacks none =
@@ -146,5 +146,5 @@ found_none text lacks none =
     (λ xs ys e.
     let long : length text ≡ length xs + length (next ++ ys) = ap length e ∙ length-append xs (next ++ ys) in
     let before : length xs ≤ length text = omega arith in
-    lacks (length xs) before ys (ap (drop (length xs)) e ∙ drop_front xs (next ++ ys)))
+    lacks (length xs) before ys (ap (drop (length xs)) e ∙ drop_prefix xs (next ++ ys)))
     none

@@ -2,7 +2,7 @@
 use Rattle.std.specs.Prelude.{ℕ, ◌==◌, List, [], ◌∷◌, ◌++◌, Bool, codes, drop, length, nat_eq, if◌then◌else◌}
 use Rattle.std.specs.List.{starts_with}
 
--- a byte in front of the first of some lines
+-- a byte before the first of some lines
 abbrev pub put_first : ℕ → List (List ℕ) → List (List ℕ)
 put_first b [] = (b ∷ []) ∷ []
 put_first b (line ∷ lines) = (b ∷ line) ∷ lines
@@ -25,20 +25,20 @@ mark = codes "=== "
 abbrev pub is_marked : List ℕ → Bool
 is_marked line = starts_with nat_eq line mark
 
--- the path that such a line names: the rest of it, without an LF at its end, and without a CR in front of that
+-- the path that such a line names: the rest of it, without an LF at its end, and without a CR before that
 abbrev pub path_of : List ℕ → List ℕ
 path_of line = without_end 13 (without_end 10 (drop (length mark) line))
 
--- a line more in front of a text and the sources behind it, each a path and a text: the line starts a source, which has the text, or stands in front of the text
+-- a line more before a text and the sources after it, each a path and a text: the line starts a source, which has the text, or comes before the text
 abbrev pub with_line : List ℕ → List ℕ × List (List ℕ × List ℕ) → List ℕ × List (List ℕ × List ℕ)
 with_line line parts = if is_marked line then ([], (path_of line, parts.0) ∷ parts.1) else (line ++ parts.0, parts.1)
 
--- of some lines, the text of those in front of the first that starts a source, and the sources
+-- of some lines, the text of those before the first that starts a source, and the sources
 abbrev pub parts_of : List (List ℕ) → List ℕ × List (List ℕ × List ℕ)
 parts_of [] = ([], [])
 parts_of (line ∷ lines) = with_line line (parts_of lines)
 
--- a text that stands behind no such line is a source of its own, if it is not empty
+-- a text that comes after no such line is a source of its own, if it is not empty
 abbrev pub unnamed : List ℕ → List (List ℕ × List ℕ)
 unnamed [] = []
 unnamed (b ∷ text) = (codes "stdin.wit", b ∷ text) ∷ []

@@ -1,9 +1,9 @@
--- Sources laid out one behind the other, each with a range of places of its own.
+-- Sources laid out one after the other, each with a range of places of its own.
 use Rattle.std.specs.Prelude.{◌≡◌, ℕ, ◌+◌, List, [], ◌∷◌, length, sum_by}
 use Rattle.wit_lex.specs.declared.source.Source.{Source}
-use Rattle.wit_lex.specs.Sources.{told}
+use Rattle.wit_lex.specs.Sources.{as_stated}
 
--- paths and texts with their places: the first begins at this one, each other one place behind the end of the one before
+-- paths and texts with their places: the first begins at this one, each other one place after the end of the one before
 abbrev pub laid_out : ℕ → List (List ℕ × List ℕ) → List (List ℕ × List ℕ × ℕ)
 laid_out place [] = []
 laid_out place (s ∷ rest) = (s.0, s.1, place) ∷ laid_out (place + (length s.1 + 1)) rest
@@ -14,4 +14,4 @@ room parts = sum_by (λ s. length s.1 + 1) parts
 
 -- these are the sources of these paths and texts
 pub record AreLaid (parts : List (List ℕ × List ℕ)) (sources : List Source) : Type 0 where
-  pub are : told sources ≡ laid_out 0 parts
+  pub are : as_stated sources ≡ laid_out 0 parts

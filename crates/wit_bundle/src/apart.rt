@@ -28,12 +28,12 @@ pub fn pieces_of<'a>(
         if rest.len() < *len {
             return Ok(None);
         }
-        let (piece, behind) = rest.split_at(*len);
+        let (piece, rest_after) = rest.split_at(*len);
         match str::from_utf8(piece) {
             Ok(text) => pieces.push(text)?,
             Err(_) => return Ok(None),
         }
-        rest = behind;
+        rest = rest_after;
     }
     if rest.len() == 0 {
         Ok(Some(pieces))

@@ -4,31 +4,31 @@ ghost use Rattle.wit_lex.specs.Sources.{IsTooLarge};
 ghost use Rattle.wit_bundle.specs.Bundle.{sources_of, unnamed};
 ghost use Rattle.wit_bundle.specs.Laid.{AreLaid, room};
 
-use crate::parts::{front_of, named};
+use crate::parts::{named, prefix_of};
 use std::alloc::Global;
 use wit_lex::SourceMap;
 use wit_type_tree::ParseResult;
 
-/// The path of a text in front of all lines that start a source.
+/// The path of a text before all lines that start a source.
 const PATH: &str = "stdin.wit";
 
-/// The map of a text in front of all lines that start a source, which is a source if it is not empty.
-fn map_of(alloc: Global, front: &str) -> ParseResult<SourceMap>
-    ensures laid { IfOk result (λ map. AreLaid (unnamed front.now) map.sources.items) }
-    ensures too_large { IfErr result (λ e. IsTooLarge (room (unnamed front.now)) e) }
+/// The map of a text before all lines that start a source, which is a source if it is not empty.
+fn map_of(alloc: Global, prefix: &str) -> ParseResult<SourceMap>
+    ensures laid { IfOk result (λ map. AreLaid (unnamed prefix.now) map.sources.items) }
+    ensures too_large { IfErr result (λ e. IsTooLarge (room (unnamed prefix.now)) e) }
 {
     let mut map = SourceMap::new(alloc);
-    if front.is_empty() {
+    if prefix.is_empty() {
         return Ok(map);
     }
-    map.push(alloc, PATH, front)?;
+    map.push(alloc, PATH, prefix)?;
     Ok(map)
 }
 
 /// The sources of a text.
 ///
 /// A line that begins with `=== ` starts a source. Its path is the rest of that line, without a CR at
-/// its end, and its text is all that follows up to the next such line. What stands in front of the
+/// its end, and its text is all that follows up to the next such line. What comes before the
 /// first such line is the source `stdin.wit`, if it is not empty.
 ///
 /// # Errors
@@ -39,11 +39,11 @@ pub fn bundle(alloc: Global, text: &str) -> ParseResult<SourceMap>
     ensures laid { IfOk result (λ map. AreLaid (sources_of text.now) map.sources.items) }
     ensures too_large { IfErr result (λ e. IsTooLarge (room (sources_of text.now)) e) }
 {
-    let (front, mut rest) = front_of(text);
-    let mut map = map_of(alloc, front)?;
-    while let Some(behind) = rest {
-        let (path, contents) = named(behind);
-        let (contents, next) = front_of(contents);
+    let (prefix, mut rest) = prefix_of(text);
+    let mut map = map_of(alloc, prefix)?;
+    while let Some(rest_after) = rest {
+        let (path, contents) = named(rest_after);
+        let (contents, next) = prefix_of(contents);
         map.push(alloc, path, contents)?;
         rest = next;
     }

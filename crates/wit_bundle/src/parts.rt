@@ -1,9 +1,9 @@
-//! A text in parts: what stands in front of a line that starts a source, what that line names, and what
-//! stands behind it.
+//! A text in parts: what comes before a line that starts a source, what that line names, and what
+//! comes after it.
 ghost use Rattle.std.specs.Prelude.{◌≡◌, ◌+◌, ◌<◌, ◌≤◌, ◌++◌, ◌∷◌, [], length, slice_index, take, IfSome};
 ghost use Rattle.std.specs.Option.{option_copied};
 ghost use Rattle.wit_bundle.specs.Bundle.{mark, without_end};
-ghost use Rattle.wit_bundle.specs.Parts.{parts, sources_behind};
+ghost use Rattle.wit_bundle.specs.Parts.{parts, sources_after};
 
 use memchr::memmem;
 
@@ -22,19 +22,19 @@ fn through(text: &str, place: usize) -> &str
     &text[..place + 1]
 }
 
-/// A text up to its first line that starts a source, and what stands behind the mark of that line.
-pub(crate) fn front_of(text: &str) -> (&str, Option<&str>)
-    ensures parts { parts text.now ≡ (result.0.now, sources_behind (option_copied result.1)) }
-    ensures shorter { IfSome result.1 (λ behind. length behind.now < length text.now) }
+/// A text up to its first line that starts a source, and what comes after the mark of that line.
+pub(crate) fn prefix_of(text: &str) -> (&str, Option<&str>)
+    ensures parts { parts text.now ≡ (result.0.now, sources_after (option_copied result.1)) }
+    ensures shorter { IfSome result.1 (λ rest_after. length rest_after.now < length text.now) }
 {
-    if let Some(behind) = text.strip_prefix(MARK) {
-        return ("", Some(behind));
+    if let Some(rest_after) = text.strip_prefix(MARK) {
+        return ("", Some(rest_after));
     }
     if memmem::find(text.as_bytes(), NEXT.as_bytes()).is_none() {
         return (text, None);
     }
     match text.split_once(NEXT) {
-        Some((front, behind)) => (through(text, front.len()), Some(behind)),
+        Some((prefix, rest_after)) => (through(text, prefix.len()), Some(rest_after)),
         None => (text, None),
     }
 }
@@ -44,18 +44,18 @@ fn without_return(line: &str) -> &str
     ensures { result.now ≡ without_end 13 line.now }
 {
     match line.strip_suffix('\r') {
-        Some(front) => front,
+        Some(prefix) => prefix,
         None => line,
     }
 }
 
-/// The path that stands behind the mark of a line, and the text behind that line.
+/// The path that comes after the mark of a line, and the text after that line.
 pub(crate) fn named(text: &str) -> (&str, &str)
     ensures parts { parts (mark ++ text.now) ≡ ([], (result.0.now, (parts result.1.now).0) ∷ (parts result.1.now).1) }
     ensures shorter { length result.1.now ≤ length text.now }
 {
     match text.split_once('\n') {
-        Some((line, behind)) => (without_return(line), behind),
+        Some((line, rest_after)) => (without_return(line), rest_after),
         None => (without_return(text), ""),
     }
 }

@@ -1,4 +1,4 @@
--- What stands on the sides of a world adds, where there is more of it behind some, and what one more adds.
+-- What is on the sides of a world adds, where there is more of it after some, and what one more adds.
 use Rattle.std.proofs.Common.{◌≡◌, ℕ, ◌+◌, List, [], ◌∷◌, ◌++◌, length, refl, sym, ap, ◌∙◌, subst, append_assoc, arith}
 use Rattle.std.specs.List.{flat_map}
 use Rattle.std.proofs.lemmas.List.{append-nil}
@@ -12,10 +12,10 @@ use Rattle.wit_syntax.specs.Address.{Address}
 use Rattle.wit_syntax.specs.Function.{SourceFunction}
 use Rattle.wit_syntax.specs.Sides.{Link, SideItem, SideFunction, SideLink, SideInline, item_inline}
 use Rattle.wit_syntax.specs.Source.{Item}
-use Rattle.wit_arena.specs.Resolving.{Cell, Names, Required}
+use Rattle.wit_arena.specs.Resolving.{ResolvedScope, Names, Required}
 use Rattle.wit_arena.specs.Resolved.{AddsFunction, AddsInterface, AddsSides}
 
-module _ (cs : List Cell) (count : ℕ) (s : Address) (names : Names) where
+module _ (cs : List ResolvedScope) (count : ℕ) (s : Address) (names : Names) where
   -- nothing adds nothing
   pub sides_none : (a : List TypeDef) (is : List Interface) (us : List Item) → AddsSides cs count s names a a is is [] [] [] us
   sides_none a is us = (refl, refl, refl, refl)
@@ -27,7 +27,7 @@ module _ (cs : List Cell) (count : ℕ) (s : Address) (names : Names) where
       subst (λ (l : List TypeDef). AddsSides cs count s names l c is ks gs ss ys vs) same (
       subst (λ (l : List Interface). AddsSides cs count s names b c l ks gs ss ys vs) inside k)))
 
-  -- more of it behind some, of which as many are interfaces as are given
+  -- more of it after some, of which as many are interfaces as are given
   pub sides_then : (a b c : List TypeDef) (is js ks : List Interface) (fs gs : List Function) (rs ss : List Required) (xs ys : List SideItem) (us vs : List Item) → length us ≡ length (flat_map item_inline xs) → AddsSides cs count s names a b is js fs rs xs us → AddsSides cs count s names b c js ks gs ss ys vs → AddsSides cs count s names a c is ks (fs ++ gs) (rs ++ ss) (xs ++ ys) (us ++ vs)
   sides_then a b c is js ks fs gs rs ss [] ys [] vs long h k = nothing_then a b c is js ks fs gs rs ss ys vs h.0 h.1 h.2 h.3 k
   sides_then a b c is js ks fs gs rs ss [] ys (u ∷ us) vs long h k = absurd (let f : ⊥ = omega (arith, long) in f)

@@ -17,7 +17,7 @@ pub none_is : (is : List Include) → none_of is ≡ true → is ≡ []
 none_is [] h = refl
 none_is (i ∷ is) h = cc
 
--- a setter is alone on a side of an item exactly where it is closed, and the setter has no getter among the functions that stand there
+-- a setter is alone on a side of an item exactly where it is closed, and the setter has no getter among the functions that are there
 module _ (i : Item) (items : List SideItem) (are : side_items i ≡ items) (closed : Bool) (same : closed ≡ none_of (includes i)) where
   there : functions i ≡ flat_map item_function items
   there = functions_items i ∙ (λ k. flat_map item_function (are k))

@@ -1,4 +1,4 @@
--- What stands in front of the arenas, once it was made.
+-- What comes before the arenas, once it was made.
 use Rattle.std.proofs.Common.{◌≡◌, ◌≤◌, List, [], length, sym, ap, ◌∙◌, subst, arith}
 use Rattle.std.specs.Prelude.{map, if◌then◌else◌, not}
 use Rattle.std.specs.List.{filter}
@@ -12,71 +12,71 @@ use Rattle.wit_model.specs.declared.interface.Interface.{Interface}
 use Rattle.wit_model.specs.declared.world.World.{World}
 use Rattle.wit_syntax.specs.Foreign.{ForeignVisit, visited, foreign_items, foreign_interfaces, foreign_worlds}
 use Rattle.wit_arena.specs.Whole.{foreign_place}
-use Rattle.wit_arena.specs.Resolving.{Names, cells, IsIndex, IsWorldIndex}
+use Rattle.wit_arena.specs.Resolving.{Names, resolved_scopes, IsIndex, IsWorldIndex}
 use Rattle.wit_arena.specs.Resolved.{AddsForeign, worlds_at}
-use Rattle.wit_arena.proofs.Indexing.{index_front, world_index_front, worlds_at-append}
+use Rattle.wit_arena.proofs.Indexing.{index_prefix, world_index_prefix, worlds_at-append}
 use Rattle.wit_syntax.specs.Source.{all_items, scope_names}
 use Rattle.wit_arena.proofs.Visits.{visited_foreign, interfaces_differ}
-use Rattle.wit_files.specs.Foreign.{foreign_behind}
-use Rattle.wit_files.specs.declared.foreign.ForeignVisit.{ForeignVisit as Held}
+use Rattle.wit_files.specs.Foreign.{foreign_view}
+use Rattle.wit_files.specs.declared.foreign.ForeignVisit.{ForeignVisit as Borrowed}
 use Rattle.wit_front.specs.declared.foreign.ForeignArenas.{ForeignArenas}
-use Rattle.wit_items.specs.declared.items.Item.{Item as HeldItem}
-use Rattle.wit_item_names.specs.Interfaces.{front_of}
-use Rattle.wit_items.specs.Items.{others_of, names_behind}
-use Rattle.wit_items.specs.Inside.{inside_behind, names_written}
-use Rattle.wit_items.specs.Front.{AreItemsPlaced}
-use Rattle.wit_front.specs.Front.{addresses_among, IsTaken, HasTaken, IsFront}
+use Rattle.wit_items.specs.declared.items.Item.{Item as BorrowedItem}
+use Rattle.wit_item_names.specs.Interfaces.{prefix_of}
+use Rattle.wit_items.specs.Items.{others_of, names_view}
+use Rattle.wit_items.specs.InlineNames.{inside_view, names_written}
+use Rattle.wit_items.specs.PlacedItems.{AreItemsPlaced}
+use Rattle.wit_front.specs.ForeignPrefix.{addresses_among, AreAdded, HasUsed, IsPrefix}
 
 abbrev entry_by : List ForeignVisit → ForeignVisit → AstItem
 entry_by vs v = if v.wants_world then entry.World (foreign_place (filter (λ (v : ForeignVisit). v.wants_world) vs) v) else entry.Interface (foreign_place (filter (λ u. not u.wants_world) vs) v)
 
 module _ (files : List PackageFile) (es : List TypeDef) (is : List Interface) (ws : List World) (adds : AddsForeign files es is ws) where
   -- nothing in front goes by a name
-  pub front_index : IsIndex (cells (map visited (foreign_interfaces files)) is) []
-  front_index = index_front (map visited (foreign_interfaces files)) is (adds.interfaces.count ∙ sym (length-map (foreign_interfaces files) visited)) (visited_foreign (foreign_interfaces files))
+  pub prefix_index : IsIndex (resolved_scopes (map visited (foreign_interfaces files)) is) []
+  prefix_index = index_prefix (map visited (foreign_interfaces files)) is (adds.interfaces.count ∙ sym (length-map (foreign_interfaces files) visited)) (visited_foreign (foreign_interfaces files))
 
-  pub front_worlds_index : IsWorldIndex (worlds_at (map visited (foreign_worlds files)) ws) []
-  front_worlds_index =
+  pub prefix_worlds_index : IsWorldIndex (worlds_at (map visited (foreign_worlds files)) ws) []
+  prefix_worlds_index =
       let ss = map visited (foreign_worlds files) in
       let all : worlds_at ss ws ≡ ss = ap (worlds_at ss) (sym (append-nil ws)) ∙ worlds_at-append ss ws [] (adds.worlds.count ∙ sym (length-map (foreign_worlds files) visited)) ∙ append-nil ss in
-      subst (λ l. IsWorldIndex l []) (sym all) (world_index_front ss (visited_foreign (foreign_worlds files)))
+      subst (λ l. IsWorldIndex l []) (sym all) (world_index_prefix ss (visited_foreign (foreign_worlds files)))
 
   -- they are as many as other packages have
-  pub interfaces_enough : length (front_of files) ≤ length is
+  pub interfaces_enough : length (prefix_of files) ≤ length is
   interfaces_enough = omega (arith, adds.interfaces.count, length-map (foreign_interfaces files) visited)
 
   pub others_enough : length (map visited (foreign_worlds files)) ≤ length ws
   others_enough = omega (arith, adds.worlds.count, length-map (foreign_worlds files) visited)
 
 -- the items of other packages before anything is taken from them
-bare : (files : List PackageFile) (vs : List Held) (types : List TypeDef) (a : ForeignArenas) → map foreign_behind vs ≡ foreign_items files → types ≡ [] → IsTaken (map foreign_behind vs) [] [] a → IsTaken (foreign_items files) [] types a
-bare files vs types a all empty h = subst (λ (ts : List TypeDef). IsTaken (foreign_items files) [] ts a) (sym empty) (subst (λ (l : List ForeignVisit). IsTaken l [] [] a) all h)
+bare : (files : List PackageFile) (vs : List Borrowed) (types : List TypeDef) (a : ForeignArenas) → map foreign_view vs ≡ foreign_items files → types ≡ [] → AreAdded (map foreign_view vs) [] [] a → AreAdded (foreign_items files) [] types a
+bare files vs types a all empty h = subst (λ (ts : List TypeDef). AreAdded (foreign_items files) [] ts a) (sym empty) (subst (λ (l : List ForeignVisit). AreAdded l [] [] a) all h)
 
-module _ (files : List PackageFile) (vs : List Held) (types : List TypeDef) (a : ForeignArenas) (items held : List HeldItem) (all : map foreign_behind vs ≡ foreign_items files) (empty : types ≡ []) (made : IsTaken (map foreign_behind vs) [] [] a) (lent : held ≡ items) (placed : AreItemsPlaced (map visited (foreign_interfaces files)) items) where
+module _ (files : List PackageFile) (vs : List Borrowed) (types : List TypeDef) (a : ForeignArenas) (items borrowed : List BorrowedItem) (all : map foreign_view vs ≡ foreign_items files) (empty : types ≡ []) (made : AreAdded (map foreign_view vs) [] [] a) (lent : borrowed ≡ items) (placed : AreItemsPlaced (map visited (foreign_interfaces files)) items) where
   -- names can be taken from them
-  pub front_started : HasTaken types a (λ front. AreItemsPlaced front held)
-  front_started = record {
+  pub prefix_started : HasUsed types a (λ prefix. AreItemsPlaced prefix borrowed)
+  prefix_started = record {
     vs = foreign_items files;
     ts = [];
     apart = interfaces_differ files;
-    taken = bare files vs types a all empty made;
+    in_use = bare files vs types a all empty made;
     placed = subst (AreItemsPlaced (map visited (foreign_interfaces files))) (sym lent) placed;
   }
 
-  -- once all are taken, they are what stands in front
-  pub front_taken : (types' : List TypeDef) (a' : ForeignArenas) → map names_behind items ≡ map scope_names (all_items files) → ((side : WorldSide) → map (inside_behind side) items ≡ map (names_written side) (all_items files)) → ((fs : List PackageFile) → IsTaken (foreign_items fs) [] types a → AreItemsPlaced (addresses_among (foreign_items fs)) held → map names_behind held ≡ map scope_names (all_items fs) → ((side : WorldSide) → map (inside_behind side) held ≡ map (names_written side) (all_items fs)) → IsFront fs types' a') → IsFront files types' a'
-  front_taken types' a' names inside taken = taken files (bare files vs types a all empty made) (subst (AreItemsPlaced (map visited (foreign_interfaces files))) (sym lent) placed) (ap (map names_behind) lent ∙ names) (λ side. ap (map (inside_behind side)) lent ∙ inside side)
+  -- once all are taken, they are what comes first
+  pub prefix_used : (types' : List TypeDef) (a' : ForeignArenas) → map names_view items ≡ map scope_names (all_items files) → ((side : WorldSide) → map (inside_view side) items ≡ map (names_written side) (all_items files)) → ((fs : List PackageFile) → AreAdded (foreign_items fs) [] types a → AreItemsPlaced (addresses_among (foreign_items fs)) borrowed → map names_view borrowed ≡ map scope_names (all_items fs) → ((side : WorldSide) → map (inside_view side) borrowed ≡ map (names_written side) (all_items fs)) → IsPrefix fs types' a') → IsPrefix files types' a'
+  prefix_used types' a' names inside in_use = in_use files (bare files vs types a all empty made) (subst (AreItemsPlaced (map visited (foreign_interfaces files))) (sym lent) placed) (ap (map names_view) lent ∙ names) (λ side. ap (map (inside_view side)) lent ∙ inside side)
 
--- where what stands in front was made
-module _ (files : List PackageFile) (types : List TypeDef) (a : ForeignArenas) (front : IsFront files types a) where
-  pub lent_enough : length (front_of files) ≤ length a.interfaces
-  lent_enough = interfaces_enough files types a.interfaces a.worlds front.adds
+-- where what comes first was made
+module _ (files : List PackageFile) (types : List TypeDef) (a : ForeignArenas) (prefix : IsPrefix files types a) where
+  pub lent_enough : length (prefix_of files) ≤ length a.interfaces
+  lent_enough = interfaces_enough files types a.interfaces a.worlds prefix.adds
 
-  pub lent_index : (by_name : Names) → by_name ≡ [] → IsIndex (cells (front_of files) a.interfaces) by_name
-  lent_index by_name none = subst (IsIndex (cells (front_of files) a.interfaces)) (sym none) (front_index files types a.interfaces a.worlds front.adds)
+  pub lent_index : (by_name : Names) → by_name ≡ [] → IsIndex (resolved_scopes (prefix_of files) a.interfaces) by_name
+  lent_index by_name none = subst (IsIndex (resolved_scopes (prefix_of files) a.interfaces)) (sym none) (prefix_index files types a.interfaces a.worlds prefix.adds)
 
   pub worlds_enough : length (others_of files) ≤ length a.worlds
-  worlds_enough = others_enough files types a.interfaces a.worlds front.adds
+  worlds_enough = others_enough files types a.interfaces a.worlds prefix.adds
 
   pub worlds_index : (by_name : Names) → by_name ≡ [] → IsWorldIndex (worlds_at (others_of files) a.worlds) by_name
-  worlds_index by_name none = subst (IsWorldIndex (worlds_at (others_of files) a.worlds)) (sym none) (front_worlds_index files types a.interfaces a.worlds front.adds)
+  worlds_index by_name none = subst (IsWorldIndex (worlds_at (others_of files) a.worlds)) (sym none) (prefix_worlds_index files types a.interfaces a.worlds prefix.adds)

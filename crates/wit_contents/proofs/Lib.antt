@@ -7,8 +7,8 @@ pub mod Linking
 mod Adding
 mod DoneSides
 mod InsideAt
-mod StandingItem
+mod MembersOfItem
 mod NoSides
-mod WrongStanding
+mod WrongMembers
 mod WorldsMore
 mod Parts

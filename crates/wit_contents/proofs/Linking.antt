@@ -1,4 +1,4 @@
--- The links of a world, as they are held: where they lead, and what is wrong with them.
+-- The links of a world, as they are borrowed: where they lead, and what is wrong with them.
 use Rattle.std.proofs.Common.{◌≡◌, ℕ, ◌+◌, zero, suc, false, List, [], ◌∷◌, ◌++◌, length, Some, None, inl, inr, refl, sym, ap, ◌∙◌, subst, Contains}
 use Rattle.std.specs.Prelude.{map, slice_get}
 use Rattle.std.specs.Option.{option_map}
@@ -14,26 +14,26 @@ use Rattle.wit_types.specs.declared.types.TypeOwner.{TypeOwner}
 use Rattle.wit_model.specs.declared.interface.Interface.{Interface}
 use Rattle.wit_syntax.specs.Address.{Address}
 use Rattle.wit_syntax.specs.Broken.{is_world_at, MissingUse, WorldUsed}
-use Rattle.wit_syntax.specs.Crossing.{extern_paths, inline_uses}
+use Rattle.wit_syntax.specs.ExternPart.{extern_paths, inline_uses}
 use Rattle.wit_syntax.specs.Fault.{Fault}
 use Rattle.wit_syntax.specs.Function.{SourceFunction}
 use Rattle.wit_syntax.specs.Repeats.{AllDiffer}
 use Rattle.wit_syntax.specs.Scope.{use_path, use_paths}
 use Rattle.wit_syntax.specs.Sides.{Link, SideItem, SideFunction, SideLink, extern_items, item_link, links, part_items, side_items}
-use Rattle.wit_syntax.specs.Source.{Item, Part, TopName, Defining, Using, Including, Doing, Crossing, leads, parts}
+use Rattle.wit_syntax.specs.Source.{Item, Part, TopName, DefinitionPart, UsePart, IncludePart, FunctionPart, ExternPart, leads, parts}
 use Rattle.wit_syntax.proofs.Found.{at_contains, contains_at}
 use Rattle.wit_syntax.proofs.Lists.{at_back, at_either, flat_map_at, flat_map_has, map_at}
-use Rattle.wit_arena.specs.Resolving.{Cell, Names}
+use Rattle.wit_arena.specs.Resolving.{ResolvedScope, Names}
 use Rattle.wit_arena.specs.Resolved.{AreUsableLinks, HasUsableLinks, IsWrongWorld, WrongLinks, WrongWorldUse, LostLink}
-use Rattle.wit_externs.specs.Held.{externs_behind, extern_behind, held_on, link_behind}
+use Rattle.wit_externs.specs.SideMembers.{externs_view, extern_view, borrowed_on, link_view}
 use Rattle.wit_externs.specs.Links.{bare_places, AreRightLinks}
-use Rattle.wit_externs.specs.declared.held.Led.{Led}
-use Rattle.wit_externs.specs.declared.held.Led.TheVariants as led
-use Rattle.wit_externs.specs.declared.held.HeldLink.{HeldLink}
-use Rattle.wit_externs.specs.declared.held.HeldExtern.{HeldExtern}
-use Rattle.wit_externs.specs.declared.held.HeldExtern.TheVariants as held
+use Rattle.wit_externs.specs.declared.borrowed.PathTarget.{PathTarget}
+use Rattle.wit_externs.specs.declared.borrowed.PathTarget.TheVariants as path_target
+use Rattle.wit_externs.specs.declared.borrowed.BorrowedLink.{BorrowedLink}
+use Rattle.wit_externs.specs.declared.borrowed.BorrowedExtern.{BorrowedExtern}
+use Rattle.wit_externs.specs.declared.borrowed.BorrowedExtern.TheVariants as borrowed
 use Rattle.wit_uses.proofs.Linked.{linked_twice, none_linked}
-use Rattle.wit_world_sides.specs.Links.{AreLed, IsLed, IsLostAt}
+use Rattle.wit_world_sides.specs.Links.{ArePathTargets, IsPathTarget, IsLostAt}
 use Rattle.wit_externs.proofs.Linked.{AreLinksPlaced}
 use Rattle.wit_item_entries.proofs.ScopeFunctions.{IsWrongPath, LeadsToWorld, LeadsToNothing, LeadsAgain}
 
@@ -63,14 +63,14 @@ extern_path x (extern.NamedPath name path) zero link at = (let same : SideLink (
 extern_path x (extern.NamedPath name path) (suc k) link at = absurd (let f : ⊥ = cc in f)
 
 part_path : (p : Part) (k : ℕ) (link : Link) → slice_get (part_items p) k ≡ Some (SideLink link) → (j : ℕ) × (slice_get (use_path p) j ≡ Some link.path)
-part_path (Defining d) k link at = absurd (no_link _ k link at)
-part_path (Using u) k link at = absurd (let f : ⊥ = cc in f)
-part_path (Including i) k link at = absurd (let f : ⊥ = cc in f)
-part_path (Doing g) zero link at = absurd (let f : ⊥ = cc in f)
-part_path (Doing g) (suc k) link at = absurd (let f : ⊥ = cc in f)
-part_path (Crossing x) k link at =
-    let front = map (λ (u : Use). u.from) (inline_uses x.kind) in
-    (length front + 0, at_back front (extern_paths x.kind) 0 link.path (extern_path x x.kind k link at))
+part_path (DefinitionPart d) k link at = absurd (no_link _ k link at)
+part_path (UsePart u) k link at = absurd (let f : ⊥ = cc in f)
+part_path (IncludePart i) k link at = absurd (let f : ⊥ = cc in f)
+part_path (FunctionPart g) zero link at = absurd (let f : ⊥ = cc in f)
+part_path (FunctionPart g) (suc k) link at = absurd (let f : ⊥ = cc in f)
+part_path (ExternPart x) k link at =
+    let prefix = map (λ (u : Use). u.from) (inline_uses x.kind) in
+    (length prefix + 0, at_back prefix (extern_paths x.kind) 0 link.path (extern_path x x.kind k link at))
 
 -- it is one by which the item uses interfaces
 link_path : (i : Item) (k : ℕ) (link : Link) → slice_get (side_items i) k ≡ Some (SideLink link) → Contains (use_paths i) link.path
@@ -80,53 +80,53 @@ link_path i k link at =
     let q = flat_map_has use_path (parts i) p.0 w.0 p.1 link.path p.2 w.1 in
     contains_at (use_paths i) q.0 link.path q.1
 
--- a link that is held is one of the item
-held_at : (i : Item) (hs : List HeldExtern) (l : HeldLink) → side_items i ≡ externs_behind hs → Contains hs (held.Link l) → (k : ℕ) × (slice_get (side_items i) k ≡ Some (SideLink (link_behind l)))
-held_at i hs l same among =
-    let k = at_contains hs (held.Link l) among in
-    (k.0, ap (λ (xs : List SideItem). slice_get xs k.0) same ∙ slice_get-map extern_behind hs k.0 ∙ ap (option_map extern_behind) k.1)
+-- a link that is borrowed is one of the item
+borrowed_at : (i : Item) (hs : List BorrowedExtern) (l : BorrowedLink) → side_items i ≡ externs_view hs → Contains hs (borrowed.Link l) → (k : ℕ) × (slice_get (side_items i) k ≡ Some (SideLink (link_view l)))
+borrowed_at i hs l same among =
+    let k = at_contains hs (borrowed.Link l) among in
+    (k.0, ap (λ (xs : List SideItem). slice_get xs k.0) same ∙ slice_get-map extern_view hs k.0 ∙ ap (option_map extern_view) k.1)
 
 -- a path that leads to no interface, or to that of an earlier one, breaks a rule, or is lost
-pub wrong_path : (files : List PackageFile) (front interfaces : List Address) (old : List TypeDef) (cs : List Cell) (count : ℕ) (inside : List Interface) (by_name worlds : Names) (o : TypeOwner) (i : Item) (hs : List HeldExtern) (f : Fault) → side_items i ≡ externs_behind hs → AreLed files front by_name i.top hs → AreLinksPlaced interfaces i.top hs → IsWrongPath hs f → IsWrongWorld files old cs count inside by_name worlds o i f
-wrong_path files front interfaces old cs count inside by_name worlds o i hs f same are placed (LeadsToWorld l among lead is) =
-    let at = held_at i hs l same among in
-    WrongWorldUse (WorldUsed l.path.now (link_path i at.0 (link_behind l) at.1) (subst (λ (d : Led). IsLed files front by_name i.top l.path.now d) lead (are.each l among)) is)
-wrong_path files front interfaces old cs count inside by_name worlds o i hs f same are placed (LeadsToNothing l id among lead is) =
-    let at = held_at i hs l same among in
-    let lost : IsLostAt files by_name i.top l.path.now id = subst (λ (d : Led). IsLed files front by_name i.top l.path.now d) lead (are.each l among) in
+pub wrong_path : (files : List PackageFile) (prefix interfaces : List Address) (old : List TypeDef) (cs : List ResolvedScope) (count : ℕ) (inside : List Interface) (by_name worlds : Names) (o : TypeOwner) (i : Item) (hs : List BorrowedExtern) (f : Fault) → side_items i ≡ externs_view hs → ArePathTargets files prefix by_name i.top hs → AreLinksPlaced interfaces i.top hs → IsWrongPath hs f → IsWrongWorld files old cs count inside by_name worlds o i f
+wrong_path files prefix interfaces old cs count inside by_name worlds o i hs f same are placed (LeadsToWorld l among lead is) =
+    let at = borrowed_at i hs l same among in
+    WrongWorldUse (WorldUsed l.path.now (link_path i at.0 (link_view l) at.1) (subst (λ (d : PathTarget). IsPathTarget files prefix by_name i.top l.path.now d) lead (are.each l among)) is)
+wrong_path files prefix interfaces old cs count inside by_name worlds o i hs f same are placed (LeadsToNothing l id among lead is) =
+    let at = borrowed_at i hs l same among in
+    let lost : IsLostAt files by_name i.top l.path.now id = subst (λ (d : PathTarget). IsPathTarget files prefix by_name i.top l.path.now d) lead (are.each l among) in
     elim lost.1 [
-      | inl missing ↦ WrongWorldUse (MissingUse l.path.now id (link_path i at.0 (link_behind l) at.1) lost.0 missing is)
+      | inl missing ↦ WrongWorldUse (MissingUse l.path.now id (link_path i at.0 (link_view l) at.1) lost.0 missing is)
       | inr unresolved ↦ (
-          let p = flat_map_has item_link (side_items i) at.0 0 (SideLink (link_behind l)) (link_behind l) at.1 refl in
-          LostLink (record { link = link_behind l; id = id; among = contains_at (links i) p.0 (link_behind l) p.1; local = lost.0; usable = unresolved.0; lost = unresolved.1; is = is }))
+          let p = flat_map_has item_link (side_items i) at.0 0 (SideLink (link_view l)) (link_view l) at.1 refl in
+          LostLink (record { link = link_view l; id = id; among = contains_at (links i) p.0 (link_view l) p.1; local = lost.0; usable = unresolved.0; lost = unresolved.1; is = is }))
     ]
-wrong_path files front interfaces old cs count inside by_name worlds o i hs f same are placed (LeadsAgain h) = WrongLinks (linked_twice files interfaces i hs same placed (λ l id among lead. (subst (λ (d : Led). IsLed files front by_name i.top l.path.now d) lead (are.each l among)).0) f h)
+wrong_path files prefix interfaces old cs count inside by_name worlds o i hs f same are placed (LeadsAgain h) = WrongLinks (linked_twice files interfaces i hs same placed (λ l id among lead. (subst (λ (d : PathTarget). IsPathTarget files prefix by_name i.top l.path.now d) lead (are.each l among)).0) f h)
 
--- a link of an item is one that is held
-link_held : (h : HeldExtern) (j : ℕ) (link : Link) → slice_get (item_link (extern_behind h)) j ≡ Some link → (l : HeldLink) × (h ≡ held.Link l) × (link_behind l ≡ link)
-link_held (held.Function g) j link at = absurd (let f : ⊥ = cc in f)
-link_held (held.Link l) zero link at = (l, refl, cc)
-link_held (held.Link l) (suc j) link at = absurd (let f : ⊥ = cc in f)
-link_held (held.Inline i) j link at = absurd (let f : ⊥ = cc in f)
+-- a link of an item is one that is borrowed
+link_borrowed : (h : BorrowedExtern) (j : ℕ) (link : Link) → slice_get (item_link (extern_view h)) j ≡ Some link → (l : BorrowedLink) × (h ≡ borrowed.Link l) × (link_view l ≡ link)
+link_borrowed (borrowed.Function g) j link at = absurd (let f : ⊥ = cc in f)
+link_borrowed (borrowed.Link l) zero link at = (l, refl, cc)
+link_borrowed (borrowed.Link l) (suc j) link at = absurd (let f : ⊥ = cc in f)
+link_borrowed (borrowed.Inline i) j link at = absurd (let f : ⊥ = cc in f)
 
 -- a right link leads to an interface
-led_usable : (files : List PackageFile) (front : List Address) (by_name : Names) (top : List TopName) (hs : List HeldExtern) (k : ℕ) (l : HeldLink) → AreLed files front by_name top hs → AreRightLinks hs → slice_get hs k ≡ Some (held.Link l) → is_world_at files (leads top l.path.now) ≡ Some false
-led_usable files front by_name top hs k l are right at = (subst (λ (d : Led). IsLed files front by_name top l.path.now d) (right.each k l at).leads (are.each l (contains_at hs k (held.Link l) at))).0
+resolved_usable : (files : List PackageFile) (prefix : List Address) (by_name : Names) (top : List TopName) (hs : List BorrowedExtern) (k : ℕ) (l : BorrowedLink) → ArePathTargets files prefix by_name top hs → AreRightLinks hs → slice_get hs k ≡ Some (borrowed.Link l) → is_world_at files (leads top l.path.now) ≡ Some false
+resolved_usable files prefix by_name top hs k l are right at = (subst (λ (d : PathTarget). IsPathTarget files prefix by_name top l.path.now d) (right.each k l at).leads (are.each l (contains_at hs k (borrowed.Link l) at))).0
 
 -- where they are right, they lead to interfaces
-links_lead : (files : List PackageFile) (front : List Address) (by_name : Names) (i : Item) (hs : List HeldExtern) → side_items i ≡ externs_behind hs → AreLed files front by_name i.top hs → AreRightLinks hs → (link : Link) → Contains (links i) link → is_world_at files (leads i.top link.path) ≡ Some false
-links_lead files front by_name i hs same are right link among =
+links_lead : (files : List PackageFile) (prefix : List Address) (by_name : Names) (i : Item) (hs : List BorrowedExtern) → side_items i ≡ externs_view hs → ArePathTargets files prefix by_name i.top hs → AreRightLinks hs → (link : Link) → Contains (links i) link → is_world_at files (leads i.top link.path) ≡ Some false
+links_lead files prefix by_name i hs same are right link among =
     let k = at_contains (links i) link among in
     let p = flat_map_at item_link (side_items i) k.0 link k.1 in
-    let h = map_at extern_behind hs p.0 p.1 (ap (λ (xs : List SideItem). slice_get xs p.0) (sym same) ∙ p.2) in
-    let l = link_held h.0 p.3.0 link (ap (λ (x : SideItem). slice_get (item_link x) p.3.0) h.2 ∙ p.3.1) in
-    let at : slice_get hs p.0 ≡ Some (held.Link l.0) = h.1 ∙ ap Some l.1 in
-    subst (λ (m : Link). is_world_at files (leads i.top m.path) ≡ Some false) l.2 (led_usable files front by_name i.top hs p.0 l.0 are right at)
+    let h = map_at extern_view hs p.0 p.1 (ap (λ (xs : List SideItem). slice_get xs p.0) (sym same) ∙ p.2) in
+    let l = link_borrowed h.0 p.3.0 link (ap (λ (x : SideItem). slice_get (item_link x) p.3.0) h.2 ∙ p.3.1) in
+    let at : slice_get hs p.0 ≡ Some (borrowed.Link l.0) = h.1 ∙ ap Some l.1 in
+    subst (λ (m : Link). is_world_at files (leads i.top m.path) ≡ Some false) l.2 (resolved_usable files prefix by_name i.top hs p.0 l.0 are right at)
 
 -- and where their places differ on each side, no two lead to one
-pub links_usable : (files : List PackageFile) (front interfaces : List Address) (by_name : Names) (i : Item) (hs : List HeldExtern) → side_items i ≡ externs_behind hs → AreLed files front by_name i.top hs → AreLinksPlaced interfaces i.top hs → AreRightLinks hs → ((side : WorldSide) → AllDiffer (bare_places (held_on side hs))) → HasUsableLinks files i
-links_usable files front interfaces by_name i hs same are placed right apart = record {
-  usable = links_lead files front by_name i hs same are right;
+pub links_usable : (files : List PackageFile) (prefix interfaces : List Address) (by_name : Names) (i : Item) (hs : List BorrowedExtern) → side_items i ≡ externs_view hs → ArePathTargets files prefix by_name i.top hs → AreLinksPlaced interfaces i.top hs → AreRightLinks hs → ((side : WorldSide) → AllDiffer (bare_places (borrowed_on side hs))) → HasUsableLinks files i
+links_usable files prefix interfaces by_name i hs same are placed right apart = record {
+  usable = links_lead files prefix by_name i hs same are right;
   apart = none_linked files interfaces i hs same placed right apart;
 }
 

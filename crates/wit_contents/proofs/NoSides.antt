@@ -1,4 +1,4 @@
--- Worlds on whose sides nothing stands.
+-- Worlds on whose sides nothing is.
 use Rattle.std.proofs.Common.{◌≡◌, ◌+◌, ℕ, List, [], Some, length, refl, sym, ap, ◌∙◌, subst, arith}
 use Rattle.std.specs.Prelude.{slice_get}
 use Rattle.std.specs.List.{flat_map}
@@ -12,35 +12,35 @@ use Rattle.wit_syntax.specs.Sides.{SideItem, inline_items, item_function, item_i
 use Rattle.wit_syntax.specs.Signature.{IsUnpairedSetter}
 use Rattle.wit_syntax.specs.Source.{Item, address}
 use Rattle.wit_syntax.proofs.Legal.{functions_items}
-use Rattle.wit_arena.specs.Resolving.{Cell, Names, Required}
+use Rattle.wit_arena.specs.Resolving.{ResolvedScope, Names, Required}
 use Rattle.wit_arena.specs.Resolved.{AddsSides, AreLegalSides, AreSoundScopes}
-use Rattle.wit_externs.specs.declared.held.HeldExtern.{HeldExtern}
-use Rattle.wit_externs.specs.Held.{externs_behind}
+use Rattle.wit_externs.specs.declared.borrowed.BorrowedExtern.{BorrowedExtern}
+use Rattle.wit_externs.specs.SideMembers.{externs_view}
 use Rattle.wit_externs.proofs.NoSetters.{none_there}
-use Rattle.wit_scopes.specs.Held.{Held as HeldName}
-use Rattle.wit_uses.specs.Between.{Emits}
-use Rattle.wit_contents.proofs.StandingItem.{standing_count}
-use Rattle.wit_uses.proofs.ItemSides.{IsStandingBy}
+use Rattle.wit_scopes.specs.Borrowed.{Borrowed as BorrowedName}
+use Rattle.wit_uses.specs.NewRequirements.{Appends}
+use Rattle.wit_contents.proofs.MembersOfItem.{member_count}
+use Rattle.wit_uses.proofs.ItemSides.{HasMembers}
 
-module _ (i : Item) (xs : List HeldName) (hs : List HeldExtern) (own : IsStandingBy i xs hs) (none : hs ≡ []) where
+module _ (i : Item) (xs : List BorrowedName) (hs : List BorrowedExtern) (own : HasMembers i xs hs) (none : hs ≡ []) where
   no_items : side_items i ≡ []
-  no_items = own.sides ∙ ap externs_behind none
+  no_items = own.sides ∙ ap externs_view none
 
   no_inline : inline_items i ≡ []
-  no_inline = nil_from_length (inline_items i) (sym (standing_count i xs hs own) ∙ ap (λ l. length (flat_map item_inline (externs_behind l))) none)
+  no_inline = nil_from_length (inline_items i) (sym (member_count i xs hs own) ∙ ap (λ l. length (flat_map item_inline (externs_view l))) none)
 
   no_functions : functions i ≡ []
   no_functions = functions_items i ∙ ap (flat_map item_function) no_items
 
-  pub nothing_added : (cs : List Cell) (count : ℕ) (names : Names) (types : List TypeDef) (inside : List Interface) (before : List Required) → Emits before before (λ rs. AddsSides cs count (address i) names types types inside inside [] rs (side_items i) (inline_items i))
+  pub nothing_added : (cs : List ResolvedScope) (count : ℕ) (names : Names) (types : List TypeDef) (inside : List Interface) (before : List Required) → Appends before before (λ rs. AddsSides cs count (address i) names types types inside inside [] rs (side_items i) (inline_items i))
   nothing_added cs count names types inside before = record {
     own = [];
     list = sym (append-nil before);
     holds = subst (λ (l : List SideItem). AddsSides cs count (address i) names types types inside inside [] [] l (inline_items i)) (sym no_items) (refl, refl, refl, refl);
   }
 
-  pub nothing_grown : (n : ℕ) → n ≡ n + length (inline_items i)
-  nothing_grown n = omega (arith, ap length no_inline)
+  pub nothing_extended : (n : ℕ) → n ≡ n + length (inline_items i)
+  nothing_extended n = omega (arith, ap length no_inline)
 
   pub no_function : (k : ℕ) (fn : SourceFunction) → slice_get (functions i) k ≡ Some fn → ⊥
   no_function k fn at = (let wrong : slice_get [] k ≡ Some fn = ap (λ (l : List SourceFunction). slice_get l k) (sym no_functions) ∙ at in cc)
@@ -51,5 +51,5 @@ module _ (i : Item) (xs : List HeldName) (hs : List HeldExtern) (own : IsStandin
   pub nothing_sided : AreLegalSides (inline_items i)
   nothing_sided = rw no_inline (record { legal = λ k u f at broken. (let wrong : ⊥ = cc in wrong) })
 
-  pub nothing_alone : (side : WorldSide) (f : Fault) → IsUnpairedSetter (on_side side (flat_map item_function (externs_behind hs))) f → ⊥
-  nothing_alone side f alone = none_there [] refl side f (subst (λ (l : List HeldExtern). IsUnpairedSetter (on_side side (flat_map item_function (externs_behind l))) f) none alone)
+  pub nothing_alone : (side : WorldSide) (f : Fault) → IsUnpairedSetter (on_side side (flat_map item_function (externs_view hs))) f → ⊥
+  nothing_alone side f alone = none_there [] refl side f (subst (λ (l : List BorrowedExtern). IsUnpairedSetter (on_side side (flat_map item_function (externs_view l))) f) none alone)

@@ -19,96 +19,96 @@ use Rattle.wit_syntax.specs.Function.{functions}
 use Rattle.wit_syntax.specs.Repeats.{AllDiffer}
 use Rattle.wit_syntax.specs.Scope.{in_turn, includes}
 use Rattle.wit_syntax.specs.Sides.{IsBrokenSides, SideItem, inline_items, item_inline, side_items}
-use Rattle.wit_syntax.specs.Notes.{IsBrokenStability}
-use Rattle.wit_syntax.specs.Source.{Item, ScopeName, address, local_id, scope_names, about, declared_notes}
-use Rattle.wit_syntax.proofs.Inline.{length-inline_behind}
+use Rattle.wit_syntax.specs.Metadata.{IsBrokenStability}
+use Rattle.wit_syntax.specs.Source.{Item, ScopeName, address, local_id, scope_names, about, declared_metadata}
+use Rattle.wit_syntax.proofs.Inline.{length-inline_after}
 use Rattle.wit_syntax.proofs.Lists.{at_back}
 use Rattle.wit_syntax.proofs.Turns.{in_turn_distinct}
-use Rattle.wit_arena.specs.Resolving.{Names, Required, cells}
+use Rattle.wit_arena.specs.Resolving.{Names, Required, resolved_scopes}
 use Rattle.wit_arena.specs.Resolved.{AddsSides, AddsWorld, AreLegalSides, AreSoundScopes, IsBrokenItemStability, IsNameless, OfInclude, OwnStability, interfaces_at, worlds_at}
 use Rattle.wit_arena.specs.SideItems.{AreSideItems, settled}
 use Rattle.wit_arena.specs.Whole.{AreIncludes, type_imports}
-use Rattle.wit_externs.specs.Held.{externs_behind}
+use Rattle.wit_externs.specs.SideMembers.{externs_view}
 use Rattle.wit_externs.specs.Links.{AreRightLinks}
-use Rattle.wit_externs.specs.declared.held.HeldExtern.{HeldExtern}
-use Rattle.wit_items.specs.Told.{AreOf, notes_behind}
-use Rattle.wit_uses.specs.Behind.{IsTurn}
-use Rattle.wit_uses.specs.Between.{Emits}
-use Rattle.wit_item_entries.specs.Between.{AddsTurn}
-use Rattle.wit_item_entries.proofs.Behind.{turn_texts}
-use Rattle.wit_uses.proofs.Telling.{world_told}
+use Rattle.wit_externs.specs.declared.borrowed.BorrowedExtern.{BorrowedExtern}
+use Rattle.wit_items.specs.SourceItems.{AreOf, metadata_view}
+use Rattle.wit_uses.specs.NameOrder.{IsTurn}
+use Rattle.wit_uses.specs.NewRequirements.{Appends}
+use Rattle.wit_item_entries.specs.AddedNames.{AddsTurn}
+use Rattle.wit_item_entries.proofs.FunctionFaults.{turn_texts}
+use Rattle.wit_uses.proofs.Telling.{world_stated}
 use Rattle.wit_contents.specs.declared.world.WorldParts.{WorldParts}
 use Rattle.wit_contents.specs.BetweenWorlds.{AreWorldParts, IsAddedWorld, arenas}
 use Rattle.wit_links.specs.Includes.{AreStable}
 use Rattle.wit_world_sides.specs.Settled.{none_of}
 use Rattle.wit_world_sides.specs.Sides.{entries_on}
-use Rattle.wit_contents.specs.Standing.{AreConsecutive}
+use Rattle.wit_contents.specs.Members.{AreConsecutive}
 use Rattle.wit_links.proofs.Leading.{links_wider}
 use Rattle.wit_world_sides.proofs.SideKeys.{AreMade}
 use Rattle.wit_world_sides.proofs.SideEntries.{AreAt, at_from, entries_are}
 use Rattle.wit_externs.proofs.Linked.{AreLinksPlaced}
 
--- an element is the first, or one of those behind it
+-- an element is the first, or one of those after it
 at_cons : {X : Type 0} (x : X) (xs : List X) (k : ℕ) (y : X) → slice_get (x ∷ xs) k ≡ Some y → (x ≡ y) ⊎ ((j : ℕ) × (slice_get xs j ≡ Some y))
 at_cons x xs zero y at = inl cc
 at_cons x xs (suc k) y at = inr (k, at)
 
--- where each of so many interfaces that are written in an item is, behind the declared ones and those that were written before
+-- where each of so many interfaces that are written in an item is, after the declared ones and those that were written before
 module _ (foreign : List Address) (is inside : List Interface) (ss : List Address) (item : Item) (counted : length (interfaces_at foreign is) ≡ length is) (known : length ss ≡ length inside) where
-  inline_stands : (k : ℕ) (s : Address) → slice_get (map address (inline_items item)) k ≡ Some s → slice_get (interfaces_at foreign is ++ (ss ++ map address (inline_items item))) ((length is + length inside) + k) ≡ Some s
-  inline_stands k s at =
+  inline_present : (k : ℕ) (s : Address) → slice_get (map address (inline_items item)) k ≡ Some s → slice_get (interfaces_at foreign is ++ (ss ++ map address (inline_items item))) ((length is + length inside) + k) ≡ Some s
+  inline_present k s at =
       let us = map address (inline_items item) in
       let place : (length is + length inside) + k ≡ length (interfaces_at foreign is) + (length ss + k) = omega (arith, counted, known) in
       ap (slice_get (interfaces_at foreign is ++ (ss ++ us))) place ∙ at_back (interfaces_at foreign is) (ss ++ us) (length ss + k) s (at_back ss us k s at)
 
-  inline_places : (hs : List HeldExtern) (ids : List ℕ) → side_items item ≡ externs_behind hs → length ids ≡ length (flat_map item_inline (externs_behind hs)) → AreConsecutive (length is + length inside) ids → AreAt (interfaces_at foreign is ++ (ss ++ map address (inline_items item))) ids (map address (inline_items item))
+  inline_places : (hs : List BorrowedExtern) (ids : List ℕ) → side_items item ≡ externs_view hs → length ids ≡ length (flat_map item_inline (externs_view hs)) → AreConsecutive (length is + length inside) ids → AreAt (interfaces_at foreign is ++ (ss ++ map address (inline_items item))) ids (map address (inline_items item))
   inline_places hs ids same count follow =
       let us = map address (inline_items item) in
-      let long : length ids ≡ length us = count ∙ ap (λ (l : List SideItem). length (flat_map item_inline l)) (sym same) ∙ sym (length-inline_behind item [] (side_items item)) ∙ sym (length-map (inline_items item) address) in
-      at_from (interfaces_at foreign is ++ (ss ++ us)) (length is + length inside) ids us long follow.each inline_stands
+      let long : length ids ≡ length us = count ∙ ap (λ (l : List SideItem). length (flat_map item_inline l)) (sym same) ∙ sym (length-inline_after item [] (side_items item)) ∙ sym (length-map (inline_items item) address) in
+      at_from (interfaces_at foreign is ++ (ss ++ us)) (length is + length inside) ids us long follow.each inline_present
 
-  -- so what was put on a side stands there
-  pub entries_stand : (side : WorldSide) (hs : List HeldExtern) (fs : List Function) (ids : List ℕ) → side_items item ≡ externs_behind hs → AreLinksPlaced (interfaces_at foreign is) item.top hs → AreRightLinks hs → AreMade hs fs → length ids ≡ length (flat_map item_inline (externs_behind hs)) → AreConsecutive (length is + length inside) ids → AreSideItems (interfaces_at foreign is ++ (ss ++ map address (inline_items item))) item.top side (side_items item) fs (map address (inline_items item)) (entries_on side hs fs ids)
-  entries_stand side hs fs ids same placed right made count follow =
+  -- so what was put on a side is there
+  pub entries_present : (side : WorldSide) (hs : List BorrowedExtern) (fs : List Function) (ids : List ℕ) → side_items item ≡ externs_view hs → AreLinksPlaced (interfaces_at foreign is) item.top hs → AreRightLinks hs → AreMade hs fs → length ids ≡ length (flat_map item_inline (externs_view hs)) → AreConsecutive (length is + length inside) ids → AreSideItems (interfaces_at foreign is ++ (ss ++ map address (inline_items item))) item.top side (side_items item) fs (map address (inline_items item)) (entries_on side hs fs ids)
+  entries_present side hs fs ids same placed right made count follow =
       let us = map address (inline_items item) in
       let all = interfaces_at foreign is ++ (ss ++ us) in
       subst (λ (xs : List SideItem). AreSideItems all item.top side xs fs us (entries_on side hs fs ids)) (sym same) (entries_are all item.top side hs fs ids us (links_wider (interfaces_at foreign is) (ss ++ us) item.top hs placed) right made count (inline_places hs ids same count follow))
 
--- what its names and what stands on its sides add, with what was put there, and its includes
-pub parts_are : (foreign others : List Address) (is : List Interface) (old mid new : List TypeDef) (ws : List World) (inside now : List Interface) (ss : List Address) (item : Item) (p : WorldParts) (types kept : Names) (turn held : List Id) (own : List Required) (fs : List Function) (ids : List ℕ) (hs : List HeldExtern) (closed : Bool) → length (interfaces_at foreign is) ≡ length is → length ss ≡ length inside → AddsTurn old mid (cells foreign is) (owner.World (length ws)) (scope_names item) types turn own → Emits own p.required.items (λ rs. AddsSides (cells foreign is) (length is) (address item) types mid new inside now fs rs (side_items item) (inline_items item)) → length now ≡ length inside + length (inline_items item) → side_items item ≡ externs_behind hs → AreLinksPlaced (interfaces_at foreign is) item.top hs → AreRightLinks hs → AreMade hs fs → length ids ≡ length (flat_map item_inline (externs_behind hs)) → AreConsecutive (length is + length inside) ids → held ≡ turn → kept ≡ types → ((xs : List ScopeName) (is : List Include) → held ≡ map local_id xs → closed ≡ none_of is → p.sides.imports ≡ settled is (type_imports xs kept ++ entries_on Imported hs fs ids)) → ((is : List Include) → closed ≡ none_of is → p.sides.exports ≡ settled is (entries_on Exported hs fs ids)) → closed ≡ none_of (includes item) → ((f : Fault) → IsSetterAlone item f → ⊥) → AreOf (declared_notes item.declared) p.notes → AreIncludes (worlds_at others ws) item p.includes → AreWorldParts foreign others is old new ws inside now ss item p
-parts_are foreign others is old mid new ws inside now ss item p types kept turn held own fs ids hs closed counted known names emits grown same placed right made count follow lent stored imports exports shut paired told included =
+-- what its names and what is on its sides add, with what was put there, and its includes
+pub parts_are : (foreign others : List Address) (is : List Interface) (old mid new : List TypeDef) (ws : List World) (inside now : List Interface) (ss : List Address) (item : Item) (p : WorldParts) (types kept : Names) (turn borrowed : List Id) (own : List Required) (fs : List Function) (ids : List ℕ) (hs : List BorrowedExtern) (closed : Bool) → length (interfaces_at foreign is) ≡ length is → length ss ≡ length inside → AddsTurn old mid (resolved_scopes foreign is) (owner.World (length ws)) (scope_names item) types turn own → Appends own p.required.items (λ rs. AddsSides (resolved_scopes foreign is) (length is) (address item) types mid new inside now fs rs (side_items item) (inline_items item)) → length now ≡ length inside + length (inline_items item) → side_items item ≡ externs_view hs → AreLinksPlaced (interfaces_at foreign is) item.top hs → AreRightLinks hs → AreMade hs fs → length ids ≡ length (flat_map item_inline (externs_view hs)) → AreConsecutive (length is + length inside) ids → borrowed ≡ turn → kept ≡ types → ((xs : List ScopeName) (is : List Include) → borrowed ≡ map local_id xs → closed ≡ none_of is → p.sides.imports ≡ settled is (type_imports xs kept ++ entries_on Imported hs fs ids)) → ((is : List Include) → closed ≡ none_of is → p.sides.exports ≡ settled is (entries_on Exported hs fs ids)) → closed ≡ none_of (includes item) → ((f : Fault) → IsSetterAlone item f → ⊥) → AreOf (declared_metadata item.declared) p.metadata → AreIncludes (worlds_at others ws) item p.includes → AreWorldParts foreign others is old new ws inside now ss item p
+parts_are foreign others is old mid new ws inside now ss item p types kept turn borrowed own fs ids hs closed counted known names appends extended same placed right made count follow lent stored imports exports shut paired as_stated included =
     let order = names.adds.order in
     let us = map address (inline_items item) in
     let all = interfaces_at foreign is ++ (ss ++ us) in
     record {
-      told = told;
+      as_stated = as_stated;
       types = types;
       middle = mid;
       adds = names.adds;
       own = names.handled.list;
       ended = names.handled.ended;
       functions = fs;
-      rest = emits.own;
-      requires = emits.list ∙ ap (λ (l : List Required). l ++ emits.own) names.handled.added;
-      sides = emits.holds;
-      grown = grown;
+      rest = appends.own;
+      requires = appends.list ∙ ap (λ (l : List Required). l ++ appends.own) names.handled.added;
+      sides = appends.holds;
+      extended = extended;
       imported = entries_on Imported hs fs ids;
       imports = imports (in_turn (scope_names item) order) (includes item) (lent ∙ names.turn) shut ∙ ap (λ (t : Names). settled (includes item) (type_imports (in_turn (scope_names item) order) t ++ entries_on Imported hs fs ids)) stored;
-      are_imported = entries_stand foreign is inside ss item counted known Imported hs fs ids same placed right made count follow;
+      are_imported = entries_present foreign is inside ss item counted known Imported hs fs ids same placed right made count follow;
       exported = entries_on Exported hs fs ids;
-      are_exported = entries_stand foreign is inside ss item counted known Exported hs fs ids same placed right made count follow;
+      are_exported = entries_present foreign is inside ss item counted known Exported hs fs ids same placed right made count follow;
       exports = exports (includes item) shut;
       paired = paired;
       includes = included;
     }
 
 -- the world that has them is added
-pub world_adds : (foreign others : List Address) (is : List Interface) (old new : List TypeDef) (ws ws' : List World) (inside now : List Interface) (ss : List Address) (item : Item) (p : WorldParts) → AreWorldParts foreign others is old new ws inside now ss item p → IsAddedWorld ws ws' (about item.declared).id (notes_behind p.notes) p.sides.imports p.sides.exports p.includes → AddsWorld foreign others is old new (arenas ws inside ss) (arenas ws' now (ss ++ map address (inline_items item))) p.required.items item
+pub world_adds : (foreign others : List Address) (is : List Interface) (old new : List TypeDef) (ws ws' : List World) (inside now : List Interface) (ss : List Address) (item : Item) (p : WorldParts) → AreWorldParts foreign others is old new ws inside now ss item p → IsAddedWorld ws ws' (about item.declared).id (metadata_view p.metadata) p.sides.imports p.sides.exports p.includes → AddsWorld foreign others is old new (arenas ws inside ss) (arenas ws' now (ss ++ map address (inline_items item))) p.required.items item
 world_adds foreign others is old new ws ws' inside now ss item p parts a = record {
   added = a.added;
   last = a.last;
   more = refl;
-  says = world_told (about item.declared).id.name.now (about item.declared).id.span (declared_notes item.declared) p.notes a.added parts.told a.says;
+  says = world_stated (about item.declared).id.name.now (about item.declared).id.span (declared_metadata item.declared) p.metadata a.added parts.as_stated a.says;
   types = parts.types;
   middle = parts.middle;
   adds = parts.adds;

@@ -11,11 +11,11 @@ use Rattle.wit_syntax.specs.Sides.{inline_items, with_inline}
 use Rattle.wit_syntax.specs.Source.{Item, address}
 use Rattle.wit_syntax.proofs.Lists.{at_split}
 use Rattle.wit_arena.specs.Resolving.{Required}
-use Rattle.wit_arena.specs.Resolved.{AddsEach, AddsWorld, AddsWorlds, AreLegalSides, AreSoundScopes, front_worlds}
-use Rattle.wit_uses.specs.Between.{Emits}
+use Rattle.wit_arena.specs.Resolved.{AddsEach, AddsWorld, AddsWorlds, AreLegalSides, AreSoundScopes, prefix_worlds}
+use Rattle.wit_uses.specs.NewRequirements.{Appends}
 use Rattle.wit_contents.specs.BetweenWorlds.{arenas}
 
--- what items add, and one behind them
+-- what items add, and one after them
 module _ {X : Type 0} (Adds : List TypeDef → List TypeDef → X → X → List Required → Item → Type 0) where
   each_more : (a b c : List TypeDef) (i j k : X) (rs own : List Required) (ws : List Item) (w : Item) → AddsEach Adds a b i j rs ws → Adds b c j k own w → AddsEach Adds a c i k (rs ++ own) (ws ++ w ∷ [])
   each_more a b c i j k rs own [] w p q = subst (λ (x : List TypeDef). AddsEach Adds x c i k (rs ++ own) (w ∷ [])) p.0 (subst (λ (x : X). AddsEach Adds b c x k (rs ++ own) (w ∷ [])) p.1 (subst (λ (r : List Required). AddsEach Adds b c j k (r ++ own) (w ∷ [])) (sym p.2) (c, k, own, [], sym (append-nil own), q, (refl, refl, refl))))
@@ -32,34 +32,34 @@ pub with_more : (ws : List Item) (w : Item) → flat_map with_inline (ws ++ w �
 with_more ws w = flat_map-append with_inline ws (w ∷ []) ∙ ap (λ (l : List Item). flat_map with_inline ws ++ l) (append-nil (with_inline w))
 
 -- some worlds were added, of whose interfaces these are the addresses
-pub record AreWorldsTo (foreign others : List Address) (is : List Interface) (old new : List TypeDef) (front ws : List World) (inside : List Interface) (before after : List Required) (items : List Item) : Type 0 where
-  pub emits : Emits before after (λ rs. AddsWorlds foreign others is old new (front_worlds front) (arenas ws inside (addresses_in items)) rs items)
+pub record AreWorldsTo (foreign others : List Address) (is : List Interface) (old new : List TypeDef) (prefix ws : List World) (inside : List Interface) (before after : List Required) (items : List Item) : Type 0 where
+  pub appends : Appends before after (λ rs. AddsWorlds foreign others is old new (prefix_worlds prefix) (arenas ws inside (addresses_in items)) rs items)
   pub put : length (addresses_in items) ≡ length inside
 
-pub worlds_none : (foreign others : List Address) (is : List Interface) (old : List TypeDef) (front : List World) (inside : List Interface) (before : List Required) → inside ≡ [] → AreWorldsTo foreign others is old old front front inside before before []
-worlds_none foreign others is old front inside before bare = record {
-  emits = record { own = []; list = sym (append-nil before); holds = (refl, ap (λ (l : List Interface). arenas front l []) bare, refl) };
+pub worlds_none : (foreign others : List Address) (is : List Interface) (old : List TypeDef) (prefix : List World) (inside : List Interface) (before : List Required) → inside ≡ [] → AreWorldsTo foreign others is old old prefix prefix inside before before []
+worlds_none foreign others is old prefix inside before bare = record {
+  appends = record { own = []; list = sym (append-nil before); holds = (refl, ap (λ (l : List Interface). arenas prefix l []) bare, refl) };
   put = sym (ap length bare);
 }
 
-pub worlds_more : (foreign others : List Address) (is : List Interface) (old mid new : List TypeDef) (front ws ws' : List World) (inside now : List Interface) (before between after : List Required) (items : List Item) (w : Item) → AreWorldsTo foreign others is old mid front ws inside before between items → ((ss : List Address) → length ss ≡ length inside → Emits between after (λ rs. AddsWorld foreign others is mid new (arenas ws inside ss) (arenas ws' now (ss ++ map address (inline_items w))) rs w)) → length now ≡ length inside + length (inline_items w) → AreWorldsTo foreign others is old new front ws' now before after (items ++ w ∷ [])
-worlds_more foreign others is old mid new front ws ws' inside now before between after items w p adds grown =
+pub worlds_more : (foreign others : List Address) (is : List Interface) (old mid new : List TypeDef) (prefix ws ws' : List World) (inside now : List Interface) (before between after : List Required) (items : List Item) (w : Item) → AreWorldsTo foreign others is old mid prefix ws inside before between items → ((ss : List Address) → length ss ≡ length inside → Appends between after (λ rs. AddsWorld foreign others is mid new (arenas ws inside ss) (arenas ws' now (ss ++ map address (inline_items w))) rs w)) → length now ≡ length inside + length (inline_items w) → AreWorldsTo foreign others is old new prefix ws' now before after (items ++ w ∷ [])
+worlds_more foreign others is old mid new prefix ws ws' inside now before between after items w p adds extended =
     let q = adds (addresses_in items) p.put in
     let more = addresses_more items w in
     record {
-      emits = record {
-        own = p.emits.own ++ q.own;
-        list = q.list ∙ ap (λ (l : List Required). l ++ q.own) p.emits.list ∙ append_assoc before p.emits.own q.own;
-        holds = subst (λ (ss : List Address). AddsWorlds foreign others is old new (front_worlds front) (arenas ws' now ss) (p.emits.own ++ q.own) (items ++ w ∷ [])) (sym more) (each_more (AddsWorld foreign others is) old mid new (front_worlds front) (arenas ws inside (addresses_in items)) (arenas ws' now (addresses_in items ++ map address (inline_items w))) p.emits.own q.own items w p.emits.holds q.holds);
+      appends = record {
+        own = p.appends.own ++ q.own;
+        list = q.list ∙ ap (λ (l : List Required). l ++ q.own) p.appends.list ∙ append_assoc before p.appends.own q.own;
+        holds = subst (λ (ss : List Address). AddsWorlds foreign others is old new (prefix_worlds prefix) (arenas ws' now ss) (p.appends.own ++ q.own) (items ++ w ∷ [])) (sym more) (each_more (AddsWorld foreign others is) old mid new (prefix_worlds prefix) (arenas ws inside (addresses_in items)) (arenas ws' now (addresses_in items ++ map address (inline_items w))) p.appends.own q.own items w p.appends.holds q.holds);
       };
       put = (
           let long = ap length more ∙ length-append (addresses_in items) (map address (inline_items w)) in
           let count = length-map (inline_items w) address in
           let before = p.put in
-          omega (arith, long, count, before, grown));
+          omega (arith, long, count, before, extended));
     }
 
--- items behind others, all sound, and all legal
+-- items after others, all sound, and all legal
 pub sounds_both : (xs ys : List Item) → AreSoundScopes xs → AreSoundScopes ys → AreSoundScopes (xs ++ ys)
 sounds_both xs ys first second = record {
   sound = λ k u f at broken. elim (at_split xs ys k u at) [

@@ -1,4 +1,4 @@
-pub mod Between
+pub mod AddedFiles
 pub mod Outer
-pub mod Standing
+pub mod Members
 pub mod BetweenWorlds

@@ -1,10 +1,10 @@
 //! What the files of a package make: its arenas, and what it names of other packages.
 ghost use Rattle.std.specs.Prelude.{◌≡◌, Ok, [], map, IfOk, IfErr};
-ghost use Rattle.wit_type_tree.specs.Refusal.{IsWantOfMemory};
+ghost use Rattle.wit_type_tree.specs.Refusal.{IsAllocationFailure};
 ghost use Rattle.wit_syntax.specs.Fault.{Fault};
-ghost use Rattle.wit_syntax.specs.Source.{first_takings};
+ghost use Rattle.wit_syntax.specs.Source.{first_foreign_uses};
 ghost use Rattle.wit_syntax.specs.Broken.{IsBrokenNames, IsBroken, Refused};
-ghost use Rattle.wit_contents.specs.Between.{AddsFiles, MakeContents};
+ghost use Rattle.wit_contents.specs.AddedFiles.{AddsFiles, MakeContents};
 ghost use Rattle.wit_syntax.specs.Foreign.{foreign_packages};
 ghost use Rattle.wit_arena.specs.Whole.{dep};
 
@@ -19,12 +19,12 @@ use wit_front::foreign::ForeignArenas;
 use wit_item_names::files::Files;
 use wit_items::interfaces::Interfaces;
 use wit_items::items::{Item, declared_items};
+use wit_maps::TextTable;
 use wit_model::{ForeignItems, Interface, World};
 use wit_tree::tree::PackageFile;
 use wit_tree::{ParseResult, Span};
 use wit_types::{Arena, InterfacePlace, TypeDef, TypePlace, WorldPlace};
-use wit_maps::TextTable;
-use wit_values::{Row, beside};
+use wit_values::{Row, pair_with};
 
 /// The interfaces and the worlds of files, where types of other packages are first used, and which of
 /// these have to be resources.
@@ -47,20 +47,20 @@ fn resolve_files<'f, 'a>(
     requires files { names.now ≡ files.now }
     requires legal { (f : Fault) → IsBrokenNames names.now f → ⊥ }
     ensures added { IfOk result (λ r. AddsFiles names.now types.new r.interfaces r.worlds r.required.items) }
-    ensures unknown { IfOk result (λ r. r.unknown_type_spans.items ≡ map (λ t. t.id.span) (first_takings names.now)) }
+    ensures unknown { IfOk result (λ r. r.unknown_type_spans.items ≡ map (λ t. t.id.span) (first_foreign_uses names.now)) }
     ensures refused { IfErr result (Refused (IsBroken names.now)) }
 {
     let order = names.item_order();
-    let mut front = ForeignArenas::of_items(alloc, names.foreign(), order.len())?;
-    let mut items = declared_items(alloc, names, files, &front.entries)?;
+    let mut prefix = ForeignArenas::of_items(alloc, names.foreign(), order.len())?;
+    let mut items = declared_items(alloc, names, files, &prefix.entries)?;
     let lent: &mut [Item<'_, '_>] = &mut items;
-    front.take_all(alloc, types, lent)?;
+    prefix.take_all(alloc, types, lent)?;
     let ForeignArenas {
         interfaces,
         worlds,
         entries,
         spans,
-    } = front;
+    } = prefix;
     let named = Files::of(names, &entries);
     let mut interfaces = Interfaces {
         files: named,
@@ -119,9 +119,9 @@ struct Made {
     foreign: ForeignItems,
 }
 
-/// These interfaces and worlds, with what is named of other packages, where that is told.
+/// These interfaces and worlds, with what is named of other packages, where that is stated.
 ///
-/// The error is want of memory.
+/// The error is a failed allocation.
 fn with_foreign(
     interfaces: Arena<Interface, InterfacePlace>,
     worlds: Arena<World, WorldPlace>,
@@ -130,9 +130,9 @@ fn with_foreign(
     ensures interfaces { IfOk result (λ made. made.interfaces ≡ interfaces) }
     ensures worlds { IfOk result (λ made. made.worlds ≡ worlds) }
     ensures foreign { IfOk result (λ made. named ≡ Ok made.foreign) }
-    ensures refused { IfErr result IsWantOfMemory }
+    ensures refused { IfErr result IsAllocationFailure }
 {
-    let (arenas, foreign) = beside((interfaces, worlds), named)?;
+    let (arenas, foreign) = pair_with((interfaces, worlds), named)?;
     let (interfaces, worlds) = arenas;
     Ok(Made {
         interfaces,
@@ -195,11 +195,11 @@ pub fn resolve_contents(alloc: Global, files: &[PackageFile<'_>]) -> ParseResult
 {
     let mut begun = Entries::new(alloc);
     let added = resolve_gathered(alloc, &mut begun, files);
-    let (types, made) = beside(begun, added)?;
+    let (types, made) = pair_with(begun, added)?;
     let arenas = Arenas {
-        types: types.into_arena().fitted(),
-        interfaces: made.interfaces.fitted(),
-        worlds: made.worlds.fitted(),
+        types: types.into_arena().shrunk(),
+        interfaces: made.interfaces.shrunk(),
+        worlds: made.worlds.shrunk(),
     };
     Ok(Contents {
         arenas,

@@ -2,19 +2,19 @@
 ghost use Rattle.std.specs.Prelude.{◌≡◌, ◌<◌, ◌++◌, ◌∷◌, [], false, All, Some, length, IfErr, OnOk, map};
 ghost use Rattle.wit_types.specs.declared.types.TypeOwner.TheVariants.{Interface as InterfaceOwner};
 ghost use Rattle.wit_syntax.specs.Source.{is_world, scope_names as the_names, about};
-ghost use Rattle.wit_syntax.specs.Notes.{IsBrokenStability};
+ghost use Rattle.wit_syntax.specs.Metadata.{IsBrokenStability};
 ghost use Rattle.wit_syntax.specs.Scope.{in_order, interfaces_of};
 ghost use Rattle.wit_syntax.specs.Function.{functions as the_functions};
 ghost use Rattle.wit_syntax.specs.Sides.{IsBrokenSides};
 ghost use Rattle.wit_syntax.specs.Fault.{Fault};
 ghost use Rattle.wit_syntax.specs.Broken.{IsBrokenScope, Refused};
-ghost use Rattle.wit_type_tree.specs.Refusal.{IsWantOfMemory};
-ghost use Rattle.wit_items.specs.Items.{item_behind};
+ghost use Rattle.wit_type_tree.specs.Refusal.{IsAllocationFailure};
+ghost use Rattle.wit_items.specs.Items.{item_view};
 ghost use Rattle.wit_arena.specs.Resolving.{IsIndex};
 ghost use Rattle.wit_arena.specs.Resolved.{AddsDeclared, AddsInterfaces, AreLegalSides, AreSoundScopes, HaveLegalStability, IsNameless, IsWrongInterface, IsWrongNow};
-ghost use Rattle.wit_item_names.specs.Interfaces.{front_of};
-ghost use Rattle.wit_items.specs.Interfaces.{cells_of};
-ghost use Rattle.wit_uses.specs.Between.{Emits};
+ghost use Rattle.wit_item_names.specs.Interfaces.{prefix_of};
+ghost use Rattle.wit_items.specs.Interfaces.{resolved_scopes_of};
+ghost use Rattle.wit_uses.specs.NewRequirements.{Appends};
 ghost use Rattle.wit_contents.specs.Outer.{AreOuter};
 ghost use Rattle.wit_items.specs.Gathered.{AreItemsOf, IsItemOf};
 
@@ -36,12 +36,12 @@ fn add_interface(
     name: &str,
     interface: Interface,
 ) -> ParseResult<()>
-    requires index { IsIndex (cells_of interfaces.old) interfaces.old.by_name }
+    requires index { IsIndex (resolved_scopes_of interfaces.old) interfaces.old.by_name }
     requires named { interface.name ≡ Some name.now }
     ensures files { OnOk result (interfaces.new.files ≡ interfaces.old.files) }
     ensures added { OnOk result (interfaces.new.arena ≡ interfaces.old.arena ++ interface ∷ []) }
-    ensures index { OnOk result (IsIndex (cells_of interfaces.new) interfaces.new.by_name) }
-    ensures refused { IfErr result IsWantOfMemory }
+    ensures index { OnOk result (IsIndex (resolved_scopes_of interfaces.new) interfaces.new.by_name) }
+    ensures refused { IfErr result IsAllocationFailure }
 {
     let place = interfaces.arena.alloc(interface)?;
     let name = String::from_str(alloc, name)?;
@@ -49,7 +49,7 @@ fn add_interface(
     Ok(())
 }
 
-/// Adds a declared interface with what is told of it, its names, and what is in them, and then its
+/// Adds a declared interface with what is stated of it, its names, and what is in them, and then its
 /// functions.
 fn resolve_interface<'f, 'a>(
     alloc: Global,
@@ -59,17 +59,17 @@ fn resolve_interface<'f, 'a>(
     interfaces: &mut Interfaces<'_, '_, 'f, 'a>,
     id: Id<'a>,
 ) -> ParseResult<()>
-    requires id { (id ≡ (about (item_behind item.now).declared).id) × (Some id.name.now ≡ (about (item_behind item.now).declared).called) }
-    requires sort { is_world (item_behind item.now) ≡ false }
+    requires id { (id ≡ (about (item_view item.now).declared).id) × (Some id.name.now ≡ (about (item_view item.now).declared).called) }
+    requires sort { is_world (item_view item.now) ≡ false }
     requires item { IsItemOf interfaces.old.files item.now }
-    requires index { IsIndex (cells_of interfaces.old) interfaces.old.by_name }
+    requires index { IsIndex (resolved_scopes_of interfaces.old) interfaces.old.by_name }
     ensures files { OnOk result (interfaces.new.files ≡ interfaces.old.files) }
-    ensures added { OnOk result (Emits required.old.items required.new.items (λ rs. AddsDeclared (front_of interfaces.old.files) types.old types.new interfaces.old.arena interfaces.new.arena rs (item_behind item.now))) }
-    ensures index { OnOk result (IsIndex (cells_of interfaces.new) interfaces.new.by_name) }
-    ensures stable { OnOk result ((f : Fault) → IsBrokenStability (about (item_behind item.now).declared).attributes f → ⊥) }
-    ensures sound { OnOk result ((f : Fault) → IsBrokenScope (the_names (item_behind item.now)) (the_functions (item_behind item.now)) f → IsNameless (the_names (item_behind item.now)) (the_functions (item_behind item.now))) }
-    ensures sided { OnOk result ((f : Fault) → IsBrokenSides (item_behind item.now) f → ⊥) }
-    ensures refused { IfErr result (Refused (IsWrongInterface types.old (cells_of interfaces.old) interfaces.old.by_name (InterfaceOwner (length interfaces.old.arena)) (item_behind item.now))) }
+    ensures added { OnOk result (Appends required.old.items required.new.items (λ rs. AddsDeclared (prefix_of interfaces.old.files) types.old types.new interfaces.old.arena interfaces.new.arena rs (item_view item.now))) }
+    ensures index { OnOk result (IsIndex (resolved_scopes_of interfaces.new) interfaces.new.by_name) }
+    ensures stable { OnOk result ((f : Fault) → IsBrokenStability (about (item_view item.now).declared).attributes f → ⊥) }
+    ensures sound { OnOk result ((f : Fault) → IsBrokenScope (the_names (item_view item.now)) (the_functions (item_view item.now)) f → IsNameless (the_names (item_view item.now)) (the_functions (item_view item.now))) }
+    ensures sided { OnOk result ((f : Fault) → IsBrokenSides (item_view item.now) f → ⊥) }
+    ensures refused { IfErr result (Refused (IsWrongInterface types.old (resolved_scopes_of interfaces.old) interfaces.old.by_name (InterfaceOwner (length interfaces.old.arena)) (item_view item.now))) }
 {
     let place = interfaces.arena.next_id();
     let name = Some(Text::from_str(alloc, id.name)?);
@@ -81,7 +81,7 @@ fn resolve_interface<'f, 'a>(
     Ok(())
 }
 
-/// Adds the interfaces among items, in the order of their places, behind those of other packages.
+/// Adds the interfaces among items, in the order of their places, after those of other packages.
 pub fn resolve_interfaces<'f, 'a>(
     alloc: Global,
     items: &[Item<'f, 'a>],
@@ -91,16 +91,16 @@ pub fn resolve_interfaces<'f, 'a>(
     places: &[usize],
 ) -> ParseResult<()>
     requires within { All (λ place. place < length items.now) places.now }
-    requires outer { AreOuter (map item_behind items.now) }
+    requires outer { AreOuter (map item_view items.now) }
     requires items { AreItemsOf interfaces.old.files items.now }
-    requires index { IsIndex (cells_of interfaces.old) interfaces.old.by_name }
+    requires index { IsIndex (resolved_scopes_of interfaces.old) interfaces.old.by_name }
     ensures files { OnOk result (interfaces.new.files ≡ interfaces.old.files) }
-    ensures added { OnOk result (Emits required.old.items required.new.items (λ rs. AddsInterfaces (front_of interfaces.old.files) types.old types.new interfaces.old.arena interfaces.new.arena rs (interfaces_of (in_order (map item_behind items.now) places.now)))) }
-    ensures index { OnOk result (IsIndex (cells_of interfaces.new) interfaces.new.by_name) }
-    ensures stable { OnOk result (HaveLegalStability (interfaces_of (in_order (map item_behind items.now) places.now))) }
-    ensures sound { OnOk result (AreSoundScopes (interfaces_of (in_order (map item_behind items.now) places.now))) }
-    ensures sided { OnOk result (AreLegalSides (interfaces_of (in_order (map item_behind items.now) places.now))) }
-    ensures refused { IfErr result (Refused (IsWrongNow (front_of interfaces.old.files) types.old interfaces.old.arena (map item_behind items.now) places.now)) }
+    ensures added { OnOk result (Appends required.old.items required.new.items (λ rs. AddsInterfaces (prefix_of interfaces.old.files) types.old types.new interfaces.old.arena interfaces.new.arena rs (interfaces_of (in_order (map item_view items.now) places.now)))) }
+    ensures index { OnOk result (IsIndex (resolved_scopes_of interfaces.new) interfaces.new.by_name) }
+    ensures stable { OnOk result (HaveLegalStability (interfaces_of (in_order (map item_view items.now) places.now))) }
+    ensures sound { OnOk result (AreSoundScopes (interfaces_of (in_order (map item_view items.now) places.now))) }
+    ensures sided { OnOk result (AreLegalSides (interfaces_of (in_order (map item_view items.now) places.now))) }
+    ensures refused { IfErr result (Refused (IsWrongNow (prefix_of interfaces.old.files) types.old interfaces.old.arena (map item_view items.now) places.now)) }
 {
     for place in places {
         let item = &items[*place];

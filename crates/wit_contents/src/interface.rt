@@ -5,65 +5,65 @@ ghost use Rattle.wit_types.specs.declared.types.TypeOwner.{TypeOwner as Owner};
 ghost use Rattle.wit_types.specs.declared.types.TypeOwner.TheVariants.{Interface as InterfaceOwner};
 ghost use Rattle.wit_functions.specs.declared.function.Function.{Function as TheFunction};
 ghost use Rattle.wit_syntax.specs.Source.{is_world, scope_names as the_names, about};
-ghost use Rattle.wit_syntax.specs.Notes.{IsBrokenStability};
+ghost use Rattle.wit_syntax.specs.Metadata.{IsBrokenStability};
 ghost use Rattle.wit_syntax.specs.Function.{functions as the_functions};
 ghost use Rattle.wit_syntax.specs.Sides.{IsBrokenSides};
 ghost use Rattle.wit_syntax.specs.Signature.{IsUnpairedSetter};
 ghost use Rattle.wit_syntax.specs.Fault.{Fault};
 ghost use Rattle.wit_syntax.specs.Broken.{IsBrokenScope, Refused};
-ghost use Rattle.wit_entries.specs.Requiring.{IsGrown};
-ghost use Rattle.wit_rules.specs.Held.{function_behind};
-ghost use Rattle.wit_signatures.specs.Taken.{name_of_function, name_of_id};
+ghost use Rattle.wit_entries.specs.Requiring.{IsExtended};
+ghost use Rattle.wit_rules.specs.Borrowed.{function_view};
+ghost use Rattle.wit_signatures.specs.ForeignName.{name_of_function, name_of_id};
 ghost use Rattle.wit_items.specs.Items.{scope_item};
 ghost use Rattle.wit_arena.specs.Functions.{placed_functions};
-ghost use Rattle.wit_arena.specs.Resolving.{Cell, Names};
+ghost use Rattle.wit_arena.specs.Resolving.{ResolvedScope, Names};
 ghost use Rattle.wit_arena.specs.Resolved.{AddsInterface, IsNameless, IsWrongInterface};
-ghost use Rattle.wit_item_names.specs.Interfaces.{front_of};
-ghost use Rattle.wit_items.specs.Interfaces.{cells_of};
-ghost use Rattle.wit_uses.specs.Between.{Emits};
-ghost use Rattle.wit_item_entries.specs.Between.{AddsTurn};
+ghost use Rattle.wit_item_names.specs.Interfaces.{prefix_of};
+ghost use Rattle.wit_items.specs.Interfaces.{resolved_scopes_of};
+ghost use Rattle.wit_uses.specs.NewRequirements.{Appends};
+ghost use Rattle.wit_item_entries.specs.AddedNames.{AddsTurn};
 ghost use Rattle.wit_item_entries.specs.Body.{AddsBody};
-ghost use Rattle.wit_scopes.specs.Between.{IsOfFunctions};
-ghost use Rattle.wit_scopes.specs.Front.{AreNamesPlaced};
-ghost use Rattle.wit_scopes.specs.Held.{name_behind};
+ghost use Rattle.wit_scopes.specs.DefinitionOrder.{IsOfFunctions};
+ghost use Rattle.wit_scopes.specs.PlacedNames.{AreNamesPlaced};
+ghost use Rattle.wit_scopes.specs.Borrowed.{name_view};
 
 use std::alloc::Global;
 use wit_entries::entries::Entries;
 use wit_entries::scope::Required;
-use wit_externs::taken::check_setters;
+use wit_externs::in_use::check_setters;
 use wit_item_entries::body::{resolve_head, resolve_item_functions};
 use wit_item_entries::functions::function_table;
 use wit_item_entries::names::ResolvedNames;
 use wit_item_entries::required::add_required;
 use wit_items::interfaces::Interfaces;
 use wit_items::items::ItemScope;
+use wit_maps::TextTable;
 use wit_model::{Function, Interface};
 use wit_refusals::NameScope;
-use wit_rules::held::HeldFunction;
+use wit_rules::borrowed::BorrowedFunction;
 use wit_tree::tree::Id;
 use wit_tree::{ParseResult, Span};
 use wit_types::{InterfaceId, TypeOwner};
-use wit_maps::TextTable;
 use wit_values::Text;
 
 /// Refuses a setter that has no getter of its spelling, where these are the names and the functions,
 /// and they are taken if there is a function.
 fn check_pairs(
-    functions: &[HeldFunction<'_, '_>],
-    taken: &NameScope,
+    functions: &[BorrowedFunction<'_, '_>],
+    in_use: &NameScope,
     names: &[Id<'_>],
 ) -> ParseResult<()>
-    requires { 0 < length functions.now → taken.now ≡ map name_of_id names.now ++ map name_of_function (map function_behind functions.now) }
-    ensures paired { OnOk result ((f : Fault) → IsUnpairedSetter (map function_behind functions.now) f → ⊥) }
-    ensures refused { IfErr result (Refused (IsUnpairedSetter (map function_behind functions.now))) }
+    requires { 0 < length functions.now → in_use.now ≡ map name_of_id names.now ++ map name_of_function (map function_view functions.now) }
+    ensures paired { OnOk result ((f : Fault) → IsUnpairedSetter (map function_view functions.now) f → ⊥) }
+    ensures refused { IfErr result (Refused (IsUnpairedSetter (map function_view functions.now))) }
 {
     if functions.len() == 0 {
         return Ok(());
     }
-    check_setters(functions, taken, names)
+    check_setters(functions, in_use, names)
 }
 
-/// The functions of an interface under their names, behind its names, which are resolved.
+/// The functions of an interface under their names, after its names, which are resolved.
 fn functions_of<'a>(
     alloc: Global,
     item: &ItemScope<'_, 'a, '_>,
@@ -71,25 +71,25 @@ fn functions_of<'a>(
     names: &mut ResolvedNames<'a>,
 ) -> ParseResult<TextTable<Function>>
     requires sort { is_world (scope_item item.now) ≡ false }
-    requires named { map name_behind item.now.names.now ≡ the_names (scope_item item.now) }
-    requires added { (old : List TypeDef) × (cs : List Cell) × (o : Owner) × AddsTurn old types.old cs o (the_names (scope_item item.now)) names.old.types names.old.turn.items names.old.required.items }
+    requires named { map name_view item.now.names.now ≡ the_names (scope_item item.now) }
+    requires added { (old : List TypeDef) × (cs : List ResolvedScope) × (o : Owner) × AddsTurn old types.old cs o (the_names (scope_item item.now)) names.old.types names.old.turn.items names.old.required.items }
     ensures types { OnOk result (names.new.types ≡ names.old.types) }
-    ensures adds { IfOk result (λ table. (old : List TypeDef) (cs : List Cell) (o : Owner) → AddsTurn old types.old cs o (the_names (scope_item item.now)) names.old.types names.old.turn.items names.old.required.items → (fs : List TheFunction) × AddsBody old types.new cs o (scope_item item.now) names.old.types names.old.turn.items fs names.new.required.items × (table ≡ placed_functions fs)) }
+    ensures adds { IfOk result (λ table. (old : List TypeDef) (cs : List ResolvedScope) (o : Owner) → AddsTurn old types.old cs o (the_names (scope_item item.now)) names.old.types names.old.turn.items names.old.required.items → (fs : List TheFunction) × AddsBody old types.new cs o (scope_item item.now) names.old.types names.old.turn.items fs names.new.required.items × (table ≡ placed_functions fs)) }
     ensures paired { OnOk result ((f : Fault) → IsUnpairedSetter (the_functions (scope_item item.now)) f → ⊥) }
     ensures sound { OnOk result (((f : Fault) → IsBrokenScope (the_names (scope_item item.now)) (the_functions (scope_item item.now)) f → IsOfFunctions (the_names (scope_item item.now)) (the_functions (scope_item item.now)) f) → (f : Fault) → IsBrokenScope (the_names (scope_item item.now)) (the_functions (scope_item item.now)) f → IsNameless (the_names (scope_item item.now)) (the_functions (scope_item item.now))) }
     ensures sided { OnOk result ((f : Fault) → IsBrokenSides (scope_item item.now) f → ⊥) }
-    ensures grown { OnOk result (IsGrown types.old types.new) }
-    ensures refused { IfErr result (λ e. (old : List TypeDef) (cs : List Cell) (by_name : Names) (o : Owner) → AddsTurn old types.old cs o (the_names (scope_item item.now)) names.old.types names.old.turn.items names.old.required.items → Refused (IsWrongInterface old cs by_name o (scope_item item.now)) e) }
+    ensures extended { OnOk result (IsExtended types.old types.new) }
+    ensures refused { IfErr result (λ e. (old : List TypeDef) (cs : List ResolvedScope) (by_name : Names) (o : Owner) → AddsTurn old types.old cs o (the_names (scope_item item.now)) names.old.types names.old.turn.items names.old.required.items → Refused (IsWrongInterface old cs by_name o (scope_item item.now)) e) }
 {
     let own = resolve_item_functions(alloc, item.names, item.declared, types, names)?;
-    check_pairs(&own.written, &own.taken.imports, &names.turn)?;
-    drop(own.taken);
+    check_pairs(&own.written, &own.in_use.imports, &names.turn)?;
+    drop(own.in_use);
     drop(own.written);
     let functions = function_table(alloc, own.functions)?;
     Ok(functions)
 }
 
-/// The interface at a place, with what is told of it, its names, and what is in them, and then its
+/// The interface at a place, with what is stated of it, its names, and what is in them, and then its
 /// functions; it goes by this name, where it has one.
 pub fn interface_of<'f, 'a>(
     alloc: Global,
@@ -103,15 +103,15 @@ pub fn interface_of<'f, 'a>(
 ) -> ParseResult<Interface>
     requires sort { is_world (scope_item item.now) ≡ false }
     requires called { name ≡ (about (scope_item item.now).declared).called }
-    requires stands { span ≡ (about (scope_item item.now).declared).id.span }
-    requires named { map name_behind item.now.names.now ≡ the_names (scope_item item.now) }
-    requires placed { AreNamesPlaced (front_of interfaces.now.files) item.now.names.now }
-    ensures adds { IfOk result (λ added. Emits required.old.items required.new.items (λ rs. AddsInterface (cells_of interfaces.now) place types.old types.new added rs (scope_item item.now))) }
+    requires present { span ≡ (about (scope_item item.now).declared).id.span }
+    requires named { map name_view item.now.names.now ≡ the_names (scope_item item.now) }
+    requires placed { AreNamesPlaced (prefix_of interfaces.now.files) item.now.names.now }
+    ensures adds { IfOk result (λ added. Appends required.old.items required.new.items (λ rs. AddsInterface (resolved_scopes_of interfaces.now) place types.old types.new added rs (scope_item item.now))) }
     ensures stable { OnOk result ((f : Fault) → IsBrokenStability (about (scope_item item.now).declared).attributes f → ⊥) }
     ensures sound { OnOk result ((f : Fault) → IsBrokenScope (the_names (scope_item item.now)) (the_functions (scope_item item.now)) f → IsNameless (the_names (scope_item item.now)) (the_functions (scope_item item.now))) }
     ensures sided { OnOk result ((f : Fault) → IsBrokenSides (scope_item item.now) f → ⊥) }
-    ensures grown { OnOk result (IsGrown types.old types.new) }
-    ensures refused { IfErr result (Refused (IsWrongInterface types.old (cells_of interfaces.now) interfaces.now.by_name (InterfaceOwner place) (scope_item item.now))) }
+    ensures extended { OnOk result (IsExtended types.old types.new) }
+    ensures refused { IfErr result (Refused (IsWrongInterface types.old (resolved_scopes_of interfaces.now) interfaces.now.by_name (InterfaceOwner place) (scope_item item.now))) }
 {
     let owner = TypeOwner::Interface(place);
     let head = resolve_head(alloc, item, types, interfaces, owner)?;
@@ -122,8 +122,8 @@ pub fn interface_of<'f, 'a>(
         name,
         types: names.types,
         functions,
-        docs: head.notes.docs,
-        stability: head.notes.stability,
+        docs: head.metadata.docs,
+        stability: head.metadata.stability,
         package: None,
         span,
         clone_of: None,

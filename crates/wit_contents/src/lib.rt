@@ -1,9 +1,9 @@
-//! What the files of a package make: its interfaces and worlds, one after another, with what stands in
+//! What the files of a package make: its interfaces and worlds, one after another, with what is in
 //! them, its arenas, and what it names of other packages.
 #![tactic(auto)]
 
 pub mod contents;
 pub mod declared;
 pub mod interface;
-pub mod standing;
+pub mod members;
 pub mod world;

@@ -1,60 +1,60 @@
 //! Declared worlds.
 ghost use Rattle.std.specs.Prelude.{◌≡◌, ◌<◌, ◌≤◌, ◌+◌, ◌++◌, [], List, All, true, length, IfOk, IfErr, OnOk, map};
-ghost use Rattle.wit_type_tree.specs.Refusal.{IsWantOfMemory};
+ghost use Rattle.wit_type_tree.specs.Refusal.{IsAllocationFailure};
 ghost use Rattle.wit_syntax.specs.Address.{Address};
-ghost use Rattle.wit_syntax.specs.Source.{address, is_world, about, declared_notes};
+ghost use Rattle.wit_syntax.specs.Source.{address, is_world, about, declared_metadata};
 ghost use Rattle.wit_syntax.specs.Scope.{in_order, part_includes, worlds_of};
 ghost use Rattle.wit_syntax.specs.Fault.{Fault};
 ghost use Rattle.wit_syntax.specs.Sides.{inline_items, with_inline};
 ghost use Rattle.wit_syntax.specs.Broken.{Refused};
 ghost use Rattle.wit_types.specs.declared.types.TypeOwner.TheVariants.{World as WorldOwner};
 ghost use Rattle.wit_arena.specs.Resolving.{IsWorldIndex};
-ghost use Rattle.wit_arena.specs.Resolved.{worlds_at, AddsWorld, AddsWorlds, AreLegalSides, AreSoundScopes, AreUsableLinks, HasUsableLinks, IsBrokenItemStability, HaveLegalStability, IsWrongWorld, IsWrongWorldNow, front_worlds};
-ghost use Rattle.wit_items.specs.declared.notes.ItemNotes.{ItemNotes as TheNotes};
-ghost use Rattle.wit_items.specs.Items.{declared_behind, item_behind, others_of};
-ghost use Rattle.wit_items.specs.Told.{notes_behind, AreOf};
-ghost use Rattle.wit_item_names.specs.Interfaces.{front_of};
-ghost use Rattle.wit_items.specs.Interfaces.{cells_of};
-ghost use Rattle.wit_uses.specs.Between.{Emits};
+ghost use Rattle.wit_arena.specs.Resolved.{worlds_at, AddsWorld, AddsWorlds, AreLegalSides, AreSoundScopes, AreUsableLinks, HasUsableLinks, IsBrokenItemStability, HaveLegalStability, IsWrongWorld, IsWrongWorldNow, prefix_worlds};
+ghost use Rattle.wit_items.specs.declared.metadata.ItemMetadata.{ItemMetadata as TheMetadata};
+ghost use Rattle.wit_items.specs.Items.{declared_view, item_view, others_of};
+ghost use Rattle.wit_items.specs.SourceItems.{metadata_view, AreOf};
+ghost use Rattle.wit_item_names.specs.Interfaces.{prefix_of};
+ghost use Rattle.wit_items.specs.Interfaces.{resolved_scopes_of};
+ghost use Rattle.wit_uses.specs.NewRequirements.{Appends};
 ghost use Rattle.wit_links.specs.Includes.{AreStable};
 ghost use Rattle.std.specs.List.{flat_map};
 ghost use Rattle.wit_contents.specs.BetweenWorlds.{arenas, AreWorldParts, IsAddedWorld};
 ghost use Rattle.wit_items.specs.Gathered.{AreItemsOf, IsItemOf};
 
-use crate::standing::resolve_standing;
+use crate::members::resolve_members;
 use std::alloc::{AllocError, Global};
 use wit_entries::entries::Entries;
 use wit_entries::scope::Required;
-use wit_externs::held::HeldExtern;
+use wit_externs::borrowed::BorrowedExtern;
 use wit_item_entries::names::resolve_names;
 use wit_item_entries::required::add_required;
 use wit_items::interfaces::Interfaces;
 use wit_items::items::{Declared, Item};
-use wit_items::notes::{ItemNotes, item_notes};
+use wit_items::metadata::{ItemMetadata, item_metadata};
 use wit_links::externs::declared_externs;
 use wit_links::includes::declared_includes;
 use wit_links::inside::declared_name;
 use wit_links::worlds::Worlds;
+use wit_maps::TextTable;
 use wit_model::{Interface, World, WorldInclude};
 use wit_tree::ParseResult;
 use wit_tree::tree::Id;
 use wit_types::{Arena, InterfacePlace, TypeOwner, WorldPlace};
-use wit_maps::TextTable;
-use wit_values::{Row, Text, beside};
+use wit_values::{Row, Text, pair_with};
 use wit_world_sides::setters::is_closed;
 use wit_world_sides::sides::{WorldSides, world_sides};
 
-/// What a world has but its name: what is told of it, what its handles require of types of other
+/// What a world has but its name: what is stated of it, what its handles require of types of other
 /// packages, what it has on its sides, and its includes.
 #[derive(Drop)]
 pub struct WorldParts {
-    pub notes: ItemNotes,
+    pub metadata: ItemMetadata,
     pub required: Vec<Required>,
     pub sides: WorldSides,
     pub includes: Row<WorldInclude>,
 }
 
-/// What a world has but its name and what is told of it.
+/// What a world has but its name and what is stated of it.
 #[derive(Drop)]
 pub struct WorldContent {
     pub required: Vec<Required>,
@@ -72,19 +72,19 @@ fn add_world(
 ) -> ParseResult<()>
     ensures interfaces { OnOk result (worlds.new.interfaces ≡ worlds.old.interfaces) }
     ensures required { OnOk result (required.new.items ≡ required.old.items ++ parts.required.items) }
-    ensures added { OnOk result (IsAddedWorld worlds.old.arena worlds.new.arena id.entry (notes_behind parts.notes) parts.sides.imports parts.sides.exports parts.includes) }
+    ensures added { OnOk result (IsAddedWorld worlds.old.arena worlds.new.arena id.entry (metadata_view parts.metadata) parts.sides.imports parts.sides.exports parts.includes) }
     ensures index { OnOk result ((others : List Address) → length others ≤ length worlds.old.arena → IsWorldIndex (worlds_at others worlds.old.arena) worlds.old.by_name → IsWorldIndex (worlds_at others worlds.new.arena) worlds.new.by_name) }
-    ensures refused { IfErr result IsWantOfMemory }
+    ensures refused { IfErr result IsAllocationFailure }
 {
     let name = Text::from_str(alloc, id.name);
-    let (parts, name) = beside(parts, name)?;
+    let (parts, name) = pair_with(parts, name)?;
     let world = World {
         name,
-        imports: parts.sides.imports.fitted(),
-        exports: parts.sides.exports.fitted(),
+        imports: parts.sides.imports.shrunk(),
+        exports: parts.sides.exports.shrunk(),
         package: None,
-        docs: parts.notes.docs,
-        stability: parts.notes.stability,
+        docs: parts.metadata.docs,
+        stability: parts.metadata.stability,
         includes: parts.includes,
         span: id.span,
     };
@@ -105,22 +105,22 @@ fn world_content<'f, 'a>(
     inside: &mut Arena<Interface, InterfacePlace>,
     worlds: &Worlds<'_, '_, '_, 'f, 'a>,
 ) -> ParseResult<WorldContent>
-    requires sort { is_world (item_behind item.now) ≡ true }
+    requires sort { is_world (item_view item.now) ≡ true }
     requires item { IsItemOf worlds.now.interfaces.now.files item.now }
-    ensures parts { IfOk result (λ content. (ss : List Address) (notes : TheNotes) → length ss ≡ length inside.old → AreOf (declared_notes (item_behind item.now).declared) notes → AreWorldParts (front_of worlds.now.interfaces.now.files) (others_of worlds.now.interfaces.now.files) worlds.now.interfaces.now.arena types.old types.new worlds.now.arena inside.old inside.new ss (item_behind item.now) (record { notes = notes; required = content.required; sides = content.sides; includes = content.includes })) }
-    ensures stable { OnOk result (AreStable (flat_map part_includes (about (declared_behind item.now.declared)).parts)) }
-    ensures sound { OnOk result (AreSoundScopes (with_inline (item_behind item.now))) }
-    ensures sided { OnOk result (AreLegalSides (with_inline (item_behind item.now))) }
-    ensures linked { OnOk result (HasUsableLinks worlds.now.interfaces.now.files (item_behind item.now)) }
-    ensures refused { IfErr result (Refused (IsWrongWorld worlds.now.interfaces.now.files types.old (cells_of worlds.now.interfaces.now) (length worlds.now.interfaces.now.arena) inside.old worlds.now.interfaces.now.by_name worlds.now.by_name (WorldOwner (length worlds.now.arena)) (item_behind item.now))) }
+    ensures parts { IfOk result (λ content. (ss : List Address) (metadata : TheMetadata) → length ss ≡ length inside.old → AreOf (declared_metadata (item_view item.now).declared) metadata → AreWorldParts (prefix_of worlds.now.interfaces.now.files) (others_of worlds.now.interfaces.now.files) worlds.now.interfaces.now.arena types.old types.new worlds.now.arena inside.old inside.new ss (item_view item.now) (record { metadata = metadata; required = content.required; sides = content.sides; includes = content.includes })) }
+    ensures stable { OnOk result (AreStable (flat_map part_includes (about (declared_view item.now.declared)).parts)) }
+    ensures sound { OnOk result (AreSoundScopes (with_inline (item_view item.now))) }
+    ensures sided { OnOk result (AreLegalSides (with_inline (item_view item.now))) }
+    ensures linked { OnOk result (HasUsableLinks worlds.now.interfaces.now.files (item_view item.now)) }
+    ensures refused { IfErr result (Refused (IsWrongWorld worlds.now.interfaces.now.files types.old (resolved_scopes_of worlds.now.interfaces.now) (length worlds.now.interfaces.now.arena) inside.old worlds.now.interfaces.now.by_name worlds.now.by_name (WorldOwner (length worlds.now.arena)) (item_view item.now))) }
 {
     let owner = TypeOwner::World(worlds.arena.next_id());
     let mut names = resolve_names(alloc, &item.names, types, worlds.interfaces, owner)?;
     let includes = declared_includes(alloc, &item.declared, worlds, item.place)?;
     let mut externs = declared_externs(alloc, &item.declared, worlds.interfaces, item.place)?;
-    let lent: &mut [HeldExtern<'_, '_>] = &mut externs;
+    let lent: &mut [BorrowedExtern<'_, '_>] = &mut externs;
     let closed = is_closed(includes.as_slice());
-    let standing = resolve_standing(
+    let members = resolve_members(
         alloc,
         item,
         lent,
@@ -136,7 +136,7 @@ fn world_content<'f, 'a>(
         &names.turn,
         &names.types,
         worlds.interfaces,
-        standing,
+        members,
         closed,
     )?;
     Ok(WorldContent {
@@ -146,7 +146,7 @@ fn world_content<'f, 'a>(
     })
 }
 
-/// What a world has, behind its names, and what is in them.
+/// What a world has, after its names, and what is in them.
 fn world_parts<'f, 'a>(
     alloc: Global,
     item: &Item<'f, 'a>,
@@ -154,20 +154,20 @@ fn world_parts<'f, 'a>(
     inside: &mut Arena<Interface, InterfacePlace>,
     worlds: &Worlds<'_, '_, '_, 'f, 'a>,
 ) -> ParseResult<WorldParts>
-    requires sort { is_world (item_behind item.now) ≡ true }
+    requires sort { is_world (item_view item.now) ≡ true }
     requires item { IsItemOf worlds.now.interfaces.now.files item.now }
-    ensures parts { IfOk result (λ parts. (ss : List Address) → length ss ≡ length inside.old → AreWorldParts (front_of worlds.now.interfaces.now.files) (others_of worlds.now.interfaces.now.files) worlds.now.interfaces.now.arena types.old types.new worlds.now.arena inside.old inside.new ss (item_behind item.now) parts) }
-    ensures stable { OnOk result ((f : Fault) → IsBrokenItemStability (item_behind item.now) f → ⊥) }
-    ensures sound { OnOk result (AreSoundScopes (with_inline (item_behind item.now))) }
-    ensures sided { OnOk result (AreLegalSides (with_inline (item_behind item.now))) }
-    ensures linked { OnOk result (HasUsableLinks worlds.now.interfaces.now.files (item_behind item.now)) }
-    ensures refused { IfErr result (Refused (IsWrongWorld worlds.now.interfaces.now.files types.old (cells_of worlds.now.interfaces.now) (length worlds.now.interfaces.now.arena) inside.old worlds.now.interfaces.now.by_name worlds.now.by_name (WorldOwner (length worlds.now.arena)) (item_behind item.now))) }
+    ensures parts { IfOk result (λ parts. (ss : List Address) → length ss ≡ length inside.old → AreWorldParts (prefix_of worlds.now.interfaces.now.files) (others_of worlds.now.interfaces.now.files) worlds.now.interfaces.now.arena types.old types.new worlds.now.arena inside.old inside.new ss (item_view item.now) parts) }
+    ensures stable { OnOk result ((f : Fault) → IsBrokenItemStability (item_view item.now) f → ⊥) }
+    ensures sound { OnOk result (AreSoundScopes (with_inline (item_view item.now))) }
+    ensures sided { OnOk result (AreLegalSides (with_inline (item_view item.now))) }
+    ensures linked { OnOk result (HasUsableLinks worlds.now.interfaces.now.files (item_view item.now)) }
+    ensures refused { IfErr result (Refused (IsWrongWorld worlds.now.interfaces.now.files types.old (resolved_scopes_of worlds.now.interfaces.now) (length worlds.now.interfaces.now.arena) inside.old worlds.now.interfaces.now.by_name worlds.now.by_name (WorldOwner (length worlds.now.arena)) (item_view item.now))) }
 {
-    let told = item_notes(alloc, &item.declared)?;
+    let as_stated = item_metadata(alloc, &item.declared)?;
     let content = world_content(alloc, item, types, inside, worlds);
-    let (notes, content) = beside(told, content)?;
+    let (metadata, content) = pair_with(as_stated, content)?;
     Ok(WorldParts {
-        notes,
+        metadata,
         required: content.required,
         sides: content.sides,
         includes: content.includes,
@@ -183,18 +183,18 @@ fn resolve_world<'f, 'a>(
     inside: &mut Arena<Interface, InterfacePlace>,
     worlds: &mut Worlds<'_, '_, '_, 'f, 'a>,
 ) -> ParseResult<()>
-    requires sort { is_world (item_behind item.now) ≡ true }
+    requires sort { is_world (item_view item.now) ≡ true }
     requires item { IsItemOf worlds.old.interfaces.now.files item.now }
     requires worlds_index { IsWorldIndex (worlds_at (others_of worlds.old.interfaces.now.files) worlds.old.arena) worlds.old.by_name }
     ensures interfaces { OnOk result (worlds.new.interfaces ≡ worlds.old.interfaces) }
-    ensures added { OnOk result ((ss : List Address) → length ss ≡ length inside.old → Emits required.old.items required.new.items (λ rs. AddsWorld (front_of worlds.old.interfaces.now.files) (others_of worlds.old.interfaces.now.files) worlds.old.interfaces.now.arena types.old types.new (arenas worlds.old.arena inside.old ss) (arenas worlds.new.arena inside.new (ss ++ map address (inline_items (item_behind item.now)))) rs (item_behind item.now))) }
-    ensures grown { OnOk result (length inside.new ≡ length inside.old + length (inline_items (item_behind item.now))) }
+    ensures added { OnOk result ((ss : List Address) → length ss ≡ length inside.old → Appends required.old.items required.new.items (λ rs. AddsWorld (prefix_of worlds.old.interfaces.now.files) (others_of worlds.old.interfaces.now.files) worlds.old.interfaces.now.arena types.old types.new (arenas worlds.old.arena inside.old ss) (arenas worlds.new.arena inside.new (ss ++ map address (inline_items (item_view item.now)))) rs (item_view item.now))) }
+    ensures extended { OnOk result (length inside.new ≡ length inside.old + length (inline_items (item_view item.now))) }
     ensures index { OnOk result (IsWorldIndex (worlds_at (others_of worlds.old.interfaces.now.files) worlds.new.arena) worlds.new.by_name) }
-    ensures stable { OnOk result ((f : Fault) → IsBrokenItemStability (item_behind item.now) f → ⊥) }
-    ensures sound { OnOk result (AreSoundScopes (with_inline (item_behind item.now))) }
-    ensures sided { OnOk result (AreLegalSides (with_inline (item_behind item.now))) }
-    ensures linked { OnOk result (HasUsableLinks worlds.old.interfaces.now.files (item_behind item.now)) }
-    ensures refused { IfErr result (Refused (IsWrongWorld worlds.old.interfaces.now.files types.old (cells_of worlds.old.interfaces.now) (length worlds.old.interfaces.now.arena) inside.old worlds.old.interfaces.now.by_name worlds.old.by_name (WorldOwner (length worlds.old.arena)) (item_behind item.now))) }
+    ensures stable { OnOk result ((f : Fault) → IsBrokenItemStability (item_view item.now) f → ⊥) }
+    ensures sound { OnOk result (AreSoundScopes (with_inline (item_view item.now))) }
+    ensures sided { OnOk result (AreLegalSides (with_inline (item_view item.now))) }
+    ensures linked { OnOk result (HasUsableLinks worlds.old.interfaces.now.files (item_view item.now)) }
+    ensures refused { IfErr result (Refused (IsWrongWorld worlds.old.interfaces.now.files types.old (resolved_scopes_of worlds.old.interfaces.now) (length worlds.old.interfaces.now.arena) inside.old worlds.old.interfaces.now.by_name worlds.old.by_name (WorldOwner (length worlds.old.arena)) (item_view item.now))) }
 {
     let parts = world_parts(alloc, item, types, inside, worlds)?;
     let name = declared_name(&item.declared);
@@ -238,30 +238,30 @@ fn make_room(
 }
 
 /// Adds the worlds among items, in the order of their places, to those of other packages, which are the
-/// front; gives all worlds, and the interfaces that are written in them, in the order in which they are
-/// met.
+/// prefix; gives all worlds, and the interfaces that are written in them, in the order in which they are
+/// seen.
 pub fn resolve_worlds<'f, 'a>(
     alloc: Global,
     items: &[Item<'f, 'a>],
     types: &mut Entries,
     required: &mut Vec<Required>,
     interfaces: &Interfaces<'_, '_, 'f, 'a>,
-    front: Arena<World, WorldPlace>,
+    prefix: Arena<World, WorldPlace>,
     places: &[usize],
 ) -> ParseResult<(Arena<World, WorldPlace>, Arena<Interface, InterfacePlace>)>
     requires within { All (λ place. place < length items.now) places.now }
     requires items { AreItemsOf interfaces.now.files items.now }
-    requires front { length (others_of interfaces.now.files) ≤ length front }
-    requires index { IsWorldIndex (worlds_at (others_of interfaces.now.files) front) [] }
-    ensures added { IfOk result (λ made. Emits required.old.items required.new.items (λ rs. (ss : List Address) × AddsWorlds (front_of interfaces.now.files) (others_of interfaces.now.files) interfaces.now.arena types.old types.new (front_worlds front) (arenas made.0 made.1 ss) rs (worlds_of (in_order (map item_behind items.now) places.now)))) }
-    ensures stable { OnOk result (HaveLegalStability (worlds_of (in_order (map item_behind items.now) places.now))) }
-    ensures sound { OnOk result (AreSoundScopes (flat_map with_inline (worlds_of (in_order (map item_behind items.now) places.now)))) }
-    ensures sided { OnOk result (AreLegalSides (flat_map with_inline (worlds_of (in_order (map item_behind items.now) places.now)))) }
-    ensures linked { OnOk result (AreUsableLinks interfaces.now.files (worlds_of (in_order (map item_behind items.now) places.now))) }
-    ensures refused { IfErr result (Refused (IsWrongWorldNow interfaces.now.files (front_of interfaces.now.files) (others_of interfaces.now.files) types.old interfaces.now.arena interfaces.now.by_name front (map item_behind items.now) places.now)) }
+    requires prefix { length (others_of interfaces.now.files) ≤ length prefix }
+    requires index { IsWorldIndex (worlds_at (others_of interfaces.now.files) prefix) [] }
+    ensures added { IfOk result (λ made. Appends required.old.items required.new.items (λ rs. (ss : List Address) × AddsWorlds (prefix_of interfaces.now.files) (others_of interfaces.now.files) interfaces.now.arena types.old types.new (prefix_worlds prefix) (arenas made.0 made.1 ss) rs (worlds_of (in_order (map item_view items.now) places.now)))) }
+    ensures stable { OnOk result (HaveLegalStability (worlds_of (in_order (map item_view items.now) places.now))) }
+    ensures sound { OnOk result (AreSoundScopes (flat_map with_inline (worlds_of (in_order (map item_view items.now) places.now)))) }
+    ensures sided { OnOk result (AreLegalSides (flat_map with_inline (worlds_of (in_order (map item_view items.now) places.now)))) }
+    ensures linked { OnOk result (AreUsableLinks interfaces.now.files (worlds_of (in_order (map item_view items.now) places.now))) }
+    ensures refused { IfErr result (Refused (IsWrongWorldNow interfaces.now.files (prefix_of interfaces.now.files) (others_of interfaces.now.files) types.old interfaces.now.arena interfaces.now.by_name prefix (map item_view items.now) places.now)) }
 {
     let mut inside = Arena::new(alloc);
-    let mut arena = front;
+    let mut arena = prefix;
     make_room(items, &mut inside, &mut arena)?;
     let mut worlds = Worlds {
         interfaces,

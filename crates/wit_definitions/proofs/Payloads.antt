@@ -13,17 +13,17 @@ use Rattle.wit_syntax.specs.Fault.{Fault}
 use Rattle.wit_arena.specs.Resolving.{Env, IsWrongWord, AreWrongTypes, IsWrongBody}
 use Rattle.wit_arena.proofs.Written.{wrong_left, wrong_right}
 
-in_front : {X : Type 0} (o : Option X) (xs : List X) → cons_option o xs ≡ option_to_list o ++ xs
-in_front None xs = refl
-in_front (Some x) xs = refl
+in_prefix : {X : Type 0} (o : Option X) (xs : List X) → cons_option o xs ≡ option_to_list o ++ xs
+in_prefix None xs = refl
+in_prefix (Some x) xs = refl
 
 -- what is wrong with what a case holds
 pub wrong_case : (env : Env) (es : List TypeDef) (cs : List Case) (i : ℕ) (c : Case) (f : Fault) → slice_get cs i ≡ Some c → AreWrongTypes env es (option_to_list c.ty) f → AreWrongTypes env es (case_types cs) f
 wrong_case env es [] i c f at h = absurd (let wrong : ⊥ = cc in wrong)
 wrong_case env es (d ∷ cs) zero c f at h =
     let same : d ≡ c = cc in
-    rw (in_front d.ty (case_types cs)) (wrong_left env es (option_to_list d.ty) (case_types cs) f (rw same h))
-wrong_case env es (d ∷ cs) (suc i) c f at h = rw (in_front d.ty (case_types cs)) (wrong_right env es (option_to_list d.ty) (case_types cs) f (wrong_case env es cs i c f at h))
+    rw (in_prefix d.ty (case_types cs)) (wrong_left env es (option_to_list d.ty) (case_types cs) f (rw same h))
+wrong_case env es (d ∷ cs) (suc i) c f at h = rw (in_prefix d.ty (case_types cs)) (wrong_right env es (option_to_list d.ty) (case_types cs) f (wrong_case env es cs i c f at h))
 
 -- what is wrong with a list of fields or cases, or with a type in it
 pub wrong_listed : (env : Env) (es : List TypeDef) (body : TypeBody) (f : Fault) → IsBrokenList body f ⊎ (IsBrokenPart (body_types body) f ⊎ IsWrongWord env es (all_words (body_of body).parts) (all_handles (body_types body)) f) → IsWrongBody env es body f

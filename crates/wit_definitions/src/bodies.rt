@@ -7,19 +7,20 @@ ghost use Rattle.wit_arena.specs.Kind.{kind_of, field_member, flag_member, case_
 ghost use Rattle.wit_syntax.specs.Shape.{member, written_body, body_of, handles, all_handles};
 ghost use Rattle.wit_syntax.specs.Address.{Address};
 ghost use Rattle.wit_arena.specs.Expr.{exprs_of};
-ghost use Rattle.wit_arena.specs.Meet.{shapes_meetings};
+ghost use Rattle.wit_arena.specs.Occurrences.{shapes_occurrences};
 ghost use Rattle.wit_syntax.specs.Fault.{Fault};
 ghost use Rattle.wit_syntax.specs.Bodies.{IsBrokenType, IsBrokenPart, IsFlagTooMany, AreBroken, IsBrokenBody};
 ghost use Rattle.wit_syntax.specs.Broken.{Refused};
 ghost use Rattle.wit_arena.specs.Resolving.{env_of, AreResolved, IsWrongType, AreWrongTypes, IsWrongBody};
 ghost use Rattle.wit_entries.specs.Reading.{AreTypes, IsOwn};
-ghost use Rattle.wit_entries.specs.Requiring.{IsGrown, Requires};
+ghost use Rattle.wit_entries.specs.Requiring.{IsExtended, Requires};
 
 use std::alloc::{AllocError, Global};
 use wit_entries::entries::Entries;
 use wit_entries::names::find_resource;
 use wit_entries::scope::Required;
 use wit_entries::types::{named_kind, read, resolve_type};
+use wit_maps::TextTable;
 use wit_notes::docs;
 use wit_rules::rules::{check_enum, check_flags, check_record, check_variant};
 use wit_tree::{ParseResult, Span, tree};
@@ -27,7 +28,6 @@ use wit_types::{
     Case, Enum, EnumCase, Field, Flag, Flags, Handle, Record, Stability, Type, TypeDefKind, TypeId,
     Variant,
 };
-use wit_maps::TextTable;
 use wit_values::{Row, Text};
 
 /// A field of this type.
@@ -56,7 +56,7 @@ fn resolve_fields(
     ensures members { IfOk result (λ r. map field_member r ≡ map (λ x. member x.docs x.name) fields.now) }
     ensures legal { OnOk result ((f : Fault) → IsBrokenPart (field_types fields.now) f → ⊥) }
     ensures handled { OnOk result (Requires (env_of names.now) types.new (all_handles (field_types fields.now)) required.old.items required.new.items) }
-    ensures grown { IsGrown types.old types.new }
+    ensures extended { IsExtended types.old types.new }
     ensures refused { IfErr result (Refused (AreWrongTypes (env_of names.now) types.new (field_types fields.now))) }
 {
     let mut resolved = Vec::with_capacity(alloc, fields.len())?;
@@ -82,7 +82,7 @@ fn resolve_record(
     ensures list { OnOk result ((f : Fault) → AreBroken 19 (λ x. x.name) fields.now span f → ⊥) }
     ensures legal { OnOk result ((f : Fault) → IsBrokenPart (field_types fields.now) f → ⊥) }
     ensures handled { OnOk result (Requires (env_of names.now) types.new (all_handles (field_types fields.now)) required.old.items required.new.items) }
-    ensures grown { IsGrown types.old types.new }
+    ensures extended { IsExtended types.old types.new }
     ensures refused { IfErr result (Refused (λ f. AreBroken 19 (λ x. x.name) fields.now span f ⊎ AreWrongTypes (env_of names.now) types.new (field_types fields.now) f)) }
 {
     check_record(alloc, span, fields)?;
@@ -150,7 +150,7 @@ fn resolve_case(
     ensures member { IfOk result (λ r. case_member r ≡ (member written.now.docs written.now.name, is_some written.now.ty)) }
     ensures legal { OnOk result ((f : Fault) → IsBrokenPart (option_to_list written.now.ty) f → ⊥) }
     ensures handled { OnOk result (Requires (env_of names.now) types.new (all_handles (option_to_list written.now.ty)) required.old.items required.new.items) }
-    ensures grown { IsGrown types.old types.new }
+    ensures extended { IsExtended types.old types.new }
     ensures refused { IfErr result (Refused (AreWrongTypes (env_of names.now) types.new (option_to_list written.now.ty))) }
 {
     match &written.ty {
@@ -175,7 +175,7 @@ fn resolve_cases(
     ensures members { IfOk result (λ r. map case_member r ≡ map (λ c. (member c.docs c.name, is_some c.ty)) cases.now) }
     ensures legal { OnOk result ((f : Fault) → IsBrokenPart (case_types cases.now) f → ⊥) }
     ensures handled { OnOk result (Requires (env_of names.now) types.new (all_handles (case_types cases.now)) required.old.items required.new.items) }
-    ensures grown { IsGrown types.old types.new }
+    ensures extended { IsExtended types.old types.new }
     ensures refused { IfErr result (Refused (AreWrongTypes (env_of names.now) types.new (case_types cases.now))) }
 {
     let mut resolved = Vec::with_capacity(alloc, cases.len())?;
@@ -201,7 +201,7 @@ fn resolve_variant(
     ensures list { OnOk result ((f : Fault) → AreBroken 23 (λ x. x.name) cases.now span f → ⊥) }
     ensures legal { OnOk result ((f : Fault) → IsBrokenPart (case_types cases.now) f → ⊥) }
     ensures handled { OnOk result (Requires (env_of names.now) types.new (all_handles (case_types cases.now)) required.old.items required.new.items) }
-    ensures grown { IsGrown types.old types.new }
+    ensures extended { IsExtended types.old types.new }
     ensures refused { IfErr result (Refused (λ f. AreBroken 23 (λ x. x.name) cases.now span f ⊎ AreWrongTypes (env_of names.now) types.new (case_types cases.now) f)) }
 {
     check_variant(alloc, span, cases)?;
@@ -258,11 +258,11 @@ fn resolve_word(
 ) -> ParseResult<TypeDefKind>
     requires { IsOwn ty.now → ⊥ }
     ensures parts { IfOk result (λ r. (s : Address) → AreResolved types.old types.new s (env_of names.now)
-        (shapes_meetings s given.now (written_body ty.now).parts) (exprs_of s (written_body ty.now).parts) (kind_of r).parts) }
+        (shapes_occurrences s given.now (written_body ty.now).parts) (exprs_of s (written_body ty.now).parts) (kind_of r).parts) }
     ensures form { IfOk result (λ r. (kind_of r).form ≡ (written_body ty.now).form) }
     ensures legal { OnOk result ((f : Fault) → IsBrokenType ty.now f → ⊥) }
     ensures handled { OnOk result (Requires (env_of names.now) types.new (handles ty.now) required.old.items required.new.items) }
-    ensures grown { IsGrown types.old types.new }
+    ensures extended { IsExtended types.old types.new }
     ensures refused { IfErr result (Refused (IsWrongType (env_of names.now) types.new ty.now)) }
 {
     let reading = read(alloc, types, names, required, given, ty)?;
@@ -279,11 +279,11 @@ fn resolve_plain(
     ty: &tree::Type<'_>,
 ) -> ParseResult<TypeDefKind>
     ensures parts { IfOk result (λ r. (s : Address) → AreResolved types.old types.new s (env_of names.now)
-        (shapes_meetings s given.now (written_body ty.now).parts) (exprs_of s (written_body ty.now).parts) (kind_of r).parts) }
+        (shapes_occurrences s given.now (written_body ty.now).parts) (exprs_of s (written_body ty.now).parts) (kind_of r).parts) }
     ensures form { IfOk result (λ r. (kind_of r).form ≡ (written_body ty.now).form) }
     ensures legal { OnOk result ((f : Fault) → IsBrokenType ty.now f → ⊥) }
     ensures handled { OnOk result (Requires (env_of names.now) types.new (handles ty.now) required.old.items required.new.items) }
-    ensures grown { IsGrown types.old types.new }
+    ensures extended { IsExtended types.old types.new }
     ensures refused { IfErr result (Refused (IsWrongType (env_of names.now) types.new ty.now)) }
 {
     if let tree::Type::Own(_, id) = ty {
@@ -295,7 +295,7 @@ fn resolve_plain(
 
 /// The kind of a definition.
 ///
-/// A refusal is E15, E27, a broken rule of types, fields, flags or cases, or want of memory.
+/// A refusal is E15, E27, a broken rule of types, fields, flags or cases, or a failed allocation.
 pub fn resolve_body(
     alloc: Global,
     types: &mut Entries,
@@ -305,11 +305,11 @@ pub fn resolve_body(
     body: &tree::TypeBody<'_>,
 ) -> ParseResult<TypeDefKind>
     ensures parts { IfOk result (λ r. (s : Address) → AreResolved types.old types.new s (env_of names.now)
-        (shapes_meetings s given.now (body_of body.now).parts) (exprs_of s (body_of body.now).parts) (kind_of r).parts) }
+        (shapes_occurrences s given.now (body_of body.now).parts) (exprs_of s (body_of body.now).parts) (kind_of r).parts) }
     ensures form { IfOk result (λ r. (kind_of r).form ≡ (body_of body.now).form) }
     ensures legal { OnOk result ((f : Fault) → IsBrokenBody body.now f → ⊥) }
     ensures handled { OnOk result (Requires (env_of names.now) types.new (all_handles (body_types body.now)) required.old.items required.new.items) }
-    ensures grown { IsGrown types.old types.new }
+    ensures extended { IsExtended types.old types.new }
     ensures refused { IfErr result (Refused (IsWrongBody (env_of names.now) types.new body.now)) }
 {
     match body {

@@ -7,45 +7,45 @@ ghost use Rattle.wit_syntax.specs.Source.{Defined};
 ghost use Rattle.wit_syntax.specs.Fault.{Fault};
 ghost use Rattle.wit_syntax.specs.Bodies.{IsBrokenBody};
 ghost use Rattle.wit_syntax.specs.Broken.{Refused};
-ghost use Rattle.wit_syntax.specs.Notes.{IsBrokenNotes};
-ghost use Rattle.wit_arena.specs.Resolving.{Cell, env_of, IsStored, Defines, IsWrongBody};
-ghost use Rattle.wit_entries.specs.Requiring.{IsGrown, Requires};
+ghost use Rattle.wit_syntax.specs.Metadata.{IsBrokenMetadata};
+ghost use Rattle.wit_arena.specs.Resolving.{ResolvedScope, env_of, IsStored, Defines, IsWrongBody};
+ghost use Rattle.wit_entries.specs.Requiring.{IsExtended, Requires};
 
 use crate::bodies::resolve_body;
 use std::alloc::Global;
 use wit_entries::entries::Entries;
 use wit_entries::scope::Scope;
-use wit_notes::notes_of;
+use wit_notes::metadata_of;
 use wit_tree::{ParseResult, tree};
 
-/// Adds a definition behind what is in its body.
+/// Adds a definition after what is in its body.
 ///
-/// A refusal is E15, E27, a broken rule of attributes, types, fields, flags or cases, or want of memory.
+/// A refusal is E15, E27, a broken rule of attributes, types, fields, flags or cases, or a failed allocation.
 pub fn define(
     alloc: Global,
     types: &mut Entries,
     scope: &mut Scope,
     definition: &tree::TypeDef<'_>,
 ) -> ParseResult<()>
-    ensures defines { OnOk result ((cs : List Cell) (s : Address) → Defines types.old types.new cs scope.old.owner s scope.old.names scope.new.names (Defined definition.now ∷ [])) }
+    ensures defines { OnOk result ((cs : List ResolvedScope) (s : Address) → Defines types.old types.new cs scope.old.owner s scope.old.names scope.new.names (Defined definition.now ∷ [])) }
     ensures owner { OnOk result (scope.new.owner ≡ scope.old.owner) }
-    ensures noted { OnOk result ((f : Fault) → IsBrokenNotes definition.now.attributes.items f → ⊥) }
+    ensures noted { OnOk result ((f : Fault) → IsBrokenMetadata definition.now.attributes.items f → ⊥) }
     ensures legal { OnOk result ((f : Fault) → IsBrokenBody definition.now.body f → ⊥) }
     ensures stored { OnOk result (IsStored scope.old.names scope.new.names definition.now.name.name.now) }
     ensures handled { OnOk result (Requires (env_of scope.old.names) types.new (all_handles (body_types definition.now.body)) scope.old.required.items scope.new.required.items) }
-    ensures grown { IsGrown types.old types.new }
-    ensures refused { IfErr result (Refused (λ f. IsBrokenNotes definition.now.attributes.items f ⊎ IsWrongBody (env_of scope.old.names) types.new definition.now.body f)) }
+    ensures extended { IsExtended types.old types.new }
+    ensures refused { IfErr result (Refused (λ f. IsBrokenMetadata definition.now.attributes.items f ⊎ IsWrongBody (env_of scope.old.names) types.new definition.now.body f)) }
 {
-    let notes = notes_of(alloc, &definition.docs, &definition.attributes)?;
+    let metadata = metadata_of(alloc, &definition.docs, &definition.attributes)?;
     let kind = resolve_body(
         alloc,
         types,
         &scope.names,
         &mut scope.required,
-        &notes.stability,
+        &metadata.stability,
         &definition.body,
     )?;
     let id = definition.name;
-    scope.declare(alloc, types, id.name, notes, id.span, kind)?;
+    scope.declare(alloc, types, id.name, metadata, id.span, kind)?;
     Ok(())
 }

@@ -1,4 +1,4 @@
--- A place more in an ordered map from digests.
+-- A place more in an ordered map from hashes.
 use Rattle.std.proofs.Common.{◌≡◌, ℕ, ◌<◌, Bool, true, false, Option, Some, None, inl, inr, refl, sym, ap, ◌∙◌}
 use Rattle.std.specs.BTreeMap.{BTreeMap, get, get_by, is_at, Updates}
 use Rattle.std.specs.Ordering.{MatchOrdering, is_eq, nat_cmp}
@@ -20,12 +20,12 @@ none_there : {X : Type 0} (o : Option X) (x : X) → is_some o ≡ false → o �
 none_there None x empty is = absurd (let f : ⊥ = cc in f)
 none_there (Some y) x empty is = absurd (let f : ⊥ = cc in f)
 
--- what stood there stays, where the digest had no place
-pub digests_kept : (m n : BTreeMap ℕ ℕ) (digest i : ℕ) → is_some (get nat_cmp m digest) ≡ false → Updates nat_cmp m n digest (Some i) → (x j : ℕ) → get nat_cmp m x ≡ Some j → get nat_cmp n x ≡ Some j
-digests_kept m n digest i free updates x j h = elim (cases_Bool (is_eq (nat_cmp digest x))) [
-  | inl same ↦ absurd (none_there (get nat_cmp m digest) j free (ap (get nat_cmp m) (equal_numbers digest x same) ∙ h))
+-- what was there stays, where the hash had no place
+pub key_hashes_kept : (m n : BTreeMap ℕ ℕ) (key_hash i : ℕ) → is_some (get nat_cmp m key_hash) ≡ false → Updates nat_cmp m n key_hash (Some i) → (x j : ℕ) → get nat_cmp m x ≡ Some j → get nat_cmp n x ≡ Some j
+key_hashes_kept m n key_hash i free updates x j h = elim (cases_Bool (is_eq (nat_cmp key_hash x))) [
+  | inl same ↦ absurd (none_there (get nat_cmp m key_hash) j free (ap (get nat_cmp m) (equal_numbers key_hash x same) ∙ h))
   | inr other ↦ updates.2 x other ∙ h
 ]
 
-pub digest_there : (m n : BTreeMap ℕ ℕ) (digest i : ℕ) → Updates nat_cmp m n digest (Some i) → get nat_cmp n digest ≡ Some i
-digest_there m n digest i updates = updates.1
+pub key_hash_there : (m n : BTreeMap ℕ ℕ) (key_hash i : ℕ) → Updates nat_cmp m n key_hash (Some i) → get nat_cmp n key_hash ≡ Some i
+key_hash_there m n key_hash i updates = updates.1

@@ -21,7 +21,7 @@ use Rattle.wit_syntax.specs.Form.{ResultForm, FutureForm, StreamForm}
 use Rattle.wit_syntax.specs.Shape.{shape_of, written_body, words, all_words, handles, all_handles}
 use Rattle.wit_syntax.specs.Address.{Address}
 use Rattle.wit_arena.specs.Expr.{exprs_of}
-use Rattle.wit_arena.specs.Meet.{shapes_meetings}
+use Rattle.wit_arena.specs.Occurrences.{shapes_occurrences}
 use Rattle.wit_syntax.specs.Fault.{Fault}
 use Rattle.wit_syntax.specs.Bodies.{IsBrokenForm, IsBrokenType}
 use Rattle.wit_syntax.specs.Broken.{Refused}
@@ -39,11 +39,11 @@ map_form old mid new env given span key value k v p q = (refl, refl, tt, types_t
 
 pub tuple_form : (old new : List TypeDef) (env : Env) (given : Stability) (span : Span) (v : Vec Written Global) (ts : List Ty) → AreTypes old new env given v.items ts → IsForm old new env given (shape_of (written.Tuple span v)) (kind.Tuple (record { types = ts })) span
 tuple_form old new env given span v ts p =
-    (refl, refl, tt, subst (λ xs. (s : Address) → AreResolved old new s env (shapes_meetings s given xs) (exprs_of s xs) ts) (sym (tuple_inner span v)) p)
+    (refl, refl, tt, subst (λ xs. (s : Address) → AreResolved old new s env (shapes_occurrences s given xs) (exprs_of s xs) ts) (sym (tuple_inner span v)) p)
 
 pub result_form : (old new : List TypeDef) (env : Env) (given : Stability) (span : Span) (of : ResultTypes) (o e : Option Ty) → is_some o ≡ is_some (ok_type of) → is_some e ≡ is_some (err_type of) → AreTypes old new env given (result_types of) (option_to_list o ++ option_to_list e) → IsForm old new env given (shape_of (written.Result span of)) (kind.Result (record { ok = o; err = e })) span
 result_form old new env given span of o e a b p =
-    (refl, ap (λ x. ResultForm x (is_some e)) a ∙ ap (ResultForm (is_some (ok_type of))) b, tt, subst (λ xs. (s : Address) → AreResolved old new s env (shapes_meetings s given xs) (exprs_of s xs) (option_to_list o ++ option_to_list e)) (sym (result_shapes-all of)) p)
+    (refl, ap (λ x. ResultForm x (is_some e)) a ∙ ap (ResultForm (is_some (ok_type of))) b, tt, subst (λ xs. (s : Address) → AreResolved old new s env (shapes_occurrences s given xs) (exprs_of s xs) (option_to_list o ++ option_to_list e)) (sym (result_shapes-all of)) p)
 
 pub future_form : (old new : List TypeDef) (env : Env) (given : Stability) (span : Span) (t : Option (Box Written Global)) (o : Option Ty) → is_some o ≡ is_some t → AreTypes old new env given (boxed_types t) (option_to_list o) → IsForm old new env given (shape_of (written.Future span t)) (kind.Future o) span
 future_form old new env given span None o a p = (refl, ap FutureForm a, tt, p)

@@ -2,7 +2,7 @@ pub mod Reading
 mod Digested
 mod Known
 pub mod FormKinds
-mod Told
+mod EndsOfEntries
 pub mod Requiring
 mod Settled
 pub mod Noted

@@ -1,4 +1,4 @@
--- Written types whose parts are resolved: as they stand in a type, and under a name.
+-- Written types whose parts are resolved: as they are in a type, and under a name.
 use Rattle.std.proofs.Common.{◌≡◌, ℕ, List, [], ◌∷◌, ◌++◌, Some, refl, sym, ap, ◌∙◌, subst}
 use Rattle.std.proofs.lemmas.List.{append-nil}
 use Rattle.wit_types.specs.declared.types.«Type».{«Type» as Ty}
@@ -16,41 +16,41 @@ use Rattle.wit_syntax.specs.Shape.{Shape, Prim, Word, Of, one, shape_of, Body, h
 use Rattle.wit_syntax.specs.Address.{Address}
 use Rattle.wit_arena.specs.Expr.{exprs_of, expr_of}
 use Rattle.wit_arena.specs.Expr as exprs
-use Rattle.wit_arena.specs.Meet.{shape_meetings, shapes_meetings}
+use Rattle.wit_arena.specs.Occurrences.{shape_occurrences, shapes_occurrences}
 use Rattle.wit_arena.specs.Faithful.{IsAnonymousForm}
 use Rattle.wit_arena.specs.Resolving.{Env, AreResolved, IsInterned}
 use Rattle.wit_arena.proofs.UnnamedKinds.{only_anonymous}
 use Rattle.wit_arena.proofs.Resolving.{resolved_more, resolved_whole}
-use Rattle.wit_arena.proofs.Written.{all_exprs-append, all_meetings-append}
+use Rattle.wit_arena.proofs.Written.{all_exprs-append, all_occurrences-append}
 use Rattle.wit_entries.specs.declared.types.Reading.{Reading}
 use Rattle.wit_entries.specs.declared.types.Reading.TheVariants as reading
-use Rattle.wit_entries.specs.Reading.{IsResolved, AreTypes, IsLeaf, IsOwn, IsForm, IsRead, StandsFor, named_kind}
+use Rattle.wit_entries.specs.Reading.{IsResolved, AreTypes, IsLeaf, IsOwn, IsForm, IsRead, Denotes, named_kind}
 
 -- the type of a name
 pub resolved_word : (es : List TypeDef) (env : Env) (given : Stability) (id : Name) (i : ℕ) → env id.name.now ≡ Some i → IsResolved es es env given (Word id) (Id i)
-resolved_word es env given id i found s = record { same = refl; from = λ decls ms m names. record { now = ms; meets = refl; meeting = m; at = ((i, refl, names.stands id.name.now i found), tt) } }
+resolved_word es env given id i found s = record { same = refl; from = λ decls ms m names. record { now = ms; collects = refl; occurrence = m; at = ((i, refl, names.present id.name.now i found), tt) } }
 
 -- the type of a form, once it is interned
-pub whole_stands : (old mid new : List TypeDef) (env : Env) (given : Stability) (x : Shape) (k : TypeDefKind) (span : Span) (i : ℕ) → IsForm old mid env given x k span → IsInterned mid new k given span i → IsResolved old new env given x (Id i)
-whole_stands old mid new env given (Prim p) k span i form interned s = absurd form
-whole_stands old mid new env given (Word id) k span i form interned s = absurd form
-whole_stands old mid new env given (Of at f parts) k span i form interned s =
+pub whole_present : (old mid new : List TypeDef) (env : Env) (given : Stability) (x : Shape) (k : TypeDefKind) (span : Span) (i : ℕ) → IsForm old mid env given x k span → IsInterned mid new k given span i → IsResolved old new env given x (Id i)
+whole_present old mid new env given (Prim p) k span i form interned s = absurd form
+whole_present old mid new env given (Word id) k span i form interned s = absurd form
+whole_present old mid new env given (Of at f parts) k span i form interned s =
     rw (form.0, ← form.1) (resolved_whole k given span i (only_anonymous k (subst IsAnonymousForm (sym form.1) form.2)) (form.3 s) interned)
 
--- the type that stands for what was read
-pub read_stands : (old mid new : List TypeDef) (env : Env) (given : Stability) (x : Shape) (r : Reading) (ty : Ty) → IsRead old mid env given x r → StandsFor mid new given r ty → IsResolved old new env given x ty
-read_stands old mid new env given x (reading.Leaf t) ty read stands = rw (stands.0, stands.1) read.1
-read_stands old mid new env given x (reading.Form k span) ty read stands = rw stands.1 (whole_stands old mid new env given x k span stands.0 read stands.2)
+-- the type that means what was read
+pub read_present : (old mid new : List TypeDef) (env : Env) (given : Stability) (x : Shape) (r : Reading) (ty : Ty) → IsRead old mid env given x r → Denotes mid new given r ty → IsResolved old new env given x ty
+read_present old mid new env given x (reading.Leaf t) ty read present = rw (present.0, present.1) read.1
+read_present old mid new env given x (reading.Form k span) ty read present = rw present.1 (whole_present old mid new env given x k span present.0 read present.2)
 
 -- a type by itself as one part
-pub alone : {old new : List TypeDef} {env : Env} {ty : Ty} (given : Stability) (x : Shape) → IsResolved old new env given x ty → (s : Address) → AreResolved old new s env (shapes_meetings s given (one x)) (exprs_of s (one x)) (ty ∷ [])
-alone {old} {new} {env} {ty} given x is s = subst (λ ms. AreResolved old new s env ms (exprs.one (expr_of s x)) (ty ∷ [])) (sym (append-nil (shape_meetings s given x))) (is s)
+pub alone : {old new : List TypeDef} {env : Env} {ty : Ty} (given : Stability) (x : Shape) → IsResolved old new env given x ty → (s : Address) → AreResolved old new s env (shapes_occurrences s given (one x)) (exprs_of s (one x)) (ty ∷ [])
+alone {old} {new} {env} {ty} given x is s = subst (λ ms. AreResolved old new s env ms (exprs.one (expr_of s x)) (ty ∷ [])) (sym (append-nil (shape_occurrences s given x))) (is s)
 
 pub types_one : {old new : List TypeDef} {env : Env} {ty : Ty} (given : Stability) (t : Written) → IsResolved old new env given (shape_of t) ty → AreTypes old new env given (t ∷ []) (ty ∷ [])
 types_one given t is s = alone given (shape_of t) is s
 
 pub types_then : {old mid new : List TypeDef} {env : Env} {tys uys : List Ty} (given : Stability) (ts us : List Written) → AreTypes old mid env given ts tys → AreTypes mid new env given us uys → AreTypes old new env given (ts ++ us) (tys ++ uys)
-types_then given ts us p q s = rw (all_exprs-append s ts us, all_meetings-append s given ts us) (resolved_more (p s) (q s))
+types_then given ts us p q s = rw (all_exprs-append s ts us, all_occurrences-append s given ts us) (resolved_more (p s) (q s))
 
 leaf_head : (x : Shape) → IsLeaf x → head x ≡ record { form = AliasForm; parts = one x }
 leaf_head (Prim p) leaf = refl
@@ -65,13 +65,13 @@ read_form old new env given (Word id) (reading.Form k span) read = absurd read
 read_form old new env given (Of at form parts) (reading.Form k span) read = read.1
 
 -- and its parts are those of the head
-pub read_parts : (old new : List TypeDef) (env : Env) (given : Stability) (x : Shape) (r : Reading) → IsRead old new env given x r → (s : Address) → AreResolved old new s env (shapes_meetings s given (head x).parts) (exprs_of s (head x).parts) (kind_of (named_kind r)).parts
+pub read_parts : (old new : List TypeDef) (env : Env) (given : Stability) (x : Shape) (r : Reading) → IsRead old new env given x r → (s : Address) → AreResolved old new s env (shapes_occurrences s given (head x).parts) (exprs_of s (head x).parts) (kind_of (named_kind r)).parts
 read_parts old new env given x (reading.Leaf t) read s = rw (leaf_head x read.0) (alone given x read.1 s)
 read_parts old new env given (Prim p) (reading.Form k span) read s = absurd read
 read_parts old new env given (Word id) (reading.Form k span) read s = absurd read
 read_parts old new env given (Of at form parts) (reading.Form k span) read s = read.3 s
 
--- every other type than one that is handed over stands under a name as it does by itself
+-- every other type than one that is handed over is under a name as it does by itself
 plain_body : (t : Written) → (IsOwn t → ⊥) → written_body t ≡ head (shape_of t)
 plain_body (written.Own span id) other = absurd (other tt)
 plain_body t other = refl
@@ -79,5 +79,5 @@ plain_body t other = refl
 pub plain_form : (old new : List TypeDef) (env : Env) (given : Stability) (t : Written) (r : Reading) → (IsOwn t → ⊥) → IsRead old new env given (shape_of t) r → (kind_of (named_kind r)).form ≡ (written_body t).form
 plain_form old new env given t r other read = read_form old new env given (shape_of t) r read ∙ ap (λ (b : Body). b.form) (sym (plain_body t other))
 
-pub plain_parts : (old new : List TypeDef) (env : Env) (given : Stability) (t : Written) (r : Reading) → (IsOwn t → ⊥) → IsRead old new env given (shape_of t) r → (s : Address) → AreResolved old new s env (shapes_meetings s given (written_body t).parts) (exprs_of s (written_body t).parts) (kind_of (named_kind r)).parts
-plain_parts old new env given t r other read s = subst (λ (b : Body). AreResolved old new s env (shapes_meetings s given b.parts) (exprs_of s b.parts) (kind_of (named_kind r)).parts) (sym (plain_body t other)) (read_parts old new env given (shape_of t) r read s)
+pub plain_parts : (old new : List TypeDef) (env : Env) (given : Stability) (t : Written) (r : Reading) → (IsOwn t → ⊥) → IsRead old new env given (shape_of t) r → (s : Address) → AreResolved old new s env (shapes_occurrences s given (written_body t).parts) (exprs_of s (written_body t).parts) (kind_of (named_kind r)).parts
+plain_parts old new env given t r other read s = subst (λ (b : Body). AreResolved old new s env (shapes_occurrences s given b.parts) (exprs_of s b.parts) (kind_of (named_kind r)).parts) (sym (plain_body t other)) (read_parts old new env given (shape_of t) r read s)

@@ -9,27 +9,27 @@ use Rattle.wit_syntax.specs.Shape.{handles, all_handles}
 use Rattle.wit_arena.specs.Resolving.{Env, Required, AreEnded}
 use Rattle.wit_arena.proofs.Written.{all_handles-append, IsNoHandle, handles-parts}
 use Rattle.wit_arena.proofs.Required.{ended_append, ended_more}
-use Rattle.wit_entries.specs.Requiring.{IsGrown, Requires}
+use Rattle.wit_entries.specs.Requiring.{IsExtended, Requires}
 
-pub grown_then : (old mid new : List TypeDef) → IsGrown old mid → IsGrown mid new → IsGrown old new
-grown_then old mid new p q = record { more = p.more ++ q.more; is = q.is ∙ ap (λ (l : List TypeDef). l ++ q.more) p.is ∙ append_assoc old p.more q.more }
+pub extended_then : (old mid new : List TypeDef) → IsExtended old mid → IsExtended mid new → IsExtended old new
+extended_then old mid new p q = record { more = p.more ++ q.more; is = q.is ∙ ap (λ (l : List TypeDef). l ++ q.more) p.is ∙ append_assoc old p.more q.more }
 
 -- nothing is required
 pub requires_none : (env : Env) (es : List TypeDef) (rs : List Required) → Requires env es [] rs rs
 requires_none env es rs = record { list = []; added = sym (append-nil rs); ended = refl }
 
 -- in a grown arena
-pub requires_grown : (env : Env) (es new : List TypeDef) (ids : List Id) (a b : List Required) → IsGrown es new → Requires env es ids a b → Requires env new ids a b
-requires_grown env es new ids a b g p = record {
+pub requires_extended : (env : Env) (es new : List TypeDef) (ids : List Id) (a b : List Required) → IsExtended es new → Requires env es ids a b → Requires env new ids a b
+requires_extended env es new ids a b g p = record {
   list = p.list;
   added = p.added;
-  ended = subst (λ (l : List TypeDef). AreEnded env l ids p.list) (sym g.is) (ended_more env env es g.more ids p.list (λ name i stands. stands) p.ended);
+  ended = subst (λ (l : List TypeDef). AreEnded env l ids p.list) (sym g.is) (ended_more env env es g.more ids p.list (λ name i present. present) p.ended);
 }
 
 -- by names, and then by further ones
-pub requires_then : (env : Env) (mid new : List TypeDef) (ids more : List Id) (a b c : List Required) → IsGrown mid new → Requires env mid ids a b → Requires env new more b c → Requires env new (ids ++ more) a c
+pub requires_then : (env : Env) (mid new : List TypeDef) (ids more : List Id) (a b c : List Required) → IsExtended mid new → Requires env mid ids a b → Requires env new more b c → Requires env new (ids ++ more) a c
 requires_then env mid new ids more a b c g p q =
-    let first = requires_grown env mid new ids a b g p in
+    let first = requires_extended env mid new ids a b g p in
     record {
       list = first.list ++ q.list;
       added = q.added ∙ ap (λ (l : List Required). l ++ q.list) first.added ∙ append_assoc a first.list q.list;
@@ -37,7 +37,7 @@ requires_then env mid new ids more a b c g p q =
     }
 
 -- by types, and then by further ones
-pub requires_types : (env : Env) (mid new : List TypeDef) (ts us : List Written) (a b c : List Required) → IsGrown mid new → Requires env mid (all_handles ts) a b → Requires env new (all_handles us) b c → Requires env new (all_handles (ts ++ us)) a c
+pub requires_types : (env : Env) (mid new : List TypeDef) (ts us : List Written) (a b c : List Required) → IsExtended mid new → Requires env mid (all_handles ts) a b → Requires env new (all_handles us) b c → Requires env new (all_handles (ts ++ us)) a c
 requires_types env mid new ts us a b c g p q = subst (λ (l : List Id). Requires env new l a c) (sym (all_handles-append ts us)) (requires_then env mid new (all_handles ts) (all_handles us) a b c g p q)
 
 -- by one type

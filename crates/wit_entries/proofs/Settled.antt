@@ -16,26 +16,26 @@ use Rattle.wit_types.specs.declared.types.TypeDefKind.{TypeDefKind}
 use Rattle.wit_types.specs.declared.types.TypeDefKind.TheVariants as kind
 use Rattle.wit_types.specs.Types.{slots}
 use Rattle.wit_arena.specs.Kind.{payloads, kind_of}
-use Rattle.wit_syntax.specs.Notes.{first_known}
-use Rattle.wit_arena.specs.Meet.{stability_at}
+use Rattle.wit_syntax.specs.Metadata.{first_known}
+use Rattle.wit_arena.specs.Occurrences.{stability_at}
 use Rattle.wit_syntax.proofs.Lists.{map_map}
 use Rattle.wit_entries.specs.Settled.{known, slot_stability, known_in_slots, known_in_parts}
 
--- a known one is the first of all behind it
+-- a known one is the first of all after it
 first_here : (x : Stability) (xs : List Stability) (s : Stability) → known x ≡ Some s → known (first_known (x ∷ xs)) ≡ Some s
 first_here stability.Unknown xs s is = absurd (let f : ⊥ = cc in f)
 first_here (stability.Unstable feature deprecated) xs s is = is
 first_here (stability.Stable since deprecated) xs s is = is
 
--- one behind others of which none is known
-first_behind : (xs : List Stability) (i : ℕ) (x s : Stability) → slice_get xs i ≡ Some x → known (first_known (take i xs)) ≡ None → known x ≡ Some s → known (first_known xs) ≡ Some s
-first_behind [] i x s at none is = absurd (let f : ⊥ = cc in f)
-first_behind (y ∷ xs) zero x s at none is =
+-- one after others of which none is known
+first_after : (xs : List Stability) (i : ℕ) (x s : Stability) → slice_get xs i ≡ Some x → known (first_known (take i xs)) ≡ None → known x ≡ Some s → known (first_known xs) ≡ Some s
+first_after [] i x s at none is = absurd (let f : ⊥ = cc in f)
+first_after (y ∷ xs) zero x s at none is =
     let same : x ≡ y = cc in
     first_here y xs s (ap known (sym same) ∙ is)
-first_behind (stability.Unknown ∷ xs) (suc i) x s at none is = first_behind xs i x s at none is
-first_behind (stability.Unstable feature deprecated ∷ xs) (suc i) x s at none is = absurd (let f : ⊥ = cc in f)
-first_behind (stability.Stable since deprecated ∷ xs) (suc i) x s at none is = absurd (let f : ⊥ = cc in f)
+first_after (stability.Unknown ∷ xs) (suc i) x s at none is = first_after xs i x s at none is
+first_after (stability.Unstable feature deprecated ∷ xs) (suc i) x s at none is = absurd (let f : ⊥ = cc in f)
+first_after (stability.Stable since deprecated ∷ xs) (suc i) x s at none is = absurd (let f : ⊥ = cc in f)
 
 none_one : (x : Stability) → known x ≡ None → known (first_known (x ∷ [])) ≡ None
 none_one stability.Unknown is = refl
@@ -55,9 +55,9 @@ slot_at es k i t at = slice_get-map (slot_stability es) (slots k) i ∙ ap (opti
 abbrev pub IsNoneKnown : List TypeDef → TypeDefKind → ℕ → Type 0
 IsNoneKnown es k i = known (first_known (take i (map (slot_stability es) (slots k)))) ≡ None
 
--- the first known one stands in a slot behind those of which none is known
+-- the first known one is in a slot after those of which none is known
 pub known_here : (es : List TypeDef) (k : TypeDefKind) (i : ℕ) (t : Option Ty) (s : Stability) → slice_get (slots k) i ≡ Some t → IsNoneKnown es k i → known (slot_stability es t) ≡ Some s → known_in_slots es k ≡ Some s
-known_here es k i t s at none is = first_behind (map (slot_stability es) (slots k)) i (slot_stability es t) s (slot_at es k i t at) none is
+known_here es k i t s at none is = first_after (map (slot_stability es) (slots k)) i (slot_stability es t) s (slot_at es k i t at) none is
 
 -- nor in one slot more
 pub none_more : (es : List TypeDef) (k : TypeDefKind) (i : ℕ) (t : Option Ty) → slice_get (slots k) i ≡ Some t → IsNoneKnown es k i → known (slot_stability es t) ≡ None → IsNoneKnown es k (i + 1)
@@ -65,10 +65,10 @@ none_more es k i t at none is =
     let xs = map (slot_stability es) (slots k) in
     let x = slot_stability es t in
     let there = slot_at es k i t at in
-    let taken : take (i + 1) xs ≡ take i xs ++ x ∷ [] = take_more xs i x (slice_get_within xs i x there) ∙ ap (λ (y : Stability). take i xs ++ y ∷ []) (get_or_from_slice_get xs i x x there) in
-    ap (λ (l : List Stability). known (first_known l)) taken ∙ none_append (take i xs) (x ∷ []) none (none_one x is)
+    let in_use : take (i + 1) xs ≡ take i xs ++ x ∷ [] = take_more xs i x (slice_get_within xs i x there) ∙ ap (λ (y : Stability). take i xs ++ y ∷ []) (get_or_from_slice_get xs i x x there) in
+    ap (λ (l : List Stability). known (first_known l)) in_use ∙ none_append (take i xs) (x ∷ []) none (none_one x is)
 
--- the same behind one stability
+-- the same after one stability
 first_more : (x : Stability) (xs ys : List Stability) → first_known xs ≡ first_known ys → first_known (x ∷ xs) ≡ first_known (x ∷ ys)
 first_more stability.Unknown xs ys h = h
 first_more (stability.Unstable feature deprecated) xs ys h = refl
@@ -96,7 +96,7 @@ field_slots es fs = map_map (stability_at es) (λ (f : Field). f.ty) fs ∙ sym 
 type_slots : (es : List TypeDef) (ts : List Ty) → map (stability_at es) ts ≡ map (slot_stability es) (map (λ (t : Ty). Some t) ts)
 type_slots es ts = sym (map_map (slot_stability es) (λ (t : Ty). Some t) ts)
 
--- the parts of every kind but a handle stand in its slots
+-- the parts of every kind but a handle are in its slots
 parts_in_slots : (es : List TypeDef) (k : TypeDefKind) → ((h : Handle) → k ≡ kind.Handle h → ⊥) → first_known (map (stability_at es) (kind_of k).parts) ≡ first_known (map (slot_stability es) (slots k))
 parts_in_slots es (kind.Handle h) other = absurd (other h refl)
 parts_in_slots es (kind.Record r) other = ap first_known (field_slots es r.fields)
@@ -115,5 +115,5 @@ parts_in_slots es (kind.Stream t) other = option_parts es t
 parts_in_slots es (kind.Type_ t) other = refl
 parts_in_slots es kind.Unknown other = refl
 
-pub slots_tell : (es : List TypeDef) (k : TypeDefKind) → ((h : Handle) → k ≡ kind.Handle h → ⊥) → known_in_parts es k ≡ known_in_slots es k
-slots_tell es k other = ap known (parts_in_slots es k other)
+pub slots_determine : (es : List TypeDef) (k : TypeDefKind) → ((h : Handle) → k ≡ kind.Handle h → ⊥) → known_in_parts es k ≡ known_in_slots es k
+slots_determine es k other = ap known (parts_in_slots es k other)

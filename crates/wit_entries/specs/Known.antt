@@ -6,19 +6,19 @@ use Rattle.wit_types.specs.declared.types.TypeDef.{TypeDef}
 use Rattle.wit_arena.specs.Package.{At}
 use Rattle.wit_intern.specs.contracts.key.InternKeyHash.TheImpl.{hash_input-value as key_writes}
 use Rattle.wit_intern.specs.declared.key.InternKey.{InternKey}
-use Rattle.wit_intern.specs.Keys.{key_of}
+use Rattle.wit_intern.specs.TypeKeys.{key_of}
 use Rattle.wit_intern.specs.FiniteMap.{FiniteMap, set_at}
 
 -- the hash of a key
-abbrev pub digest_of : InternKey → ℕ
-digest_of key = finish (fold write initial (key_writes.it key))
+abbrev pub key_hash_of : InternKey → ℕ
+key_hash_of key = finish (fold write initial (key_writes.it key))
 
--- each unnamed entry has its place at the digest of the key of its kind, or at the key
+-- each unnamed entry has its place at the hash of the key of its kind, or at the key
 abbrev pub AreKnown : (ℕ → Option ℕ) → FiniteMap → List TypeDef → Type 0
-AreKnown digests keys es = (j : ℕ) (e : TypeDef) (k : InternKey) → At es j e → e.name ≡ None → key_of e.kind ≡ Some k → (digests (digest_of k) ≡ Some j) ⊎ (keys k ≡ Some j)
+AreKnown key_hashes keys es = (j : ℕ) (e : TypeDef) (k : InternKey) → At es j e → e.name ≡ None → key_of e.kind ≡ Some k → (key_hashes (key_hash_of k) ≡ Some j) ⊎ (keys k ≡ Some j)
 
--- with a place at a key, if there is a key: at its digest, or at itself
-pub data IsSet (key : Option InternKey) (i : ℕ) (digests : ℕ → Option ℕ) (keys : FiniteMap) (new_digests : ℕ → Option ℕ) (new_keys : FiniteMap) : Type 0 where
-  Keyless : key ≡ None → new_digests ≡ digests → new_keys ≡ keys → IsSet key i digests keys new_digests new_keys
-  AtDigest : (k : InternKey) → key ≡ Some k → ((n j : ℕ) → digests n ≡ Some j → new_digests n ≡ Some j) → new_digests (digest_of k) ≡ Some i → new_keys ≡ keys → IsSet key i digests keys new_digests new_keys
-  AtKey : (k : InternKey) → key ≡ Some k → new_digests ≡ digests → new_keys ≡ set_at k i keys → IsSet key i digests keys new_digests new_keys
+-- with a place at a key, if there is a key: at its hash, or at itself
+pub data IsSet (key : Option InternKey) (i : ℕ) (key_hashes : ℕ → Option ℕ) (keys : FiniteMap) (new_key_hashes : ℕ → Option ℕ) (new_keys : FiniteMap) : Type 0 where
+  Keyless : key ≡ None → new_key_hashes ≡ key_hashes → new_keys ≡ keys → IsSet key i key_hashes keys new_key_hashes new_keys
+  AtKeyHash : (k : InternKey) → key ≡ Some k → ((n j : ℕ) → key_hashes n ≡ Some j → new_key_hashes n ≡ Some j) → new_key_hashes (key_hash_of k) ≡ Some i → new_keys ≡ keys → IsSet key i key_hashes keys new_key_hashes new_keys
+  AtKey : (k : InternKey) → key ≡ Some k → new_key_hashes ≡ key_hashes → new_keys ≡ set_at k i keys → IsSet key i key_hashes keys new_key_hashes new_keys

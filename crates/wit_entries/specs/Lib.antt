@@ -2,6 +2,6 @@ pub mod Known
 pub mod Places
 pub mod Reading
 pub mod Settled
-pub mod Told
+pub mod EndsOfEntries
 pub mod Requiring
-pub mod Behind
+pub mod ElementTypes

@@ -13,19 +13,19 @@ use Rattle.wit_arena.specs.Kind.{kind_of}
 use Rattle.wit_syntax.specs.Shape.{Shape, Prim, Word, Of, all_shapes}
 use Rattle.wit_syntax.specs.Address.{Address}
 use Rattle.wit_arena.specs.Expr.{one, expr_of, exprs_of}
-use Rattle.wit_arena.specs.Meet.{shape_meetings, shapes_meetings}
+use Rattle.wit_arena.specs.Occurrences.{shape_occurrences, shapes_occurrences}
 use Rattle.wit_arena.specs.Resolving.{Env, AreResolved, IsInterned}
 use Rattle.wit_arena.specs.Faithful.{IsAnonymousForm}
 use Rattle.wit_entries.specs.declared.types.Reading.{Reading}
 use Rattle.wit_entries.specs.declared.types.Reading.TheVariants as reading
 
--- from whatever was met, the new arena is that with what is met in a type, which stands in a definition of this stability, and it stands for this
+-- from whatever occurred, the new arena is that with what occurs in a type, which is in a definition of this stability, and it means this
 abbrev pub IsResolved : List TypeDef → List TypeDef → Env → Stability → Shape → Ty → Type 0
-IsResolved old new env given x ty = (s : Address) → AreResolved old new s env (shape_meetings s given x) (one (expr_of s x)) (ty ∷ [])
+IsResolved old new env given x ty = (s : Address) → AreResolved old new s env (shape_occurrences s given x) (one (expr_of s x)) (ty ∷ [])
 
 -- the same of types, one after another
 abbrev pub AreTypes : List TypeDef → List TypeDef → Env → Stability → List Written → List Ty → Type 0
-AreTypes old new env given ts tys = (s : Address) → AreResolved old new s env (shapes_meetings s given (all_shapes ts)) (exprs_of s (all_shapes ts)) tys
+AreTypes old new env given ts tys = (s : Address) → AreResolved old new s env (shapes_occurrences s given (all_shapes ts)) (exprs_of s (all_shapes ts)) tys
 
 -- a primitive or a name
 abbrev pub IsLeaf : Shape → Type 0
@@ -47,7 +47,7 @@ IsList t = ⊥
 abbrev pub IsForm : List TypeDef → List TypeDef → Env → Stability → Shape → TypeDefKind → Span → Type 0
 IsForm old new env given (Prim p) kind span = ⊥
 IsForm old new env given (Word id) kind span = ⊥
-IsForm old new env given (Of at form parts) kind span = (at ≡ span) × ((kind_of kind).form ≡ form) × IsAnonymousForm form × ((s : Address) → AreResolved old new s env (shapes_meetings s given parts) (exprs_of s parts) (kind_of kind).parts)
+IsForm old new env given (Of at form parts) kind span = (at ≡ span) × ((kind_of kind).form ≡ form) × IsAnonymousForm form × ((s : Address) → AreResolved old new s env (shapes_occurrences s given parts) (exprs_of s parts) (kind_of kind).parts)
 
 -- a primitive or a name is a type by now, and a form is a kind
 abbrev pub IsRead : List TypeDef → List TypeDef → Env → Stability → Shape → Reading → Type 0
@@ -55,9 +55,9 @@ IsRead old new env given x (reading.Leaf ty) = IsLeaf x × IsResolved old new en
 IsRead old new env given x (reading.Form kind span) = IsForm old new env given x kind span
 
 -- the type that this is: a kind is interned
-abbrev pub StandsFor : List TypeDef → List TypeDef → Stability → Reading → Ty → Type 0
-StandsFor old new given (reading.Leaf ty) t = (t ≡ ty) × (new ≡ old)
-StandsFor old new given (reading.Form kind span) t = (i : ℕ) × (t ≡ Id i) × IsInterned old new kind given span i
+abbrev pub Denotes : List TypeDef → List TypeDef → Stability → Reading → Ty → Type 0
+Denotes old new given (reading.Leaf ty) t = (t ≡ ty) × (new ≡ old)
+Denotes old new given (reading.Form kind span) t = (i : ℕ) × (t ≡ Id i) × IsInterned old new kind given span i
 
 -- the kind that this is under a name by itself: another word for a type, or the kind
 abbrev pub named_kind : Reading → TypeDefKind

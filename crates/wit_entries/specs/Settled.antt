@@ -7,8 +7,8 @@ use Rattle.wit_types.specs.declared.types.TypeDef.{TypeDef}
 use Rattle.wit_types.specs.declared.types.TypeDefKind.{TypeDefKind}
 use Rattle.wit_types.specs.Types.{slots}
 use Rattle.wit_arena.specs.Kind.{kind_of}
-use Rattle.wit_syntax.specs.Notes.{first_known}
-use Rattle.wit_arena.specs.Meet.{stability_at}
+use Rattle.wit_syntax.specs.Metadata.{first_known}
+use Rattle.wit_arena.specs.Occurrences.{stability_at}
 
 -- a stability, where it is known
 abbrev pub known : Stability → Option Stability
@@ -16,7 +16,7 @@ known stability.Unknown = None
 known (stability.Unstable feature deprecated) = Some (stability.Unstable feature deprecated)
 known (stability.Stable since deprecated) = Some (stability.Stable since deprecated)
 
--- the stability of what stands in a slot of a kind; of an empty one none is known
+-- the stability of what is in a slot of a kind; of an empty one none is known
 abbrev pub slot_stability : List TypeDef → Option Ty → Stability
 slot_stability es None = stability.Unknown
 slot_stability es (Some t) = stability_at es t

@@ -1,8 +1,8 @@
 //! Where the entries of an arena end, through names that are other words for a type.
 ghost use Rattle.std.specs.Prelude.{◌≡◌, List, [], ◌∷◌, ◌++◌, length, IfOk, IfErr, OnOk, OnErr};
-ghost use Rattle.wit_type_tree.specs.Refusal.{IsWantOfMemory};
+ghost use Rattle.wit_type_tree.specs.Refusal.{IsAllocationFailure};
 ghost use Rattle.wit_types.specs.declared.types.TypeDef.{TypeDef};
-ghost use Rattle.wit_entries.specs.Told.{EndsAt, EndsNext, AreTold};
+ghost use Rattle.wit_entries.specs.EndsOfEntries.{EndsAt, EndsNext, AreAsStated};
 
 use wit_tree::ParseResult;
 use wit_types::{Arena, Type, TypeDef, TypeDefKind, TypeId, TypePlace};
@@ -18,9 +18,9 @@ pub enum End {
     Other,
 }
 
-/// Where the entry at a place ends; nothing stands behind the last one.
+/// Where the entry at a place ends; nothing comes after the last one.
 pub(crate) fn end_at(ends: &[End], id: TypeId) -> End
-    ensures { (es : List TypeDef) → AreTold ends.now es → EndsAt es id result }
+    ensures { (es : List TypeDef) → AreAsStated ends.now es → EndsAt es id result }
 {
     match ends.get(id.index()) {
         Some(end) => *end,
@@ -30,7 +30,7 @@ pub(crate) fn end_at(ends: &[End], id: TypeId) -> End
 
 /// Where an entry of this kind ends, if it is the next one.
 fn end_of(ends: &[End], kind: &TypeDefKind, place: TypeId) -> End
-    ensures { (es : List TypeDef) → AreTold ends.now es → place ≡ length es → EndsNext es kind.now result }
+    ensures { (es : List TypeDef) → AreAsStated ends.now es → place ≡ length es → EndsNext es kind.now result }
 {
     match kind {
         TypeDefKind::Resource => End::Resource,
@@ -40,9 +40,9 @@ fn end_of(ends: &[End], kind: &TypeDefKind, place: TypeId) -> End
     }
 }
 
-/// Adds an entry behind the others, and where it ends.
+/// Adds an entry after the others, and where it ends.
 ///
-/// The error is want of memory, and then nothing is added.
+/// The error is a failed allocation, and then nothing is added.
 pub(crate) fn add_entry(
     types: &mut Arena<TypeDef, TypePlace>,
     ends: &mut Vec<End>,
@@ -51,8 +51,8 @@ pub(crate) fn add_entry(
     ensures id { IfOk result (λ id. id ≡ length types.old) }
     ensures added { OnOk result (types.new ≡ types.old ++ entry ∷ []) }
     ensures kept { OnErr result (types.new ≡ types.old) }
-    ensures told { AreTold ends.old.items types.old → AreTold ends.new.items types.new }
-    ensures refused { IfErr result IsWantOfMemory }
+    ensures as_stated { AreAsStated ends.old.items types.old → AreAsStated ends.new.items types.new }
+    ensures refused { IfErr result IsAllocationFailure }
 {
     let end = end_of(ends, &entry.kind, types.next_id());
     ends.push(end)?;

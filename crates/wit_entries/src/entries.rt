@@ -1,17 +1,17 @@
 //! The types of a package, while they are made: each unnamed one once.
 ghost use Rattle.std.specs.Prelude.{◌≡◌, ◌+◌, ℕ, None, Some, [], ◌∷◌, ◌++◌, ◌↔◌, length, IsTrue, IfOk, OnOk, OnErr, IfErr, IfSome, IfNone};
-ghost use Rattle.wit_type_tree.specs.Refusal.{IsWantOfMemory};
+ghost use Rattle.wit_type_tree.specs.Refusal.{IsAllocationFailure};
 ghost use Rattle.wit_types.specs.declared.types.TypeDef.{TypeDef};
-ghost use Rattle.wit_arena.specs.Meet.{settled as the_settled};
+ghost use Rattle.wit_arena.specs.Occurrences.{settled as the_settled};
 ghost use Rattle.wit_arena.specs.Package.{At};
 ghost use Rattle.wit_arena.specs.Resolving.{IsUnnamedOf, IsInterned, named, unnamed};
-ghost use Rattle.wit_intern.specs.Keys.{key_of};
-ghost use Rattle.wit_notes.specs.Notes.{notes_behind};
-ghost use Rattle.wit_entries.specs.Behind.{inner_of};
+ghost use Rattle.wit_intern.specs.TypeKeys.{key_of};
+ghost use Rattle.wit_notes.specs.Metadata.{metadata_view};
+ghost use Rattle.wit_entries.specs.ElementTypes.{inner_of};
 ghost use Rattle.wit_entries.specs.Known.{AreKnown, IsSet};
-ghost use Rattle.wit_entries.specs.Places.{digests_at, keys_at};
-ghost use Rattle.wit_entries.specs.Told.{EndsAt};
-ghost use Rattle.wit_entries.specs.Requiring.{IsGrown};
+ghost use Rattle.wit_entries.specs.Places.{key_hashes_at, keys_at};
+ghost use Rattle.wit_entries.specs.EndsOfEntries.{EndsAt};
+ghost use Rattle.wit_entries.specs.Requiring.{IsExtended};
 
 use crate::ends::{End, add_entry, end_at};
 use crate::settling::settled;
@@ -19,7 +19,7 @@ use crate::table::KeyTable;
 use std::alloc::{AllocError, Global};
 use std::marker::Model;
 use wit_intern::InternKey;
-use wit_notes::Notes;
+use wit_notes::Metadata;
 use wit_tree::{ParseResult, Span};
 use wit_types::{
     Arena, Docs, Stability, Type, TypeDef, TypeDefKind, TypeId, TypeOwner, TypePlace, is_same_kind,
@@ -31,7 +31,7 @@ use wit_values::{Rare, Text};
 /// Contracts see the list of the entries.
 pub struct Entries {
     arena: Arena<TypeDef, TypePlace>,
-    // Each unnamed entry stands here; a place that was meant for a refused one may stand here too.
+    // Each unnamed entry is here; a place that was meant for a refused one may be here too.
     table: KeyTable,
     // Where each entry ends.
     ends: Vec<End>,
@@ -51,14 +51,14 @@ impl Model for Entries {
     ghost use Rattle.std.specs.Prelude.{List};
     ghost use Rattle.wit_types.specs.declared.types.TypeDef.{TypeDef};
     ghost use Rattle.wit_entries.specs.Known.{AreKnown};
-    ghost use Rattle.wit_entries.specs.Places.{digests_at, keys_at};
-    ghost use Rattle.wit_entries.specs.Told.{AreTold};
+    ghost use Rattle.wit_entries.specs.Places.{key_hashes_at, keys_at};
+    ghost use Rattle.wit_entries.specs.EndsOfEntries.{AreAsStated};
 
     ghost Value = { List TypeDef };
 
     ghost view = { λ e. e.arena };
 
-    ghost invariant = { λ e. AreKnown (digests_at e.table) (keys_at e.table) e.arena × AreTold e.ends.items e.arena };
+    ghost invariant = { λ e. AreKnown (key_hashes_at e.table) (keys_at e.table) e.arena × AreAsStated e.ends.items e.arena };
 }
 
 /// Whether an entry is the unnamed type of a kind.
@@ -82,7 +82,7 @@ fn find_unnamed(types: &Arena<TypeDef, TypePlace>, kind: &TypeDefKind) -> Option
     None
 }
 
-/// The place, where the unnamed type of a kind stands there.
+/// The place, where the unnamed type of a kind is there.
 fn confirmed(types: &Arena<TypeDef, TypePlace>, id: TypeId, kind: &TypeDefKind) -> Option<TypeId>
     ensures found { IfSome result (λ i. (e : TypeDef) × At types.now i e × IsUnnamedOf kind.now e) }
     ensures none { IfNone result ((e : TypeDef) → At types.now id e → IsUnnamedOf kind.now e → ⊥) }
@@ -105,9 +105,9 @@ fn inner_of(kind: &TypeDefKind) -> Option<TypeId>
     }
 }
 
-/// The unnamed type of a kind, if it stands right behind the unnamed type that it is made of: there it
+/// The unnamed type of a kind, if it is right after the unnamed type that it is made of: there it
 /// was added if that was new too.
-fn find_behind(types: &Arena<TypeDef, TypePlace>, kind: &TypeDefKind) -> Option<TypeId>
+fn find_aliased(types: &Arena<TypeDef, TypePlace>, kind: &TypeDefKind) -> Option<TypeId>
     ensures found { IfSome result (λ i. (e : TypeDef) × At types.now i e × IsUnnamedOf kind.now e) }
     ensures none { IfNone result ((i : ℕ) (inner e : TypeDef) → inner_of kind.now ≡ Some i → At types.now i inner → inner.name ≡ None → At types.now (i + 1) e → IsUnnamedOf kind.now e → ⊥) }
 {
@@ -125,8 +125,8 @@ fn find_behind(types: &Arena<TypeDef, TypePlace>, kind: &TypeDefKind) -> Option<
 
 /// Sets a place at a key, if there is a key.
 fn set(table: &mut KeyTable, key: Option<InternKey>, id: TypeId) -> Result<(), AllocError>
-    ensures set { OnOk result (IsSet key id (digests_at table.old) (keys_at table.old) (digests_at table.new) (keys_at table.new)) }
-    ensures digests_stay { OnErr result (digests_at table.new ≡ digests_at table.old) }
+    ensures set { OnOk result (IsSet key id (key_hashes_at table.old) (keys_at table.old) (key_hashes_at table.new) (keys_at table.new)) }
+    ensures key_hashes_stay { OnErr result (key_hashes_at table.new ≡ key_hashes_at table.old) }
     ensures keys_stay { OnErr result (keys_at table.new ≡ keys_at table.old) }
 {
     match key {
@@ -159,30 +159,30 @@ impl Entries {
         arena
     }
 
-    /// Adds a named entry, with its notes, behind the others.
+    /// Adds a named entry, with its metadata, after the others.
     ///
-    /// The error is want of memory.
+    /// The error is a failed allocation.
     pub fn add_named(
         &mut self,
         owner: TypeOwner,
         name: Text,
         kind: TypeDefKind,
-        notes: Notes,
+        metadata: Metadata,
         span: Span,
     ) -> ParseResult<TypeId>
         ensures id { IfOk result (λ id. id ≡ length self.old) }
-        ensures added { OnOk result (self.new ≡ self.old ++ named owner name kind (notes_behind notes) span ∷ []) }
-        ensures grown { IsGrown self.old self.new }
-        ensures refused { IfErr result IsWantOfMemory }
+        ensures added { OnOk result (self.new ≡ self.old ++ named owner name kind (metadata_view metadata) span ∷ []) }
+        ensures extended { IsExtended self.old self.new }
+        ensures refused { IfErr result IsAllocationFailure }
     {
         let entry = TypeDef {
             name: Some(name),
             kind,
             owner,
-            docs: notes.docs,
-            stability: notes.stability,
+            docs: metadata.docs,
+            stability: metadata.stability,
             span,
-            external_id: notes.external_id,
+            external_id: metadata.external_id,
         };
         let id = add_entry(&mut self.arena, &mut self.ends, entry)?;
         Ok(id)
@@ -201,7 +201,7 @@ impl Entries {
         ensures found { IfSome result (λ i. (e : TypeDef) × At self.now i e × IsUnnamedOf kind.now e) }
         ensures none { IfNone result ((j : ℕ) (e : TypeDef) → At self.now j e → IsUnnamedOf kind.now e → ⊥) }
     {
-        if let Some(id) = self.table.at_digest(key) {
+        if let Some(id) = self.table.at_key_hash(key) {
             if let Some(found) = confirmed(&self.arena, id, kind) {
                 return Some(found);
             }
@@ -225,9 +225,9 @@ impl Entries {
     }
 
     /// Adds the unnamed type of a kind that has none yet, written at `span` in a definition of the
-    /// stability `given`, behind the others.
+    /// stability `given`, after the others.
     ///
-    /// The error is want of memory. It stands by itself since a `TypeDef` is large: what finds one
+    /// The error is a failed allocation. It is by itself since a `TypeDef` is large: what finds one
     /// needs no room for it.
     #[inline(never)]
     fn add_unnamed(
@@ -241,8 +241,8 @@ impl Entries {
         requires missing { (j : ℕ) (e : TypeDef) → At self.old j e → IsUnnamedOf kind e → ⊥ }
         ensures id { IfOk result (λ id. id ≡ length self.old) }
         ensures added { OnOk result (self.new ≡ self.old ++ unnamed kind (the_settled self.old given.now kind) span ∷ []) }
-        ensures grown { IsGrown self.old self.new }
-        ensures refused { IfErr result IsWantOfMemory }
+        ensures extended { IsExtended self.old self.new }
+        ensures refused { IfErr result IsAllocationFailure }
     {
         let stability = settled(&self.arena, given, &kind)?;
         set(&mut self.table, key, self.arena.next_id())?;
@@ -262,8 +262,8 @@ impl Entries {
     /// The unnamed type of a kind; a new entry, written at `span` in a definition of the stability
     /// `given`, only if there is none.
     ///
-    /// The error is want of memory. Types that are nested one in the other are mostly found at once, each
-    /// right behind the one in it.
+    /// The error is a failed allocation. Types that are nested one in the other are mostly found at once, each
+    /// right after the one in it.
     pub fn intern(
         &mut self,
         kind: TypeDefKind,
@@ -271,10 +271,10 @@ impl Entries {
         span: Span,
     ) -> ParseResult<TypeId>
         ensures interned { IfOk result (λ id. IsInterned self.old self.new kind given.now span id) }
-        ensures grown { IsGrown self.old self.new }
-        ensures refused { IfErr result IsWantOfMemory }
+        ensures extended { IsExtended self.old self.new }
+        ensures refused { IfErr result IsAllocationFailure }
     {
-        if let Some(id) = find_behind(&self.arena, &kind) {
+        if let Some(id) = find_aliased(&self.arena, &kind) {
             return Ok(id);
         }
         let key = InternKey::of(&kind)?;

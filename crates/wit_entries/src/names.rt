@@ -1,6 +1,6 @@
-//! Names that are written in types: what they stand for, and whether a handle may name them.
+//! Names that are written in types: what they mean, and whether a handle may name them.
 ghost use Rattle.std.specs.Prelude.{◌≡◌, ◌⊎◌, List, [], ◌∷◌, IfOk, IfErr, OnOk, Some};
-ghost use Rattle.wit_type_tree.specs.Refusal.{IsWantOfMemory};
+ghost use Rattle.wit_type_tree.specs.Refusal.{IsAllocationFailure};
 ghost use Rattle.wit_syntax.specs.Fault.{fault, fault_of};
 ghost use Rattle.wit_syntax.specs.Broken.{Refused};
 ghost use Rattle.wit_arena.specs.Resolving.{env_of, IsUnknown, IsWrongWord};
@@ -10,13 +10,13 @@ use crate::ends::End;
 use crate::entries::Entries;
 use crate::scope::Required;
 use std::alloc::Global;
+use wit_maps::TextTable;
 use wit_refusals::refusal::{refuse_in, refuse_missing_type};
 use wit_tree::tree::Id;
 use wit_tree::{ParseError, ParseResult};
 use wit_types::TypeId;
-use wit_maps::TextTable;
 
-/// What a name of the scope stands for.
+/// What a name of the scope means.
 pub fn find_name(alloc: Global, names: &TextTable<TypeId>, id: Id<'_>) -> ParseResult<TypeId>
     ensures found { IfOk result (λ place. env_of names.now id.entry.name.now ≡ Some place) }
     ensures refused { IfErr result (Refused (IsUnknown (env_of names.now) (id.entry ∷ []))) }
@@ -31,16 +31,16 @@ pub fn find_name(alloc: Global, names: &TextTable<TypeId>, id: Id<'_>) -> ParseR
 #[cold]
 #[inline(never)]
 fn refuse_handle(alloc: Global, id: Id<'_>) -> ParseError
-    ensures { IsWantOfMemory result ⊎ (fault_of result ≡ fault 27 id.entry.span) }
+    ensures { IsAllocationFailure result ⊎ (fault_of result ≡ fault 27 id.entry.span) }
 {
     let name = id.name;
     let words = format!(in alloc; "type `{name}` used in a handle must be a resource");
     refuse_in(27, id.span, words)
 }
 
-/// What a name in a handle stands for: a resource, or a type of another package, which has to be one.
+/// What a name in a handle means: a resource, or a type of another package, which has to be one.
 ///
-/// A refusal is E15, E27, or want of memory.
+/// A refusal is E15, E27, or a failed allocation.
 pub fn find_resource(
     alloc: Global,
     types: &Entries,

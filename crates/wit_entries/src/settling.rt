@@ -1,8 +1,8 @@
-//! The stability of an unnamed type: that of the definition that it stands in, or of its parts.
+//! The stability of an unnamed type: that of the definition that it is in, or of its parts.
 ghost use Rattle.std.specs.Prelude.{◌≡◌, IfOk};
 ghost use Rattle.std.specs.Option.{option_copied};
 ghost use Rattle.wit_types.specs.Types.{handled};
-ghost use Rattle.wit_arena.specs.Meet.{stability_at, settled as the_settled};
+ghost use Rattle.wit_arena.specs.Occurrences.{stability_at, settled as the_settled};
 ghost use Rattle.wit_entries.specs.Settled.{known as the_known, slot_stability, known_in_slots, known_in_parts};
 
 use std::alloc::AllocError;
@@ -19,7 +19,7 @@ fn known(stability: &Stability) -> Option<&Stability>
     }
 }
 
-/// The stability of what a type stands for, where it is known; of a primitive none is.
+/// The stability of what a type means, where it is known; of a primitive none is.
 fn known_at(types: &Arena<TypeDef, TypePlace>, ty: Type) -> Option<&Stability>
     ensures { option_copied result ≡ the_known (stability_at types.now ty) }
 {
@@ -35,7 +35,7 @@ fn known_at(types: &Arena<TypeDef, TypePlace>, ty: Type) -> Option<&Stability>
     }
 }
 
-/// The same of what stands in a slot of a kind.
+/// The same of what is in a slot of a kind.
 fn known_in_slot(types: &Arena<TypeDef, TypePlace>, in_slot: Option<Type>) -> Option<&Stability>
     ensures { option_copied result ≡ the_known (slot_stability types.now in_slot) }
 {
@@ -82,8 +82,8 @@ fn first_in_parts<'e>(
     }
 }
 
-/// The stability of an unnamed type of a kind that is added behind these types: that of the definition
-/// that it stands in, where this is known, else the first known one of its parts.
+/// The stability of an unnamed type of a kind that is added after these types: that of the definition
+/// that it is in, where this is known, else the first known one of its parts.
 pub(crate) fn settled(
     types: &Arena<TypeDef, TypePlace>,
     given: &Stability,

@@ -1,7 +1,7 @@
 //! Written types, as types of the arena.
 ghost use Rattle.std.specs.Prelude.{◌≡◌, ◌++◌, IfOk, IfErr, OnOk, is_some};
 ghost use Rattle.std.specs.Option.{option_to_list};
-ghost use Rattle.wit_type_tree.specs.Refusal.{IsWantOfMemory};
+ghost use Rattle.wit_type_tree.specs.Refusal.{IsAllocationFailure};
 ghost use Rattle.wit_type_tree.specs.Parts.{ok_type, err_type, result_types, boxed_types};
 ghost use Rattle.wit_syntax.specs.Node.{primitive_type as the_primitive_type};
 ghost use Rattle.wit_syntax.specs.Shape.{shape_of, handles, all_handles};
@@ -9,23 +9,23 @@ ghost use Rattle.wit_syntax.specs.Fault.{Fault};
 ghost use Rattle.wit_syntax.specs.Bodies.{IsBrokenType, IsBrokenPart};
 ghost use Rattle.wit_syntax.specs.Broken.{Refused};
 ghost use Rattle.wit_arena.specs.Resolving.{env_of, IsWrongType, AreWrongTypes};
-ghost use Rattle.wit_entries.specs.Reading.{IsResolved, AreTypes, IsLeaf, IsList, IsRead, StandsFor, named_kind as the_named_kind};
-ghost use Rattle.wit_entries.specs.Requiring.{IsGrown, Requires};
+ghost use Rattle.wit_entries.specs.Reading.{IsResolved, AreTypes, IsLeaf, IsList, IsRead, Denotes, named_kind as the_named_kind};
+ghost use Rattle.wit_entries.specs.Requiring.{IsExtended, Requires};
 
 use crate::entries::Entries;
 use crate::names::{find_name, find_resource};
 use crate::scope::Required;
 use std::alloc::Global;
+use wit_maps::TextTable;
 use wit_rules::rules::{check_key, check_tuple};
 use wit_tree::{ParseResult, Span, tree};
 use wit_types::{Handle, Result_, Stability, Tuple, Type, TypeDefKind, TypeId};
-use wit_maps::TextTable;
 use wit_values::Row;
 
 /// A written type over its resolved parts.
 #[derive(Drop)]
 pub enum Reading {
-    /// A primitive, or what a name stands for.
+    /// A primitive, or what a name means.
     Leaf(Type),
     /// The kind of a form, which is written at the span.
     Form(TypeDefKind, Span),
@@ -53,12 +53,12 @@ fn primitive_type(primitive: tree::Primitive) -> Type
     }
 }
 
-/// The type that this is; a form's kind is interned, where it stands in a definition of the stability
+/// The type that this is; a form's kind is interned, where it is in a definition of the stability
 /// `given`.
 fn type_of(types: &mut Entries, given: &Stability, reading: Reading) -> ParseResult<Type>
-    ensures stands { IfOk result (StandsFor types.old types.new given.now reading) }
-    ensures grown { IsGrown types.old types.new }
-    ensures refused { IfErr result IsWantOfMemory }
+    ensures present { IfOk result (Denotes types.old types.new given.now reading) }
+    ensures extended { IsExtended types.old types.new }
+    ensures refused { IfErr result IsAllocationFailure }
 {
     match reading {
         Reading::Leaf(ty) => Ok(ty),
@@ -82,7 +82,7 @@ pub fn read(
     ensures read { IfOk result (IsRead types.old types.new (env_of names.now) given.now (shape_of ty.now)) }
     ensures legal { OnOk result ((f : Fault) → IsBrokenType ty.now f → ⊥) }
     ensures handled { OnOk result (Requires (env_of names.now) types.new (handles ty.now) required.old.items required.new.items) }
-    ensures grown { IsGrown types.old types.new }
+    ensures extended { IsExtended types.old types.new }
     ensures refused { IfErr result (Refused (IsWrongType (env_of names.now) types.new ty.now)) }
 {
     if let tree::Type::Primitive(_, primitive) = ty {
@@ -103,7 +103,7 @@ pub fn read(
     read_form(alloc, types, names, required, given, ty)
 }
 
-/// A form but a list, and no resource that is handed over. It stands by itself since each of its calls has room for
+/// A form but a list, and no resource that is handed over. It is by itself since each of its calls has room for
 /// a refusal: a list, the form that is nested most, needs room for its own alone.
 #[cycle(types)]
 #[inline(never)]
@@ -120,7 +120,7 @@ fn read_form(
     ensures read { IfOk result (IsRead types.old types.new (env_of names.now) given.now (shape_of ty.now)) }
     ensures legal { OnOk result ((f : Fault) → IsBrokenType ty.now f → ⊥) }
     ensures handled { OnOk result (Requires (env_of names.now) types.new (handles ty.now) required.old.items required.new.items) }
-    ensures grown { IsGrown types.old types.new }
+    ensures extended { IsExtended types.old types.new }
     ensures refused { IfErr result (Refused (IsWrongType (env_of names.now) types.new ty.now)) }
 {
     match ty {
@@ -163,7 +163,7 @@ fn read_form(
     }
 }
 
-/// The types that those of a result stand for, that of the value first.
+/// The types that those of a result mean, that of the value first.
 #[cycle(types)]
 fn resolve_result(
     alloc: Global,
@@ -178,7 +178,7 @@ fn resolve_result(
     ensures resolved { IfOk result (λ r. AreTypes types.old types.new (env_of names.now) given.now (result_types parts.now) (option_to_list r.ok ++ option_to_list r.err)) }
     ensures legal { OnOk result ((f : Fault) → IsBrokenPart (result_types parts.now) f → ⊥) }
     ensures handled { OnOk result (Requires (env_of names.now) types.new (all_handles (result_types parts.now)) required.old.items required.new.items) }
-    ensures grown { IsGrown types.old types.new }
+    ensures extended { IsExtended types.old types.new }
     ensures refused { IfErr result (Refused (AreWrongTypes (env_of names.now) types.new (result_types parts.now))) }
 {
     match parts {
@@ -209,7 +209,7 @@ fn resolve_result(
     }
 }
 
-/// The type that a written one stands for, where there is one.
+/// The type that a written one means, where there is one.
 #[cycle(types)]
 fn resolve_optional(
     alloc: Global,
@@ -223,7 +223,7 @@ fn resolve_optional(
     ensures resolved { IfOk result (λ r. AreTypes types.old types.new (env_of names.now) given.now (boxed_types ty.now) (option_to_list r)) }
     ensures legal { OnOk result ((f : Fault) → IsBrokenPart (boxed_types ty.now) f → ⊥) }
     ensures handled { OnOk result (Requires (env_of names.now) types.new (all_handles (boxed_types ty.now)) required.old.items required.new.items) }
-    ensures grown { IsGrown types.old types.new }
+    ensures extended { IsExtended types.old types.new }
     ensures refused { IfErr result (Refused (AreWrongTypes (env_of names.now) types.new (boxed_types ty.now))) }
 {
     match ty {
@@ -235,7 +235,7 @@ fn resolve_optional(
     }
 }
 
-/// The types that written ones stand for, in their order.
+/// The types that written ones mean, in their order.
 #[cycle(types)]
 fn resolve_types(
     alloc: Global,
@@ -248,7 +248,7 @@ fn resolve_types(
     ensures resolved { IfOk result (λ r. AreTypes types.old types.new (env_of names.now) given.now parts.now r) }
     ensures legal { OnOk result ((f : Fault) → IsBrokenPart parts.now f → ⊥) }
     ensures handled { OnOk result (Requires (env_of names.now) types.new (all_handles parts.now) required.old.items required.new.items) }
-    ensures grown { IsGrown types.old types.new }
+    ensures extended { IsExtended types.old types.new }
     ensures refused { IfErr result (Refused (AreWrongTypes (env_of names.now) types.new parts.now)) }
 {
     let mut resolved = Vec::with_capacity(alloc, parts.len())?;
@@ -259,9 +259,9 @@ fn resolve_types(
     Ok(Row::from(resolved))
 }
 
-/// The type that a written one stands for.
+/// The type that a written one means.
 ///
-/// A refusal is E15, E22, E26 or E27 at a type in it, or want of memory.
+/// A refusal is E15, E22, E26 or E27 at a type in it, or a failed allocation.
 #[cycle(types)]
 pub fn resolve_type(
     alloc: Global,
@@ -274,7 +274,7 @@ pub fn resolve_type(
     ensures resolved { IfOk result (IsResolved types.old types.new (env_of names.now) given.now (shape_of ty.now)) }
     ensures legal { OnOk result ((f : Fault) → IsBrokenType ty.now f → ⊥) }
     ensures handled { OnOk result (Requires (env_of names.now) types.new (handles ty.now) required.old.items required.new.items) }
-    ensures grown { IsGrown types.old types.new }
+    ensures extended { IsExtended types.old types.new }
     ensures refused { IfErr result (Refused (IsWrongType (env_of names.now) types.new ty.now)) }
 {
     let reading = read(alloc, types, names, required, given, ty)?;

@@ -1,4 +1,4 @@
--- What stands on each side once names are defined there, and names of what stands there that clash.
+-- What is on each side once names are defined there, and names of what is there that clash.
 use Rattle.std.proofs.Common.{◌≡◌, ℕ, ◌+◌, Bool, List, [], ◌∷◌, ◌++◌, length, take, drop, map, Some, None, refl, sym, ap, ◌∙◌, subst, append_assoc, arith}
 use Rattle.std.specs.Prelude.{slice_get, Result, Ok, Err, OnOk}
 use Rattle.std.proofs.lemmas.Bool.{cond-true}
@@ -14,17 +14,17 @@ use Rattle.wit_tree.specs.declared.tree.WorldSide.TheVariants.{Imported, Exporte
 use Rattle.wit_syntax.specs.Fault.{Fault}
 use Rattle.wit_syntax.specs.Function.{Role, Freestanding, Method, Static, Constructor, OnSide}
 use Rattle.wit_syntax.specs.Repeats.{AllDiffer}
-use Rattle.wit_syntax.specs.Crossing.{same_side}
-use Rattle.wit_syntax.specs.Sides.{role_side, names_on, SideItem, item_side, items_on, IsCrossing}
-use Rattle.wit_syntax.proofs.Lists.{at_front, at_back}
+use Rattle.wit_syntax.specs.ExternPart.{same_side}
+use Rattle.wit_syntax.specs.Sides.{role_side, names_on, SideItem, item_side, items_on, IsExternPart}
+use Rattle.wit_syntax.proofs.Lists.{at_prefix, at_back}
 use Rattle.wit_syntax.proofs.Addresses.{side_itself}
-use Rattle.wit_refusals.specs.Names.{Name, IsTaken, IsDefinedAgain}
+use Rattle.wit_refusals.specs.Names.{Name, AreUsed, IsDefinedAgain}
 use Rattle.wit_refusals.specs.Scope.{HasName}
 use Rattle.wit_sides.specs.Sides.{only_on}
-use Rattle.wit_rules.specs.Held.{across_of}
-use Rattle.wit_signatures.specs.Taken.{name_key, IsTwiceAmong}
+use Rattle.wit_rules.specs.Borrowed.{across_of}
+use Rattle.wit_signatures.specs.ForeignName.{name_key, IsTwiceAmong}
 use Rattle.wit_externs.specs.Clash.{item_names, names_of_items, IsCrossedAmong, IsClash, Folded, Crossed, IsCrossed}
-use Rattle.wit_externs.proofs.Named.{again_twice, twice_front, keys_more}
+use Rattle.wit_externs.proofs.Named.{again_twice, twice_prefix, keys_more}
 use Rattle.wit_externs.proofs.Steps.{kept_split, kept_next, kept_one}
 
 -- what a role says of sides
@@ -48,35 +48,35 @@ types_more Imported old mid new ns ms n more before after = after ∙ ap (λ (l 
 types_more Exported old mid new ns ms n more before after = after ∙ append-nil mid ∙ before
 
 -- the keys on a side differ where a name is defined on one that is not taken there
-one_side : (s side : WorldSide) (old new : WorldSide → List Name) (name : List ℕ) (span : Span) → new s ≡ old s ++ only_on s side (name, span) → (IsTaken (old side) name → ⊥) → AllDiffer (map name_key (old s)) → AllDiffer (map name_key (new s))
+one_side : (s side : WorldSide) (old new : WorldSide → List Name) (name : List ℕ) (span : Span) → new s ≡ old s ++ only_on s side (name, span) → (AreUsed (old side) name → ⊥) → AllDiffer (map name_key (old s)) → AllDiffer (map name_key (new s))
 one_side Imported Imported old new name span defined free d = subst (λ (l : List Name). AllDiffer (map name_key l)) (sym defined) (keys_more (old Imported) name span free d)
 one_side Exported Exported old new name span defined free d = subst (λ (l : List Name). AllDiffer (map name_key l)) (sym defined) (keys_more (old Exported) name span free d)
 one_side Imported Exported old new name span defined free d = subst (λ (l : List Name). AllDiffer (map name_key l)) (sym (defined ∙ append-nil (old Imported))) d
 one_side Exported Imported old new name span defined free d = subst (λ (l : List Name). AllDiffer (map name_key l)) (sym (defined ∙ append-nil (old Exported))) d
 
-pub sides_differ : (side : WorldSide) (old new : WorldSide → List Name) (name : List ℕ) (span : Span) → ((s : WorldSide) → new s ≡ old s ++ only_on s side (name, span)) → (IsTaken (old side) name → ⊥) → (s : WorldSide) → AllDiffer (map name_key (old s)) → AllDiffer (map name_key (new s))
+pub sides_differ : (side : WorldSide) (old new : WorldSide → List Name) (name : List ℕ) (span : Span) → ((s : WorldSide) → new s ≡ old s ++ only_on s side (name, span)) → (AreUsed (old side) name → ⊥) → (s : WorldSide) → AllDiffer (map name_key (old s)) → AllDiffer (map name_key (new s))
 sides_differ side old new name span defined free s d = one_side s side old new name span (defined s) free d
 
-pub name_differs : {T E : Type 0} (r : Result T E) (side : WorldSide) (old new : WorldSide → List Name) (name : List ℕ) (span : Span) → OnOk r ((s : WorldSide) → new s ≡ old s ++ only_on s side (name, span)) → OnOk r (IsTaken (old side) name → ⊥) → OnOk r ((s : WorldSide) → AllDiffer (map name_key (old s)) → AllDiffer (map name_key (new s)))
+pub name_differs : {T E : Type 0} (r : Result T E) (side : WorldSide) (old new : WorldSide → List Name) (name : List ℕ) (span : Span) → OnOk r ((s : WorldSide) → new s ≡ old s ++ only_on s side (name, span)) → OnOk r (AreUsed (old side) name → ⊥) → OnOk r ((s : WorldSide) → AllDiffer (map name_key (old s)) → AllDiffer (map name_key (new s)))
 name_differs (Ok x) side old new name span defined free = sides_differ side old new name span defined free
 name_differs (Err e) side old new name span defined free = tt
 
 -- what passes the test of a side
-abbrev stands_on : WorldSide → SideItem → Bool
-stands_on s x = same_side s (item_side x)
+abbrev members_on : WorldSide → SideItem → Bool
+members_on s x = same_side s (item_side x)
 
 -- the name of an item is all that it adds to a side, and one without a name adds nothing
 pub item_on : (s side : WorldSide) (x : SideItem) (n : Name) → item_side x ≡ side → item_names x ≡ n ∷ [] → only_on s side n ≡ names_of_items (items_on s (x ∷ []))
-item_on s side x n there named = ap (λ (t : WorldSide). only_on s t n) (sym there) ∙ kept_one item_names (stands_on s) x (n ∷ []) named
+item_on s side x n there named = ap (λ (t : WorldSide). only_on s t n) (sym there) ∙ kept_one item_names (members_on s) x (n ∷ []) named
 
 -- of what a definition says of its result, as the name of an item
 pub item_defined : {T E : Type 0} (r : Result T E) (x : SideItem) (side : WorldSide) (old new : WorldSide → List Name) (name : List ℕ) (span : Span) → item_side x ≡ side → item_names x ≡ (name, span) ∷ [] → OnOk r ((s : WorldSide) → new s ≡ old s ++ only_on s side (name, span)) → OnOk r ((s : WorldSide) → new s ≡ old s ++ names_of_items (items_on s (x ∷ [])))
 item_defined (Ok done) x side old new name span there named defined = λ s. defined s ∙ ap (λ (l : List Name). old s ++ l) (item_on s side x (name, span) there named)
 item_defined (Err e) x side old new name span there named defined = tt
 
--- an item stands alone on its side
+-- an item is alone on its side
 alone : (side : WorldSide) (x : SideItem) → item_side x ≡ side → items_on side (x ∷ []) ≡ x ∷ []
-alone side x there = cond-true (stands_on side x) (x ∷ []) [] (ap (same_side side) there ∙ side_itself side)
+alone side x there = cond-true (members_on side x) (x ∷ []) [] (ap (same_side side) there ∙ side_itself side)
 
 -- an item whose name is taken on its side clashes
 pub clash_again : (x : SideItem) (side : WorldSide) (old : WorldSide → List Name) (name : List ℕ) (span : Span) (f : Fault) → item_side x ≡ side → item_names x ≡ (name, span) ∷ [] → IsDefinedAgain (old side) name span f → IsClash old (x ∷ []) f
@@ -84,7 +84,7 @@ clash_again x side old name span f there named again =
     let names : (name, span) ∷ [] ≡ names_of_items (items_on side (x ∷ [])) = sym named ∙ sym (append-nil (item_names x)) ∙ ap names_of_items (sym (alone side x there)) in
     Folded side (subst (λ (l : List Name). IsTwiceAmong (old side ++ l) f) names (again_twice (old side) name span f again))
 
-pub clash_crossed : (x : SideItem) (side : WorldSide) (old : WorldSide → List Name) (name : List ℕ) (span : Span) (f : Fault) → item_side x ≡ side → item_names x ≡ (name, span) ∷ [] → IsCrossing x → IsCrossed (old side) name span f → IsClash old (x ∷ []) f
+pub clash_crossed : (x : SideItem) (side : WorldSide) (old : WorldSide → List Name) (name : List ℕ) (span : Span) (f : Fault) → item_side x ≡ side → item_names x ≡ (name, span) ∷ [] → IsExternPart x → IsCrossed (old side) name span f → IsClash old (x ∷ []) f
 clash_crossed x side old name span f there named crosses crossed =
     Crossed side (record {
       place = 0;
@@ -93,41 +93,41 @@ clash_crossed x side old name span f there named crosses crossed =
       crosses = crosses;
       name = (name, span);
       named = named;
-      taken = subst (λ (l : List Name). HasName l name) (sym (append-nil (old side))) crossed.taken;
+      in_use = subst (λ (l : List Name). HasName l name) (sym (append-nil (old side))) crossed.in_use;
       is = crossed.is;
     })
 
--- names of items behind those of others
-names_behind : (old : List Name) (front mid : List SideItem) → (old ++ names_of_items front) ++ names_of_items mid ≡ old ++ names_of_items (front ++ mid)
-names_behind old front mid = append_assoc old (names_of_items front) (names_of_items mid) ∙ ap (λ (l : List Name). old ++ l) (sym (flat_map-append item_names front mid))
+-- names of items after those of others
+names_view : (old : List Name) (prefix mid : List SideItem) → (old ++ names_of_items prefix) ++ names_of_items mid ≡ old ++ names_of_items (prefix ++ mid)
+names_view old prefix mid = append_assoc old (names_of_items prefix) (names_of_items mid) ∙ ap (λ (l : List Name). old ++ l) (sym (flat_map-append item_names prefix mid))
 
-twice_between : (old : List Name) (front mid back : List SideItem) (f : Fault) → IsTwiceAmong ((old ++ names_of_items front) ++ names_of_items mid) f → IsTwiceAmong (old ++ names_of_items (front ++ (mid ++ back))) f
-twice_between old front mid back f twice =
-    let whole : ((old ++ names_of_items front) ++ names_of_items mid) ++ names_of_items back ≡ old ++ names_of_items (front ++ (mid ++ back)) = ap (λ (l : List Name). l ++ names_of_items back) (names_behind old front mid) ∙ names_behind old (front ++ mid) back ∙ ap (λ (l : List SideItem). old ++ names_of_items l) (append_assoc front mid back) in
-    subst (λ (l : List Name). IsTwiceAmong l f) whole (twice_front ((old ++ names_of_items front) ++ names_of_items mid) (names_of_items back) f twice)
+twice_between : (old : List Name) (prefix mid back : List SideItem) (f : Fault) → IsTwiceAmong ((old ++ names_of_items prefix) ++ names_of_items mid) f → IsTwiceAmong (old ++ names_of_items (prefix ++ (mid ++ back))) f
+twice_between old prefix mid back f twice =
+    let whole : ((old ++ names_of_items prefix) ++ names_of_items mid) ++ names_of_items back ≡ old ++ names_of_items (prefix ++ (mid ++ back)) = ap (λ (l : List Name). l ++ names_of_items back) (names_view old prefix mid) ∙ names_view old (prefix ++ mid) back ∙ ap (λ (l : List SideItem). old ++ names_of_items l) (append_assoc prefix mid back) in
+    subst (λ (l : List Name). IsTwiceAmong l f) whole (twice_prefix ((old ++ names_of_items prefix) ++ names_of_items mid) (names_of_items back) f twice)
 
-crossed_between : (old : List Name) (front mid back : List SideItem) (f : Fault) → IsCrossedAmong (old ++ names_of_items front) mid f → IsCrossedAmong old (front ++ (mid ++ back)) f
-crossed_between old front mid back f crossed =
+crossed_between : (old : List Name) (prefix mid back : List SideItem) (f : Fault) → IsCrossedAmong (old ++ names_of_items prefix) mid f → IsCrossedAmong old (prefix ++ (mid ++ back)) f
+crossed_between old prefix mid back f crossed =
     let p = crossed.place in
     let within = slice_get_within mid p crossed.later crossed.at in
-    let before : front ++ take p mid ≡ take (length front + p) (front ++ (mid ++ back)) = ap (λ (l : List SideItem). front ++ l) (sym (take-append-le p mid back (omega arith))) ∙ sym (take-append-add front (mid ++ back) p) in
+    let before : prefix ++ take p mid ≡ take (length prefix + p) (prefix ++ (mid ++ back)) = ap (λ (l : List SideItem). prefix ++ l) (sym (take-append-le p mid back (omega arith))) ∙ sym (take-append-add prefix (mid ++ back) p) in
     record {
-      place = length front + p;
+      place = length prefix + p;
       later = crossed.later;
-      at = at_back front (mid ++ back) p crossed.later (at_front mid back p crossed.later crossed.at);
+      at = at_back prefix (mid ++ back) p crossed.later (at_prefix mid back p crossed.later crossed.at);
       crosses = crossed.crosses;
       name = crossed.name;
       named = crossed.named;
-      taken = subst (λ (l : List Name). HasName l crossed.name.0) (names_behind old front (take p mid) ∙ ap (λ (l : List SideItem). old ++ names_of_items l) before) crossed.taken;
+      in_use = subst (λ (l : List Name). HasName l crossed.name.0) (names_view old prefix (take p mid) ∙ ap (λ (l : List SideItem). old ++ names_of_items l) before) crossed.in_use;
       is = crossed.is;
     }
 
--- what clashes behind the items in front of it clashes among all
+-- what clashes after the items before it clashes among all
 pub clash_whole : (old mid : WorldSide → List Name) (xs : List SideItem) (i : ℕ) (x : SideItem) (f : Fault) → slice_get xs i ≡ Some x → ((s : WorldSide) → mid s ≡ old s ++ names_of_items (items_on s (take i xs))) → IsClash mid (x ∷ []) f → IsClash old xs f
 clash_whole old mid xs i x f at before (Folded s twice) =
-    Folded s (subst (λ (l : List SideItem). IsTwiceAmong (old s ++ names_of_items l) f) (sym (kept_split (stands_on s) xs i x at)) (twice_between (old s) (items_on s (take i xs)) (items_on s (x ∷ [])) (items_on s (drop (i + 1) xs)) f (subst (λ (l : List Name). IsTwiceAmong (l ++ names_of_items (items_on s (x ∷ []))) f) (before s) twice)))
+    Folded s (subst (λ (l : List SideItem). IsTwiceAmong (old s ++ names_of_items l) f) (sym (kept_split (members_on s) xs i x at)) (twice_between (old s) (items_on s (take i xs)) (items_on s (x ∷ [])) (items_on s (drop (i + 1) xs)) f (subst (λ (l : List Name). IsTwiceAmong (l ++ names_of_items (items_on s (x ∷ []))) f) (before s) twice)))
 clash_whole old mid xs i x f at before (Crossed s crossed) =
-    Crossed s (subst (λ (l : List SideItem). IsCrossedAmong (old s) l f) (sym (kept_split (stands_on s) xs i x at)) (crossed_between (old s) (items_on s (take i xs)) (items_on s (x ∷ [])) (items_on s (drop (i + 1) xs)) f (subst (λ (l : List Name). IsCrossedAmong l (items_on s (x ∷ [])) f) (before s) crossed)))
+    Crossed s (subst (λ (l : List SideItem). IsCrossedAmong (old s) l f) (sym (kept_split (members_on s) xs i x at)) (crossed_between (old s) (items_on s (take i xs)) (items_on s (x ∷ [])) (items_on s (drop (i + 1) xs)) f (subst (λ (l : List Name). IsCrossedAmong l (items_on s (x ∷ [])) f) (before s) crossed)))
 
 -- and what one more item adds to each side
 pub sides_more : (s : WorldSide) (old mid new : List Name) (xs : List SideItem) (i : ℕ) (x : SideItem) → slice_get xs i ≡ Some x → mid ≡ old ++ names_of_items (items_on s (take i xs)) → new ≡ mid ++ names_of_items (items_on s (x ∷ [])) → new ≡ old ++ names_of_items (items_on s (take (i + 1) xs))
@@ -135,4 +135,4 @@ sides_more s old mid new xs i x at before after =
     after
     ∙ ap (λ (l : List Name). l ++ names_of_items (items_on s (x ∷ []))) before
     ∙ append_assoc old (names_of_items (items_on s (take i xs))) (names_of_items (items_on s (x ∷ [])))
-    ∙ ap (λ (l : List Name). old ++ l) (sym (kept_next item_names (stands_on s) xs i x at))
+    ∙ ap (λ (l : List Name). old ++ l) (sym (kept_next item_names (members_on s) xs i x at))

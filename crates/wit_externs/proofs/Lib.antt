@@ -4,6 +4,6 @@ pub mod NoSetters
 mod PairedNames
 pub mod Steps
 pub mod Clashing
-pub mod Done
-pub mod HeldAt
+pub mod DoneFunctions
+pub mod BorrowedAt
 pub mod Linked

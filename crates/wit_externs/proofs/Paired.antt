@@ -1,4 +1,4 @@
--- Setters whose names stand among those of a scope or of a side, and the getters that go with them.
+-- Setters whose names are among those of a scope or of a side, and the getters that go with them.
 use Rattle.std.proofs.Common.{◌≡◌, ℕ, ◌⊎◌, Bool, List, Some, false, true, inl, inr, sym, ap, ◌∙◌, subst}
 use Rattle.std.specs.Prelude.{slice_get}
 use Rattle.wit_names.specs.Label.{is_label}
@@ -11,10 +11,10 @@ use Rattle.wit_syntax.specs.Function.{SourceFunction}
 use Rattle.wit_syntax.specs.Signature.{IsUnpairedSetter}
 use Rattle.wit_syntax.proofs.Found.{at_contains, contains_at}
 use Rattle.wit_refusals.specs.Names.{Name, IsLoneSetter, IsFirstLoneSetter}
-use Rattle.wit_rules.specs.declared.held.HeldFunction.{HeldFunction}
-use Rattle.wit_rules.specs.Held.{function_behind}
-use Rattle.wit_signatures.specs.Taken.{name_of_function, name_of_id}
-use Rattle.wit_signatures.proofs.Mangling.{no_label-getter_of, no_setter-label, setter_behind, sets_behind}
+use Rattle.wit_rules.specs.declared.borrowed.BorrowedFunction.{BorrowedFunction}
+use Rattle.wit_rules.specs.Borrowed.{function_view}
+use Rattle.wit_signatures.specs.ForeignName.{name_of_function, name_of_id}
+use Rattle.wit_signatures.proofs.Mangling.{no_label-getter_of, no_setter-label, setter_view, sets_view}
 
 -- a text that is both
 both_tests : (b : Bool) → b ≡ false → b ≡ true → ⊥
@@ -27,23 +27,23 @@ getter_no_id id name sets same = both_tests (is_label (getter_of name)) (no_labe
 setter_no_id : (id : Id) (name : List ℕ) → is_setter name ≡ true → id.name.now ≡ name → ⊥
 setter_no_id id name sets same = both_tests (is_setter name) (no_setter-label name (subst (λ n. is_label n ≡ true) same id.label)) sets
 
--- the names are those of functions, which are held, and labels
+-- the names are those of functions, which are borrowed, and labels
 pub record AreNamed (names : List Name) (fns : List SourceFunction) : Type 0 where
   pub has : (j : ℕ) (fn : SourceFunction) → slice_get fns j ≡ Some fn → (i : ℕ) × (slice_get names i ≡ Some (name_of_function fn))
   pub from : (i : ℕ) (n : Name) → slice_get names i ≡ Some n → ((j : ℕ) × (fn : SourceFunction) × (slice_get fns j ≡ Some fn) × (name_of_function fn ≡ n)) ⊎ ((id : Id) × (name_of_id id ≡ n))
-  pub held : (j : ℕ) (fn : SourceFunction) → slice_get fns j ≡ Some fn → (h : HeldFunction) × (function_behind h ≡ fn)
+  pub borrowed : (j : ℕ) (fn : SourceFunction) → slice_get fns j ≡ Some fn → (h : BorrowedFunction) × (function_view h ≡ fn)
 
 module _ (names : List Name) (fns : List SourceFunction) (are : AreNamed names fns) where
   -- a setter among the functions goes by the name of one
   sets_at : (j : ℕ) (fn : SourceFunction) → slice_get fns j ≡ Some fn → fn.func.form ≡ form.Setter → is_setter fn.name ≡ true
   sets_at j fn at setter =
-      let h = are.held j fn at in
-      subst (λ (g : SourceFunction). is_setter g.name ≡ true) h.1 (sets_behind h.0 (subst (λ (g : SourceFunction). g.func.form ≡ form.Setter) (sym h.1) setter))
+      let h = are.borrowed j fn at in
+      subst (λ (g : SourceFunction). is_setter g.name ≡ true) h.1 (sets_view h.0 (subst (λ (g : SourceFunction). g.func.form ≡ form.Setter) (sym h.1) setter))
 
   setter_at : (j : ℕ) (fn : SourceFunction) → slice_get fns j ≡ Some fn → is_setter fn.name ≡ true → fn.func.form ≡ form.Setter
   setter_at j fn at sets =
-      let h = are.held j fn at in
-      subst (λ (g : SourceFunction). g.func.form ≡ form.Setter) h.1 (setter_behind h.0 (subst (λ (g : SourceFunction). is_setter g.name ≡ true) (sym h.1) sets))
+      let h = are.borrowed j fn at in
+      subst (λ (g : SourceFunction). g.func.form ≡ form.Setter) h.1 (setter_view h.0 (subst (λ (g : SourceFunction). is_setter g.name ≡ true) (sym h.1) sets))
 
   -- a setter without its getter among the functions is one among all names
   pub lone_setter : (f : Fault) → IsUnpairedSetter fns f → (i : ℕ) × IsLoneSetter names i

@@ -7,36 +7,36 @@ use Rattle.std.proofs.lemmas.Option.{slice_get-map}
 use Rattle.wit_type_tree.specs.declared.leaves.Id.{Id}
 use Rattle.wit_tree.specs.declared.tree.WorldSide.{WorldSide}
 use Rattle.wit_tree.specs.declared.tree.WorldSide.TheVariants.{Imported, Exported}
-use Rattle.wit_syntax.specs.Crossing.{same_side}
+use Rattle.wit_syntax.specs.ExternPart.{same_side}
 use Rattle.wit_syntax.specs.Function.{SourceFunction}
 use Rattle.wit_syntax.specs.Sides.{role_side, on_side, SideItem, SideFunction, SideLink, SideInline, Link, item_function, item_side, items_on, names_on}
 use Rattle.wit_syntax.proofs.Kept.{kept_at, kept_has}
 use Rattle.wit_syntax.proofs.Lists.{at_back, at_split, flat_map_at, flat_map_has, map_at}
 use Rattle.wit_refusals.specs.Names.{Name}
-use Rattle.wit_rules.specs.declared.held.HeldFunction.{HeldFunction}
-use Rattle.wit_rules.specs.Held.{function_behind}
-use Rattle.wit_signatures.specs.Taken.{name_of_function, name_of_id}
+use Rattle.wit_rules.specs.declared.borrowed.BorrowedFunction.{BorrowedFunction}
+use Rattle.wit_rules.specs.Borrowed.{function_view}
+use Rattle.wit_signatures.specs.ForeignName.{name_of_function, name_of_id}
 use Rattle.wit_externs.specs.Clash.{all_on, item_names, names_of_items}
-use Rattle.wit_externs.specs.Held.{extern_behind, externs_behind}
-use Rattle.wit_externs.specs.declared.held.HeldExtern.{HeldExtern}
-use Rattle.wit_externs.specs.declared.held.HeldExtern.TheVariants as held
+use Rattle.wit_externs.specs.SideMembers.{extern_view, externs_view}
+use Rattle.wit_externs.specs.declared.borrowed.BorrowedExtern.{BorrowedExtern}
+use Rattle.wit_externs.specs.declared.borrowed.BorrowedExtern.TheVariants as borrowed
 use Rattle.wit_externs.proofs.Paired.{AreNamed}
 
 -- the names of a scope of these types and functions
 abbrev pub all_names : List Id → List SourceFunction → List Name
 all_names ids fns = map name_of_id ids ++ map name_of_function fns
 
-pub scope_named : (ids : List Id) (hs : List HeldFunction) → AreNamed (all_names ids (map function_behind hs)) (map function_behind hs)
+pub scope_named : (ids : List Id) (hs : List BorrowedFunction) → AreNamed (all_names ids (map function_view hs)) (map function_view hs)
 scope_named ids hs =
-    let fns = map function_behind hs in
-    let front = map name_of_id ids in
+    let fns = map function_view hs in
+    let prefix = map name_of_id ids in
     record {
-      has = λ j fn at. (length front + j, at_back front (map name_of_function fns) j (name_of_function fn) (slice_get-map name_of_function fns j ∙ ap (option_map name_of_function) at));
-      from = λ i n at. elim (at_split front (map name_of_function fns) i n at) [
+      has = λ j fn at. (length prefix + j, at_back prefix (map name_of_function fns) j (name_of_function fn) (slice_get-map name_of_function fns j ∙ ap (option_map name_of_function) at));
+      from = λ i n at. elim (at_split prefix (map name_of_function fns) i n at) [
         | inl here ↦ (let id = map_at name_of_id ids i n here in inr (id.0, id.2))
         | inr here ↦ (let g = map_at name_of_function fns here.0 n here.2 in inl (here.0, g.0, g.1, g.2))
       ];
-      held = λ j fn at. (let h = map_at function_behind hs j fn at in (h.0, h.2));
+      borrowed = λ j fn at. (let h = map_at function_view hs j fn at in (h.0, h.2));
     }
 
 -- what has a function is that function
@@ -63,15 +63,15 @@ type_one : (side : WorldSide) (ids : List Id) (i : ℕ) (n : Name) → slice_get
 type_one Imported ids i n at = let id = map_at name_of_id ids i n at in (id.0, id.2)
 type_one Exported ids i n at = absurd (let f : ⊥ = cc in f)
 
--- a function that stands there is held
-held_one : (h : HeldExtern) (x : SideItem) (fn : SourceFunction) → extern_behind h ≡ x → x ≡ SideFunction fn → (g : HeldFunction) × (function_behind g ≡ fn)
-held_one (held.Function g) x fn is same = (g, (let both : SideFunction (function_behind g) ≡ SideFunction fn = is ∙ same in cc))
-held_one (held.Link l) x fn is same = absurd (let both = is ∙ same in let f : ⊥ = cc in f)
-held_one (held.Inline i) x fn is same = absurd (let both = is ∙ same in let f : ⊥ = cc in f)
+-- a function that is there is borrowed
+borrowed_one : (h : BorrowedExtern) (x : SideItem) (fn : SourceFunction) → extern_view h ≡ x → x ≡ SideFunction fn → (g : BorrowedFunction) × (function_view g ≡ fn)
+borrowed_one (borrowed.Function g) x fn is same = (g, (let both : SideFunction (function_view g) ≡ SideFunction fn = is ∙ same in cc))
+borrowed_one (borrowed.Link l) x fn is same = absurd (let both = is ∙ same in let f : ⊥ = cc in f)
+borrowed_one (borrowed.Inline i) x fn is same = absurd (let both = is ∙ same in let f : ⊥ = cc in f)
 
-module _ (side : WorldSide) (ids : List Id) (hs : List HeldExtern) where
+module _ (side : WorldSide) (ids : List Id) (hs : List BorrowedExtern) where
   abbrev items : List SideItem
-  items = externs_behind hs
+  items = externs_view hs
 
   abbrev all : List SourceFunction
   all = flat_map item_function items
@@ -79,10 +79,10 @@ module _ (side : WorldSide) (ids : List Id) (hs : List HeldExtern) where
   abbrev there : SourceFunction → Bool
   there fn = same_side side (role_side fn.role)
 
-  abbrev front : List Name
-  front = names_on side (map name_of_id ids)
+  abbrev prefix : List Name
+  prefix = names_on side (map name_of_id ids)
 
-  -- a function of the side is one of those that stand there
+  -- a function of the side is one of those that are there
   function_item : (j : ℕ) (fn : SourceFunction) → slice_get (on_side side all) j ≡ Some fn → (q : ℕ) × (slice_get items q ≡ Some (SideFunction fn)) × (there fn ≡ true)
   function_item j fn at =
       let k = kept_at there all j fn at in
@@ -94,7 +94,7 @@ module _ (side : WorldSide) (ids : List Id) (hs : List HeldExtern) where
       let it = function_item j fn at in
       let on = kept_has (λ x. same_side side (item_side x)) items it.0 (SideFunction fn) it.2 it.1 in
       let n = flat_map_has item_names (items_on side items) on.0 0 (SideFunction fn) (name_of_function fn) on.1 refl in
-      (length front + n.0, at_back front (names_of_items (items_on side items)) n.0 (name_of_function fn) n.1)
+      (length prefix + n.0, at_back prefix (names_of_items (items_on side items)) n.0 (name_of_function fn) n.1)
 
   function_of_item : (q : ℕ) (x : SideItem) (fn : SourceFunction) → slice_get (items_on side items) q ≡ Some x → x ≡ SideFunction fn → (j : ℕ) × (slice_get (on_side side all) j ≡ Some fn)
   function_of_item q x fn at is =
@@ -104,7 +104,7 @@ module _ (side : WorldSide) (ids : List Id) (hs : List HeldExtern) where
       kept_has there all n.0 fn pass n.1
 
   named_from : (i : ℕ) (n : Name) → slice_get (all_on side ids items) i ≡ Some n → ((j : ℕ) × (fn : SourceFunction) × (slice_get (on_side side all) j ≡ Some fn) × (name_of_function fn ≡ n)) ⊎ ((id : Id) × (name_of_id id ≡ n))
-  named_from i n at = elim (at_split front (names_of_items (items_on side items)) i n at) [
+  named_from i n at = elim (at_split prefix (names_of_items (items_on side items)) i n at) [
     | inl here ↦ inr (type_one side ids i n here)
     | inr here ↦ (
         let it = flat_map_at item_names (items_on side items) here.0 n here.2 in
@@ -118,8 +118,8 @@ module _ (side : WorldSide) (ids : List Id) (hs : List HeldExtern) where
   side_named = record {
     has = named_has;
     from = named_from;
-    held = λ j fn at. (
+    borrowed = λ j fn at. (
         let it = function_item j fn at in
-        let h = map_at extern_behind hs it.0 (SideFunction fn) it.1 in
-        held_one h.0 (SideFunction fn) fn h.2 refl);
+        let h = map_at extern_view hs it.0 (SideFunction fn) it.1 in
+        borrowed_one h.0 (SideFunction fn) fn h.2 refl);
   }

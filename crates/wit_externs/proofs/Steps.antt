@@ -10,18 +10,18 @@ use Rattle.std.proofs.lemmas.Option.{slice_get_within, get_or_from_slice_get}
 use Rattle.wit_syntax.proofs.Lists.{at_back}
 
 -- the next item
-pub taken_next : {X : Type 0} (xs : List X) (i : ℕ) (x : X) → slice_get xs i ≡ Some x → take (i + 1) xs ≡ take i xs ++ x ∷ []
-taken_next xs i x at = take_more xs i x (slice_get_within xs i x at) ∙ ap (λ y. take i xs ++ y ∷ []) (get_or_from_slice_get xs i x x at)
+pub used_next : {X : Type 0} (xs : List X) (i : ℕ) (x : X) → slice_get xs i ≡ Some x → take (i + 1) xs ≡ take i xs ++ x ∷ []
+used_next xs i x at = take_more xs i x (slice_get_within xs i x at) ∙ ap (λ y. take i xs ++ y ∷ []) (get_or_from_slice_get xs i x x at)
 
--- what stands behind a front, and in front of the rest
-pub at_middle : {X : Type 0} (front : List X) (x : X) (back : List X) → slice_get (front ++ (x ∷ back)) (length front) ≡ Some x
-at_middle front x back = subst (λ n. slice_get (front ++ (x ∷ back)) n ≡ Some x) (add-zero (length front)) (at_back front (x ∷ back) 0 x refl)
+-- what comes after a prefix, and before the rest
+pub at_middle : {X : Type 0} (prefix : List X) (x : X) (back : List X) → slice_get (prefix ++ (x ∷ back)) (length prefix) ≡ Some x
+at_middle prefix x back = subst (λ n. slice_get (prefix ++ (x ∷ back)) n ≡ Some x) (add-zero (length prefix)) (at_back prefix (x ∷ back) 0 x refl)
 
--- those in front of an item, that one, and those behind it
+-- those before an item, that one, and those after it
 pub split_at : {X : Type 0} (xs : List X) (i : ℕ) (x : X) → slice_get xs i ≡ Some x → xs ≡ take i xs ++ (x ∷ [] ++ drop (i + 1) xs)
 split_at xs i x at =
     sym (take-append-drop (i + 1) xs)
-    ∙ ap (λ l. l ++ drop (i + 1) xs) (taken_next xs i x at)
+    ∙ ap (λ l. l ++ drop (i + 1) xs) (used_next xs i x at)
     ∙ append_assoc (take i xs) (x ∷ []) (drop (i + 1) xs)
 
 -- the same of what a test keeps, and of what items become
@@ -36,13 +36,13 @@ flat_split g xs i x at = ap (flat_map g) (split_at xs i x at) ∙ flat_map-appen
 
 pub flat_next : {X Y : Type 0} (g : X → List Y) (xs : List X) (i : ℕ) (x : X) → slice_get xs i ≡ Some x → flat_map g (take (i + 1) xs) ≡ flat_map g (take i xs) ++ g x
 flat_next g xs i x at =
-    ap (flat_map g) (taken_next xs i x at)
+    ap (flat_map g) (used_next xs i x at)
     ∙ flat_map-append g (take i xs) (x ∷ [])
     ∙ ap (λ l. flat_map g (take i xs) ++ l) (append-nil (g x))
 
 pub kept_next : {X Y : Type 0} (g : X → List Y) (test : X → Bool) (xs : List X) (i : ℕ) (x : X) → slice_get xs i ≡ Some x → flat_map g (filter test (take (i + 1) xs)) ≡ flat_map g (filter test (take i xs)) ++ flat_map g (filter test (x ∷ []))
 kept_next g test xs i x at =
-    ap (λ l. flat_map g (filter test l)) (taken_next xs i x at)
+    ap (λ l. flat_map g (filter test l)) (used_next xs i x at)
     ∙ ap (flat_map g) (filter-append test (take i xs) (x ∷ []))
     ∙ flat_map-append g (filter test (take i xs)) (filter test (x ∷ []))
 

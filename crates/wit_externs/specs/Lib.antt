@@ -1,4 +1,4 @@
-pub mod Held
+pub mod SideMembers
 pub mod Clash
 pub mod Links
 pub mod Next

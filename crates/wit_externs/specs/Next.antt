@@ -1,21 +1,21 @@
--- What may be wrong with one more that stands on a side of a scope, behind what stands there.
+-- What may be wrong with one more that is on a side of a scope, after what is there.
 use Rattle.std.specs.Prelude.{◌≡◌, ℕ, List, [], ◌∷◌, None, Contains, if◌then◌else◌}
 use Rattle.std.specs.Map.{keys_of}
 use Rattle.wit_values.specs.declared.span.Span.{Span}
 use Rattle.wit_tree.specs.declared.tree.WorldSide.{WorldSide}
 use Rattle.wit_tree.specs.declared.tree.WorldSide.TheVariants.{Imported, Exported}
-use Rattle.wit_syntax.specs.Crossing.{same_side}
+use Rattle.wit_syntax.specs.ExternPart.{same_side}
 use Rattle.wit_syntax.specs.Fault.{Fault, fault}
-use Rattle.wit_syntax.specs.Notes.{IsBrokenNotes}
+use Rattle.wit_syntax.specs.Metadata.{IsBrokenMetadata}
 use Rattle.wit_syntax.specs.Source.{path_id}
 use Rattle.wit_refusals.specs.Names.{Name}
-use Rattle.wit_externs.specs.declared.held.HeldLink.{HeldLink}
-use Rattle.wit_externs.specs.declared.held.HeldInline.{HeldInline}
-use Rattle.wit_externs.specs.declared.held.HeldExtern.{HeldExtern}
-use Rattle.wit_externs.specs.declared.held.Led.TheVariants as led
-use Rattle.wit_externs.specs.declared.held.HeldExtern.TheVariants as held
+use Rattle.wit_externs.specs.declared.borrowed.BorrowedLink.{BorrowedLink}
+use Rattle.wit_externs.specs.declared.borrowed.BorrowedInline.{BorrowedInline}
+use Rattle.wit_externs.specs.declared.borrowed.BorrowedExtern.{BorrowedExtern}
+use Rattle.wit_externs.specs.declared.borrowed.PathTarget.TheVariants as path_target
+use Rattle.wit_externs.specs.declared.borrowed.BorrowedExtern.TheVariants as borrowed
 use Rattle.wit_externs.specs.declared.links.Links.{Links}
-use Rattle.wit_externs.specs.Held.{extern_behind}
+use Rattle.wit_externs.specs.SideMembers.{extern_view}
 use Rattle.wit_externs.specs.Clash.{IsClash}
 use Rattle.wit_externs.specs.Links.{IsWrongLink}
 
@@ -33,9 +33,9 @@ pub record IsLinked (ids : List ℕ) (id : ℕ) (span : Span) (f : Fault) : Type
   pub among : Contains ids id
   pub is : f ≡ fault 43 span
 
--- behind these names of the sides, and these interfaces without a name, one more is wrong
-pub data IsWrongNext (before : WorldSide → List Name) (linked : WorldSide → List ℕ) (h : HeldExtern) (f : Fault) : Type 0 where
-  NextClashes : IsClash before (extern_behind h ∷ []) f → IsWrongNext before linked h f
-  NextLinked : (l : HeldLink) (id : ℕ) → h ≡ held.Link l → l.name ≡ None → l.led ≡ led.Interface id → IsLinked (linked l.side) id (path_id l.path.now).span f → IsWrongNext before linked h f
-  NextNoted : (i : HeldInline) → h ≡ held.Inline i → IsBrokenNotes i.written.now.attributes.items f → IsWrongNext before linked h f
-  NextWrong : (l : HeldLink) → h ≡ held.Link l → IsWrongLink l f → IsWrongNext before linked h f
+-- after these names of the sides, and these interfaces without a name, one more is wrong
+pub data IsWrongNext (before : WorldSide → List Name) (linked : WorldSide → List ℕ) (h : BorrowedExtern) (f : Fault) : Type 0 where
+  NextClashes : IsClash before (extern_view h ∷ []) f → IsWrongNext before linked h f
+  NextLinked : (l : BorrowedLink) (id : ℕ) → h ≡ borrowed.Link l → l.name ≡ None → l.path_target ≡ path_target.Interface id → IsLinked (linked l.side) id (path_id l.path.now).span f → IsWrongNext before linked h f
+  NextNoted : (i : BorrowedInline) → h ≡ borrowed.Inline i → IsBrokenMetadata i.written.now.attributes.items f → IsWrongNext before linked h f
+  NextWrong : (l : BorrowedLink) → h ≡ borrowed.Link l → IsWrongLink l f → IsWrongNext before linked h f

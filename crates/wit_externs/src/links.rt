@@ -1,4 +1,4 @@
-//! Interfaces that stand on the sides of a world by their paths alone.
+//! Interfaces that are on the sides of a world by their paths alone.
 ghost use Rattle.std.specs.Prelude.{◌≡◌, ◌++◌, ◌∷◌, [], Contains, IfErr, IfOk, MatchBool, OnOk, OnErr};
 ghost use Rattle.std.specs.Map.{keys_of};
 ghost use Rattle.wit_syntax.specs.Broken.{Refused};
@@ -6,10 +6,10 @@ ghost use Rattle.wit_externs.specs.Next.{IsLinked, linked_on, only_place};
 ghost use Rattle.wit_externs.specs.Words.{repeated};
 
 use std::alloc::{AllocError, Global};
+use wit_maps::Table;
 use wit_refusals::refusal::refuse;
 use wit_tree::tree::WorldSide;
 use wit_tree::{ParseResult, Span};
-use wit_maps::Table;
 
 /// The places of the interfaces that a world imports and exports by their paths, without names of
 /// their own, each in source order.
@@ -27,15 +27,15 @@ impl Drop for Links {
     }
 }
 
-/// Puts an interface behind these, where it is none of them; tells whether it was new.
+/// Puts an interface after these, where it is none of them; says whether it was new.
 fn insert(links: &mut Table<usize, ()>, interface: usize) -> Result<bool, AllocError>
-    ensures told { IfOk result (λ new. MatchBool new ((keys_of links.new ≡ keys_of links.old ++ interface ∷ []) × (Contains (keys_of links.old) interface → ⊥)) (Contains (keys_of links.old) interface)) }
+    ensures as_stated { IfOk result (λ new. MatchBool new ((keys_of links.new ≡ keys_of links.old ++ interface ∷ []) × (Contains (keys_of links.old) interface → ⊥)) (Contains (keys_of links.old) interface)) }
     ensures unchanged { OnErr result (keys_of links.new ≡ keys_of links.old) }
 {
     Ok(links.insert(interface, ())?.is_none())
 }
 
-/// The words for an interface that stands on a side again.
+/// The words for an interface that is on a side again.
 fn repeated(side: WorldSide) -> &'static str
     ensures { result.now ≡ repeated side }
 {
@@ -58,9 +58,9 @@ impl Links {
         }
     }
 
-    /// Puts the interface at a place on a side, behind the others.
+    /// Puts the interface at a place on a side, after the others.
     ///
-    /// Refused under E43, at the span, where the side has it, and for want of memory.
+    /// Refused under E43, at the span, where the side has it, and because an allocation failed.
     pub fn define(
         &mut self,
         alloc: Global,

@@ -2,4 +2,4 @@ pub mod Answer
 pub mod Checked
 pub mod Fields
 pub mod Room
-pub mod Told
+pub mod Reply

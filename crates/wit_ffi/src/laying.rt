@@ -2,13 +2,13 @@
 ghost use Rattle.std.specs.Prelude.{◌≡◌};
 ghost use Rattle.wit_ffi.specs.Room.{laid_over};
 
-/// Copies bytes over the front of others, as far as they fit.
+/// Copies bytes over the prefix of others, as far as they fit.
 pub(crate) fn lay(room: &mut [u8], bytes: &[u8])
     ensures { room.new ≡ laid_over room.old bytes.now }
 {
     if bytes.len() <= room.len() {
-        let (front, _) = room.split_at_mut(bytes.len());
-        front.copy_from_slice(bytes);
+        let (prefix, _) = room.split_at_mut(bytes.len());
+        prefix.copy_from_slice(bytes);
     } else {
         let most = room.len();
         room.copy_from_slice(&bytes[..most]);

@@ -16,40 +16,45 @@ ghost use Rattle.wit_ffi.specs.Room.{laid_over};
 ghost use Rattle.wit_ffi.specs.Answer.{IsPartsAnswer, IsTextAnswer};
 ghost use Rattle.wit_ffi.specs.Checked.{IsChecked};
 ghost use Rattle.wit_ffi.specs.Fields.{fields_of};
-ghost use Rattle.wit_ffi.specs.Told.{IsTold};
+ghost use Rattle.wit_ffi.specs.Reply.{IsReply};
 ghost use Rattle.wit_outcome.specs.declared.plain.Plain.{Plain};
 
 use crate::answering::{Answer, answer_bytes, answer_parts};
 use crate::checking::{Checked, check};
 use crate::laying::lay;
 use crate::refusal::fields_of;
-use crate::telling::{Told, tell};
+use crate::telling::{Reply, reply_to};
 pub use refusal::Refusal;
 use std::alloc::Global;
 
-/// Writes what is told of a text over the front of `told`, as far as it fits, and its whole length to
-/// `len`. The rest of `told` stays as it was.
+/// Writes what is stated of a text over the prefix of `stated`, as far as it fits, and its whole length to
+/// `len`. The rest of `stated` stays as it was.
 ///
 /// Answers 0 for the listing of the packages that the text's sources make, 1 for the line of their
 /// refusal, 2 where the text is not UTF-8, and 3 where memory was wanted outside the package. For 2
-/// and 3 nothing is told.
+/// and 3 nothing is stated.
 #[unsafe(no_mangle)]
-pub extern "C" fn wit_ffi_answer(alloc: Global, text: &[u8], told: &mut [u8], len: &mut usize) -> u8
-    ensures { (whole : List ℕ) × IsTold text.now result whole × (told.new ≡ laid_over told.old whole) × (len.new ≡ length whole) }
+pub extern "C" fn wit_ffi_answer(
+    alloc: Global,
+    text: &[u8],
+    as_stated: &mut [u8],
+    len: &mut usize,
+) -> u8
+    ensures { (whole : List ℕ) × IsReply text.now result whole × (as_stated.new ≡ laid_over as_stated.old whole) × (len.new ≡ length whole) }
 {
-    let Told { status, bytes } = tell(alloc, text);
+    let Reply { status, bytes } = reply_to(alloc, text);
     let whole = bytes.as_slice();
     *len = whole.len();
-    lay(told, whole);
+    lay(as_stated, whole);
     status
 }
 
-/// Tells the refusal of a text in plain fields, its path over the front of `path` and its words over
+/// Tells the refusal of a text in plain fields, its path over the prefix of `path` and its words over
 /// that of `message`, each as far as it fits. The rest of both stays as it was, and `refusal` has the
 /// whole lengths.
 ///
 /// Answers 1 for a refusal, 0 where the text's sources make packages, 2 where the text is not UTF-8,
-/// and 3 where memory was wanted outside the package. For 0, 2 and 3 nothing is told, and each field
+/// and 3 where memory was wanted outside the package. For 0, 2 and 3 nothing is stated, and each field
 /// is 0.
 #[unsafe(no_mangle)]
 pub extern "C" fn wit_ffi_check(
@@ -68,23 +73,23 @@ pub extern "C" fn wit_ffi_check(
     status
 }
 
-/// Writes the JSON of the group that a text's sources make, or of their refusal, over the front of `told`,
-/// as far as it fits, and its whole length to `len`. The rest of `told` stays as it was.
+/// Writes the JSON of the group that a text's sources make, or of their refusal, over the prefix of `stated`,
+/// as far as it fits, and its whole length to `len`. The rest of `stated` stays as it was.
 ///
 /// Answers 0 for a group, 1 for a refusal, 2 if the text is not UTF-8, and 3 if an allocation failed
-/// outside the resolver. For 2 and 3 nothing is written to `told`, and `len` is 0.
+/// outside the resolver. For 2 and 3 nothing is written to `stated`, and `len` is 0.
 #[unsafe(no_mangle)]
 pub extern "C" fn wit_ffi_package(
     alloc: Global,
     text: &[u8],
-    told: &mut [u8],
+    as_stated: &mut [u8],
     len: &mut usize,
 ) -> u8
-    ensures { (json : List ℕ) × IsTextAnswer text.now result json × (told.new ≡ laid_over told.old json) × (len.new ≡ length json) }
+    ensures { (json : List ℕ) × IsTextAnswer text.now result json × (as_stated.new ≡ laid_over as_stated.old json) × (len.new ≡ length json) }
 {
     let Answer { status, json } = answer_bytes(alloc, text);
     *len = json.len();
-    lay(told, json.as_slice());
+    lay(as_stated, json.as_slice());
     status
 }
 
@@ -97,14 +102,14 @@ pub extern "C" fn wit_ffi_package_of(
     alloc: Global,
     bytes: &[u8],
     lens: &[usize],
-    told: &mut [u8],
+    as_stated: &mut [u8],
     len: &mut usize,
 ) -> u8
-    ensures { (json : List ℕ) × IsPartsAnswer bytes.now lens.now result json × (told.new ≡ laid_over told.old json) × (len.new ≡ length json) }
+    ensures { (json : List ℕ) × IsPartsAnswer bytes.now lens.now result json × (as_stated.new ≡ laid_over as_stated.old json) × (len.new ≡ length json) }
 {
     let Answer { status, json } = answer_parts(alloc, bytes, lens);
     *len = json.len();
-    lay(told, json.as_slice());
+    lay(as_stated, json.as_slice());
     status
 }
 

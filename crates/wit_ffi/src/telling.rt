@@ -1,46 +1,46 @@
-//! What is told of a text: the listing of its packages, or the line of their refusal.
+//! What is stated of a text: the listing of its packages, or the line of their refusal.
 ghost use Rattle.std.specs.Prelude.{◌≡◌, []};
-ghost use Rattle.wit_ffi.specs.Told.{IsTold};
+ghost use Rattle.wit_ffi.specs.Reply.{IsReply};
 
 use crate::status::{MADE, NO_MEMORY, NO_TEXT, REFUSED};
 use std::alloc::Global;
 use std::str;
 use wit_tool::answer_text;
 
-/// What is told, and which of the answers it is.
+/// What is stated, and which of the answers it is.
 #[derive(Drop)]
-pub(crate) struct Told {
+pub(crate) struct Reply {
     pub(crate) status: u8,
     pub(crate) bytes: Vec<u8>,
 }
 
-/// An answer that tells nothing.
-fn bare(alloc: Global, status: u8) -> Told
+/// An answer that says nothing.
+fn bare(alloc: Global, status: u8) -> Reply
     ensures status { result.status ≡ status }
     ensures bytes { result.bytes.items ≡ [] }
 {
-    Told {
+    Reply {
         status,
         bytes: Vec::new(alloc),
     }
 }
 
-/// What is told of bytes, which may be a text.
-pub(crate) fn tell(alloc: Global, bytes: &[u8]) -> Told
-    ensures { IsTold bytes.now result.status result.bytes.items }
+/// What is stated of bytes, which may be a text.
+pub(crate) fn reply_to(alloc: Global, bytes: &[u8]) -> Reply
+    ensures { IsReply bytes.now result.status result.bytes.items }
 {
     let Ok(text) = str::from_utf8(bytes) else {
         return bare(alloc, NO_TEXT);
     };
-    let mut told: Vec<u8> = Vec::new(alloc);
-    match answer_text(alloc, text, &mut told) {
-        Ok(Some(_)) => Told {
+    let mut as_stated: Vec<u8> = Vec::new(alloc);
+    match answer_text(alloc, text, &mut as_stated) {
+        Ok(Some(_)) => Reply {
             status: MADE,
-            bytes: told,
+            bytes: as_stated,
         },
-        Ok(None) => Told {
+        Ok(None) => Reply {
             status: REFUSED,
-            bytes: told,
+            bytes: as_stated,
         },
         Err(_) => bare(alloc, NO_MEMORY),
     }

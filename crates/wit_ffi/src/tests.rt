@@ -5,28 +5,28 @@ use std::alloc::Global;
 use std::process::Abort;
 use std::test::Fail;
 
-/// Checks what is told of a text, in as much room as there is text, of `.`.
+/// Checks what is stated of a text, in as much room as there is text, of `.`.
 fn check_answer(
     rt: &impl Abort,
     alloc: Global,
     text: &[u8],
     status: u8,
     whole: usize,
-    told: &str,
+    as_stated: &str,
 ) -> Result<(), Fail> {
-    let mut room: Vec<u8> = Vec::from_elem(alloc, b'.', told.len())?;
+    let mut room: Vec<u8> = Vec::from_elem(alloc, b'.', as_stated.len())?;
     let mut len = 9;
     assert_eq!(rt;
         wit_ffi_answer(alloc, text, room.as_mut_slice(), &mut len),
         status
     );
     assert_eq!(rt; len, whole);
-    assert_eq!(rt; room.as_slice(), told.as_bytes());
+    assert_eq!(rt; room.as_slice(), as_stated.as_bytes());
     Ok(())
 }
 
 #[test]
-fn tells_a_listing_and_a_line(rt: HostRuntime) -> Result<(), Fail> {
+fn gives_a_listing_and_a_line(rt: HostRuntime) -> Result<(), Fail> {
     let alloc = rt.alloc();
     let listing = "package foo:foo\ntypes 0\ninterfaces 0\nworlds 0\nforeign 0\n....";
     check_answer(&rt, alloc, b"package foo:foo;", 0, 56, listing)?;
@@ -36,7 +36,7 @@ fn tells_a_listing_and_a_line(rt: HostRuntime) -> Result<(), Fail> {
     check_answer(&rt, alloc, b"package foo:\xff;", 2, 0, "....")
 }
 
-/// Checks what a check tells of a text: the answer, and the fields but for those of lengths.
+/// Checks what a check says of a text: the answer, and the fields but for those of lengths.
 fn check_refusal(
     rt: &impl Abort,
     alloc: Global,
@@ -71,7 +71,7 @@ fn check_refusal(
 }
 
 #[test]
-fn tells_a_refusal_in_fields(rt: HostRuntime) -> Result<(), Fail> {
+fn gives_a_refusal_in_fields(rt: HostRuntime) -> Result<(), Fail> {
     let alloc = rt.alloc();
     let text = b"=== a.wit\npackage foo:foo;\n=== b.wit\ninterface i { type t = u; }\n";
     let message = "type `u` does not exist..";

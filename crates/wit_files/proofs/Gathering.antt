@@ -20,7 +20,7 @@ use Rattle.wit_syntax.specs.Fault.{Fault, missing_at, item_word}
 use Rattle.wit_syntax.specs.Broken.{IsBrokenItems, DuplicateItem, DuplicateTopName, MissingItem, CyclicItem, IsBrokenNames, Items, ForeignStability, TopUse}
 use Rattle.wit_syntax.specs.Foreign.{foreign_visits}
 use Rattle.wit_syntax.specs.Repeats.{AllDiffer}
-use Rattle.wit_syntax.proofs.Lists.{at_front, at_back, at_either, map_map}
+use Rattle.wit_syntax.proofs.Lists.{at_prefix, at_back, at_either, map_map}
 use Rattle.wit_syntax.proofs.Orders.{take_next}
 use Rattle.wit_syntax.proofs.Tables.{place_of-Some, none_if}
 use Rattle.wit_syntax.proofs.Found.{at_contains}
@@ -29,17 +29,17 @@ use Rattle.wit_first.specs.Files.{file_fault, files_fault, paths_fault, tops_fau
 use Rattle.wit_first.specs.First.{IsOr, first_in}
 use Rattle.wit_first.specs.Laws.{AgreesBy}
 use Rattle.wit_first.specs.Names.{item_names_fault, top_names_fault}
-use Rattle.wit_first.specs.Orders.{IsItemOrderFault, IsNamesFault, IsOrderedFault, items_front, names_front}
+use Rattle.wit_first.specs.Orders.{IsItemOrderFault, IsNamesFault, IsOrderedFault, items_prefix, names_prefix}
 use Rattle.wit_first.proofs.Bridge.{in_only, item_names_agree, or_none_both, or_some, top_names_agree}
 use Rattle.wit_first.proofs.Files.{tops_agree, visits_agree}
-use Rattle.wit_first.proofs.Orders.{or_back, or_front, or_is, or_neither, order_broken}
+use Rattle.wit_first.proofs.Orders.{or_back, or_prefix, or_is, or_neither, order_broken}
 use Rattle.wit_top_names.specs.Tops.{Named, AreNamed, AreDeclared}
 use Rattle.wit_files.specs.FileNames.{AreTopsOf, AreTablesOf, AddsTop, names_at_top, top_at}
 use Rattle.wit_files.specs.declared.tables.Tables.{Tables}
 use Rattle.wit_top_names.proofs.FirstNames.{rows_items}
 use Rattle.wit_top_names.proofs.Lost.{files_broken, flat_more}
 
--- what one of these gives stands behind what those before it give
+-- what one of these gives comes after what those before it give
 pub flat_split : {X A : Type 0} (f : X → List A) (xs : List X) (i : ℕ) (x : X) → slice_get xs i ≡ Some x → (rest : List A) × (flat_map f xs ≡ flat_map f (take i xs) ++ (f x ++ rest))
 flat_split f [] i x at = absurd (let g : ⊥ = cc in g)
 flat_split f (y ∷ ys) zero x at =
@@ -49,19 +49,19 @@ flat_split f (y ∷ ys) (suc i) x at =
     let it = flat_split f ys i x at in
     (it.0, ap (λ l. f y ++ l) it.1 ∙ sym (append_assoc (f y) (flat_map f (take i ys)) (f x ++ it.0)))
 
-differ_front : {X : Type 0} (xs ys : List X) → AllDiffer (xs ++ ys) → AllDiffer xs
-differ_front xs ys d = record { differ = λ i j x at_i at_j. d.differ i j x (at_front xs ys i x at_i) (at_front xs ys j x at_j) }
+differ_prefix : {X : Type 0} (xs ys : List X) → AllDiffer (xs ++ ys) → AllDiffer xs
+differ_prefix xs ys d = record { differ = λ i j x at_i at_j. d.differ i j x (at_prefix xs ys i x at_i) (at_prefix xs ys j x at_j) }
 
 abbrev row_names : List Row → List (List ℕ)
 row_names rs = map (λ row. row.name) rs
 
--- a name behind names that differ from it is that of no row
+-- a name after names that differ from it is that of no row
 fresh_name : (rs : List Row) (name : List ℕ) (rest : List (List ℕ)) → AllDiffer (row_names rs ++ name ∷ rest) → place_of rs name ≡ None
 fresh_name rs name rest differ = none_if (place_of rs name) (λ b some. (
     let r = place_of-Some rs name b some in
     let there : slice_get (row_names rs) b ≡ Some name = slice_get-map (λ (row : Row). row.name) rs b ∙ ap (option_map (λ (row : Row). row.name)) r.1 ∙ ap Some (sym r.2) in
-    let behind : slice_get (row_names rs ++ name ∷ rest) (length (row_names rs) + 0) ≡ Some name = at_back (row_names rs) (name ∷ rest) 0 name refl in
-    let same = differ.differ b (length (row_names rs) + 0) name (at_front (row_names rs) (name ∷ rest) b name there) behind in
+    let rest_after : slice_get (row_names rs ++ name ∷ rest) (length (row_names rs) + 0) ≡ Some name = at_back (row_names rs) (name ∷ rest) 0 name refl in
+    let same = differ.differ b (length (row_names rs) + 0) name (at_prefix (row_names rs) (name ∷ rest) b name there) rest_after in
     let lt = slice_get_within (row_names rs) b name there in
     let g : ⊥ = omega arith in
     g))
@@ -115,7 +115,7 @@ fresh_file rs files i file same differ at =
     let all : map item_name (all_items files) ≡ (map item_name before ++ own) ++ rest =
     ap (map item_name) it.1 ∙ map-append item_name before (file_items file ++ it.0) ∙ ap (λ l. map item_name before ++ l) (map-append item_name (file_items file) it.0) ∙ sym (append_assoc (map item_name before) own rest) in
     let names : map item_name before ≡ row_names rs = sym (ap row_names same ∙ map_map (λ (row : Row). row.name) item_row before) in
-    subst (λ l. AllDiffer (l ++ own)) names (differ_front (map item_name before ++ own) rest (subst AllDiffer all differ))
+    subst (λ l. AllDiffer (l ++ own)) names (differ_prefix (map item_name before ++ own) rest (subst AllDiffer all differ))
 
 -- the names at the top of a file more
 pub tops_added : (files : List PackageFile) (file : PackageFile) (old new : List Named) → AreTopsOf files old → AddsTop file old new → AreTopsOf (files ++ file ∷ []) new
@@ -150,25 +150,25 @@ legal_items files places items each order f (DuplicateTopName file among h) =
 legal_items files places items each order f (MissingItem h) = no_missing_edge (missing_at 7 item_word) (item_rows files) places f order h
 legal_items files places items each order f (CyclicItem h) = no_cyclic_edge 8 item_word (item_rows files) places f order h
 
--- the first fault, where there is none in front of paths with a package
-pub behind_visits : (files : List PackageFile) (first : Option Fault) → visits_fault (foreign_visits files) ≡ None → IsOr (items_front files) (IsItemOrderFault files) first → IsOr (names_front files) (IsItemOrderFault files) first
-behind_visits files first none h = subst (λ (o : Option Fault). IsOr (option_or o (items_front files)) (IsItemOrderFault files) first) (sym none) h
+-- the first fault, where there is none before paths with a package
+pub after_visits : (files : List PackageFile) (first : Option Fault) → visits_fault (foreign_visits files) ≡ None → IsOr (items_prefix files) (IsItemOrderFault files) first → IsOr (names_prefix files) (IsItemOrderFault files) first
+after_visits files first none h = subst (λ (o : Option Fault). IsOr (option_or o (items_prefix files)) (IsItemOrderFault files) first) (sym none) h
 
 -- that of the items of files, and then that of the uses at their tops
-pub items_first : (files : List PackageFile) (f : Fault) → IsOr (names_front files) (IsItemOrderFault files) (Some f) → IsNamesFault files (Some f)
-items_first files f h = elim (or_is (IsItemOrderFault files) (names_front files) f h) [
-  | inl front ↦ or_front (IsOrderedFault files) (names_front files) f front
-  | inr order ↦ or_back (IsOrderedFault files) (names_front files) (Some f) order.0 (Some f, order.1, refl)
+pub items_first : (files : List PackageFile) (f : Fault) → IsOr (names_prefix files) (IsItemOrderFault files) (Some f) → IsNamesFault files (Some f)
+items_first files f h = elim (or_is (IsItemOrderFault files) (names_prefix files) f h) [
+  | inl prefix ↦ or_prefix (IsOrderedFault files) (names_prefix files) f prefix
+  | inr order ↦ or_back (IsOrderedFault files) (names_prefix files) (Some f) order.0 (Some f, order.1, refl)
 ]
 
-pub tops_first : (files : List PackageFile) (first : Option Fault) → IsOr (names_front files) (IsItemOrderFault files) None → tops_fault files ≡ first → IsNamesFault files first
+pub tops_first : (files : List PackageFile) (first : Option Fault) → IsOr (names_prefix files) (IsItemOrderFault files) None → tops_fault files ≡ first → IsNamesFault files first
 tops_first files first h tops =
-    let it = or_neither (IsItemOrderFault files) (names_front files) h in
-    or_back (IsOrderedFault files) (names_front files) first it.0 (None, it.1, tops)
+    let it = or_neither (IsItemOrderFault files) (names_prefix files) h in
+    or_back (IsOrderedFault files) (names_prefix files) first it.0 (None, it.1, tops)
 
 -- the first fault of the names of files is a broken rule
-front_broken : (files : List PackageFile) (f : Fault) → names_front files ≡ Some f → IsBrokenNames files f
-front_broken files f h = elim (or_some (visits_fault (foreign_visits files)) (items_front files) f h) [
+prefix_broken : (files : List PackageFile) (f : Fault) → names_prefix files ≡ Some f → IsBrokenNames files f
+prefix_broken files f h = elim (or_some (visits_fault (foreign_visits files)) (items_prefix files) f h) [
   | inl visits ↦ (let it = (visits_agree (foreign_visits files)).broken f visits in ForeignStability it.0 it.1 it.2)
   | inr far ↦ elim (or_some (item_names_fault files) (files_fault files) f far.1) [
     | inl items ↦ Items (DuplicateItem ((item_names_agree files).broken f items))
@@ -183,8 +183,8 @@ ordered_broken files f (Some g) wrong is =
     Items (subst (IsBrokenItems files) same (elim (order_broken (missing_at 7 item_word) 8 item_word (item_rows files) g wrong) [ inl missing ↦ MissingItem missing | inr cyclic ↦ CyclicItem cyclic ]))
 
 names_broken : (files : List PackageFile) (f : Fault) → IsNamesFault files (Some f) → IsBrokenNames files f
-names_broken files f h = elim (or_is (IsOrderedFault files) (names_front files) f h) [
-  | inl front ↦ front_broken files f front
+names_broken files f h = elim (or_is (IsOrderedFault files) (names_prefix files) f h) [
+  | inl prefix ↦ prefix_broken files f prefix
   | inr ordered ↦ ordered_broken files f ordered.1.0 ordered.1.1 ordered.1.2
 ]
 
@@ -196,11 +196,11 @@ none_broken files accepted visits items each tops f (TopUse file among h) = (top
 
 names_unbroken : (files : List PackageFile) → IsNamesFault files None → (f : Fault) → IsBrokenNames files f → ⊥
 names_unbroken files none f broken =
-    let it = or_neither (IsOrderedFault files) (names_front files) none in
-    let front = or_none_both (visits_fault (foreign_visits files)) (items_front files) it.0 in
-    let items = or_none_both (item_names_fault files) (files_fault files) front.1 in
+    let it = or_neither (IsOrderedFault files) (names_prefix files) none in
+    let prefix = or_none_both (visits_fault (foreign_visits files)) (items_prefix files) it.0 in
+    let items = or_none_both (item_names_fault files) (files_fault files) prefix.1 in
     let last = or_none_both it.1.0 (tops_fault files) it.1.2 in
-    none_broken files (subst (IsItemOrderFault files) last.0 it.1.1) front.0 items.0 items.1 last.1 f broken
+    none_broken files (subst (IsItemOrderFault files) last.0 it.1.1) prefix.0 items.0 items.1 last.1 f broken
 
 pub names_agree : (files : List PackageFile) → AgreesBy (IsNamesFault files) (IsBrokenNames files)
 names_agree files = record { broken = names_broken files; unbroken = names_unbroken files }
@@ -209,7 +209,7 @@ names_agree files = record { broken = names_broken files; unbroken = names_unbro
 pub item_place : (files : List PackageFile) (es : List (Bor (List ℕ) × Vec Id Global)) (name : List ℕ) (edge : Id) → rows es ≡ item_rows files → name ≡ edge.name.now → position (λ (k : Bor (List ℕ)). bytes_eq name k.now) (map (λ e. e.0) es) ≡ target (item_rows files) edge
 item_place files es name edge same named = sym (place_by_key es name) ∙ ap (place_of (rows es)) named ∙ ap (λ rs. place_of rs edge.name.now) same
 
--- the names at the top of the file at a place are those that stand there
+-- the names at the top of the file at a place are those that are there
 pub top_at_place : (files : List PackageFile) (tops : List Named) (i : ℕ) (top : Named) → AreTopsOf files tops → i < length files → slice_get tops i ≡ Some top → AreNamed (top_at files i) top
 top_at_place files tops i top are within at =
     elim (slice_get_cases files i).1 [ inl w ↦ subst (λ o. AreNamed (names_at_top o) top) (sym w.2) (are.each i w.0 top w.2 at) | inr w ↦ absurd (omega (arith, w.0)) ]

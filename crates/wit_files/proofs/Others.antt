@@ -26,15 +26,15 @@ use Rattle.wit_tree.specs.declared.tree.AstItem.TheVariants as ast
 use Rattle.wit_tree.specs.declared.tree.PackageFile.{PackageFile}
 use Rattle.wit_syntax.specs.Address.{Address, same_version, same_address}
 use Rattle.wit_syntax.specs.Source.{Part, interface_part, world_part, at_side}
-use Rattle.wit_syntax.specs.Crossing.{same_side, extern_paths, item_uses, inline_uses}
+use Rattle.wit_syntax.specs.ExternPart.{same_side, extern_paths, item_uses, inline_uses}
 use Rattle.wit_syntax.specs.Foreign.{ForeignVisit, visited, path_visits, part_visits as the_part_visits, declaration_visits, file_visits, same_item, extern_visits}
 use Rattle.wit_syntax.specs.Repeats.{firsts}
 use Rattle.wit_syntax.proofs.Lists.{map_at}
 use Rattle.wit_syntax.proofs.Addresses.{same_address-from, same_address-equal}
 use Rattle.wit_syntax.proofs.Firsts.{firsts_at, firsts_has, firsts-more}
 use Rattle.wit_files.specs.Visits.{Visit, part_visits, world_part_visits, kind_visits, side_part_visits, item_visits, visits}
-use Rattle.wit_files.specs.Foreign.{wants_world, foreign_behind, key_release, key_address, AreItemsOf}
-use Rattle.wit_files.specs.declared.foreign.ForeignVisit.{ForeignVisit as HeldVisit}
+use Rattle.wit_files.specs.Foreign.{wants_world, foreign_view, key_release, key_address, AreItemsOf}
+use Rattle.wit_files.specs.declared.foreign.ForeignVisit.{ForeignVisit as BorrowedVisit}
 use Rattle.wit_files.specs.declared.foreign.ForeignItems.{ForeignItems}
 use Rattle.wit_files.specs.declared.foreign.VersionKey.{VersionKey}
 use Rattle.wit_files.specs.declared.foreign.ForeignKey.{ForeignKey}
@@ -92,7 +92,7 @@ of_side_part side (world_item.Extern x) = elim (cases_Bool (same_side side x.sid
 of_side_part side (world_item.Use u) = refl
 of_side_part side (world_item.Include i) = refl
 
--- nothing of an interface stands on a side of a world
+-- nothing of an interface is on a side of a world
 no_side : (side : WorldSide) (xs : List InterfaceItem) → flat_map (at_side extern_visits side) (map interface_part xs) ≡ []
 no_side side [] = refl
 no_side side (interface_item.TypeDef d ∷ xs) = no_side side xs
@@ -214,35 +214,35 @@ key_same a b =
     let name = bytes_eq a.name.now b.name.now in
     ap (λ version. namespace && (of && (version && name))) (version_same a.version b.version) ∙ and_last namespace of (same_version (option_map key_release a.version) (option_map key_release b.version)) name
 
-key_known : (vs : List ForeignVisit) (held : ForeignItems) (v : ForeignVisit) (k : ForeignKey) → AreItemsOf vs held → key_address k ≡ visited v → list_any (key_test.it k) (keys_of held.keys) ≡ list_any (same_address (visited v)) (map visited (firsts same_item vs))
-key_known vs held v k are is =
-    any-alike (key_test.it k) (λ x. same_address (key_address k) (key_address x)) (keys_of held.keys) (key_same k)
-    ∙ any-mapped (same_address (key_address k)) key_address (keys_of held.keys)
-    ∙ ap (λ (s : Address). list_any (same_address s) (map key_address (keys_of held.keys))) is
+key_known : (vs : List ForeignVisit) (borrowed : ForeignItems) (v : ForeignVisit) (k : ForeignKey) → AreItemsOf vs borrowed → key_address k ≡ visited v → list_any (key_test.it k) (keys_of borrowed.keys) ≡ list_any (same_address (visited v)) (map visited (firsts same_item vs))
+key_known vs borrowed v k are is =
+    any-alike (key_test.it k) (λ x. same_address (key_address k) (key_address x)) (keys_of borrowed.keys) (key_same k)
+    ∙ any-mapped (same_address (key_address k)) key_address (keys_of borrowed.keys)
+    ∙ ap (λ (s : Address). list_any (same_address s) (map key_address (keys_of borrowed.keys))) is
     ∙ ap (list_any (same_address (visited v))) are.keys
 
 -- a key that is there adds nothing
-pub items_kept : (vs : List ForeignVisit) (held : ForeignItems) (v : ForeignVisit) (k : ForeignKey) (keys : List ForeignKey) → AreItemsOf vs held → key_address k ≡ visited v → list_any (key_test.it k) (keys_of held.keys) ≡ true → keys ≡ insert_key key_test.it (keys_of held.keys) k → (map key_address keys ≡ map visited (firsts same_item (vs ++ v ∷ []))) × (map foreign_behind held.items.items ≡ firsts same_item (vs ++ v ∷ []))
-items_kept vs held v k keys are is known inserted =
-    let same = firsts-known vs v (sym (key_known vs held v k are is) ∙ known) in
-    let stay : keys ≡ keys_of held.keys = inserted ∙ cond-true (list_any (key_test.it k) (keys_of held.keys)) (keys_of held.keys) (keys_of held.keys ++ k ∷ []) known in
+pub items_kept : (vs : List ForeignVisit) (borrowed : ForeignItems) (v : ForeignVisit) (k : ForeignKey) (keys : List ForeignKey) → AreItemsOf vs borrowed → key_address k ≡ visited v → list_any (key_test.it k) (keys_of borrowed.keys) ≡ true → keys ≡ insert_key key_test.it (keys_of borrowed.keys) k → (map key_address keys ≡ map visited (firsts same_item (vs ++ v ∷ []))) × (map foreign_view borrowed.items.items ≡ firsts same_item (vs ++ v ∷ []))
+items_kept vs borrowed v k keys are is known inserted =
+    let same = firsts-known vs v (sym (key_known vs borrowed v k are is) ∙ known) in
+    let stay : keys ≡ keys_of borrowed.keys = inserted ∙ cond-true (list_any (key_test.it k) (keys_of borrowed.keys)) (keys_of borrowed.keys) (keys_of borrowed.keys ++ k ∷ []) known in
     (ap (map key_address) stay ∙ are.keys ∙ ap (map visited) (sym same), are.items ∙ sym same)
 
 -- a new one adds the item
-pub items_more : (vs : List ForeignVisit) (held : ForeignItems) (v : HeldVisit) (k : ForeignKey) (keys : List ForeignKey) (items : List HeldVisit) → AreItemsOf vs held → key_address k ≡ visited (foreign_behind v) → list_any (key_test.it k) (keys_of held.keys) ≡ false → keys ≡ insert_key key_test.it (keys_of held.keys) k → items ≡ held.items.items ++ v ∷ [] → (map key_address keys ≡ map visited (firsts same_item (vs ++ foreign_behind v ∷ []))) × (map foreign_behind items ≡ firsts same_item (vs ++ foreign_behind v ∷ []))
-items_more vs held v k keys items are is new inserted pushed =
-    let w = foreign_behind v in
-    let old = keys_of held.keys in
-    let more = firsts-new vs w (sym (key_known vs held w k are is) ∙ new) in
-    let grown : keys ≡ old ++ k ∷ [] = inserted ∙ cond-false (list_any (key_test.it k) old) old (old ++ k ∷ []) new in
-    (ap (map key_address) grown ∙ map-append key_address old (k ∷ []) ∙ ap (λ l. l ++ key_address k ∷ []) are.keys ∙ ap (λ (s : Address). map visited (firsts same_item vs) ++ s ∷ []) is ∙ sym (map-append visited (firsts same_item vs) (w ∷ [])) ∙ ap (map visited) (sym more), ap (map foreign_behind) pushed ∙ map-append foreign_behind held.items.items (v ∷ []) ∙ ap (λ l. l ++ w ∷ []) are.items ∙ sym more)
+pub items_more : (vs : List ForeignVisit) (borrowed : ForeignItems) (v : BorrowedVisit) (k : ForeignKey) (keys : List ForeignKey) (items : List BorrowedVisit) → AreItemsOf vs borrowed → key_address k ≡ visited (foreign_view v) → list_any (key_test.it k) (keys_of borrowed.keys) ≡ false → keys ≡ insert_key key_test.it (keys_of borrowed.keys) k → items ≡ borrowed.items.items ++ v ∷ [] → (map key_address keys ≡ map visited (firsts same_item (vs ++ foreign_view v ∷ []))) × (map foreign_view items ≡ firsts same_item (vs ++ foreign_view v ∷ []))
+items_more vs borrowed v k keys items are is new inserted pushed =
+    let w = foreign_view v in
+    let old = keys_of borrowed.keys in
+    let more = firsts-new vs w (sym (key_known vs borrowed w k are is) ∙ new) in
+    let extended : keys ≡ old ++ k ∷ [] = inserted ∙ cond-false (list_any (key_test.it k) old) old (old ++ k ∷ []) new in
+    (ap (map key_address) extended ∙ map-append key_address old (k ∷ []) ∙ ap (λ l. l ++ key_address k ∷ []) are.keys ∙ ap (λ (s : Address). map visited (firsts same_item vs) ++ s ∷ []) is ∙ sym (map-append visited (firsts same_item vs) (w ∷ [])) ∙ ap (map visited) (sym more), ap (map foreign_view) pushed ∙ map-append foreign_view borrowed.items.items (v ∷ []) ∙ ap (λ l. l ++ w ∷ []) are.items ∙ sym more)
 
--- the place of a key is that of the item which it stands for
-pub key_place : (vs : List ForeignVisit) (held : ForeignItems) (k : ForeignKey) (s : Address) → AreItemsOf vs held → key_address k ≡ s → position (key_test.it k) (keys_of held.keys) ≡ position (λ v. same_address (visited v) s) (firsts same_item vs)
-key_place vs held k s are is =
-    position-alike (key_test.it k) (λ x. same_address (key_address k) (key_address x)) (keys_of held.keys) (key_same k)
-    ∙ position-mapped (same_address (key_address k)) key_address (keys_of held.keys)
-    ∙ ap (λ (t : Address). position (same_address t) (map key_address (keys_of held.keys))) is
+-- the place of a key is that of the item which it means
+pub key_place : (vs : List ForeignVisit) (borrowed : ForeignItems) (k : ForeignKey) (s : Address) → AreItemsOf vs borrowed → key_address k ≡ s → position (key_test.it k) (keys_of borrowed.keys) ≡ position (λ v. same_address (visited v) s) (firsts same_item vs)
+key_place vs borrowed k s are is =
+    position-alike (key_test.it k) (λ x. same_address (key_address k) (key_address x)) (keys_of borrowed.keys) (key_same k)
+    ∙ position-mapped (same_address (key_address k)) key_address (keys_of borrowed.keys)
+    ∙ ap (λ (t : Address). position (same_address t) (map key_address (keys_of borrowed.keys))) is
     ∙ ap (position (same_address s)) are.keys
     ∙ sym (position-mapped (same_address s) visited (firsts same_item vs))
     ∙ position-alike (λ v. same_address s (visited v)) (λ v. same_address (visited v) s) (firsts same_item vs) (λ v. same_turned s (visited v))

@@ -3,7 +3,7 @@ use Rattle.std.proofs.Common.{◌≡◌, ◌⊎◌, ℕ, List, Some, inl, inr, s
 use Rattle.std.specs.Prelude.{slice_get}
 use Rattle.wit_type_tree.specs.declared.leaves.Id.{Id}
 use Rattle.wit_type_tree.specs.declared.error.ParseError.{ParseError}
-use Rattle.wit_type_tree.specs.Refusal.{IsWantOfMemory}
+use Rattle.wit_type_tree.specs.Refusal.{IsAllocationFailure}
 use Rattle.wit_graph.specs.Table.{Row, IsEdge}
 use Rattle.wit_graph.specs.Faults.{IsFirstMissing, IsFirstCyclic}
 use Rattle.wit_syntax.specs.Fault.{Fault, fault_of}
@@ -17,13 +17,13 @@ same_edge rs i k a b x y =
     let ids : Some a ≡ Some b = sym x.2 ∙ ap (λ (r : Row). slice_get r.needs k) row ∙ y.2 in
     cc
 
-pub missing_edge : (lost round : Id → Fault) (rs : List Row) (i k : ℕ) (id : Id) (e : ParseError) → IsFirstMissing rs i k → IsEdge rs i k id → IsWantOfMemory e ⊎ (fault_of e ≡ lost id) → IsWantOfMemory e ⊎ IsOrderFault lost round rs (Some (fault_of e))
+pub missing_edge : (lost round : Id → Fault) (rs : List Row) (i k : ℕ) (id : Id) (e : ParseError) → IsFirstMissing rs i k → IsEdge rs i k id → IsAllocationFailure e ⊎ (fault_of e ≡ lost id) → IsAllocationFailure e ⊎ IsOrderFault lost round rs (Some (fault_of e))
 missing_edge lost round rs i k id e f edge says = elim says [
   | inl memory ↦ inl memory
   | inr is ↦ inr (inl (i, k, f, is ∙ ap lost (same_edge rs i k id f.id edge f.first.is)))
 ]
 
-pub cyclic_edge : (lost round : Id → Fault) (rs : List Row) (i k : ℕ) (id : Id) (e : ParseError) → IsFirstCyclic rs i k → IsEdge rs i k id → IsWantOfMemory e ⊎ (fault_of e ≡ round id) → IsWantOfMemory e ⊎ IsOrderFault lost round rs (Some (fault_of e))
+pub cyclic_edge : (lost round : Id → Fault) (rs : List Row) (i k : ℕ) (id : Id) (e : ParseError) → IsFirstCyclic rs i k → IsEdge rs i k id → IsAllocationFailure e ⊎ (fault_of e ≡ round id) → IsAllocationFailure e ⊎ IsOrderFault lost round rs (Some (fault_of e))
 cyclic_edge lost round rs i k id e f edge says = elim says [
   | inl memory ↦ inl memory
   | inr is ↦ inr (inr (i, k, f, is ∙ ap round (same_edge rs i k id f.id edge f.first.is)))

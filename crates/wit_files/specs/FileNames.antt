@@ -8,7 +8,7 @@ use Rattle.wit_syntax.specs.Source.{Target, Local, Foreign, TopName, top_names, 
 use Rattle.wit_syntax.specs.Scope.{item_rows}
 use Rattle.wit_syntax.specs.Foreign.{visited, foreign_visits, foreign_items}
 use Rattle.wit_top_names.specs.Tops.{Named, AreNamed}
-use Rattle.wit_files.specs.Foreign.{foreign_behind, AreItemsOf}
+use Rattle.wit_files.specs.Foreign.{foreign_view, AreItemsOf}
 use Rattle.wit_files.specs.declared.file_names.Found.{Found}
 use Rattle.wit_files.specs.declared.file_names.Found.TheVariants.{Item as ItemAt, Foreign as ForeignAt}
 use Rattle.wit_files.specs.declared.tables.Tables.{Tables}
@@ -27,7 +27,7 @@ pub record AreDeclarationsOf (files : List PackageFile) (tables : Tables) : Type
 -- these are those, the paths with a package, the items of other packages that those lead to, and the least order of the items
 pub record AreTablesOf (files : List PackageFile) (tables : Tables) : Type 0 where
   pub declared : AreDeclarationsOf files tables
-  pub visits : map foreign_behind tables.visits.items ≡ foreign_visits files
+  pub visits : map foreign_view tables.visits.items ≡ foreign_visits files
   pub foreign : AreItemsOf (foreign_visits files) tables.foreign
   pub order : IsOrder (item_rows files) tables.order.items
 
@@ -39,12 +39,12 @@ names_at_top (Some file) = top_names file
 abbrev pub top_at : List PackageFile → ℕ → List TopName
 top_at files place = names_at_top (slice_get files place)
 
--- what stands where a path leads: a declared item at its place among all, or an item of another package at its place among those
+-- what is where a path leads: a declared item at its place among all, or an item of another package at its place among those
 abbrev pub found_at : List PackageFile → Target → Option Found
 found_at files (Local id) = option_map ItemAt (target (item_rows files) id)
 found_at files (Foreign p id) = option_map ForeignAt (position (λ v. same_address (visited v) (ForeignNamed p id.name.now)) (foreign_items files))
 
--- the names at the top of a file were added behind those of others
+-- the names at the top of a file were added after those of others
 pub record AddsTop (file : PackageFile) (old new : List Named) : Type 0 where
   pub top : Named
   pub last : new ≡ old ++ top ∷ []

@@ -1,4 +1,4 @@
--- The paths of a file, each with the item that it stands in, the attributes in front of it, the names that are used from what it leads to, and what that has to be.
+-- The paths of a file, each with the item that it is in, the attributes before it, the names that are used from what it leads to, and what that has to be.
 use Rattle.std.specs.Prelude.{if◌then◌else◌, List, [], ◌∷◌, ◌++◌, Option, Some, None}
 use Rattle.std.specs.List.{flat_map}
 use Rattle.std.specs.Option.{option_map}
@@ -23,10 +23,10 @@ use Rattle.wit_tree.specs.declared.tree.AstItem.{AstItem}
 use Rattle.wit_tree.specs.declared.tree.AstItem.TheVariants.{Interface as InterfaceItem', World as WorldItem', Use as ToplevelItem}
 use Rattle.wit_tree.specs.declared.tree.DeclList.{DeclList}
 use Rattle.wit_tree.specs.declared.tree.PackageFile.{PackageFile}
-use Rattle.wit_syntax.specs.Crossing.{same_side}
+use Rattle.wit_syntax.specs.ExternPart.{same_side}
 use Rattle.wit_files.specs.declared.visit.Wanted.{Wanted}
 use Rattle.wit_files.specs.declared.visit.Wanted.TheVariants as wanted
-use Rattle.wit_files.specs.declared.visit.Visit.{Visit as Held}
+use Rattle.wit_files.specs.declared.visit.Visit.{Visit as Borrowed}
 
 pub record Visit : Type 0 where
   -- the name of the item that needs what the path leads to; none, where no item does
@@ -71,7 +71,7 @@ kind_visits attributes (extern.NamedPath name path) = extern_visit attributes pa
 abbrev pub extern_visits : Extern → List Visit
 extern_visits x = kind_visits x.attributes.items x.kind
 
--- of a part of a world, where it stands on this side
+-- of a part of a world, where it is on this side
 abbrev pub side_part_visits : WorldSide → WorldItem → List Visit
 side_part_visits side (world_item.TypeDef d) = []
 side_part_visits side (world_item.Extern x) = if same_side side x.side then extern_visits x else []
@@ -95,6 +95,6 @@ visits list = flat_map item_visits list.items.items
 abbrev pub all_visits : List PackageFile → List Visit
 all_visits files = flat_map (λ (f : PackageFile). visits f.decl_list) files
 
--- the visit that is held
-abbrev pub visit_behind : Held → Visit
-visit_behind v = record { owner = v.owner; attributes = v.attributes.now; path = v.path.now; names = option_map (λ (names : Bor (List UseName)). names.now) v.names; wanted = v.wanted }
+-- the visit that is borrowed
+abbrev pub visit_view : Borrowed → Visit
+visit_view v = record { owner = v.owner; attributes = v.attributes.now; path = v.path.now; names = option_map (λ (names : Bor (List UseName)). names.now) v.names; wanted = v.wanted }

@@ -6,8 +6,8 @@ ghost use Rattle.wit_syntax.specs.Scope.{item_rows};
 ghost use Rattle.wit_syntax.specs.Foreign.{foreign_visits as the_visits, foreign_items};
 ghost use Rattle.wit_first.specs.First.{FindsBy};
 ghost use Rattle.wit_first.specs.Orders.{IsNamesFault};
-ghost use Rattle.wit_top_names.specs.Tops.{target_behind};
-ghost use Rattle.wit_files.specs.Foreign.{foreign_behind};
+ghost use Rattle.wit_top_names.specs.Tops.{target_view};
+ghost use Rattle.wit_files.specs.Foreign.{foreign_view};
 ghost use Rattle.wit_files.specs.FileNames.{AreTablesOf, found_at, top_at};
 
 use crate::foreign::ForeignVisit;
@@ -74,8 +74,8 @@ impl<'f, 'a> FileNames<'f, 'a> {
 
     /// The names of files.
     ///
-    /// What stands in other packages is not known: a path with a package leads to an item there, and
-    /// whether that is an interface or a world its first path tells.
+    /// What is in other packages is not known: a path with a package leads to an item there, and
+    /// whether that is an interface or a world its first path says.
     ///
     /// # Errors
     ///
@@ -85,13 +85,13 @@ impl<'f, 'a> FileNames<'f, 'a> {
     /// paths of items, and 8; then file by file, for each `use` at its top, 9 and then 7. The paths of
     /// an item are here those of an interface's `use`s and those of a world's includes.
     ///
-    /// - 30 to 34, as [`stability`](crate::stability) says: attributes in front of a path with a
+    /// - 30 to 34, as [`stability`](crate::stability) says: attributes before a path with a
     ///   package break a rule of stability.
     /// - 5, at the later name: an item is declared twice.
-    /// - 6, at the later name: a name stands twice at the top of a file.
+    /// - 6, at the later name: a name occurs twice at the top of a file.
     /// - 7: a path without a package, of an item, leads to no declared item and to none of another
     ///   package. It is at that path; for one that is a name at the top of its file, at what that
-    ///   name stands for. Or the path of a `use` at the top of a file, without a package, is the name
+    ///   name means. Or the path of a `use` at the top of a file, without a package, is the name
     ///   of no declared item.
     /// - 8: interfaces use, or worlds include, one another in a cycle. It is where a path on the way
     ///   to one leads: at the name that the same file declares, at the path of the `use` at its top,
@@ -106,7 +106,7 @@ impl<'f, 'a> FileNames<'f, 'a> {
         Ok(FileNames::of(files, tables))
     }
 
-    /// The places of the items, each behind those that have to come before it, in the least such
+    /// The places of the items, each after those that have to come before it, in the least such
     /// order.
     pub fn item_order(&self) -> &[usize]
         ensures { IsOrder (item_rows self.now) result.now }
@@ -124,22 +124,22 @@ impl<'f, 'a> FileNames<'f, 'a> {
 
     /// The items of other packages, each at its first visit, in the order of [`Self::foreign_visits`].
     pub fn foreign(&self) -> &[ForeignVisit<'f, 'a>]
-        ensures { map foreign_behind result.now ≡ foreign_items self.now }
+        ensures { map foreign_view result.now ≡ foreign_items self.now }
     {
         &self.tables.foreign.items
     }
 
     /// The paths with a package of all files, in push order and then in source order.
     pub fn foreign_visits(&self) -> &[ForeignVisit<'f, 'a>]
-        ensures { map foreign_behind result.now ≡ the_visits self.now }
+        ensures { map foreign_view result.now ≡ the_visits self.now }
     {
         &self.tables.visits
     }
 
-    /// What stands where a path leads; none where no item has the name, or no path of the files leads
+    /// What is where a path leads; none where no item has the name, or no path of the files leads
     /// to that item of another package.
     pub fn found(&self, target: Target<'f, 'a>) -> Option<Found>
-        ensures { result ≡ found_at self.now (target_behind target.entry) }
+        ensures { result ≡ found_at self.now (target_view target.entry) }
     {
         match target {
             Target::Local(id) => {
@@ -154,10 +154,10 @@ impl<'f, 'a> FileNames<'f, 'a> {
     }
 
     /// Where a path in an item of the file at a place leads: where the name at the top of the file
-    /// stands for, where it is one, else where the path says.
+    /// means, where it is one, else where the path says.
     pub fn target(&self, file: usize, path: &'f UsePath<'a>) -> Target<'f, 'a>
         requires within { file < length self.now }
-        ensures { target_behind result ≡ the_leads (top_at self.now file) path.now }
+        ensures { target_view result ≡ the_leads (top_at self.now file) path.now }
     {
         leads(&self.tables.tops[file], path)
     }

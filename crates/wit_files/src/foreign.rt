@@ -5,22 +5,22 @@ ghost use Rattle.wit_syntax.specs.Foreign.{ForeignVisit as TheVisit, path_visits
 ghost use Rattle.wit_syntax.specs.Repeats.{firsts};
 ghost use Rattle.wit_first.specs.Files.{visits_fault};
 ghost use Rattle.wit_first.specs.First.{Finds};
-ghost use Rattle.wit_files.specs.Foreign.{foreign_behind, wants_world, key_release, key_address, AreItemsOf};
+ghost use Rattle.wit_files.specs.Foreign.{foreign_view, wants_world, key_release, key_address, AreItemsOf};
 
 use crate::visit::{Visit, Wanted, visits};
 use semver::Version;
 use std::alloc::{AllocError, Global};
+use wit_maps::Table;
 use wit_notes::attributes::check_stability;
 use wit_tree::ParseResult;
 use wit_tree::tree::{Attribute, Id, PackageFile, PackageName, UsePath};
-use wit_maps::Table;
 
 /// A path with a package, which leads to an item of that package.
 ///
-/// The first visit of an item tells what it is: a world if that visit wants one, else an interface.
+/// The first visit of an item says what it is: a world if that visit wants one, else an interface.
 #[derive(Clone, Copy, Debug)]
 pub struct ForeignVisit<'f, 'a> {
-    /// The attributes in front of the `use`, the include, the import or the export.
+    /// The attributes before the `use`, the include, the import or the export.
     pub attributes: &'f [Attribute<'a>],
     pub package: &'f PackageName<'a>,
     /// The name of the item.
@@ -39,7 +39,7 @@ struct VersionKey<'k> {
     build: &'k str,
 }
 
-/// What items of other packages are told apart by: their packages, to the builds of their versions,
+/// What items of other packages are distinguished by: their packages, to the builds of their versions,
 /// and their names.
 #[derive(Clone, Copy, PartialEq, Eq, PartialOrd, Ord, Hash)]
 pub struct ForeignKey<'k> {
@@ -97,7 +97,7 @@ fn add_visit<'f, 'a>(
     foreign: &mut Vec<ForeignVisit<'f, 'a>>,
     visit: Visit<'f, 'a>,
 ) -> Result<(), AllocError>
-    ensures { OnOk result (map foreign_behind foreign.new.items ≡ map foreign_behind foreign.old.items ++ path_visits visit.entry.attributes.now (wants_world visit.entry.wanted) visit.entry.path.now) }
+    ensures { OnOk result (map foreign_view foreign.new.items ≡ map foreign_view foreign.old.items ++ path_visits visit.entry.attributes.now (wants_world visit.entry.wanted) visit.entry.path.now) }
 {
     match visit.path {
         UsePath::Id(_) => {}
@@ -117,7 +117,7 @@ fn add_visits<'f, 'a>(
     file: &'f PackageFile<'a>,
     foreign: &mut Vec<ForeignVisit<'f, 'a>>,
 ) -> Result<(), AllocError>
-    ensures { OnOk result (map foreign_behind foreign.new.items ≡ map foreign_behind foreign.old.items ++ file_visits file.now) }
+    ensures { OnOk result (map foreign_view foreign.new.items ≡ map foreign_view foreign.old.items ++ file_visits file.now) }
 {
     let visits = visits(alloc, &file.decl_list)?;
     for visit in &visits {
@@ -131,7 +131,7 @@ pub fn foreign_visits<'f, 'a>(
     alloc: Global,
     files: &'f [PackageFile<'a>],
 ) -> Result<Vec<ForeignVisit<'f, 'a>>, AllocError>
-    ensures { IfOk result (λ visits. map foreign_behind visits.items ≡ the_visits files.now) }
+    ensures { IfOk result (λ visits. map foreign_view visits.items ≡ the_visits files.now) }
 {
     let mut foreign = Vec::new(alloc);
     for file in files {
@@ -140,9 +140,9 @@ pub fn foreign_visits<'f, 'a>(
     Ok(foreign)
 }
 
-/// Refuses attributes in front of a path with a package that break a rule of stability.
+/// Refuses attributes before a path with a package that break a rule of stability.
 pub fn check_visits(alloc: Global, visits: &[ForeignVisit<'_, '_>]) -> ParseResult<()>
-    ensures { Finds (visits_fault (map foreign_behind visits.now)) result }
+    ensures { Finds (visits_fault (map foreign_view visits.now)) result }
 {
     for visit in visits {
         check_stability(alloc, visit.attributes)?;
@@ -163,7 +163,7 @@ impl<'f, 'a> ForeignItems<'f, 'a> {
 
     /// Adds the item of a visit, where it is new.
     fn add(&mut self, visit: ForeignVisit<'f, 'a>) -> Result<(), AllocError>
-        ensures { OnOk result ((visits : List TheVisit) → AreItemsOf visits self.old → AreItemsOf (visits ++ foreign_behind visit.entry ∷ []) self.new) }
+        ensures { OnOk result ((visits : List TheVisit) → AreItemsOf visits self.old → AreItemsOf (visits ++ foreign_view visit.entry ∷ []) self.new) }
     {
         let key = foreign_key(visit.package, visit.name);
         if self.keys.insert(key, ())?.is_none() {
@@ -174,7 +174,7 @@ impl<'f, 'a> ForeignItems<'f, 'a> {
 
     /// The items of visits.
     pub fn of(alloc: Global, visits: &[ForeignVisit<'f, 'a>]) -> Result<Self, AllocError>
-        ensures { IfOk result (AreItemsOf (map foreign_behind visits.now)) }
+        ensures { IfOk result (AreItemsOf (map foreign_view visits.now)) }
     {
         let mut items = ForeignItems::new(alloc);
         for visit in visits {

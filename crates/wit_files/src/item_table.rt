@@ -14,12 +14,12 @@ ghost use Rattle.wit_top_names.specs.Checks.{edges_of};
 
 use crate::order_refusal::refuse_item_order;
 use std::alloc::{AllocError, Global};
+use wit_maps::Table;
 use wit_order::order_places;
 use wit_top_names::declaration::{declarations, interface_items, world_items};
 use wit_top_names::top_name::{Paths, add_edge};
 use wit_tree::ParseResult;
 use wit_tree::tree::{AstItem, Id, Interface, InterfaceItem, PackageFile, World, WorldItem};
-use wit_maps::Table;
 
 /// Adds the edge of the path of a part of an interface, where that is a `use`.
 fn add_use<'a>(
@@ -133,7 +133,7 @@ pub(crate) fn add_kinds(file: &PackageFile<'_>, kinds: &mut Vec<bool>) -> Result
     Ok(())
 }
 
-/// The places of the items of a table, each behind those that have to come before it, in the least
+/// The places of the items of a table, each after those that have to come before it, in the least
 /// such order.
 pub(crate) fn table_order<'a>(
     alloc: Global,

@@ -2,7 +2,7 @@
 ghost use Rattle.wit_files.specs.Laws.{NamesAgree};
 
 /// Of all that [`FileNames::gather`](crate::FileNames::gather) looks for: E5 to E9, and E30 to E34 in
-/// front of paths with a package.
+/// prefix of paths with a package.
 pub fn names_agree()
     ensures { NamesAgree }
 {}

@@ -1,18 +1,18 @@
 //! Refusals of tables that have no order.
 ghost use Rattle.std.specs.Prelude.{◌⊎◌, Some};
 ghost use Rattle.wit_type_tree.specs.declared.leaves.Id.{Id as TheId};
-ghost use Rattle.wit_type_tree.specs.Refusal.{IsWantOfMemory};
+ghost use Rattle.wit_type_tree.specs.Refusal.{IsAllocationFailure};
 ghost use Rattle.wit_graph.specs.Table.{rows, IsEdge};
 ghost use Rattle.wit_graph.specs.Faults.{IsFaultOf};
 ghost use Rattle.wit_syntax.specs.Fault.{cyclic_at, fault_of, missing_at, missing_type_at, item_word, type_word};
 ghost use Rattle.wit_first.specs.Orders.{IsOrderFault};
 
 use std::alloc::Global;
+use wit_maps::Table;
 use wit_order::OrderFault;
 use wit_refusals::refusal::{refuse_cycle, refuse_missing, refuse_missing_type};
 use wit_tree::tree::Id;
 use wit_tree::{OUT_OF_MEMORY, ParseError, ParseErrorKind};
-use wit_maps::Table;
 
 /// The name at an index of what the item at a place needs.
 fn needed<'a>(table: &Table<&'a str, Vec<Id<'a>>>, place: usize, index: usize) -> Id<'a>
@@ -30,7 +30,7 @@ pub fn refuse_item_order<'a>(
     fault: OrderFault,
 ) -> ParseError
     requires { IsFaultOf (rows table.now) fault }
-    ensures { IsWantOfMemory result ⊎ IsOrderFault (missing_at 7 item_word) (cyclic_at 8 item_word) (rows table.now) (Some (fault_of result)) }
+    ensures { IsAllocationFailure result ⊎ IsOrderFault (missing_at 7 item_word) (cyclic_at 8 item_word) (rows table.now) (Some (fault_of result)) }
 {
     match fault {
         OrderFault::Missing { place, index } => {
@@ -50,7 +50,7 @@ pub fn refuse_type_order<'a>(
     fault: OrderFault,
 ) -> ParseError
     requires { IsFaultOf (rows table.now) fault }
-    ensures { IsWantOfMemory result ⊎ IsOrderFault missing_type_at (cyclic_at 16 type_word) (rows table.now) (Some (fault_of result)) }
+    ensures { IsAllocationFailure result ⊎ IsOrderFault missing_type_at (cyclic_at 16 type_word) (rows table.now) (Some (fault_of result)) }
 {
     match fault {
         OrderFault::Missing { place, index } => {

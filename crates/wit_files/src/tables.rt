@@ -8,18 +8,18 @@ ghost use Rattle.wit_syntax.specs.Repeats.{AllDiffer};
 ghost use Rattle.wit_syntax.specs.Foreign.{foreign_visits as the_visits};
 ghost use Rattle.wit_first.specs.Files.{file_fault, file_tops_fault, files_fault, tops_fault, visits_fault};
 ghost use Rattle.wit_first.specs.First.{Finds, FindsBy, IsOr};
-ghost use Rattle.wit_first.specs.Orders.{IsItemOrderFault, IsNamesFault, items_front, names_front};
+ghost use Rattle.wit_first.specs.Orders.{IsItemOrderFault, IsNamesFault, items_prefix, names_prefix};
 ghost use Rattle.wit_top_names.specs.Tops.{AreDeclared};
-ghost use Rattle.wit_files.specs.Foreign.{foreign_behind, AreItemsOf};
+ghost use Rattle.wit_files.specs.Foreign.{foreign_view, AreItemsOf};
 ghost use Rattle.wit_files.specs.FileNames.{AddsTop, AreTablesOf, AreDeclarationsOf};
 
 use crate::foreign::{ForeignItems, ForeignVisit, check_visits, foreign_visits};
 use crate::item_table::{add_items, add_kinds, table_order};
 use std::alloc::Global;
+use wit_maps::Table;
 use wit_top_names::top_name::{Paths, Target, check_top_uses, file_names, item_names};
 use wit_tree::ParseResult;
 use wit_tree::tree::{Id, PackageFile};
-use wit_maps::Table;
 
 /// What the names of files are kept in.
 #[derive(Drop)]
@@ -32,7 +32,7 @@ pub(crate) struct Tables<'f, 'a> {
     pub items: Table<&'a str, Vec<Id<'a>>>,
     /// Of each item whether it is a world.
     pub kinds: Vec<bool>,
-    /// Of each file the names at its top, with what each stands for.
+    /// Of each file the names at its top, with what each means.
     pub tops: Vec<Table<&'a str, Target<'f, 'a>>>,
     /// The places of the items in their order.
     pub order: Vec<usize>,
@@ -40,9 +40,9 @@ pub(crate) struct Tables<'f, 'a> {
 
 impl<'f, 'a> Tables<'f, 'a> {
     /// The items of other packages that files name, and no name of theirs yet; refuses attributes in
-    /// front of a path to one that break a rule of stability.
+    /// prefix of a path to one that break a rule of stability.
     fn of_others(alloc: Global, files: &'f [PackageFile<'a>]) -> ParseResult<Self>
-        ensures visits { IfOk result (λ names. map foreign_behind names.visits.items ≡ the_visits files.now) }
+        ensures visits { IfOk result (λ names. map foreign_view names.visits.items ≡ the_visits files.now) }
         ensures foreign { IfOk result (λ names. AreItemsOf (the_visits files.now) names.foreign) }
         ensures items { IfOk result (λ names. rows names.items ≡ []) }
         ensures kinds { IfOk result (λ names. names.kinds.items ≡ []) }
@@ -62,7 +62,7 @@ impl<'f, 'a> Tables<'f, 'a> {
         })
     }
 
-    /// Adds a file; refuses a name that stands twice at its top, and then a path that leads nowhere.
+    /// Adds a file; refuses a name that occurs twice at its top, and then a path that leads nowhere.
     fn add_file(
         alloc: Global,
         file: &'f PackageFile<'a>,
@@ -124,7 +124,7 @@ impl<'f, 'a> Tables<'f, 'a> {
         ensures order { OnOk result (IsOrder (item_rows files.now) names.new.order.items) }
         ensures visits { OnOk result (names.new.visits ≡ names.old.visits) }
         ensures foreign { OnOk result (names.new.foreign ≡ names.old.foreign) }
-        ensures first { FindsBy (IsOr (items_front files.now) (IsItemOrderFault files.now)) result }
+        ensures first { FindsBy (IsOr (items_prefix files.now) (IsItemOrderFault files.now)) result }
     {
         let declared = item_names(alloc, files)?;
         Tables::add_files(alloc, files, &declared, names)?;
@@ -136,7 +136,7 @@ impl<'f, 'a> Tables<'f, 'a> {
     /// The tables of files, whatever the `use`s at the top of files name.
     fn gather_items(alloc: Global, files: &'f [PackageFile<'a>]) -> ParseResult<Tables<'f, 'a>>
         ensures tables { IfOk result (AreTablesOf files.now) }
-        ensures first { FindsBy (IsOr (names_front files.now) (IsItemOrderFault files.now)) result }
+        ensures first { FindsBy (IsOr (names_prefix files.now) (IsItemOrderFault files.now)) result }
     {
         let mut names = Tables::of_others(alloc, files)?;
         Tables::add_all(alloc, files, &mut names)?;

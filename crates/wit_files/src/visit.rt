@@ -1,7 +1,7 @@
-//! The paths of a file, in the order in which they are met.
+//! The paths of a file, in the order in which they occur.
 ghost use Rattle.std.specs.Prelude.{◌≡◌, [], ◌∷◌, ◌++◌, map, None, IfOk, OnOk};
 ghost use Rattle.std.specs.List.{flat_map};
-ghost use Rattle.wit_files.specs.Visits.{visit_behind, use_visit, part_visits, interface_visits, world_part_visits, extern_visit, extern_visits, side_part_visits, world_visits, item_visits, visits as the_visits};
+ghost use Rattle.wit_files.specs.Visits.{visit_view, use_visit, part_visits, interface_visits, world_part_visits, extern_visit, extern_visits, side_part_visits, world_visits, item_visits, visits as the_visits};
 
 use std::alloc::{AllocError, Global};
 use wit_notes::is_same_side;
@@ -18,17 +18,17 @@ pub enum Wanted {
     Interface,
     /// A world, which is included.
     World,
-    /// Any item: what the path leads to tells what it is.
+    /// Any item: what the path leads to says what it is.
     Unknown,
 }
 
-/// A path of a file, with whose it is, what is told in front of it, and what is taken by it.
+/// A path of a file, with whose it is, what is stated before it, and what is taken by it.
 #[derive(Clone, Copy, Debug)]
 pub struct Visit<'f, 'a> {
     /// The name of the item that has to come after what the path leads to: of a declared interface
     /// for its `use`s, of a world for its includes. `None` for any other path.
     pub owner: Option<Id<'a>>,
-    /// The attributes in front of the `use`, the include, the import or the export.
+    /// The attributes before the `use`, the include, the import or the export.
     pub attributes: &'f [Attribute<'a>],
     pub path: &'f UsePath<'a>,
     /// The names that are used from the item, or `None` where the item itself is named.
@@ -42,7 +42,7 @@ fn add_use<'f, 'a>(
     used: &'f Use<'a>,
     visits: &mut Vec<Visit<'f, 'a>>,
 ) -> Result<(), AllocError>
-    ensures { OnOk result (map visit_behind visits.new.items ≡ map visit_behind visits.old.items ++ use_visit owner.entry used.now ∷ []) }
+    ensures { OnOk result (map visit_view visits.new.items ≡ map visit_view visits.old.items ++ use_visit owner.entry used.now ∷ []) }
 {
     visits.push(Visit {
         owner,
@@ -59,7 +59,7 @@ fn add_interface_visits<'f, 'a>(
     interface: &'f Interface<'a>,
     visits: &mut Vec<Visit<'f, 'a>>,
 ) -> Result<(), AllocError>
-    ensures { OnOk result (map visit_behind visits.new.items ≡ map visit_behind visits.old.items ++ interface_visits interface.now) }
+    ensures { OnOk result (map visit_view visits.new.items ≡ map visit_view visits.old.items ++ interface_visits interface.now) }
 {
     for item in interface_items(interface) {
         if let InterfaceItem::Use(used) = item {
@@ -75,7 +75,7 @@ fn add_world_part<'f, 'a>(
     item: &'f WorldItem<'a>,
     visits: &mut Vec<Visit<'f, 'a>>,
 ) -> Result<(), AllocError>
-    ensures { OnOk result (map visit_behind visits.new.items ≡ map visit_behind visits.old.items ++ world_part_visits owner.entry item.now) }
+    ensures { OnOk result (map visit_view visits.new.items ≡ map visit_view visits.old.items ++ world_part_visits owner.entry item.now) }
 {
     match item {
         WorldItem::TypeDef(_) | WorldItem::Extern(_) => {}
@@ -96,7 +96,7 @@ fn add_world_parts<'f, 'a>(
     world: &'f World<'a>,
     visits: &mut Vec<Visit<'f, 'a>>,
 ) -> Result<(), AllocError>
-    ensures { OnOk result (map visit_behind visits.new.items ≡ map visit_behind visits.old.items ++ flat_map (world_part_visits world.now.name) world.now.items.items) }
+    ensures { OnOk result (map visit_view visits.new.items ≡ map visit_view visits.old.items ++ flat_map (world_part_visits world.now.name) world.now.items.items) }
 {
     for item in world_items(world) {
         add_world_part(world.name, item, visits)?;
@@ -109,7 +109,7 @@ fn add_inline_visits<'f, 'a>(
     items: &'f [InterfaceItem<'a>],
     visits: &mut Vec<Visit<'f, 'a>>,
 ) -> Result<(), AllocError>
-    ensures { OnOk result (map visit_behind visits.new.items ≡ map visit_behind visits.old.items ++ flat_map (part_visits None) items.now) }
+    ensures { OnOk result (map visit_view visits.new.items ≡ map visit_view visits.old.items ++ flat_map (part_visits None) items.now) }
 {
     for item in items {
         if let InterfaceItem::Use(used) = item {
@@ -125,7 +125,7 @@ fn add_link<'f, 'a>(
     path: &'f UsePath<'a>,
     visits: &mut Vec<Visit<'f, 'a>>,
 ) -> Result<(), AllocError>
-    ensures { OnOk result (map visit_behind visits.new.items ≡ map visit_behind visits.old.items ++ extern_visit attributes.now path.now ∷ []) }
+    ensures { OnOk result (map visit_view visits.new.items ≡ map visit_view visits.old.items ++ extern_visit attributes.now path.now ∷ []) }
 {
     visits.push(Visit {
         owner: None,
@@ -143,7 +143,7 @@ fn add_extern<'f, 'a>(
     external: &'f Extern<'a>,
     visits: &mut Vec<Visit<'f, 'a>>,
 ) -> Result<(), AllocError>
-    ensures { OnOk result (map visit_behind visits.new.items ≡ map visit_behind visits.old.items ++ extern_visits external.now) }
+    ensures { OnOk result (map visit_view visits.new.items ≡ map visit_view visits.old.items ++ extern_visits external.now) }
 {
     match &external.kind {
         ExternKind::Interface(_, items) => add_inline_visits(items, visits)?,
@@ -154,13 +154,13 @@ fn add_extern<'f, 'a>(
     Ok(())
 }
 
-/// Adds the visits of a part of a world, where that stands on this side.
+/// Adds the visits of a part of a world, where that is on this side.
 fn add_side_part<'f, 'a>(
     side: WorldSide,
     item: &'f WorldItem<'a>,
     visits: &mut Vec<Visit<'f, 'a>>,
 ) -> Result<(), AllocError>
-    ensures { OnOk result (map visit_behind visits.new.items ≡ map visit_behind visits.old.items ++ side_part_visits side item.now) }
+    ensures { OnOk result (map visit_view visits.new.items ≡ map visit_view visits.old.items ++ side_part_visits side item.now) }
 {
     match item {
         WorldItem::TypeDef(_) | WorldItem::Use(_) | WorldItem::Include(_) => {}
@@ -173,13 +173,13 @@ fn add_side_part<'f, 'a>(
     Ok(())
 }
 
-/// Adds the visits of what stands on a side of a world.
+/// Adds the visits of what is on a side of a world.
 fn add_side<'f, 'a>(
     world: &'f World<'a>,
     side: WorldSide,
     visits: &mut Vec<Visit<'f, 'a>>,
 ) -> Result<(), AllocError>
-    ensures { OnOk result (map visit_behind visits.new.items ≡ map visit_behind visits.old.items ++ flat_map (side_part_visits side) world.now.items.items) }
+    ensures { OnOk result (map visit_view visits.new.items ≡ map visit_view visits.old.items ++ flat_map (side_part_visits side) world.now.items.items) }
 {
     for item in world_items(world) {
         add_side_part(side, item, visits)?;
@@ -193,7 +193,7 @@ fn add_world_visits<'f, 'a>(
     world: &'f World<'a>,
     visits: &mut Vec<Visit<'f, 'a>>,
 ) -> Result<(), AllocError>
-    ensures { OnOk result (map visit_behind visits.new.items ≡ map visit_behind visits.old.items ++ world_visits world.now) }
+    ensures { OnOk result (map visit_view visits.new.items ≡ map visit_view visits.old.items ++ world_visits world.now) }
 {
     add_world_parts(world, visits)?;
     add_side(world, WorldSide::Imported, visits)?;
@@ -206,7 +206,7 @@ fn add_visits<'f, 'a>(
     item: &'f AstItem<'a>,
     visits: &mut Vec<Visit<'f, 'a>>,
 ) -> Result<(), AllocError>
-    ensures { OnOk result (map visit_behind visits.new.items ≡ map visit_behind visits.old.items ++ item_visits item.now) }
+    ensures { OnOk result (map visit_view visits.new.items ≡ map visit_view visits.old.items ++ item_visits item.now) }
 {
     match item {
         AstItem::Interface(interface) => add_interface_visits(interface, visits)?,
@@ -227,12 +227,12 @@ fn add_visits<'f, 'a>(
 /// its exports in order; and one for a `use` at the top of the file. An import or an export by a path
 /// gives one, and one that is an interface written there gives one for each `use` in it.
 ///
-/// The error is want of memory.
+/// The error is a failed allocation.
 pub fn visits<'f, 'a>(
     alloc: Global,
     list: &'f DeclList<'a>,
 ) -> Result<Vec<Visit<'f, 'a>>, AllocError>
-    ensures { IfOk result (λ visits. map visit_behind visits.items ≡ the_visits list.now) }
+    ensures { IfOk result (λ visits. map visit_view visits.items ≡ the_visits list.now) }
 {
     let mut visits = Vec::new(alloc);
     for item in &list.items {

@@ -29,15 +29,15 @@ use Rattle.wit_graph.proofs.Tables.{slice_get-take}
 use Rattle.wit_syntax.specs.Bodies.{folded, CanBeKey, IsKey, IsInvalidKey, IsSecond, IsEmpty, IsFlagTooMany, IsDuplicateName, AreBroken, IsBrokenList}
 use Rattle.wit_syntax.specs.Broken.{Refused}
 use Rattle.wit_syntax.specs.Fault.{Fault, fault}
-use Rattle.wit_syntax.specs.Notes.{IsTwice, IsBrokenStability, IsBrokenNotes, SinceTwice, DeprecatedTwice, UnstableTwice, SinceAndUnstable, DeprecatedAlone}
+use Rattle.wit_syntax.specs.Metadata.{IsTwice, IsBrokenStability, IsBrokenMetadata, SinceTwice, DeprecatedTwice, UnstableTwice, SinceAndUnstable, DeprecatedAlone}
 use Rattle.wit_syntax.specs.Repeats.{AllDiffer}
 use Rattle.wit_syntax.specs.Source.{TopName, top_text, top_names, Item, item_name, all_items, about}
 use Rattle.wit_syntax.proofs.Found.{at_contains, contains_at}
 use Rattle.wit_syntax.proofs.Lists.{at_take, map_at}
 use Rattle.wit_syntax.proofs.Names.{name_equal, name_itself}
-use Rattle.wit_first.specs.Attributes.{number_of, repeat_fault, counted_fault, each_once_fault, kinds_fault, together_fault, stability_fault, external_fault, notes_fault}
+use Rattle.wit_first.specs.Attributes.{number_of, repeat_fault, counted_fault, each_once_fault, kinds_fault, together_fault, stability_fault, external_fault, metadata_fault}
 use Rattle.wit_first.specs.First.{first_in, first_after, Reports, repeat_of, first_repeat}
-use Rattle.wit_first.specs.Keys.{can_be_key, is_key, key_fault}
+use Rattle.wit_first.specs.MapKeys.{can_be_key, is_key, key_fault}
 use Rattle.wit_first.specs.Laws.{Agrees}
 use Rattle.wit_first.specs.Lists.{empty_fault, names_fault, flag_fault, members_fault, flags_fault, list_fault}
 use Rattle.wit_first.specs.Names.{item_names_fault, top_names_fault, local_names_fault}
@@ -128,8 +128,8 @@ stability_broken xs f h = elim (or_some (each_once_fault xs) (together_fault xs)
 external_broken : (xs : List Attribute) (f : Fault) → external_fault xs ≡ Some f → IsTwice 35 ExternalId xs f
 external_broken xs f h = let it = after_some (counted_fault (is_of ExternalId)) [] xs f h in external_second xs it.0 it.1 f it.2 it.3
 
-notes_broken : (xs : List Attribute) (f : Fault) → notes_fault xs ≡ Some f → IsBrokenNotes xs f
-notes_broken xs f h = elim (or_some (stability_fault xs) (external_fault xs) f h) [
+metadata_broken : (xs : List Attribute) (f : Fault) → metadata_fault xs ≡ Some f → IsBrokenMetadata xs f
+metadata_broken xs f h = elim (or_some (stability_fault xs) (external_fault xs) f h) [
   | inl own ↦ inl (stability_broken xs f own)
   | inr far ↦ inr (external_broken xs f far.1)
 ]
@@ -209,8 +209,8 @@ stability_unbroken xs none f broken =
 external_unbroken : (xs : List Attribute) → external_fault xs ≡ None → (f : Fault) → IsTwice 35 ExternalId xs f → ⊥
 external_unbroken xs none f t = once_only (is_of ExternalId) ExternalId 35 xs f (λ a h. h) none t
 
-notes_unbroken : (xs : List Attribute) → notes_fault xs ≡ None → (f : Fault) → IsBrokenNotes xs f → ⊥
-notes_unbroken xs none f broken =
+metadata_unbroken : (xs : List Attribute) → metadata_fault xs ≡ None → (f : Fault) → IsBrokenMetadata xs f → ⊥
+metadata_unbroken xs none f broken =
     let both = or_none_both (stability_fault xs) (external_fault xs) none in
     elim broken [
       | inl stability ↦ stability_unbroken xs both.0 f stability
@@ -223,8 +223,8 @@ stability_agrees xs = record { broken = stability_broken xs; unbroken = stabilit
 pub external_agrees : (xs : List Attribute) → Agrees (external_fault xs) (IsTwice 35 ExternalId xs)
 external_agrees xs = record { broken = external_broken xs; unbroken = external_unbroken xs }
 
-pub notes_agree : (xs : List Attribute) → Agrees (notes_fault xs) (IsBrokenNotes xs)
-notes_agree xs = record { broken = notes_broken xs; unbroken = notes_unbroken xs }
+pub metadata_agree : (xs : List Attribute) → Agrees (metadata_fault xs) (IsBrokenMetadata xs)
+metadata_agree xs = record { broken = metadata_broken xs; unbroken = metadata_unbroken xs }
 
 -- items whose keys repeat
 any_found : {X : Type 0} (p : X → Bool) (xs : List X) → list_any p xs ≡ true → (i : ℕ) × (x : X) × (slice_get xs i ≡ Some x) × (p x ≡ true)

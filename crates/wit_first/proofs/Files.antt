@@ -14,7 +14,7 @@ use Rattle.wit_tree.specs.declared.tree.PackageFile.{PackageFile}
 use Rattle.wit_syntax.specs.Broken.{IsWrongTop, AttributedUse, LostUse}
 use Rattle.wit_syntax.specs.Fault.{Fault, fault, missing_at, item_word}
 use Rattle.wit_syntax.specs.Foreign.{ForeignVisit}
-use Rattle.wit_syntax.specs.Notes.{IsBrokenStability}
+use Rattle.wit_syntax.specs.Metadata.{IsBrokenStability}
 use Rattle.wit_syntax.specs.Source.{TopName, top_text, Target, Local, Foreign, leads, Item, all_items, item_named}
 use Rattle.wit_syntax.proofs.Found.{at_contains, contains_at}
 use Rattle.wit_first.specs.Attributes.{stability_fault}
@@ -23,7 +23,7 @@ use Rattle.wit_first.specs.Files.{visits_fault, lost_fault, unless_named, unname
 use Rattle.wit_first.specs.Laws.{Agrees}
 use Rattle.wit_first.proofs.Bridge.{in_agrees, in_only, in_some, or_none_both, or_some, stability_agrees}
 
--- in front of a path with a package
+-- before a path with a package
 pub visits_agree : (visits : List ForeignVisit) → Agrees (visits_fault visits) (λ f. (v : ForeignVisit) × Contains visits v × IsBrokenStability v.attributes f)
 visits_agree visits = in_agrees (λ (v : ForeignVisit). stability_fault v.attributes) (λ (v : ForeignVisit). IsBrokenStability v.attributes) visits (λ v. stability_agrees v.attributes)
 

@@ -12,7 +12,7 @@ use Rattle.std.proofs.lemmas.Bool.{false_from_ne_true}
 use Rattle.wit_graph.proofs.Tables.{slice_get-take}
 use Rattle.std.proofs.lemmas.Option.{slice_get_within}
 use Rattle.wit_syntax.specs.Repeats.{IsRepeatAt, AllDiffer}
-use Rattle.wit_syntax.proofs.Lists.{map_at, at_front}
+use Rattle.wit_syntax.proofs.Lists.{map_at, at_prefix}
 use Rattle.wit_syntax.proofs.Names.{name_equal, name_itself}
 use Rattle.wit_syntax.proofs.Orders.{take_next}
 use Rattle.wit_syntax.proofs.Repeated.{key_at}
@@ -111,7 +111,7 @@ pub no_repeat-after : {X : Type 0} (key : X → List ℕ) (as_fault : X → Faul
 no_repeat-after key as_fault before [] d = refl
 no_repeat-after key as_fault before (x ∷ xs) d =
     let none : list_any (λ y. bytes_eq (key y) (key x)) before ≡ false = any_none (λ y. bytes_eq (key y) (key x)) before (λ i y at. false_from_ne_true (bytes_eq (key y) (key x)) (λ same.
-    let one = key_at key (before ++ x ∷ xs) i y (at_front before (x ∷ xs) i y at) in
+    let one = key_at key (before ++ x ∷ xs) i y (at_prefix before (x ∷ xs) i y at) in
     let other = key_at key (before ++ x ∷ xs) (length before) x (at_middle before x xs) in
     let place = d.differ i (length before) (key x) (one ∙ ap Some (name_equal (key y) (key x) same)) other in
     let within = slice_get_within before i y at in
@@ -154,8 +154,8 @@ pub reports_same : {first other : Option Fault} {e : ParseError} → first ≡ o
 reports_same same report = elim report [ inl memory ↦ inl memory | inr is ↦ inr (sym same ∙ is) ]
 
 -- an error that reports the first of two faults, or the second where there is no first
-pub reports_front : {first : Option Fault} {e : ParseError} (second : Option Fault) → Reports first e → Reports (option_or first second) e
-reports_front second report = elim report [ inl memory ↦ inl memory | inr is ↦ inr (ap (λ (o : Option Fault). option_or o second) is) ]
+pub reports_prefix : {first : Option Fault} {e : ParseError} (second : Option Fault) → Reports first e → Reports (option_or first second) e
+reports_prefix second report = elim report [ inl memory ↦ inl memory | inr is ↦ inr (ap (λ (o : Option Fault). option_or o second) is) ]
 
 pub reports_back : {first second : Option Fault} {e : ParseError} → first ≡ None → Reports second e → Reports (option_or first second) e
 reports_back {first} {second} none report = reports_same (sym (ap (λ (o : Option Fault). option_or o second) none)) report

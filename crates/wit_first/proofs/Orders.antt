@@ -2,7 +2,7 @@
 use Rattle.std.proofs.Common.{◌≡◌, ◌⊎◌, ℕ, List, Option, Some, None, inl, inr, refl, sym, subst}
 use Rattle.wit_type_tree.specs.declared.leaves.Id.{Id}
 use Rattle.wit_type_tree.specs.declared.error.ParseError.{ParseError}
-use Rattle.wit_type_tree.specs.Refusal.{IsWantOfMemory}
+use Rattle.wit_type_tree.specs.Refusal.{IsAllocationFailure}
 use Rattle.wit_graph.specs.Table.{Row}
 use Rattle.wit_syntax.specs.Broken.{IsMissingEdge, IsCyclicEdge, Refused}
 use Rattle.wit_syntax.specs.Fault.{Fault, fault_of, cyclic_at}
@@ -11,8 +11,8 @@ use Rattle.wit_first.specs.Laws.{AgreesBy}
 use Rattle.wit_first.specs.Orders.{IsOrderFault}
 
 -- an earlier fault, or none
-pub or_front : (IsLater : Option Fault → Type 0) (earlier : Option Fault) (f : Fault) → earlier ≡ Some f → IsOr earlier IsLater (Some f)
-or_front IsLater earlier f is = subst (λ (o : Option Fault). IsOr o IsLater (Some f)) (sym is) refl
+pub or_prefix : (IsLater : Option Fault → Type 0) (earlier : Option Fault) (f : Fault) → earlier ≡ Some f → IsOr earlier IsLater (Some f)
+or_prefix IsLater earlier f is = subst (λ (o : Option Fault). IsOr o IsLater (Some f)) (sym is) refl
 
 pub or_back : (IsLater : Option Fault → Type 0) (earlier first : Option Fault) → earlier ≡ None → IsLater first → IsOr earlier IsLater first
 or_back IsLater earlier first none later = subst (λ (o : Option Fault). IsOr o IsLater first) (sym none) later
@@ -27,15 +27,15 @@ or_neither IsLater None h = (refl, h)
 or_neither IsLater (Some f) h = absurd (let none : None ≡ Some f = h in let g : ⊥ = cc in g)
 
 -- an error that reports it refuses a broken rule
-pub refused_as : (IsFirst : Option Fault → Type 0) (Broken : Fault → Type 0) (e : ParseError) → AgreesBy IsFirst Broken → IsWantOfMemory e ⊎ IsFirst (Some (fault_of e)) → Refused Broken e
+pub refused_as : (IsFirst : Option Fault → Type 0) (Broken : Fault → Type 0) (e : ParseError) → AgreesBy IsFirst Broken → IsAllocationFailure e ⊎ IsFirst (Some (fault_of e)) → Refused Broken e
 refused_as IsFirst Broken e agrees report = elim report [ inl memory ↦ inl memory | inr is ↦ inr (agrees.broken (fault_of e) is) ]
 
 -- an error that reports an earlier fault
-pub reports_or : (IsLater : Option Fault → Type 0) (earlier : Option Fault) (e : ParseError) → Reports earlier e → IsWantOfMemory e ⊎ IsOr earlier IsLater (Some (fault_of e))
-reports_or IsLater earlier e report = elim report [ inl memory ↦ inl memory | inr is ↦ inr (or_front IsLater earlier (fault_of e) is) ]
+pub reports_or : (IsLater : Option Fault → Type 0) (earlier : Option Fault) (e : ParseError) → Reports earlier e → IsAllocationFailure e ⊎ IsOr earlier IsLater (Some (fault_of e))
+reports_or IsLater earlier e report = elim report [ inl memory ↦ inl memory | inr is ↦ inr (or_prefix IsLater earlier (fault_of e) is) ]
 
 -- or a later one, where there is none before it
-pub reports_later : (IsLater : Option Fault → Type 0) (earlier : Option Fault) (e : ParseError) → earlier ≡ None → IsWantOfMemory e ⊎ IsLater (Some (fault_of e)) → IsWantOfMemory e ⊎ IsOr earlier IsLater (Some (fault_of e))
+pub reports_later : (IsLater : Option Fault → Type 0) (earlier : Option Fault) (e : ParseError) → earlier ≡ None → IsAllocationFailure e ⊎ IsLater (Some (fault_of e)) → IsAllocationFailure e ⊎ IsOr earlier IsLater (Some (fault_of e))
 reports_later IsLater earlier e none report = elim report [ inl memory ↦ inl memory | inr is ↦ inr (or_back IsLater earlier (Some (fault_of e)) none is) ]
 
 -- of the order of a table

@@ -46,5 +46,5 @@ abbrev pub external_fault : List Attribute → Option Fault
 external_fault xs = first_after (counted_fault (is_of ExternalId)) [] xs
 
 -- of attributes that may say both: stability first
-abbrev pub notes_fault : List Attribute → Option Fault
-notes_fault xs = option_or (stability_fault xs) (external_fault xs)
+abbrev pub metadata_fault : List Attribute → Option Fault
+metadata_fault xs = option_or (stability_fault xs) (external_fault xs)

@@ -1,4 +1,4 @@
--- The first fault of the names of files, as they are gathered: E30 to E34 in front of paths with a package, E6, and E7 of paths of items, and E9 and E7 at the tops of files.
+-- The first fault of the names of files, as they are gathered: E30 to E34 before paths with a package, E6, and E7 of paths of items, and E9 and E7 at the tops of files.
 use Rattle.std.specs.Prelude.{if◌then◌else◌, List, [], ◌∷◌, Option, None, Some, find, is_none}
 use Rattle.std.specs.Option.{option_or}
 use Rattle.std.specs.Str.{bytes_eq}
@@ -18,7 +18,7 @@ use Rattle.wit_first.specs.Attributes.{stability_fault}
 use Rattle.wit_first.specs.First.{first_in}
 use Rattle.wit_first.specs.Names.{top_names_fault}
 
--- of the attributes in front of paths with a package, path by path
+-- of the attributes before paths with a package, path by path
 abbrev pub visits_fault : List ForeignVisit → Option Fault
 visits_fault visits = first_in (λ (v : ForeignVisit). stability_fault v.attributes) visits
 
@@ -27,7 +27,7 @@ abbrev pub lost_fault : List Item → Target → Option Fault
 lost_fault is (Local id) = if is_none (item_named is id.name.now) then Some (missing_at 7 item_word id) else None
 lost_fault is (Foreign p id) = None
 
--- a path is neither a name at the top of its file nor that of an item: what stands at the top is looked at later
+-- a path is neither a name at the top of its file nor that of an item: what is at the top is looked at later
 abbrev pub unless_named : Option TopName → Option Fault → Option Fault
 unless_named None lost = lost
 unless_named (Some t) lost = None

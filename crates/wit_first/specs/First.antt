@@ -4,7 +4,7 @@ use Rattle.std.specs.List.{list_any}
 use Rattle.std.specs.Option.{option_or}
 use Rattle.std.specs.Str.{bytes_eq}
 use Rattle.wit_type_tree.specs.declared.error.ParseError.{ParseError}
-use Rattle.wit_type_tree.specs.Refusal.{IsWantOfMemory}
+use Rattle.wit_type_tree.specs.Refusal.{IsAllocationFailure}
 use Rattle.wit_syntax.specs.Fault.{Fault, fault_of}
 
 -- the first fault of items, where each may have one
@@ -19,7 +19,7 @@ first_after wrong before (x ∷ xs) = option_or (wrong before x) (first_after wr
 
 -- an error reports the first fault, or that an allocation failed
 abbrev pub Reports : Option Fault → ParseError → Type 0
-Reports first e = IsWantOfMemory e ⊎ (first ≡ Some (fault_of e))
+Reports first e = IsAllocationFailure e ⊎ (first ≡ Some (fault_of e))
 
 -- a call returns Ok where there is no fault, and else an error that reports the first; an allocation may fail in either case
 abbrev pub Finds : {T : Type 0} → Option Fault → Result T ParseError → Type 0
@@ -32,7 +32,7 @@ IsOr (Some f) IsLater first = first ≡ Some f
 
 -- a call returns Ok where that is none, and else an error that reports it; an allocation may fail in either case
 abbrev pub FindsBy : {T : Type 0} → (Option Fault → Type 0) → Result T ParseError → Type 0
-FindsBy IsFirst r = MatchResult r (λ _. IsFirst None) (λ e. IsWantOfMemory e ⊎ IsFirst (Some (fault_of e)))
+FindsBy IsFirst r = MatchResult r (λ _. IsFirst None) (λ e. IsAllocationFailure e ⊎ IsFirst (Some (fault_of e)))
 
 -- an item has the key of an earlier one: the fault is made of the later one
 abbrev pub repeat_of : {X : Type 0} → (X → List ℕ) → (X → Fault) → List X → X → Option Fault

@@ -6,10 +6,10 @@ use Rattle.wit_type_tree.specs.declared.types.TypeBody.{TypeBody}
 use Rattle.wit_type_tree.specs.declared.types.«Type».{«Type» as Written}
 use Rattle.wit_syntax.specs.Fault.{Fault}
 use Rattle.wit_syntax.specs.Bodies.{IsBrokenList, IsInvalidKey}
-use Rattle.wit_syntax.specs.Notes.{IsBrokenStability, IsBrokenNotes}
-use Rattle.wit_first.specs.Attributes.{stability_fault, notes_fault}
+use Rattle.wit_syntax.specs.Metadata.{IsBrokenStability, IsBrokenMetadata}
+use Rattle.wit_first.specs.Attributes.{stability_fault, metadata_fault}
 use Rattle.wit_first.specs.Lists.{list_fault}
-use Rattle.wit_first.specs.Keys.{key_fault}
+use Rattle.wit_first.specs.MapKeys.{key_fault}
 
 -- the first fault breaks one of the rules, and where there is none, none of them is broken
 pub record Agrees (first : Option Fault) (Broken : Fault → Type 0) : Type 0 where
@@ -24,8 +24,8 @@ pub record AgreesBy (IsFirst : Option Fault → Type 0) (Broken : Fault → Type
 abbrev pub StabilityAgrees : Type 0
 StabilityAgrees = (xs : List Attribute) → Agrees (stability_fault xs) (IsBrokenStability xs)
 
-abbrev pub NotesAgree : Type 0
-NotesAgree = (xs : List Attribute) → Agrees (notes_fault xs) (IsBrokenNotes xs)
+abbrev pub MetadataAgree : Type 0
+MetadataAgree = (xs : List Attribute) → Agrees (metadata_fault xs) (IsBrokenMetadata xs)
 
 abbrev pub ListsAgree : Type 0
 ListsAgree = (b : TypeBody) → Agrees (list_fault b) (IsBrokenList b)

@@ -1,7 +1,7 @@
 pub mod First
 pub mod Attributes
 pub mod Lists
-pub mod Keys
+pub mod MapKeys
 pub mod Names
 pub mod Functions
 pub mod Files

@@ -34,12 +34,12 @@ abbrev pub IsTypeOrderFault : List ScopeName → Option Fault → Type 0
 IsTypeOrderFault xs first = IsOrderFault missing_type_at (cyclic_at 16 type_word) (rows_of xs) first
 
 -- of the names of files, before the order of their items is looked at: two items of one name, and then file by file
-abbrev pub items_front : List PackageFile → Option Fault
-items_front files = option_or (item_names_fault files) (files_fault files)
+abbrev pub items_prefix : List PackageFile → Option Fault
+items_prefix files = option_or (item_names_fault files) (files_fault files)
 
--- and in front of these: attributes in front of paths with a package
-abbrev pub names_front : List PackageFile → Option Fault
-names_front files = option_or (visits_fault (foreign_visits files)) (items_front files)
+-- and before these: attributes before paths with a package
+abbrev pub names_prefix : List PackageFile → Option Fault
+names_prefix files = option_or (visits_fault (foreign_visits files)) (items_prefix files)
 
 -- of the order of the items, and then of the uses at the tops of files
 abbrev pub IsOrderedFault : List PackageFile → Option Fault → Type 0
@@ -47,4 +47,4 @@ IsOrderedFault files first = (order : Option Fault) × IsItemOrderFault files or
 
 -- of all that is looked for when names are gathered
 abbrev pub IsNamesFault : List PackageFile → Option Fault → Type 0
-IsNamesFault files first = IsOr (names_front files) (IsOrderedFault files) first
+IsNamesFault files first = IsOr (names_prefix files) (IsOrderedFault files) first

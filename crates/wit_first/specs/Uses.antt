@@ -7,14 +7,14 @@ use Rattle.wit_tree.specs.declared.tree.Use.{Use}
 use Rattle.wit_tree.specs.declared.tree.UsePath.{UsePath}
 use Rattle.wit_tree.specs.declared.tree.PackageFile.{PackageFile}
 use Rattle.wit_syntax.specs.Broken.{is_world_at}
-use Rattle.wit_syntax.specs.Crossing.{inline_uses}
+use Rattle.wit_syntax.specs.ExternPart.{inline_uses}
 use Rattle.wit_syntax.specs.Fault.{Fault, fault}
-use Rattle.wit_syntax.specs.Source.{TopName, path_id, leads, Part, Using, Item, parts, all_items, walk}
-use Rattle.wit_first.specs.Attributes.{notes_fault}
+use Rattle.wit_syntax.specs.Source.{TopName, path_id, leads, Part, UsePart, Item, parts, all_items, walk}
+use Rattle.wit_first.specs.Attributes.{metadata_fault}
 use Rattle.wit_first.specs.Files.{lost_fault}
 use Rattle.wit_first.specs.First.{first_in}
 
--- where an interface is wanted: whether a world stands there, if anything does, and else whether the name is lost
+-- where an interface is wanted: whether a world is there, if anything does, and else whether the name is lost
 abbrev pub reached_fault : Option Bool → Span → Option Fault → Option Fault
 reached_fault None span lost = lost
 reached_fault (Some true) span lost = Some (fault 10 span)
@@ -25,14 +25,14 @@ abbrev pub path_fault : List PackageFile → List TopName → UsePath → Option
 path_fault files top from = reached_fault (is_world_at files (leads top from)) (path_id from).span (lost_fault (all_items files) (leads top from))
 
 abbrev pub use_fault : List PackageFile → List TopName → Use → Option Fault
-use_fault files top u = option_or (notes_fault u.attributes.items) (path_fault files top u.from)
+use_fault files top u = option_or (metadata_fault u.attributes.items) (path_fault files top u.from)
 
 abbrev pub uses_fault : List PackageFile → List TopName → List Use → Option Fault
 uses_fault files top us = first_in (use_fault files top) us
 
 -- the uses of a part that are its own: those of an interface that is written in a world are that one's
 abbrev pub own_uses : Part → List Use
-own_uses (Using u) = u ∷ []
+own_uses (UsePart u) = u ∷ []
 own_uses _ = []
 
 -- of an item: first its own uses, then those in interfaces that it imports, and then those in interfaces that it exports

@@ -1,5 +1,5 @@
 //! What holds of first faults: each breaks a rule, and where there is none, no rule is broken.
-ghost use Rattle.wit_first.specs.Laws.{KeysAgree, ListsAgree, NotesAgree, StabilityAgrees};
+ghost use Rattle.wit_first.specs.Laws.{KeysAgree, ListsAgree, MetadataAgree, StabilityAgrees};
 
 /// Of attributes that say how stable a thing is: E30 to E34.
 pub fn stability_agrees()
@@ -7,8 +7,8 @@ pub fn stability_agrees()
 {}
 
 /// Of attributes that may give an external id too: E30 to E35.
-pub fn notes_agree()
-    ensures { NotesAgree }
+pub fn metadata_agree()
+    ensures { MetadataAgree }
 {}
 
 /// Of the fields, flags or cases in the body of a definition: E19 to E21 and E23 to E25.

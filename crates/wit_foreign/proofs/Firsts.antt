@@ -5,7 +5,7 @@ use Rattle.std.proofs.lemmas.List.Elements.{filter-append}
 use Rattle.std.proofs.lemmas.Map.Views.{any-filter_same}
 use Rattle.wit_syntax.specs.Repeats.{firsts}
 
--- one item stays by a test that tells it
+-- one item stays by a test that says it
 filter-one : {X : Type 0} (t : X → Bool) (x : X) (known here : Bool) → t x ≡ not here → filter t (cond known [] (x ∷ [])) ≡ cond (here || known) [] (x ∷ [])
 filter-one t x true true h = refl
 filter-one t x true false h = refl
@@ -108,15 +108,15 @@ pub each_found : {X : Type 0} (same : X → X → Bool) → ((x : X) → same x 
 each_found same itself t [] = tt
 each_found {X} same itself t (x ∷ xs) = go (each_found same itself t xs) (t x) refl
   where
-    behind : (a b : Bool) → b ≡ true → (a || b) ≡ true
-    behind true b h = refl
-    behind false b h = h
+    rest_after : (a b : Bool) → b ≡ true → (a || b) ≡ true
+    rest_after true b h = refl
+    rest_after false b h = h
 
     go : Each (λ u. t u ≡ true → list_any (λ w. same w u) (filter t xs) ≡ true) xs → (b : Bool) → t x ≡ b → (t x ≡ true → list_any (λ w. same w x) (cond b (x ∷ filter t xs) (filter t xs)) ≡ true) × Each (λ u. t u ≡ true → list_any (λ w. same w u) (cond b (x ∷ filter t xs) (filter t xs)) ≡ true) xs
-    go rest true e = ((λ h. rw (itself x) refl), each_map (λ u. t u ≡ true → list_any (λ w. same w u) (filter t xs) ≡ true) (λ u. t u ≡ true → list_any (λ w. same w u) (x ∷ filter t xs) ≡ true) xs (λ u g h. behind (same x u) (list_any (λ w. same w u) (filter t xs)) (g h)) rest)
+    go rest true e = ((λ h. rw (itself x) refl), each_map (λ u. t u ≡ true → list_any (λ w. same w u) (filter t xs) ≡ true) (λ u. t u ≡ true → list_any (λ w. same w u) (x ∷ filter t xs) ≡ true) xs (λ u g h. rest_after (same x u) (list_any (λ w. same w u) (filter t xs)) (g h)) rest)
     go rest false e = ((λ h. absurd (let f : ⊥ = cc in f)), rest)
 
--- what is found in front is found there whatever stands behind
+-- what is found in front is found there whatever comes after
 pub prefix_len-found : {X : Type 0} (q : X → Bool) (xs ys : List X) → list_any q xs ≡ true → prefix_len (λ x. not (q x)) (xs ++ ys) ≡ prefix_len (λ x. not (q x)) xs
 prefix_len-found q [] ys h = absurd (let f : ⊥ = cc in f)
 prefix_len-found {X} q (x ∷ xs) ys h = go (λ g. prefix_len-found q xs ys g) (q x) h
@@ -130,7 +130,7 @@ pub prefix_len-next : {X : Type 0} (q : X → Bool) (xs : List X) (y : X) → Ea
 prefix_len-next q [] y h e = rw e refl
 prefix_len-next q (x ∷ xs) y h e = rw h.0 (ap (λ n. 1 + n) (prefix_len-next q xs y h.1 e) ∙ omega arith)
 
--- a test that cannot tell the same ones apart finds something among the first of each where it finds something
+-- a test that cannot say the same ones apart finds something among the first of each where it finds something
 pub any-firsts : {X : Type 0} (same : X → X → Bool) (t : X → Bool) → ((x y : X) → same x y ≡ true → t x ≡ t y) → (xs : List X) → list_any t (firsts same xs) ≡ list_any t xs
 any-firsts same t alike [] = refl
 any-firsts {X} same t alike (x ∷ xs) = go (t x) refl ∙ ap (λ b. t x || b) (any-firsts same t alike xs)

@@ -13,7 +13,7 @@ use Rattle.wit_syntax.specs.Foreign.{ForeignVisit}
 use Rattle.wit_foreign.specs.declared.deps.Deps.{Deps}
 use Rattle.wit_foreign.specs.Kept.{table_more, interfaces_in, worlds_in, packages_of, table_in, visit_stability, row_in}
 use Rattle.wit_foreign.specs.Growing.{AreDeps}
-use Rattle.wit_foreign.proofs.Grown.{entry_next, is_known, is_named, table_in-more, is_known-lookup, packages_of-more, worlds_in-more, interfaces_in-more}
+use Rattle.wit_foreign.proofs.Extended.{entry_next, is_known, is_named, table_in-more, is_known-lookup, packages_of-more, worlds_in-more, interfaces_in-more}
 
 abbrev one : List (Unit {0})
 one = tt ∷ []

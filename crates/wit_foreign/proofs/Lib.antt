@@ -2,5 +2,5 @@ pub mod Same
 pub mod Firsts
 pub mod Upserts
 pub mod Places
-pub mod Grown
+pub mod Extended
 pub mod Growth

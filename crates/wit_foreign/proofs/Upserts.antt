@@ -12,17 +12,17 @@ pub upsert-map : {X K V : Type 0} (eq : K → K → Bool) → ((a b : K) → eq 
 upsert-map eq equal key f h x [] apart = refl
 upsert-map {X} {K} {V} eq equal key f h x (p ∷ ps) apart = go (upsert-map eq equal key f h x ps apart.1) (eq (key x) (key p)) refl
   where
-    grown : X → K × V
-    grown q = (key q, cond (eq (key x) (key q)) (h (Some (f q))) (f q))
+    extended : X → K × V
+    extended q = (key q, cond (eq (key x) (key q)) (h (Some (f q))) (f q))
 
     plain : X → K × V
     plain q = (key q, f q)
 
-    go : map grown ps ++ cond (list_any (λ q. eq (key x) (key q)) ps) [] ((key x, h None) ∷ []) ≡ insert_entry eq (map plain ps) (key x) (h (lookup (eq (key x)) (map plain ps))) → (b : Bool) → eq (key x) (key p) ≡ b → map grown (p ∷ ps) ++ cond (eq (key x) (key p) || list_any (λ q. eq (key x) (key q)) ps) [] ((key x, h None) ∷ []) ≡ insert_entry eq (plain p ∷ map plain ps) (key x) (h (lookup (eq (key x)) (plain p ∷ map plain ps)))
+    go : map extended ps ++ cond (list_any (λ q. eq (key x) (key q)) ps) [] ((key x, h None) ∷ []) ≡ insert_entry eq (map plain ps) (key x) (h (lookup (eq (key x)) (map plain ps))) → (b : Bool) → eq (key x) (key p) ≡ b → map extended (p ∷ ps) ++ cond (eq (key x) (key p) || list_any (λ q. eq (key x) (key q)) ps) [] ((key x, h None) ∷ []) ≡ insert_entry eq (plain p ∷ map plain ps) (key x) (h (lookup (eq (key x)) (plain p ∷ map plain ps)))
     go rest true e =
         let same : key p ≡ key x = sym (equal (key x) (key p) e) in
-        let others : map grown ps ≡ map plain ps = map_each grown plain ps (each_map (λ q. eq (key p) (key q) ≡ false) (λ q. grown q ≡ plain q) ps (λ q g. ap (λ b. (key q, cond b (h (Some (f q))) (f q))) (ap (λ k. eq k (key q)) (sym same) ∙ g)) apart.0) in
-        rw e (append-nil ((key p, h (Some (f p))) ∷ map grown ps) ∙ ap (λ es. (key p, h (Some (f p))) ∷ es) others)
+        let others : map extended ps ≡ map plain ps = map_each extended plain ps (each_map (λ q. eq (key p) (key q) ≡ false) (λ q. extended q ≡ plain q) ps (λ q g. ap (λ b. (key q, cond b (h (Some (f q))) (f q))) (ap (λ k. eq k (key q)) (sym same) ∙ g)) apart.0) in
+        rw e (append-nil ((key p, h (Some (f p))) ∷ map extended ps) ∙ ap (λ es. (key p, h (Some (f p))) ∷ es) others)
     go rest false e = rw e (ap (λ es. plain p ∷ es) rest)
 
 -- a key is there exactly where it is the key of something
@@ -34,11 +34,11 @@ is_some-lookup-map {X} {K} {V} t key f (p ∷ ps) = go (is_some-lookup-map t key
     go rest true e = rw e refl
     go rest false e = rw e rest
 
--- what a key finds among values that keys alone tell
-pub lookup-told : {X K V : Type 0} (eq : K → K → Bool) → ((a b : K) → eq a b ≡ true → a ≡ b) → (key : X → K) (told : K → V) (k : K) (ps : List X) → lookup (eq k) (map (λ p. (key p, told (key p))) ps) ≡ cond (list_any (λ p. eq k (key p)) ps) (Some (told k)) None
-lookup-told eq equal key told k [] = refl
-lookup-told {X} {K} {V} eq equal key told k (p ∷ ps) = go (lookup-told eq equal key told k ps) (eq k (key p)) refl
+-- what a key finds among values that keys alone say
+pub lookup-as_stated : {X K V : Type 0} (eq : K → K → Bool) → ((a b : K) → eq a b ≡ true → a ≡ b) → (key : X → K) (as_stated : K → V) (k : K) (ps : List X) → lookup (eq k) (map (λ p. (key p, as_stated (key p))) ps) ≡ cond (list_any (λ p. eq k (key p)) ps) (Some (as_stated k)) None
+lookup-as_stated eq equal key as_stated k [] = refl
+lookup-as_stated {X} {K} {V} eq equal key as_stated k (p ∷ ps) = go (lookup-as_stated eq equal key as_stated k ps) (eq k (key p)) refl
   where
-    go : lookup (eq k) (map (λ q. (key q, told (key q))) ps) ≡ cond (list_any (λ q. eq k (key q)) ps) (Some (told k)) None → (b : Bool) → eq k (key p) ≡ b → lookup (eq k) (map (λ q. (key q, told (key q))) (p ∷ ps)) ≡ cond (eq k (key p) || list_any (λ q. eq k (key q)) ps) (Some (told k)) None
-    go rest true e = rw e (ap (λ q. Some (told q)) (sym (equal k (key p) e)))
+    go : lookup (eq k) (map (λ q. (key q, as_stated (key q))) ps) ≡ cond (list_any (λ q. eq k (key q)) ps) (Some (as_stated k)) None → (b : Bool) → eq k (key p) ≡ b → lookup (eq k) (map (λ q. (key q, as_stated (key q))) (p ∷ ps)) ≡ cond (eq k (key p) || list_any (λ q. eq k (key q)) ps) (Some (as_stated k)) None
+    go rest true e = rw e (ap (λ q. Some (as_stated q)) (sym (equal k (key p) e)))
     go rest false e = rw e rest

@@ -10,7 +10,7 @@ use Rattle.wit_model.specs.declared.ast_item.AstItem.{AstItem}
 use Rattle.wit_model.specs.declared.ast_item.AstItem.TheVariants as entry
 use Rattle.wit_package_names.specs.declared.package_name.PackageName.{PackageName}
 use Rattle.wit_syntax.specs.Address.{same_package, same_address, package_of}
-use Rattle.wit_syntax.specs.Notes.{stability_of}
+use Rattle.wit_syntax.specs.Metadata.{stability_of}
 use Rattle.wit_syntax.specs.Repeats.{firsts}
 use Rattle.wit_syntax.specs.Foreign.{ForeignVisit, visited, same_item}
 use Rattle.wit_arena.specs.Whole.{foreign_place}
@@ -51,7 +51,7 @@ packages_of vs = firsts (λ a b. same_package (package_of a.of) (package_of b.of
 abbrev pub entry_in : List ForeignVisit → ForeignVisit → AstItem
 entry_in vs v = if v.wants_world then entry.World (foreign_place (worlds_in vs) v) else entry.Interface (foreign_place (interfaces_in vs) v)
 
--- the stability that the attributes of a visit tell
+-- the stability that the attributes of a visit say
 abbrev pub visit_stability : ForeignVisit → Stability
 visit_stability v = stability_of v.attributes
 

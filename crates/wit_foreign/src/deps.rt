@@ -4,17 +4,17 @@ ghost use Rattle.wit_tree.specs.declared.tree.PackageFile.{PackageFile};
 ghost use Rattle.wit_model.specs.declared.ast_item.AstItem.TheVariants as entry;
 ghost use Rattle.wit_syntax.specs.Foreign.{ForeignVisit as Visit, foreign_visits, foreign_packages};
 ghost use Rattle.wit_arena.specs.Whole.{dep};
-ghost use Rattle.wit_files.specs.Foreign.{foreign_behind};
+ghost use Rattle.wit_files.specs.Foreign.{foreign_view};
 ghost use Rattle.wit_foreign.specs.Growing.{AreDeps};
 
 use crate::packages::{Packages, add_visit_in};
 use std::alloc::{AllocError, Global};
 use wit_files::ForeignVisit;
-use wit_model::AstItem;
-use wit_notes::{package_name, told_stability};
-use wit_types::{Arena, InterfacePlace, WorldPlace};
 use wit_maps::Table;
-use wit_values::{Row, Span, beside};
+use wit_model::AstItem;
+use wit_notes::{package_name, stated_stability};
+use wit_types::{Arena, InterfacePlace, WorldPlace};
+use wit_values::{Row, Span, pair_with};
 
 /// The items of the visits so far.
 #[derive(Drop)]
@@ -67,7 +67,7 @@ impl Deps {
         Ok(())
     }
 
-    /// Notes where a visit names its package, if that has no span yet.
+    /// Metadata where a visit names its package, if that has no span yet.
     fn note_span(&mut self, span: Span) -> Result<(), AllocError>
         ensures spans { OnOk result (self.new.spans ≡ self.old.spans ++ cond (nat_lt (length self.old.spans) (length self.old.packages)) (span ∷ []) []) }
         ensures packages { OnOk result (self.new.packages ≡ self.old.packages) }
@@ -82,11 +82,11 @@ impl Deps {
 
     /// Adds a visit.
     fn add_visit(&mut self, alloc: Global, visit: &ForeignVisit<'_, '_>) -> Result<(), AllocError>
-        ensures { OnOk result ((vs : List Visit) → AreDeps vs self.old → AreDeps (vs ++ foreign_behind visit.now ∷ []) self.new) }
+        ensures { OnOk result ((vs : List Visit) → AreDeps vs self.old → AreDeps (vs ++ foreign_view visit.now ∷ []) self.new) }
     {
         let key = package_name(alloc, visit.package)?;
-        let told = told_stability(alloc, visit.attributes);
-        let (package, stability) = beside(key, told)?;
+        let as_stated = stated_stability(alloc, visit.attributes);
+        let (package, stability) = pair_with(key, as_stated)?;
         let entry = self.next_entry(visit.wants_world);
         let name = visit.name.name;
         let fresh = add_visit_in(alloc, &mut self.packages, package, name, entry, stability)?;
@@ -101,20 +101,20 @@ impl Deps {
 /// The items of other packages that all visits of files lead to, and for each package where a visit
 /// first names it.
 ///
-/// The packages stand in the order in which visits first name them. Each has the names of its items
+/// The packages are in the order in which visits first name them. Each has the names of its items
 /// in the order of their first visits: what each is, an interface or a world by its place among
-/// those of other packages, and the stability that the attributes of every visit of it tell, in
-/// order. Whether these break a rule is not looked at. The error is want of memory.
+/// those of other packages, and the stability that the attributes of every visit of it say, in
+/// order. Whether these break a rule is not looked at. The error is a failed allocation.
 pub fn foreign_deps(
     alloc: Global,
     visits: &[ForeignVisit<'_, '_>],
 ) -> Result<(Packages, Row<Span>), AllocError>
-    ensures deps { IfOk result (λ found. (files : List PackageFile) → map foreign_behind visits.now ≡ foreign_visits files → found.0 ≡ map (dep files) (foreign_packages files)) }
-    ensures spans { IfOk result (λ found. (files : List PackageFile) → map foreign_behind visits.now ≡ foreign_visits files → found.1 ≡ map (λ v. v.of.span) (foreign_packages files)) }
+    ensures deps { IfOk result (λ found. (files : List PackageFile) → map foreign_view visits.now ≡ foreign_visits files → found.0 ≡ map (dep files) (foreign_packages files)) }
+    ensures spans { IfOk result (λ found. (files : List PackageFile) → map foreign_view visits.now ≡ foreign_visits files → found.1 ≡ map (λ v. v.of.span) (foreign_packages files)) }
 {
     let mut deps = Deps::new(alloc);
     for visit in visits {
         deps.add_visit(alloc, visit)?;
     }
-    Ok((deps.packages.fitted(), deps.spans))
+    Ok((deps.packages.shrunk(), deps.spans))
 }

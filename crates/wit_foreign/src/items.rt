@@ -7,9 +7,9 @@ ghost use Rattle.indexmap.specs.IndexMap.{insert_entry};
 ghost use Rattle.wit_foreign.specs.Kept.{item_more, row_more};
 
 use std::alloc::{AllocError, Global};
+use wit_maps::TextTable;
 use wit_model::AstItem;
 use wit_types::Stability;
-use wit_maps::TextTable;
 use wit_values::Row;
 
 /// Items by their names, each with its entry and the stability of each of its visits.
@@ -36,7 +36,7 @@ fn visited_once(
     Ok((entry, stabilities))
 }
 
-/// Puts a value at a text, whatever it is: where this is refused, it is let go here, where nothing is known of it.
+/// Puts a value at a text, whatever it is: where this is refused, it is dropped here, where nothing is known of it.
 fn put_at<V: Drop>(
     alloc: Global,
     table: &mut TextTable<V>,

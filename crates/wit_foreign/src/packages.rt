@@ -9,10 +9,10 @@ ghost use Rattle.wit_foreign.specs.Kept.{row_more, table_more};
 
 use crate::items::{Items, add_visit_of};
 use std::alloc::{AllocError, Global};
+use wit_maps::{Table, TextTable};
 use wit_model::AstItem;
 use wit_package_names::PackageName;
 use wit_types::Stability;
-use wit_maps::{Table, TextTable};
 
 /// Packages, each with its items.
 pub type Packages = Table<PackageName, Items>;
@@ -24,7 +24,7 @@ fn place_of(packages: &Packages, key: &PackageName) -> Option<usize>
     packages.get_index_of(key)
 }
 
-/// The items of a package, of which the first visit is told.
+/// The items of a package, of which the first visit is stated.
 fn first_items(
     alloc: Global,
     name: &str,

@@ -1,3 +1,3 @@
-mod Fronts
-mod Takings
-mod Taken
+mod Prefixes
+mod ForeignUses
+mod ForeignName

@@ -1,1 +1,1 @@
-pub mod Front
+pub mod ForeignPrefix

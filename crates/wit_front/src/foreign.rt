@@ -1,36 +1,36 @@
-//! What other packages' items put in front of the arenas.
+//! What other packages' items put before the arenas.
 ghost use Rattle.std.specs.Prelude.{◌≡◌, ◌++◌, ◌∷◌, ◌<◌, All, List, [], Some, true, false, length, map, nat_eq, slice_get, IfOk, IfErr, OnOk};
 ghost use Rattle.std.specs.List.{flat_map};
 ghost use Rattle.std.specs.Cmp.Lexicographic.{pointwise};
 ghost use Rattle.indexmap.specs.IndexMap.{insert_entry};
 ghost use Rattle.wit_tree.specs.declared.tree.PackageFile.{PackageFile as TheFile};
 ghost use Rattle.wit_tree.specs.declared.tree.WorldSide.{WorldSide as TheSide};
-ghost use Rattle.wit_type_tree.specs.Refusal.{IsWantOfMemory};
+ghost use Rattle.wit_type_tree.specs.Refusal.{IsAllocationFailure};
 ghost use Rattle.wit_syntax.specs.Address.{Address};
-ghost use Rattle.wit_syntax.specs.Source.{all_items, scope_names, Taking, taking};
+ghost use Rattle.wit_syntax.specs.Source.{all_items, scope_names, ForeignUse, use_of_foreign};
 ghost use Rattle.wit_syntax.specs.Foreign.{ForeignVisit as TheVisit, foreign_items};
 ghost use Rattle.wit_arena.specs.Whole.{foreign_entry};
-ghost use Rattle.wit_files.specs.Foreign.{foreign_behind};
-ghost use Rattle.wit_scopes.specs.Held.{name_behind};
-ghost use Rattle.wit_items.specs.Items.{names_behind};
-ghost use Rattle.wit_items.specs.Inside.{inside_behind, names_written};
-ghost use Rattle.wit_scopes.specs.Front.{IsNamePlaced, AreNamesPlaced};
-ghost use Rattle.wit_items.specs.Front.{AreItemsPlaced};
-ghost use Rattle.wit_front.specs.Front.{interface_with, with_types, bare_world, addresses_among, IsTaken, AreApart, HasTaken, name_takings, names_takings, held_takings, IsFront};
+ghost use Rattle.wit_files.specs.Foreign.{foreign_view};
+ghost use Rattle.wit_scopes.specs.Borrowed.{name_view};
+ghost use Rattle.wit_items.specs.Items.{names_view};
+ghost use Rattle.wit_items.specs.InlineNames.{inside_view, names_written};
+ghost use Rattle.wit_scopes.specs.PlacedNames.{IsNamePlaced, AreNamesPlaced};
+ghost use Rattle.wit_items.specs.PlacedItems.{AreItemsPlaced};
+ghost use Rattle.wit_front.specs.ForeignPrefix.{interface_with, with_types, bare_world, addresses_among, AreAdded, AreApart, HasUsed, name_foreign_uses, names_foreign_uses, borrowed_foreign_uses, IsPrefix};
 
 use std::alloc::{AllocError, Global};
 use wit_entries::entries::Entries;
 use wit_files::ForeignVisit;
 use wit_items::items::Item;
+use wit_maps::{Table, TextTable};
 use wit_model::{AstItem, Interface, World};
-use wit_notes::told_notes;
+use wit_notes::stated_metadata;
 use wit_scopes::scope_name::{ScopeName, Source};
 use wit_tree::tree::{Attribute, UseName};
 use wit_tree::{ParseResult, Span};
 use wit_types::{
     Arena, Docs, InterfaceId, InterfacePlace, Stability, TypeDefKind, TypeId, TypeOwner, WorldPlace,
 };
-use wit_maps::{Table, TextTable};
 use wit_values::{Row, Text};
 
 /// The interfaces and worlds of other packages.
@@ -92,7 +92,7 @@ fn add_type(
 impl ForeignArenas {
     /// Nothing of other packages, with room for so many interfaces.
     fn with_room(alloc: Global, room: usize) -> Result<Self, AllocError>
-        ensures { IfOk result (IsTaken [] [] []) }
+        ensures { IfOk result (AreAdded [] [] []) }
     {
         let mut interfaces = Arena::new(alloc);
         interfaces.reserve(room)?;
@@ -107,7 +107,7 @@ impl ForeignArenas {
     /// Adds a world at its first visit.
     fn add_world(&mut self, alloc: Global, visit: ForeignVisit<'_, '_>) -> Result<(), AllocError>
         requires { visit.wants_world ≡ true }
-        ensures { OnOk result ((vs : List TheVisit) → IsTaken vs [] [] self.old → IsTaken (vs ++ foreign_behind visit.entry ∷ []) [] [] self.new) }
+        ensures { OnOk result ((vs : List TheVisit) → AreAdded vs [] [] self.old → AreAdded (vs ++ foreign_view visit.entry ∷ []) [] [] self.new) }
     {
         let world = foreign_world(alloc, visit.name.span)?;
         let id = self.worlds.alloc(world)?;
@@ -122,7 +122,7 @@ impl ForeignArenas {
         visit: ForeignVisit<'_, '_>,
     ) -> Result<(), AllocError>
         requires { visit.wants_world ≡ false }
-        ensures { OnOk result ((vs : List TheVisit) → IsTaken vs [] [] self.old → IsTaken (vs ++ foreign_behind visit.entry ∷ []) [] [] self.new) }
+        ensures { OnOk result ((vs : List TheVisit) → AreAdded vs [] [] self.old → AreAdded (vs ++ foreign_view visit.entry ∷ []) [] [] self.new) }
     {
         let interface = foreign_interface(alloc, visit.name.span);
         let id = self.interfaces.alloc(interface)?;
@@ -132,7 +132,7 @@ impl ForeignArenas {
 
     /// Adds an item at its first visit.
     fn add(&mut self, alloc: Global, visit: ForeignVisit<'_, '_>) -> Result<(), AllocError>
-        ensures { OnOk result ((vs : List TheVisit) → IsTaken vs [] [] self.old → IsTaken (vs ++ foreign_behind visit.entry ∷ []) [] [] self.new) }
+        ensures { OnOk result ((vs : List TheVisit) → AreAdded vs [] [] self.old → AreAdded (vs ++ foreign_view visit.entry ∷ []) [] [] self.new) }
     {
         if visit.wants_world {
             return self.add_world(alloc, visit);
@@ -141,16 +141,16 @@ impl ForeignArenas {
     }
 
     /// Items of other packages, of which no type is known yet, with room for so many interfaces
-    /// behind theirs.
+    /// after theirs.
     ///
-    /// The error is want of memory.
+    /// The error is a failed allocation.
     pub fn of_items(
         alloc: Global,
         items: &[ForeignVisit<'_, '_>],
         declared: usize,
     ) -> Result<Self, AllocError>
-        ensures bare { IfOk result (IsTaken (map foreign_behind items.now) [] []) }
-        ensures entries { IfOk result (λ arenas. (files : List TheFile) → map foreign_behind items.now ≡ foreign_items files → arenas.entries.items ≡ map (foreign_entry files) (foreign_items files)) }
+        ensures bare { IfOk result (AreAdded (map foreign_view items.now) [] []) }
+        ensures entries { IfOk result (λ arenas. (files : List TheFile) → map foreign_view items.now ≡ foreign_items files → arenas.entries.items ≡ map (foreign_entry files) (foreign_items files)) }
     {
         let room = items.len().saturating_add(declared);
         let mut arenas = ForeignArenas::with_room(alloc, room)?;
@@ -163,7 +163,7 @@ impl ForeignArenas {
     /// Adds a type that is used from an interface of another package, by a `use` with these attributes,
     /// unless it was used before.
     ///
-    /// The error is want of memory.
+    /// The error is a failed allocation.
     fn take(
         &mut self,
         alloc: Global,
@@ -173,8 +173,8 @@ impl ForeignArenas {
         name: &UseName<'_>,
     ) -> ParseResult<()>
         requires within { place < length self.old.interfaces }
-        ensures taken { OnOk result ((vs : List TheVisit) (ts : List Taking) (s : Address) → AreApart vs → slice_get (addresses_among vs) place ≡ Some s → IsTaken vs ts types.old self.old → IsTaken vs (ts ++ taking s attributes.now name.now ∷ []) types.new self.new) }
-        ensures refused { IfErr result IsWantOfMemory }
+        ensures in_use { OnOk result ((vs : List TheVisit) (ts : List ForeignUse) (s : Address) → AreApart vs → slice_get (addresses_among vs) place ≡ Some s → AreAdded vs ts types.old self.old → AreAdded vs (ts ++ use_of_foreign s attributes.now name.now ∷ []) types.new self.new) }
+        ensures refused { IfErr result IsAllocationFailure }
     {
         let used = name.name;
         let id = self.interfaces.id_at(place);
@@ -182,9 +182,9 @@ impl ForeignArenas {
             return Ok(());
         }
         let text = Text::from_str(alloc, used.name)?;
-        let notes = told_notes(alloc, attributes)?;
+        let metadata = stated_metadata(alloc, attributes)?;
         let owner = TypeOwner::Interface(id);
-        let ty = types.add_named(owner, text, TypeDefKind::Unknown, notes, used.span)?;
+        let ty = types.add_named(owner, text, TypeDefKind::Unknown, metadata, used.span)?;
         add_type(alloc, self.interfaces.get_mut(id), used.name, ty)?;
         self.spans.push(used.span)?;
         Ok(())
@@ -192,16 +192,16 @@ impl ForeignArenas {
 
     /// Adds the type that a name of a scope is used from, if that is of another package.
     ///
-    /// The error is want of memory.
+    /// The error is a failed allocation.
     fn take_name(
         &mut self,
         alloc: Global,
         types: &mut Entries,
         name: &ScopeName<'_, '_>,
     ) -> ParseResult<()>
-        requires { HasTaken types.old self.old (λ front. IsNamePlaced front name.now) }
-        ensures taken { OnOk result ((vs : List TheVisit) (ts : List Taking) → AreApart vs → IsNamePlaced (addresses_among vs) name.now → IsTaken vs ts types.old self.old → IsTaken vs (ts ++ name_takings (name_behind name.now)) types.new self.new) }
-        ensures refused { IfErr result IsWantOfMemory }
+        requires { HasUsed types.old self.old (λ prefix. IsNamePlaced prefix name.now) }
+        ensures in_use { OnOk result ((vs : List TheVisit) (ts : List ForeignUse) → AreApart vs → IsNamePlaced (addresses_among vs) name.now → AreAdded vs ts types.old self.old → AreAdded vs (ts ++ name_foreign_uses (name_view name.now)) types.new self.new) }
+        ensures refused { IfErr result IsAllocationFailure }
     {
         if let ScopeName::Used(used) = name {
             if let Source::Foreign { place, .. } = used.from {
@@ -213,16 +213,16 @@ impl ForeignArenas {
 
     /// Adds the types that a scope uses from interfaces of other packages.
     ///
-    /// The error is want of memory.
+    /// The error is a failed allocation.
     fn take_names(
         &mut self,
         alloc: Global,
         types: &mut Entries,
         names: &[ScopeName<'_, '_>],
     ) -> ParseResult<()>
-        requires { HasTaken types.old self.old (λ front. AreNamesPlaced front names.now) }
-        ensures taken { OnOk result ((vs : List TheVisit) (ts : List Taking) → AreApart vs → AreNamesPlaced (addresses_among vs) names.now → IsTaken vs ts types.old self.old → IsTaken vs (ts ++ names_takings (map name_behind names.now)) types.new self.new) }
-        ensures refused { IfErr result IsWantOfMemory }
+        requires { HasUsed types.old self.old (λ prefix. AreNamesPlaced prefix names.now) }
+        ensures in_use { OnOk result ((vs : List TheVisit) (ts : List ForeignUse) → AreApart vs → AreNamesPlaced (addresses_among vs) names.now → AreAdded vs ts types.old self.old → AreAdded vs (ts ++ names_foreign_uses (map name_view names.now)) types.new self.new) }
+        ensures refused { IfErr result IsAllocationFailure }
     {
         for name in names {
             self.take_name(alloc, types, name)?;
@@ -232,16 +232,16 @@ impl ForeignArenas {
 
     /// Adds the types that interfaces which are written in a world use from those of other packages.
     ///
-    /// The error is want of memory.
+    /// The error is a failed allocation.
     fn take_inside(
         &mut self,
         alloc: Global,
         types: &mut Entries,
         inside: &[Vec<ScopeName<'_, '_>>],
     ) -> ParseResult<()>
-        requires { HasTaken types.old self.old (λ front. All (λ ns. AreNamesPlaced front ns.items) inside.now) }
-        ensures taken { OnOk result ((vs : List TheVisit) (ts : List Taking) → AreApart vs → All (λ ns. AreNamesPlaced (addresses_among vs) ns.items) inside.now → IsTaken vs ts types.old self.old → IsTaken vs (ts ++ flat_map names_takings (map (λ ns. map name_behind ns.items) inside.now)) types.new self.new) }
-        ensures refused { IfErr result IsWantOfMemory }
+        requires { HasUsed types.old self.old (λ prefix. All (λ ns. AreNamesPlaced prefix ns.items) inside.now) }
+        ensures in_use { OnOk result ((vs : List TheVisit) (ts : List ForeignUse) → AreApart vs → All (λ ns. AreNamesPlaced (addresses_among vs) ns.items) inside.now → AreAdded vs ts types.old self.old → AreAdded vs (ts ++ flat_map names_foreign_uses (map (λ ns. map name_view ns.items) inside.now)) types.new self.new) }
+        ensures refused { IfErr result IsAllocationFailure }
     {
         for names in inside {
             self.take_names(alloc, types, names)?;
@@ -252,16 +252,16 @@ impl ForeignArenas {
     /// Adds the types that an item uses from interfaces of other packages: those of its own names, then
     /// those of what is written in it, on the imported side and then on the exported one.
     ///
-    /// The error is want of memory.
+    /// The error is a failed allocation.
     fn take_item(
         &mut self,
         alloc: Global,
         types: &mut Entries,
         item: &Item<'_, '_>,
     ) -> ParseResult<()>
-        requires { HasTaken types.old self.old (λ front. AreItemsPlaced front (item.now ∷ [])) }
-        ensures taken { OnOk result ((vs : List TheVisit) (ts : List Taking) → AreApart vs → AreItemsPlaced (addresses_among vs) (item.now ∷ []) → IsTaken vs ts types.old self.old → IsTaken vs (ts ++ held_takings item.now) types.new self.new) }
-        ensures refused { IfErr result IsWantOfMemory }
+        requires { HasUsed types.old self.old (λ prefix. AreItemsPlaced prefix (item.now ∷ [])) }
+        ensures in_use { OnOk result ((vs : List TheVisit) (ts : List ForeignUse) → AreApart vs → AreItemsPlaced (addresses_among vs) (item.now ∷ []) → AreAdded vs ts types.old self.old → AreAdded vs (ts ++ borrowed_foreign_uses item.now) types.new self.new) }
+        ensures refused { IfErr result IsAllocationFailure }
     {
         self.take_names(alloc, types, &item.names)?;
         self.take_inside(alloc, types, &item.imported)?;
@@ -271,16 +271,16 @@ impl ForeignArenas {
 
     /// Adds the types that items use from interfaces of other packages, in the order of their visits.
     ///
-    /// The error is want of memory.
+    /// The error is a failed allocation.
     pub fn take_all(
         &mut self,
         alloc: Global,
         types: &mut Entries,
         items: &[Item<'_, '_>],
     ) -> ParseResult<()>
-        requires { HasTaken types.old self.old (λ front. AreItemsPlaced front items.now) }
-        ensures taken { OnOk result ((files : List TheFile) → IsTaken (foreign_items files) [] types.old self.old → AreItemsPlaced (addresses_among (foreign_items files)) items.now → map names_behind items.now ≡ map scope_names (all_items files) → ((side : TheSide) → map (inside_behind side) items.now ≡ map (names_written side) (all_items files)) → IsFront files types.new self.new) }
-        ensures refused { IfErr result IsWantOfMemory }
+        requires { HasUsed types.old self.old (λ prefix. AreItemsPlaced prefix items.now) }
+        ensures in_use { OnOk result ((files : List TheFile) → AreAdded (foreign_items files) [] types.old self.old → AreItemsPlaced (addresses_among (foreign_items files)) items.now → map names_view items.now ≡ map scope_names (all_items files) → ((side : TheSide) → map (inside_view side) items.now ≡ map (names_written side) (all_items files)) → IsPrefix files types.new self.new) }
+        ensures refused { IfErr result IsAllocationFailure }
     {
         for item in items {
             self.take_item(alloc, types, item)?;

@@ -1,4 +1,4 @@
-//! What stands in front of the arenas: other packages' interfaces and worlds, and the types used from them.
+//! What comes before the arenas: other packages' interfaces and worlds, and the types used from them.
 #![tactic(auto)]
 
 pub mod foreign;

@@ -1,4 +1,4 @@
--- Setters and their getters are told by their names.
+-- Setters and their getters are given by their names.
 use Rattle.std.specs.Prelude.{⊤}
 use Rattle.std.proofs.Common.{◌≡◌, ℕ, ◌++◌, ◌&&◌, Bool, true, false, List, [], ◌∷◌, Option, Some, None, take, drop, length, get_or, nat_eq, inl, inr, refl, sym, ap, ◌∙◌}
 use Rattle.std.specs.Prelude.{slice_set, if◌then◌else◌}
@@ -7,40 +7,40 @@ use Rattle.std.specs.List.{starts_with}
 use Rattle.std.specs.Option.{is_some, option_map}
 use Rattle.std.proofs.lemmas.Bool.{cases_Bool}
 use Rattle.std.proofs.lemmas.List.{take-append-drop}
-use Rattle.wit_names.specs.Front.{behind}
+use Rattle.wit_names.specs.Prefix.{rest_after}
 use Rattle.wit_functions.specs.declared.function.Function.{Function}
 use Rattle.wit_functions.specs.declared.function.FunctionKind.{FunctionKind}
 use Rattle.wit_functions.specs.declared.function.FunctionKind.TheVariants as kind
-use Rattle.wit_functions.specs.Setters.{fronts, goes_on_alike, goes_with, is_getter, is_same_text}
+use Rattle.wit_functions.specs.Setters.{prefixes, goes_on_alike, goes_with, is_getter, is_same_text}
 use Rattle.wit_functions.proofs.Names.{name_equal}
-use Rattle.wit_functions.specs.Told.{is_setter, offered, turned, wanted}
+use Rattle.wit_functions.specs.MaybeFunction.{is_setter, offered, turned, wanted}
 
 -- no text is the same as none
 pub same_as_none : (o : Option (List ℕ)) → is_same_text o None ≡ false
 same_as_none None = refl
 same_as_none (Some a) = refl
 
-same_behind : (rest front name : List ℕ) → is_same_text (Some rest) (behind front name) ≡ pointwise nat_eq (front ++ rest) name
-same_behind rest [] name = refl
-same_behind rest (a ∷ front) [] = refl
-same_behind rest (a ∷ front) (b ∷ name) = elim (cases_Bool (nat_eq a b)) [
-  | inl hit ↦ rw hit (same_behind rest front name)
+same_after : (rest prefix name : List ℕ) → is_same_text (Some rest) (rest_after prefix name) ≡ pointwise nat_eq (prefix ++ rest) name
+same_after rest [] name = refl
+same_after rest (a ∷ prefix) [] = refl
+same_after rest (a ∷ prefix) (b ∷ name) = elim (cases_Bool (nat_eq a b)) [
+  | inl hit ↦ rw hit (same_after rest prefix name)
   | inr miss ↦ rw miss refl
 ]
 
 alike_turned : (f : Option (List ℕ × List ℕ)) (s g : List ℕ) → goes_on_alike f s g ≡ is_same_text (turned f s) (Some g)
 alike_turned None s g = refl
-alike_turned (Some f) s g = go (behind f.0 s)
+alike_turned (Some f) s g = go (rest_after f.0 s)
   where
-    go : (o : Option (List ℕ)) → is_same_text o (behind f.1 g) ≡ is_same_text (option_map (λ rest. f.1 ++ rest) o) (Some g)
+    go : (o : Option (List ℕ)) → is_same_text o (rest_after f.1 g) ≡ is_same_text (option_map (λ rest. f.1 ++ rest) o) (Some g)
     go None = refl
-    go (Some rest) = same_behind rest f.1 g
+    go (Some rest) = same_after rest f.1 g
 
 -- a setter's getter offers the name that it wants
 pub goes_wanted : (s g : Option Function) → goes_with s g ≡ is_same_text (wanted s) (offered g)
 goes_wanted None g = refl
 goes_wanted (Some s) None = sym (same_as_none (wanted (Some s)))
-goes_wanted (Some s) (Some g) = ap (λ b. is_getter g.kind && b) (alike_turned (fronts s.kind) s.name g.name) ∙ go (is_getter g.kind)
+goes_wanted (Some s) (Some g) = ap (λ b. is_getter g.kind && b) (alike_turned (prefixes s.kind) s.name g.name) ∙ go (is_getter g.kind)
   where
     go : (b : Bool) → (b && is_same_text (wanted (Some s)) (Some g.name)) ≡ is_same_text (wanted (Some s)) (if b then Some g.name else None)
     go true = refl
@@ -49,7 +49,7 @@ goes_wanted (Some s) (Some g) = ap (λ b. is_getter g.kind && b) (alike_turned (
 -- what is no setter wants none
 pub wants_none : (o : Option Function) → is_setter o ≡ false → wanted o ≡ None
 wants_none None h = refl
-wants_none (Some f) h = go (fronts f.kind) h
+wants_none (Some f) h = go (prefixes f.kind) h
   where
     go : (o : Option (List ℕ × List ℕ)) → is_some o ≡ false → turned o f.name ≡ None
     go None h = refl
@@ -60,7 +60,7 @@ pub offers_none : (o : Option Function) (name : List ℕ) → wanted o ≡ Some 
 offers_none None name h = refl
 offers_none (Some f) name h = ap (λ (b : Bool). if b then Some f.name else None) (go f.kind h)
   where
-    go : (k : FunctionKind) → turned (fronts k) f.name ≡ Some name → is_getter k ≡ false
+    go : (k : FunctionKind) → turned (prefixes k) f.name ≡ Some name → is_getter k ≡ false
     go kind.Getter h = cc
     go (kind.MethodGetter r) h = cc
     go (kind.StaticGetter r) h = cc
@@ -83,7 +83,7 @@ abbrev TurnsBack : Option (List ℕ × List ℕ) → Type 0
 TurnsBack None = ⊤
 TurnsBack (Some f) = (rest : List ℕ) → setter_name (f.1 ++ rest) ≡ f.0 ++ rest
 
-turns_back : (k : FunctionKind) → TurnsBack (fronts k)
+turns_back : (k : FunctionKind) → TurnsBack (prefixes k)
 turns_back kind.Setter = λ rest. refl
 turns_back (kind.MethodSetter r) = λ rest. refl
 turns_back (kind.StaticSetter r) = λ rest. refl
@@ -111,4 +111,4 @@ setter_named (Some f) s name back h = elim (cases_Bool (starts_with nat_eq s f.0
 
 -- two setters that want one name have one name
 pub one_setter : (s t : Function) (name : List ℕ) → wanted (Some s) ≡ Some name → wanted (Some t) ≡ Some name → s.name ≡ t.name
-one_setter s t name of_s of_t = sym (setter_named (fronts s.kind) s.name name (turns_back s.kind) of_s) ∙ setter_named (fronts t.kind) t.name name (turns_back t.kind) of_t
+one_setter s t name of_s of_t = sym (setter_named (prefixes s.kind) s.name name (turns_back s.kind) of_s) ∙ setter_named (prefixes t.kind) t.name name (turns_back t.kind) of_t

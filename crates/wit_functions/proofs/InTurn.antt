@@ -1,4 +1,4 @@
--- Placing one setter after the other, from the last, puts each directly behind its getter.
+-- Placing one setter after the other, from the last, puts each directly after its getter.
 use Rattle.std.specs.Prelude.{⊤}
 use Rattle.std.proofs.Common.{subst, ◌≡◌, ℕ, suc, ◌+◌, ◌++◌, ◌||◌, Bool, true, false, cond, List, [], ◌∷◌, Option, Some, None, MatchOption, insert, refl, sym, ap, ◌∙◌, inl, inr, arith}
 use Rattle.std.proofs.lemmas.Bool.{cases_Bool}
@@ -6,7 +6,7 @@ use Rattle.std.specs.List.{filter, flat_map, list_any, position_from}
 use Rattle.std.specs.Option.{option_map}
 use Rattle.wit_functions.specs.Setters.{early, others, setters_placed, with_setters}
 
--- e at the front, or directly behind its getter, at this index with e in front
+-- e at the prefix, or directly after its getter, at this index with e in front
 abbrev pub put_at : {X : Type 0} → X → List X → Option ℕ → List X
 put_at e es None = e ∷ es
 put_at e es (Some k) = insert es k e
@@ -28,10 +28,10 @@ or_swap false true c = refl
 or_swap false false c = refl
 
 module _ {X : Type 0} where
-  -- e directly behind the first that passes
-  abbrev pub behind_first : (X → Bool) → X → List X → List X
-  behind_first t e [] = []
-  behind_first t e (x ∷ xs) = cond (t x) (x ∷ e ∷ xs) (x ∷ behind_first t e xs)
+  -- e directly after the first that passes
+  abbrev pub rest_after_first : (X → Bool) → X → List X → List X
+  rest_after_first t e [] = []
+  rest_after_first t e (x ∷ xs) = cond (t x) (x ∷ e ∷ xs) (x ∷ rest_after_first t e xs)
 
   module _ (t : X → Bool) (e : X) where
     position_more : (i : ℕ) (xs : List X) → position_from t (suc i) xs ≡ option_map (λ k. suc k) (position_from t i xs)
@@ -45,7 +45,7 @@ module _ {X : Type 0} where
     ]
 
     abbrev Placed : List X → Option ℕ → Type 0
-    Placed xs o = MatchOption o (list_any t xs ≡ false) (λ k. (list_any t xs ≡ true) × (insert xs k e ≡ behind_first t e xs))
+    Placed xs o = MatchOption o (list_any t xs ≡ false) (λ k. (list_any t xs ≡ true) × (insert xs k e ≡ rest_after_first t e xs))
 
     placed_more : (x : X) (xs : List X) → t x ≡ false → (o : Option ℕ) → Placed xs o → Placed (x ∷ xs) (option_map (λ k. suc k) o)
     placed_more x xs miss None h = rw miss h
@@ -60,25 +60,25 @@ module _ {X : Type 0} where
           subst (λ o. Placed (x ∷ xs) o) (sym next) (placed_more x xs miss (position_from t 1 xs) (placed_at xs))
     ]
 
-    put_at-cases : (xs : List X) (o : Option ℕ) → Placed xs o → put_at e xs o ≡ cond (list_any t xs) (behind_first t e xs) (e ∷ xs)
+    put_at-cases : (xs : List X) (o : Option ℕ) → Placed xs o → put_at e xs o ≡ cond (list_any t xs) (rest_after_first t e xs) (e ∷ xs)
     put_at-cases xs None h = rw h refl
     put_at-cases xs (Some k) h = rw h.0 h.1
 
-    pub put_at-position : (xs : List X) → put_at e xs (position_from t 1 xs) ≡ cond (list_any t xs) (behind_first t e xs) (e ∷ xs)
+    pub put_at-position : (xs : List X) → put_at e xs (position_from t 1 xs) ≡ cond (list_any t xs) (rest_after_first t e xs) (e ∷ xs)
     put_at-position xs = put_at-cases xs (position_from t 1 xs) (placed_at xs)
 
-    pub behind_first-append : (ys zs : List X) → list_any t ys ≡ false → behind_first t e (ys ++ zs) ≡ ys ++ behind_first t e zs
-    behind_first-append [] zs none = refl
-    behind_first-append (y ∷ ys) zs none = elim (cases_Bool (t y)) [
+    pub rest_after_first-append : (ys zs : List X) → list_any t ys ≡ false → rest_after_first t e (ys ++ zs) ≡ ys ++ rest_after_first t e zs
+    rest_after_first-append [] zs none = refl
+    rest_after_first-append (y ∷ ys) zs none = elim (cases_Bool (t y)) [
       | inl hit ↦ let no = rw hit at none in cc
-      | inr miss ↦ rw miss (ap (λ l. y ∷ l) (behind_first-append ys zs (rw miss at none)))
+      | inr miss ↦ rw miss (ap (λ l. y ∷ l) (rest_after_first-append ys zs (rw miss at none)))
     ]
 
-    pub list_any-behind_first : (u : X → Bool) (xs : List X) → list_any t xs ≡ true → list_any u (behind_first t e xs) ≡ (u e || list_any u xs)
-    list_any-behind_first u [] some = cc
-    list_any-behind_first u (x ∷ xs) some = elim (cases_Bool (t x)) [
+    pub list_any-rest_after_first : (u : X → Bool) (xs : List X) → list_any t xs ≡ true → list_any u (rest_after_first t e xs) ≡ (u e || list_any u xs)
+    list_any-rest_after_first u [] some = cc
+    list_any-rest_after_first u (x ∷ xs) some = elim (cases_Bool (t x)) [
       | inl hit ↦ rw hit (or_swap (u x) (u e) (list_any u xs))
-      | inr miss ↦ rw miss (ap (λ b. u x || b) (list_any-behind_first u xs (rw miss at some)) ∙ or_swap (u x) (u e) (list_any u xs))
+      | inr miss ↦ rw miss (ap (λ b. u x || b) (list_any-rest_after_first u xs (rw miss at some)) ∙ or_swap (u x) (u e) (list_any u xs))
     ]
 
   pub list_any-none : (t : X → Bool) (xs : List X) → ((x : X) → t x ≡ false) → list_any t xs ≡ false
@@ -97,7 +97,7 @@ module _ {X : Type 0} where
   module _ (goes : X → X → Bool) where
     list_any-put : (e : X) (xs : List X) (u : X → Bool) → list_any u (put_at e xs (position_from (goes e) 1 xs)) ≡ (u e || list_any u xs)
     list_any-put e xs u = ap (λ l. list_any u l) (put_at-position (goes e) e xs) ∙ elim (cases_Bool (list_any (goes e) xs)) [
-      | inl some ↦ rw some (list_any-behind_first (goes e) e u xs some)
+      | inl some ↦ rw some (list_any-rest_after_first (goes e) e u xs some)
       | inr none ↦ rw none refl
     ]
 
@@ -105,8 +105,8 @@ module _ {X : Type 0} where
     list_any-in_turn u [] = refl
     list_any-in_turn u (e ∷ es) = list_any-put e (in_turn goes es) u ∙ ap (λ b. u e || b) (list_any-in_turn u es)
 
-    pub in_turn-step : (e : X) (es : List X) → in_turn goes (e ∷ es) ≡ cond (list_any (goes e) es) (behind_first (goes e) e (in_turn goes es)) (e ∷ in_turn goes es)
-    in_turn-step e es = put_at-position (goes e) e (in_turn goes es) ∙ ap (λ b. cond b (behind_first (goes e) e (in_turn goes es)) (e ∷ in_turn goes es)) (list_any-in_turn (goes e) es)
+    pub in_turn-step : (e : X) (es : List X) → in_turn goes (e ∷ es) ≡ cond (list_any (goes e) es) (rest_after_first (goes e) e (in_turn goes es)) (e ∷ in_turn goes es)
+    in_turn-step e es = put_at-position (goes e) e (in_turn goes es) ∙ ap (λ b. cond b (rest_after_first (goes e) e (in_turn goes es)) (e ∷ in_turn goes es)) (list_any-in_turn (goes e) es)
 
     -- one more setter, whose getter is not in the list
     with_setters-absent : (e : X) (ss st : List X) → list_any (goes e) st ≡ false → flat_map (with_setters goes (e ∷ ss)) st ≡ flat_map (with_setters goes ss) st
@@ -118,7 +118,7 @@ module _ {X : Type 0} where
 
     -- one more setter, whose getter is in the list once
     with_setters-present : (e : X) (ss st : List X) → list_any (goes e) ss ≡ false → AtMostOne (goes e) st → list_any (goes e) st ≡ true
-        → behind_first (goes e) e (flat_map (with_setters goes ss) st) ≡ flat_map (with_setters goes (e ∷ ss)) st
+        → rest_after_first (goes e) e (flat_map (with_setters goes ss) st) ≡ flat_map (with_setters goes (e ∷ ss)) st
     with_setters-present e ss [] apart one some = cc
     with_setters-present e ss (x ∷ st) apart one some = elim (cases_Bool (goes e x)) [
       | inl hit ↦
@@ -126,12 +126,12 @@ module _ {X : Type 0} where
           rw hit (ap (λ l. x ∷ e ∷ (filter (λ s. goes s x) ss ++ l)) (sym rest))
       | inr miss ↦
           let more = with_setters-present e ss st apart one.1 (rw miss at some) in
-          let over = behind_first-append (goes e) e (filter (λ s. goes s x) ss) (flat_map (with_setters goes ss) st) (list_any-filter_none (goes e) (λ s. goes s x) ss apart) in
+          let over = rest_after_first-append (goes e) e (filter (λ s. goes s x) ss) (flat_map (with_setters goes ss) st) (list_any-filter_none (goes e) (λ s. goes s x) ss apart) in
           rw miss (ap (λ l. x ∷ l) (over ∙ ap (λ l. filter (λ s. goes s x) ss ++ l) more))
     ]
 
     module _ (no_setter : (e g x : X) → goes e g ≡ true → goes g x ≡ false) where
-      -- the getter of a setter stands before no getter of its own
+      -- the getter of a setter comes before no getter of its own
       not_early : (e y : X) (ys : List X) → list_any (goes y) ys ≡ true → goes e y ≡ false
       not_early e y ys some = elim (cases_Bool (goes e y)) [
         | inl hit ↦ let none = list_any-none (goes y) ys (λ x. no_setter e y x hit) in cc
@@ -159,7 +159,7 @@ module _ {X : Type 0} where
         | inr none ↦ rw none (λ hit. list_any-others e ys ∙ one.0 hit, others-AtMostOne e ys one.1)
       ]
 
-      -- an element that stands before the list is the getter of none of its setters
+      -- an element that comes before the list is the getter of none of its setters
       filter-early : (e : X) (es : List X) → ((s : X) → goes s e ≡ true → list_any (goes s) es ≡ false) → filter (λ s. goes s e) (early goes es) ≡ []
       filter-early e [] apart = refl
       filter-early e (y ∷ ys) apart =
@@ -185,7 +185,7 @@ module _ {X : Type 0} where
             | inl some ↦
                 let gone : list_any (goes e) (others goes es) ≡ true = list_any-others e es ∙ some in
                 let put = with_setters-present e (early goes es) (others goes es) (early-apart e es) (others-AtMostOne e es (one e).1) gone in
-                step ∙ rw some (ap (λ l. behind_first (goes e) e l) rest ∙ put)
+                step ∙ rw some (ap (λ l. rest_after_first (goes e) e l) rest ∙ put)
             | inr none ↦
                 let alone = filter-early e es (λ s hit. (one s).0 hit) in
                 step ∙ rw none (ap (λ l. e ∷ l) (rest ∙ ap (λ l. l ++ flat_map (with_setters goes (early goes es)) (others goes es)) (sym alone)))

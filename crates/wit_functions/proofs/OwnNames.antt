@@ -5,7 +5,7 @@ use Rattle.std.specs.Cmp.Lexicographic.{pointwise}
 use Rattle.std.specs.List.{AllByRecursion, IsDistinct, flat_map}
 use Rattle.wit_functions.specs.declared.function.Function.{Function}
 use Rattle.wit_functions.specs.Setters.{name_in}
-use Rattle.wit_functions.specs.Told.{HaveOwnNames}
+use Rattle.wit_functions.specs.MaybeFunction.{HaveOwnNames}
 use Rattle.wit_functions.proofs.Names.{name_cases}
 
 -- a name is none of these
@@ -47,26 +47,26 @@ differs_first : (name : List ℕ) (o : Option Function) (g : Function) (ns : Lis
 differs_first name None g ns is d = cc
 differs_first name (Some h) g ns is d = (let same : h ≡ g = cc in rw (← same) d.0)
 
-module _ {X : Type 0} (tells : X → Option Function) where
+module _ {X : Type 0} (function_at : X → Option Function) where
   -- the names of the functions
   abbrev pub names : List X → List (List ℕ)
-  names es = flat_map (λ e. name_in (tells e)) es
+  names es = flat_map (λ e. name_in (function_at e)) es
 
-  pub own_tail : (e : X) (es : List X) → HaveOwnNames tells (e ∷ es) → HaveOwnNames tells es
-  own_tail e es d = own_rest (tells e) (names es) d
+  pub own_tail : (e : X) (es : List X) → HaveOwnNames function_at (e ∷ es) → HaveOwnNames function_at es
+  own_tail e es d = own_rest (function_at e) (names es) d
 
-  pub own_behind : (front es : List X) → HaveOwnNames tells (front ++ es) → HaveOwnNames tells es
-  own_behind [] es d = d
-  own_behind (e ∷ front) es d = own_behind front es (own_tail e (front ++ es) d)
+  pub own_after : (prefix es : List X) → HaveOwnNames function_at (prefix ++ es) → HaveOwnNames function_at es
+  own_after [] es d = d
+  own_after (e ∷ prefix) es d = own_after prefix es (own_tail e (prefix ++ es) d)
 
-  pub own_head : (e : X) (f : Function) (es : List X) → tells e ≡ Some f → HaveOwnNames tells (e ∷ es) → Differs f.name (names es)
-  own_head e f es is d = own_first (tells e) f (names es) is d
+  pub own_head : (e : X) (f : Function) (es : List X) → function_at e ≡ Some f → HaveOwnNames function_at (e ∷ es) → Differs f.name (names es)
+  own_head e f es is d = own_first (function_at e) f (names es) is d
 
-  differs_at : (name : List ℕ) (es : List X) → Differs name (names es) → (i : ℕ) (x : X) (g : Function) → slice_get es i ≡ Some x → tells x ≡ Some g → pointwise nat_eq name g.name ≡ false
+  differs_at : (name : List ℕ) (es : List X) → Differs name (names es) → (i : ℕ) (x : X) (g : Function) → slice_get es i ≡ Some x → function_at x ≡ Some g → pointwise nat_eq name g.name ≡ false
   differs_at name [] d i x g at is = cc
-  differs_at name (e ∷ es) d zero x g at is = (let same : e ≡ x = cc in differs_first name (tells e) g (names es) (ap tells same ∙ is) d)
-  differs_at name (e ∷ es) d (suc i) x g at is = differs_at name es (differs_rest name (tells e) (names es) d) i x g at is
+  differs_at name (e ∷ es) d zero x g at is = (let same : e ≡ x = cc in differs_first name (function_at e) g (names es) (ap function_at same ∙ is) d)
+  differs_at name (e ∷ es) d (suc i) x g at is = differs_at name es (differs_rest name (function_at e) (names es) d) i x g at is
 
-  -- a function's name is none of those behind it
-  pub own_apart : (e : X) (es : List X) → HaveOwnNames tells (e ∷ es) → (i : ℕ) (x : X) → slice_get es i ≡ Some x → Apart (tells e) (tells x)
+  -- a function's name is none of those after it
+  pub own_apart : (e : X) (es : List X) → HaveOwnNames function_at (e ∷ es) → (i : ℕ) (x : X) → slice_get es i ≡ Some x → Apart (function_at e) (function_at x)
   own_apart e es d i x at f g is_f is_g = differs_at f.name es (own_head e f es is_f d) i x g at is_g

@@ -5,8 +5,8 @@ use Rattle.std.proofs.lemmas.List.{take-append-drop}
 use Rattle.std.proofs.lemmas.Slice.Eq.{bytes_eq-Decides}
 use Rattle.std.specs.Cmp.Lexicographic.{pointwise}
 use Rattle.std.specs.List.{AllByRecursion, IsDistinct, list_any, starts_with}
-use Rattle.wit_names.specs.Front.{behind}
-use Rattle.wit_functions.specs.Setters.{HaveDistinctNames, fronts, goes_on_alike, goes_with, is_getter, is_same_text, name_in, pairs, placed, told_names}
+use Rattle.wit_names.specs.Prefix.{rest_after}
+use Rattle.wit_functions.specs.Setters.{HaveDistinctNames, prefixes, goes_on_alike, goes_with, is_getter, is_same_text, name_in, pairs, placed, stated_names}
 use Rattle.wit_functions.specs.declared.function.Function.{Function}
 use Rattle.wit_functions.specs.declared.function.FunctionKind.{FunctionKind}
 use Rattle.wit_functions.specs.declared.function.FunctionKind.TheVariants as kind
@@ -24,36 +24,36 @@ and_false : (a : Bool) → (a && false) ≡ false
 and_false true = refl
 and_false false = refl
 
-fronts-of_getter : (k : FunctionKind) → is_getter k ≡ true → fronts k ≡ None
-fronts-of_getter kind.Getter h = refl
-fronts-of_getter (kind.MethodGetter r) h = refl
-fronts-of_getter (kind.StaticGetter r) h = refl
-fronts-of_getter kind.Freestanding h = refl
-fronts-of_getter kind.AsyncFreestanding h = refl
-fronts-of_getter kind.Setter h = cc
-fronts-of_getter (kind.Method r) h = refl
-fronts-of_getter (kind.AsyncMethod r) h = refl
-fronts-of_getter (kind.MethodSetter r) h = cc
-fronts-of_getter (kind.Static r) h = refl
-fronts-of_getter (kind.AsyncStatic r) h = refl
-fronts-of_getter (kind.StaticSetter r) h = cc
-fronts-of_getter (kind.Constructor r) h = refl
+prefixes-of_getter : (k : FunctionKind) → is_getter k ≡ true → prefixes k ≡ None
+prefixes-of_getter kind.Getter h = refl
+prefixes-of_getter (kind.MethodGetter r) h = refl
+prefixes-of_getter (kind.StaticGetter r) h = refl
+prefixes-of_getter kind.Freestanding h = refl
+prefixes-of_getter kind.AsyncFreestanding h = refl
+prefixes-of_getter kind.Setter h = cc
+prefixes-of_getter (kind.Method r) h = refl
+prefixes-of_getter (kind.AsyncMethod r) h = refl
+prefixes-of_getter (kind.MethodSetter r) h = cc
+prefixes-of_getter (kind.Static r) h = refl
+prefixes-of_getter (kind.AsyncStatic r) h = refl
+prefixes-of_getter (kind.StaticSetter r) h = cc
+prefixes-of_getter (kind.Constructor r) h = refl
 
 getter_no_setter : (o p q : Option Function) → goes_with o p ≡ true → goes_with p q ≡ false
 getter_no_setter None p q h = cc
 getter_no_setter (Some s) None q h = cc
 getter_no_setter (Some s) (Some g) None h = refl
 getter_no_setter (Some s) (Some g) (Some x) h =
-    let none = fronts-of_getter g.kind (and_left (is_getter g.kind) (goes_on_alike (fronts s.kind) s.name g.name) h) in
+    let none = prefixes-of_getter g.kind (and_left (is_getter g.kind) (goes_on_alike (prefixes s.kind) s.name g.name) h) in
     rw none (and_false (is_getter x.kind))
 
-behind-text : (front text rest : List ℕ) → behind front text ≡ Some rest → text ≡ front ++ rest
-behind-text front text rest h = elim (cases_Bool (starts_with nat_eq text front)) [
+rest_after-text : (prefix text rest : List ℕ) → rest_after prefix text ≡ Some rest → text ≡ prefix ++ rest
+rest_after-text prefix text rest h = elim (cases_Bool (starts_with nat_eq text prefix)) [
   | inl hit ↦
-      let found : Some (drop (length front) text) ≡ Some rest = rw hit at h in
-      let tail : drop (length front) text ≡ rest = cc in
-      let head = (bytes_eq-Decides front (take (length front) text)).0 hit in
-      sym (take-append-drop (length front) text) ∙ (λ i. sym head i ++ tail i)
+      let found : Some (drop (length prefix) text) ≡ Some rest = rw hit at h in
+      let tail : drop (length prefix) text ≡ rest = cc in
+      let head = (bytes_eq-Decides prefix (take (length prefix) text)).0 hit in
+      sym (take-append-drop (length prefix) text) ∙ (λ i. sym head i ++ tail i)
   | inr miss ↦ let none : None ≡ Some rest = rw miss at h in cc
 ]
 
@@ -68,18 +68,18 @@ some_injective a b p x y = cc
 alike-name : (f : Option (List ℕ × List ℕ)) (s g h : List ℕ) → goes_on_alike f s g ≡ true → goes_on_alike f s h ≡ true → g ≡ h
 alike-name None s g h a b = cc
 alike-name (Some f) s g h a b =
-    let x = same_text-first (behind f.0 s) (behind f.1 g) a in
-    let y = same_text-first (behind f.0 s) (behind f.1 h) b in
-    let same = some_injective x.0 y.0 (behind f.0 s) x.1 y.1 in
-    behind-text f.1 g x.0 x.2 ∙ ap (λ l. f.1 ++ l) same ∙ sym (behind-text f.1 h y.0 y.2)
+    let x = same_text-first (rest_after f.0 s) (rest_after f.1 g) a in
+    let y = same_text-first (rest_after f.0 s) (rest_after f.1 h) b in
+    let same = some_injective x.0 y.0 (rest_after f.0 s) x.1 y.1 in
+    rest_after-text f.1 g x.0 x.2 ∙ ap (λ l. f.1 ++ l) same ∙ sym (rest_after-text f.1 h y.0 y.2)
 
 -- two getters of one setter have one name
 getter_name : (s : Option Function) (g h : Function) → goes_with s (Some g) ≡ true → goes_with s (Some h) ≡ true → g.name ≡ h.name
 getter_name None g h a b = cc
 getter_name (Some s) g h a b =
-    alike-name (fronts s.kind) s.name g.name h.name
-    (and_right (is_getter g.kind) (goes_on_alike (fronts s.kind) s.name g.name) a)
-    (and_right (is_getter h.kind) (goes_on_alike (fronts s.kind) s.name h.name) b)
+    alike-name (prefixes s.kind) s.name g.name h.name
+    (and_right (is_getter g.kind) (goes_on_alike (prefixes s.kind) s.name g.name) a)
+    (and_right (is_getter h.kind) (goes_on_alike (prefixes s.kind) s.name h.name) b)
 
 abbrev Differs : List ℕ → List (List ℕ) → Type 0
 Differs n ns = AllByRecursion (λ y. pointwise nat_eq n y ≡ false) ns
@@ -106,25 +106,25 @@ distinct-first : (g : Function) (ns : List (List ℕ)) → IsDistinct (pointwise
 unfolding IsDistinct
 distinct-first g ns d = d.0
 
-module _ {K V : Type 0} (tells : V → Option Function) where
-  apart : (s : Option Function) (g : Function) (es : List (K × V)) → goes_with s (Some g) ≡ true → Differs g.name (told_names tells es) → list_any (λ x. goes_with s (tells x.1)) es ≡ false
+module _ {K V : Type 0} (function_at : V → Option Function) where
+  apart : (s : Option Function) (g : Function) (es : List (K × V)) → goes_with s (Some g) ≡ true → Differs g.name (stated_names function_at es) → list_any (λ x. goes_with s (function_at x.1)) es ≡ false
   apart s g [] pair differs = refl
   apart s g (e ∷ es) pair differs =
-      let one = apart-one s g (tells e.1) (told_names tells es) pair differs in
-      rw one (apart s g es pair (differs-rest g.name (tells e.1) (told_names tells es) differs))
+      let one = apart-one s g (function_at e.1) (stated_names function_at es) pair differs in
+      rw one (apart s g es pair (differs-rest g.name (function_at e.1) (stated_names function_at es) differs))
 
-  apart-told : (s o : Option Function) (es : List (K × V)) → goes_with s o ≡ true → IsDistinct (pointwise nat_eq) (name_in o ++ told_names tells es) → list_any (λ x. goes_with s (tells x.1)) es ≡ false
-  apart-told None None es pair d = cc
-  apart-told (Some s) None es pair d = cc
-  apart-told s (Some g) es pair d = apart s g es pair (distinct-first g (told_names tells es) d)
+  apart-maybe_function : (s o : Option Function) (es : List (K × V)) → goes_with s o ≡ true → IsDistinct (pointwise nat_eq) (name_in o ++ stated_names function_at es) → list_any (λ x. goes_with s (function_at x.1)) es ≡ false
+  apart-maybe_function None None es pair d = cc
+  apart-maybe_function (Some s) None es pair d = cc
+  apart-maybe_function s (Some g) es pair d = apart s g es pair (distinct-first g (stated_names function_at es) d)
 
-  one_getter : (es : List (K × V)) → HaveDistinctNames tells es → (e : K × V) → AtMostOne (pairs tells e) es
+  one_getter : (es : List (K × V)) → HaveDistinctNames function_at es → (e : K × V) → AtMostOne (pairs function_at e) es
   one_getter [] d e = tt
   one_getter (x ∷ es) d e = (
-    λ hit. apart-told (tells e.1) (tells x.1) es hit d,
-    one_getter es (distinct-rest (tells x.1) (told_names tells es) d) e,
+    λ hit. apart-maybe_function (function_at e.1) (function_at x.1) es hit d,
+    one_getter es (distinct-rest (function_at x.1) (stated_names function_at es) d) e,
   )
 
-  -- under distinct names the setters placed in turn stand directly behind their getters
-  pub in_turn-placed : (es : List (K × V)) → HaveDistinctNames tells es → in_turn (pairs tells) es ≡ placed tells es
-  in_turn-placed es d = in_turn-setters_placed (pairs tells) (λ e g x h. getter_no_setter (tells e.1) (tells g.1) (tells x.1) h) es (one_getter es d)
+  -- under distinct names the setters placed in turn come directly after their getters
+  pub in_turn-placed : (es : List (K × V)) → HaveDistinctNames function_at es → in_turn (pairs function_at) es ≡ placed function_at es
+  in_turn-placed es d = in_turn-setters_placed (pairs function_at) (λ e g x h. getter_no_setter (function_at e.1) (function_at g.1) (function_at x.1) h) es (one_getter es d)

@@ -10,7 +10,7 @@ use Rattle.std.proofs.lemmas.List.{reverse-append}
 use Rattle.wit_functions.specs.declared.function.Function.{Function}
 use Rattle.wit_functions.specs.Setters.{early, is_same_text, name_in, others}
 use Rattle.wit_functions.proofs.Names.{name_cases, name_equal, name_itself}
-use Rattle.wit_functions.specs.Told.{goes, offered, wanted, HaveOwnNames}
+use Rattle.wit_functions.specs.MaybeFunction.{goes, offered, wanted, HaveOwnNames}
 use Rattle.wit_functions.specs.Parted.{known, IsParted}
 use Rattle.wit_functions.proofs.GetterNames.{goes_wanted, offers_none, one_setter}
 use Rattle.wit_functions.proofs.OwnNames.{Differs, differs_rest, names, own_head}
@@ -46,22 +46,22 @@ module _ {X : Type 0} (test : X → X → Bool) (e : X) (es : List X) where
   early_kept : list_any (test e) es ≡ false → early test (e ∷ es) ≡ early test es
   early_kept miss = rw miss refl
 
--- of items taken from the last, the next stands in front of those before it
-pub turned_next : {X : Type 0} (front rest : List X) (x : X) → reverse rest ++ reverse (front ++ x ∷ []) ≡ reverse (x ∷ rest) ++ reverse front
-turned_next front rest x =
-    ap (λ l. reverse rest ++ l) (reverse-append front (x ∷ []))
-    ∙ sym (append_assoc (reverse rest) (x ∷ []) (reverse front))
-    ∙ ap (λ l. l ++ reverse front) (sym (reverse-append (x ∷ []) rest))
+-- of items taken from the last, the next comes before those before it
+pub turned_next : {X : Type 0} (prefix rest : List X) (x : X) → reverse rest ++ reverse (prefix ++ x ∷ []) ≡ reverse (x ∷ rest) ++ reverse prefix
+turned_next prefix rest x =
+    ap (λ l. reverse rest ++ l) (reverse-append prefix (x ∷ []))
+    ∙ sym (append_assoc (reverse rest) (x ∷ []) (reverse prefix))
+    ∙ ap (λ l. l ++ reverse prefix) (sym (reverse-append (x ∷ []) rest))
 
 -- one more in front, where the test says so
 chosen : {X : Type 0} (x : X) (xs : List X) (b : Bool) (o : Option X) → (b ≡ true → xs ≡ []) → option_to_list o ≡ xs → option_to_list (if b then Some x else o) ≡ (if b then x ∷ xs else xs)
 chosen x xs true o none was = ap (λ l. x ∷ l) (sym (none refl))
 chosen x xs false o none was = was
 
-module _ {X : Type 0} (tells : X → Option Function) where
+module _ {X : Type 0} (function_at : X → Option Function) where
   -- these want the name
   abbrev wanting : List ℕ → X → Bool
-  wanting name s = is_same_text (wanted (tells s)) (Some name)
+  wanting name s = is_same_text (wanted (function_at s)) (Some name)
 
   -- no function of another name wants what a setter does
   other_wants : (f : Function) (name : List ℕ) (o : Option Function) (ns : List (List ℕ)) → wanted (Some f) ≡ Some name → Differs f.name (name_in o ++ ns) → is_same_text (wanted o) (Some name) ≡ false
@@ -74,61 +74,61 @@ module _ {X : Type 0} (tells : X → Option Function) where
     | inr miss ↦ miss
   ]
 
-  none_want : (f : Function) (name : List ℕ) (es : List X) → wanted (Some f) ≡ Some name → Differs f.name (names tells es) → filter (wanting name) (early (goes tells) es) ≡ []
+  none_want : (f : Function) (name : List ℕ) (es : List X) → wanted (Some f) ≡ Some name → Differs f.name (names function_at es) → filter (wanting name) (early (goes function_at) es) ≡ []
   none_want f name [] wants d = refl
   none_want f name (e ∷ es) wants d =
-      let rest = none_want f name es wants (differs_rest f.name (tells e) (names tells es) d) in
-      elim (cases_Bool (list_any (goes tells e) es)) [
-        | inl hit ↦ (let other : wanting name e ≡ false = other_wants f name (tells e) (names tells es) wants d in rw (hit, other) rest)
+      let rest = none_want f name es wants (differs_rest f.name (function_at e) (names function_at es) d) in
+      elim (cases_Bool (list_any (goes function_at e) es)) [
+        | inl hit ↦ (let other : wanting name e ≡ false = other_wants f name (function_at e) (names function_at es) wants d in rw (hit, other) rest)
         | inr miss ↦ rw miss rest
       ]
 
   -- no other setter wants the name that a setter wants
-  alone : (s : X) (es : List X) (name : List ℕ) → wanted (tells s) ≡ Some name → HaveOwnNames tells (s ∷ es) → filter (wanting name) (early (goes tells) es) ≡ []
-  alone s es name wants own = go (tells s) refl
+  alone : (s : X) (es : List X) (name : List ℕ) → wanted (function_at s) ≡ Some name → HaveOwnNames function_at (s ∷ es) → filter (wanting name) (early (goes function_at) es) ≡ []
+  alone s es name wants own = go (function_at s) refl
     where
-      go : (o : Option Function) → tells s ≡ o → filter (wanting name) (early (goes tells) es) ≡ []
+      go : (o : Option Function) → function_at s ≡ o → filter (wanting name) (early (goes function_at) es) ≡ []
       go None is = (let none : None ≡ Some name = ap wanted (sym is) ∙ wants in absurd (let f : ⊥ = cc in f))
-      go (Some f) is = none_want f name es (ap wanted (sym is) ∙ wants) (own_head tells s f es is own)
+      go (Some f) is = none_want f name es (ap wanted (sym is) ∙ wants) (own_head function_at s f es is own)
 
-  no_name : (es : List X) → list_any (λ g. is_same_text None (offered (tells g))) es ≡ false
+  no_name : (es : List X) → list_any (λ g. is_same_text None (offered (function_at g))) es ≡ false
   no_name [] = refl
   no_name (e ∷ es) = no_name es
 
-  module _ (es kept : List X) (has : List ℕ → Bool) (waits : List ℕ → Option X) (was : IsParted tells es kept has waits) where
+  module _ (es kept : List X) (has : List ℕ → Bool) (waits : List ℕ → Option X) (was : IsParted function_at es kept has waits) where
     -- a getter is known exactly if it is one of these
-    stands : (s : X) → list_any (goes tells s) es ≡ is_some (known has (wanted (tells s)))
-    stands s = (λ i. list_any (λ g. goes_wanted (tells s) (tells g) i) es) ∙ go (wanted (tells s))
+    inverse : (s : X) → list_any (goes function_at s) es ≡ is_some (known has (wanted (function_at s)))
+    inverse s = (λ i. list_any (λ g. goes_wanted (function_at s) (function_at g) i) es) ∙ go (wanted (function_at s))
       where
-        go : (o : Option (List ℕ)) → list_any (λ g. is_same_text o (offered (tells g))) es ≡ is_some (known has o)
+        go : (o : Option (List ℕ)) → list_any (λ g. is_same_text o (offered (function_at g))) es ≡ is_some (known has o)
         go None = no_name es
         go (Some n) = sym (was.offer n) ∙ sym (known_test has n)
 
     -- a setter more that waits
-    pub parted_early : (now : List ℕ → Option X) (s : X) (name : List ℕ) → known has (wanted (tells s)) ≡ Some name → ((n : List ℕ) → now n ≡ (if pointwise nat_eq name n then Some s else waits n)) → HaveOwnNames tells (s ∷ es) → IsParted tells (s ∷ es) kept has now
+    pub parted_early : (now : List ℕ → Option X) (s : X) (name : List ℕ) → known has (wanted (function_at s)) ≡ Some name → ((n : List ℕ) → now n ≡ (if pointwise nat_eq name n then Some s else waits n)) → HaveOwnNames function_at (s ∷ es) → IsParted function_at (s ∷ es) kept has now
     parted_early now s name h put own =
-        let hit : list_any (goes tells s) es ≡ true = stands s ∙ ap is_some h in
-        let wants = known_name has (wanted (tells s)) name h in
+        let hit : list_any (goes function_at s) es ≡ true = inverse s ∙ ap is_some h in
+        let wants = known_name has (wanted (function_at s)) name h in
         record {
-          stay = was.stay ∙ sym (others_early (goes tells) s es hit);
-          offer = λ n. was.offer n ∙ ap (λ o. is_same_text (Some n) o || list_any (λ g. is_same_text (Some n) (offered (tells g))) es) (sym (offers_none (tells s) name wants));
+          stay = was.stay ∙ sym (others_early (goes function_at) s es hit);
+          offer = λ n. was.offer n ∙ ap (λ o. is_same_text (Some n) o || list_any (λ g. is_same_text (Some n) (offered (function_at g))) es) (sym (offers_none (function_at s) name wants));
           wait = λ n. (
-              let mine = filter (wanting n) (early (goes tells) es) in
-              let none : pointwise nat_eq name n ≡ true → mine ≡ [] = λ same. ap (λ q. filter (wanting q) (early (goes tells) es)) (sym (name_equal name n same)) ∙ alone s es name wants own in
+              let mine = filter (wanting n) (early (goes function_at) es) in
+              let none : pointwise nat_eq name n ≡ true → mine ≡ [] = λ same. ap (λ q. filter (wanting q) (early (goes function_at) es)) (sym (name_equal name n same)) ∙ alone s es name wants own in
               ap option_to_list (put n)
               ∙ chosen s mine (pointwise nat_eq name n) (waits n) none (was.wait n)
               ∙ ap (λ o. if is_same_text o (Some n) then s ∷ mine else mine) (sym wants)
-              ∙ ap (filter (wanting n)) (sym (early_early (goes tells) s es hit)));
+              ∙ ap (filter (wanting n)) (sym (early_early (goes function_at) s es hit)));
         }
 
     -- an item more that waits for none
-    pub parted_kept : (kept_now : List X) (has_now : List ℕ → Bool) (x : X) → known has (wanted (tells x)) ≡ None → kept_now ≡ kept ++ x ∷ [] → ((n : List ℕ) → has_now n ≡ (is_same_text (Some n) (offered (tells x)) || has n)) → IsParted tells (x ∷ es) kept_now has_now waits
+    pub parted_kept : (kept_now : List X) (has_now : List ℕ → Bool) (x : X) → known has (wanted (function_at x)) ≡ None → kept_now ≡ kept ++ x ∷ [] → ((n : List ℕ) → has_now n ≡ (is_same_text (Some n) (offered (function_at x)) || has n)) → IsParted function_at (x ∷ es) kept_now has_now waits
     parted_kept kept_now has_now x h more put =
-        let miss : list_any (goes tells x) es ≡ false = stands x ∙ ap is_some h in
+        let miss : list_any (goes function_at x) es ≡ false = inverse x ∙ ap is_some h in
         record {
-          stay = ap reverse more ∙ reverse-append kept (x ∷ []) ∙ ap (λ l. x ∷ l) was.stay ∙ sym (others_kept (goes tells) x es miss);
-          offer = λ n. put n ∙ ap (λ b. is_same_text (Some n) (offered (tells x)) || b) (was.offer n);
-          wait = λ n. was.wait n ∙ ap (filter (wanting n)) (sym (early_kept (goes tells) x es miss));
+          stay = ap reverse more ∙ reverse-append kept (x ∷ []) ∙ ap (λ l. x ∷ l) was.stay ∙ sym (others_kept (goes function_at) x es miss);
+          offer = λ n. put n ∙ ap (λ b. is_same_text (Some n) (offered (function_at x)) || b) (was.offer n);
+          wait = λ n. was.wait n ∙ ap (filter (wanting n)) (sym (early_kept (goes function_at) x es miss));
         }
 
 -- the names with one more that is offered

@@ -8,8 +8,8 @@ use Rattle.std.proofs.lemmas.Bool.{cases_Bool}
 use Rattle.std.proofs.lemmas.Option.{slice_get_within}
 use Rattle.wit_functions.specs.declared.function.Function.{Function}
 use Rattle.wit_functions.specs.Order.{IsOrder, Shows}
-use Rattle.wit_functions.specs.Setters.{HaveDistinctNames, early, goes_with, name_in, others, pairs, placed, setters_placed, told_names, with_setters}
-use Rattle.wit_functions.specs.Told.{HaveOwnNames, goes}
+use Rattle.wit_functions.specs.Setters.{HaveDistinctNames, early, goes_with, name_in, others, pairs, placed, setters_placed, stated_names, with_setters}
+use Rattle.wit_functions.specs.MaybeFunction.{HaveOwnNames, goes}
 use Rattle.wit_functions.proofs.InTurn.{in_turn, put_at}
 use Rattle.wit_functions.proofs.Keys.{Differ, Lacks, differ-in_turn}
 use Rattle.wit_functions.proofs.Pairs.{in_turn-placed}
@@ -50,14 +50,14 @@ module _ {X Y : Type 0} (f : X → Y) where
       | inr miss ↦ (let there = sym (alike s g) ∙ miss in rw (miss, there) (filter-map g ss))
     ]
 
-    behind-map : (ss gs : List X) → map f (flat_map (with_setters goes ss) gs) ≡ flat_map (with_setters goes_y (map f ss)) (map f gs)
-    behind-map ss [] = refl
-    behind-map ss (g ∷ gs) =
+    rest_after-map : (ss gs : List X) → map f (flat_map (with_setters goes ss) gs) ≡ flat_map (with_setters goes_y (map f ss)) (map f gs)
+    rest_after-map ss [] = refl
+    rest_after-map ss (g ∷ gs) =
         map-append (with_setters goes ss g) (flat_map (with_setters goes ss) gs)
-        ∙ (λ i. (f g ∷ filter-map g ss i) ++ behind-map ss gs i)
+        ∙ (λ i. (f g ∷ filter-map g ss i) ++ rest_after-map ss gs i)
 
     pub placed-map : (es : List X) → map f (setters_placed goes es) ≡ setters_placed goes_y (map f es)
-    placed-map es = behind-map (early goes es) (others goes es) ∙ (λ i. flat_map (with_setters goes_y (early-map es i)) (others-map es i))
+    placed-map es = rest_after-map (early goes es) (others goes es) ∙ (λ i. flat_map (with_setters goes_y (early-map es i)) (others-map es i))
 
 map-map : {X Y Z : Type 0} (f : X → Y) (g : Y → Z) (xs : List X) → map g (map f xs) ≡ map (λ x. g (f x)) xs
 map-map f g [] = refl
@@ -72,16 +72,16 @@ flat_map-map f g [] = refl
 flat_map-map f g (x ∷ xs) = ap (λ l. g (f x) ++ l) (flat_map-map f g xs)
 
 module _ {E : Type 0} where
-  -- each number is a place where its entry stands
-  abbrev Stands : List E → List (ℕ × E) → Type 0
-  Stands es [] = ⊤
-  Stands es (z ∷ zs) = (slice_get es z.0 ≡ Some z.1) × Stands es zs
+  -- each number is a place where its entry is
+  abbrev IsPresent : List E → List (ℕ × E) → Type 0
+  IsPresent es [] = ⊤
+  IsPresent es (z ∷ zs) = (slice_get es z.0 ≡ Some z.1) × IsPresent es zs
 
-  numbered-stand : (es : List E) (n : ℕ) (rest : List E) → ((k : ℕ) → slice_get es (n + k) ≡ slice_get rest k) → Stands es (enumerate_from n rest)
-  numbered-stand es n [] at = tt
-  numbered-stand es n (e ∷ rest) at = (
+  numbered-are_present : (es : List E) (n : ℕ) (rest : List E) → ((k : ℕ) → slice_get es (n + k) ≡ slice_get rest k) → IsPresent es (enumerate_from n rest)
+  numbered-are_present es n [] at = tt
+  numbered-are_present es n (e ∷ rest) at = (
     (let same : n + 0 ≡ n = omega arith in ap (slice_get es) (sym same) ∙ at 0),
-    numbered-stand es (n + 1) rest (λ k. (let same : n + 1 + k ≡ n + suc k = omega arith in ap (slice_get es) same ∙ at (suc k))),
+    numbered-are_present es (n + 1) rest (λ k. (let same : n + 1 + k ≡ n + suc k = omega arith in ap (slice_get es) same ∙ at (suc k))),
   )
 
   numbered-lack : (k n : ℕ) (rest : List E) → k < n → Lacks (λ (z : ℕ × E). z.0) k (enumerate_from n rest)
@@ -101,18 +101,18 @@ module _ {E : Type 0} where
   numbered-at n (x ∷ rest) zero e at = (let same : x ≡ e = cc in let here : n ≡ n + 0 = omega arith in λ i. Some (here i, same i))
   numbered-at n (x ∷ rest) (suc k) e at = (let there : n + 1 + k ≡ n + suc k = omega arith in numbered-at (n + 1) rest k e at ∙ ap (λ (m : ℕ). Some (m, e)) there)
 
-  stand-insert : (es : List E) (zs : List (ℕ × E)) (i : ℕ) (z : ℕ × E) → slice_get es z.0 ≡ Some z.1 → Stands es zs → Stands es (insert zs i z)
-  stand-insert es zs zero z one all = (one, all)
-  stand-insert es [] (suc i) z one all = (one, all)
-  stand-insert es (y ∷ zs) (suc i) z one all = (all.0, stand-insert es zs i z one all.1)
+  are_present-insert : (es : List E) (zs : List (ℕ × E)) (i : ℕ) (z : ℕ × E) → slice_get es z.0 ≡ Some z.1 → IsPresent es zs → IsPresent es (insert zs i z)
+  are_present-insert es zs zero z one all = (one, all)
+  are_present-insert es [] (suc i) z one all = (one, all)
+  are_present-insert es (y ∷ zs) (suc i) z one all = (all.0, are_present-insert es zs i z one all.1)
 
-  stand-put : (es : List E) (zs : List (ℕ × E)) (o : Option ℕ) (z : ℕ × E) → slice_get es z.0 ≡ Some z.1 → Stands es zs → Stands es (put_at z zs o)
-  stand-put es zs None z one all = (one, all)
-  stand-put es zs (Some i) z one all = stand-insert es zs i z one all
+  are_present-put : (es : List E) (zs : List (ℕ × E)) (o : Option ℕ) (z : ℕ × E) → slice_get es z.0 ≡ Some z.1 → IsPresent es zs → IsPresent es (put_at z zs o)
+  are_present-put es zs None z one all = (one, all)
+  are_present-put es zs (Some i) z one all = are_present-insert es zs i z one all
 
-  stand-in_turn : (goes : ℕ × E → ℕ × E → Bool) (es : List E) (zs : List (ℕ × E)) → Stands es zs → Stands es (in_turn goes zs)
-  stand-in_turn goes es [] all = tt
-  stand-in_turn goes es (z ∷ zs) all = stand-put es (in_turn goes zs) (position_from (goes z) 1 (in_turn goes zs)) z all.0 (stand-in_turn goes es zs all.1)
+  are_present-in_turn : (goes : ℕ × E → ℕ × E → Bool) (es : List E) (zs : List (ℕ × E)) → IsPresent es zs → IsPresent es (in_turn goes zs)
+  are_present-in_turn goes es [] all = tt
+  are_present-in_turn goes es (z ∷ zs) all = are_present-put es (in_turn goes zs) (position_from (goes z) 1 (in_turn goes zs)) z all.0 (are_present-in_turn goes es zs all.1)
 
   long-insert : (zs : List (ℕ × E)) (i : ℕ) (z : ℕ × E) → length (insert zs i z) ≡ suc (length zs)
   long-insert zs zero z = refl
@@ -131,13 +131,13 @@ module _ {E : Type 0} where
   long-numbered n [] = refl
   long-numbered n (e ∷ rest) = ap (λ m. suc m) (long-numbered (n + 1) rest)
 
-  -- the entries stand in the order of their numbers
-  shown : (es : List E) (zs : List (ℕ × E)) → Stands es zs → Shows es (map (λ z. z.0) zs) (map (λ z. z.1) zs)
+  -- the entries are in the order of their numbers
+  shown : (es : List E) (zs : List (ℕ × E)) → IsPresent es zs → Shows es (map (λ z. z.0) zs) (map (λ z. z.1) zs)
   shown es [] all k = refl
   shown es (z ∷ zs) all zero = sym all.0
   shown es (z ∷ zs) all (suc k) = shown es zs all.1 k
 
-  number_within : (es : List E) (zs : List (ℕ × E)) → Stands es zs → (k w : ℕ) → slice_get (map (λ z. z.0) zs) k ≡ Some w → w < length es
+  number_within : (es : List E) (zs : List (ℕ × E)) → IsPresent es zs → (k w : ℕ) → slice_get (map (λ z. z.0) zs) k ≡ Some w → w < length es
   number_within es [] all k w at = absurd (let f : ⊥ = cc in f)
   number_within es (z ∷ zs) all zero w at = (let same : z.0 ≡ w = cc in slice_get_within es w z.1 (ap (slice_get es) (sym same) ∙ all.0))
   number_within es (z ∷ zs) all (suc k) w at = number_within es zs all.1 k w at
@@ -154,7 +154,7 @@ module _ {E : Type 0} where
   number_once (z ∷ zs) differ (suc i) zero w at_i at_j = absurd (lacks_none z.0 zs differ.0 i (at_i ∙ sym at_j))
   number_once (z ∷ zs) differ (suc i) (suc j) w at_i at_j = ap (λ n. suc n) (number_once zs differ.1 i j w at_i at_j)
 
-  in_order : (es : List E) (zs : List (ℕ × E)) → Stands es zs → Differ (λ (z : ℕ × E). z.0) zs → length zs ≡ length es → IsOrder es (map (λ z. z.0) zs) (map (λ z. z.1) zs)
+  in_order : (es : List E) (zs : List (ℕ × E)) → IsPresent es zs → Differ (λ (z : ℕ × E). z.0) zs → length zs ≡ length es → IsOrder es (map (λ z. z.0) zs) (map (λ z. z.1) zs)
   in_order es zs all differ long = record {
     shows = shown es zs all;
     all = long-map (λ z. z.0) zs ∙ long;
@@ -162,53 +162,53 @@ module _ {E : Type 0} where
     once = number_once zs differ;
   }
 
-module _ {E : Type 0} (tells : E → Option Function) where
-  names-numbered : (n : ℕ) (es : List E) → told_names tells (enumerate_from n es) ≡ flat_map (λ e. name_in (tells e)) es
+module _ {E : Type 0} (function_at : E → Option Function) where
+  names-numbered : (n : ℕ) (es : List E) → stated_names function_at (enumerate_from n es) ≡ flat_map (λ e. name_in (function_at e)) es
   names-numbered n [] = refl
-  names-numbered n (e ∷ es) = ap (λ l. name_in (tells e) ++ l) (names-numbered (n + 1) es)
+  names-numbered n (e ∷ es) = ap (λ l. name_in (function_at e) ++ l) (names-numbered (n + 1) es)
 
-  -- the told functions have distinct names
-  pub own_told : {T : Type 0} (place : T → ℕ) (told : T → Option Function) (ts : List T) (es : List E)
-      → map {B = ℕ × Option Function} (λ t. (place t, told t)) ts ≡ map (λ z. (z.0, tells z.1)) (enumerate_from 0 es) → HaveOwnNames tells es
-      → IsDistinct (pointwise nat_eq) (flat_map (λ t. name_in (told t)) ts)
-  own_told place told ts es are names =
+  -- the stated functions have distinct names
+  pub own_stated : {T : Type 0} (place : T → ℕ) (maybe_function : T → Option Function) (ts : List T) (es : List E)
+      → map {B = ℕ × Option Function} (λ t. (place t, maybe_function t)) ts ≡ map (λ z. (z.0, function_at z.1)) (enumerate_from 0 es) → HaveOwnNames function_at es
+      → IsDistinct (pointwise nat_eq) (flat_map (λ t. name_in (maybe_function t)) ts)
+  own_stated place maybe_function ts es are names =
       let names_of = λ (p : ℕ × Option Function). name_in p.1 in
       subst (IsDistinct (pointwise nat_eq)) (sym (
-      sym (flat_map-map {B = ℕ × Option Function} (λ t. (place t, told t)) names_of ts) ∙ ap (flat_map names_of) are
-      ∙ flat_map-map {B = ℕ × Option Function} (λ z. (z.0, tells z.1)) names_of (enumerate_from 0 es) ∙ names-numbered 0 es)) names
+      sym (flat_map-map {B = ℕ × Option Function} (λ t. (place t, maybe_function t)) names_of ts) ∙ ap (flat_map names_of) are
+      ∙ flat_map-map {B = ℕ × Option Function} (λ z. (z.0, function_at z.1)) names_of (enumerate_from 0 es) ∙ names-numbered 0 es)) names
 
-  -- the places of the told functions, once setters are placed among these, are the order of the entries
-  pub placed_order : {T : Type 0} (place : T → ℕ) (told : T → Option Function) (ts : List T) (es : List E)
-      → map {B = ℕ × Option Function} (λ t. (place t, told t)) ts ≡ map (λ z. (z.0, tells z.1)) (enumerate_from 0 es) → HaveOwnNames tells es
-      → IsOrder es (map place (setters_placed (λ s g. goes_with (told s) (told g)) ts)) (setters_placed (goes tells) es)
-  placed_order {T = T} place told ts es are names =
+  -- the places of the stated functions, once setters are placed among these, are the order of the entries
+  pub placed_order : {T : Type 0} (place : T → ℕ) (maybe_function : T → Option Function) (ts : List T) (es : List E)
+      → map {B = ℕ × Option Function} (λ t. (place t, maybe_function t)) ts ≡ map (λ z. (z.0, function_at z.1)) (enumerate_from 0 es) → HaveOwnNames function_at es
+      → IsOrder es (map place (setters_placed (λ s g. goes_with (maybe_function s) (maybe_function g)) ts)) (setters_placed (goes function_at) es)
+  placed_order {T = T} place maybe_function ts es are names =
       let zs = enumerate_from 0 es in
-      let by_entry = pairs {K = ℕ} tells in
-      let own : HaveDistinctNames tells zs = subst (IsDistinct (pointwise nat_eq)) (sym (names-numbered 0 es)) names in
-      let turned = in_turn-placed tells zs own in
+      let by_entry = pairs {K = ℕ} function_at in
+      let own : HaveDistinctNames function_at zs = subst (IsDistinct (pointwise nat_eq)) (sym (names-numbered 0 es)) names in
+      let turned = in_turn-placed function_at zs own in
       let numbers = λ (z : ℕ × E). z.0 in
-      let is = in_order es (in_turn by_entry zs) (stand-in_turn by_entry es zs (numbered-stand es 0 es (λ k. (let same : 0 + k ≡ k = omega arith in ap (slice_get es) same)))) (differ-in_turn numbers by_entry zs (numbered-differ 0 es)) (long-in_turn by_entry zs ∙ long-numbered 0 es) in
-      let view : T → ℕ × Option Function = λ t. (place t, told t) in
-      let tell : ℕ × E → ℕ × Option Function = λ z. (z.0, tells z.1) in
+      let is = in_order es (in_turn by_entry zs) (are_present-in_turn by_entry es zs (numbered-are_present es 0 es (λ k. (let same : 0 + k ≡ k = omega arith in ap (slice_get es) same)))) (differ-in_turn numbers by_entry zs (numbered-differ 0 es)) (long-in_turn by_entry zs ∙ long-numbered 0 es) in
+      let view : T → ℕ × Option Function = λ t. (place t, maybe_function t) in
+      let tell : ℕ × E → ℕ × Option Function = λ z. (z.0, function_at z.1) in
       let both = λ (s g : ℕ × Option Function). goes_with s.1 g.1 in
-      let order : map place (setters_placed (λ s g. goes_with (told s) (told g)) ts) ≡ map numbers (in_turn by_entry zs) =
-      sym (map-map view (λ p. p.0) (setters_placed (λ s g. goes_with (told s) (told g)) ts))
-      ∙ ap (map (λ p. p.0)) (placed-map view (λ s g. goes_with (told s) (told g)) both (λ a b. refl) ts ∙ ap (setters_placed both) are ∙ sym (placed-map tell by_entry both (λ a b. refl) zs) ∙ ap (map tell) (sym turned))
+      let order : map place (setters_placed (λ s g. goes_with (maybe_function s) (maybe_function g)) ts) ≡ map numbers (in_turn by_entry zs) =
+      sym (map-map view (λ p. p.0) (setters_placed (λ s g. goes_with (maybe_function s) (maybe_function g)) ts))
+      ∙ ap (map (λ p. p.0)) (placed-map view (λ s g. goes_with (maybe_function s) (maybe_function g)) both (λ a b. refl) ts ∙ ap (setters_placed both) are ∙ sym (placed-map tell by_entry both (λ a b. refl) zs) ∙ ap (map tell) (sym turned))
       ∙ map-map tell (λ p. p.0) (in_turn by_entry zs) in
-      let entries : map (λ z. z.1) (in_turn by_entry zs) ≡ setters_placed (goes tells) es =
-      ap (map (λ z. z.1)) turned ∙ placed-map (λ z. z.1) by_entry (goes tells) (λ a b. refl) zs ∙ ap (setters_placed (goes tells)) (numbered-entries 0 es) in
-      subst (λ o. IsOrder es o (setters_placed (goes tells) es)) (sym order) (subst (λ l. IsOrder es (map numbers (in_turn by_entry zs)) l) entries is)
+      let entries : map (λ z. z.1) (in_turn by_entry zs) ≡ setters_placed (goes function_at) es =
+      ap (map (λ z. z.1)) turned ∙ placed-map (λ z. z.1) by_entry (goes function_at) (λ a b. refl) zs ∙ ap (setters_placed (goes function_at)) (numbered-entries 0 es) in
+      subst (λ o. IsOrder es o (setters_placed (goes function_at) es)) (sym order) (subst (λ l. IsOrder es (map numbers (in_turn by_entry zs)) l) entries is)
 
 -- one more place with its function
-pub told_more : {E T : Type 0} (tells : E → Option Function) (view : T → ℕ × Option Function) (es : List E) (place : ℕ) (e : E) (was now : List T) (t : T)
-    → slice_get es place ≡ Some e → view t ≡ (place, tells e) → now ≡ was ++ t ∷ []
-    → map view was ≡ map (λ z. (z.0, tells z.1)) (take place (enumerate_from 0 es)) → map view now ≡ map (λ z. (z.0, tells z.1)) (take (place + 1) (enumerate_from 0 es))
-told_more {E = E} tells view es place e was now t at is more so_far =
-    let tell : ℕ × E → ℕ × Option Function = λ z. (z.0, tells z.1) in
+pub stated_more : {E T : Type 0} (function_at : E → Option Function) (view : T → ℕ × Option Function) (es : List E) (place : ℕ) (e : E) (was now : List T) (t : T)
+    → slice_get es place ≡ Some e → view t ≡ (place, function_at e) → now ≡ was ++ t ∷ []
+    → map view was ≡ map (λ z. (z.0, function_at z.1)) (take place (enumerate_from 0 es)) → map view now ≡ map (λ z. (z.0, function_at z.1)) (take (place + 1) (enumerate_from 0 es))
+stated_more {E = E} function_at view es place e was now t at is more so_far =
+    let tell : ℕ × E → ℕ × Option Function = λ z. (z.0, function_at z.1) in
     ap (map view) more ∙ map-append view was (t ∷ []) ∙ (λ i. so_far i ++ is i ∷ [])
     ∙ sym (map-append tell (take place (enumerate_from 0 es)) ((place, e) ∷ []))
     ∙ ap (map tell) (sym (take_one_more (enumerate_from 0 es) place (place, e) (numbered-at 0 es place e at ∙ (let same : 0 + place ≡ place = omega arith in ap (λ (m : ℕ). Some (m, e)) same))))
 
--- once all are told
-pub told_all : {E : Type 0} (tells : E → Option Function) (es : List E) (n : ℕ) (ps : List (ℕ × Option Function)) → length es ≤ n → ps ≡ map (λ z. (z.0, tells z.1)) (take n (enumerate_from 0 es)) → ps ≡ map (λ z. (z.0, tells z.1)) (enumerate_from 0 es)
-told_all tells es n ps all so_far = so_far ∙ ap (map (λ z. (z.0, tells z.1))) (take_all n (enumerate_from 0 es) (omega (arith, all, long-numbered 0 es)))
+-- once all are stated
+pub stated_all : {E : Type 0} (function_at : E → Option Function) (es : List E) (n : ℕ) (ps : List (ℕ × Option Function)) → length es ≤ n → ps ≡ map (λ z. (z.0, function_at z.1)) (take n (enumerate_from 0 es)) → ps ≡ map (λ z. (z.0, function_at z.1)) (enumerate_from 0 es)
+stated_all function_at es n ps all so_far = so_far ∙ ap (map (λ z. (z.0, function_at z.1))) (take_all n (enumerate_from 0 es) (omega (arith, all, long-numbered 0 es)))

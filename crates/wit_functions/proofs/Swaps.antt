@@ -4,7 +4,7 @@ use Rattle.std.specs.Option.{option_and_then}
 use Rattle.std.proofs.lemmas.Option.{slice_get-get_or, slice_get_past, slice_get_cases, slice_get_within}
 use Rattle.std.proofs.lemmas.List.Edits.{length-swap}
 use Rattle.wit_types.proofs.Moving.{some_at}
-use Rattle.wit_functions.specs.Order.{AreBrought, AreFirst, AreStanding, IsExchange, IsOrder, Shows, TurnsBack}
+use Rattle.wit_functions.specs.Order.{AreBrought, AreFirst, ArePositions, IsExchange, IsOrder, Shows, TurnsBack}
 
 same_or_not : (m n : ℕ) → (m ≡ n) ⊎ (m ≡ n → ⊥)
 same_or_not m n = elim (three_ways m n) [
@@ -88,9 +88,9 @@ crossed there back a b x y la lb lx ly turns at_a at_b at_x at_y k w h = elim (s
   ]
 ]
 
-module _ (n : ℕ) (entries places : List ℕ) (was : AreStanding n entries places) (place entry from other : ℕ) (at_entry : slice_get places entry ≡ Some from) (at_place : slice_get entries place ≡ Some other) where
+module _ (n : ℕ) (entries places : List ℕ) (was : ArePositions n entries places) (place entry from other : ℕ) (at_entry : slice_get places entry ≡ Some from) (at_place : slice_get entries place ≡ Some other) where
   at_from : slice_get entries from ≡ Some entry
-  at_from = was.held entry from at_entry
+  at_from = was.kept entry from at_entry
 
   at_other : slice_get places other ≡ Some place
   at_other = was.found place other at_place
@@ -104,9 +104,9 @@ module _ (n : ℕ) (entries places : List ℕ) (was : AreStanding n entries plac
   pub other_within : other < n
   other_within = let lt = slice_get_within places other place at_other in omega (arith, lt, was.all_places)
 
-  -- one that is brought to a place changes with what stands there
-  pub still_stand : AreStanding n (swap entries place from) (swap places entry other)
-  still_stand =
+  -- one that is brought to a place changes with what is there
+  pub still_present : ArePositions n (swap entries place from) (swap places entry other)
+  still_present =
       let lp = within_entries place other at_place in
       let lf = within_entries from entry at_from in
       let le = slice_get_within places entry from at_entry in
@@ -115,7 +115,7 @@ module _ (n : ℕ) (entries places : List ℕ) (was : AreStanding n entries plac
         all_entries = length-swap entries place from ∙ was.all_entries;
         all_places = length-swap places entry other ∙ was.all_places;
         found = crossed entries places place from entry other lp lf le lo was.found at_place at_from at_entry at_other;
-        held = crossed places entries entry other place from le lo lp lf was.held at_entry at_other at_place at_from;
+        kept = crossed places entries entry other place from le lo lp lf was.kept at_entry at_other at_place at_from;
       }
 
 module _ (entries after : List ℕ) (place entry from : ℕ) (moved : IsExchange entries after place entry from) where
@@ -129,7 +129,7 @@ module _ (entries after : List ℕ) (place entry from : ℕ) (moved : IsExchange
     to_from : slice_get (swap entries place from) from ≡ slice_get entries place
     to_from = swapped_second entries place from moved.place_within moved.from_within
 
-    -- a swap of entries and of what they tell shows the same
+    -- a swap of entries and of what they say shows the same
     shown_swapped : Shows first (swap entries place from) (swap cur place from)
     shown_swapped k =
         let lc : place < length cur = omega (arith, moved.place_within, long) in
@@ -151,14 +151,14 @@ module _ (entries after : List ℕ) (place entry from : ℕ) (moved : IsExchange
 
     done_more : (k : ℕ) → k < place + 1 → slice_get (swap entries place from) k ≡ slice_get order k
     done_more k lt = elim (same_or_not k place) [
-      | inl here ↦ ap (slice_get (swap entries place from)) here ∙ to_place ∙ moved.stood ∙ sym wanted ∙ ap (slice_get order) (sym here)
+      | inl here ↦ ap (slice_get (swap entries place from)) here ∙ to_place ∙ moved.was_there ∙ sym wanted ∙ ap (slice_get order) (sym here)
       | inr not_place ↦ (
           let before : k < place = grind (arith, lt, not_place) in
-          let not_from : k ≡ from → ⊥ = λ same. not_place (is.once k place entry (sym (so_far.done k before) ∙ ap (slice_get entries) same ∙ moved.stood) wanted) in
+          let not_from : k ≡ from → ⊥ = λ same. not_place (is.once k place entry (sym (so_far.done k before) ∙ ap (slice_get entries) same ∙ moved.was_there) wanted) in
           swapped_other entries place from k not_place not_from ∙ so_far.done k before)
     ]
 
-    -- one more stands at its place
+    -- one more is at its place
     pub brought_next : AreBrought first (swap cur place from) order after (place + 1)
     brought_next = rw moved.exchanged (record { long = length-swap cur place from ∙ so_far.long; shown = shown_swapped; done = done_more })
 
@@ -200,13 +200,13 @@ first_more places n long firsts k w at = elim (same_or_not k (length places)) [
     earlier (x ∷ xs) zero lt = refl
     earlier (x ∷ xs) (suc k) lt = earlier xs k (omega (arith, lt))
 
--- where all stand at their first places
-pub first_stand : (n : ℕ) (entries places : List ℕ) → length entries ≡ n → length places ≡ n → AreFirst entries → AreFirst places → AreStanding n entries places
-first_stand n entries places all_entries all_places of_entries of_places = record {
+-- where all are at their first places
+pub first_present : (n : ℕ) (entries places : List ℕ) → length entries ≡ n → length places ≡ n → AreFirst entries → AreFirst places → ArePositions n entries places
+first_present n entries places all_entries all_places of_entries of_places = record {
   all_entries = all_entries;
   all_places = all_places;
   found = λ k w at. back entries places k w of_entries of_places (omega (arith, all_entries, all_places)) at;
-  held = λ k w at. back places entries k w of_places of_entries (omega (arith, all_entries, all_places)) at;
+  kept = λ k w at. back places entries k w of_places of_entries (omega (arith, all_entries, all_places)) at;
 }
   where
     back : (xs ys : List ℕ) (k w : ℕ) → AreFirst xs → AreFirst ys → length xs ≤ length ys → slice_get xs k ≡ Some w → slice_get ys w ≡ Some k

@@ -1,4 +1,4 @@
--- What a function's kind tells: whether it is asynchronous, which accessor it is, and of which resource.
+-- What a function's kind says: whether it is asynchronous, which accessor it is, and of which resource.
 use Rattle.std.specs.Prelude.{ℕ, Bool, true, false, Option, Some, None}
 use Rattle.std.specs.Borrow.{LendsIf, MutBor, Fml}
 use Rattle.wit_values.specs.declared.accessor.AccessorKind.{AccessorKind}
@@ -89,6 +89,6 @@ with_resource (kind.StaticGetter r) i = kind.StaticGetter i
 with_resource (kind.StaticSetter r) i = kind.StaticSetter i
 with_resource (kind.Constructor r) i = kind.Constructor i
 
--- k ends with the resource that was left behind r, if it has one
+-- k ends with the resource that was left after r, if it has one
 abbrev pub LendsResource : MutBor FunctionKind → Option (MutBor ℕ) → Fml
 LendsResource k r = LendsIf the_row (id_row place_row) k r (with_resource k.now) k.now

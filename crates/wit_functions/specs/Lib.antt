@@ -5,6 +5,6 @@ pub mod Names
 pub mod Setters
 pub mod Signature
 pub mod Spans
-pub mod Told
+pub mod MaybeFunction
 pub mod Parted
 pub mod Order

@@ -6,15 +6,15 @@ use Rattle.wit_functions.specs.declared.abi.Mangling.TheVariants as mangling
 use Rattle.wit_functions.specs.declared.function.FunctionKind.{FunctionKind}
 use Rattle.wit_functions.specs.declared.function.FunctionKind.TheVariants as kind
 
--- what stands behind the first such byte
-abbrev pub behind_first : ℕ → List ℕ → List ℕ
-behind_first mark name = after_first (λ b. b == mark) name
+-- what comes after the first such byte
+abbrev pub rest_after_first : ℕ → List ℕ → List ℕ
+rest_after_first mark name = after_first (λ b. b == mark) name
 
 -- the byte is in the name
 abbrev pub HasMark : ℕ → List ℕ → Type 0
 HasMark mark name = IsTrue (list_any (λ b. b == mark) name)
 
--- the byte that stands in front of the item's name: `]` of an accessor, `.` of a resource's function
+-- the byte that comes before the item's name: `]` of an accessor, `.` of a resource's function
 abbrev pub mark_of : FunctionKind → Option ℕ
 mark_of kind.Freestanding = None
 mark_of kind.AsyncFreestanding = None
@@ -40,16 +40,16 @@ abbrev pub item_name : FunctionKind → List ℕ → List ℕ
 item_name (kind.Constructor r) name = codes "constructor"
 item_name kind.Freestanding name = name
 item_name kind.AsyncFreestanding name = name
-item_name kind.Getter name = behind_first 93 name
-item_name kind.Setter name = behind_first 93 name
-item_name (kind.Method r) name = behind_first 46 name
-item_name (kind.AsyncMethod r) name = behind_first 46 name
-item_name (kind.MethodGetter r) name = behind_first 46 name
-item_name (kind.MethodSetter r) name = behind_first 46 name
-item_name (kind.Static r) name = behind_first 46 name
-item_name (kind.AsyncStatic r) name = behind_first 46 name
-item_name (kind.StaticGetter r) name = behind_first 46 name
-item_name (kind.StaticSetter r) name = behind_first 46 name
+item_name kind.Getter name = rest_after_first 93 name
+item_name kind.Setter name = rest_after_first 93 name
+item_name (kind.Method r) name = rest_after_first 46 name
+item_name (kind.AsyncMethod r) name = rest_after_first 46 name
+item_name (kind.MethodGetter r) name = rest_after_first 46 name
+item_name (kind.MethodSetter r) name = rest_after_first 46 name
+item_name (kind.Static r) name = rest_after_first 46 name
+item_name (kind.AsyncStatic r) name = rest_after_first 46 name
+item_name (kind.StaticGetter r) name = rest_after_first 46 name
+item_name (kind.StaticSetter r) name = rest_after_first 46 name
 
 -- `cm32p2|interface|name`, where no interface is an empty text
 abbrev pub standard_name : Option (List ℕ) → List ℕ → List ℕ

@@ -1,11 +1,11 @@
--- Items parted, on the way back through them, into setters that stand before their getter and others.
+-- Items parted, on the way back through them, into setters that come before their getter and others.
 use Rattle.std.specs.Prelude.{◌≡◌, ℕ, ◌++◌, Bool, List, [], ◌∷◌, Option, Some, None, reverse, if◌then◌else◌, nat_eq}
 use Rattle.std.specs.Cmp.Lexicographic.{pointwise}
 use Rattle.std.specs.List.{filter, list_any}
 use Rattle.std.specs.Option.{option_and_then, option_to_list}
 use Rattle.wit_functions.specs.Setters.{early, is_same_text, others}
 use Rattle.wit_functions.specs.declared.function.Function.{Function}
-use Rattle.wit_functions.specs.Told.{goes, offered, wanted}
+use Rattle.wit_functions.specs.MaybeFunction.{goes, offered, wanted}
 
 -- a name that is one of these
 abbrev pub known : (List ℕ → Bool) → Option (List ℕ) → Option (List ℕ)
@@ -17,18 +17,18 @@ abbrev pub without : {X : Type 0} → Option (List ℕ) → (List ℕ → Option
 without None waits name = waits name
 without (Some gone) waits name = if pointwise nat_eq gone name then None else waits name
 
-module _ {X : Type 0} (tells : X → Option Function) where
+module _ {X : Type 0} (function_at : X → Option Function) where
   -- the setter that waits for an item
   abbrev pub waiting_for : (List ℕ → Option X) → X → Option X
-  waiting_for waits g = option_and_then waits (offered (tells g))
+  waiting_for waits g = option_and_then waits (offered (function_at g))
 
-  -- each item, and directly behind it the setter that waits for it, which waits no longer
+  -- each item, and directly after it the setter that waits for it, which waits no longer
   abbrev pub served : (List ℕ → Option X) → List X → List X
   served waits [] = []
-  served waits (g ∷ gs) = g ∷ option_to_list (waiting_for waits g) ++ served (without (offered (tells g)) waits) gs
+  served waits (g ∷ gs) = g ∷ option_to_list (waiting_for waits g) ++ served (without (offered (function_at g)) waits) gs
 
   -- the items are parted: those that wait for none, the last first, the names of getters, and under these the setters that wait
   pub record IsParted (es kept : List X) (has : List ℕ → Bool) (waits : List ℕ → Option X) : Type 0 where
-    pub stay : reverse kept ≡ others (goes tells) es
-    pub offer : (name : List ℕ) → has name ≡ list_any (λ g. is_same_text (Some name) (offered (tells g))) es
-    pub wait : (name : List ℕ) → option_to_list (waits name) ≡ filter (λ s. is_same_text (wanted (tells s)) (Some name)) (early (goes tells) es)
+    pub stay : reverse kept ≡ others (goes function_at) es
+    pub offer : (name : List ℕ) → has name ≡ list_any (λ g. is_same_text (Some name) (offered (function_at g))) es
+    pub wait : (name : List ℕ) → option_to_list (waits name) ≡ filter (λ s. is_same_text (wanted (function_at s)) (Some name)) (early (goes function_at) es)

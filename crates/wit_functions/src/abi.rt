@@ -29,7 +29,7 @@ pub enum ManglingAndAbi {
     Legacy(LiftLowerAbi),
 }
 
-/// On which side of the border a function stands, and how it is called.
+/// On which side of the border a function is, and how it is called.
 #[derive(Debug, Clone, Copy, PartialEq, Eq)]
 pub enum AbiVariant {
     GuestImport,

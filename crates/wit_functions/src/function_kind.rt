@@ -1,4 +1,4 @@
-//! What a function's kind tells.
+//! What a function's kind says.
 ghost use Rattle.std.specs.Prelude.{◌≡◌};
 ghost use Rattle.std.specs.Option.{option_copied_mut};
 ghost use Rattle.std.specs.Borrow.{sem};

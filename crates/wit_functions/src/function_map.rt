@@ -1,8 +1,8 @@
 //! Maps in insertion order, whose values may be functions and can be put into another order.
 ghost use Rattle.std.specs.Prelude.{◌≡◌, ◌<◌, Some, length, slice_get};
-ghost use Rattle.wit_functions.specs.Order.{AreFirst, AreStanding, IsOrder};
+ghost use Rattle.wit_functions.specs.Order.{AreFirst, ArePositions, IsOrder};
 
-use crate::order::{Standing, put_in_order};
+use crate::order::{Positions, put_in_order};
 use indexmap::IndexMap;
 use std::alloc::Global;
 use std::hash::Hash;
@@ -30,9 +30,9 @@ pub trait FunctionMap<V> {
     fn alloc(&self) -> Global;
 
     /// Puts the entries, which are at their first places, into another order.
-    fn reorder(&mut self, standing: Standing, order: Vec<usize>)
-        requires stands { AreStanding (length (entries self.old)) standing.entries.items standing.places.items }
-        requires first { AreFirst standing.entries.items }
+    fn reorder(&mut self, positions: Positions, order: Vec<usize>)
+        requires inverse { ArePositions (length (entries self.old)) positions.entries.items positions.places.items }
+        requires first { AreFirst positions.entries.items }
         ensures { (now : List (Key × V)) → IsOrder (entries self.old) order.items now → entries self.new ≡ now };
 }
 
@@ -54,8 +54,8 @@ impl<K: Eq + Hash, V> FunctionMap<V> for IndexMap<K, V> {
         *self.allocator()
     }
 
-    fn reorder(&mut self, standing: Standing, order: Vec<usize>) {
-        put_in_order(self, standing, order);
+    fn reorder(&mut self, positions: Positions, order: Vec<usize>) {
+        put_in_order(self, positions, order);
     }
 }
 
@@ -77,8 +77,8 @@ impl<K: Eq + Hash + Ord + Clone + Drop, V> FunctionMap<V> for Table<K, V> {
         *self.allocator()
     }
 
-    fn reorder(&mut self, standing: Standing, order: Vec<usize>) {
-        put_in_order(self, standing, order);
+    fn reorder(&mut self, positions: Positions, order: Vec<usize>) {
+        put_in_order(self, positions, order);
         self.reindex();
     }
 }
@@ -103,8 +103,8 @@ impl<V> FunctionMap<V> for TextTable<V> {
         *self.allocator()
     }
 
-    fn reorder(&mut self, standing: Standing, order: Vec<usize>) {
-        put_in_order(self, standing, order);
+    fn reorder(&mut self, positions: Positions, order: Vec<usize>) {
+        put_in_order(self, positions, order);
         self.reindex();
     }
 }

@@ -3,16 +3,16 @@ ghost use Rattle.std.specs.Prelude.{◌≡◌, ◌↔◌, IsTrue, IfOk, IfNone, 
 ghost use Rattle.std.specs.Cow.{IsBorrowedStr, cow_str_bytes};
 ghost use Rattle.std.specs.Result.{IsOkAnd};
 ghost use Rattle.std.specs.Option.{option_copied};
-ghost use Rattle.wit_functions.specs.Names.{HasMark, HasMarkOf, behind_first, export_name, item_name, legacy_name, mark_of, standard_name};
+ghost use Rattle.wit_functions.specs.Names.{HasMark, HasMarkOf, rest_after_first, export_name, item_name, legacy_name, mark_of, standard_name};
 
 use crate::abi::Mangling;
 use crate::function::{Function, FunctionKind};
 use std::alloc::{AllocError, Global};
 use std::borrow::CowStr;
 
-fn behind_dot(name: &str) -> &str
+fn after_dot(name: &str) -> &str
     requires { HasMark 46 name.now }
-    ensures { result.now ≡ behind_first 46 name.now }
+    ensures { result.now ≡ rest_after_first 46 name.now }
 {
     match name.split_once('.') {
         Some((_, rest)) => rest,
@@ -20,9 +20,9 @@ fn behind_dot(name: &str) -> &str
     }
 }
 
-fn behind_bracket(name: &str) -> &str
+fn after_bracket(name: &str) -> &str
     requires { HasMark 93 name.now }
-    ensures { result.now ≡ behind_first 93 name.now }
+    ensures { result.now ≡ rest_after_first 93 name.now }
 {
     match name.split_once(']') {
         Some((_, rest)) => rest,
@@ -40,7 +40,7 @@ fn standard_name(alloc: Global, interface: Option<&str>, name: &str) -> Result<S
 }
 
 impl Function {
-    /// Whether the name has the mark in front of the item's name: a `]` in that of an accessor outside a
+    /// Whether the name has the mark before the item's name: a `]` in that of an accessor outside a
     /// resource, a `.` in that of a method or static function. Any other name needs none.
     ///
     /// Where it does, [`Function::item_name`] can be called.
@@ -69,7 +69,7 @@ impl Function {
         let name = self.name.as_str();
         match self.kind {
             FunctionKind::Freestanding | FunctionKind::AsyncFreestanding => name,
-            FunctionKind::Getter | FunctionKind::Setter => behind_bracket(name),
+            FunctionKind::Getter | FunctionKind::Setter => after_bracket(name),
             FunctionKind::Method(_)
             | FunctionKind::AsyncMethod(_)
             | FunctionKind::MethodGetter(_)
@@ -77,7 +77,7 @@ impl Function {
             | FunctionKind::Static(_)
             | FunctionKind::AsyncStatic(_)
             | FunctionKind::StaticGetter(_)
-            | FunctionKind::StaticSetter(_) => behind_dot(name),
+            | FunctionKind::StaticSetter(_) => after_dot(name),
             FunctionKind::Constructor(_) => "constructor",
         }
     }

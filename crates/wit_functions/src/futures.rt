@@ -70,10 +70,10 @@ fn is_unknown_in(types: &Types, in_slot: Option<Type>) -> bool
     false
 }
 
-/// Whether a type of another package stands in a function's signature or below it.
+/// Whether a type of another package is in a function's signature or below it.
 ///
 /// Handles are not entered. `types` is the arena of the function's types, and each entry refers
-/// to earlier ones alone, as `is_backward` tells. Below an id of no entry is nothing.
+/// to earlier ones alone, as `is_backward` says. Below an id of no entry is nothing.
 pub fn reaches_unknown(types: &Types, function: &Function) -> bool
     requires { IsBackward types.now }
     ensures { result ≡ reaches_unknown types.now function.now }
@@ -88,11 +88,11 @@ pub fn reaches_unknown(types: &Types, function: &Function) -> bool
 
 impl Function {
     /// The futures and streams in the parameters, and then in the result: each after those below
-    /// it, and as often as it stands there. Handles are not entered.
+    /// it, and as often as it is there. Handles are not entered.
     ///
     /// `types` is the arena of the function's types, and each entry refers to earlier ones alone,
-    /// as `is_backward` tells. What is below a type of another package is not known, and none of
-    /// it is listed: `reaches_unknown` tells where that is so. The error is want of memory.
+    /// as `is_backward` says. What is below a type of another package is not known, and none of
+    /// it is listed: `reaches_unknown` says where that is so. The error is a failed allocation.
     pub fn find_futures_and_streams(
         &self,
         alloc: Global,

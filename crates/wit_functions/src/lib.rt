@@ -13,13 +13,13 @@ pub mod function_name;
 pub mod futures;
 pub mod items;
 pub mod laws;
+pub mod maybe_function;
 mod order;
 mod parted;
 mod placed;
 pub mod setters;
 pub mod signature;
 mod spans;
-pub mod told;
 
 pub use abi::{AbiVariant, LiftLowerAbi, Mangling, ManglingAndAbi, ManglingFault};
 pub use function::{Function, FunctionKind, Param};

@@ -1,6 +1,6 @@
 //! Entries put into another order.
 ghost use Rattle.std.specs.Prelude.{◌≡◌, ◌<◌, List, IfNone, IfOk, IfSome, length, swap};
-ghost use Rattle.wit_functions.specs.Order.{AreFirst, AreStanding, IsExchange, IsOrder};
+ghost use Rattle.wit_functions.specs.Order.{AreFirst, ArePositions, IsExchange, IsOrder};
 
 use indexmap::IndexMap;
 use std::alloc::{AllocError, Global};
@@ -64,9 +64,9 @@ impl<V> Entries for TextTable<V> {
     }
 }
 
-/// Where entries stand, each told by the place where it stood at first.
+/// Where entries are, each given by the place where it was at first.
 #[derive(Drop)]
-pub struct Standing {
+pub struct Positions {
     /// The entry at each place.
     pub entries: Vec<usize>,
     /// The place of each entry.
@@ -84,24 +84,24 @@ fn all_places(alloc: Global, len: usize) -> Result<Vec<usize>, AllocError>
     Ok(places)
 }
 
-impl Standing {
+impl Positions {
     /// So many entries, each at its first place.
-    pub(crate) fn new(alloc: Global, len: usize) -> Result<Standing, AllocError>
-        ensures stands { IfOk result (λ standing. AreStanding len standing.entries.items standing.places.items) }
-        ensures first { IfOk result (λ standing. AreFirst standing.entries.items) }
+    pub(crate) fn new(alloc: Global, len: usize) -> Result<Positions, AllocError>
+        ensures inverse { IfOk result (λ positions. ArePositions len positions.entries.items positions.places.items) }
+        ensures first { IfOk result (λ positions. AreFirst positions.entries.items) }
     {
-        Ok(Standing {
+        Ok(Positions {
             entries: all_places(alloc, len)?,
             places: all_places(alloc, len)?,
         })
     }
 
-    /// Lets an entry and what stands at a place change places, and tells where the entry stood.
+    /// Lets an entry and what is at a place change places, and says where the entry was.
     fn exchange(&mut self, place: usize, entry: usize) -> usize
         requires place_within { place < length self.old.entries.items }
         requires entry_within { entry < length self.old.entries.items }
-        requires stands { AreStanding (length self.old.entries.items) self.old.entries.items self.old.places.items }
-        ensures stands { AreStanding (length self.new.entries.items) self.new.entries.items self.new.places.items }
+        requires inverse { ArePositions (length self.old.entries.items) self.old.entries.items self.old.places.items }
+        ensures inverse { ArePositions (length self.new.entries.items) self.new.entries.items self.new.places.items }
         ensures exchanged { IsExchange self.old.entries.items self.new.entries.items place entry result }
     {
         let from = self.places[entry];
@@ -111,10 +111,10 @@ impl Standing {
         from
     }
 
-    /// Brings an entry to a place, if both are there, and tells where it stood.
+    /// Brings an entry to a place, if both are there, and says where it was.
     fn bring(&mut self, place: usize, entry: usize) -> Option<usize>
-        requires { AreStanding (length self.old.entries.items) self.old.entries.items self.old.places.items }
-        ensures stands { AreStanding (length self.new.entries.items) self.new.entries.items self.new.places.items }
+        requires { ArePositions (length self.old.entries.items) self.old.entries.items self.old.places.items }
+        ensures inverse { ArePositions (length self.new.entries.items) self.new.entries.items self.new.places.items }
         ensures exchanged { IfSome result (IsExchange self.old.entries.items self.new.entries.items place entry) }
         ensures unchanged { IfNone result (self.new.entries.items ≡ self.old.entries.items) }
         ensures missing { IfNone result (place < length self.old.entries.items → entry < length self.old.entries.items → ⊥) }
@@ -130,15 +130,15 @@ impl Standing {
     }
 }
 
-/// Puts entries, which stand at their first places, into another order.
-pub(crate) fn put_in_order<E: Entries>(entries: &mut E, standing: Standing, order: Vec<usize>)
-    requires stands { AreStanding (length (E.entries entries.old)) standing.entries.items standing.places.items }
-    requires first { AreFirst standing.entries.items }
+/// Puts entries, which are at their first places, into another order.
+pub(crate) fn put_in_order<E: Entries>(entries: &mut E, positions: Positions, order: Vec<usize>)
+    requires inverse { ArePositions (length (E.entries entries.old)) positions.entries.items positions.places.items }
+    requires first { AreFirst positions.entries.items }
     ensures { (now : List E.Entry) → IsOrder (E.entries entries.old) order.items now → E.entries entries.new ≡ now }
 {
-    let mut standing = standing;
+    let mut positions = positions;
     for place in 0..order.len() {
-        match standing.bring(place, order[place]) {
+        match positions.bring(place, order[place]) {
             Some(from) => entries.exchange(place, from),
             None => {}
         }

@@ -1,19 +1,19 @@
-//! Setters behind their getters.
+//! Setters after their getters.
 ghost use Rattle.std.specs.Prelude.{◌≡◌, ◌<◌, ℕ, Option, IfOk, OnErr, OnOk, Some, length, map as mapped, slice_get};
 ghost use Rattle.std.specs.List.{enumerate_from};
 ghost use Rattle.std.specs.Option.{option_copied, option_map};
 ghost use Rattle.wit_functions.specs.Order.{IsOrder};
-ghost use Rattle.wit_functions.specs.Setters.{HaveDistinctNames, Tells, fronts, is_getter, placed};
+ghost use Rattle.wit_functions.specs.Setters.{HaveDistinctNames, Computes, prefixes, is_getter, placed};
 
 use crate::function::{Function, FunctionKind};
 use crate::function_map::FunctionMap;
-use crate::order::Standing;
+use crate::order::Positions;
 use crate::placed::order_of;
 use std::alloc::{AllocError, Global};
 
-/// Of a setter's kind, the front of its name and that of its getter's name; none for another kind.
-pub fn fronts(kind: FunctionKind) -> Option<(&'static str, &'static str)>
-    ensures { option_map (λ p. (p.0.now, p.1.now)) result ≡ fronts kind }
+/// Of a setter's kind, the prefix of its name and that of its getter's name; none for another kind.
+pub fn prefixes(kind: FunctionKind) -> Option<(&'static str, &'static str)>
+    ensures { option_map (λ p. (p.0.now, p.1.now)) result ≡ prefixes kind }
 {
     match kind {
         FunctionKind::Setter => Some(("[set]", "[get]")),
@@ -33,62 +33,65 @@ pub fn is_getter(kind: FunctionKind) -> bool
     )
 }
 
-fn told<'a, V, F: Fn(&V) -> Option<&Function>>(func: &F, value: &'a V) -> Option<&'a Function>
+fn maybe_function<'a, V, F: Fn(&V) -> Option<&Function>>(
+    func: &F,
+    value: &'a V,
+) -> Option<&'a Function>
     requires { F.IsAlwaysCallable func.now }
-    ensures { (tells : V → Option Function) → Tells F.Fn func.now tells → option_copied result ≡ tells value.now }
+    ensures { (function_at : V → Option Function) → Computes F.Fn func.now function_at → option_copied result ≡ function_at value.now }
 {
     func(value)
 }
 
-fn told_at<'a, V, M: FunctionMap<V>, F: Fn(&V) -> Option<&Function>>(
+fn stated_at<'a, V, M: FunctionMap<V>, F: Fn(&V) -> Option<&Function>>(
     map: &'a M,
     place: usize,
     func: &F,
 ) -> Option<&'a Function>
     requires within { place < length (M.entries map.now) }
     requires callable { F.IsAlwaysCallable func.now }
-    ensures { (tells : V → Option Function) → Tells F.Fn func.now tells → (e : M.Key × V) → slice_get (M.entries map.now) place ≡ Some e → option_copied result ≡ tells e.1 }
+    ensures { (function_at : V → Option Function) → Computes F.Fn func.now function_at → (e : M.Key × V) → slice_get (M.entries map.now) place ≡ Some e → option_copied result ≡ function_at e.1 }
 {
-    told(func, map.value_at(place))
+    maybe_function(func, map.value_at(place))
 }
 
-/// The places of a map, each with the function that stands there.
-fn told_places<'a, V, M: FunctionMap<V>, F: Fn(&V) -> Option<&Function>>(
+/// The places of a map, each with the function that is there.
+fn stated_places<'a, V, M: FunctionMap<V>, F: Fn(&V) -> Option<&Function>>(
     alloc: Global,
     map: &'a M,
     func: &F,
 ) -> Result<Vec<(usize, Option<&'a Function>)>, AllocError>
     requires { F.IsAlwaysCallable func.now }
-    ensures { IfOk result (λ told. (tells : V → Option Function) → Tells F.Fn func.now tells → mapped {B = ℕ × Option Function} (λ t. (t.0, option_copied t.1)) told.items ≡ mapped (λ z. (z.0, tells z.1.1)) (enumerate_from 0 (M.entries map.now))) }
+    ensures { IfOk result (λ maybe_function. (function_at : V → Option Function) → Computes F.Fn func.now function_at → mapped {B = ℕ × Option Function} (λ t. (t.0, option_copied t.1)) maybe_function.items ≡ mapped (λ z. (z.0, function_at z.1.1)) (enumerate_from 0 (M.entries map.now))) }
 {
     let len = map.count();
     let mut places = Vec::with_capacity(alloc, len)?;
     for place in 0..len {
-        places.push((place, told_at(map, place, func)))?;
+        places.push((place, stated_at(map, place, func)))?;
     }
     Ok(places)
 }
 
-/// The places of the entries of a map, in the order in which each setter that stands before its
-/// getter stands directly behind it instead.
+/// The places of the entries of a map, in the order in which each setter that comes before its
+/// getter comes directly after it instead.
 fn map_order<V, M: FunctionMap<V>, F: Fn(&V) -> Option<&Function>>(
     alloc: Global,
     map: &M,
     func: &F,
 ) -> Result<Vec<usize>, AllocError>
     requires { F.IsAlwaysCallable func.now }
-    ensures { IfOk result (λ order. (tells : V → Option Function) → Tells F.Fn func.now tells → HaveDistinctNames tells (M.entries map.now) → IsOrder (M.entries map.now) order.items (placed tells (M.entries map.now))) }
+    ensures { IfOk result (λ order. (function_at : V → Option Function) → Computes F.Fn func.now function_at → HaveDistinctNames function_at (M.entries map.now) → IsOrder (M.entries map.now) order.items (placed function_at (M.entries map.now))) }
 {
-    let told = told_places(alloc, map, func)?;
-    let order = order_of(alloc, told)?;
+    let maybe_function = stated_places(alloc, map, func)?;
+    let order = order_of(alloc, maybe_function)?;
     Ok(order)
 }
 
-/// Puts each setter that stands before its getter directly behind it. All else, a setter that
-/// stands behind its getter too, keeps its order.
+/// Puts each setter that comes before its getter directly after it. All else, a setter that
+/// comes after its getter too, keeps its order.
 ///
 /// The map is an [`IndexMap`](indexmap::IndexMap), or a map of a package, as the functions of an interface
-/// and the imports of a world. `func` tells the function of a value, if it is one, and always the same of
+/// and the imports of a world. `func` gives the function of a value, if it is one, and always the same of
 /// the same value. A setter's getter is the one whose name is the setter's with `[get]` for `[set]`. The
 /// names of the functions are distinct. Without memory the map stays as it is.
 pub fn place_setters_after_getters<V, M: FunctionMap<V>, F: Fn(&V) -> Option<&Function>>(
@@ -96,12 +99,12 @@ pub fn place_setters_after_getters<V, M: FunctionMap<V>, F: Fn(&V) -> Option<&Fu
     func: F,
 ) -> Result<(), AllocError>
     requires { F.IsAlwaysCallable func }
-    ensures placed { OnOk result ((tells : V → Option Function) → Tells F.Fn func tells → HaveDistinctNames tells (M.entries map.old) → M.entries map.new ≡ placed tells (M.entries map.old)) }
+    ensures placed { OnOk result ((function_at : V → Option Function) → Computes F.Fn func function_at → HaveDistinctNames function_at (M.entries map.old) → M.entries map.new ≡ placed function_at (M.entries map.old)) }
     ensures unchanged { OnErr result (map.new ≡ map.old) }
 {
     let alloc = map.alloc();
     let order = map_order(alloc, map, &func)?;
-    let standing = Standing::new(alloc, map.count())?;
-    map.reorder(standing, order);
+    let positions = Positions::new(alloc, map.count())?;
+    map.reorder(positions, order);
     Ok(())
 }

@@ -6,7 +6,7 @@ use Rattle.wit_type_tree.specs.declared.types.FuncForm.TheVariants.{Plain}
 use Rattle.wit_type_tree.specs.declared.types.Primitive.TheVariants.{U8, U64}
 use Rattle.wit_tree.specs.declared.tree.WorldSide.TheVariants.{Imported, Exported}
 use Rattle.wit_lex.specs.declared.fault.ReadFault.TheVariants.{Token, Comment}
-use Rattle.wit_grammar.specs.Trees.{Name, Release, list, primitive, named, result, this, nothing, Front, since, Function, method, of_funcs, Definition, PackageId, by_package, by_name, Use, uses, defines, Interface, crosses, by_path, by_func, World, of_interface, of_world, File}
+use Rattle.wit_grammar.specs.Trees.{Name, Release, list, primitive, named, result, this, nothing, Prefix, since, Function, method, of_funcs, Definition, PackageId, by_package, by_name, Use, uses, defines, Interface, crosses, by_path, by_func, World, of_interface, of_world, File}
 use Rattle.wit_grammar.specs.Rules.{no_docs}
 use Rattle.wit_grammar.specs.Laws.{IsSpelled, IsReadAs, StopsAt}
 use Rattle.wit_grammar.proofs.Opened.{all_rules, reading}
@@ -24,7 +24,7 @@ text =
 abbrev name : List ℕ → ℕ → ℕ → Name
 name text from to = record { text = text; span = at from to }
 
-abbrev bare : Front
+abbrev bare : Prefix
 bare = record { docs = no_docs; attributes = [] }
 
 abbrev release : Release
@@ -48,11 +48,11 @@ read = record {
 }
 
 abbrev input : Definition
-input = record { front = bare; name = name (codes "input") 129 134; body = of_funcs (method (record { front = bare; name = name (codes "read") 141 145; func = read }) ∷ []) }
+input = record { prefix = bare; name = name (codes "input") 129 134; body = of_funcs (method (record { prefix = bare; name = name (codes "read") 141 145; func = read }) ∷ []) }
 
 abbrev streams : Interface
 streams = record {
-  front = record { docs = record { texts = codes "/// Streams." ∷ []; span = at 26 38 }; attributes = since (at 39 62) release ∷ [] };
+  prefix = record { docs = record { texts = codes "/// Streams." ∷ []; span = at 26 38 }; attributes = since (at 39 62) release ∷ [] };
   name = name (codes "streams") 73 80;
   items = uses use_error ∷ defines input ∷ [];
 }
@@ -62,10 +62,10 @@ run_func = record { span = at 238 242; form = Plain; params = []; returned = Som
 
 abbrev w : World
 w = record {
-  front = bare;
+  prefix = bare;
   name = name (codes "w") 202 203;
-  items = crosses (record { side = Imported; front = bare; kind = by_path (by_name (name (codes "streams") 215 222)) })
-      ∷ crosses (record { side = Exported; front = bare; kind = by_func (name (codes "run") 233 236) run_func }) ∷ [];
+  items = crosses (record { side = Imported; prefix = bare; kind = by_path (by_name (name (codes "streams") 215 222)) })
+      ∷ crosses (record { side = Exported; prefix = bare; kind = by_func (name (codes "run") 233 236) run_func }) ∷ [];
 }
 
 abbrev tree : File

@@ -23,22 +23,22 @@ pub clash : {P : Type 0} (a : Bool) → a ≡ true → a ≡ false → P
 clash a h k = absurd (true≢false (sym h ∙ k))
 
 -- ---- lists of terminals
-among_front : (ks js : List Terminal) (s : Spot) → among (ks ++ js) s ≡ (among ks s || among js s)
-among_front [] js s = refl
-among_front (k ∷ ks) js s = ap (λ b. fits k s || b) (among_front ks js s) ∙ regroup (fits k s) (among ks s) (among js s)
+among_prefix : (ks js : List Terminal) (s : Spot) → among (ks ++ js) s ≡ (among ks s || among js s)
+among_prefix [] js s = refl
+among_prefix (k ∷ ks) js s = ap (λ b. fits k s || b) (among_prefix ks js s) ∙ regroup (fits k s) (among ks s) (among js s)
   where
     regroup : (a b c : Bool) → (a || (b || c)) ≡ ((a || b) || c)
     regroup true b c = refl
     regroup false b c = refl
 
-pub in_front : (ks js : List Terminal) (s : Spot) → among ks s ≡ true → among (ks ++ js) s ≡ true
-in_front ks js s h = among_front ks js s ∙ or_left (among ks s) (among js s) h
+pub in_prefix : (ks js : List Terminal) (s : Spot) → among ks s ≡ true → among (ks ++ js) s ≡ true
+in_prefix ks js s h = among_prefix ks js s ∙ or_left (among ks s) (among js s) h
 
 pub in_back : (ks js : List Terminal) (s : Spot) → among js s ≡ true → among (ks ++ js) s ≡ true
-in_back ks js s h = among_front ks js s ∙ or_right (among ks s) (among js s) h
+in_back ks js s h = among_prefix ks js s ∙ or_right (among ks s) (among js s) h
 
 pub not_among : (ks js : List Terminal) (s : Spot) → among (ks ++ js) s ≡ false → (among ks s ≡ false) × (among js s ≡ false)
-not_among ks js s h = or_parts (among ks s) (among js s) (sym (among_front ks js s) ∙ h)
+not_among ks js s h = or_parts (among ks s) (among js s) (sym (among_prefix ks js s) ∙ h)
 
 pub where_so : (b : Bool) (ks : List Terminal) → b ≡ true → where_empty b ks ≡ ks
 where_so b ks h = rw h refl
@@ -165,11 +165,11 @@ many_onward g is (x ∷ xs) s e inside h =
       | inr t ↦ elim rest [ inl u ↦ inl (begins_later (first g) s h.0 e t.1 u) | inr u ↦ inr (both_same s h.0 e t.1 u) ]
     ]
 
--- so do those in front of a mark
+-- so do those before a mark
 pub until_onward : {A : Type 0} (g : Gram A) (close : Kind) → GoesOn g → (xs : List A) (s e : Spot) → IsInside s → Many (spells g) xs s e → closes close e ≡ true →
     (among (first g ++ of_kind close ∷ []) s ≡ true) × (Ahead s e ⊎ Same s e)
 until_onward g close is xs s e inside h last = elim (many_onward g is xs s e inside h) [
-  | inl b ↦ (in_front (first g) (of_kind close ∷ []) s b.0, inl b.1)
+  | inl b ↦ (in_prefix (first g) (of_kind close ∷ []) s b.0, inl b.1)
   | inr b ↦ (in_back (first g) (of_kind close ∷ []) s (or_left (closes close s) false (sym (same_fits (of_kind close) s e b) ∙ last)), inr b)
 ]
 
@@ -209,7 +209,7 @@ onward (both f g k) c s e inside h =
     let one = onward g h.0 s h.2 inside h.4 in
     let two = onward k h.1 h.2 e (onward_inside g s h.2 one) h.5 in
     elim one [
-      | inl t ↦ inl (in_front (first g) (where_empty (nullable g) (first k)) s t.0, elim two [ inl u ↦ then_ahead s h.2 e t.1 u.1 | inr u ↦ ahead_same s h.2 e t.1 u.1 ])
+      | inl t ↦ inl (in_prefix (first g) (where_empty (nullable g) (first k)) s t.0, elim two [ inl u ↦ then_ahead s h.2 e t.1 u.1 | inr u ↦ ahead_same s h.2 e t.1 u.1 ])
       | inr t ↦ elim two [
         | inl u ↦ (
             let b = begins_later (first k) s h.2 e t.1 u in
@@ -220,7 +220,7 @@ onward (both f g k) c s e inside h =
     ]
 onward (act f g) a s e inside h = onward g h.0 s e inside h.2
 onward (either g k) a s e inside h = elim h [
-  | inl x ↦ elim (onward g a s e inside x) [ inl t ↦ inl (in_front (first g) (first k) s t.0, t.1) | inr t ↦ inr (or_left (nullable g) (nullable k) t.0, t.1) ]
+  | inl x ↦ elim (onward g a s e inside x) [ inl t ↦ inl (in_prefix (first g) (first k) s t.0, t.1) | inr t ↦ inr (or_left (nullable g) (nullable k) t.0, t.1) ]
   | inr x ↦ elim (onward k a s e inside x) [ inl t ↦ inl (in_back (first g) (first k) s t.0, t.1) | inr t ↦ inr (or_right (nullable g) (nullable k) t.0, t.1) ]
 ]
 onward (opt g) None s e inside h = inr (refl, still s e inside h)

@@ -10,7 +10,7 @@ use Rattle.wit_grammar.specs.Leaves.{Spot, lexed, mark_at}
 use Rattle.wit_grammar.specs.Grammar.{Gram, mark, spanned, says, name, name_but, number, version, primitives, docs, never, deeper, both, act, either, opt, many, until, listed, Terminal, of_kind, matches_first, among, nullable, where_empty, first, starts, closes, spells, run, Many, AreListed, many_at, until_at, open_at, next_at, items_at, listed_at}
 use Rattle.wit_grammar.specs.OneToken.{apart, more, an_item, one_token}
 use Rattle.wit_grammar.proofs.LeafReads.{IsInside, ahead_inside, mark_token, mark_begins}
-use Rattle.wit_grammar.proofs.Onward.{isnt, in_front, in_back, not_among, among_token, where_so, same_among, misses, missed, onward_inside, many_onward, until_onward, onward, begins}
+use Rattle.wit_grammar.proofs.Onward.{isnt, in_prefix, in_back, not_among, among_token, where_so, same_among, misses, missed, onward_inside, many_onward, until_onward, onward, begins}
 
 -- an item of several, which takes a token
 record IsItem {A : Type 0} (g : Gram A) : Type 0 where
@@ -111,7 +111,7 @@ items_read g close is x [] (suc n) s e inside lt h =
           rw read (rw (next_closed close h.0 e next is.no_comma k) refl)
           )
       | inr k ↦ (
-          let here = in_front (of_kind Comma ∷ []) (of_kind close ∷ []) h.0 (mark_begins Comma h.0 k.0 next k.1).0 in
+          let here = in_prefix (of_kind Comma ∷ []) (of_kind close ∷ []) h.0 (mark_begins Comma h.0 k.0 next k.1).0 in
           let read = is.item.reads x s h.0 inside h.1 (missed (more g) (of_kind Comma ∷ of_kind close ∷ []) h.0 is.far here) in
           rw read (rw (next_comma close h.0 k.0 e false k.1 (shut_read Comma close h.0 k.0 e k.1 k.2)) refl)
           )
@@ -123,7 +123,7 @@ items_read g close is x (y ∷ ys) (suc n) s e inside lt h =
     let further = c.1.more in
     let len = ap (λ (l : List ℕ). length l) (c.1.source ∙ b.1.source) in
     let next = ahead_inside h.0 h.1 c.1 in
-    let here = in_front (of_kind Comma ∷ []) (of_kind close ∷ []) h.0 c.0 in
+    let here = in_prefix (of_kind Comma ∷ []) (of_kind close ∷ []) h.0 c.0 in
     let read = is.item.reads x s h.0 inside h.2 (missed (more g) (of_kind Comma ∷ of_kind close ∷ []) h.0 is.far here) in
     let item = first_listed (spells g) close y ys h.1 e h.4 in
     let goes = open_read Comma close h.0 h.1 (first g) h.3 (begins g y h.1 item.0 next is.item.some item.1).0 is.near in

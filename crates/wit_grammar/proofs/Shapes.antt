@@ -5,11 +5,11 @@ use Rattle.wit_lex.specs.declared.kind.Kind.{Kind}
 use Rattle.wit_lex.specs.declared.kind.Kind.TheVariants.{Semicolon, OpenAngle, OpenBrace, At, End, Word}
 use Rattle.wit_lex.specs.declared.word.Word.TheVariants as word
 use Rattle.wit_grammar.specs.Kinds.{same_kind}
-use Rattle.wit_grammar.proofs.Opened.{type_rules, function_rules, front_rules, definition_rules, extern_rules}
+use Rattle.wit_grammar.proofs.Opened.{type_rules, function_rules, prefix_rules, definition_rules, extern_rules}
 use Rattle.wit_grammar.specs.Trees.{Ty}
 use Rattle.wit_grammar.specs.Grammar.{Gram, Terminal, of_kind, of_text, first, nullable, deeper, seq}
 use Rattle.wit_grammar.specs.OneToken.{apart, more, one_token}
-use Rattle.wit_grammar.specs.Rules.{label, type_kinds, type_of, types, since_version, of_feature, since_attribute, unstable_attribute, deprecated_attribute, after_at, attribute, attributes, front, at_version, used}
+use Rattle.wit_grammar.specs.Rules.{label, type_kinds, type_of, types, since_version, of_feature, since_attribute, unstable_attribute, deprecated_attribute, after_at, attribute, attributes, prefix, at_version, used}
 use Rattle.wit_grammar.specs.ItemRules.{closed_function, definition, named_function, interface_item, interface_items, interface_rule, extern, include, world_item, world_items, world_rule, declaration, two_names, package_names, braced, item_of, package_to, item_to, package_first, beginning, items_to_end, file}
 
 -- what other rules ask of one that takes a token
@@ -57,16 +57,16 @@ abbrev definition_firsts : List Terminal
 definition_firsts = words (Word word.Type ∷ Word word.Record ∷ Word word.Flags ∷ Word word.Variant ∷ Word word.Enum ∷ Word word.Resource ∷ [])
 
 a_definition : Shape definition definition_firsts []
-unfolding definition_rules front_rules
+unfolding definition_rules prefix_rules
 a_definition = let t = a_type in let f = a_function in record { one = rw (t.one, t.some, t.mores) (rw (f.one, f.some, f.firsts, f.mores) refl); some = refl; firsts = refl; mores = rw t.some refl }
 
 -- ---- interfaces
 a_use : Shape used (words (Word word.Use ∷ [])) []
-unfolding front_rules
+unfolding prefix_rules
 a_use = record { one = refl; some = refl; firsts = refl; mores = refl }
 
 the_items : Shape interface_items (words (OpenBrace ∷ [])) []
-unfolding same_kind label front attributes attribute after_at since_attribute unstable_attribute deprecated_attribute since_version of_feature named_function interface_item interface_items
+unfolding same_kind label prefix attributes attribute after_at since_attribute unstable_attribute deprecated_attribute since_version of_feature named_function interface_item interface_items
 the_items =
     let f = a_function in
     let d = a_definition in
@@ -75,18 +75,18 @@ the_items =
 
 -- ---- worlds
 an_extern : Shape extern (words (Word word.Import ∷ Word word.Export ∷ [])) []
-unfolding extern_rules front_rules
+unfolding extern_rules prefix_rules
 an_extern =
     let t = a_type in
     let i = the_items in
     record { one = rw (t.one, t.some, t.mores) (rw i.one refl); some = refl; firsts = refl; mores = rw (i.mores, i.some) refl }
 
 an_include : Shape include (words (Word word.Include ∷ [])) (words (Semicolon ∷ []))
-unfolding extern_rules front_rules
+unfolding extern_rules prefix_rules
 an_include = record { one = refl; some = refl; firsts = refl; mores = refl }
 
 world_shape : Shape world_items (words (OpenBrace ∷ [])) []
-unfolding same_kind front attributes attribute after_at since_attribute unstable_attribute deprecated_attribute since_version of_feature world_item world_items
+unfolding same_kind prefix attributes attribute after_at since_attribute unstable_attribute deprecated_attribute since_version of_feature world_item world_items
 world_shape =
     let e = an_extern in
     let i = an_include in
@@ -99,7 +99,7 @@ abbrev declaration_firsts : List Terminal
 declaration_firsts = words (At ∷ Word word.Use ∷ Word word.World ∷ Word word.Interface ∷ [])
 
 a_declaration : Shape declaration declaration_firsts []
-unfolding front_rules interface_rule world_rule declaration
+unfolding prefix_rules interface_rule world_rule declaration
 a_declaration =
     let i = the_items in
     let w = world_shape in

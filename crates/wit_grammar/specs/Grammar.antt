@@ -25,7 +25,7 @@ pub data Gram : Type 0 → Type 1 where
   number : Gram ℕ
   version : Gram (Span × Release)
   primitives : Gram Ty
-  -- the docs in front of a token
+  -- the docs before a token
   docs : Gram Documents
   -- nothing is spelled
   never : {A : Type 0} → Gram A
@@ -45,7 +45,7 @@ pub data Gram : Type 0 → Type 1 where
 
 infixr 6 ◌▸◌
 infixl 7 ◌◂◌
--- after a mark, and in front of one
+-- after a mark, and before one
 abbrev pub ◌▸◌ : {A : Type 0} → Kind → Gram A → Gram A
 k ▸ g = both (λ _ x. x) (mark k) g
 

@@ -10,8 +10,8 @@ use Rattle.wit_tree.specs.declared.tree.WorldSide.TheVariants.{Imported, Exporte
 use Rattle.wit_lex.specs.declared.kind.Kind.TheVariants.{Colon, Semicolon, Equals, OpenParen, CloseParen, OpenBrace, CloseBrace, End, Word}
 use Rattle.wit_lex.specs.declared.word.Word.TheVariants as word
 use Rattle.wit_grammar.specs.Grammar.{Gram, mark, spanned, name, name_but, docs, never, deeper, both, act, either, opt, until, listed, seq, applied, ◌▸◌, ◌◂◌}
-use Rattle.wit_grammar.specs.Trees.{Name, Documents, Release, Ty, Attribute, Front, Parameter, Function, NamedFunction, ResourceFunction, method, of_resource, maker, Field, Flag, Case, Body, alias, of_fields, of_flags, of_cases, of_labels, of_funcs, Definition, PackageId, Path, by_name, InterfaceItem, uses, defines, has_func, Interface, ExternKind, inline_interface, by_path, by_func, named_path, Extern, RenamedName, Include, WorldItem, crosses, world_uses, world_defines, includes, World, Declaration, of_interface, of_world, of_use, Item, declares, nests, Items, no_more, then_item, items_of, Nested, File}
-use Rattle.wit_grammar.specs.Rules.{joined, label, types, signature, accessor, func_word, function, func_of, front, at_version, item_path, package_path, rest_of_path, path_of, path, release_of, used, use_of, top_used, top_use_of}
+use Rattle.wit_grammar.specs.Trees.{Name, Documents, Release, Ty, Attribute, Prefix, Parameter, Function, NamedFunction, ResourceFunction, method, of_resource, maker, Field, Flag, Case, Body, alias, of_fields, of_flags, of_cases, of_labels, of_funcs, Definition, PackageId, Path, by_name, InterfaceItem, uses, defines, has_func, Interface, ExternKind, inline_interface, by_path, by_func, named_path, Extern, RenamedName, Include, WorldItem, crosses, world_uses, world_defines, includes, World, Declaration, of_interface, of_world, of_use, Item, declares, nests, Items, no_more, then_item, items_of, Nested, File}
+use Rattle.wit_grammar.specs.Rules.{joined, label, types, signature, accessor, func_word, function, func_of, prefix, at_version, item_path, package_path, rest_of_path, path_of, path, release_of, used, use_of, top_used, top_use_of}
 
 -- ---- definitions of types
 -- 'type' name '=' type ';'
@@ -67,18 +67,18 @@ is_static = act is_some (opt (mark (Word word.Static)))
 unfoldable pub member : Gram (Name × Bool × Function)
 member = both (λ n x. (n, x.0, x.1)) label (seq is_static closed_function)
 
-abbrev pub maker_of : Front → Span × List Parameter × Option Ty → ResourceFunction
+abbrev pub maker_of : Prefix → Span × List Parameter × Option Ty → ResourceFunction
 maker_of f x = maker f x.0 x.1 x.2
 
-abbrev pub named_func_of : Front → Name → Function → NamedFunction
-named_func_of f n x = record { front = f; name = n; func = x }
+abbrev pub named_func_of : Prefix → Name → Function → NamedFunction
+named_func_of f n x = record { prefix = f; name = n; func = x }
 
-abbrev pub member_of : Front → Name × Bool × Function → ResourceFunction
+abbrev pub member_of : Prefix → Name × Bool × Function → ResourceFunction
 member_of f (n, false, x) = method (named_func_of f n x)
 member_of f (n, true, x) = of_resource (named_func_of f n x)
 
 unfoldable pub resource_function : Gram ResourceFunction
-resource_function = both applied front (either (act (λ x f. maker_of f x) constructed) (act (λ x f. member_of f x) member))
+resource_function = both applied prefix (either (act (λ x f. maker_of f x) constructed) (act (λ x f. member_of f x) member))
 
 -- '{' function .. '}'
 unfoldable pub braced_functions : Gram (List ResourceFunction)
@@ -95,8 +95,8 @@ unfoldable pub definition : Gram (Name × Body)
 definition =
     either alias_definition (either record_definition (either flags_definition (either variant_definition (either enum_definition resource_definition))))
 
-abbrev pub definition_of : Front → Name × Body → Definition
-definition_of f x = record { front = f; name = x.0; body = x.1 }
+abbrev pub definition_of : Prefix → Name × Body → Definition
+definition_of f x = record { prefix = f; name = x.0; body = x.1 }
 
 -- ---- interfaces
 -- name ':' function ';'
@@ -105,7 +105,7 @@ named_function = seq label closed_function
 
 unfoldable pub interface_item : Gram InterfaceItem
 interface_item =
-    both applied front
+    both applied prefix
     (either (act (λ x f. uses (use_of f.attributes x)) used)
     (either (act (λ x f. has_func (named_func_of f x.0 x.1)) named_function) (act (λ x f. defines (definition_of f x)) definition)))
 
@@ -117,8 +117,8 @@ interface_items = OpenBrace ▸ (until interface_item CloseBrace ◂ CloseBrace)
 unfoldable pub interface_rule : Gram (Name × List InterfaceItem)
 interface_rule = Word word.Interface ▸ seq name interface_items
 
-abbrev pub interface_of : Front → Name × List InterfaceItem → Interface
-interface_of f x = record { front = f; name = x.0; items = x.1 }
+abbrev pub interface_of : Prefix → Name × List InterfaceItem → Interface
+interface_of f x = record { prefix = f; name = x.0; items = x.1 }
 
 -- ---- worlds
 -- after the second name: '/' and the rest of a path, or the rest of a path that this name begins
@@ -163,8 +163,8 @@ side = either (act (λ _. Imported) (mark (Word word.Import))) (act (λ _. Expor
 unfoldable pub extern : Gram (WorldSide × ExternKind)
 extern = seq side extern_kind
 
-abbrev pub extern_of : Front → WorldSide × ExternKind → Extern
-extern_of f x = record { side = x.0; front = f; kind = x.1 }
+abbrev pub extern_of : Prefix → WorldSide × ExternKind → Extern
+extern_of f x = record { side = x.0; prefix = f; kind = x.1 }
 
 -- name 'as' name
 unfoldable pub renamed : Gram RenamedName
@@ -188,7 +188,7 @@ include_of xs x = record { attributes = xs; from = x.0; names = x.1 }
 
 unfoldable pub world_item : Gram WorldItem
 world_item =
-    both applied front
+    both applied prefix
     (either (act (λ x f. world_uses (use_of f.attributes x)) used)
     (either (act (λ x f. includes (include_of f.attributes x)) include)
     (either (act (λ x f. crosses (extern_of f x)) extern) (act (λ x f. world_defines (definition_of f x)) definition))))
@@ -200,13 +200,13 @@ world_items = OpenBrace ▸ (until world_item CloseBrace ◂ CloseBrace)
 unfoldable pub world_rule : Gram (Name × List WorldItem)
 world_rule = Word word.World ▸ seq name world_items
 
-abbrev pub world_of : Front → Name × List WorldItem → World
-world_of f x = record { front = f; name = x.0; items = x.1 }
+abbrev pub world_of : Prefix → Name × List WorldItem → World
+world_of f x = record { prefix = f; name = x.0; items = x.1 }
 
 -- ---- files
 unfoldable pub declaration : Gram Declaration
 declaration =
-    both applied front
+    both applied prefix
     (either (act (λ x f. of_use (top_use_of f.attributes x)) top_used)
     (either (act (λ x f. of_world (world_of f x)) world_rule) (act (λ x f. of_interface (interface_of f x)) interface_rule)))
 
@@ -233,7 +233,7 @@ braced item = OpenBrace ▸ (until item CloseBrace ◂ CloseBrace)
 abbrev pub nest : Documents → (Name × Name × Option (Span × Release)) × List Item → Item
 nest d x = nests (package_of d x.0) (items_of x.1)
 
--- a package, whose docs are in front of this, or a declaration
+-- a package, whose docs are before this, or a declaration
 abbrev pub item_of : Gram ((Name × Name × Option (Span × Release)) × List Item) → Gram Item
 item_of inner = either (both nest docs inner) (act declares declaration)
 

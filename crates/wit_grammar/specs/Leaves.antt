@@ -122,7 +122,7 @@ version_at s = do
 abbrev pub docs_of : Spot → Documents
 docs_of s = record { texts = docs_text s.source (docs_from s.source s.place); span = docs_span s.offset (docs_from s.source s.place) }
 
--- the docs in front of the token; the spot moves to the token itself
+-- the docs before the token; the spot moves to the token itself
 unfoldable pub docs_at : Spot → Read Documents
 docs_at s = do
   t ← lexed s

@@ -36,7 +36,7 @@ more (opt g) = first g ++ more g
 more (many g) = first g ++ more g
 more other = []
 
--- an item of several takes a token, and one token tells whether one more comes
+-- an item of several takes a token, and one token says whether one more comes
 abbrev pub an_item : {A : Type 0} → Gram A → Bool → List Terminal → List Terminal → Bool
 an_item g one ends after = (one && not (nullable g)) && (apart (first g) ends && apart (more g) after)
 

@@ -8,7 +8,7 @@ use Rattle.wit_lex.specs.declared.kind.Kind.TheVariants.{Comma, Colon, Semicolon
 use Rattle.wit_lex.specs.declared.kind.Kind.TheVariants as kind
 use Rattle.wit_lex.specs.declared.word.Word.TheVariants as word
 use Rattle.wit_grammar.specs.Grammar.{Gram, mark, spanned, says, name, number, version, primitives, docs, deeper, both, act, either, opt, many, listed, seq, applied, ◌▸◌, ◌◂◌}
-use Rattle.wit_grammar.specs.Trees.{Name, Documents, Release, Ty, named, list, fixed, maps, option, result, tuple, future, stream, own, borrow, Perhaps, nothing, this, tys, perhaps, Attribute, since, unstable, deprecated, Front, Parameter, Function, Path, by_name, by_package, UsedName, Use, TopUse}
+use Rattle.wit_grammar.specs.Trees.{Name, Documents, Release, Ty, named, list, fixed, maps, option, result, tuple, future, stream, own, borrow, Perhaps, nothing, this, tys, perhaps, Attribute, since, unstable, deprecated, Prefix, Parameter, Function, Path, by_name, by_package, UsedName, Use, TopUse}
 
 -- from the first span to the end of the last
 abbrev pub joined : Span → Span → Span
@@ -171,8 +171,8 @@ unfoldable pub attributes : Gram (List Attribute)
 attributes = many attribute
 
 -- docs, and attributes after them
-unfoldable pub front : Gram Front
-front = both (λ d xs. record { docs = d; attributes = xs }) docs attributes
+unfoldable pub prefix : Gram Prefix
+prefix = both (λ d xs. record { docs = d; attributes = xs }) docs attributes
 
 -- ---- paths and uses
 -- ( '@' version )?

@@ -44,7 +44,7 @@ use Rattle.wit_tree.specs.declared.tree.AstItem.{AstItem}
 use Rattle.wit_tree.specs.declared.tree.AstItem.TheVariants.{Interface as AstInterface, World as AstWorld, Use as AstUse}
 use Rattle.wit_tree.specs.declared.tree.NestedPackage.{NestedPackage}
 use Rattle.wit_tree.specs.declared.tree.SourceFile.{SourceFile}
-use Rattle.wit_grammar.specs.Trees.{Name, Documents, Ty, primitive, named, list, fixed, maps, option, result, tuple, future, stream, own, borrow, Perhaps, nothing, this, Tys, end, and, Attribute, since, unstable, deprecated, external, Front, Parameter, Function, NamedFunction, ResourceFunction, method, of_resource, maker, Field, Flag, Case, Body, alias, of_fields, of_flags, of_cases, of_labels, of_funcs, Definition, PackageId, Path, by_name, by_package, UsedName, Use, TopUse, InterfaceItem, uses, defines, has_func, Interface, ExternKind, inline_interface, by_path, by_func, named_path, Extern, RenamedName, Include, WorldItem, crosses, world_uses, world_defines, includes, World, Declaration, of_interface, of_world, of_use, Nested, File}
+use Rattle.wit_grammar.specs.Trees.{Name, Documents, Ty, primitive, named, list, fixed, maps, option, result, tuple, future, stream, own, borrow, Perhaps, nothing, this, Tys, end, and, Attribute, since, unstable, deprecated, external, Prefix, Parameter, Function, NamedFunction, ResourceFunction, method, of_resource, maker, Field, Flag, Case, Body, alias, of_fields, of_flags, of_cases, of_labels, of_funcs, Definition, PackageId, Path, by_name, by_package, UsedName, Use, TopUse, InterfaceItem, uses, defines, has_func, Interface, ExternKind, inline_interface, by_path, by_func, named_path, Extern, RenamedName, Include, WorldItem, crosses, world_uses, world_defines, includes, World, Declaration, of_interface, of_world, of_use, Nested, File}
 
 abbrev pub see_name : Id → Name
 see_name id = record { text = id.name.now; span = id.span }
@@ -62,8 +62,8 @@ abbrev mutual
   see_type (Option' s p t) = option s (see_type t)
   see_type (Result s of) = see_result s of
   see_type (Tuple' s shape ts) = tuple s (see_row ts)
-  see_type (Future' s t) = future s (see_held t)
-  see_type (Stream' s t) = stream s (see_held t)
+  see_type (Future' s t) = future s (see_borrowed t)
+  see_type (Stream' s t) = stream s (see_borrowed t)
   see_type (Own s id) = own s (see_name id)
   see_type (Borrow s id) = borrow s (see_name id)
 
@@ -73,9 +73,9 @@ abbrev mutual
   see_result s (Err' p t) = result s nothing (this (see_type t))
   see_result s (Both' p t q u) = result s (this (see_type t)) (this (see_type u))
 
-  pub see_held : Held-Type-Future-1 → Perhaps
-  see_held None' = nothing
-  see_held (Some' p t) = this (see_type t)
+  pub see_borrowed : Held-Type-Future-1 → Perhaps
+  see_borrowed None' = nothing
+  see_borrowed (Some' p t) = this (see_type t)
 
   pub see_row : {m : _} → Row_of-Type m → Tys
   see_row end_of-Type = end
@@ -92,8 +92,8 @@ see_attribute (Unstable s f) = unstable s (see_name f)
 see_attribute (Deprecated s v) = deprecated s (parts_of v)
 see_attribute (ExternalId s id) = external s id.now
 
-abbrev pub see_front : Docs → List WrittenAttribute → Front
-see_front docs attributes = record { docs = see_docs docs; attributes = map see_attribute attributes }
+abbrev pub see_prefix : Docs → List WrittenAttribute → Prefix
+see_prefix docs attributes = record { docs = see_docs docs; attributes = map see_attribute attributes }
 
 -- ---- functions
 abbrev pub see_param : Param → Parameter
@@ -103,13 +103,13 @@ abbrev pub see_func : Func → Function
 see_func f = record { span = f.span; form = f.form; params = map see_param f.params.items; returned = option_map see_type f.result }
 
 abbrev pub see_named_func : NamedFunc → NamedFunction
-see_named_func f = record { front = see_front f.docs f.attributes.items; name = see_name f.name; func = see_func f.func }
+see_named_func f = record { prefix = see_prefix f.docs f.attributes.items; name = see_name f.name; func = see_func f.func }
 
 abbrev pub see_resource_func : ResourceFunc → ResourceFunction
 see_resource_func (Method f) = method (see_named_func f)
 see_resource_func (Static f) = of_resource (see_named_func f)
 see_resource_func (Constructor docs attributes s params returned) =
-    maker (see_front docs attributes.items) s (map see_param params.items) (option_map see_type returned)
+    maker (see_prefix docs attributes.items) s (map see_param params.items) (option_map see_type returned)
 
 -- ---- definitions of types
 abbrev pub see_field : WrittenField → Field
@@ -133,7 +133,7 @@ see_body (Resource funcs) = of_funcs (map see_resource_func funcs.items)
 see_body (Plain t) = alias (see_type t)
 
 abbrev pub see_definition : TypeDef → Definition
-see_definition d = record { front = see_front d.docs d.attributes.items; name = see_name d.name; body = see_body d.body }
+see_definition d = record { prefix = see_prefix d.docs d.attributes.items; name = see_name d.name; body = see_body d.body }
 
 -- ---- paths and uses
 abbrev pub see_package_id : PackageName → PackageId
@@ -159,7 +159,7 @@ see_item (ItemUse u) = uses (see_use u)
 see_item (ItemFunc f) = has_func (see_named_func f)
 
 abbrev pub see_interface : WrittenInterface → Interface
-see_interface i = record { front = see_front i.docs i.attributes.items; name = see_name i.name; items = map see_item i.items.items }
+see_interface i = record { prefix = see_prefix i.docs i.attributes.items; name = see_name i.name; items = map see_item i.items.items }
 
 -- ---- worlds
 abbrev pub see_kind : WrittenKind → ExternKind
@@ -169,7 +169,7 @@ see_kind (KindFunc name f) = by_func (see_name name) (see_func f)
 see_kind (KindNamed name path) = named_path (see_name name) (see_path path)
 
 abbrev pub see_extern : WrittenExtern → Extern
-see_extern e = record { side = e.side; front = see_front e.docs e.attributes.items; kind = see_kind e.kind }
+see_extern e = record { side = e.side; prefix = see_prefix e.docs e.attributes.items; kind = see_kind e.kind }
 
 abbrev pub see_renamed : IncludeName → RenamedName
 see_renamed n = record { name = see_name n.name; local = see_name n.as_ }
@@ -184,7 +184,7 @@ see_world_item (WorldDef d) = world_defines (see_definition d)
 see_world_item (WorldInclude i) = includes (see_include i)
 
 abbrev pub see_world : WrittenWorld → World
-see_world w = record { front = see_front w.docs w.attributes.items; name = see_name w.name; items = map see_world_item w.items.items }
+see_world w = record { prefix = see_prefix w.docs w.attributes.items; name = see_name w.name; items = map see_world_item w.items.items }
 
 -- ---- files
 abbrev pub see_declaration : AstItem → Declaration

@@ -64,7 +64,7 @@ pub data Attribute : Type 0 where
   -- no text spells it
   external : (span : Span) (id : Text) → Attribute
 
-pub record Front : Type 0 where
+pub record Prefix : Type 0 where
   pub docs : Documents
   pub attributes : List Attribute
 
@@ -80,14 +80,14 @@ pub record Function : Type 0 where
   pub returned : Option Ty
 
 pub record NamedFunction : Type 0 where
-  pub front : Front
+  pub prefix : Prefix
   pub name : Name
   pub func : Function
 
 pub data ResourceFunction : Type 0 where
   method : (func : NamedFunction) → ResourceFunction
   of_resource : (func : NamedFunction) → ResourceFunction
-  maker : (front : Front) (span : Span) (params : List Parameter) (returned : Option Ty) → ResourceFunction
+  maker : (prefix : Prefix) (span : Span) (params : List Parameter) (returned : Option Ty) → ResourceFunction
 
 -- ---- definitions of types
 pub record Field : Type 0 where
@@ -113,7 +113,7 @@ pub data Body : Type 0 where
   of_funcs : (funcs : List ResourceFunction) → Body
 
 pub record Definition : Type 0 where
-  pub front : Front
+  pub prefix : Prefix
   pub name : Name
   pub body : Body
 
@@ -151,7 +151,7 @@ pub data InterfaceItem : Type 0 where
   has_func : (f : NamedFunction) → InterfaceItem
 
 pub record Interface : Type 0 where
-  pub front : Front
+  pub prefix : Prefix
   pub name : Name
   pub items : List InterfaceItem
 
@@ -164,7 +164,7 @@ pub data ExternKind : Type 0 where
 
 pub record Extern : Type 0 where
   pub side : WorldSide
-  pub front : Front
+  pub prefix : Prefix
   pub kind : ExternKind
 
 pub record RenamedName : Type 0 where
@@ -183,7 +183,7 @@ pub data WorldItem : Type 0 where
   includes : (i : Include) → WorldItem
 
 pub record World : Type 0 where
-  pub front : Front
+  pub prefix : Prefix
   pub name : Name
   pub items : List WorldItem
 

@@ -8,7 +8,7 @@ use Rattle.wit_graph.specs.Table.{Row, IsEdge}
 use Rattle.wit_graph.specs.Faults.{IsFirstMissing, IsFirstCyclic}
 use Rattle.wit_graph.specs.Refused.{IsNotFound, RefusesMissing, RefusesCycle}
 
--- an edge's name stands at its index in the row
+-- an edge's name is at its index in the row
 pub edge_need : (rs : List Row) (i k : ℕ) (id : Id) (row : Row) → IsEdge rs i k id → slice_get rs i ≡ Some row → slice_get row.needs k ≡ Some id
 edge_need rs i k id row e at =
     let rows : Some e.0 ≡ Some row = sym e.1 ∙ at in
@@ -17,7 +17,7 @@ edge_need rs i k id row e at =
 pub edge_index : (rs : List Row) (i k : ℕ) (id : Id) (row : Row) → IsEdge rs i k id → slice_get rs i ≡ Some row → k < length row.needs
 edge_index rs i k id row e at = slice_get_within row.needs k id (edge_need rs i k id row e at)
 
--- a refusal of the first missing name, by the id that stands there
+-- a refusal of the first missing name, by the id that is there
 pub refuses_missing : (rs : List Row) (i k : ℕ) (id : Id) (row : Row) (sort : List ℕ) (kind : ParseErrorKind) → IsFirstMissing rs i k → slice_get rs i ≡ Some row → slice_get row.needs k ≡ Some id
     → IsNotFound id.span id.name.now sort kind → RefusesMissing rs sort kind
 refuses_missing rs i k id row sort kind f at there says =

@@ -11,27 +11,27 @@ use Rattle.wit_graph.proofs.Outcome.{cycle_to, order_from, least_to}
 use Rattle.wit_graph.proofs.Decided.{accepted_or_refused, never_both}
 
 -- two least orders are one
-same_front : (leads : ℕ → ℕ → Type 0) (n : ℕ) (p q : List ℕ) → IsDependencyFirst leads n p → IsLeast leads n p → IsDependencyFirst leads n q → IsLeast leads n q
+same_prefix : (leads : ℕ → ℕ → Type 0) (n : ℕ) (p q : List ℕ) → IsDependencyFirst leads n p → IsLeast leads n p → IsDependencyFirst leads n q → IsLeast leads n q
     → (i : ℕ) → i ≤ n → take i p ≡ take i q
-same_front leads n p q sp lp sq lq zero h = refl
-same_front leads n p q sp lp sq lq (suc i) h =
+same_prefix leads n p q sp lp sq lq zero h = refl
+same_prefix leads n p q sp lp sq lq (suc i) h =
     let below : i < n = omega (arith, h) in
-    let front : take i p ≡ take i q = same_front leads n p q sp lp sq lq i (omega (arith, h)) in
-    let there : get_or p i 0 ≤ get_or q i 0 = lp q sq i below (sym front) in
-    let back : get_or q i 0 ≤ get_or p i 0 = lq p sp i below front in
+    let prefix : take i p ≡ take i q = same_prefix leads n p q sp lp sq lq i (omega (arith, h)) in
+    let there : get_or p i 0 ≤ get_or q i 0 = lp q sq i below (sym prefix) in
+    let back : get_or q i 0 ≤ get_or p i 0 = lq p sp i below prefix in
     let same : get_or p i 0 ≡ get_or q i 0 = omega (arith, there, back) in
     let in_p : i < length p = subst (λ m. i < m) (sym sp.long) below in
     let in_q : i < length q = subst (λ m. i < m) (sym sq.long) below in
     let one_more : i + 1 ≡ suc i = omega arith in
     subst (λ k. take k p ≡ take k q) one_more
-    (take_more p i 0 in_p ∙ ap (λ l. l ++ get_or p i 0 ∷ []) front ∙ ap (λ x. take i q ++ x ∷ []) same ∙ sym (take_more q i 0 in_q))
+    (take_more p i 0 in_p ∙ ap (λ l. l ++ get_or p i 0 ∷ []) prefix ∙ ap (λ x. take i q ++ x ∷ []) same ∙ sym (take_more q i 0 in_q))
 
 pub least_one : (leads : ℕ → ℕ → Type 0) (n : ℕ) (p q : List ℕ) → IsDependencyFirst leads n p → IsLeast leads n p → IsDependencyFirst leads n q → IsLeast leads n q → p ≡ q
 least_one leads n p q sp lp sq lq =
     let all : n ≤ n = omega arith in
     let long_p : length p ≤ n = subst (λ m. length p ≤ m) sp.long (omega arith) in
     let long_q : length q ≤ n = subst (λ m. length q ≤ m) sq.long (omega arith) in
-    sym (take_all n p long_p) ∙ same_front leads n p q sp lp sq lq n all ∙ take_all n q long_q
+    sym (take_all n p long_p) ∙ same_prefix leads n p q sp lp sq lq n all ∙ take_all n q long_q
 
 -- where a test of names first passes
 name_prefix : (test : List ℕ → Bool) (rs : List Row) → prefix_len (λ (row : Row). not (test row.name)) rs ≡ prefix_len (λ n. not (test n)) (map (λ (row : Row). row.name) rs)

@@ -23,7 +23,7 @@ IsFaultOf rs (Missing place index) = IsFirstMissing rs place index
 IsFaultOf rs (Cyclic place index) = IsFirstCyclic rs place index
 IsFaultOf rs OutOfMemory = ⊤
 
--- it failed, for want of memory or by this fault
+-- it failed, because an allocation failed or by this fault
 abbrev pub FailsWith : {T : Type 0} → OrderFault → Result T OrderFault → Type 0
 FailsWith fault r = MatchResult r (λ _. ⊥) (λ f. (f ≡ OutOfMemory) ⊎ (f ≡ fault))
 

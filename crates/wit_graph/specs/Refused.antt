@@ -33,7 +33,7 @@ pub record RefusesCycle (rs : List Row) (sort : List ℕ) (kind : ParseErrorKind
   pub first : IsFirstEdge (IsEdge rs) (IsCyclic rs) place index id
   pub says : IsTypeCycle id.span id.name.now sort kind
 
--- for want of memory, for the first missing name, or for the first edge of a cycle
+-- because an allocation failed, for the first missing name, or for the first edge of a cycle
 abbrev pub IsRefused : List Row → List ℕ → ParseErrorKind → Type 0
 IsRefused rs sort kind = (kind ≡ OutOfMemory) ⊎ (RefusesMissing rs sort kind ⊎ RefusesCycle rs sort kind)
 

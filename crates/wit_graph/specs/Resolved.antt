@@ -11,7 +11,7 @@ use Rattle.wit_graph.specs.Table.{Row, target}
 abbrev pub Resolves : List Row → List Id → List ℕ → Type 0
 Resolves rs ids row = map Some row ≡ map (target rs) ids
 
--- the row of the ids was put behind what was there
+-- the row of the ids was put after what was there
 abbrev pub AddsRow : List Row → List Id → List ℕ → List ℕ → Type 0
 AddsRow rs ids old new = (row : List ℕ) × (new ≡ old ++ row) × Resolves rs ids row
 

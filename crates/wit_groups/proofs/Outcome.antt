@@ -18,12 +18,12 @@ use Rattle.wit_nested.specs.Nested.{GrowByNested, IsUnfit}
 use Rattle.wit_nested.specs.Names.{IsUnjoined}
 use Rattle.wit_nested.specs.Names.IsUnjoined.{Broken, Repeated as RepeatedName}
 use Rattle.wit_groups.specs.declared.group.UnresolvedPackageGroup.{UnresolvedPackageGroup}
-use Rattle.wit_groups.specs.Groups.{AreRefused, AreTaken, IsAlone, IsRefused, IsTree, IsUnparsed, IsUnread}
+use Rattle.wit_groups.specs.Groups.{AreRefused, AreUsed, IsAlone, IsRefused, IsTree, IsUnparsed, IsUnread}
 use Rattle.wit_groups.specs.Groups.AreRefused.{Unread, Unfit, Illegal, Repeated}
 use Rattle.wit_groups.specs.Groups.IsRefused.{InTurn}
 use Rattle.wit_groups.specs.Groups.IsUnparsed.{Alone}
-use Rattle.wit_groups.specs.Groups.AreTaken.{None, More}
-use Rattle.wit_nested.proofs.Fronts.{front_more, front_none, front_split}
+use Rattle.wit_groups.specs.Groups.AreUsed.{None, More}
+use Rattle.wit_nested.proofs.Prefixes.{prefix_more, prefix_none, prefix_split}
 
 -- a source that is lent
 abbrev pub now_of : Bor Source → Source
@@ -35,37 +35,37 @@ none_read s (Ok read) only fault = tt
 none_read s (Err e) only fault = record { none = only; fault = fault }
 
 -- no source yet
-pub taken_none : (turn : List (Bor Source)) (files : List PackageFile) (packages : List UnresolvedPackage) → files ≡ [] → packages ≡ [] → AreTaken (map now_of (take 0 turn)) files packages
-taken_none turn files packages e f = rw (front_none now_of turn, e, f) None
+pub used_none : (turn : List (Bor Source)) (files : List PackageFile) (packages : List UnresolvedPackage) → files ≡ [] → packages ≡ [] → AreUsed (map now_of (take 0 turn)) files packages
+used_none turn files packages e f = rw (prefix_none now_of turn, e, f) None
 
 -- a tree more
-pub taken_more : (turn : List (Bor Source)) (i : ℕ) (s : Bor Source) (files grown : List PackageFile) (packages kept : List UnresolvedPackage) (read : SourceFile) → i < length turn → s ≡ get_or turn i s →
-    AreTaken (map now_of (take i turn)) files packages → IsTree s.now read → ((f : Fault) → IsUnfit files read f → ⊥) → grown ≡ files ++ read.file ∷ [] → GrowByNested read.nested.items packages kept →
-    AreTaken (map now_of (take (i + 1) turn)) grown kept
-taken_more turn i s files grown packages kept read lt is taken tree fit e nested = rw (front_more now_of turn i s lt is, e) (More (map now_of (take i turn)) files packages kept s.now read taken tree fit nested)
+pub used_more : (turn : List (Bor Source)) (i : ℕ) (s : Bor Source) (files extended : List PackageFile) (packages kept : List UnresolvedPackage) (read : SourceFile) → i < length turn → s ≡ get_or turn i s →
+    AreUsed (map now_of (take i turn)) files packages → IsTree s.now read → ((f : Fault) → IsUnfit files read f → ⊥) → extended ≡ files ++ read.file ∷ [] → GrowByNested read.nested.items packages kept →
+    AreUsed (map now_of (take (i + 1) turn)) extended kept
+used_more turn i s files extended packages kept read lt is in_use tree fit e nested = rw (prefix_more now_of turn i s lt is, e) (More (map now_of (take i turn)) files packages kept s.now read in_use tree fit nested)
 
 -- a source that cannot be read
 pub unread : (turn : List (Bor Source)) (i : ℕ) (s : Bor Source) (files : List PackageFile) (packages : List UnresolvedPackage) (e : ParseError) → i < length turn → s ≡ get_or turn i s →
-    AreTaken (map now_of (take i turn)) files packages → IsUnread s.now e → AreRefused (map now_of turn) e
-unread turn i s files packages e lt is taken refused = Unread (map now_of (take i turn)) (map now_of (drop (suc i) turn)) s.now (front_split now_of turn i s lt is) files packages taken refused
+    AreUsed (map now_of (take i turn)) files packages → IsUnread s.now e → AreRefused (map now_of turn) e
+unread turn i s files packages e lt is in_use refused = Unread (map now_of (take i turn)) (map now_of (drop (suc i) turn)) s.now (prefix_split now_of turn i s lt is) files packages in_use refused
 
 -- a tree that is unfit
 pub unfit : (turn : List (Bor Source)) (i : ℕ) (s : Bor Source) (files : List PackageFile) (packages : List UnresolvedPackage) (read : SourceFile) (e : ParseError) → i < length turn → s ≡ get_or turn i s →
-    AreTaken (map now_of (take i turn)) files packages → IsTree s.now read → Refused (IsUnfit files read) e → AreRefused (map now_of turn) e
-unfit turn i s files packages read e lt is taken tree refused = Unfit (map now_of (take i turn)) (map now_of (drop (suc i) turn)) s.now (front_split now_of turn i s lt is) files packages read taken tree refused
+    AreUsed (map now_of (take i turn)) files packages → IsTree s.now read → Refused (IsUnfit files read) e → AreRefused (map now_of turn) e
+unfit turn i s files packages read e lt is in_use tree refused = Unfit (map now_of (take i turn)) (map now_of (drop (suc i) turn)) s.now (prefix_split now_of turn i s lt is) files packages read in_use tree refused
 
--- files that break a rule, or behind which a nested package has a name again
-refused_whole : (turn : List Source) (files : List PackageFile) (packages : List UnresolvedPackage) (e : ParseError) → AreTaken turn files packages → Refused (IsUnjoined files packages) e → AreRefused turn e
-refused_whole turn files packages e taken (inl wanted) = Illegal files packages taken (inl wanted)
-refused_whole turn files packages e taken (inr (Broken broken)) = Illegal files packages taken (inr broken)
-refused_whole turn files packages e taken (inr (RepeatedName main made again)) = Repeated files packages main taken made again
+-- files that break a rule, or after which a nested package has a name again
+refused_whole : (turn : List Source) (files : List PackageFile) (packages : List UnresolvedPackage) (e : ParseError) → AreUsed turn files packages → Refused (IsUnjoined files packages) e → AreRefused turn e
+refused_whole turn files packages e in_use (inl wanted) = Illegal files packages in_use (inl wanted)
+refused_whole turn files packages e in_use (inr (Broken broken)) = Illegal files packages in_use (inr broken)
+refused_whole turn files packages e in_use (inr (RepeatedName main made again)) = Repeated files packages main in_use made again
 
-pub not_joined : {X : Type 0} (sources turn : List Source) (files : List PackageFile) (packages : List UnresolvedPackage) (r : Result X ParseError) → IsByPath sources turn → AreTaken turn files packages →
+pub not_joined : {X : Type 0} (sources turn : List Source) (files : List PackageFile) (packages : List UnresolvedPackage) (r : Result X ParseError) → IsByPath sources turn → AreUsed turn files packages →
     IfErr r (Refused (IsUnjoined files packages)) → IfErr r (IsRefused sources)
-not_joined sources turn files packages (Ok x) by_path taken refused = tt
-not_joined sources turn files packages (Err e) by_path taken refused = InTurn turn by_path (refused_whole turn files packages e taken refused)
+not_joined sources turn files packages (Ok x) by_path in_use refused = tt
+not_joined sources turn files packages (Err e) by_path in_use refused = InTurn turn by_path (refused_whole turn files packages e in_use refused)
 
--- a text behind no source
+-- a text after no source
 pub only_source : (path text : List ℕ) (old new : List Source) → old ≡ [] → (s : Source) × IsSource path text (space old) s × (new ≡ old ++ s ∷ []) → IsAlone path text new
 only_source path text old new none h = record { source = h.0; is = subst (λ ss. IsSource path text (space ss) h.0) none h.1; only = h.2 ∙ ap (λ ss. ss ++ h.0 ∷ []) none }
 

@@ -1,6 +1,6 @@
 -- Groups with equal packages and equal sources are the same.
 use Rattle.std.proofs.Common.{◌≡◌, List, [], ◌∷◌, Option, Some, None, refl, subst, sym}
-use Rattle.wit_lex.specs.Sources.{told}
+use Rattle.wit_lex.specs.Sources.{as_stated}
 use Rattle.wit_model.specs.declared.interface.Interface.{Interface}
 use Rattle.wit_model.specs.declared.unresolved.UnresolvedPackage.{UnresolvedPackage}
 use Rattle.wit_model.specs.declared.world.World.{World}
@@ -36,7 +36,7 @@ package_same p = record {
   required_resource_types = refl;
 }
 
-pub group_same : (a b : UnresolvedPackageGroup) → a.main ≡ b.main → a.nested ≡ b.nested → told a.source_map.sources.items ≡ told b.source_map.sources.items → IsSameGroup a b
+pub group_same : (a b : UnresolvedPackageGroup) → a.main ≡ b.main → a.nested ≡ b.nested → as_stated a.source_map.sources.items ≡ as_stated b.source_map.sources.items → IsSameGroup a b
 group_same a b main nested sources = record {
   main = subst (IsSamePackage a.main) main (package_same a.main);
   nested = subst (AreSame IsSamePackage a.nested) nested (all_same IsSamePackage package_same a.nested);

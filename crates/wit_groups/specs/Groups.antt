@@ -3,7 +3,7 @@ use Rattle.std.specs.Prelude.{◌≡◌, ℕ, ◌+◌, List, [], ◌∷◌, ◌+
 use Rattle.wit_tree.specs.declared.tree.PackageFile.{PackageFile}
 use Rattle.wit_tree.specs.declared.tree.SourceFile.{SourceFile}
 use Rattle.wit_type_tree.specs.declared.error.ParseError.{ParseError}
-use Rattle.wit_type_tree.specs.Refusal.{IsWantOfMemory}
+use Rattle.wit_type_tree.specs.Refusal.{IsAllocationFailure}
 use Rattle.wit_lex.specs.declared.source.Source.{Source}
 use Rattle.wit_lex.specs.Sources.{IsSource, IsTooLarge}
 use Rattle.wit_grammar.specs.Trees.{File}
@@ -24,40 +24,40 @@ IsTree s read = IsSpelled (string_bytes s.contents) s.offset (see_file read)
 
 -- no tree is spelled, and the refusal is of the fault at which reading stops; or memory ran out
 pub record IsUnread (s : Source) (e : ParseError) : Type 0 where
-  pub none : (tree : File) → IsSpelled (string_bytes s.contents) s.offset tree → IsWantOfMemory e
+  pub none : (tree : File) → IsSpelled (string_bytes s.contents) s.offset tree → IsAllocationFailure e
   pub fault : IsFaultOf (string_bytes s.contents) s.offset e
 
--- there is a tree of each source, none of which is unfit behind those before it; these are their files, and the packages that are nested in
+-- there is a tree of each source, none of which is unfit after those before it; these are their files, and the packages that are nested in
 -- them
-pub data AreTaken : List Source → List PackageFile → List UnresolvedPackage → Type 0 where
-  None : AreTaken [] [] []
-  More : (sources : List Source) (files : List PackageFile) (packages kept : List UnresolvedPackage) (s : Source) (read : SourceFile) → AreTaken sources files packages → IsTree s read →
-      ((f : Fault) → IsUnfit files read f → ⊥) → GrowByNested read.nested.items packages kept → AreTaken (sources ++ s ∷ []) (files ++ read.file ∷ []) kept
+pub data AreUsed : List Source → List PackageFile → List UnresolvedPackage → Type 0 where
+  None : AreUsed [] [] []
+  More : (sources : List Source) (files : List PackageFile) (packages kept : List UnresolvedPackage) (s : Source) (read : SourceFile) → AreUsed sources files packages → IsTree s read →
+      ((f : Fault) → IsUnfit files read f → ⊥) → GrowByNested read.nested.items packages kept → AreUsed (sources ++ s ∷ []) (files ++ read.file ∷ []) kept
 
 -- the package that sources make, taken by path, and those that are nested in them, in the order in which they are written, each with a name of its own
 pub record IsGroup (sources : List Source) (main : UnresolvedPackage) (nested : List UnresolvedPackage) : Type 0 where
   pub turn : List Source
   pub by_path : IsByPath sources turn
   pub files : List PackageFile
-  pub taken : AreTaken turn files nested
+  pub in_use : AreUsed turn files nested
   pub made : IsMadeOf files main
   pub apart : AreNamedApart main nested
 
--- one of some sources cannot be read, or its tree is unfit behind the files of those before it; or the files of all break a rule; or
+-- one of some sources cannot be read, or its tree is unfit after the files of those before it; or the files of all break a rule; or
 -- all of them are read, fit and legal, and a nested package has the name of the main one or of a nested one before it
 pub data AreRefused (turn : List Source) (e : ParseError) : Type 0 where
-  Unread : (front rest : List Source) (s : Source) → turn ≡ front ++ s ∷ rest → (files : List PackageFile) (packages : List UnresolvedPackage) → AreTaken front files packages →
+  Unread : (prefix rest : List Source) (s : Source) → turn ≡ prefix ++ s ∷ rest → (files : List PackageFile) (packages : List UnresolvedPackage) → AreUsed prefix files packages →
       IsUnread s e → AreRefused turn e
-  Unfit : (front rest : List Source) (s : Source) → turn ≡ front ++ s ∷ rest → (files : List PackageFile) (packages : List UnresolvedPackage) (read : SourceFile) → AreTaken front files packages →
+  Unfit : (prefix rest : List Source) (s : Source) → turn ≡ prefix ++ s ∷ rest → (files : List PackageFile) (packages : List UnresolvedPackage) (read : SourceFile) → AreUsed prefix files packages →
       IsTree s read → Refused (IsUnfit files read) e → AreRefused turn e
-  Illegal : (files : List PackageFile) (packages : List UnresolvedPackage) → AreTaken turn files packages → Refused (IsBroken files) e → AreRefused turn e
-  Repeated : (files : List PackageFile) (packages : List UnresolvedPackage) (main : UnresolvedPackage) → AreTaken turn files packages → IsMadeOf files main →
+  Illegal : (files : List PackageFile) (packages : List UnresolvedPackage) → AreUsed turn files packages → Refused (IsBroken files) e → AreRefused turn e
+  Repeated : (files : List PackageFile) (packages : List UnresolvedPackage) (main : UnresolvedPackage) → AreUsed turn files packages → IsMadeOf files main →
       IsRepeatedPackage main packages (fault_of e) → AreRefused turn e
 
 -- the sources, taken by path, are refused, or memory was wanted
 pub data IsRefused (sources : List Source) (e : ParseError) : Type 0 where
   InTurn : (turn : List Source) → IsByPath sources turn → AreRefused turn e → IsRefused sources e
-  Wanted : IsWantOfMemory e → IsRefused sources e
+  Wanted : IsAllocationFailure e → IsRefused sources e
 
 -- a text under a path is the only source
 pub record IsAlone (path text : List ℕ) (sources : List Source) : Type 0 where

@@ -1,7 +1,7 @@
 //! From sources to a group.
 ghost use Rattle.std.specs.Prelude.{◌≡◌, IfErr, IfOk, map};
-ghost use Rattle.wit_lex.specs.Sources.{told};
-ghost use Rattle.wit_groups.specs.Groups.{AreRefused, AreTaken, IsAlone, IsGroup, IsRefused, IsTree, IsUnparsed, IsUnread};
+ghost use Rattle.wit_lex.specs.Sources.{as_stated};
+ghost use Rattle.wit_groups.specs.Groups.{AreRefused, AreUsed, IsAlone, IsGroup, IsRefused, IsTree, IsUnparsed, IsUnread};
 
 use std::alloc::{AllocError, Global};
 use wit_bundle::by_path;
@@ -31,7 +31,7 @@ fn copy_packages(packages: &Row<UnresolvedPackage>) -> Result<Row<UnresolvedPack
 }
 
 impl Clone for UnresolvedPackageGroup {
-    ghost is_clone = { λ group copy. (copy.main ≡ group.main) × (copy.nested ≡ group.nested) × (told copy.source_map.sources.items ≡ told group.source_map.sources.items) };
+    ghost is_clone = { λ group copy. (copy.main ≡ group.main) × (copy.nested ≡ group.nested) × (as_stated copy.source_map.sources.items ≡ as_stated group.source_map.sources.items) };
 
     fn clone(&self) -> Result<UnresolvedPackageGroup, AllocError> {
         Ok(UnresolvedPackageGroup {
@@ -50,9 +50,9 @@ fn read_source<'a>(alloc: Global, source: &'a Source) -> ParseResult<SourceFile<
     read_file(alloc, source.contents.as_str(), source.offset)
 }
 
-/// A resolver with the trees of sources, one behind the other.
+/// A resolver with the trees of sources, one after the other.
 fn push_all<'a>(alloc: Global, turn: &[&'a Source]) -> ParseResult<GroupResolver<'a>>
-    ensures taken { IfOk result (λ resolver. AreTaken (map (λ s. s.now) turn.now) resolver.main.files.items resolver.nested.items) }
+    ensures in_use { IfOk result (λ resolver. AreUsed (map (λ s. s.now) turn.now) resolver.main.files.items resolver.nested.items) }
     ensures refused { IfErr result (AreRefused (map (λ s. s.now) turn.now)) }
 {
     let mut resolver = GroupResolver::new(alloc);

@@ -11,7 +11,7 @@ use Rattle.wit_grammar.specs.Grammar.{Gram, many_at, run, until, ◌▸◌, ◌�
 use Rattle.wit_reader.specs.declared.reader.Reader.{Reader}
 use Rattle.wit_reader.specs.Reading.{Parses, Passes, spot}
 use Rattle.wit_reader.proofs.Courses.{stops_first}
-use Rattle.wit_reader.proofs.Lists.{no_front}
+use Rattle.wit_reader.proofs.Lists.{no_prefix}
 use Rattle.wit_reader.proofs.Several.{IsSeveral, goes_on, goes_until, several_closed, several_more, several_stops, until_is_many}
 
 abbrev pub braced : {V : Type 0} → Gram V → Gram (List V)
@@ -73,7 +73,7 @@ braces_opened {A} {V} {old} {cur} view item r =
       left = suc (length cur.source.now);
       enough = omega arith;
       rest = rw r.passes (until_is_many (run item) CloseBrace (suc (length cur.source.now)) (spot cur)
-          ∙ sym (no_front (many_at (goes_until CloseBrace) (run item) (suc (length cur.source.now)) (spot cur))));
+          ∙ sym (no_prefix (many_at (goes_until CloseBrace) (run item) (suc (length cur.source.now)) (spot cur))));
     }
 
 pub braces_more : {A V : Type 0} {view : A → V} {old cur new : Reader} {xs : List A} (item : Gram V) (ys : List A) (x : A) → IsInBraces view item old xs cur → same_kind cur.token.kind CloseBrace ≡ false →

@@ -1,4 +1,4 @@
 pub mod Items
-pub mod Fronted
+pub mod Prefixed
 pub mod Braces
 pub mod Definitions

@@ -20,7 +20,7 @@ pub fn at_accessor(reader: &Reader<'_>) -> bool
     reader.at_text("get") || reader.at_text("set")
 }
 
-/// Reads `get` or `set`, as a name, and tells the form of a function that it begins.
+/// Reads `get` or `set`, as a name, and gives the form of a function that it begins.
 #[tactic(auto, unfolding(wit_grammar::specs::Rules::accessor))]
 pub fn read_accessor<'a>(reader: &mut Reader<'a>) -> ReadResult<(Id<'a>, FuncForm)>
     ensures reads { IfOk result (λ it. Reads accessor reader.old (it.0.span, it.1) reader.new) }
@@ -35,7 +35,7 @@ pub fn read_accessor<'a>(reader: &mut Reader<'a>) -> ReadResult<(Id<'a>, FuncFor
     Ok((Id { name: "set", span }, FuncForm::Setter))
 }
 
-/// Reads `func` or `async func`, and tells where `func` is.
+/// Reads `func` or `async func`, and says where `func` is.
 #[tactic(auto, unfolding(wit_grammar::specs::Rules::func_word, wit_grammar::specs::Leaves::mark_at))]
 pub fn read_func_word(reader: &mut Reader<'_>) -> ReadResult<(Span, FuncForm)>
     ensures reads { IfOk result (λ it. Reads func_word reader.old it reader.new) }
@@ -50,7 +50,7 @@ pub fn read_func_word(reader: &mut Reader<'_>) -> ReadResult<(Span, FuncForm)>
     Ok((span, FuncForm::Plain))
 }
 
-/// Reads `func`, `async func`, `get` or `set`, and tells where the word of these is that is not
+/// Reads `func`, `async func`, `get` or `set`, and says where the word of these is that is not
 /// `async`.
 #[tactic(auto, unfolding(wit_grammar::specs::Rules::form))]
 pub fn read_form(reader: &mut Reader<'_>) -> ReadResult<(Span, FuncForm)>

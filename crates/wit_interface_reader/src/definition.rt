@@ -12,11 +12,11 @@ use crate::resource::read_resource;
 use wit_lex::fault::ReadResult;
 use wit_lex::kind::Kind;
 use wit_lex::word::Word;
-use wit_reader::front::Front;
+use wit_reader::prefix::Prefix;
 use wit_reader::reader::Reader;
 use wit_reader::room::add;
 use wit_tree::tree::{Id, InterfaceItem, TypeBody, TypeDef};
-use wit_values::fitted;
+use wit_values::shrunk;
 
 /// Reads `type name = type;`.
 #[tactic(auto, unfolding(wit_grammar::specs::ItemRules::alias_definition))]
@@ -108,14 +108,14 @@ fn read_body<'a>(reader: &mut Reader<'a>) -> ReadResult<(Id<'a>, TypeBody<'a>)>
 }
 
 /// Reads a definition, of an interface or of a world.
-pub fn read_definition<'a>(reader: &mut Reader<'a>, front: Front<'a>) -> ReadResult<TypeDef<'a>>
-    ensures reads { IfOk result (λ it. Reads (defined_after front.entry) reader.old (see_definition it) reader.new) }
+pub fn read_definition<'a>(reader: &mut Reader<'a>, prefix: Prefix<'a>) -> ReadResult<TypeDef<'a>>
+    ensures reads { IfOk result (λ it. Reads (defined_after prefix.entry) reader.old (see_definition it) reader.new) }
     ensures stops { IfErr result (Refuses definition reader.old) }
 {
     let (name, body) = read_body(reader)?;
     Ok(TypeDef {
-        docs: front.docs,
-        attributes: front.attributes,
+        docs: prefix.docs,
+        attributes: prefix.attributes,
         name,
         body,
     })
@@ -127,16 +127,16 @@ fn read_item<'a>(reader: &mut Reader<'a>) -> ReadResult<InterfaceItem<'a>>
     ensures reads { IfOk result (λ it. Reads interface_item reader.old (see_item it) reader.new) }
     ensures stops { IfErr result (Refuses interface_item reader.old) }
 {
-    let front = reader.read_front()?;
+    let prefix = reader.read_prefix()?;
     if reader.at_word(Word::Use) {
-        let names = reader.read_use(front.attributes)?;
+        let names = reader.read_use(prefix.attributes)?;
         return Ok(InterfaceItem::Use(names));
     }
     if reader.at(Kind::Name) {
-        let func = read_named_func(reader, front)?;
+        let func = read_named_func(reader, prefix)?;
         return Ok(InterfaceItem::Func(func));
     }
-    let definition = read_definition(reader, front)?;
+    let definition = read_definition(reader, prefix)?;
     Ok(InterfaceItem::TypeDef(definition))
 }
 
@@ -153,5 +153,5 @@ pub fn read_interface_items<'a>(reader: &mut Reader<'a>) -> ReadResult<Vec<Inter
         add(&mut items, item, reader.at(Kind::CloseBrace))?;
     }
     reader.bump()?;
-    Ok(fitted(items))
+    Ok(shrunk(items))
 }

@@ -11,7 +11,7 @@ ghost use Rattle.wit_interface_reader.specs.Parts.{see_signature};
 use crate::accessor::read_form;
 use wit_lex::fault::ReadResult;
 use wit_lex::kind::Kind;
-use wit_reader::front::Front;
+use wit_reader::prefix::Prefix;
 use wit_reader::reader::Reader;
 use wit_reader::room::add;
 use wit_reader::types::MOST_NESTED;
@@ -110,15 +110,15 @@ pub fn read_closed_func<'a>(reader: &mut Reader<'a>) -> ReadResult<Func<'a>>
 
 /// Reads `name: function;`.
 #[tactic(auto, unfolding(wit_grammar::specs::ItemRules::named_function))]
-pub fn read_named_func<'a>(reader: &mut Reader<'a>, front: Front<'a>) -> ReadResult<NamedFunc<'a>>
-    ensures reads { IfOk result (λ it. Reads (named_after front.entry) reader.old (see_named_func it) reader.new) }
+pub fn read_named_func<'a>(reader: &mut Reader<'a>, prefix: Prefix<'a>) -> ReadResult<NamedFunc<'a>>
+    ensures reads { IfOk result (λ it. Reads (named_after prefix.entry) reader.old (see_named_func it) reader.new) }
     ensures stops { IfErr result (Refuses named_function reader.old) }
 {
     let name = reader.read_label()?;
     let func = read_closed_func(reader)?;
     Ok(NamedFunc {
-        docs: front.docs,
-        attributes: front.attributes,
+        docs: prefix.docs,
+        attributes: prefix.attributes,
         name,
         func,
     })

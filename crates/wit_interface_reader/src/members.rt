@@ -12,7 +12,7 @@ use wit_reader::reader::Reader;
 use wit_reader::room::add;
 use wit_reader::types::MOST_NESTED;
 use wit_tree::tree::{Case, EnumCase, Field, Flag, Type};
-use wit_values::fitted;
+use wit_values::shrunk;
 
 #[tactic(auto, unfolding(wit_grammar::specs::ItemRules::field))]
 fn read_field<'a>(reader: &mut Reader<'a>) -> ReadResult<Field<'a>>
@@ -38,7 +38,7 @@ pub fn read_fields<'a>(reader: &mut Reader<'a>) -> ReadResult<Vec<Field<'a>>>
         add(&mut fields, field, reader.at(Kind::CloseBrace))?;
         more = reader.next_in_list(Kind::CloseBrace)?;
     }
-    Ok(fitted(fields))
+    Ok(shrunk(fields))
 }
 
 #[tactic(auto, unfolding(wit_grammar::specs::ItemRules::flag))]
@@ -64,12 +64,12 @@ pub fn read_flags<'a>(reader: &mut Reader<'a>) -> ReadResult<Vec<Flag<'a>>>
         add(&mut flags, flag, reader.at(Kind::CloseBrace))?;
         more = reader.next_in_list(Kind::CloseBrace)?;
     }
-    Ok(fitted(flags))
+    Ok(shrunk(flags))
 }
 
 /// Reads the type that a case holds, in parentheses, where there is one.
 #[tactic(auto, unfolding(wit_grammar::specs::ItemRules::case_type, wit_grammar::specs::Leaves::mark_at))]
-fn read_held<'a>(reader: &mut Reader<'a>) -> ReadResult<Option<Type<'a>>>
+fn read_element<'a>(reader: &mut Reader<'a>) -> ReadResult<Option<Type<'a>>>
     ensures reads { IfOk result (λ it. ReadsOn case_type reader.old (option_map see_type it) reader.new) }
     ensures stops { IfErr result (Refuses case_type reader.old) }
 {
@@ -88,7 +88,7 @@ fn read_case<'a>(reader: &mut Reader<'a>) -> ReadResult<Case<'a>>
 {
     let docs = reader.read_docs()?;
     let name = reader.read_id()?;
-    let ty = read_held(reader)?;
+    let ty = read_element(reader)?;
     Ok(Case { docs, name, ty })
 }
 
@@ -105,7 +105,7 @@ pub fn read_cases<'a>(reader: &mut Reader<'a>) -> ReadResult<Vec<Case<'a>>>
         add(&mut cases, case, reader.at(Kind::CloseBrace))?;
         more = reader.next_in_list(Kind::CloseBrace)?;
     }
-    Ok(fitted(cases))
+    Ok(shrunk(cases))
 }
 
 #[tactic(auto, unfolding(wit_grammar::specs::ItemRules::flag))]
@@ -131,5 +131,5 @@ pub fn read_enum_cases<'a>(reader: &mut Reader<'a>) -> ReadResult<Vec<EnumCase<'
         add(&mut cases, case, reader.at(Kind::CloseBrace))?;
         more = reader.next_in_list(Kind::CloseBrace)?;
     }
-    Ok(fitted(cases))
+    Ok(shrunk(cases))
 }

@@ -3,30 +3,30 @@ ghost use Rattle.std.specs.Prelude.{◌≡◌, map, IfOk, IfErr};
 ghost use Rattle.wit_grammar.specs.Seen.{see_name, see_func, see_resource_func};
 ghost use Rattle.wit_grammar.specs.ItemRules.{constructed, is_static, member, member_of, braced_functions, resource_function, resource_body, resource_definition};
 ghost use Rattle.wit_reader.specs.Reading.{Reads, ReadsOn, Refuses};
-ghost use Rattle.wit_interface_reader.specs.After.{front_of, constructed_after, member_after};
+ghost use Rattle.wit_interface_reader.specs.After.{prefix_of, constructed_after, member_after};
 ghost use Rattle.wit_interface_reader.specs.Parts.{see_defined};
 
 use crate::function::{read_closed_func, read_closed_signature};
 use wit_lex::fault::ReadResult;
 use wit_lex::kind::Kind;
 use wit_lex::word::Word;
-use wit_reader::front::Front;
+use wit_reader::prefix::Prefix;
 use wit_reader::reader::Reader;
 use wit_tree::tree::{Func, Id, NamedFunc, ResourceFunc, TypeBody};
-use wit_values::{fitted, push};
+use wit_values::{push, shrunk};
 
 /// The function of a resource, with this name.
 fn resource_func<'a>(
     is_static: bool,
-    front: Front<'a>,
+    prefix: Prefix<'a>,
     name: Id<'a>,
     func: Func<'a>,
 ) -> ResourceFunc<'a>
-    ensures { see_resource_func result ≡ member_of (front_of front.entry) (see_name name.entry, is_static, see_func func.entry) }
+    ensures { see_resource_func result ≡ member_of (prefix_of prefix.entry) (see_name name.entry, is_static, see_func func.entry) }
 {
     let named = NamedFunc {
-        docs: front.docs,
-        attributes: front.attributes,
+        docs: prefix.docs,
+        attributes: prefix.attributes,
         name,
         func,
     };
@@ -39,22 +39,22 @@ fn resource_func<'a>(
 
 /// Reads `constructor(..);`, perhaps with the type of what it returns.
 #[tactic(auto, unfolding(wit_grammar::specs::ItemRules::constructed))]
-fn read_constructor<'a>(reader: &mut Reader<'a>, front: Front<'a>) -> ReadResult<ResourceFunc<'a>>
-    ensures reads { IfOk result (λ it. Reads (constructed_after front.entry) reader.old (see_resource_func it) reader.new) }
+fn read_constructor<'a>(reader: &mut Reader<'a>, prefix: Prefix<'a>) -> ReadResult<ResourceFunc<'a>>
+    ensures reads { IfOk result (λ it. Reads (constructed_after prefix.entry) reader.old (see_resource_func it) reader.new) }
     ensures stops { IfErr result (Refuses constructed reader.old) }
 {
     let span = reader.read_word(Word::Constructor)?;
     let (params, returned) = read_closed_signature(reader)?;
     Ok(ResourceFunc::Constructor {
-        docs: front.docs,
-        attributes: front.attributes,
+        docs: prefix.docs,
+        attributes: prefix.attributes,
         span,
         params,
         result: returned,
     })
 }
 
-/// Goes past `static`, where it is the token, and tells whether it is.
+/// Goes past `static`, where it is the token, and says whether it is.
 #[tactic(auto, unfolding(wit_grammar::specs::ItemRules::is_static, wit_grammar::specs::Leaves::mark_at))]
 fn skip_static(reader: &mut Reader<'_>) -> ReadResult<bool>
     ensures reads { IfOk result (λ it. ReadsOn is_static reader.old it reader.new) }
@@ -67,16 +67,16 @@ fn skip_static(reader: &mut Reader<'_>) -> ReadResult<bool>
     Ok(true)
 }
 
-/// Reads `name: function;`, perhaps with `static` in front of the function.
+/// Reads `name: function;`, perhaps with `static` before the function.
 #[tactic(auto, unfolding(wit_grammar::specs::ItemRules::member))]
-fn read_member<'a>(reader: &mut Reader<'a>, front: Front<'a>) -> ReadResult<ResourceFunc<'a>>
-    ensures reads { IfOk result (λ it. Reads (member_after front.entry) reader.old (see_resource_func it) reader.new) }
+fn read_member<'a>(reader: &mut Reader<'a>, prefix: Prefix<'a>) -> ReadResult<ResourceFunc<'a>>
+    ensures reads { IfOk result (λ it. Reads (member_after prefix.entry) reader.old (see_resource_func it) reader.new) }
     ensures stops { IfErr result (Refuses member reader.old) }
 {
     let name = reader.read_label()?;
     let is_static = skip_static(reader)?;
     let func = read_closed_func(reader)?;
-    Ok(resource_func(is_static, front, name, func))
+    Ok(resource_func(is_static, prefix, name, func))
 }
 
 /// Reads a function of a resource.
@@ -85,12 +85,12 @@ fn read_resource_func<'a>(reader: &mut Reader<'a>) -> ReadResult<ResourceFunc<'a
     ensures reads { IfOk result (λ it. Reads resource_function reader.old (see_resource_func it) reader.new) }
     ensures stops { IfErr result (Refuses resource_function reader.old) }
 {
-    let front = reader.read_front()?;
+    let prefix = reader.read_prefix()?;
     if reader.at_word(Word::Constructor) {
-        let constructor = read_constructor(reader, front)?;
+        let constructor = read_constructor(reader, prefix)?;
         return Ok(constructor);
     }
-    let member = read_member(reader, front)?;
+    let member = read_member(reader, prefix)?;
     Ok(member)
 }
 
@@ -107,7 +107,7 @@ fn read_resource_funcs<'a>(reader: &mut Reader<'a>) -> ReadResult<Vec<ResourceFu
         push(&mut funcs, func)?;
     }
     reader.bump()?;
-    Ok(fitted(funcs))
+    Ok(shrunk(funcs))
 }
 
 /// Reads `;`, or functions in braces.

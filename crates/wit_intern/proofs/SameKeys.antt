@@ -15,10 +15,10 @@ two make e = rw (e.0, e.1) refl
 
 -- a form with one type, or with one that may be left out
 one_type : (make : Ty → InternKey) → ((x y : Ty) → make x ≡ make y → x ≡ y) → (x y : Ty) → Decides (type_test.it x y) (make x ≡ make y)
-one_type make told x y = Decides-like _ (λ e. ap make e) (told x y) (Decides-type x y)
+one_type make as_stated x y = Decides-like _ (λ e. ap make e) (as_stated x y) (Decides-type x y)
 
 one_optional : (make : Option Ty → InternKey) → ((x y : Option Ty) → make x ≡ make y → x ≡ y) → (x y : Option Ty) → Decides (option_eq type_test.it x y) (make x ≡ make y)
-one_optional make told x y = Decides-like _ (λ e. ap make e) (told x y) (Decides-optional_type x y)
+one_optional make as_stated x y = Decides-like _ (λ e. ap make e) (as_stated x y) (Decides-optional_type x y)
 
 pub Decides-key : (a b : InternKey) → Decides (key_test.it a b) (a ≡ b)
 Decides-key (key.Borrow i) b = search rules

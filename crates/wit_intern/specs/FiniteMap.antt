@@ -7,15 +7,15 @@ use Rattle.wit_intern.specs.declared.run.InternReply.{InternReply}
 use Rattle.wit_intern.specs.declared.run.InternReply.TheVariants.{Found, Inserted}
 use Rattle.wit_intern.specs.contracts.key.InternKeyPartialEq.TheImpl.{eq-value as key_test}
 
--- which type stands at a key, if one does
+-- which type is at a key, if one does
 abbrev pub FiniteMap : Type 0
 FiniteMap = InternKey → Option ℕ
 
--- with a type at a key, also where one stood there
+-- with a type at a key, also where one was there
 abbrev pub set_at : InternKey → ℕ → FiniteMap → FiniteMap
 set_at key id m k = if key_test.it key k then Some id else m k
 
--- the map behind a step
+-- the map after a step
 abbrev pub after_step : InternStep → FiniteMap → FiniteMap
 after_step (Find key) m = m
 after_step (Insert key id) m = set_at key id m
@@ -25,7 +25,7 @@ abbrev pub reply : InternStep → FiniteMap → InternReply
 reply (Find key) m = Found (m key)
 reply (Insert key id) m = Inserted
 
--- what it replies to one step behind the other
+-- what it replies to one step after the other
 abbrev pub replies : List InternStep → FiniteMap → List InternReply
 replies [] m = []
 replies (s ∷ steps) m = reply s m ∷ replies steps (after_step s m)

@@ -1,2 +1,2 @@
 pub mod FiniteMap
-pub mod Keys
+pub mod TypeKeys

@@ -1,6 +1,6 @@
 //! What an unnamed type is found by.
 ghost use Rattle.std.specs.Prelude.{◌≡◌, IfOk};
-ghost use Rattle.wit_intern.specs.Keys.{key_of};
+ghost use Rattle.wit_intern.specs.TypeKeys.{key_of};
 
 use std::alloc::AllocError;
 use wit_types::{Handle, Result_, Tuple, Type, TypeDefKind, TypeId};
@@ -8,7 +8,7 @@ use wit_values::Row;
 
 /// What an unnamed type is: its form and its parts.
 ///
-/// Keys are ordered as the variants stand here, and then by their parts.
+/// Keys are ordered as the variants are here, and then by their parts.
 #[derive(Debug, Clone, PartialEq, Eq, PartialOrd, Ord, Hash)]
 pub enum InternKey {
     /// A borrowed handle of a resource.
@@ -45,7 +45,7 @@ impl Drop for InternKey {
 impl InternKey {
     /// The key of a kind; `None` for the kinds that no unnamed type has.
     ///
-    /// The error is want of memory.
+    /// The error is a failed allocation.
     pub fn of(kind: &TypeDefKind) -> Result<Option<InternKey>, AllocError>
         ensures { IfOk result (λ key. key ≡ key_of kind.now) }
     {

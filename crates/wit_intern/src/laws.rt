@@ -1,13 +1,13 @@
-//! What holds of all keys: they tell kinds, and are compared and ordered as their parts are.
+//! What holds of all keys: they say kinds, and are compared and ordered as their parts are.
 ghost use Rattle.std.specs.Prelude.{◌≡◌, ◌↔◌, IsTrue};
-ghost use Rattle.wit_intern.specs.Keys.{KeysTell};
+ghost use Rattle.wit_intern.specs.TypeKeys.{KeysDetermine};
 
 use crate::key::InternKey;
 use wit_types::TypeDefKind;
 
 /// Kinds with one key are the same kind.
-pub fn keys_tell(a: &TypeDefKind, b: &TypeDefKind)
-    ensures { KeysTell a.now b.now }
+pub fn keys_determine(a: &TypeDefKind, b: &TypeDefKind)
+    ensures { KeysDetermine a.now b.now }
 {}
 
 /// Whether two keys are the same.

@@ -34,28 +34,28 @@ fn take_step<T: InternTable>(table: &mut T, asked: &InternStep) -> Result<Intern
     }
 }
 
-/// The replies of a table to finds and inserts, one behind the other.
+/// The replies of a table to finds and inserts, one after the other.
 ///
 /// They are those of a finite map, whichever way the table holds it. Where memory is wanted they
-/// end there, and the second answer tells so.
+/// end there, and the second answer says so.
 pub fn intern_run<T: InternTable>(
     alloc: Global,
     table: &mut T,
     steps: &[InternStep],
 ) -> (Vec<InternReply>, Result<(), AllocError>)
-    ensures front { result.0.items ≡ take (length result.0.items) (replies steps.now (T.content table.old)) }
+    ensures prefix { result.0.items ≡ take (length result.0.items) (replies steps.now (T.content table.old)) }
     ensures whole { OnOk result.1 (result.0.items ≡ replies steps.now (T.content table.old)) }
 {
-    let mut told = Vec::new(alloc);
+    let mut as_stated = Vec::new(alloc);
     for at in 0..steps.len() {
         let reply = match take_step(table, &steps[at]) {
             Ok(reply) => reply,
-            Err(refusal) => return (told, Err(refusal)),
+            Err(refusal) => return (as_stated, Err(refusal)),
         };
-        match told.push(reply) {
+        match as_stated.push(reply) {
             Ok(()) => {}
-            Err(_) => return (told, Err(AllocError)),
+            Err(_) => return (as_stated, Err(AllocError)),
         }
     }
-    (told, Ok(()))
+    (as_stated, Ok(()))
 }

@@ -10,11 +10,11 @@ use wit_types::TypeId;
 pub trait InternTable {
     ghost content: { Self → FiniteMap };
 
-    /// The type at a key, if one stands there.
+    /// The type at a key, if one is there.
     fn find(&self, key: &InternKey) -> Option<TypeId>
         ensures { result ≡ content self.now key.now };
 
-    /// Sets the type at a key, also where one stands there.
+    /// Sets the type at a key, also where one is there.
     ///
     /// If a growth is refused, the table stays as it was and the key comes back.
     fn insert(&mut self, key: InternKey, id: TypeId) -> Result<(), AllocFailed<InternKey>>

@@ -14,11 +14,11 @@ use Rattle.wit_arena.proofs.FunctionNames.{made_name}
 use Rattle.wit_syntax.proofs.Names.{name_cases}
 use Rattle.wit_syntax.proofs.Inserting.{inserted_next}
 
--- a function more stands at its name, where names differ
+-- a function more is at its name, where names differ
 pub function_next : (fs rest : List Function) (f : Function) → AllDiffer (map made_name (fs ++ f ∷ rest)) → insert_entry (pointwise nat_eq) (map by_name fs) f.name f ≡ map by_name (fs ++ f ∷ [])
 function_next fs rest f differ = inserted_next (pointwise nat_eq) made_name (λ g. g) [] fs rest f (λ d. name_cases f.name d.0) differ
 
--- a key is a name, or is told from it
+-- a key is a name, or is stated from it
 key_cases : (name : List ℕ) (k : WorldKey) → (key.Name name ≡ k) ⊎ (key_test.it (key.Name name) k ≡ false)
 key_cases name (key.Name other) = elim (name_cases name other) [
   | inl same ↦ inl (ap key.Name same)

@@ -3,7 +3,7 @@ pub mod WrongNames
 mod Results
 mod SettersPlaced
 mod FunctionTables
-pub mod Behind
+pub mod FunctionFaults
 pub mod ScopeFunctions
 mod OwnKeys
 pub mod NoFunctions

@@ -13,24 +13,24 @@ use Rattle.wit_syntax.proofs.Repeated.{differ_none}
 use Rattle.wit_syntax.specs.Source.{ScopeName}
 use Rattle.wit_syntax.specs.Function.{SourceFunction}
 use Rattle.wit_syntax.specs.Signature.{IsUnpairedSetter}
-use Rattle.wit_rules.specs.declared.held.HeldFunction.{HeldFunction}
-use Rattle.wit_rules.specs.Held.{function_behind}
-use Rattle.wit_signatures.specs.Taken.{name_of_id, name_key}
+use Rattle.wit_rules.specs.declared.borrowed.BorrowedFunction.{BorrowedFunction}
+use Rattle.wit_rules.specs.Borrowed.{function_view}
+use Rattle.wit_signatures.specs.ForeignName.{name_of_id, name_key}
 use Rattle.wit_externs.specs.Clash.{all_on}
-use Rattle.wit_uses.specs.Behind.{IsTurn}
+use Rattle.wit_uses.specs.NameOrder.{IsTurn}
 use Rattle.wit_item_entries.proofs.OwnKeys.{turn_keys}
 
 none_in : (fn : SourceFunction) → Contains [] fn → ⊥
 none_in fn (k, lt, is) = omega arith
 
 -- none of them is a setter without its getter
-pub none_unpaired : (hs : List HeldFunction) → length hs ≡ 0 → (f : Fault) → IsUnpairedSetter (map function_behind hs) f → ⊥
-none_unpaired hs none f h = none_in h.0 (subst (λ (l : List HeldFunction). Contains (map function_behind l) h.0) (nil_from_length hs none) h.1)
+pub none_unpaired : (hs : List BorrowedFunction) → length hs ≡ 0 → (f : Fault) → IsUnpairedSetter (map function_view hs) f → ⊥
+none_unpaired hs none f h = none_in h.0 (subst (λ (l : List BorrowedFunction). Contains (map function_view l) h.0) (nil_from_length hs none) h.1)
 
 alone : (side : WorldSide) (xs : List ScopeName) (ids : List Id) → IsTurn xs ids → list_any (λ (id : Id). list_any is_ascii_uppercase id.name.now) ids ≡ false → AllDiffer (map name_key (names_on side (map name_of_id ids) ++ []))
 alone Imported xs ids t lower = turn_keys xs ids t lower
 alone Exported xs ids t lower = differ_none
 
 -- the keys of their names differ where none has a letter in upper case
-pub names_alone : (side : WorldSide) (xs : List ScopeName) (ids : List Id) (hs : List HeldFunction) → length hs ≡ 0 → IsTurn xs ids → list_any (λ (id : Id). list_any is_ascii_uppercase id.name.now) ids ≡ false → AllDiffer (map name_key (all_on side ids (map SideFunction (map function_behind hs))))
-names_alone side xs ids hs none t lower = subst (λ (l : List HeldFunction). AllDiffer (map name_key (all_on side ids (map SideFunction (map function_behind l))))) (sym (nil_from_length hs none)) (alone side xs ids t lower)
+pub names_alone : (side : WorldSide) (xs : List ScopeName) (ids : List Id) (hs : List BorrowedFunction) → length hs ≡ 0 → IsTurn xs ids → list_any (λ (id : Id). list_any is_ascii_uppercase id.name.now) ids ≡ false → AllDiffer (map name_key (all_on side ids (map SideFunction (map function_view hs))))
+names_alone side xs ids hs none t lower = subst (λ (l : List BorrowedFunction). AllDiffer (map name_key (all_on side ids (map SideFunction (map function_view l))))) (sym (nil_from_length hs none)) (alone side xs ids t lower)

@@ -12,9 +12,9 @@ use Rattle.wit_syntax.specs.Source.{ScopeName}
 use Rattle.wit_syntax.proofs.Lists.{map_map}
 use Rattle.wit_syntax.proofs.Turns.{in_turn_distinct}
 use Rattle.wit_refusals.proofs.Cases.{texts-lower, names-folded}
-use Rattle.wit_signatures.specs.Taken.{name_of_id, name_key}
-use Rattle.wit_uses.specs.Behind.{IsTurn}
-use Rattle.wit_item_entries.proofs.Behind.{turn_texts}
+use Rattle.wit_signatures.specs.ForeignName.{name_of_id, name_key}
+use Rattle.wit_uses.specs.NameOrder.{IsTurn}
+use Rattle.wit_item_entries.proofs.FunctionFaults.{turn_texts}
 
 -- the key of a label is the label in lower case
 keys-folded : (ids : List Id) → map name_key (map name_of_id ids) ≡ map (λ (id : Id). folded id.name.now) ids

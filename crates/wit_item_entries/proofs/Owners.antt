@@ -8,17 +8,17 @@ use Rattle.wit_type_tree.specs.declared.types.TypeBody.{TypeBody}
 use Rattle.wit_type_tree.specs.declared.types.TypeBody.TheVariants as body
 use Rattle.wit_type_tree.specs.declared.types.ResourceFunc.{ResourceFunc}
 use Rattle.wit_type_tree.specs.declared.types.ResourceFunc.TheVariants as resource
-use Rattle.wit_syntax.specs.Source.{Item, Part, Defining, Using, Including, Doing, Crossing, parts, ScopeName, Defined, part_names, scope_names, local_name}
+use Rattle.wit_syntax.specs.Source.{Item, Part, DefinitionPart, UsePart, IncludePart, FunctionPart, ExternPart, parts, ScopeName, Defined, part_names, scope_names, local_name}
 use Rattle.wit_syntax.specs.Scope.{in_turn, local_names}
 use Rattle.wit_syntax.specs.Function.{SourceFunction, definition_functions, free_function, resource_function, part_functions, functions}
 use Rattle.wit_arena.specs.Resolving.{Env, Names, env_of, names_in}
 use Rattle.wit_syntax.proofs.Lists.{map_at, flat_map_at, flat_map_has}
 use Rattle.wit_syntax.proofs.Turns.{in_turn_has}
-use Rattle.wit_arena.proofs.Using.{lookup-listed}
-use Rattle.wit_rules.specs.Held.{owner_of}
+use Rattle.wit_arena.proofs.UsePart.{lookup-listed}
+use Rattle.wit_rules.specs.Borrowed.{owner_of}
 use Rattle.wit_rules.specs.Signatures.{HasOwner, HaveOwners}
-use Rattle.wit_uses.specs.Behind.{IsTurn}
-use Rattle.wit_item_entries.proofs.Behind.{turn_texts}
+use Rattle.wit_uses.specs.NameOrder.{IsTurn}
+use Rattle.wit_item_entries.proofs.FunctionFaults.{turn_texts}
 use Rattle.wit_syntax.proofs.Externs.{extern_at}
 
 resource_owner : (env : Env) (r : Id) (f : ResourceFunc) → IsSome (env r.name.now) → HasOwner env (owner_of (resource_function r f).role)
@@ -39,18 +39,18 @@ definition_owner env r (body.Plain t) k fn at has = absurd (let f : ⊥ = cc in 
 
 module _ (item : Item) (env : Env) (has : (i : ℕ) (x : ScopeName) → slice_get (scope_names item) i ≡ Some x → IsSome (env (local_name x))) where
   part_owner : (i : ℕ) (p : Part) (j : ℕ) (fn : SourceFunction) → slice_get (parts item) i ≡ Some p → slice_get (part_functions p) j ≡ Some fn → HasOwner env (owner_of fn.role)
-  part_owner i (Defining d) j fn at there =
-      let place = flat_map_has (part_names item.top) (parts item) i 0 (Defining d) (Defined d) at refl in
+  part_owner i (DefinitionPart d) j fn at there =
+      let place = flat_map_has (part_names item.top) (parts item) i 0 (DefinitionPart d) (Defined d) at refl in
       definition_owner env d.name d.body j fn there (has place.0 (Defined d) place.1)
-  part_owner i (Using u) j fn at there = absurd (let f : ⊥ = cc in f)
-  part_owner i (Including x) j fn at there = absurd (let f : ⊥ = cc in f)
-  part_owner i (Crossing x) j fn at there =
+  part_owner i (UsePart u) j fn at there = absurd (let f : ⊥ = cc in f)
+  part_owner i (IncludePart x) j fn at there = absurd (let f : ⊥ = cc in f)
+  part_owner i (ExternPart x) j fn at there =
       let it = extern_at x x.kind j fn there in
       subst (λ (h : SourceFunction). HasOwner env (owner_of h.role)) it.2 tt
-  part_owner i (Doing g) zero fn at there =
+  part_owner i (FunctionPart g) zero fn at there =
       let same : free_function g ≡ fn = cc in
       subst (λ (h : SourceFunction). HasOwner env (owner_of h.role)) same tt
-  part_owner i (Doing g) (suc j) fn at there = absurd (let f : ⊥ = cc in f)
+  part_owner i (FunctionPart g) (suc j) fn at there = absurd (let f : ⊥ = cc in f)
 
   pub owners : HaveOwners env (functions item)
   owners = record {
@@ -59,7 +59,7 @@ module _ (item : Item) (env : Env) (has : (i : ℕ) (x : ScopeName) → slice_ge
         part_owner p.0 p.1 p.3.0 fn p.2 p.3.1);
   }
 
--- each name of a scope stands in a table that has them in turn
+-- each name of a scope is in a table that has them in turn
 pub turn_has : (xs : List ScopeName) (ids : List Id) (types : Names) → IsTurn xs ids → names_in types ≡ map (λ (id : Id). id.name.now) ids → (i : ℕ) (x : ScopeName) → slice_get xs i ≡ Some x → IsSome (env_of types (local_name x))
 turn_has xs ids types t listed i x at =
     let k = in_turn_has xs t.order t.least i x at in

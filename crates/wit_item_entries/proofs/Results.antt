@@ -1,4 +1,4 @@
--- Definitions of a scope that are written as results, told by their names.
+-- Definitions of a scope that are written as results, given by their names.
 use Rattle.std.proofs.Common.{◌≡◌, ℕ, zero, suc, arith, true, false, cond, List, [], ◌∷◌, ◌++◌, Option, Some, None, inl, inr, nat_eq, take, refl, sym, ap, ◌∙◌}
 use Rattle.std.specs.Prelude.{slice_get}
 use Rattle.std.specs.Cmp.Lexicographic.{pointwise}
@@ -16,7 +16,7 @@ use Rattle.wit_syntax.specs.Signature.{body_ok, meant_ok}
 use Rattle.wit_syntax.specs.Scope.{AreDistinct}
 use Rattle.wit_syntax.proofs.Names.{name_cases, name_itself}
 use Rattle.wit_syntax.proofs.Repeated.{differ_at, differ_by}
-use Rattle.wit_rules.specs.Signatures.{told_ok, AreResults}
+use Rattle.wit_rules.specs.Signatures.{stated_ok, AreResults}
 use Rattle.wit_setters.proofs.Results.{lookup-inserted}
 
 or_none : {X : Type 0} (o : Option X) → option_or o None ≡ o
@@ -49,9 +49,9 @@ unmeant_before (y ∷ xs) (suc k) x distinct at = elim (name_cases (local_name y
 -- one name more that is not written as a result
 pub results_same : (results : List (List ℕ × Bor Written)) (xs : List ScopeName) (x : ScopeName) → meant_ok (Some x) ≡ None → AreResults results xs → AreResults results (xs ++ x ∷ [])
 results_same results xs x none are = record {
-  told = λ name. (
+  as_stated = λ name. (
       let test = λ (y : ScopeName). bytes_eq (local_name y) name in
-      are.told name ∙ kept (meaning xs name) (find test (x ∷ [])) (alone name) ∙ sym (ap meant_ok (find-append test xs (x ∷ []))));
+      are.as_stated name ∙ kept (meaning xs name) (find test (x ∷ [])) (alone name) ∙ sym (ap meant_ok (find-append test xs (x ∷ []))));
 }
   where
     kept : (o r : Option ScopeName) → meant_ok r ≡ None → meant_ok o ≡ meant_ok (option_or o r)
@@ -65,19 +65,19 @@ results_same results xs x none are = record {
     ]
 
 -- one definition more that is
-pub results_more : (results : List (List ℕ × Bor Written)) (xs : List ScopeName) (d : Definition) (t : Bor Written) → told_ok (Some t) ≡ body_ok d.body → meaning xs (local_name (Defined d)) ≡ None → AreResults results xs → AreResults (insert_entry (pointwise nat_eq) results (local_name (Defined d)) t) (xs ++ Defined d ∷ [])
+pub results_more : (results : List (List ℕ × Bor Written)) (xs : List ScopeName) (d : Definition) (t : Bor Written) → stated_ok (Some t) ≡ body_ok d.body → meaning xs (local_name (Defined d)) ≡ None → AreResults results xs → AreResults (insert_entry (pointwise nat_eq) results (local_name (Defined d)) t) (xs ++ Defined d ∷ [])
 results_more results xs d t gives free are = record {
-  told = λ name. (
+  as_stated = λ name. (
       let own = local_name (Defined d) in
       let found = lookup-inserted results own name t in
       elim (name_cases own name) [
         | inl same ↦ (
             let hit : pointwise nat_eq name own ≡ true = ap (pointwise nat_eq name) same ∙ name_itself name in
             let there : meaning (xs ++ Defined d ∷ []) name ≡ Some (Defined d) = ap (meaning (xs ++ Defined d ∷ [])) (sym same) ∙ meaning_last xs (Defined d) free in
-            ap told_ok (found ∙ ap (λ b. cond b (Some t) (lookup (pointwise nat_eq name) results)) hit) ∙ gives ∙ sym (ap meant_ok there))
+            ap stated_ok (found ∙ ap (λ b. cond b (Some t) (lookup (pointwise nat_eq name) results)) hit) ∙ gives ∙ sym (ap meant_ok there))
         | inr other ↦ (
             let miss : pointwise nat_eq name own ≡ false = flip own name other in
-            ap told_ok (found ∙ ap (λ b. cond b (Some t) (lookup (pointwise nat_eq name) results)) miss) ∙ are.told name ∙ sym (ap meant_ok (meaning_past xs (Defined d) name other)))
+            ap stated_ok (found ∙ ap (λ b. cond b (Some t) (lookup (pointwise nat_eq name) results)) miss) ∙ are.as_stated name ∙ sym (ap meant_ok (meaning_past xs (Defined d) name other)))
       ]);
 }
   where

@@ -1,4 +1,4 @@
--- The functions of an item, added behind its names.
+-- The functions of an item, added after its names.
 use Rattle.std.proofs.Common.{◌≡◌, ◌⊎◌, ℕ, List, [], ◌++◌, length, map, Some, inl, inr, sym, ap, ◌∙◌, subst, Contains}
 use Rattle.std.specs.Prelude.{slice_get}
 use Rattle.std.specs.List.{flat_map}
@@ -20,62 +20,62 @@ use Rattle.wit_tree.specs.declared.tree.WorldSide.{WorldSide}
 use Rattle.wit_tree.specs.declared.tree.WorldSide.TheVariants.{Imported}
 use Rattle.wit_syntax.specs.Sides.{SideItem, SideFunction, names_on, on_side, side_items, IsFoldedTwice, IsCrossedTwice, FoldedTwice, CrossedTwice}
 use Rattle.wit_syntax.specs.Broken.{IsBrokenScope, Function as FunctionBroken}
-use Rattle.wit_arena.specs.Resolving.{Env, Names, env_of, Cell, Required, AreEnded, AddsFunctions, IsWrongHandle, WrongItself}
-use Rattle.wit_arena.specs.Resolved.{AddsBehind, IsNameless, IsWrongHandleNow}
+use Rattle.wit_arena.specs.Resolving.{Env, Names, env_of, ResolvedScope, Required, AreEnded, AddsFunctions, IsWrongHandle, WrongItself}
+use Rattle.wit_arena.specs.Resolved.{AddsAfter, IsNameless, IsWrongHandleNow}
 use Rattle.wit_syntax.proofs.Legal.{function_name}
 use Rattle.wit_arena.proofs.FunctionNames.{names_differ, made_name}
 use Rattle.wit_syntax.proofs.Lists.{map_map}
 use Rattle.wit_arena.proofs.Required.{ended_append, ended_more}
 use Rattle.wit_arena.proofs.Written.{all_handles-append}
 use Rattle.wit_refusals.specs.Names.{Name}
-use Rattle.wit_entries.specs.Requiring.{IsGrown, Requires}
+use Rattle.wit_entries.specs.Requiring.{IsExtended, Requires}
 use Rattle.wit_rules.specs.Signatures.{IsWrongFunctionAmong}
-use Rattle.wit_signatures.specs.Taken.{name_of_function, name_of_id, name_of_made, name_key}
-use Rattle.wit_externs.specs.Held.{externs_behind}
+use Rattle.wit_signatures.specs.ForeignName.{name_of_function, name_of_id, name_of_made, name_key}
+use Rattle.wit_externs.specs.SideMembers.{externs_view}
 use Rattle.wit_externs.specs.Clash.{DifferOnSides, all_on}
-use Rattle.wit_externs.specs.Links.{IsWrongLink, WrongNotes as NotedWrong, AtWorld, AtNothing, IsWrongAmong, Clashes, LinkedAgain, WrongLink, WrongInside, IsLinkedAgain}
-use Rattle.wit_externs.specs.declared.held.HeldLink.{HeldLink}
-use Rattle.wit_externs.specs.declared.held.HeldExtern.{HeldExtern}
-use Rattle.wit_externs.specs.declared.held.HeldExtern.TheVariants as held
-use Rattle.wit_scopes.specs.Held.{Held as HeldName}
-use Rattle.wit_scopes.specs.Between.{IsOfFunctions, OfFunction}
-use Rattle.wit_item_entries.specs.Between.{AddsTurn}
-use Rattle.wit_uses.specs.Behind.{IsTurn}
-use Rattle.wit_item_entries.specs.Behind.{IsWrongFunctions, BrokenFunction, BrokenNames, CrossedNames, HandleOfOther}
+use Rattle.wit_externs.specs.Links.{IsWrongLink, WrongMetadata as NotedWrong, AtWorld, AtNothing, IsWrongAmong, Clashes, LinkedAgain, WrongLink, WrongInside, IsLinkedAgain}
+use Rattle.wit_externs.specs.declared.borrowed.BorrowedLink.{BorrowedLink}
+use Rattle.wit_externs.specs.declared.borrowed.BorrowedExtern.{BorrowedExtern}
+use Rattle.wit_externs.specs.declared.borrowed.BorrowedExtern.TheVariants as borrowed
+use Rattle.wit_scopes.specs.Borrowed.{Borrowed as BorrowedName}
+use Rattle.wit_scopes.specs.DefinitionOrder.{IsOfFunctions, OfFunction}
+use Rattle.wit_item_entries.specs.AddedNames.{AddsTurn}
+use Rattle.wit_uses.specs.NameOrder.{IsTurn}
+use Rattle.wit_item_entries.specs.FunctionFaults.{IsWrongFunctions, BrokenFunction, BrokenNames, CrossedNames, HandleOfOther}
 use Rattle.wit_item_entries.specs.Body.{AddsBody, IsWrongBody, WrongNames, WrongHandles, WrongSides}
 use Rattle.wit_item_entries.proofs.Handled.{handle_wider}
-use Rattle.wit_uses.proofs.Behind.{differ_called}
-use Rattle.wit_item_entries.proofs.Behind.{clash_broken, function_handle}
-use Rattle.wit_uses.proofs.ItemSides.{IsStandingBy, wrong_folded, wrong_crossed, wrong_noted, wrong_inside}
-use Rattle.wit_externs.specs.declared.held.Led.TheVariants as led
+use Rattle.wit_uses.proofs.NameOrder.{differ_called}
+use Rattle.wit_item_entries.proofs.FunctionFaults.{clash_broken, function_handle}
+use Rattle.wit_uses.proofs.ItemSides.{HasMembers, wrong_folded, wrong_crossed, wrong_noted, wrong_inside}
+use Rattle.wit_externs.specs.declared.borrowed.PathTarget.TheVariants as path_target
 
 -- the names of a scope that was added, in turn
-pub turn_added : (old mid : List TypeDef) (cs : List Cell) (o : TypeOwner) (xs : List ScopeName) (types : Names) (ids : List Id) (rs : List Required) → AddsTurn old mid cs o xs types ids rs → IsTurn xs ids
+pub turn_added : (old mid : List TypeDef) (cs : List ResolvedScope) (o : TypeOwner) (xs : List ScopeName) (types : Names) (ids : List Id) (rs : List Required) → AddsTurn old mid cs o xs types ids rs → IsTurn xs ids
 turn_added old mid cs o xs types ids rs n = record { order = n.adds.order; least = n.adds.least; distinct = n.adds.distinct; are = n.turn }
 
--- what is required stands behind what was
-required_behind : (env : Env) (mid new : List TypeDef) (ids more : List Id) (own all : List Required) → IsGrown mid new → Requires env mid ids [] own → Requires env new more own all → AreEnded env new (ids ++ more) all
-required_behind env mid new ids more own all g p q =
-    let first : AreEnded env new ids p.list = subst (λ (es : List TypeDef). AreEnded env es ids p.list) (sym g.is) (ended_more env env mid g.more ids p.list (λ name i stands. stands) p.ended) in
+-- what is required comes after what was
+required_after : (env : Env) (mid new : List TypeDef) (ids more : List Id) (own all : List Required) → IsExtended mid new → Requires env mid ids [] own → Requires env new more own all → AreEnded env new (ids ++ more) all
+required_after env mid new ids more own all g p q =
+    let first : AreEnded env new ids p.list = subst (λ (es : List TypeDef). AreEnded env es ids p.list) (sym g.is) (ended_more env env mid g.more ids p.list (λ name i present. present) p.ended) in
     subst (AreEnded env new (ids ++ more)) (sym (q.added ∙ ap (λ (l : List Required). l ++ q.list) p.added)) (ended_append env new ids more p.list q.list first q.ended)
 
--- the functions of an item stand behind its names
-functions_behind : (old mid new : List TypeDef) (cs : List Cell) (o : TypeOwner) (item : Item) (types : Names) (ids : List Id) (own all : List Required) (fs : List Function) (n : AddsTurn old mid cs o (scope_names item) types ids own) → ((s : Address) → AddsFunctions mid new s types (functions item) fs) → IsGrown mid new → Requires (env_of types) new (all_handles (flat_map written_types (functions item))) own all → AddsBehind mid new item n.adds.order types fs all
-functions_behind old mid new cs o item types ids own all fs n adds g q =
+-- the functions of an item come after its names
+functions_view : (old mid new : List TypeDef) (cs : List ResolvedScope) (o : TypeOwner) (item : Item) (types : Names) (ids : List Id) (own all : List Required) (fs : List Function) (n : AddsTurn old mid cs o (scope_names item) types ids own) → ((s : Address) → AddsFunctions mid new s types (functions item) fs) → IsExtended mid new → Requires (env_of types) new (all_handles (flat_map written_types (functions item))) own all → AddsAfter mid new item n.adds.order types fs all
+functions_view old mid new cs o item types ids own all fs n adds g q =
     let names = flat_map name_types (in_turn (scope_names item) n.adds.order) in
     let others = flat_map written_types (functions item) in
     record {
       adds = adds (address item);
-      ended = subst (λ (l : List Id). AreEnded (env_of types) new l all) (sym (all_handles-append names others)) (required_behind (env_of types) mid new (all_handles names) (all_handles others) own all g n.handled q);
+      ended = subst (λ (l : List Id). AreEnded (env_of types) new l all) (sym (all_handles-append names others)) (required_after (env_of types) mid new (all_handles names) (all_handles others) own all g n.handled q);
     }
 
 -- so its names and its functions were added
-pub body_added : (old mid new : List TypeDef) (cs : List Cell) (o : TypeOwner) (item : Item) (types : Names) (ids : List Id) (own all : List Required) (fs : List Function) → AddsTurn old mid cs o (scope_names item) types ids own → ((s : Address) → AddsFunctions mid new s types (functions item) fs) → IsGrown mid new → Requires (env_of types) new (all_handles (flat_map written_types (functions item))) own all → map name_of_made fs ≡ map name_of_function (functions item) → DifferOnSides ids (side_items item) → AddsBody old new cs o item types ids fs all
+pub body_added : (old mid new : List TypeDef) (cs : List ResolvedScope) (o : TypeOwner) (item : Item) (types : Names) (ids : List Id) (own all : List Required) (fs : List Function) → AddsTurn old mid cs o (scope_names item) types ids own → ((s : Address) → AddsFunctions mid new s types (functions item) fs) → IsExtended mid new → Requires (env_of types) new (all_handles (flat_map written_types (functions item))) own all → map name_of_made fs ≡ map name_of_function (functions item) → DifferOnSides ids (side_items item) → AddsBody old new cs o item types ids fs all
 body_added old mid new cs o item types ids own all fs n adds g q named differ = record {
   middle = mid;
   adds = n.adds;
   turn = n.turn;
-  behind = functions_behind old mid new cs o item types ids own all fs n adds g q;
+  rest_after = functions_view old mid new cs o item types ids own all fs n adds g q;
   named = named;
   differ = differ;
 }
@@ -88,8 +88,8 @@ scope_sound xs fns only sound f broken = by (only f broken)
     by (OfFunction k fn at h) = sound k fn at f h
 
 -- a handle in a function that is wrong is so in the item
-wrong_handle_behind : (old mid new : List TypeDef) (cs : List Cell) (o : TypeOwner) (item : Item) (types : Names) (ids : List Id) (own : List Required) (f : Fault) → AddsTurn old mid cs o (scope_names item) types ids own → IsGrown mid new → IsWrongHandle (env_of types) new (all_handles (flat_map written_types (functions item))) f → IsWrongHandleNow old cs o item f
-wrong_handle_behind old mid new cs o item types ids own f n g h =
+wrong_handle_view : (old mid new : List TypeDef) (cs : List ResolvedScope) (o : TypeOwner) (item : Item) (types : Names) (ids : List Id) (own : List Required) (f : Fault) → AddsTurn old mid cs o (scope_names item) types ids own → IsExtended mid new → IsWrongHandle (env_of types) new (all_handles (flat_map written_types (functions item))) f → IsWrongHandleNow old cs o item f
+wrong_handle_view old mid new cs o item types ids own f n g h =
     let xs = in_turn (scope_names item) n.adds.order in
     let names = flat_map name_types (scope_names item) in
     let others = flat_map written_types (functions item) in
@@ -106,8 +106,8 @@ wrong_handle_behind old mid new cs o item types ids own f n g h =
     }
 
 -- what is wrong with functions is wrong with the item that has these, and nothing else, on its sides
-pub wrong_behind : (old mid new : List TypeDef) (cs : List Cell) (by_name : Names) (o : TypeOwner) (item : Item) (types : Names) (ids : List Id) (required : List Required) (f : Fault) → side_items item ≡ map SideFunction (functions item) → AddsTurn old mid cs o (scope_names item) types ids required → IsGrown mid new → IsWrongFunctions (env_of types) new (scope_names item) (functions item) f → IsWrongBody old cs by_name o item f
-wrong_behind old mid new cs by_name o item types ids required f alone n g h = by h
+pub wrong_view : (old mid new : List TypeDef) (cs : List ResolvedScope) (by_name : Names) (o : TypeOwner) (item : Item) (types : Names) (ids : List Id) (required : List Required) (f : Fault) → side_items item ≡ map SideFunction (functions item) → AddsTurn old mid cs o (scope_names item) types ids required → IsExtended mid new → IsWrongFunctions (env_of types) new (scope_names item) (functions item) f → IsWrongBody old cs by_name o item f
+wrong_view old mid new cs by_name o item types ids required f alone n g h = by h
   where
     xs : List ScopeName
     xs = scope_names item
@@ -116,30 +116,30 @@ wrong_behind old mid new cs by_name o item types ids required f alone n g h = by
     by (BrokenFunction k fn at h) = WrongNames (WrongItself (FunctionBroken k fn at h))
     by (BrokenNames h) = WrongSides (FoldedTwice (subst (λ (items : List SideItem). IsFoldedTwice xs items f) (sym alone) h))
     by (CrossedNames h) = WrongSides (CrossedTwice (subst (λ (items : List SideItem). IsCrossedTwice xs items f) (sym alone) h))
-    by (HandleOfOther h) = WrongHandles (wrong_handle_behind old mid new cs o item types ids required f n g h)
+    by (HandleOfOther h) = WrongHandles (wrong_handle_view old mid new cs o item types ids required f n g h)
 
 -- what is wrong with one of its functions is wrong with an item, whatever else it has on its sides
-pub wrong_function : (old mid new : List TypeDef) (cs : List Cell) (by_name : Names) (o : TypeOwner) (item : Item) (types : Names) (ids : List Id) (required : List Required) (f : Fault) → AddsTurn old mid cs o (scope_names item) types ids required → IsGrown mid new → IsWrongFunctionAmong (env_of types) new (scope_names item) (functions item) f → IsWrongBody old cs by_name o item f
+pub wrong_function : (old mid new : List TypeDef) (cs : List ResolvedScope) (by_name : Names) (o : TypeOwner) (item : Item) (types : Names) (ids : List Id) (required : List Required) (f : Fault) → AddsTurn old mid cs o (scope_names item) types ids required → IsExtended mid new → IsWrongFunctionAmong (env_of types) new (scope_names item) (functions item) f → IsWrongBody old cs by_name o item f
 wrong_function old mid new cs by_name o item types ids required f n g h = elim h.wrong [
   | inl broken ↦ WrongNames (WrongItself (FunctionBroken h.place h.fn h.at broken))
-  | inr handle ↦ WrongHandles (wrong_handle_behind old mid new cs o item types ids required f n g (function_handle (env_of types) new (functions item) h.place h.fn f h.at handle))
+  | inr handle ↦ WrongHandles (wrong_handle_view old mid new cs o item types ids required f n g (function_handle (env_of types) new (functions item) h.place h.fn f h.at handle))
 ]
 
 -- the path of one of these links leads to a world, to nothing, or where that of an earlier one does
-pub data IsWrongPath (hs : List HeldExtern) (f : Fault) : Type 0 where
-  LeadsToWorld : (l : HeldLink) → Contains hs (held.Link l) → l.led ≡ led.World → f ≡ fault 10 (path_id l.path.now).span → IsWrongPath hs f
-  LeadsToNothing : (l : HeldLink) (id : Id) → Contains hs (held.Link l) → l.led ≡ led.Nothing id → f ≡ missing_at 7 item_word id → IsWrongPath hs f
+pub data IsWrongPath (hs : List BorrowedExtern) (f : Fault) : Type 0 where
+  LeadsToWorld : (l : BorrowedLink) → Contains hs (borrowed.Link l) → l.path_target ≡ path_target.World → f ≡ fault 10 (path_id l.path.now).span → IsWrongPath hs f
+  LeadsToNothing : (l : BorrowedLink) (id : Id) → Contains hs (borrowed.Link l) → l.path_target ≡ path_target.Nothing id → f ≡ missing_at 7 item_word id → IsWrongPath hs f
   LeadsAgain : IsLinkedAgain hs f → IsWrongPath hs f
 
 -- what is wrong with a link by itself is wrong with the item, or with its path
-wrong_link : (old : List TypeDef) (cs : List Cell) (by_name : Names) (o : TypeOwner) (item : Item) (names : List HeldName) (hs : List HeldExtern) (l : HeldLink) (f : Fault) → IsStandingBy item names hs → Contains hs (held.Link l) → IsWrongLink l f → IsWrongBody old cs by_name o item f ⊎ IsWrongPath hs f
+wrong_link : (old : List TypeDef) (cs : List ResolvedScope) (by_name : Names) (o : TypeOwner) (item : Item) (names : List BorrowedName) (hs : List BorrowedExtern) (l : BorrowedLink) (f : Fault) → HasMembers item names hs → Contains hs (borrowed.Link l) → IsWrongLink l f → IsWrongBody old cs by_name o item f ⊎ IsWrongPath hs f
 wrong_link old cs by_name o item names hs l f own among (NotedWrong h) = inl (WrongSides (wrong_noted item names hs l f own among h))
 wrong_link old cs by_name o item names hs l f own among (AtWorld leads is) = inr (LeadsToWorld l among leads is)
 wrong_link old cs by_name o item names hs l f own among (AtNothing id leads is) = inr (LeadsToNothing l id among leads is)
 
 -- what is wrong with what an item has on its sides is wrong with it, or with a path of a link
-pub wrong_among : (old : List TypeDef) (cs : List Cell) (by_name : Names) (o : TypeOwner) (item : Item) (names : List HeldName) (hs : List HeldExtern) (ids : List Id) (before : WorldSide → List Name) (f : Fault) → IsStandingBy item names hs → IsTurn (scope_names item) ids → ((side : WorldSide) → before side ≡ names_on side (map name_of_id ids)) → IsWrongAmong before hs f → IsWrongBody old cs by_name o item f ⊎ IsWrongPath hs f
-wrong_among old cs by_name o item names hs ids before f own t are (Clashes h) = elim (clash_broken (scope_names item) (externs_behind hs) ids before f t are h) [
+pub wrong_among : (old : List TypeDef) (cs : List ResolvedScope) (by_name : Names) (o : TypeOwner) (item : Item) (names : List BorrowedName) (hs : List BorrowedExtern) (ids : List Id) (before : WorldSide → List Name) (f : Fault) → HasMembers item names hs → IsTurn (scope_names item) ids → ((side : WorldSide) → before side ≡ names_on side (map name_of_id ids)) → IsWrongAmong before hs f → IsWrongBody old cs by_name o item f ⊎ IsWrongPath hs f
+wrong_among old cs by_name o item names hs ids before f own t are (Clashes h) = elim (clash_broken (scope_names item) (externs_view hs) ids before f t are h) [
   | inl folded ↦ inl (WrongSides (wrong_folded item names hs f own folded))
   | inr crossed ↦ inl (WrongSides (wrong_crossed item names hs f own crossed))
 ]
@@ -147,8 +147,8 @@ wrong_among old cs by_name o item names hs ids before f own t are (LinkedAgain h
 wrong_among old cs by_name o item names hs ids before f own t are (WrongLink l among h) = wrong_link old cs by_name o item names hs l f own among h
 wrong_among old cs by_name o item names hs ids before f own t are (WrongInside i among h) = inl (WrongSides (wrong_inside item names hs i f own among h))
 
--- the names of functions that stand where imports do differ where nothing else stands there, and the keys of what is taken do
-pub made_differ : (old new : List TypeDef) (cs : List Cell) (o : TypeOwner) (item : Item) (types : Names) (ids : List Id) (fs : List Function) (rs : List Required) → on_side Imported (functions item) ≡ functions item → side_items item ≡ map SideFunction (functions item) → AddsBody old new cs o item types ids fs rs → AllDiffer (map made_name fs)
+-- the names of functions that are where imports do differ where nothing else is there, and the keys of what is taken do
+pub made_differ : (old new : List TypeDef) (cs : List ResolvedScope) (o : TypeOwner) (item : Item) (types : Names) (ids : List Id) (fs : List Function) (rs : List Required) → on_side Imported (functions item) ≡ functions item → side_items item ≡ map SideFunction (functions item) → AddsBody old new cs o item types ids fs rs → AllDiffer (map made_name fs)
 made_differ old new cs o item types ids fs rs imported alone b =
     let xs = scope_names item in
     let fns = functions item in

@@ -1,4 +1,4 @@
--- Setters that are placed behind their getters, whichever way these are seen.
+-- Setters that are placed after their getters, whichever way these are seen.
 use Rattle.std.proofs.Common.{◌≡◌, ◌||◌, Bool, true, false, List, [], ◌∷◌, ◌++◌, inl, inr, refl, sym, ap, ◌∙◌}
 use Rattle.std.specs.Prelude.{map}
 use Rattle.std.specs.List.{filter, flat_map, list_any}

@@ -11,15 +11,15 @@ use Rattle.wit_syntax.specs.Source.{Item, scope_names}
 use Rattle.wit_syntax.specs.Shape.{all_handles}
 use Rattle.wit_syntax.specs.Function.{functions as item_functions, name_types, written_types, item_types}
 use Rattle.wit_syntax.specs.Fault.{Fault}
-use Rattle.wit_arena.specs.Resolving.{Names, Cell, env_of}
+use Rattle.wit_arena.specs.Resolving.{Names, ResolvedScope, env_of}
 use Rattle.wit_arena.specs.Resolved.{OwnStability, IsWrongHandleNow, IsWrongInterface, WrongStability, WrongScope, WrongHandle, WrongSides, IsWrongWorld, WrongWorldStability, WrongWorldScope, WrongWorldHandle, WrongWorldSides}
 use Rattle.wit_arena.proofs.Written.{all_handles-append}
-use Rattle.wit_item_entries.specs.Between.{IsWrongHandleOf, IsWrongNames, WrongScopeNames, WrongHandleNames}
-use Rattle.wit_item_entries.specs.Body.{IsWrongBody, WrongNotes, WrongNames, WrongHandles, WrongSides as SidesWrong}
+use Rattle.wit_item_entries.specs.AddedNames.{IsWrongHandleOf, IsWrongNames, WrongScopeNames, WrongHandleNames}
+use Rattle.wit_item_entries.specs.Body.{IsWrongBody, WrongMetadata, WrongNames, WrongHandles, WrongSides as SidesWrong}
 use Rattle.wit_item_entries.proofs.Handled.{handle_wider}
 
 -- a handle in a definition that is wrong is so in the item
-pub wrong_handle_item : (old : List TypeDef) (cs : List Cell) (o : TypeOwner) (i : Item) (f : Fault) → IsWrongHandleOf old cs o (scope_names i) f → IsWrongHandleNow old cs o i f
+pub wrong_handle_item : (old : List TypeDef) (cs : List ResolvedScope) (o : TypeOwner) (i : Item) (f : Fault) → IsWrongHandleOf old cs o (scope_names i) f → IsWrongHandleNow old cs o i f
 wrong_handle_item old cs o i f h =
     let own = flat_map name_types (scope_names i) in
     let others = flat_map written_types (item_functions i) in
@@ -36,20 +36,20 @@ wrong_handle_item old cs o i f h =
     }
 
 -- what is wrong with its names is wrong with it
-pub wrong_names : (old : List TypeDef) (cs : List Cell) (by_name : Names) (o : TypeOwner) (i : Item) (f : Fault) → IsWrongNames old cs by_name o (scope_names i) f → IsWrongBody old cs by_name o i f
+pub wrong_names : (old : List TypeDef) (cs : List ResolvedScope) (by_name : Names) (o : TypeOwner) (i : Item) (f : Fault) → IsWrongNames old cs by_name o (scope_names i) f → IsWrongBody old cs by_name o i f
 wrong_names old cs by_name o i f (WrongScopeNames h) = WrongNames (h (item_functions i))
 wrong_names old cs by_name o i f (WrongHandleNames h) = WrongHandles (wrong_handle_item old cs o i f h)
 
 -- what is wrong with an item is wrong with the interface
-pub wrong_interface : (old : List TypeDef) (cs : List Cell) (by_name : Names) (o : TypeOwner) (i : Item) (f : Fault) → IsWrongBody old cs by_name o i f → IsWrongInterface old cs by_name o i f
-wrong_interface old cs by_name o i f (WrongNotes h) = WrongStability (OwnStability h)
+pub wrong_interface : (old : List TypeDef) (cs : List ResolvedScope) (by_name : Names) (o : TypeOwner) (i : Item) (f : Fault) → IsWrongBody old cs by_name o i f → IsWrongInterface old cs by_name o i f
+wrong_interface old cs by_name o i f (WrongMetadata h) = WrongStability (OwnStability h)
 wrong_interface old cs by_name o i f (WrongNames h) = WrongScope h
 wrong_interface old cs by_name o i f (WrongHandles h) = WrongHandle h
 wrong_interface old cs by_name o i f (SidesWrong h) = WrongSides h
 
 -- or with the world
-pub wrong_world : (files : List PackageFile) (old : List TypeDef) (cs : List Cell) (count : ℕ) (inside : List Interface) (by_name worlds : Names) (o : TypeOwner) (i : Item) (f : Fault) → IsWrongBody old cs by_name o i f → IsWrongWorld files old cs count inside by_name worlds o i f
-wrong_world files old cs count inside by_name worlds o i f (WrongNotes h) = WrongWorldStability (OwnStability h)
+pub wrong_world : (files : List PackageFile) (old : List TypeDef) (cs : List ResolvedScope) (count : ℕ) (inside : List Interface) (by_name worlds : Names) (o : TypeOwner) (i : Item) (f : Fault) → IsWrongBody old cs by_name o i f → IsWrongWorld files old cs count inside by_name worlds o i f
+wrong_world files old cs count inside by_name worlds o i f (WrongMetadata h) = WrongWorldStability (OwnStability h)
 wrong_world files old cs count inside by_name worlds o i f (WrongNames h) = WrongWorldScope h
 wrong_world files old cs count inside by_name worlds o i f (WrongHandles h) = WrongWorldHandle h
 wrong_world files old cs count inside by_name worlds o i f (SidesWrong h) = WrongWorldSides h

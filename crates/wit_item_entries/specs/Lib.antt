@@ -1,3 +1,3 @@
-pub mod Between
-pub mod Behind
+pub mod AddedNames
+pub mod FunctionFaults
 pub mod Body

@@ -1,4 +1,4 @@
-//! The functions of an item as they are written, and as they stand in the package.
+//! The functions of an item as they are written, and as they are in the package.
 ghost use Rattle.std.specs.Prelude.{◌≡◌, ◌++◌, false, IfOk, OnOk, map, nat_eq};
 ghost use Rattle.std.specs.Cmp.Lexicographic.{pointwise};
 ghost use Rattle.std.specs.List.{flat_map};
@@ -7,32 +7,32 @@ ghost use Rattle.wit_syntax.specs.Repeats.{AllDiffer};
 ghost use Rattle.wit_syntax.specs.Source.{interface_part, local_name, about};
 ghost use Rattle.wit_syntax.specs.Function.{definition_functions, part_functions};
 ghost use Rattle.wit_arena.specs.Functions.{placed_functions};
-ghost use Rattle.wit_rules.specs.Held.{function_behind};
+ghost use Rattle.wit_rules.specs.Borrowed.{function_view};
 ghost use Rattle.wit_syntax.specs.Signature.{body_ok};
-ghost use Rattle.wit_rules.specs.Signatures.{told_ok, AreResults};
-ghost use Rattle.wit_items.specs.Items.{declared_behind};
-ghost use Rattle.wit_scopes.specs.Held.{name_behind};
+ghost use Rattle.wit_rules.specs.Signatures.{stated_ok, AreResults};
+ghost use Rattle.wit_items.specs.Items.{declared_view};
+ghost use Rattle.wit_scopes.specs.Borrowed.{name_view};
 
 use std::alloc::{AllocError, Global};
 use wit_items::items::Declared;
-use wit_model::Function;
-use wit_rules::held::HeldFunction;
-use wit_scopes::scope_name::ScopeName;
-use wit_setters::setters::setters_behind_getters;
-use wit_tree::tree::{InterfaceItem, Type, TypeBody, TypeDef};
 use wit_maps::TextTable;
-use wit_values::{beside, push};
+use wit_model::Function;
+use wit_rules::borrowed::BorrowedFunction;
+use wit_scopes::scope_name::ScopeName;
+use wit_setters::setters::setters_after_getters;
+use wit_tree::tree::{InterfaceItem, Type, TypeBody, TypeDef};
+use wit_values::{pair_with, push};
 
 /// Adds the functions of a definition: those of a resource.
 fn add_definition<'t, 'a>(
-    functions: &mut Vec<HeldFunction<'t, 'a>>,
+    functions: &mut Vec<BorrowedFunction<'t, 'a>>,
     definition: &'t TypeDef<'a>,
 ) -> Result<(), AllocError>
-    ensures { OnOk result (map function_behind functions.new.items ≡ map function_behind functions.old.items ++ definition_functions definition.now.name definition.now.body) }
+    ensures { OnOk result (map function_view functions.new.items ≡ map function_view functions.old.items ++ definition_functions definition.now.name definition.now.body) }
 {
     if let TypeBody::Resource { funcs } = &definition.body {
         for function in funcs {
-            push(functions, HeldFunction::Of(definition.name, function))?;
+            push(functions, BorrowedFunction::Of(definition.name, function))?;
         }
     }
     Ok(())
@@ -42,14 +42,17 @@ fn add_definition<'t, 'a>(
 fn items_functions<'t, 'a>(
     alloc: Global,
     items: &'t [InterfaceItem<'a>],
-) -> Result<Vec<HeldFunction<'t, 'a>>, AllocError>
-    ensures { IfOk result (λ functions. map function_behind functions.items ≡ flat_map part_functions (map interface_part items.now)) }
+) -> Result<Vec<BorrowedFunction<'t, 'a>>, AllocError>
+    ensures { IfOk result (λ functions. map function_view functions.items ≡ flat_map part_functions (map interface_part items.now)) }
 {
     let mut functions = Vec::new(alloc);
     for part in items {
         match part {
             InterfaceItem::TypeDef(definition) => add_definition(&mut functions, definition)?,
-            InterfaceItem::Func(function) => push(&mut functions, HeldFunction::Free(function))?,
+            InterfaceItem::Func(function) => push(
+                &mut functions,
+                BorrowedFunction::Free(function),
+            )?,
             InterfaceItem::Use(_) => {}
         }
     }
@@ -60,8 +63,8 @@ fn items_functions<'t, 'a>(
 pub fn interface_functions<'t, 'a>(
     alloc: Global,
     declared: &Declared<'t, 'a>,
-) -> Result<Vec<HeldFunction<'t, 'a>>, AllocError>
-    ensures { IfOk result (λ functions. (about (declared_behind declared.now)).is_world ≡ false → map function_behind functions.items ≡ flat_map part_functions (about (declared_behind declared.now)).parts) }
+) -> Result<Vec<BorrowedFunction<'t, 'a>>, AllocError>
+    ensures { IfOk result (λ functions. (about (declared_view declared.now)).is_world ≡ false → map function_view functions.items ≡ flat_map part_functions (about (declared_view declared.now)).parts) }
 {
     match declared {
         Declared::Interface(interface) => items_functions(alloc, &interface.items),
@@ -72,7 +75,7 @@ pub fn interface_functions<'t, 'a>(
 
 /// The type of a definition that is written as a result.
 fn written_result<'t, 'a>(definition: &'t TypeDef<'a>) -> Option<&'t Type<'a>>
-    ensures { told_ok result ≡ body_ok definition.now.body }
+    ensures { stated_ok result ≡ body_ok definition.now.body }
 {
     match &definition.body {
         TypeBody::Plain(ty) => match ty {
@@ -88,8 +91,8 @@ pub fn written_results<'t, 'a>(
     alloc: Global,
     names: &[ScopeName<'t, 'a>],
 ) -> Result<TextTable<&'t Type<'a>>, AllocError>
-    requires { AllDiffer (map local_name (map name_behind names.now)) }
-    ensures { IfOk result (λ results. AreResults results (map name_behind names.now)) }
+    requires { AllDiffer (map local_name (map name_view names.now)) }
+    ensures { IfOk result (λ results. AreResults results (map name_view names.now)) }
 {
     let mut results = TextTable::new(alloc);
     for name in names {
@@ -112,7 +115,7 @@ fn add_function(
     ensures { OnOk result (table.new ≡ insert_entry (pointwise nat_eq) table.old function.name function) }
 {
     let text = String::from_str(alloc, function.name.as_str());
-    let (function, name) = beside(function, text)?;
+    let (function, name) = pair_with(function, text)?;
     table.put(name, function)
 }
 
@@ -121,7 +124,7 @@ fn placed_table(alloc: Global, functions: Vec<Function>) -> Result<TextTable<Fun
     requires { AllDiffer (map (λ f. f.name) functions.items) }
     ensures { IfOk result (λ table. table ≡ placed_functions functions.items) }
 {
-    let placed = setters_behind_getters(alloc, functions)?;
+    let placed = setters_after_getters(alloc, functions)?;
     let mut table = TextTable::with_capacity(alloc, placed.len())?;
     for function in placed {
         add_function(alloc, &mut table, function)?;
@@ -130,7 +133,7 @@ fn placed_table(alloc: Global, functions: Vec<Function>) -> Result<TextTable<Fun
 }
 
 /// The functions of an interface under their names, where each setter that is written before its
-/// getter stands directly behind it.
+/// getter comes directly after it.
 pub fn function_table(
     alloc: Global,
     functions: Vec<Function>,
@@ -139,5 +142,5 @@ pub fn function_table(
     ensures { IfOk result (λ table. table ≡ placed_functions functions.items) }
 {
     let table = placed_table(alloc, functions)?;
-    Ok(table.fitted())
+    Ok(table.shrunk())
 }

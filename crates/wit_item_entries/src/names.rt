@@ -8,20 +8,21 @@ ghost use Rattle.wit_syntax.specs.Broken.{IsBrokenScope, Refused};
 ghost use Rattle.wit_syntax.specs.Repeats.{AllDiffer};
 ghost use Rattle.wit_syntax.specs.Shape.{all_handles};
 ghost use Rattle.wit_syntax.specs.Function.{SourceFunction, name_types};
-ghost use Rattle.wit_entries.specs.Requiring.{IsGrown, Requires};
-ghost use Rattle.wit_scopes.specs.Held.{name_behind, use_behind, definition_behind};
-ghost use Rattle.wit_item_names.specs.Interfaces.{front_of};
-ghost use Rattle.wit_items.specs.Interfaces.{cells_of};
-ghost use Rattle.wit_scopes.specs.Front.{AreNamesPlaced};
-ghost use Rattle.wit_scopes.specs.Between.{AreInTurn, IsBrokenAmong, IsOfFunctions};
-ghost use Rattle.wit_item_entries.specs.Between.{IsWrongHandleIn, IsWrongHandleTurn, IsWrongNames, DefinesTurn, AddsTurn};
-ghost use Rattle.wit_arena.specs.Resolving.{Cell, env_of, Defines, AreLegalBodies, AreLegalNotes, HasNames, names_in};
+ghost use Rattle.wit_entries.specs.Requiring.{IsExtended, Requires};
+ghost use Rattle.wit_scopes.specs.Borrowed.{name_view, use_view, definition_view};
+ghost use Rattle.wit_item_names.specs.Interfaces.{prefix_of};
+ghost use Rattle.wit_items.specs.Interfaces.{resolved_scopes_of};
+ghost use Rattle.wit_scopes.specs.PlacedNames.{AreNamesPlaced};
+ghost use Rattle.wit_scopes.specs.DefinitionOrder.{AreInTurn, IsBrokenAmong, IsOfFunctions};
+ghost use Rattle.wit_item_entries.specs.AddedNames.{IsWrongHandleIn, IsWrongHandleTurn, IsWrongNames, DefinesTurn, AddsTurn};
+ghost use Rattle.wit_arena.specs.Resolving.{ResolvedScope, env_of, Defines, AreLegalBodies, AreLegalMetadata, HasNames, names_in};
 
 use std::alloc::Global;
 use wit_definitions::definitions::define;
 use wit_entries::entries::Entries;
 use wit_entries::scope::{Required, Scope};
 use wit_items::interfaces::Interfaces;
+use wit_maps::TextTable;
 use wit_scopes::distinct::check_unique_names;
 use wit_scopes::scope::{ordered_turn, written_turn};
 use wit_scopes::scope_name::{DefinedName, ScopeName, UsedName, used_names};
@@ -29,12 +30,11 @@ use wit_tree::ParseResult;
 use wit_tree::tree::Id;
 use wit_types::{TypeId, TypeOwner};
 use wit_uses::uses::resolve_uses;
-use wit_maps::TextTable;
 
 /// The names of a scope that is resolved.
 #[derive(Drop)]
 pub struct ResolvedNames<'a> {
-    /// What each stands for.
+    /// What each means.
     pub types: TextTable<TypeId>,
     /// The names in the order in which they were resolved.
     pub turn: Vec<Id<'a>>,
@@ -43,23 +43,23 @@ pub struct ResolvedNames<'a> {
     pub ghost listed: { names_in types ≡ map (λ id. id.name.now) turn.items },
 }
 
-/// Adds definitions that stand in their order.
+/// Adds definitions that are in their order.
 fn define_all(
     alloc: Global,
     types: &mut Entries,
     scope: &mut Scope,
     definitions: &[DefinedName<'_, '_>],
 ) -> ParseResult<()>
-    requires turn { AreInTurn (env_of scope.old.names) (map definition_behind definitions.now) }
-    requires differ { AllDiffer (names_in scope.old.names ++ local_names (map definition_behind definitions.now)) }
-    ensures defines { OnOk result ((cs : List Cell) (s : Address) → Defines types.old types.new cs scope.old.owner s scope.old.names scope.new.names (map definition_behind definitions.now)) }
+    requires turn { AreInTurn (env_of scope.old.names) (map definition_view definitions.now) }
+    requires differ { AllDiffer (names_in scope.old.names ++ local_names (map definition_view definitions.now)) }
+    ensures defines { OnOk result ((cs : List ResolvedScope) (s : Address) → Defines types.old types.new cs scope.old.owner s scope.old.names scope.new.names (map definition_view definitions.now)) }
     ensures owner { OnOk result (scope.new.owner ≡ scope.old.owner) }
-    ensures listed { OnOk result (names_in scope.new.names ≡ names_in scope.old.names ++ local_names (map definition_behind definitions.now)) }
-    ensures noted { OnOk result (AreLegalNotes (map definition_behind definitions.now)) }
-    ensures legal { OnOk result (AreLegalBodies (map definition_behind definitions.now)) }
-    ensures handled { OnOk result (Requires (env_of scope.new.names) types.new (all_handles (flat_map name_types (map definition_behind definitions.now))) scope.old.required.items scope.new.required.items) }
-    ensures grown { OnOk result (IsGrown types.old types.new) }
-    ensures refused { IfErr result (Refused (λ f. IsBrokenAmong (map definition_behind definitions.now) f ⊎ IsWrongHandleIn types.old scope.old.owner scope.old.names (map definition_behind definitions.now) f)) }
+    ensures listed { OnOk result (names_in scope.new.names ≡ names_in scope.old.names ++ local_names (map definition_view definitions.now)) }
+    ensures noted { OnOk result (AreLegalMetadata (map definition_view definitions.now)) }
+    ensures legal { OnOk result (AreLegalBodies (map definition_view definitions.now)) }
+    ensures handled { OnOk result (Requires (env_of scope.new.names) types.new (all_handles (flat_map name_types (map definition_view definitions.now))) scope.old.required.items scope.new.required.items) }
+    ensures extended { OnOk result (IsExtended types.old types.new) }
+    ensures refused { IfErr result (Refused (λ f. IsBrokenAmong (map definition_view definitions.now) f ⊎ IsWrongHandleIn types.old scope.old.owner scope.old.names (map definition_view definitions.now) f)) }
 {
     for definition in definitions {
         define(alloc, types, scope, definition.definition)?;
@@ -67,7 +67,7 @@ fn define_all(
     Ok(())
 }
 
-/// Adds the definitions of a scope, and what is in them, behind the names that it uses; gives all its
+/// Adds the definitions of a scope, and what is in them, after the names that it uses; gives all its
 /// names in turn.
 fn resolve_types<'t, 'a>(
     alloc: Global,
@@ -76,13 +76,13 @@ fn resolve_types<'t, 'a>(
     types: &mut Entries,
     scope: &mut Scope,
 ) -> ParseResult<Vec<Id<'a>>>
-    requires uses { map use_behind uses.now ≡ used (map name_behind names.now) }
-    requires has { HasNames (env_of scope.old.names) (used (map name_behind names.now)) }
-    requires listed { names_in scope.old.names ≡ local_names (used (map name_behind names.now)) }
-    ensures defines { IfOk result (λ turn. DefinesTurn types.old types.new scope.old.owner scope.old.names scope.new.names (map name_behind names.now) turn.items scope.old.required.items scope.new.required.items) }
-    ensures legal { OnOk result ((fns : List SourceFunction) (f : Fault) → IsBrokenScope (map name_behind names.now) fns f → IsOfFunctions (map name_behind names.now) fns f) }
-    ensures grown { OnOk result (IsGrown types.old types.new) }
-    ensures refused { IfErr result (Refused (λ f. ((fns : List SourceFunction) → IsBrokenScope (map name_behind names.now) fns f) ⊎ IsWrongHandleTurn types.old scope.old.owner scope.old.names (map name_behind names.now) f)) }
+    requires uses { map use_view uses.now ≡ used (map name_view names.now) }
+    requires has { HasNames (env_of scope.old.names) (used (map name_view names.now)) }
+    requires listed { names_in scope.old.names ≡ local_names (used (map name_view names.now)) }
+    ensures defines { IfOk result (λ turn. DefinesTurn types.old types.new scope.old.owner scope.old.names scope.new.names (map name_view names.now) turn.items scope.old.required.items scope.new.required.items) }
+    ensures legal { OnOk result ((fns : List SourceFunction) (f : Fault) → IsBrokenScope (map name_view names.now) fns f → IsOfFunctions (map name_view names.now) fns f) }
+    ensures extended { OnOk result (IsExtended types.old types.new) }
+    ensures refused { IfErr result (Refused (λ f. ((fns : List SourceFunction) → IsBrokenScope (map name_view names.now) fns f) ⊎ IsWrongHandleTurn types.old scope.old.owner scope.old.names (map name_view names.now) f)) }
 {
     let written = written_turn(alloc, names, uses)?;
     check_unique_names(alloc, &written.ids)?;
@@ -101,11 +101,11 @@ pub fn resolve_names<'f, 'a>(
     interfaces: &Interfaces<'_, '_, '_, '_>,
     owner: TypeOwner,
 ) -> ParseResult<ResolvedNames<'a>>
-    requires placed { AreNamesPlaced (front_of interfaces.now.files) names.now }
-    ensures adds { IfOk result (λ r. AddsTurn types.old types.new (cells_of interfaces.now) owner (map name_behind names.now) r.types r.turn.items r.required.items) }
-    ensures legal { OnOk result ((fns : List SourceFunction) (f : Fault) → IsBrokenScope (map name_behind names.now) fns f → IsOfFunctions (map name_behind names.now) fns f) }
-    ensures grown { OnOk result (IsGrown types.old types.new) }
-    ensures refused { IfErr result (Refused (IsWrongNames types.old (cells_of interfaces.now) interfaces.now.by_name owner (map name_behind names.now))) }
+    requires placed { AreNamesPlaced (prefix_of interfaces.now.files) names.now }
+    ensures adds { IfOk result (λ r. AddsTurn types.old types.new (resolved_scopes_of interfaces.now) owner (map name_view names.now) r.types r.turn.items r.required.items) }
+    ensures legal { OnOk result ((fns : List SourceFunction) (f : Fault) → IsBrokenScope (map name_view names.now) fns f → IsOfFunctions (map name_view names.now) fns f) }
+    ensures extended { OnOk result (IsExtended types.old types.new) }
+    ensures refused { IfErr result (Refused (IsWrongNames types.old (resolved_scopes_of interfaces.now) interfaces.now.by_name owner (map name_view names.now))) }
 {
     let uses = used_names(alloc, names)?;
     let mut scope = Scope {

@@ -1,10 +1,10 @@
-//! The functions of an interface over their types, behind its names.
+//! The functions of an interface over their types, after its names.
 ghost use Rattle.std.specs.Prelude.{◌≡◌, ◌<◌, ℕ, [], Some, IfErr, IfOk, OnOk, length, map, slice_get};
 ghost use Rattle.std.specs.List.{flat_map};
 ghost use Rattle.wit_syntax.specs.Address.{Address};
 ghost use Rattle.wit_tree.specs.declared.tree.WorldSide.{WorldSide};
 ghost use Rattle.wit_syntax.specs.Sides.{SideFunction};
-ghost use Rattle.wit_sides.specs.Sides.{taken_on};
+ghost use Rattle.wit_sides.specs.Sides.{defined_on};
 ghost use Rattle.wit_syntax.specs.Shape.{all_handles};
 ghost use Rattle.wit_syntax.specs.Fault.{Fault};
 ghost use Rattle.wit_syntax.specs.Broken.{Refused};
@@ -12,65 +12,65 @@ ghost use Rattle.wit_syntax.specs.Function.{SourceFunction, written_types};
 ghost use Rattle.wit_syntax.specs.Signature.{IsBrokenFunction};
 ghost use Rattle.wit_arena.specs.Resolving.{env_of, AddsFunctions};
 ghost use Rattle.wit_arena.specs.Resolved.{IsNameless};
-ghost use Rattle.wit_rules.specs.Held.{function_behind};
-ghost use Rattle.wit_entries.specs.Requiring.{IsGrown, Requires};
+ghost use Rattle.wit_rules.specs.Borrowed.{function_view};
+ghost use Rattle.wit_entries.specs.Requiring.{IsExtended, Requires};
 ghost use Rattle.wit_rules.specs.Signatures.{HaveOwners};
-ghost use Rattle.wit_signatures.specs.Taken.{name_of_function, name_of_made};
+ghost use Rattle.wit_signatures.specs.ForeignName.{name_of_function, name_of_made};
 ghost use Rattle.wit_externs.specs.Clash.{DifferOnSides, all_on};
-ghost use Rattle.wit_uses.specs.Behind.{IsTurn};
-ghost use Rattle.wit_item_entries.specs.Behind.{IsWrongFunctions};
-ghost use Rattle.wit_scopes.specs.Held.{name_behind};
+ghost use Rattle.wit_uses.specs.NameOrder.{IsTurn};
+ghost use Rattle.wit_item_entries.specs.FunctionFaults.{IsWrongFunctions};
+ghost use Rattle.wit_scopes.specs.Borrowed.{name_view};
 
 use crate::functions::written_results;
 use crate::names::ResolvedNames;
 use crate::own_keys::have_upper_case;
 use std::alloc::Global;
 use wit_entries::entries::Entries;
+use wit_externs::in_use::define_names;
 use wit_externs::scope_functions::resolve_functions;
-use wit_externs::taken::define_names;
 use wit_model::Function;
+use wit_rules::borrowed::BorrowedFunction;
 use wit_rules::function_scope::FunctionScope;
-use wit_rules::held::HeldFunction;
 use wit_scopes::scope_name::ScopeName;
 use wit_sides::Sides;
 use wit_tree::ParseResult;
 
-/// The functions of an interface over their types, behind its names `held`, which are resolved; these are
+/// The functions of an interface over their types, after its names `borrowed`, which are resolved; these are
 /// `written`. Where it has some, its names and then those of the functions are taken.
 pub fn resolve_signatures<'t, 'a>(
     alloc: Global,
-    held: &[ScopeName<'t, 'a>],
+    borrowed: &[ScopeName<'t, 'a>],
     types: &mut Entries,
     names: &mut ResolvedNames<'a>,
-    written: &[HeldFunction<'t, 'a>],
-    taken: &mut Sides,
+    written: &[BorrowedFunction<'t, 'a>],
+    in_use: &mut Sides,
 ) -> ParseResult<Vec<Function>>
-    requires nothing { (s : WorldSide) → taken_on s taken.old ≡ [] }
-    requires turn { IsTurn (map name_behind held.now) names.old.turn.items }
-    requires owners { HaveOwners (env_of names.old.types) (map function_behind written.now) }
+    requires nothing { (s : WorldSide) → defined_on s in_use.old ≡ [] }
+    requires turn { IsTurn (map name_view borrowed.now) names.old.turn.items }
+    requires owners { HaveOwners (env_of names.old.types) (map function_view written.now) }
     ensures types { OnOk result (names.new.types ≡ names.old.types) }
     ensures turn { OnOk result (names.new.turn ≡ names.old.turn) }
-    ensures adds { IfOk result (λ fs. (s : Address) → AddsFunctions types.old types.new s names.old.types (map function_behind written.now) fs.items) }
-    ensures named { IfOk result (λ fs. map name_of_made fs.items ≡ map name_of_function (map function_behind written.now)) }
-    ensures handled { OnOk result (Requires (env_of names.old.types) types.new (all_handles (flat_map written_types (map function_behind written.now))) names.old.required.items names.new.required.items) }
-    ensures taken { OnOk result (0 < length written.now → (s : WorldSide) → taken_on s taken.new ≡ all_on s names.old.turn.items (map SideFunction (map function_behind written.now))) }
-    ensures differ { OnOk result (DifferOnSides names.old.turn.items (map SideFunction (map function_behind written.now))) }
-    ensures sound { OnOk result ((k : ℕ) (fn : SourceFunction) → slice_get (map function_behind written.now) k ≡ Some fn → (f : Fault) → IsBrokenFunction (map name_behind held.now) (map function_behind written.now) k fn f → IsNameless (map name_behind held.now) (map function_behind written.now)) }
-    ensures grown { IsGrown types.old types.new }
-    ensures refused { IfErr result (Refused (IsWrongFunctions (env_of names.old.types) types.new (map name_behind held.now) (map function_behind written.now))) }
+    ensures adds { IfOk result (λ fs. (s : Address) → AddsFunctions types.old types.new s names.old.types (map function_view written.now) fs.items) }
+    ensures named { IfOk result (λ fs. map name_of_made fs.items ≡ map name_of_function (map function_view written.now)) }
+    ensures handled { OnOk result (Requires (env_of names.old.types) types.new (all_handles (flat_map written_types (map function_view written.now))) names.old.required.items names.new.required.items) }
+    ensures in_use { OnOk result (0 < length written.now → (s : WorldSide) → defined_on s in_use.new ≡ all_on s names.old.turn.items (map SideFunction (map function_view written.now))) }
+    ensures differ { OnOk result (DifferOnSides names.old.turn.items (map SideFunction (map function_view written.now))) }
+    ensures sound { OnOk result ((k : ℕ) (fn : SourceFunction) → slice_get (map function_view written.now) k ≡ Some fn → (f : Fault) → IsBrokenFunction (map name_view borrowed.now) (map function_view written.now) k fn f → IsNameless (map name_view borrowed.now) (map function_view written.now)) }
+    ensures extended { IsExtended types.old types.new }
+    ensures refused { IfErr result (Refused (IsWrongFunctions (env_of names.old.types) types.new (map name_view borrowed.now) (map function_view written.now))) }
 {
     if written.len() == 0 {
         if !have_upper_case(&names.turn) {
             return Ok(Vec::new(alloc));
         }
     }
-    let results = written_results(alloc, held)?;
-    define_names(taken, &names.turn)?;
+    let results = written_results(alloc, borrowed)?;
+    define_names(in_use, &names.turn)?;
     let scope = FunctionScope {
         names: &names.types,
         results: &results,
         functions: written,
     };
-    let functions = resolve_functions(alloc, scope, types, &mut names.required, taken)?;
+    let functions = resolve_functions(alloc, scope, types, &mut names.required, in_use)?;
     Ok(functions)
 }

@@ -33,7 +33,7 @@ bytes_swap a b = elim (name_cases a b) [
   ]
 ]
 
--- where a name stands among rows is where it stands among items
+-- where a name is among rows is where it is among items
 position_rows : (is : List Item) (name : List ℕ) → position_or_len (λ (row : Row). bytes_eq name row.name) (map item_row is) ≡ position_or_len (λ (i : Item). bytes_eq (item_name i) name) is
 position_rows [] name = refl
 position_rows (w ∷ is) name = rw (bytes_swap name (item_name w), position_rows is name) refl
@@ -41,7 +41,7 @@ position_rows (w ∷ is) name = rw (bytes_swap name (item_name w), position_rows
 place_of-item : (is : List Item) (name : List ℕ) → place_of (map item_row is) name ≡ position (λ (i : Item). bytes_eq (item_name i) name) is
 place_of-item is name = rw (position_rows is name, length-map is item_row) refl
 
--- what is found stands at the position
+-- what is found is at the position
 pub find_position : {X : Type 0} (p : X → Bool) (xs : List X) (i : ℕ) → position p xs ≡ Some i → find p xs ≡ slice_get xs i
 find_position p xs i h = elim (cases_Bool (nat_lt (position_or_len p xs) (length xs))) [
   | inl within ↦ (
@@ -57,7 +57,7 @@ find_no_position p xs h = elim (cases_Bool (nat_lt (position_or_len p xs) (lengt
   | inr past ↦ find_at p xs ∙ slice_get_past xs (position_or_len p xs) (ltb-false (position_or_len p xs) (length xs) past)
 ]
 
--- what is got at a place stands there
+-- what is got at a place is there
 pub got_at : {X : Type 0} (xs : List X) (i : ℕ) (r : Option (Bor X)) → IsItemAt xs i r → option_copied r ≡ slice_get xs i
 got_at xs i None h = sym (slice_get_past xs i (ltb-false i (length xs) (sym h.0)))
 got_at xs i (Some x) h = sym (slice_get_read xs (length xs) i x.now refl (ltb-true i (length xs) (sym h.0)) h.1)

@@ -3,11 +3,11 @@ use Rattle.std.proofs.Common.{◌≡◌, List, [], ◌∷◌, ◌++◌}
 use Rattle.std.specs.Prelude.{All}
 use Rattle.std.proofs.lemmas.List.Elements.{All-push}
 use Rattle.wit_syntax.specs.Address.{Address}
-use Rattle.wit_scopes.specs.Front.{AreNamesPlaced}
+use Rattle.wit_scopes.specs.PlacedNames.{AreNamesPlaced}
 
-pub names_none : (front : List Address) → AreNamesPlaced front []
-names_none front = record { each = λ k x at. absurd (let f : ⊥ = cc in f) }
+pub names_none : (prefix : List Address) → AreNamesPlaced prefix []
+names_none prefix = record { each = λ k x at. absurd (let f : ⊥ = cc in f) }
 
 -- what holds of each of a list holds of one more
 pub all_more : {X : Type 0} (P : X → Type 0) (xs ys : List X) (x : X) → ys ≡ xs ++ x ∷ [] → All P xs → P x → All P ys
-all_more P xs ys x grown before one = rw grown (All-push P xs x before one)
+all_more P xs ys x extended before one = rw extended (All-push P xs x before one)

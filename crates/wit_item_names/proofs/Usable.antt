@@ -9,16 +9,16 @@ use Rattle.std.proofs.lemmas.List.Elements.{Contains-append_cases}
 use Rattle.wit_tree.specs.declared.tree.Use.{Use as WrittenUse}
 use Rattle.wit_tree.specs.declared.tree.UsePath.{UsePath}
 use Rattle.wit_tree.specs.declared.tree.PackageFile.{PackageFile}
-use Rattle.wit_syntax.specs.Source.{TopName, Declared, Part, Defining, Using, Including, Doing, Crossing, parts, about}
+use Rattle.wit_syntax.specs.Source.{TopName, Declared, Part, DefinitionPart, UsePart, IncludePart, FunctionPart, ExternPart, parts, about}
 use Rattle.wit_syntax.specs.Scope.{use_path, part_uses, uses}
-use Rattle.wit_syntax.specs.Crossing.{extern_paths, inline_uses}
+use Rattle.wit_syntax.specs.ExternPart.{extern_paths, inline_uses}
 use Rattle.wit_syntax.specs.Fault.{Fault}
-use Rattle.wit_syntax.proofs.Lists.{at_front, flat_map_at, flat_map_has}
+use Rattle.wit_syntax.proofs.Lists.{at_prefix, flat_map_at, flat_map_has}
 use Rattle.wit_syntax.proofs.Found.{at_contains, contains_at}
 use Rattle.wit_top_names.proofs.Lost.{at_flat, flat_more}
 use Rattle.wit_item_names.specs.Items.{HasItem, HasPart, HasPath}
 
--- what stands in a list of one is that one
+-- what is in a list of one is that one
 pub contains_one : {X : Type 0} (x y : X) → Contains (x ∷ []) y → x ≡ y
 contains_one x y (zero, lt, is) = is
 contains_one x y (suc k, lt, is) = absurd (let f : ⊥ = omega arith in f)
@@ -32,18 +32,18 @@ among_flat of xs i x a at among =
 
 -- what parts bring, one more
 pub parts_more : {X A : Type 0} (of : Part → List A) (part : X → Part) (xs ys : List X) (x : X) (p : Part) → ys ≡ xs ++ x ∷ [] → p ≡ part x → flat_map of (map part ys) ≡ flat_map of (map part xs) ++ of p
-parts_more of part xs ys x p grown is = flat_more of (map part xs) (map part ys) (part x) (ap (map part) grown ∙ map-append part xs (x ∷ [])) ∙ ap (λ q. flat_map of (map part xs) ++ of q) (sym is)
+parts_more of part xs ys x p extended is = flat_more of (map part xs) (map part ys) (part x) (ap (map part) extended ∙ map-append part xs (x ∷ [])) ∙ ap (λ q. flat_map of (map part xs) ++ of q) (sym is)
 
 -- the path of a `use` is one of its part, and so of its item
 use_path_of : (p : Part) (j : ℕ) (u : WrittenUse) → slice_get (part_uses p) j ≡ Some u → slice_get (use_path p) j ≡ Some u.from
-use_path_of (Defining d) j u at = absurd (let f : ⊥ = cc in f)
-use_path_of (Using v) zero u at = (let same : v ≡ u = cc in ap (λ (x : WrittenUse). Some x.from) same)
-use_path_of (Using v) (suc j) u at = absurd (let f : ⊥ = cc in f)
-use_path_of (Including i) j u at = absurd (let f : ⊥ = cc in f)
-use_path_of (Doing g) j u at = absurd (let f : ⊥ = cc in f)
-use_path_of (Crossing x) j u at =
+use_path_of (DefinitionPart d) j u at = absurd (let f : ⊥ = cc in f)
+use_path_of (UsePart v) zero u at = (let same : v ≡ u = cc in ap (λ (x : WrittenUse). Some x.from) same)
+use_path_of (UsePart v) (suc j) u at = absurd (let f : ⊥ = cc in f)
+use_path_of (IncludePart i) j u at = absurd (let f : ⊥ = cc in f)
+use_path_of (FunctionPart g) j u at = absurd (let f : ⊥ = cc in f)
+use_path_of (ExternPart x) j u at =
     let from : WrittenUse → UsePath = λ v. v.from in
-    at_front (map from (inline_uses x.kind)) (extern_paths x.kind) j u.from (slice_get-map from (inline_uses x.kind) j ∙ ap (option_map from) at)
+    at_prefix (map from (inline_uses x.kind)) (extern_paths x.kind) j u.from (slice_get-map from (inline_uses x.kind) j ∙ ap (option_map from) at)
 
 pub path_of_use : (ps : List Part) (u : WrittenUse) → Contains (flat_map part_uses ps) u → Contains (flat_map use_path ps) u.from
 path_of_use ps u among =

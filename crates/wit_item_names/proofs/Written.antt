@@ -13,14 +13,14 @@ use Rattle.wit_tree.specs.declared.tree.InterfaceItem.{InterfaceItem}
 use Rattle.wit_tree.specs.declared.tree.InterfaceItem.TheVariants as interface_item
 use Rattle.wit_tree.specs.declared.tree.Use.{Use as WrittenUse}
 use Rattle.wit_tree.specs.declared.tree.WorldSide.{WorldSide}
-use Rattle.wit_syntax.specs.Crossing.{same_side, item_uses, inline_uses}
+use Rattle.wit_syntax.specs.ExternPart.{same_side, item_uses, inline_uses}
 use Rattle.wit_syntax.specs.Function.{SourceFunction, definition_functions, free_function}
-use Rattle.wit_syntax.specs.Source.{TopName, interface_part, part_names, Part, Defining, Using, Including, Doing, Crossing, ScopeName}
+use Rattle.wit_syntax.specs.Source.{TopName, interface_part, part_names, Part, DefinitionPart, UsePart, IncludePart, FunctionPart, ExternPart, ScopeName}
 use Rattle.wit_syntax.specs.Scope.{part_uses}
 use Rattle.wit_syntax.specs.Sides.{SideItem, SideFunction, item_side, items_on, extern_items, part_items}
 use Rattle.wit_syntax.proofs.Found.{at_contains}
 use Rattle.wit_first.specs.Uses.{own_uses}
-use Rattle.wit_item_names.specs.Inside.{inline_names, kind_items, written_items, side_uses}
+use Rattle.wit_item_names.specs.InlineNames.{inline_names, kind_items, written_items, side_uses}
 
 -- the uses of a part of an interface are its own
 pub item_own : (x : InterfaceItem) → own_uses (interface_part x) ≡ item_uses x
@@ -30,18 +30,18 @@ item_own (interface_item.Func f) = refl
 
 -- those of a part are its own, or those of the interface that is written in it
 pub own_among : (p : Part) (u : WrittenUse) → Contains (own_uses p) u → Contains (part_uses p) u
-own_among (Defining d) u among = among
-own_among (Using v) u among = among
-own_among (Including i) u among = among
-own_among (Doing f) u among = among
-own_among (Crossing x) u among = absurd (let at = (at_contains [] u among).1 in let f : ⊥ = cc in f)
+own_among (DefinitionPart d) u among = among
+own_among (UsePart v) u among = among
+own_among (IncludePart i) u among = among
+own_among (FunctionPart f) u among = among
+own_among (ExternPart x) u among = absurd (let at = (at_contains [] u among).1 in let f : ⊥ = cc in f)
 
 pub side_among : (side : WorldSide) (p : Part) (u : WrittenUse) → Contains (side_uses side p) u → Contains (part_uses p) u
-side_among side (Defining d) u among = among
-side_among side (Using v) u among = absurd (let at = (at_contains [] u among).1 in let f : ⊥ = cc in f)
-side_among side (Including i) u among = among
-side_among side (Doing f) u among = among
-side_among side (Crossing x) u among = elim (cases_Bool (same_side side x.side)) [
+side_among side (DefinitionPart d) u among = among
+side_among side (UsePart v) u among = absurd (let at = (at_contains [] u among).1 in let f : ⊥ = cc in f)
+side_among side (IncludePart i) u among = among
+side_among side (FunctionPart f) u among = among
+side_among side (ExternPart x) u among = elim (cases_Bool (same_side side x.side)) [
   | inl here ↦ rw here at among
   | inr there ↦ (
       let none : Contains [] u = rw there at among in
@@ -51,11 +51,11 @@ side_among side (Crossing x) u among = elim (cases_Bool (same_side side x.side))
 
 -- the uses of the interface that is written in a part are those of its items
 pub uses_written : (side : WorldSide) (p : Part) → side_uses side p ≡ flat_map (flat_map item_uses) (written_items side p)
-uses_written side (Defining d) = refl
-uses_written side (Using u) = refl
-uses_written side (Including i) = refl
-uses_written side (Doing f) = refl
-uses_written side (Crossing x) = elim (cases_Bool (same_side side x.side)) [
+uses_written side (DefinitionPart d) = refl
+uses_written side (UsePart u) = refl
+uses_written side (IncludePart i) = refl
+uses_written side (FunctionPart f) = refl
+uses_written side (ExternPart x) = elim (cases_Bool (same_side side x.side)) [
   | inl here ↦ rw here (of_kind x.kind)
   | inr there ↦ rw there refl
 ]
@@ -80,11 +80,11 @@ functions_none top side (fn ∷ fns) = elim (cases_Bool (same_side side (item_si
 
 -- the names of the interface that is written in a part are those of its items
 part_written : (top : List TopName) (side : WorldSide) (p : Part) → flat_map (inline_names top) (items_on side (part_items p)) ≡ map (items_names top) (written_items side p)
-part_written top side (Defining d) = functions_none top side (definition_functions d.name d.body)
-part_written top side (Using u) = refl
-part_written top side (Including i) = refl
-part_written top side (Doing f) = functions_none top side (free_function f ∷ [])
-part_written top side (Crossing x) = of_kind x.kind
+part_written top side (DefinitionPart d) = functions_none top side (definition_functions d.name d.body)
+part_written top side (UsePart u) = refl
+part_written top side (IncludePart i) = refl
+part_written top side (FunctionPart f) = functions_none top side (free_function f ∷ [])
+part_written top side (ExternPart x) = of_kind x.kind
   where
     of_kind : (kind : ExternKind) → flat_map (inline_names top) (items_on side (extern_items x kind)) ≡ map (items_names top) (cond (same_side side x.side) (kind_items kind) [])
     of_kind (extern.Interface name items) = elim (cases_Bool (same_side side x.side)) [

@@ -1,4 +1,4 @@
--- Parts of items that are held, and where their paths to interfaces lead.
+-- Parts of items that are borrowed, and where their paths to interfaces lead.
 use Rattle.std.specs.Prelude.{◌≡◌, ℕ, ◌<◌, length, true, false, List, [], ◌∷◌, Option, Some, None, Contains, map}
 use Rattle.std.specs.List.{flat_map}
 use Rattle.std.specs.Option.{option_map}
@@ -9,30 +9,30 @@ use Rattle.wit_tree.specs.declared.tree.PackageFile.{PackageFile}
 use Rattle.wit_model.specs.declared.ast_item.AstItem.{AstItem}
 use Rattle.wit_model.specs.declared.ast_item.AstItem.TheVariants as entry
 use Rattle.wit_syntax.specs.Address.{ForeignNamed}
-use Rattle.wit_syntax.specs.Source.{Target, Local, Foreign, leads, path_id, path_scope, TopName, Declared, Part, Defining, Using, Including, Doing, Crossing, item_named, all_items, about}
+use Rattle.wit_syntax.specs.Source.{Target, Local, Foreign, leads, path_id, path_scope, TopName, Declared, Part, DefinitionPart, UsePart, IncludePart, FunctionPart, ExternPart, item_named, all_items, about}
 use Rattle.wit_syntax.specs.Scope.{use_path, uses}
 use Rattle.wit_syntax.specs.Foreign.{visited, foreign_at, foreign_items, foreign_interfaces}
 use Rattle.wit_arena.specs.Whole.{foreign_entry}
 use Rattle.wit_syntax.specs.Fault.{Fault}
-use Rattle.wit_syntax.specs.Notes.{IsBrokenNotes}
+use Rattle.wit_syntax.specs.Metadata.{IsBrokenMetadata}
 use Rattle.wit_arena.specs.Resolving.{Names, env_of}
 use Rattle.wit_syntax.specs.Broken.{is_world_at}
 use Rattle.wit_files.specs.declared.file_names.Found.{Found}
 use Rattle.wit_files.specs.declared.file_names.Found.TheVariants.{Item as ItemAt, Foreign as ForeignAt}
 use Rattle.wit_files.specs.FileNames.{top_at}
-use Rattle.wit_item_names.specs.declared.parts.Part.{Part as HeldPart}
-use Rattle.wit_item_names.specs.declared.parts.Part.TheVariants as held_part
-use Rattle.wit_item_names.specs.declared.reached.Reached.{Reached}
-use Rattle.wit_item_names.specs.declared.reached.Reached.TheVariants as reached
-use Rattle.wit_scopes.specs.Held.{source_behind, IsPlaced}
+use Rattle.wit_item_names.specs.declared.parts.Part.{Part as BorrowedPart}
+use Rattle.wit_item_names.specs.declared.parts.Part.TheVariants as borrowed_part
+use Rattle.wit_item_names.specs.declared.resolved_path.ResolvedPath.{ResolvedPath}
+use Rattle.wit_item_names.specs.declared.resolved_path.ResolvedPath.TheVariants as resolved_path
+use Rattle.wit_scopes.specs.Borrowed.{source_view, IsPlaced}
 
--- the part that is held
-abbrev pub part_behind : HeldPart → Part
-part_behind (held_part.Defining d) = Defining d.now
-part_behind (held_part.Using u) = Using u.now
-part_behind (held_part.Including i) = Including i.now
-part_behind (held_part.Doing f) = Doing f.now
-part_behind (held_part.Crossing x) = Crossing x.now
+-- the part that is borrowed
+abbrev pub part_view : BorrowedPart → Part
+part_view (borrowed_part.DefinitionPart d) = DefinitionPart d.now
+part_view (borrowed_part.UsePart u) = UsePart u.now
+part_view (borrowed_part.IncludePart i) = IncludePart i.now
+part_view (borrowed_part.FunctionPart f) = FunctionPart f.now
+part_view (borrowed_part.ExternPart x) = ExternPart x.now
 
 -- this is an item that the file at a place declares
 pub record HasItem (files : List PackageFile) (place : ℕ) (d : Declared) : Type 0 where
@@ -66,7 +66,7 @@ other_place (Some (ForeignAt p)) = Some p
 abbrev pub AreEntriesOf : List PackageFile → List AstItem → Type 0
 AreEntriesOf files entries = entries ≡ map (foreign_entry files) (foreign_items files)
 
--- the entry of the item of another package that stands where a path leads
+-- the entry of the item of another package that is where a path leads
 abbrev pub entry_at : List PackageFile → Target → Option AstItem
 entry_at files (Local id) = None
 entry_at files (Foreign p id) = option_map (foreign_entry files) (foreign_at files (ForeignNamed p id.name.now))
@@ -93,14 +93,14 @@ abbrev pub IsUsable : List PackageFile → List TopName → UsePath → Type 0
 IsUsable files top path = is_world_at files (leads top path) ≡ Some false
 
 -- what a path leads to that wants an interface
-abbrev pub IsReached : List PackageFile → List TopName → UsePath → Reached → Type 0
-IsReached files top path (reached.Interface source) = (source_behind source ≡ path_scope top path) × IsPlaced (map visited (foreign_interfaces files)) source × IsUsable files top path
-IsReached files top path reached.World = is_world_at files (leads top path) ≡ Some true
-IsReached files top path (reached.Nothing id) = (leads top path ≡ Local id) × (item_named (all_items files) id.name.now ≡ None)
+abbrev pub IsResolvedPath : List PackageFile → List TopName → UsePath → ResolvedPath → Type 0
+IsResolvedPath files top path (resolved_path.Interface source) = (source_view source ≡ path_scope top path) × IsPlaced (map visited (foreign_interfaces files)) source × IsUsable files top path
+IsResolvedPath files top path resolved_path.World = is_world_at files (leads top path) ≡ Some true
+IsResolvedPath files top path (resolved_path.Nothing id) = (leads top path ≡ Local id) × (item_named (all_items files) id.name.now ≡ None)
 
 -- the attributes of a `use` break no rule, and its path leads to an interface
 pub record IsSound (files : List PackageFile) (top : List TopName) (u : Use) : Type 0 where
-  pub noted : (f : Fault) → IsBrokenNotes u.attributes.items f → ⊥
+  pub noted : (f : Fault) → IsBrokenMetadata u.attributes.items f → ⊥
   pub usable : IsUsable files top u.from
 
 -- nothing is wrong with these

@@ -1,3 +1,3 @@
 pub mod Items
-pub mod Inside
+pub mod InlineNames
 pub mod Interfaces

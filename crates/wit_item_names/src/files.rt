@@ -1,7 +1,7 @@
 //! The files of a package, by their names, with the entries of other packages' items.
 ghost use Rattle.std.specs.Prelude.{◌≡◌, ◌<◌, Some, length, map, slice_get};
 ghost use Rattle.wit_syntax.specs.Source.{leads, all_items, is_world as is_the_world};
-ghost use Rattle.wit_top_names.specs.Tops.{target_behind};
+ghost use Rattle.wit_top_names.specs.Tops.{target_view};
 ghost use Rattle.wit_files.specs.FileNames.{found_at, top_at};
 ghost use Rattle.wit_item_names.specs.Items.{AreEntriesOf};
 
@@ -64,15 +64,15 @@ impl<'n, 'e, 'f, 'a> Files<'n, 'e, 'f, 'a> {
     /// Where a path in an item of the file at a place leads.
     pub fn target(&self, file: usize, path: &'f UsePath<'a>) -> Target<'f, 'a>
         requires within { file < length self.now }
-        ensures { target_behind result ≡ leads (top_at self.now file) path.now }
+        ensures { target_view result ≡ leads (top_at self.now file) path.now }
     {
         self.names.target(file, path)
     }
 
-    /// What stands where a path leads; none where no item has the name, or no path of the files leads
+    /// What is where a path leads; none where no item has the name, or no path of the files leads
     /// to that item of another package.
     pub fn found(&self, target: Target<'f, 'a>) -> Option<Found>
-        ensures { result ≡ found_at self.now (target_behind target.entry) }
+        ensures { result ≡ found_at self.now (target_view target.entry) }
     {
         self.names.found(target)
     }

@@ -9,9 +9,9 @@ ghost use Rattle.wit_first.specs.First.{Finds};
 ghost use Rattle.wit_first.specs.Uses.{uses_fault};
 ghost use Rattle.wit_files.specs.FileNames.{top_at};
 ghost use Rattle.wit_item_names.specs.Items.{HasItem};
-ghost use Rattle.wit_item_names.specs.Inside.{inline_names, kind_items, side_uses, written_items};
-ghost use Rattle.wit_scopes.specs.Held.{name_behind};
-ghost use Rattle.wit_scopes.specs.Front.{AreNamesPlaced};
+ghost use Rattle.wit_item_names.specs.InlineNames.{inline_names, kind_items, side_uses, written_items};
+ghost use Rattle.wit_scopes.specs.Borrowed.{name_view};
+ghost use Rattle.wit_scopes.specs.PlacedNames.{AreNamesPlaced};
 
 use crate::files::Files;
 use crate::parts::interface_names;
@@ -33,7 +33,7 @@ fn written_there<'f, 'a>(kind: &'f ExternKind<'a>) -> Option<&'f [InterfaceItem<
 }
 
 /// The items of the interface that is written where a part of a world imports or exports it, if that
-/// is so and it stands on this side.
+/// is so and it is on this side.
 fn written_on<'f, 'a>(part: &'f WorldItem<'a>, side: WorldSide) -> Option<&'f [InterfaceItem<'a>]>
     ensures { option_to_list (option_copied result) ≡ written_items side (the_world_part part.now) }
 {
@@ -58,7 +58,7 @@ pub fn names_inside<'f, 'a>(
     place: usize,
 ) -> ParseResult<Vec<Vec<ScopeName<'f, 'a>>>>
     requires item { HasItem files.now place (TheWorld world.now) }
-    ensures names { IfOk result (λ inside. map (λ ns. map name_behind ns.items) inside.items ≡ flat_map (inline_names (top_at files.now place)) (items_on side (flat_map part_items (map the_world_part world.now.items.items)))) }
+    ensures names { IfOk result (λ inside. map (λ ns. map name_view ns.items) inside.items ≡ flat_map (inline_names (top_at files.now place)) (items_on side (flat_map part_items (map the_world_part world.now.items.items)))) }
     ensures placed { IfOk result (λ inside. All (λ ns. AreNamesPlaced (map visited (foreign_interfaces files.now)) ns.items) inside.items) }
     ensures first { Finds (uses_fault files.now (top_at files.now place) (flat_map (side_uses side) (map the_world_part world.now.items.items))) result }
 {

@@ -4,4 +4,4 @@
 pub mod files;
 pub mod inside;
 pub mod parts;
-pub mod reached;
+pub mod resolved_path;

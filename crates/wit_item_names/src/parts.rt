@@ -2,20 +2,20 @@
 ghost use Rattle.std.specs.Prelude.{◌≡◌, ◌++◌, Contains, map, IfOk, OnOk};
 ghost use Rattle.std.specs.List.{flat_map};
 ghost use Rattle.wit_tree.specs.declared.tree.Use.{Use as TheUse};
-ghost use Rattle.wit_syntax.specs.Crossing.{item_uses};
+ghost use Rattle.wit_syntax.specs.ExternPart.{item_uses};
 ghost use Rattle.wit_syntax.specs.Source.{TheWorld, interface_part as the_interface_part, world_part as the_world_part, part_names, path_scope};
 ghost use Rattle.wit_syntax.specs.Foreign.{visited, foreign_interfaces};
 ghost use Rattle.wit_first.specs.First.{Finds};
 ghost use Rattle.wit_first.specs.Uses.{own_uses, use_fault, uses_fault};
 ghost use Rattle.wit_files.specs.FileNames.{top_at};
-ghost use Rattle.wit_scopes.specs.Held.{source_behind, name_behind, IsPlaced};
-ghost use Rattle.wit_item_names.specs.Items.{part_behind, HasItem, HasPath};
-ghost use Rattle.wit_scopes.specs.Front.{AreNamesPlaced};
+ghost use Rattle.wit_scopes.specs.Borrowed.{source_view, name_view, IsPlaced};
+ghost use Rattle.wit_item_names.specs.Items.{part_view, HasItem, HasPath};
+ghost use Rattle.wit_scopes.specs.PlacedNames.{AreNamesPlaced};
 
 use crate::files::Files;
-use crate::reached::path_source;
+use crate::resolved_path::path_source;
 use std::alloc::Global;
-use wit_notes::check_notes;
+use wit_notes::check_metadata;
 use wit_scopes::scope_name::{DefinedName, ScopeName, Source, add_used_names};
 use wit_top_names::declaration::world_items;
 use wit_tree::ParseResult;
@@ -24,33 +24,33 @@ use wit_tree::tree::{Extern, Include, InterfaceItem, NamedFunc, TypeDef, Use, Wo
 /// A part of an item.
 #[derive(Clone, Copy)]
 pub enum Part<'f, 'a> {
-    Defining(&'f TypeDef<'a>),
-    Using(&'f Use<'a>),
-    Including(&'f Include<'a>),
-    Doing(&'f NamedFunc<'a>),
-    Crossing(&'f Extern<'a>),
+    DefinitionPart(&'f TypeDef<'a>),
+    UsePart(&'f Use<'a>),
+    IncludePart(&'f Include<'a>),
+    FunctionPart(&'f NamedFunc<'a>),
+    ExternPart(&'f Extern<'a>),
 }
 
 /// A part of an interface.
 fn interface_part<'f, 'a>(part: &'f InterfaceItem<'a>) -> Part<'f, 'a>
-    ensures { part_behind result ≡ the_interface_part part.now }
+    ensures { part_view result ≡ the_interface_part part.now }
 {
     match part {
-        InterfaceItem::TypeDef(definition) => Part::Defining(definition),
-        InterfaceItem::Use(used) => Part::Using(used),
-        InterfaceItem::Func(function) => Part::Doing(function),
+        InterfaceItem::TypeDef(definition) => Part::DefinitionPart(definition),
+        InterfaceItem::Use(used) => Part::UsePart(used),
+        InterfaceItem::Func(function) => Part::FunctionPart(function),
     }
 }
 
 /// A part of a world.
 fn world_part<'f, 'a>(part: &'f WorldItem<'a>) -> Part<'f, 'a>
-    ensures { part_behind result ≡ the_world_part part.now }
+    ensures { part_view result ≡ the_world_part part.now }
 {
     match part {
-        WorldItem::TypeDef(definition) => Part::Defining(definition),
-        WorldItem::Use(used) => Part::Using(used),
-        WorldItem::Include(include) => Part::Including(include),
-        WorldItem::Extern(external) => Part::Crossing(external),
+        WorldItem::TypeDef(definition) => Part::DefinitionPart(definition),
+        WorldItem::Use(used) => Part::UsePart(used),
+        WorldItem::Include(include) => Part::IncludePart(include),
+        WorldItem::Extern(external) => Part::ExternPart(external),
     }
 }
 
@@ -63,11 +63,11 @@ fn sound_source<'f, 'a>(
     used: &'f Use<'a>,
 ) -> ParseResult<Source<'f, 'a>>
     requires path { HasPath files.now place used.now.from }
-    ensures source { IfOk result (λ source. source_behind source ≡ path_scope (top_at files.now place) used.now.from) }
+    ensures source { IfOk result (λ source. source_view source ≡ path_scope (top_at files.now place) used.now.from) }
     ensures placed { IfOk result (λ source. IsPlaced (map visited (foreign_interfaces files.now)) source) }
     ensures first { Finds (use_fault files.now (top_at files.now place) used.now) result }
 {
-    check_notes(alloc, &used.attributes)?;
+    check_metadata(alloc, &used.attributes)?;
     let source = path_source(alloc, files, place, &used.from)?;
     Ok(source)
 }
@@ -80,22 +80,22 @@ fn add_part<'f, 'a>(
     names: &mut Vec<ScopeName<'f, 'a>>,
     part: Part<'f, 'a>,
 ) -> ParseResult<()>
-    requires paths { (u : TheUse) → Contains (own_uses (part_behind part)) u → HasPath files.now place u.from }
-    ensures names { OnOk result (map name_behind names.new.items ≡ map name_behind names.old.items ++ part_names (top_at files.now place) (part_behind part.entry)) }
+    requires paths { (u : TheUse) → Contains (own_uses (part_view part)) u → HasPath files.now place u.from }
+    ensures names { OnOk result (map name_view names.new.items ≡ map name_view names.old.items ++ part_names (top_at files.now place) (part_view part.entry)) }
     ensures placed { OnOk result (AreNamesPlaced (map visited (foreign_interfaces files.now)) names.old.items → AreNamesPlaced (map visited (foreign_interfaces files.now)) names.new.items) }
-    ensures first { Finds (uses_fault files.now (top_at files.now place) (own_uses (part_behind part.entry))) result }
+    ensures first { Finds (uses_fault files.now (top_at files.now place) (own_uses (part_view part.entry))) result }
 {
     match part {
-        Part::Defining(definition) => {
+        Part::DefinitionPart(definition) => {
             names.push(ScopeName::Defined(DefinedName { definition }))?;
         }
-        Part::Using(used) => {
+        Part::UsePart(used) => {
             let from = sound_source(alloc, files, place, used)?;
             add_used_names(names, &from, &used.attributes, &used.names)?;
         }
-        Part::Including(_) => {}
-        Part::Doing(_) => {}
-        Part::Crossing(_) => {}
+        Part::IncludePart(_) => {}
+        Part::FunctionPart(_) => {}
+        Part::ExternPart(_) => {}
     }
     Ok(())
 }
@@ -103,11 +103,11 @@ fn add_part<'f, 'a>(
 /// How many names a part brings.
 fn room_of(part: Part<'_, '_>) -> usize {
     match part {
-        Part::Defining(_) => 1,
-        Part::Using(used) => used.names.len(),
-        Part::Including(_) => 0,
-        Part::Doing(_) => 0,
-        Part::Crossing(_) => 0,
+        Part::DefinitionPart(_) => 1,
+        Part::UsePart(used) => used.names.len(),
+        Part::IncludePart(_) => 0,
+        Part::FunctionPart(_) => 0,
+        Part::ExternPart(_) => 0,
     }
 }
 
@@ -137,7 +137,7 @@ pub fn interface_names<'f, 'a>(
     place: usize,
 ) -> ParseResult<Vec<ScopeName<'f, 'a>>>
     requires paths { (u : TheUse) → Contains (flat_map item_uses items.now) u → HasPath files.now place u.from }
-    ensures names { IfOk result (λ names. map name_behind names.items ≡ flat_map (part_names (top_at files.now place)) (map the_interface_part items.now)) }
+    ensures names { IfOk result (λ names. map name_view names.items ≡ flat_map (part_names (top_at files.now place)) (map the_interface_part items.now)) }
     ensures placed { IfOk result (λ names. AreNamesPlaced (map visited (foreign_interfaces files.now)) names.items) }
     ensures first { Finds (uses_fault files.now (top_at files.now place) (flat_map item_uses items.now)) result }
 {
@@ -156,7 +156,7 @@ pub fn world_names<'f, 'a>(
     place: usize,
 ) -> ParseResult<Vec<ScopeName<'f, 'a>>>
     requires item { HasItem files.now place (TheWorld world.now) }
-    ensures names { IfOk result (λ names. map name_behind names.items ≡ flat_map (part_names (top_at files.now place)) (map the_world_part world.now.items.items)) }
+    ensures names { IfOk result (λ names. map name_view names.items ≡ flat_map (part_names (top_at files.now place)) (map the_world_part world.now.items.items)) }
     ensures placed { IfOk result (λ names. AreNamesPlaced (map visited (foreign_interfaces files.now)) names.items) }
     ensures first { Finds (uses_fault files.now (top_at files.now place) (flat_map own_uses (map the_world_part world.now.items.items))) result }
 {

@@ -8,7 +8,7 @@ use Rattle.wit_tree.specs.declared.tree.PackageName.{PackageName as Header}
 use Rattle.wit_tree.specs.declared.tree.PackageFile.{PackageFile}
 use Rattle.wit_types.specs.declared.docs.Docs.{Docs}
 use Rattle.wit_syntax.specs.Fault.{Fault, fault}
-use Rattle.wit_syntax.specs.Notes.{docs_of}
+use Rattle.wit_syntax.specs.Metadata.{docs_of}
 use Rattle.wit_syntax.specs.Broken.{IsDocumented, IsSecondDocs, headers}
 use Rattle.wit_arena.specs.Whole.{first_docs}
 use Rattle.wit_syntax.proofs.Found.{at_contains, contains_at}
@@ -40,7 +40,7 @@ or_false : (b : Bool) → b || false ≡ b
 or_false true = refl
 or_false false = refl
 
--- headers have docs where those in front have, or those behind
+-- headers have docs where those in front have, or those after
 have_docs-append : (xs ys : List Header) → have_docs (xs ++ ys) ≡ have_docs xs || have_docs ys
 have_docs-append [] ys = refl
 have_docs-append (x ∷ xs) ys = ap (λ (b : Bool). is_documented x || b) (have_docs-append xs ys) ∙ sym (or_assoc (is_documented x) (have_docs xs) (have_docs ys))
@@ -152,7 +152,7 @@ chosen : {X : Type 0} (xs : List X) (a b : Docs) → (xs ≡ [] → ⊥) → (if
 chosen [] a b some = absurd (some refl)
 chosen (x ∷ xs) a b some = ap (λ (t : Bool). if t then a else b) (filled x xs)
 
-pub docs_behind : (fs : List PackageFile) (i : ℕ) (f : PackageFile) (h : Header) → i < length fs → f ≡ get_or fs i f → f.package_id ≡ Some h → h.docs.docs.items ≡ [] → first_docs (headers (drop (i + 1) fs)) ≡ first_docs (headers (drop i fs))
-docs_behind fs i f h lt is own empty =
+pub docs_after : (fs : List PackageFile) (i : ℕ) (f : PackageFile) (h : Header) → i < length fs → f ≡ get_or fs i f → f.package_id ≡ Some h → h.docs.docs.items ≡ [] → first_docs (headers (drop (i + 1) fs)) ≡ first_docs (headers (drop i fs))
+docs_after fs i f h lt is own empty =
     let rest = headers (drop (i + 1) fs) in
     sym (docs_from fs i f lt is ∙ ap (λ (o : Option Header). first_docs (cons_option o rest)) own ∙ ap (λ (n : ℕ). if n == 0 then first_docs rest else docs_of h.docs) (ap length empty))

@@ -8,30 +8,30 @@ use Rattle.std.proofs.lemmas.Option.{slice_get-map}
 use Rattle.indexmap.specs.IndexMap.{insert_entry}
 use Rattle.wit_model.specs.declared.interface.Interface.{Interface}
 use Rattle.wit_syntax.specs.Address.{Address, InterfaceNamed}
-use Rattle.wit_syntax.proofs.Lists.{at_front, at_seam}
+use Rattle.wit_syntax.proofs.Lists.{at_prefix, at_seam}
 use Rattle.wit_syntax.proofs.Names.{name_cases, name_itself, lookup-insert_entry}
-use Rattle.wit_arena.specs.Resolving.{Names, cell, cell_at, cells, env_of}
+use Rattle.wit_arena.specs.Resolving.{Names, resolved_scope, resolved_scope_at, resolved_scopes, env_of}
 use Rattle.wit_items.specs.Found.{AreFound, name_at}
 
--- the interface at a place, where one stands that has a name
+-- the interface at a place, where one is that has a name
 pub named_at : (is : List Interface) (t : ℕ) (name : List ℕ) → name_at is t ≡ Some name → (i : Interface) × (slice_get is t ≡ Some i) × (i.name ≡ Some name)
 named_at [] t name at = absurd (let f : ⊥ = cc in f)
 named_at (i ∷ is) zero name at = (i, refl, at)
 named_at (i ∷ is) (suc t) name at = named_at is t name at
 
--- it stands there among more
+-- it is there among more
 at_more : (is more : List Interface) (t : ℕ) (name : List ℕ) → name_at is t ≡ Some name → name_at (is ++ more) t ≡ Some name
 at_more is more t name at =
     let i = named_at is t name at in
-    ap (option_and_then (λ (j : Interface). j.name)) (at_front is more t i.0 i.1) ∙ i.2
+    ap (option_and_then (λ (j : Interface). j.name)) (at_prefix is more t i.0 i.1) ∙ i.2
 
 -- no name, nothing found
 pub found_none : (count : ℕ) (is : List Interface) (by_name : Names) → by_name ≡ [] → AreFound count is by_name
 found_none count is by_name none = subst (AreFound count is) (sym none) (λ n t here. absurd (let f : ⊥ = cc in f))
 
 -- more interfaces
-pub front_wider : (count : ℕ) (is more : List Interface) → count ≤ length is → count ≤ length (is ++ more)
-front_wider count is more enough = omega (arith, length-append is more)
+pub prefix_wider : (count : ℕ) (is more : List Interface) → count ≤ length is → count ≤ length (is ++ more)
+prefix_wider count is more enough = omega (arith, length-append is more)
 
 -- more interfaces, and no more names
 pub found_wider : (count : ℕ) (is more : List Interface) (by_name : Names) → AreFound count is by_name → AreFound count (is ++ more) by_name
@@ -58,11 +58,11 @@ pub found_put : {X E : Type 0} (r : Result X E) (count : ℕ) (is : List Interfa
 found_put (Ok x) count is by_name now i name enough found called put kept = subst (AreFound count (is ++ i ∷ [])) (sym put) (found_more count is by_name i name enough found called)
 found_put (Err e) count is by_name now i name enough found called put kept = subst (AreFound count (is ++ i ∷ [])) (sym kept) (found_wider count is (i ∷ []) by_name found)
 
--- the scope of an interface that stands after those at these addresses
-pub found_cell : (ss : List Address) (is : List Interface) (t : ℕ) (name : List ℕ) → length ss ≤ t → name_at is t ≡ Some name → (i : Interface) × (slice_get is t ≡ Some i) × (slice_get (cells ss is) t ≡ Some (cell_at (InterfaceNamed name) i))
-found_cell [] is t name enough at =
+-- the scope of an interface that is after those at these addresses
+pub found_resolved_scope : (ss : List Address) (is : List Interface) (t : ℕ) (name : List ℕ) → length ss ≤ t → name_at is t ≡ Some name → (i : Interface) × (slice_get is t ≡ Some i) × (slice_get (resolved_scopes ss is) t ≡ Some (resolved_scope_at (InterfaceNamed name) i))
+found_resolved_scope [] is t name enough at =
     let i = named_at is t name at in
-    (i.0, i.1, slice_get-map cell is t ∙ ap (option_map cell) i.1 ∙ ap (λ (n : Option (List ℕ)). Some (cell_at (InterfaceNamed (unwrap_or n [])) i.0)) i.2)
-found_cell (s ∷ ss) [] t name enough at = absurd (let f : ⊥ = cc in f)
-found_cell (s ∷ ss) (j ∷ is) zero name enough at = absurd (let f : ⊥ = omega arith in f)
-found_cell (s ∷ ss) (j ∷ is) (suc t) name enough at = found_cell ss is t name (omega arith) at
+    (i.0, i.1, slice_get-map resolved_scope is t ∙ ap (option_map resolved_scope) i.1 ∙ ap (λ (n : Option (List ℕ)). Some (resolved_scope_at (InterfaceNamed (unwrap_or n [])) i.0)) i.2)
+found_resolved_scope (s ∷ ss) [] t name enough at = absurd (let f : ⊥ = cc in f)
+found_resolved_scope (s ∷ ss) (j ∷ is) zero name enough at = absurd (let f : ⊥ = omega arith in f)
+found_resolved_scope (s ∷ ss) (j ∷ is) (suc t) name enough at = found_resolved_scope ss is t name (omega arith) at

@@ -1,4 +1,4 @@
--- Declared items that are held with all their names.
+-- Declared items that are borrowed with all their names.
 use Rattle.std.proofs.Common.{◌≡◌, ℕ, zero, suc, List, [], ◌∷◌, Some, sym, ap, ◌∙◌, subst}
 use Rattle.std.specs.Prelude.{All, map, slice_get}
 use Rattle.wit_tree.specs.declared.tree.PackageFile.{PackageFile}
@@ -6,21 +6,21 @@ use Rattle.wit_tree.specs.declared.tree.WorldSide.{WorldSide}
 use Rattle.wit_syntax.specs.Address.{Address}
 use Rattle.wit_syntax.specs.Source.{all_items, scope_names}
 use Rattle.wit_syntax.proofs.Lists.{map_map}
-use Rattle.wit_scopes.specs.Front.{AreNamesPlaced}
+use Rattle.wit_scopes.specs.PlacedNames.{AreNamesPlaced}
 use Rattle.wit_scopes.proofs.Declaring.{alike}
-use Rattle.wit_item_names.specs.Interfaces.{front_of}
+use Rattle.wit_item_names.specs.Interfaces.{prefix_of}
 use Rattle.wit_items.specs.declared.items.Item.{Item}
-use Rattle.wit_items.specs.Front.{AreItemsPlaced}
+use Rattle.wit_items.specs.PlacedItems.{AreItemsPlaced}
 use Rattle.wit_items.specs.Gathered.{AreItemsOf}
-use Rattle.wit_items.specs.Inside.{inside_behind, names_written}
-use Rattle.wit_items.specs.Items.{AreFiled, item_behind, names_behind}
+use Rattle.wit_items.specs.InlineNames.{inside_view, names_written}
+use Rattle.wit_items.specs.Items.{AreFiled, item_view, names_view}
 
 -- an item at hand, of whose names the place is known
-placed_one : (front : List Address) (items : List Item) (k : ℕ) (x : Item) → slice_get items k ≡ Some x → AreItemsPlaced front items → AreItemsPlaced front (x ∷ [])
-placed_one front items k x at placed = record {
-  each = λ j i there. subst (λ (y : Item). AreNamesPlaced front y.names.items) (one x j i there) (placed.each k x at);
-  imported = λ j i there. subst (λ (y : Item). All (λ ns. AreNamesPlaced front ns.items) y.imported.items) (one x j i there) (placed.imported k x at);
-  exported = λ j i there. subst (λ (y : Item). All (λ ns. AreNamesPlaced front ns.items) y.exported.items) (one x j i there) (placed.exported k x at);
+placed_one : (prefix : List Address) (items : List Item) (k : ℕ) (x : Item) → slice_get items k ≡ Some x → AreItemsPlaced prefix items → AreItemsPlaced prefix (x ∷ [])
+placed_one prefix items k x at placed = record {
+  each = λ j i there. subst (λ (y : Item). AreNamesPlaced prefix y.names.items) (one x j i there) (placed.each k x at);
+  imported = λ j i there. subst (λ (y : Item). All (λ ns. AreNamesPlaced prefix ns.items) y.imported.items) (one x j i there) (placed.imported k x at);
+  exported = λ j i there. subst (λ (y : Item). All (λ ns. AreNamesPlaced prefix ns.items) y.exported.items) (one x j i there) (placed.exported k x at);
 }
   where
     one : (x : Item) (j : ℕ) (i : Item) → slice_get (x ∷ []) j ≡ Some i → x ≡ i
@@ -28,12 +28,12 @@ placed_one front items k x at placed = record {
     one x (suc j) i there = absurd (let f : ⊥ = cc in f)
 
 -- all items of files
-pub items_of : (files : List PackageFile) (items : List Item) → map item_behind items ≡ all_items files → map names_behind items ≡ map scope_names (all_items files) → ((side : WorldSide) → map (inside_behind side) items ≡ map (names_written side) (all_items files)) → AreFiled files items → AreItemsPlaced (front_of files) items → AreItemsOf files items
+pub items_of : (files : List PackageFile) (items : List Item) → map item_view items ≡ all_items files → map names_view items ≡ map scope_names (all_items files) → ((side : WorldSide) → map (inside_view side) items ≡ map (names_written side) (all_items files)) → AreFiled files items → AreItemsPlaced (prefix_of files) items → AreItemsOf files items
 items_of files items all named written filed placed = record {
   each = λ k i at. record {
     filed = filed.each k i at;
-    named = alike names_behind (λ (x : Item). scope_names (item_behind x)) items (named ∙ ap (map scope_names) (sym all) ∙ map_map scope_names item_behind items) k i at;
-    written = λ side. alike (inside_behind side) (λ (x : Item). names_written side (item_behind x)) items (written side ∙ ap (map (names_written side)) (sym all) ∙ map_map (names_written side) item_behind items) k i at;
-    placed = placed_one (front_of files) items k i at placed;
+    named = alike names_view (λ (x : Item). scope_names (item_view x)) items (named ∙ ap (map scope_names) (sym all) ∙ map_map scope_names item_view items) k i at;
+    written = λ side. alike (inside_view side) (λ (x : Item). names_written side (item_view x)) items (written side ∙ ap (map (names_written side)) (sym all) ∙ map_map (names_written side) item_view items) k i at;
+    placed = placed_one (prefix_of files) items k i at placed;
   };
 }

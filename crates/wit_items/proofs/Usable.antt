@@ -11,31 +11,31 @@ use Rattle.wit_tree.specs.declared.tree.UsePath.{UsePath}
 use Rattle.wit_tree.specs.declared.tree.PackageFile.{PackageFile}
 use Rattle.wit_package_names.specs.declared.package_name.PackageName.{PackageName}
 use Rattle.wit_syntax.specs.Address.{ForeignNamed}
-use Rattle.wit_syntax.specs.Broken.{is_world_at, IsBrokenUse, MissingUse, WorldUsed, IsBroken, UseNotes, Use}
-use Rattle.wit_syntax.specs.Crossing.{inline_uses}
+use Rattle.wit_syntax.specs.Broken.{is_world_at, IsBrokenUse, MissingUse, WorldUsed, IsBroken, UseMetadata, Use}
+use Rattle.wit_syntax.specs.ExternPart.{inline_uses}
 use Rattle.wit_syntax.specs.Fault.{Fault, fault, missing_at, item_word}
 use Rattle.wit_syntax.specs.Foreign.{ForeignVisit, foreign_at}
 use Rattle.wit_syntax.specs.Source.{Target, Local, Foreign, leads, path_id, top_names, Declared, Item, item_named, is_world, parts, file_items, all_items, walk}
 use Rattle.wit_syntax.specs.Scope.{use_paths, uses}
 use Rattle.wit_syntax.proofs.Lists.{at_either}
 use Rattle.wit_syntax.proofs.Found.{at_contains, contains_at}
-use Rattle.wit_first.specs.Attributes.{notes_fault}
+use Rattle.wit_first.specs.Attributes.{metadata_fault}
 use Rattle.wit_first.specs.Files.{lost_fault}
 use Rattle.wit_first.specs.Uses.{all_uses_fault, item_uses_fault, own_uses, path_fault, reached_fault, use_fault}
-use Rattle.wit_first.proofs.Bridge.{in_only, in_some, notes_agree, or_none_both, or_some}
+use Rattle.wit_first.proofs.Bridge.{in_only, in_some, metadata_agree, or_none_both, or_some}
 use Rattle.wit_first.proofs.Files.{lost_agrees, lost_at}
 use Rattle.wit_top_names.proofs.Lost.{at_flat}
 use Rattle.wit_files.specs.FileNames.{names_at_top}
-use Rattle.wit_items.specs.declared.items.Item.{Item as Held}
+use Rattle.wit_items.specs.declared.items.Item.{Item as Borrowed}
 use Rattle.wit_item_names.specs.Items.{HasItem}
-use Rattle.wit_items.specs.Items.{declared_behind, IsFiled, AreFiled, HaveSoundUses}
+use Rattle.wit_items.specs.Items.{declared_view, IsFiled, AreFiled, HaveSoundUses}
 use Rattle.wit_item_names.proofs.Others.{used_visited}
 use Rattle.wit_item_names.proofs.Usable.{path_of_use}
 use Rattle.wit_items.proofs.Written.{right_use, walked}
 
 -- items of files, one more
-pub filed_more : (files : List PackageFile) (items new : List Held) (x : Held) → new ≡ items ++ x ∷ [] → AreFiled files items → IsFiled files x → AreFiled files new
-filed_more files items new x grown filed one = rw grown (record {
+pub filed_more : (files : List PackageFile) (items new : List Borrowed) (x : Borrowed) → new ≡ items ++ x ∷ [] → AreFiled files items → IsFiled files x → AreFiled files new
+filed_more files items new x extended filed one = rw extended (record {
   each = λ k i at. elim (at_either items x k i at) [
     | inl early ↦ filed.each k i early
     | inr last ↦ subst (IsFiled files) (sym last.1) one
@@ -46,7 +46,7 @@ pub filed_none : (files : List PackageFile) → AreFiled files []
 filed_none files = record { each = λ k i at. absurd (let f : ⊥ = cc in f) }
 
 -- so each is an item that the file at its place declares
-pub filed_item : (files : List PackageFile) (i : Held) → IsFiled files i → HasItem files i.place (declared_behind i.declared)
+pub filed_item : (files : List PackageFile) (i : Borrowed) → IsFiled files i → HasItem files i.place (declared_view i.declared)
 filed_item files i filed = record {
   within = slice_get_within files i.place i.file.now filed.file;
   among = rw (ap names_at_top filed.file) filed.among;
@@ -90,8 +90,8 @@ uses_broken files f h =
     let u = it.1 in
     let here = contains_at (all_items files) own.0 i own.2 in
     let among : Contains (uses i) u = walked i u (contains_at walked_uses it.0 u it.2) in
-    elim (or_some (notes_fault u.attributes.items) (path_fault files i.top u.from) f it.3) [
-      | inl noted ↦ UseNotes i here u among ((notes_agree u.attributes.items).broken f noted)
+    elim (or_some (metadata_fault u.attributes.items) (path_fault files i.top u.from) f it.3) [
+      | inl noted ↦ UseMetadata i here u among ((metadata_agree u.attributes.items).broken f noted)
       | inr far ↦ Use i here (path_broken files i u.from f (path_of_use (parts i) u among) far.1)
     ]
 
@@ -118,9 +118,9 @@ uses_sound files none = record {
     each = λ u among. (
         let k = at_contains (all_items files) i here in
         let right = right_use files i.top (parts i) (in_only (item_uses_fault files) (all_items files) none k.0 i k.1) u among in
-        let both = or_none_both (notes_fault u.attributes.items) (path_fault files i.top u.from) right in
+        let both = or_none_both (metadata_fault u.attributes.items) (path_fault files i.top u.from) right in
         record {
-          noted = (notes_agree u.attributes.items).unbroken both.0;
+          noted = (metadata_agree u.attributes.items).unbroken both.0;
           usable = usable_by files (leads i.top u.from) (path_id u.from).span (is_world_at files (leads i.top u.from)) refl (used_visited files i u.from here (path_of_use (parts i) u among)) both.1;
         });
   };

@@ -13,8 +13,8 @@ use Rattle.wit_tree.specs.declared.tree.PackageFile.{PackageFile}
 use Rattle.wit_tree.specs.declared.tree.Use.{Use as WrittenUse}
 use Rattle.wit_tree.specs.declared.tree.WorldSide.{WorldSide}
 use Rattle.wit_tree.specs.declared.tree.WorldSide.TheVariants.{Imported, Exported}
-use Rattle.wit_syntax.specs.Crossing.{inline_uses, item_uses}
-use Rattle.wit_syntax.specs.Source.{TopName, TheInterface, interface_part, Item, Part, Defining, Using, Including, Doing, Crossing, parts, walk}
+use Rattle.wit_syntax.specs.ExternPart.{inline_uses, item_uses}
+use Rattle.wit_syntax.specs.Source.{TopName, TheInterface, interface_part, Item, Part, DefinitionPart, UsePart, IncludePart, FunctionPart, ExternPart, parts, walk}
 use Rattle.wit_syntax.specs.Scope.{part_uses, uses}
 use Rattle.wit_syntax.proofs.Addresses.{side_itself}
 use Rattle.wit_syntax.proofs.Lists.{flat_map_at}
@@ -22,10 +22,10 @@ use Rattle.wit_syntax.proofs.Found.{at_contains, contains_at}
 use Rattle.wit_first.specs.Uses.{item_uses_fault, own_uses, use_fault, uses_fault}
 use Rattle.wit_first.proofs.Bridge.{in_only, or_none_both}
 use Rattle.wit_first.proofs.First.{in-append}
-use Rattle.wit_scopes.specs.Held.{name_behind}
-use Rattle.wit_items.specs.declared.items.Item.{Item as Held}
-use Rattle.wit_item_names.specs.Inside.{written_items, side_uses}
-use Rattle.wit_items.specs.Inside.{names_written, inside_behind}
+use Rattle.wit_scopes.specs.Borrowed.{name_view}
+use Rattle.wit_items.specs.declared.items.Item.{Item as Borrowed}
+use Rattle.wit_item_names.specs.InlineNames.{written_items, side_uses}
+use Rattle.wit_items.specs.InlineNames.{names_written, inside_view}
 use Rattle.wit_item_names.proofs.Usable.{among_flat}
 use Rattle.wit_item_names.proofs.Written.{items_names, names_written_in, own_among, side_among}
 
@@ -104,11 +104,11 @@ module _ (files : List PackageFile) (top : List TopName) (ps : List Part) (none 
       nothing among = absurd (let at = (at_contains [] u among).1 in let f : ⊥ = cc in f)
 
       by_part : (m : ℕ) (p : Part) → slice_get ps m ≡ Some p → Contains (part_uses p) u → use_fault files top u ≡ None
-      by_part m (Defining d) at among = nothing among
-      by_part m (Using v) at among = right_in (flat_map own_uses ps) u both.0 (among_flat own_uses ps m (Using v) u at among)
-      by_part m (Including i) at among = nothing among
-      by_part m (Doing f) at among = nothing among
-      by_part m (Crossing x) at among = right_in (flat_map (side_uses x.side) ps) u (on_side x.side) (among_flat (side_uses x.side) ps m (Crossing x) u at (rw (side_itself x.side) among))
+      by_part m (DefinitionPart d) at among = nothing among
+      by_part m (UsePart v) at among = right_in (flat_map own_uses ps) u both.0 (among_flat own_uses ps m (UsePart v) u at among)
+      by_part m (IncludePart i) at among = nothing among
+      by_part m (FunctionPart f) at among = nothing among
+      by_part m (ExternPart x) at among = right_in (flat_map (side_uses x.side) ps) u (on_side x.side) (among_flat (side_uses x.side) ps m (ExternPart x) u at (rw (side_itself x.side) among))
 
 -- none is written in an interface
 pub interface_unwritten : (side : WorldSide) (xs : List InterfaceItem) → flat_map (written_items side) (map interface_part xs) ≡ []
@@ -121,11 +121,11 @@ interface_unwritten side (interface_item.Func f ∷ xs) = interface_unwritten si
 pub interface_inside : (side : WorldSide) (top : List TopName) (i : Interface) → names_written side (record { top = top; declared = TheInterface i }) ≡ []
 interface_inside side top i = names_written_in top side (map interface_part i.items.items) ∙ ap (map (items_names top)) (interface_unwritten side i.items.items)
 
--- names that are held are those that are written, where both sides are
-pub inside_is : (i : Held) (w : Item) → map (λ ns. map name_behind ns.items) i.imported.items ≡ names_written Imported w → map (λ ns. map name_behind ns.items) i.exported.items ≡ names_written Exported w → (side : WorldSide) → inside_behind side i ≡ names_written side w
+-- names that are borrowed are those that are written, where both sides are
+pub inside_is : (i : Borrowed) (w : Item) → map (λ ns. map name_view ns.items) i.imported.items ≡ names_written Imported w → map (λ ns. map name_view ns.items) i.exported.items ≡ names_written Exported w → (side : WorldSide) → inside_view side i ≡ names_written side w
 inside_is i w imported exported Imported = imported
 inside_is i w imported exported Exported = exported
 
-pub inside_none : (side : WorldSide) → map (inside_behind side) [] ≡ []
+pub inside_none : (side : WorldSide) → map (inside_view side) [] ≡ []
 inside_none Imported = refl
 inside_none Exported = refl

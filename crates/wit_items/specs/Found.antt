@@ -4,7 +4,7 @@ use Rattle.std.specs.Option.{option_and_then}
 use Rattle.wit_model.specs.declared.interface.Interface.{Interface}
 use Rattle.wit_arena.specs.Resolving.{Names, env_of}
 
--- the name of the interface at a place, if one stands there and has one
+-- the name of the interface at a place, if one is there and has one
 abbrev pub name_at : List Interface → ℕ → Option (List ℕ)
 name_at is place = option_and_then (λ (i : Interface). i.name) (slice_get is place)
 

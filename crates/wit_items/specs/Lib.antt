@@ -1,8 +1,8 @@
-pub mod Headers
+pub mod FileHeaders
 pub mod Items
-pub mod Inside
-pub mod Front
-pub mod Told
+pub mod InlineNames
+pub mod PlacedItems
+pub mod SourceItems
 pub mod Interfaces
 pub mod Found
 pub mod Gathered

@@ -8,7 +8,7 @@ ghost use Rattle.wit_syntax.specs.Broken.{IsSamePackage, headers};
 ghost use Rattle.wit_arena.specs.Whole.{first_docs};
 ghost use Rattle.wit_first.specs.First.{Finds};
 ghost use Rattle.wit_first.specs.Headers.{have_docs, is_documented, second_docs_fault};
-ghost use Rattle.wit_items.specs.Headers.{mismatch};
+ghost use Rattle.wit_items.specs.FileHeaders.{mismatch};
 
 use semver::Version;
 use std::alloc::{AllocError, Global};
@@ -18,7 +18,7 @@ use wit_tree::ParseResult;
 use wit_tree::tree::{self, PackageFile};
 use wit_types::Docs;
 
-/// The words for a header with docs behind one that has docs.
+/// The words for a header with docs after one that has docs.
 const SECOND_DOCS: &str = "found doc comments on multiple 'package' items";
 
 /// Whether two versions are the same, to their builds.
@@ -88,7 +88,7 @@ pub fn have_docs(documented: bool, current: &Option<tree::PackageName<'_>>) -> b
     }
 }
 
-/// Refuses a header with docs behind others, where one of these has docs.
+/// Refuses a header with docs after others, where one of these has docs.
 pub fn check_docs(
     alloc: Global,
     documented: bool,

@@ -1,21 +1,21 @@
 //! The interfaces that are resolved, of this package and of other ones.
 ghost use Rattle.std.specs.Prelude.{◌≤◌, length};
-ghost use Rattle.wit_item_names.specs.Interfaces.{front_of};
+ghost use Rattle.wit_item_names.specs.Interfaces.{prefix_of};
 ghost use Rattle.wit_items.specs.Found.{AreFound};
 
 use wit_item_names::files::Files;
+use wit_maps::TextTable;
 use wit_model::Interface;
 use wit_types::{Arena, InterfaceId, InterfacePlace};
-use wit_maps::TextTable;
 
 /// The interfaces of files that are resolved, and the places of the declared ones by their names: what
-/// is found by a name has that name, and stands after those of other packages.
+/// is found by a name has that name, and is after those of other packages.
 #[derive(Drop)]
 pub struct Interfaces<'n, 'e, 'f, 'a> {
     pub files: Files<'n, 'e, 'f, 'a>,
-    /// The interfaces of other packages are its front.
+    /// The interfaces of other packages are its prefix.
     pub arena: Arena<Interface, InterfacePlace>,
     pub by_name: TextTable<InterfaceId>,
-    pub ghost front: { length (front_of files) ≤ length arena },
-    pub ghost found: { AreFound (length (front_of files)) arena by_name },
+    pub ghost prefix: { length (prefix_of files) ≤ length arena },
+    pub ghost found: { AreFound (length (prefix_of files)) arena by_name },
 }

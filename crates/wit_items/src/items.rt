@@ -5,11 +5,11 @@ ghost use Rattle.wit_syntax.specs.Source.{scope_names, file_items, all_items};
 ghost use Rattle.wit_syntax.specs.Foreign.{visited, foreign_interfaces};
 ghost use Rattle.wit_first.specs.First.{Finds, first_in};
 ghost use Rattle.wit_first.specs.Uses.{all_uses_fault, item_uses_fault};
-ghost use Rattle.wit_scopes.specs.Held.{name_behind};
+ghost use Rattle.wit_scopes.specs.Borrowed.{name_view};
 ghost use Rattle.wit_item_names.specs.Items.{AreEntriesOf};
-ghost use Rattle.wit_items.specs.Items.{item_behind, names_behind, scope_item, AreFiled};
-ghost use Rattle.wit_items.specs.Inside.{inside_behind, names_written};
-ghost use Rattle.wit_items.specs.Front.{AreItemsPlaced};
+ghost use Rattle.wit_items.specs.Items.{item_view, names_view, scope_item, AreFiled};
+ghost use Rattle.wit_items.specs.InlineNames.{inside_view, names_written};
+ghost use Rattle.wit_items.specs.PlacedItems.{AreItemsPlaced};
 
 use std::alloc::Global;
 use wit_files::FileNames;
@@ -30,7 +30,7 @@ use wit_values::push;
 pub struct InlineInterface<'f, 'a> {
     /// The name of the world.
     pub world: &'a str,
-    /// How many stand before it on its side, behind the names of types.
+    /// How many come before it on its side, after the names of types.
     pub place: usize,
     pub written: &'f Extern<'a>,
     /// The name that it has there.
@@ -90,9 +90,9 @@ fn copied<'f, 'a>(declared: &Declared<'f, 'a>) -> Declared<'f, 'a>
 impl<'f, 'a> Item<'f, 'a> {
     /// The item with its names, but for those of what is written in it.
     pub fn scope(&self) -> ItemScope<'f, 'a, '_>
-        ensures item { scope_item result ≡ item_behind self.now }
-        ensures names { map name_behind result.names.now ≡ names_behind self.now }
-        ensures held { result.names.now ≡ self.now.names.items }
+        ensures item { scope_item result ≡ item_view self.now }
+        ensures names { map name_view result.names.now ≡ names_view self.now }
+        ensures borrowed { result.names.now ≡ self.now.names.items }
     {
         ItemScope {
             file: self.file,
@@ -111,9 +111,9 @@ fn add_items<'f, 'a>(
     place: usize,
 ) -> ParseResult<()>
     requires file { slice_get files.now place ≡ Some file.now }
-    ensures items { OnOk result (map item_behind items.new.items ≡ map item_behind items.old.items ++ file_items file.now) }
-    ensures names { OnOk result (map names_behind items.new.items ≡ map names_behind items.old.items ++ map scope_names (file_items file.now)) }
-    ensures inside { OnOk result ((side : TheSide) → map (inside_behind side) items.new.items ≡ map (inside_behind side) items.old.items ++ map (names_written side) (file_items file.now)) }
+    ensures items { OnOk result (map item_view items.new.items ≡ map item_view items.old.items ++ file_items file.now) }
+    ensures names { OnOk result (map names_view items.new.items ≡ map names_view items.old.items ++ map scope_names (file_items file.now)) }
+    ensures inside { OnOk result ((side : TheSide) → map (inside_view side) items.new.items ≡ map (inside_view side) items.old.items ++ map (names_written side) (file_items file.now)) }
     ensures filed { OnOk result (AreFiled files.now items.old.items → AreFiled files.now items.new.items) }
     ensures placed { OnOk result (AreItemsPlaced (map visited (foreign_interfaces files.now)) items.old.items → AreItemsPlaced (map visited (foreign_interfaces files.now)) items.new.items) }
     ensures first { Finds (first_in (item_uses_fault files.now) (file_items file.now)) result }
@@ -157,9 +157,9 @@ fn add_all<'f, 'a>(
     room: usize,
 ) -> ParseResult<Vec<Item<'f, 'a>>>
     requires files { names.now ≡ files.now }
-    ensures items { IfOk result (λ items. map item_behind items.items ≡ all_items names.now) }
-    ensures names { IfOk result (λ items. map names_behind items.items ≡ map scope_names (all_items names.now)) }
-    ensures inside { IfOk result (λ items. (side : TheSide) → map (inside_behind side) items.items ≡ map (names_written side) (all_items names.now)) }
+    ensures items { IfOk result (λ items. map item_view items.items ≡ all_items names.now) }
+    ensures names { IfOk result (λ items. map names_view items.items ≡ map scope_names (all_items names.now)) }
+    ensures inside { IfOk result (λ items. (side : TheSide) → map (inside_view side) items.items ≡ map (names_written side) (all_items names.now)) }
     ensures filed { IfOk result (λ items. AreFiled names.now items.items) }
     ensures placed { IfOk result (λ items. AreItemsPlaced (map visited (foreign_interfaces names.now)) items.items) }
     ensures first { Finds (all_uses_fault names.now) result }
@@ -184,9 +184,9 @@ pub fn declared_items<'f, 'a>(
 ) -> ParseResult<Vec<Item<'f, 'a>>>
     requires files { names.now ≡ files.now }
     requires entries { AreEntriesOf names.now entries.now }
-    ensures items { IfOk result (λ items. map item_behind items.items ≡ all_items names.now) }
-    ensures names { IfOk result (λ items. map names_behind items.items ≡ map scope_names (all_items names.now)) }
-    ensures inside { IfOk result (λ items. (side : TheSide) → map (inside_behind side) items.items ≡ map (names_written side) (all_items names.now)) }
+    ensures items { IfOk result (λ items. map item_view items.items ≡ all_items names.now) }
+    ensures names { IfOk result (λ items. map names_view items.items ≡ map scope_names (all_items names.now)) }
+    ensures inside { IfOk result (λ items. (side : TheSide) → map (inside_view side) items.items ≡ map (names_written side) (all_items names.now)) }
     ensures filed { IfOk result (λ items. AreFiled names.now items.items) }
     ensures placed { IfOk result (λ items. AreItemsPlaced (map visited (foreign_interfaces names.now)) items.items) }
     ensures first { Finds (all_uses_fault names.now) result }

@@ -25,13 +25,13 @@ one_more g f i xs x h =
     ∙ ap (λ ts. ts ++ g (f x)) (sym (flat_map-map g f (take i xs)))
 
 -- tokens that grew by those of the next value
-pub grown_more : {A B : Type 0} (g : B → List Token) (f : A → B) (i : ℕ) (xs : List A) (x : A) (first before after : List Token) → slice_get xs i ≡ Some x →
+pub extended_more : {A B : Type 0} (g : B → List Token) (f : A → B) (i : ℕ) (xs : List A) (x : A) (first before after : List Token) → slice_get xs i ≡ Some x →
     before ≡ first ++ flat_map g (map f (take i xs)) → after ≡ before ++ g (f x) → after ≡ first ++ flat_map g (map f (take (i + 1) xs))
-grown_more g f i xs x first before after h was grown =
-    grown ∙ ap (λ ts. ts ++ g (f x)) was ∙ append_assoc first (flat_map g (map f (take i xs))) (g (f x)) ∙ ap (λ more. first ++ more) (sym (one_more g f i xs x h))
+extended_more g f i xs x first before after h was extended =
+    extended ∙ ap (λ ts. ts ++ g (f x)) was ∙ append_assoc first (flat_map g (map f (take i xs))) (g (f x)) ∙ ap (λ more. first ++ more) (sym (one_more g f i xs x h))
 
 -- the same, if what was added is a list of one
 pub entry_more : {A B : Type 0} (g : B → List Token) (f : A → B) (i : ℕ) (xs : List A) (x : A) (first before after : List Token) → slice_get xs i ≡ Some x →
     before ≡ first ++ flat_map g (map f (take i xs)) → after ≡ before ++ flat_map g (f x ∷ []) → after ≡ first ++ flat_map g (map f (take (i + 1) xs))
-entry_more g f i xs x first before after h was grown =
-    grown_more g f i xs x first before after h was (grown ∙ ap (λ ts. before ++ ts) (append-nil (g (f x))))
+entry_more g f i xs x first before after h was extended =
+    extended_more g f i xs x first before after h was (extended ∙ ap (λ ts. before ++ ts) (append-nil (g (f x))))

@@ -2,13 +2,13 @@ pub mod Apart
 pub mod Closing
 pub mod Depths
 pub mod Growing
-pub mod Keys
+pub mod DistinctKeys
 pub mod Objects
 pub mod Reading
 pub mod Same
 pub mod Shapes
 pub mod Short
 pub mod Texts
-pub mod ToldPackages
-pub mod ToldTypes
+pub mod StatedPackages
+pub mod StatedTypes
 pub mod Unique

@@ -1,4 +1,4 @@
--- Equal values with short numbers: what their parts are told by.
+-- Equal values with short numbers: what their parts are given by.
 use Rattle.std.proofs.Common.{◌≡◌, ℕ, suc, Bool, true, false, List, [], ◌∷◌, ◌++◌, ap, sym, ◌∙◌, refl, subst, arith}
 use Rattle.std.specs.Prelude.{⊤, Option, Some, None, All, IfSome, bytes_eq, map, option_map}
 use Rattle.std.proofs.lemmas.Slice.Eq.{bytes_eq-Decides}
@@ -11,22 +11,22 @@ use Rattle.wit_json.specs.Numbers.{AreShort}
 use Rattle.wit_json.specs.Values.{fields, list, members_of, number_json, optional_number, optional_text}
 use Rattle.wit_json.proofs.Apart.{Apart, IsNew, apart_of, are_apart}
 use Rattle.wit_json.proofs.Objects.{Shape, object_lacks, object_of, shape_is}
-use Rattle.wit_json.proofs.Texts.{decimal_tells}
+use Rattle.wit_json.proofs.Texts.{decimal_determines}
 
 -- one value, with short numbers
 pub record Same (j k : Json) : Type 0 where
   pub is : j ≡ k
   pub short : AreShort (json_tokens j)
 
-front_short : (xs ys : List Token) → AreShort (xs ++ ys) → AreShort xs
-front_short [] ys short = tt
-front_short (x ∷ xs) ys short = (short.0, front_short xs ys short.1)
+prefix_short : (xs ys : List Token) → AreShort (xs ++ ys) → AreShort xs
+prefix_short [] ys short = tt
+prefix_short (x ∷ xs) ys short = (short.0, prefix_short xs ys short.1)
 
 back_short : (xs ys : List Token) → AreShort (xs ++ ys) → AreShort ys
 back_short [] ys short = short
 back_short (x ∷ xs) ys short = back_short xs ys short.1
 
--- a word that tells strings, and objects by their first keys, from one another
+-- a word that says strings, and objects by their first keys, from one another
 abbrev pub mark : Json → List ℕ
 mark null = 0 ∷ []
 mark (boolean b) = 1 ∷ []
@@ -49,11 +49,11 @@ text_of (string s) = s
 text_of (array js) = []
 text_of (object ms) = []
 
-pub string_tells : (a b : List ℕ) → Same (string a) (string b) → a ≡ b
-string_tells a b s = ap text_of s.is
+pub string_determines : (a b : List ℕ) → Same (string a) (string b) → a ≡ b
+string_determines a b s = ap text_of s.is
 
-pub number_tells : (m n : ℕ) → Same (number_json m) (number_json n) → m ≡ n
-number_tells m n s = decimal_tells m n s.short.0 (ap text_of s.is)
+pub number_determines : (m n : ℕ) → Same (number_json m) (number_json n) → m ≡ n
+number_determines m n s = decimal_determines m n s.short.0 (ap text_of s.is)
 
 abbrev pub is_null : Json → Bool
 is_null null = true
@@ -69,17 +69,17 @@ null_differs {k} s some = let yes : true ≡ is_null k = ap is_null s.is in absu
 pub some_differs : {k : Json} → Same k null → is_null k ≡ false → ⊥
 some_differs {k} s some = let yes : is_null k ≡ true = ap is_null s.is in absurd (cc (yes, some))
 
-pub optional_text_tells : (a b : Option (List ℕ)) → Same (optional_text a) (optional_text b) → a ≡ b
-optional_text_tells None None s = refl
-optional_text_tells None (Some b) s = absurd (null_differs s refl)
-optional_text_tells (Some a) None s = absurd (some_differs s refl)
-optional_text_tells (Some a) (Some b) s = ap Some (string_tells a b s)
+pub optional_text_determines : (a b : Option (List ℕ)) → Same (optional_text a) (optional_text b) → a ≡ b
+optional_text_determines None None s = refl
+optional_text_determines None (Some b) s = absurd (null_differs s refl)
+optional_text_determines (Some a) None s = absurd (some_differs s refl)
+optional_text_determines (Some a) (Some b) s = ap Some (string_determines a b s)
 
-pub optional_number_tells : (a b : Option ℕ) → Same (optional_number a) (optional_number b) → a ≡ b
-optional_number_tells None None s = refl
-optional_number_tells None (Some b) s = absurd (null_differs s refl)
-optional_number_tells (Some a) None s = absurd (some_differs s refl)
-optional_number_tells (Some a) (Some b) s = ap Some (number_tells a b s)
+pub optional_number_determines : (a b : Option ℕ) → Same (optional_number a) (optional_number b) → a ≡ b
+optional_number_determines None None s = refl
+optional_number_determines None (Some b) s = absurd (null_differs s refl)
+optional_number_determines (Some a) None s = absurd (some_differs s refl)
+optional_number_determines (Some a) (Some b) s = ap Some (number_determines a b s)
 
 -- arrays
 
@@ -99,31 +99,31 @@ items_in (string s) = no_items
 items_in (array js) = js
 items_in (object ms) = no_items
 
--- values that a function writes, of each of which P holds, are told by what it writes
-abbrev pub Tells : {A : Type 0} → (A → Type 0) → (A → Json) → Type 0
-Tells {A} P f = (x y : A) → P x → P y → Same (f x) (f y) → x ≡ y
+-- values that a function writes, of each of which P holds, are given by what it writes
+abbrev pub Gives : {A : Type 0} → (A → Type 0) → (A → Json) → Type 0
+Gives {A} P f = (x y : A) → P x → P y → Same (f x) (f y) → x ≡ y
 
-items_tell : {A : Type 0} (P : A → Type 0) (f : A → Json) → Tells P f → (xs ys : List A) → All P xs → All P ys → items_of (map f xs) ≡ items_of (map f ys) → AreShort (items_tokens (items_of (map f xs))) → xs ≡ ys
-items_tell P f tells [] [] p q is short = refl
-items_tell P f tells [] (y ∷ ys) p q is short = absurd (cc is)
-items_tell P f tells (x ∷ xs) [] p q is short = absurd (cc is)
-items_tell P f tells (x ∷ xs) (y ∷ ys) p q is short =
+items_determine : {A : Type 0} (P : A → Type 0) (f : A → Json) → Gives P f → (xs ys : List A) → All P xs → All P ys → items_of (map f xs) ≡ items_of (map f ys) → AreShort (items_tokens (items_of (map f xs))) → xs ≡ ys
+items_determine P f gives [] [] p q is short = refl
+items_determine P f gives [] (y ∷ ys) p q is short = absurd (cc is)
+items_determine P f gives (x ∷ xs) [] p q is short = absurd (cc is)
+items_determine P f gives (x ∷ xs) (y ∷ ys) p q is short =
     let more = items_tokens (items_of (map f xs)) in
-    let first = tells x y (p 0 x (omega arith)) (q 0 y (omega arith)) (record { is = ap first_item is; short = front_short (json_tokens (f x)) more short }) in
-    let rest = items_tell P f tells xs ys (λ k d within. p (suc k) d (omega (arith, within))) (λ k d within. q (suc k) d (omega (arith, within))) (ap rest_items is) (back_short (json_tokens (f x)) more short) in
+    let first = gives x y (p 0 x (omega arith)) (q 0 y (omega arith)) (record { is = ap first_item is; short = prefix_short (json_tokens (f x)) more short }) in
+    let rest = items_determine P f gives xs ys (λ k d within. p (suc k) d (omega (arith, within))) (λ k d within. q (suc k) d (omega (arith, within))) (ap rest_items is) (back_short (json_tokens (f x)) more short) in
     (λ i. first i ∷ rest i)
 
-pub list_tells : {A : Type 0} (P : A → Type 0) (f : A → Json) → Tells P f → (xs ys : List A) → All P xs → All P ys → Same (list (map f xs)) (list (map f ys)) → xs ≡ ys
-list_tells P f tells xs ys p q s = items_tell P f tells xs ys p q (ap items_in s.is) s.short.1
+pub list_determines : {A : Type 0} (P : A → Type 0) (f : A → Json) → Gives P f → (xs ys : List A) → All P xs → All P ys → Same (list (map f xs)) (list (map f ys)) → xs ≡ ys
+list_determines P f gives xs ys p q s = items_determine P f gives xs ys p q (ap items_in s.is) s.short.1
 
 -- the same where nothing is asked of the values
-pub each_tells : {A : Type 0} (f : A → Json) → ((x y : A) → Same (f x) (f y) → x ≡ y) → (xs ys : List A) → Same (list (map f xs)) (list (map f ys)) → xs ≡ ys
-each_tells f tells xs ys s = list_tells (λ x. ⊤) f (λ x y p q. tells x y) xs ys (λ k d within. tt) (λ k d within. tt) s
+pub each_determines : {A : Type 0} (f : A → Json) → ((x y : A) → Same (f x) (f y) → x ≡ y) → (xs ys : List A) → Same (list (map f xs)) (list (map f ys)) → xs ≡ ys
+each_determines f gives xs ys s = list_determines (λ x. ⊤) f (λ x y p q. gives x y) xs ys (λ k d within. tt) (λ k d within. tt) s
 
 -- the first value, and the others
 pub more_same : {j k : Json} {js ks : Items} → Same (array (item j js)) (array (item k ks)) → Same j k × Same (array js) (array ks)
 more_same {j} {k} {js} {ks} s = (
-  record { is = ap (λ v. first_item (items_in v)) s.is; short = front_short (json_tokens j) (items_tokens js) s.short.1 },
+  record { is = ap (λ v. first_item (items_in v)) s.is; short = prefix_short (json_tokens j) (items_tokens js) s.short.1 },
   record { is = ap (λ v. array (rest_items (items_in v))) s.is; short = (tt, back_short (json_tokens j) (items_tokens js) s.short.1) },
 )
 
@@ -155,22 +155,22 @@ rest_members (member k j ms) = ms
 
 -- the value of an object with one member
 pub tagged_same : {k l : List ℕ} {i j : Json} → Same (object (member k i no_members)) (object (member l j no_members)) → Same i j
-tagged_same {k} {l} {i} {j} s = record { is = ap (λ v. first_value (members_in v)) s.is; short = front_short (json_tokens i) (Token.end_object ∷ []) s.short.1.1 }
+tagged_same {k} {l} {i} {j} s = record { is = ap (λ v. first_value (members_in v)) s.is; short = prefix_short (json_tokens i) (Token.end_object ∷ []) s.short.1.1 }
 
-members_tell : {A : Type 0} (P : A → Type 0) (k : A → List ℕ) (f : A → Json) → ((x y : A) → P x → P y → k x ≡ k y → Same (f x) (f y) → x ≡ y) → (xs ys : List A) → All P xs → All P ys →
+members_determine : {A : Type 0} (P : A → Type 0) (k : A → List ℕ) (f : A → Json) → ((x y : A) → P x → P y → k x ≡ k y → Same (f x) (f y) → x ≡ y) → (xs ys : List A) → All P xs → All P ys →
     members_of (map (λ x. (k x, f x)) xs) ≡ members_of (map (λ x. (k x, f x)) ys) → AreShort (members_tokens (members_of (map (λ x. (k x, f x)) xs))) → xs ≡ ys
-members_tell P k f tells [] [] p q is short = refl
-members_tell P k f tells [] (y ∷ ys) p q is short = absurd (cc is)
-members_tell P k f tells (x ∷ xs) [] p q is short = absurd (cc is)
-members_tell P k f tells (x ∷ xs) (y ∷ ys) p q is short =
+members_determine P k f gives [] [] p q is short = refl
+members_determine P k f gives [] (y ∷ ys) p q is short = absurd (cc is)
+members_determine P k f gives (x ∷ xs) [] p q is short = absurd (cc is)
+members_determine P k f gives (x ∷ xs) (y ∷ ys) p q is short =
     let more = members_tokens (members_of (map (λ z. (k z, f z)) xs)) in
-    let first = tells x y (p 0 x (omega arith)) (q 0 y (omega arith)) (ap first_key is) (record { is = ap first_value is; short = front_short (json_tokens (f x)) more short.1 }) in
-    let rest = members_tell P k f tells xs ys (λ n d within. p (suc n) d (omega (arith, within))) (λ n d within. q (suc n) d (omega (arith, within))) (ap rest_members is) (back_short (json_tokens (f x)) more short.1) in
+    let first = gives x y (p 0 x (omega arith)) (q 0 y (omega arith)) (ap first_key is) (record { is = ap first_value is; short = prefix_short (json_tokens (f x)) more short.1 }) in
+    let rest = members_determine P k f gives xs ys (λ n d within. p (suc n) d (omega (arith, within))) (λ n d within. q (suc n) d (omega (arith, within))) (ap rest_members is) (back_short (json_tokens (f x)) more short.1) in
     (λ i. first i ∷ rest i)
 
-pub map_tells : {A : Type 0} (P : A → Type 0) (k : A → List ℕ) (f : A → Json) → ((x y : A) → P x → P y → k x ≡ k y → Same (f x) (f y) → x ≡ y) → (xs ys : List A) → All P xs → All P ys →
+pub map_determines : {A : Type 0} (P : A → Type 0) (k : A → List ℕ) (f : A → Json) → ((x y : A) → P x → P y → k x ≡ k y → Same (f x) (f y) → x ≡ y) → (xs ys : List A) → All P xs → All P ys →
     Same (fields (map (λ x. (k x, f x)) xs)) (fields (map (λ x. (k x, f x)) ys)) → xs ≡ ys
-map_tells P k f tells xs ys p q s = members_tell P k f tells xs ys p q (ap members_in s.is) s.short.1
+map_determines P k f gives xs ys p q s = members_determine P k f gives xs ys p q (ap members_in s.is) s.short.1
 
 -- members of an object, each if it is there
 
@@ -180,18 +180,18 @@ SameOption None (Some k) = ⊥
 SameOption (Some j) None = ⊥
 SameOption (Some j) (Some k) = Same j k
 
-pub option_tells : {A : Type 0} (P : A → Type 0) (f : A → Json) → Tells P f → (a b : Option A) → IfSome a P → IfSome b P → SameOption (option_map f a) (option_map f b) → a ≡ b
-option_tells P f tells None None p q s = refl
-option_tells P f tells None (Some b) p q s = absurd s
-option_tells P f tells (Some a) None p q s = absurd s
-option_tells P f tells (Some a) (Some b) p q s = ap Some (tells a b p q s)
+pub option_determines : {A : Type 0} (P : A → Type 0) (f : A → Json) → Gives P f → (a b : Option A) → IfSome a P → IfSome b P → SameOption (option_map f a) (option_map f b) → a ≡ b
+option_determines P f gives None None p q s = refl
+option_determines P f gives None (Some b) p q s = absurd s
+option_determines P f gives (Some a) None p q s = absurd s
+option_determines P f gives (Some a) (Some b) p q s = ap Some (gives a b p q s)
 
 pub any_option : {A : Type 0} (a : Option A) → IfSome a (λ x. ⊤)
 any_option None = tt
 any_option (Some a) = tt
 
 pub option_each : {A : Type 0} (f : A → Json) → ((x y : A) → Same (f x) (f y) → x ≡ y) → (a b : Option A) → SameOption (option_map f a) (option_map f b) → a ≡ b
-option_each f tells a b s = option_tells (λ x. ⊤) f (λ x y p q. tells x y) a b (any_option a) (any_option b) s
+option_each f gives a b s = option_determines (λ x. ⊤) f (λ x y p q. gives x y) a b (any_option a) (any_option b) s
 
 -- objects whose keys are some of a list
 
@@ -221,7 +221,7 @@ values_same (k ∷ ks) (None ∷ vs) (Some j ∷ ws) apart is short = absurd (be
 values_same (k ∷ ks) (Some j ∷ vs) (None ∷ ws) apart is short = absurd (begins_with k ks ws j (object_of ks vs) apart.0 (sym is))
 values_same (k ∷ ks) (Some j ∷ vs) (Some i ∷ ws) apart is short =
     let more = members_tokens (members_of (object_of ks vs)) in
-    (record { is = ap value_in is; short = front_short (json_tokens j) more short.1 }, values_same ks vs ws apart.1 (ap others_in is) (back_short (json_tokens j) more short.1))
+    (record { is = ap value_in is; short = prefix_short (json_tokens j) more short.1 }, values_same ks vs ws apart.1 (ap others_in is) (back_short (json_tokens j) more short.1))
 
 abbrev listed : Members → List (List ℕ × Json)
 listed no_members = []

@@ -77,21 +77,21 @@ map_unique P k f each xs distinct all = record { keys = (subst AreDistinct (sym 
 pub table_unique : {A : Type 0} (k : A → List ℕ) (f : A → Json) → ((x : A) → Unique (f x)) → (xs : List A) → AreDistinct (map k xs) → Unique (fields (map (λ x. (k x, f x)) xs))
 table_unique k f each xs distinct = map_unique (λ x. ⊤) k f (λ x p. each x) xs distinct (λ n d within. tt)
 
--- keys that differ, of which each is told by its text: so do their texts
+-- keys that differ, of which each is given by its text: so do their texts
 
 fresh_text : {A K : Type 0} (P : A → Type 0) (key : A → K) (text : A → List ℕ) → ((x y : A) → P x → P y → text x ≡ text y → key x ≡ key y) → (e : A) → P e → (es : List A) →
     ((j : ℕ) (d : K) → j < length (map key es) → key e ≢ slice_index_or (map key es) j d) → All P es → (j : ℕ) (d : List ℕ) → j < length (map text es) → text e ≢ slice_index_or (map text es) j d
-fresh_text P key text tells e p [] fresh all j d within same = absurd (omega (arith, within))
-fresh_text P key text tells e p (x ∷ es) fresh all zero d within same = fresh 0 (key x) (omega arith) (tells e x p (all 0 x (omega arith)) same)
-fresh_text P key text tells e p (x ∷ es) fresh all (suc j) d within same =
-    fresh_text P key text tells e p es (λ k c lt. fresh (suc k) c (omega (arith, lt))) (λ k c lt. all (suc k) c (omega (arith, lt))) j d (omega (arith, within)) same
+fresh_text P key text gives e p [] fresh all j d within same = absurd (omega (arith, within))
+fresh_text P key text gives e p (x ∷ es) fresh all zero d within same = fresh 0 (key x) (omega arith) (gives e x p (all 0 x (omega arith)) same)
+fresh_text P key text gives e p (x ∷ es) fresh all (suc j) d within same =
+    fresh_text P key text gives e p es (λ k c lt. fresh (suc k) c (omega (arith, lt))) (λ k c lt. all (suc k) c (omega (arith, lt))) j d (omega (arith, within)) same
 
 pub texts_distinct : {A K : Type 0} (P : A → Type 0) (key : A → K) (text : A → List ℕ) → ((x y : A) → P x → P y → text x ≡ text y → key x ≡ key y) → (es : List A) →
     AllPairs (λ a b. a ≢ b) (map key es) → All P es → AreDistinct (map text es)
-texts_distinct P key text tells [] differ all i j d lt within same = absurd (omega (arith, within))
-texts_distinct P key text tells (e ∷ es) differ all zero zero d lt within same = absurd (omega (arith, lt))
-texts_distinct P key text tells (e ∷ es) differ all zero (suc j) d lt within same =
-    fresh_text P key text tells e (all 0 e (omega arith)) es (λ k c short. differ 0 (suc k) c (omega arith) (omega (arith, short))) (λ k c short. all (suc k) c (omega (arith, short))) j d (omega (arith, within)) same
-texts_distinct P key text tells (e ∷ es) differ all (suc i) zero d lt within same = absurd (omega (arith, lt))
-texts_distinct P key text tells (e ∷ es) differ all (suc i) (suc j) d lt within same =
-    texts_distinct P key text tells es (λ k n c less short. differ (suc k) (suc n) c (omega (arith, less)) (omega (arith, short))) (λ k c short. all (suc k) c (omega (arith, short))) i j d (omega (arith, lt)) (omega (arith, within)) same
+texts_distinct P key text gives [] differ all i j d lt within same = absurd (omega (arith, within))
+texts_distinct P key text gives (e ∷ es) differ all zero zero d lt within same = absurd (omega (arith, lt))
+texts_distinct P key text gives (e ∷ es) differ all zero (suc j) d lt within same =
+    fresh_text P key text gives e (all 0 e (omega arith)) es (λ k c short. differ 0 (suc k) c (omega arith) (omega (arith, short))) (λ k c short. all (suc k) c (omega (arith, short))) j d (omega (arith, within)) same
+texts_distinct P key text gives (e ∷ es) differ all (suc i) zero d lt within same = absurd (omega (arith, lt))
+texts_distinct P key text gives (e ∷ es) differ all (suc i) (suc j) d lt within same =
+    texts_distinct P key text gives es (λ k n c less short. differ (suc k) (suc n) c (omega (arith, less)) (omega (arith, short))) (λ k c short. all (suc k) c (omega (arith, short))) i j d (omega (arith, lt)) (omega (arith, within)) same

@@ -40,11 +40,11 @@ abbrev pub result_members : Option Ty → List (List ℕ × Json)
 result_members None = []
 result_members (Some t) = at w.Result_ (type_json t) ∷ []
 
-abbrev pub function_front : Function → List (List ℕ × Json)
-function_front f = at w.Name (string f.name) ∷ at w.Kind (function_kind f.kind) ∷ at w.Params (list (map param_json f.params)) ∷ []
+abbrev pub function_prefix : Function → List (List ℕ × Json)
+function_prefix f = at w.Name (string f.name) ∷ at w.Kind (function_kind f.kind) ∷ at w.Params (list (map param_json f.params)) ∷ []
 
 abbrev pub function_members : Function → List (List ℕ × Json)
-function_members f = function_front f ++ (result_members f.result ++ (metadata_members f.docs.contents f.stability f.external_id ++ at w.Span (span_json f.span) ∷ []))
+function_members f = function_prefix f ++ (result_members f.result ++ (metadata_members f.docs.contents f.stability f.external_id ++ at w.Span (span_json f.span) ∷ []))
 
 abbrev pub function_json : Function → Json
 function_json f = fields (function_members f)

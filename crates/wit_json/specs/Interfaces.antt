@@ -15,14 +15,14 @@ abbrev pub clone_members : Option ℕ → List (List ℕ × Json)
 clone_members None = []
 clone_members (Some i) = at w.CloneOf (number_json i) ∷ []
 
-abbrev pub interface_front : Interface → List (List ℕ × Json)
-interface_front i = at w.Name (optional_text i.name) ∷ at w.Types (table_json number_json i.types) ∷ at w.Functions (table_json function_json i.functions) ∷ []
+abbrev pub interface_prefix : Interface → List (List ℕ × Json)
+interface_prefix i = at w.Name (optional_text i.name) ∷ at w.Types (table_json number_json i.types) ∷ at w.Functions (table_json function_json i.functions) ∷ []
 
 abbrev pub interface_back : Interface → List (List ℕ × Json)
 interface_back i = at w.Package (optional_number i.package) ∷ (clone_members i.clone_of ++ at w.Span (span_json i.span) ∷ [])
 
 abbrev pub interface_members : Interface → List (List ℕ × Json)
-interface_members i = interface_front i ++ (metadata_members i.docs.contents i.stability None ++ interface_back i)
+interface_members i = interface_prefix i ++ (metadata_members i.docs.contents i.stability None ++ interface_back i)
 
 abbrev pub interface_json : Interface → Json
 interface_json i = fields (interface_members i)

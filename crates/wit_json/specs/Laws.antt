@@ -5,7 +5,7 @@ use Rattle.json.specs.Strict.{HasUniqueKeys}
 use Rattle.wit_lex.specs.declared.source.Source.{Source}
 use Rattle.wit_model.specs.declared.unresolved.UnresolvedPackage.{UnresolvedPackage}
 use Rattle.wit_json.specs.Group.{group_json}
-use Rattle.wit_json.specs.Keys.{HasOwnEntries}
+use Rattle.wit_json.specs.DistinctKeys.{HasOwnEntries}
 use Rattle.wit_json.specs.Numbers.{HasShortNumbers}
 use Rattle.wit_json.specs.Plain.{IsPlainPackage}
 
@@ -35,9 +35,9 @@ abbrev pub place_of : Source → List ℕ × ℕ × ℕ
 place_of s = (string_bytes s.path, s.offset, s.offset + length (string_bytes s.contents))
 
 -- all of a group but the texts of its sources
-abbrev pub told_of : Group → List (List ℕ × ℕ × ℕ) × UnresolvedPackage × List UnresolvedPackage
-told_of g = (map place_of g.0, g.1, g.2)
+abbrev pub stated_of : Group → List (List ℕ × ℕ × ℕ) × UnresolvedPackage × List UnresolvedPackage
+stated_of g = (map place_of g.0, g.1, g.2)
 
 -- two groups with one JSON are equal, but for the texts of their sources
-abbrev pub JsonTells : Type 0
-JsonTells = (g h : Group) → IsPlain g → IsPlain h → HasShortNumbers (json_of g) → json_of g ≡ json_of h → told_of g ≡ told_of h
+abbrev pub JsonDetermines : Type 0
+JsonDetermines = (g h : Group) → IsPlain g → IsPlain h → HasShortNumbers (json_of g) → json_of g ≡ json_of h → stated_of g ≡ stated_of h

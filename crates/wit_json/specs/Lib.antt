@@ -1,7 +1,7 @@
 pub mod Functions
 pub mod Group
 pub mod Interfaces
-pub mod Keys
+pub mod DistinctKeys
 pub mod Kinds
 pub mod Laws
 pub mod Metadata

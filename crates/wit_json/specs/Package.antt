@@ -40,8 +40,8 @@ required_json r = list (number_json r.0 ∷ span_json r.1 ∷ [])
 abbrev pub name_members : PackageName → List (List ℕ × Json)
 name_members name = at w.Name (string (name_text name)) ∷ []
 
-abbrev pub package_front : UnresolvedPackage → List (List ℕ × Json)
-package_front p = name_members p.name ++ at w.Worlds (list (map world_json p.worlds)) ∷ at w.Interfaces (list (map interface_json p.interfaces)) ∷ at w.Types (list (map def_json p.types)) ∷ []
+abbrev pub package_prefix : UnresolvedPackage → List (List ℕ × Json)
+package_prefix p = name_members p.name ++ at w.Worlds (list (map world_json p.worlds)) ∷ at w.Interfaces (list (map interface_json p.interfaces)) ∷ at w.Types (list (map def_json p.types)) ∷ []
 
 abbrev pub package_middle : UnresolvedPackage → List (List ℕ × Json)
 package_middle p = at w.ForeignDeps (deps_json p.foreign_deps) ∷ (docs_members p.docs.contents ++ at w.PackageNameSpan (span_json p.name_span) ∷ [])
@@ -50,7 +50,7 @@ abbrev pub package_back : UnresolvedPackage → List (List ℕ × Json)
 package_back p = at w.UnknownTypeSpans (list (map span_json p.unknown_type_spans)) ∷ at w.ForeignDepSpans (list (map span_json p.foreign_dep_spans)) ∷ at w.RequiredResourceTypes (list (map required_json p.required_resource_types)) ∷ []
 
 abbrev pub package_members : UnresolvedPackage → List (List ℕ × Json)
-package_members p = package_front p ++ (package_middle p ++ package_back p)
+package_members p = package_prefix p ++ (package_middle p ++ package_back p)
 
 abbrev pub package_json : UnresolvedPackage → Json
 package_json p = fields (package_members p)

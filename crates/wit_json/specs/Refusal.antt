@@ -27,7 +27,7 @@ place_members (Some r) = range_members r
 abbrev pub refusal_members : ℕ → Option Range → List ℕ → List (List ℕ × Json)
 refusal_members rule place message = at w.Rule (number_json rule) ∷ (place_members place ++ at w.Message (string message) ∷ [])
 
--- the same of a refusal whose path is behind a reference
+-- the same of a refusal whose path is of a reference
 abbrev pub members_at : ℕ → Option Place → List ℕ → List (List ℕ × Json)
 members_at rule place message = refusal_members rule (optional_range place) message
 

@@ -15,11 +15,11 @@ owner_json (owner.Interface i) = tagged w.Interface (number_json i)
 owner_json owner.None = null
 
 -- its name, what it is, and its owner
-abbrev pub def_front : TypeDef → List (List ℕ × Json)
-def_front t = at w.Name (optional_text t.name) ∷ at w.Kind (kind_json t.kind) ∷ at w.Owner (owner_json t.owner) ∷ []
+abbrev pub def_prefix : TypeDef → List (List ℕ × Json)
+def_prefix t = at w.Name (optional_text t.name) ∷ at w.Kind (kind_json t.kind) ∷ at w.Owner (owner_json t.owner) ∷ []
 
 abbrev pub def_members : TypeDef → List (List ℕ × Json)
-def_members t = def_front t ++ (metadata_members t.docs.contents t.stability t.external_id ++ at w.Span (span_json t.span) ∷ [])
+def_members t = def_prefix t ++ (metadata_members t.docs.contents t.stability t.external_id ++ at w.Span (span_json t.span) ∷ [])
 
 abbrev pub def_json : TypeDef → Json
 def_json t = fields (def_members t)

@@ -65,14 +65,14 @@ include_members i = stability_members i.stability ++ at w.Id (number_json i.id) 
 abbrev pub include_json : WorldInclude → Json
 include_json i = fields (include_members i)
 
-abbrev pub world_front : World → List (List ℕ × Json)
-world_front v = at w.Name (string v.name) ∷ at w.Imports (externs_json v.imports) ∷ at w.Exports (externs_json v.exports) ∷ []
+abbrev pub world_prefix : World → List (List ℕ × Json)
+world_prefix v = at w.Name (string v.name) ∷ at w.Imports (externs_json v.imports) ∷ at w.Exports (externs_json v.exports) ∷ []
 
 abbrev pub world_back : World → List (List ℕ × Json)
 world_back v = at w.Package (optional_number v.package) ∷ (metadata_members v.docs.contents v.stability None ++ at w.Includes (list (map include_json v.includes)) ∷ at w.Span (span_json v.span) ∷ [])
 
 abbrev pub world_members : World → List (List ℕ × Json)
-world_members v = world_front v ++ world_back v
+world_members v = world_prefix v ++ world_back v
 
 abbrev pub world_json : World → Json
 world_json v = fields (world_members v)

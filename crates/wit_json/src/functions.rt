@@ -1,7 +1,7 @@
 //! Functions.
 ghost use Rattle.std.specs.Prelude.{◌≡◌, OnOk, codes};
 ghost use Rattle.wit_json.specs.Tokens.{Adds, AddsMembers};
-ghost use Rattle.wit_json.specs.Functions.{function_front, function_json, function_kind, function_members, of_resource, param_json, param_members, result_members};
+ghost use Rattle.wit_json.specs.Functions.{function_prefix, function_json, function_kind, function_members, of_resource, param_json, param_members, result_members};
 
 use crate::lists::{AsJson, write_list};
 use crate::members::{push_key, push_text, write_number};
@@ -75,7 +75,7 @@ fn push_result(out: &mut Output, ty: Option<Type>) -> Result<(), AllocError>
 }
 
 fn push_front(out: &mut Output, function: &Function) -> Result<(), AllocError>
-    ensures { OnOk result (AddsMembers out.old out.new (function_front function.now)) }
+    ensures { OnOk result (AddsMembers out.old out.new (function_prefix function.now)) }
 {
     push_text(out, Word::Name, function.name.as_str())?;
     push_key(out, Word::Kind)?;

@@ -1,7 +1,7 @@
 //! Interfaces.
 ghost use Rattle.std.specs.Prelude.{◌≡◌, OnOk};
 ghost use Rattle.wit_json.specs.Tokens.{Adds, AddsMembers};
-ghost use Rattle.wit_json.specs.Interfaces.{clone_members, interface_back, interface_front, interface_json, interface_members};
+ghost use Rattle.wit_json.specs.Interfaces.{clone_members, interface_back, interface_prefix, interface_json, interface_members};
 
 use crate::lists::{AsJson, write_table};
 use crate::members::{push_key, push_number, write_optional_id, write_optional_text};
@@ -13,7 +13,7 @@ use wit_model::Interface;
 use wit_types::InterfaceId;
 
 fn push_front(out: &mut Output, interface: &Interface) -> Result<(), AllocError>
-    ensures { OnOk result (AddsMembers out.old out.new (interface_front interface.now)) }
+    ensures { OnOk result (AddsMembers out.old out.new (interface_prefix interface.now)) }
 {
     push_key(out, Word::Name)?;
     write_optional_text(out, &interface.name)?;

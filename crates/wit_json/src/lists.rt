@@ -8,8 +8,8 @@ ghost use Rattle.wit_json.specs.Interfaces.{table_json};
 use crate::members::write_number;
 use crate::output::Output;
 use std::alloc::AllocError;
-use wit_types::{Arena, TypeId};
 use wit_maps::TextTable;
+use wit_types::{Arena, TypeId};
 
 /// A value that JSON can be written of.
 pub trait AsJson {

@@ -1,7 +1,7 @@
 //! A package.
 ghost use Rattle.std.specs.Prelude.{◌≡◌, ◌∷◌, [], OnOk};
 ghost use Rattle.wit_json.specs.Tokens.{Adds, AddsMembers};
-ghost use Rattle.wit_json.specs.Package.{ast_item_json, dep_member, dep_members, deps_json, foreign_json, name_members, package_back, package_front, package_json, package_members, package_middle, required_json};
+ghost use Rattle.wit_json.specs.Package.{ast_item_json, dep_member, dep_members, deps_json, foreign_json, name_members, package_back, package_prefix, package_json, package_members, package_middle, required_json};
 
 use crate::kinds::write_tagged;
 use crate::lists::{AsJson, write_arena, write_list, write_table};
@@ -10,10 +10,10 @@ use crate::metadata::{push_docs, push_span};
 use crate::output::Output;
 use crate::words::Word;
 use std::alloc::AllocError;
+use wit_maps::{Table, TextTable};
 use wit_model::{AstItem, UnresolvedPackage};
 use wit_package_names::PackageName;
 use wit_types::{Stability, TypeId};
-use wit_maps::{Table, TextTable};
 use wit_values::{Row, Span};
 
 fn write_ast_item(out: &mut Output, item: AstItem) -> Result<(), AllocError>
@@ -94,7 +94,7 @@ fn push_name(out: &mut Output, name: &PackageName) -> Result<(), AllocError>
 }
 
 fn push_front(out: &mut Output, resolved: &UnresolvedPackage) -> Result<(), AllocError>
-    ensures { OnOk result (AddsMembers out.old out.new (package_front resolved.now)) }
+    ensures { OnOk result (AddsMembers out.old out.new (package_prefix resolved.now)) }
 {
     push_name(out, &resolved.name)?;
     push_key(out, Word::Worlds)?;

@@ -1,7 +1,7 @@
 //! The entries of the arena of types.
 ghost use Rattle.std.specs.Prelude.{◌≡◌, OnOk};
 ghost use Rattle.wit_json.specs.Tokens.{Adds, AddsMembers};
-ghost use Rattle.wit_json.specs.Types.{def_front, def_json, def_members, owner_json};
+ghost use Rattle.wit_json.specs.Types.{def_prefix, def_json, def_members, owner_json};
 
 use crate::kinds::write_tagged;
 use crate::lists::AsJson;
@@ -23,7 +23,7 @@ fn write_owner(out: &mut Output, owner: TypeOwner) -> Result<(), AllocError>
 }
 
 fn push_front(out: &mut Output, def: &TypeDef) -> Result<(), AllocError>
-    ensures { OnOk result (AddsMembers out.old out.new (def_front def.now)) }
+    ensures { OnOk result (AddsMembers out.old out.new (def_prefix def.now)) }
 {
     push_key(out, Word::Name)?;
     write_optional_text(out, &def.name)?;

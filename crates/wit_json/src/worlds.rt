@@ -3,7 +3,7 @@ ghost use Rattle.std.specs.Prelude.{◌≡◌, ◌++◌, ◌∷◌, [], IfOk, On
 ghost use Rattle.json.specs.Token as token;
 ghost use Rattle.wit_json.specs.Tokens.{Adds, AddsMembers};
 ghost use Rattle.wit_json.specs.Values.{fields};
-ghost use Rattle.wit_json.specs.Worlds.{extern_member, extern_members, externs_json, import_json, import_members, include_json, include_members, interface_key, item_json, rename_json, rename_members, type_members, world_back, world_front, world_json, world_key, world_members};
+ghost use Rattle.wit_json.specs.Worlds.{extern_member, extern_members, externs_json, import_json, import_members, include_json, include_members, interface_key, item_json, rename_json, rename_members, type_members, world_back, world_prefix, world_json, world_key, world_members};
 
 use crate::lists::{AsJson, write_list};
 use crate::members::{open, push_key, push_number, push_text, write_optional_id};
@@ -11,9 +11,9 @@ use crate::metadata::{push_docs, push_external, push_span, push_stability};
 use crate::output::Output;
 use crate::words::Word;
 use std::alloc::{AllocError, Global};
+use wit_maps::Table;
 use wit_model::{IncludeName, World, WorldInclude, WorldItem, WorldKey};
 use wit_types::{Docs, InterfaceId, Stability, TypeId};
-use wit_maps::Table;
 use wit_values::{Rare, Span, Text};
 
 fn push_import(
@@ -184,7 +184,7 @@ impl AsJson for WorldInclude {
 }
 
 fn push_front(out: &mut Output, world: &World) -> Result<(), AllocError>
-    ensures { OnOk result (AddsMembers out.old out.new (world_front world.now)) }
+    ensures { OnOk result (AddsMembers out.old out.new (world_prefix world.now)) }
 {
     push_text(out, Word::Name, world.name.as_str())?;
     push_key(out, Word::Imports)?;

@@ -8,7 +8,7 @@ use Rattle.wit_package_names.specs.declared.package_name.PackageName.{PackageNam
 use Rattle.wit_model.specs.declared.ast_item.AstItem.{AstItem}
 use Rattle.wit_syntax.specs.Address.{ForeignNamed, package_of, same_address, same_package}
 use Rattle.wit_syntax.specs.Foreign.{ForeignVisit, visited, foreign_items, foreign_packages, foreign_visits}
-use Rattle.wit_syntax.specs.Notes.{stability_of}
+use Rattle.wit_syntax.specs.Metadata.{stability_of}
 use Rattle.wit_syntax.specs.Repeats.{AllDiffer}
 use Rattle.wit_syntax.proofs.Addresses.{same_package-equal, same_package-from}
 use Rattle.wit_syntax.proofs.Firsts.{firsts_differ}
@@ -17,7 +17,7 @@ use Rattle.wit_syntax.proofs.Lists.{map_map}
 use Rattle.wit_syntax.proofs.Repeated.{differ_at, differ_by}
 use Rattle.wit_arena.specs.Whole.{dep, foreign_entry}
 use Rattle.wit_arena.proofs.Visits.{visits_differ}
-use Rattle.wit_json.specs.Keys.{HasOwnKeys}
+use Rattle.wit_json.specs.DistinctKeys.{HasOwnKeys}
 use Rattle.wit_json_laws.proofs.Lists.{all_map, own_keys}
 
 -- the items of another package

@@ -23,7 +23,7 @@ use Rattle.wit_grammar.specs.Trees.{Name, Release, Text}
 use Rattle.wit_grammar.proofs.LeafReads.{bind_ok, with_value}
 use Rattle.wit_grammar.proofs.Spelled.{same_made}
 use Rattle.wit_grammar.proofs.Tokens.{chosen}
-use Rattle.wit_json_laws.specs.Trees.{IsPlainText, IsPlainWord}
+use Rattle.wit_json_laws.specs.PlainTrees.{IsPlainText, IsPlainWord}
 use Rattle.wit_json_laws.proofs.Lists.{all_more, all_none}
 
 -- P holds of all that the grammar spells
@@ -67,7 +67,7 @@ pub gives_listed : {A : Type 0} (P : A → Type 0) (opening close : Kind) (g : G
 gives_listed P opening close g one [] s e h = all_none P
 gives_listed P opening close g one (x ∷ xs) s e h = are_listed P g close one x xs h.0 e h.2
 
--- of what is spelled after something else, or in front of it
+-- of what is spelled after something else, or before it
 pub gives_second : {A B : Type 0} (P : B → Type 0) (g : Gram A) (k : Gram B) → Gives P k → Gives P (both (λ (y : A) (x : B). x) g k)
 gives_second {A} {B} P g k two = gives_both P (λ (a : A). ⊤) P (λ (y : A) (x : B). x) g k (gives_any g) two (λ a b q r. r)
 

@@ -8,7 +8,7 @@ pub mod Owned
 pub mod Placed
 pub mod PlainGroups
 pub mod PlainItems
-pub mod PlainNotes
+pub mod PlainMetadata
 pub mod PlainPackage
 pub mod PlainParts
 pub mod PlainTypes

@@ -6,7 +6,7 @@ use Rattle.wit_syntax.specs.Repeats.{AllDiffer}
 use Rattle.wit_syntax.proofs.Lists.{at_split, map_at}
 use Rattle.wit_syntax.proofs.Orders.{take_next}
 use Rattle.wit_syntax.proofs.Repeated.{differ_none}
-use Rattle.wit_json.specs.Keys.{HasOwnKeys}
+use Rattle.wit_json.specs.DistinctKeys.{HasOwnKeys}
 
 pub all_at : {X : Type 0} (P : X → Type 0) (xs : List X) → ((i : ℕ) (x : X) → slice_get xs i ≡ Some x → P x) → All P xs
 all_at P xs each k d within = each k (slice_index_or xs k d) (slice_get-get_or xs k d within)
@@ -33,7 +33,7 @@ all_both P xs ys a b = all_at P (xs ++ ys) (λ i x at. elim (at_split xs ys i x 
   | inr h ↦ at_all P ys b h.0 x h.2
 ])
 
--- one more element of the front of a list
+-- one more element of the prefix of a list
 pub all_next : {X : Type 0} (P : X → Type 0) (xs : List X) (i : ℕ) (x : X) → slice_get xs i ≡ Some x → All P (take i xs) → P x → All P (take (i + 1) xs)
 all_next {X} P xs i x at all one = subst (λ (l : List X). All P l) (sym (take_next xs i x at)) (all_both P (take i xs) (x ∷ []) all (all_more P x [] one (all_none P)))
 

@@ -11,7 +11,7 @@ use Rattle.wit_functions.specs.Setters.{placed}
 use Rattle.wit_graph.specs.Table.{IsOrder}
 use Rattle.wit_syntax.specs.Address.{Address}
 use Rattle.wit_syntax.specs.Broken.{Sides, IsLegal}
-use Rattle.wit_syntax.specs.Crossing.{same_side}
+use Rattle.wit_syntax.specs.ExternPart.{same_side}
 use Rattle.wit_syntax.specs.Fault.{fault}
 use Rattle.wit_syntax.specs.Foreign.{ForeignVisit, visited, foreign_interfaces}
 use Rattle.wit_syntax.specs.Function.{SourceFunction, functions}
@@ -20,7 +20,7 @@ use Rattle.wit_syntax.specs.Scope.{AreDistinct, interfaces_of, rows_of, worlds_o
 use Rattle.wit_syntax.specs.Sides.{SideItem, FoldedTwice, all_scopes, inline_items, items_on, on_side, role_side, side_called, side_items}
 use Rattle.wit_syntax.specs.Signature.{Called}
 use Rattle.wit_syntax.specs.Source.{Item, ScopeName, address, all_items, is_world, local_name, scope_names}
-use Rattle.wit_syntax.specs.Trees.{scope}
+use Rattle.wit_syntax.specs.ScopesOfTrees.{scope}
 use Rattle.wit_syntax.proofs.Found.{contains_at}
 use Rattle.wit_syntax.proofs.Inline.{inline_interface}
 use Rattle.wit_syntax.proofs.Kept.{kept_at}
@@ -32,11 +32,11 @@ use Rattle.wit_syntax.proofs.Scopes.{scopes_declared, scopes_inline}
 use Rattle.wit_syntax.proofs.Sides.{functions_imported, kept_all, side_items_functions}
 use Rattle.wit_syntax.proofs.Turns.{in_turn_distinct}
 use Rattle.wit_arena.specs.Made.{AreInOrder, AreNamesInOrder, foreign_interface, function_in, name_places, names_in_turn, own_interface, own_interfaces}
-use Rattle.wit_arena.specs.Meet.{Key, Def}
+use Rattle.wit_arena.specs.Occurrences.{Key, Def}
 use Rattle.wit_arena.proofs.FunctionNames.{names_differ as function_names_differ}
 use Rattle.wit_arena.proofs.Itemizing.{items_within}
 use Rattle.wit_arena.proofs.LegalScopes.{all_differ, names_differ, scope_differs}
-use Rattle.wit_json.specs.Keys.{HasOwnKeys, HasOwnMembers}
+use Rattle.wit_json.specs.DistinctKeys.{HasOwnKeys, HasOwnMembers}
 use Rattle.wit_json_laws.proofs.Lists.{all_both, all_map, no_keys, own_keys}
 use Rattle.wit_json_laws.proofs.Placed.{placed_differ}
 

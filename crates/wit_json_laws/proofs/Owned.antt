@@ -8,7 +8,7 @@ use Rattle.wit_syntax.specs.Broken.{IsLegal}
 use Rattle.wit_arena.specs.Made.{Makes, world_scopes}
 use Rattle.wit_arena.proofs.MadePackage.{made_of_package}
 use Rattle.wit_groups.specs.Groups.{IsGroup}
-use Rattle.wit_json.specs.Keys.{HasOwnEntries, HasOwnKeys, HasOwnMembers, HasOwnSides}
+use Rattle.wit_json.specs.DistinctKeys.{HasOwnEntries, HasOwnKeys, HasOwnMembers, HasOwnSides}
 use Rattle.wit_json.specs.Laws.{HasOwnMaps}
 use Rattle.wit_json_laws.proofs.Deps.{Dep, dep_items, dep_keys}
 use Rattle.wit_json_laws.proofs.Lists.{all_at}

@@ -12,14 +12,14 @@ use Rattle.wit_syntax.proofs.Lists.{at_split}
 use Rattle.wit_arena.specs.Faithful.{IsMadeOf}
 use Rattle.wit_arena.proofs.MadePackage.{made_of_package}
 use Rattle.wit_nested.specs.Nested.{GrowByNested, IsMadeByNested, file_of}
-use Rattle.wit_groups.specs.Groups.{AreTaken, IsGroup, IsTree}
-use Rattle.wit_groups.specs.Groups.AreTaken.{None, More}
+use Rattle.wit_groups.specs.Groups.{AreUsed, IsGroup, IsTree}
+use Rattle.wit_groups.specs.Groups.AreUsed.{None, More}
 use Rattle.wit_json.specs.Laws.{IsPlain}
 use Rattle.wit_json.specs.Plain.{IsPlainPackage}
 use Rattle.wit_json_laws.specs.Laws.{IsPlainWhereMade}
-use Rattle.wit_json_laws.specs.Trees.{HasPlainNames, IsPlainFile, IsPlainNested}
+use Rattle.wit_json_laws.specs.PlainTrees.{HasPlainNames, IsPlainFile, IsPlainNested}
 use Rattle.wit_json_laws.proofs.Lists.{all_at, all_both, all_more, all_none, at_all}
-use Rattle.wit_json_laws.proofs.PlainNotes.{all_seen}
+use Rattle.wit_json_laws.proofs.PlainMetadata.{all_seen}
 use Rattle.wit_json_laws.proofs.SpelledFiles.{spelled_plain}
 
 -- plain legal files make the package
@@ -39,10 +39,10 @@ nested_plain : (n : NestedPackage) → IsPlainNested (see_nested n) → HasPlain
 nested_plain n h = record { header = h.name; declarations = h.declarations }
 
 -- ---- the files of the main package
-taken_plain : (turn : List Source) (files : List PackageFile) (nested : List UnresolvedPackage) → AreTaken turn files nested → All HasPlainNames files
-taken_plain turn files nested None = all_none HasPlainNames
-taken_plain turn files nested (More sources before packages kept s read taken tree fit grow) =
-    all_both HasPlainNames before (read.file ∷ []) (taken_plain sources before packages taken) (all_more HasPlainNames read.file [] (file_plain read (read_plain s read tree)) (all_none HasPlainNames))
+used_plain : (turn : List Source) (files : List PackageFile) (nested : List UnresolvedPackage) → AreUsed turn files nested → All HasPlainNames files
+used_plain turn files nested None = all_none HasPlainNames
+used_plain turn files nested (More sources before packages kept s read in_use tree fit grow) =
+    all_both HasPlainNames before (read.file ∷ []) (used_plain sources before packages in_use) (all_more HasPlainNames read.file [] (file_plain read (read_plain s read tree)) (all_none HasPlainNames))
 
 -- ---- nested packages
 zip_plain : (ns : List NestedPackage) (ps : List UnresolvedPackage) → AllZip IsMadeByNested ns ps → ((k : ℕ) (n : NestedPackage) → slice_get ns k ≡ Some n → HasPlainNames (file_of n)) → (k : ℕ) (p : UnresolvedPackage) → slice_get ps k ≡ Some p → IsPlainMade p
@@ -57,27 +57,27 @@ zip_plain (n ∷ ns) (q ∷ ps) all plain (suc k) p at = zip_plain ns ps all.1 (
 abbrev ArePlainMade : List UnresolvedPackage → Type 0
 ArePlainMade ps = (k : ℕ) (p : UnresolvedPackage) → slice_get ps k ≡ Some p → IsPlainMade p
 
-grown_plain : (ns : List NestedPackage) (old new : List UnresolvedPackage) → GrowByNested ns old new → ((k : ℕ) (n : NestedPackage) → slice_get ns k ≡ Some n → HasPlainNames (file_of n)) → ArePlainMade old → ArePlainMade new
-grown_plain ns old new grow plain made k p at = elim (at_split old grow.made k p (ap (λ (l : List UnresolvedPackage). slice_get l k) (sym grow.grown) ∙ at)) [
-  | inl front ↦ made k p front
+extended_plain : (ns : List NestedPackage) (old new : List UnresolvedPackage) → GrowByNested ns old new → ((k : ℕ) (n : NestedPackage) → slice_get ns k ≡ Some n → HasPlainNames (file_of n)) → ArePlainMade old → ArePlainMade new
+extended_plain ns old new grow plain made k p at = elim (at_split old grow.made k p (ap (λ (l : List UnresolvedPackage). slice_get l k) (sym grow.extended) ∙ at)) [
+  | inl prefix ↦ made k p prefix
   | inr back ↦ zip_plain ns grow.made grow.each plain back.0 p back.2
 ]
 
 no_packages : ArePlainMade []
 no_packages k p at = absurd (let wrong : ⊥ = cc in wrong)
 
-packages_made : (turn : List Source) (files : List PackageFile) (nested : List UnresolvedPackage) → AreTaken turn files nested → ArePlainMade nested
+packages_made : (turn : List Source) (files : List PackageFile) (nested : List UnresolvedPackage) → AreUsed turn files nested → ArePlainMade nested
 packages_made turn files nested None = no_packages
-packages_made turn files nested (More sources before packages kept s read taken tree fit grow) =
+packages_made turn files nested (More sources before packages kept s read in_use tree fit grow) =
     let whole = read_plain s read tree in
-    grown_plain read.nested.items packages kept grow (λ k n at. nested_plain n (all_seen IsPlainNested see_nested read.nested.items whole.nested k n at)) (packages_made sources before packages taken)
+    extended_plain read.nested.items packages kept grow (λ k n at. nested_plain n (all_seen IsPlainNested see_nested read.nested.items whole.nested k n at)) (packages_made sources before packages in_use)
 
 module _ (sources : List Source) (main : UnresolvedPackage) (nested : List UnresolvedPackage) (group : IsGroup sources main nested) where
   pub main_made : IsPlainMade main
-  main_made = (group.files, taken_plain group.turn group.files nested group.taken, group.made)
+  main_made = (group.files, used_plain group.turn group.files nested group.in_use, group.made)
 
   pub nested_made : (k : ℕ) (p : UnresolvedPackage) → slice_get nested k ≡ Some p → IsPlainMade p
-  nested_made = packages_made group.turn group.files nested group.taken
+  nested_made = packages_made group.turn group.files nested group.in_use
 
   pub plain_group : IsPlainWhereMade main → All IsPlainWhereMade nested → IsPlain (sources, main, nested)
   plain_group one each = record {

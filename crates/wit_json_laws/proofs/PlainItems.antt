@@ -18,19 +18,19 @@ use Rattle.wit_tree.specs.declared.tree.WorldSide.{WorldSide}
 use Rattle.wit_tree.specs.declared.tree.WorldSide.TheVariants.{Imported, Exported}
 use Rattle.wit_grammar.specs.Seen.{see_declaration, see_kind, see_package_id, see_path}
 use Rattle.wit_syntax.specs.Broken.{last_header}
-use Rattle.wit_syntax.specs.Crossing.{extern_paths, inline_uses, same_side}
+use Rattle.wit_syntax.specs.ExternPart.{extern_paths, inline_uses, same_side}
 use Rattle.wit_syntax.specs.Foreign.{ForeignVisit, declaration_visits, extern_visits, file_visits, foreign_visits, part_visits, path_visits}
 use Rattle.wit_syntax.specs.Function.{functions, part_functions}
 use Rattle.wit_syntax.specs.Scope.{part_uses, uses}
 use Rattle.wit_syntax.specs.Sides.{SideInline, all_scopes, inline_items, part_items, side_items}
-use Rattle.wit_syntax.specs.Source.{Part, Defining, Using, Including, Doing, Crossing, Item, TopName, TheInterface, TheWorld, about, all_items, at_side, declared_items, file_items, part_names, parts, scope_names, Taking, takings, top_names, walk}
+use Rattle.wit_syntax.specs.Source.{Part, DefinitionPart, UsePart, IncludePart, FunctionPart, ExternPart, Item, TopName, TheInterface, TheWorld, about, all_items, at_side, declared_items, file_items, part_names, parts, scope_names, ForeignUse, foreign_uses, top_names, walk}
 use Rattle.wit_syntax.proofs.Found.{at_contains}
 use Rattle.wit_syntax.proofs.Inline.{IsWritten, inline_items_at}
 use Rattle.wit_syntax.proofs.Scopes.{scopes_either}
-use Rattle.wit_arena.proofs.Takings.{IsTakenAt, taken_at}
-use Rattle.wit_json_laws.specs.Trees.{HasPlainNames, IsPlainDeclaration, IsPlainKind, IsPlainPackageId, IsPlainPath}
+use Rattle.wit_arena.proofs.ForeignUses.{IsUsedAt, used_at}
+use Rattle.wit_json_laws.specs.PlainTrees.{HasPlainNames, IsPlainDeclaration, IsPlainKind, IsPlainPackageId, IsPlainPath}
 use Rattle.wit_json_laws.proofs.Lists.{all_at, all_both, all_more, all_none, all_tail, at_all}
-use Rattle.wit_json_laws.proofs.PlainNotes.{ArePlain, all_flat, all_seen}
+use Rattle.wit_json_laws.proofs.PlainMetadata.{ArePlain, all_flat, all_seen}
 use Rattle.wit_json_laws.proofs.PlainParts.{IsPlainPart, IsPlainScopeName, IsPlainSide, IsPlainSource, IsPlainUseOf, inline_uses_plain, interface_parts_plain, part_functions_plain, part_items_plain, part_names_plain, part_uses_plain, world_parts_plain}
 
 -- what an item has in front, and its parts
@@ -73,11 +73,11 @@ use_visits_plain : (u : Use) → IsPlainUseOf u → All IsPlainVisit (path_visit
 use_visits_plain u h = path_visits_plain u.attributes.items false u.from h.attributes h.from
 
 part_visits_plain : (p : Part) → IsPlainPart p → All IsPlainVisit (part_visits p)
-part_visits_plain (Defining d) h = all_none IsPlainVisit
-part_visits_plain (Using u) h = use_visits_plain u h
-part_visits_plain (Including i) h = path_visits_plain i.attributes.items true i.from h.attributes h.from
-part_visits_plain (Doing f) h = all_none IsPlainVisit
-part_visits_plain (Crossing x) h = all_none IsPlainVisit
+part_visits_plain (DefinitionPart d) h = all_none IsPlainVisit
+part_visits_plain (UsePart u) h = use_visits_plain u h
+part_visits_plain (IncludePart i) h = path_visits_plain i.attributes.items true i.from h.attributes h.from
+part_visits_plain (FunctionPart f) h = all_none IsPlainVisit
+part_visits_plain (ExternPart x) h = all_none IsPlainVisit
 
 extern_paths_plain : (k : ExternKind) → IsPlainKind (see_kind k) → All (λ (p : UsePath). IsPlainPath (see_path p)) (extern_paths k)
 extern_paths_plain (extern.Interface name items) h = all_none (λ (p : UsePath). IsPlainPath (see_path p))
@@ -85,24 +85,24 @@ extern_paths_plain (extern.Path p) h = all_more (λ (p : UsePath). IsPlainPath (
 extern_paths_plain (extern.Func name f) h = all_none (λ (p : UsePath). IsPlainPath (see_path p))
 extern_paths_plain (extern.NamedPath name p) h = all_more (λ (p : UsePath). IsPlainPath (see_path p)) p [] h.1 (all_none (λ (p : UsePath). IsPlainPath (see_path p)))
 
-extern_visits_plain : (x : Extern) → IsPlainPart (Crossing x) → All IsPlainVisit (extern_visits x)
+extern_visits_plain : (x : Extern) → IsPlainPart (ExternPart x) → All IsPlainVisit (extern_visits x)
 extern_visits_plain x h =
     let used = λ (u : Use). path_visits u.attributes.items false u.from in
-    let led = path_visits x.attributes.items false in
-    all_both IsPlainVisit (flat_map used (inline_uses x.kind)) (flat_map led (extern_paths x.kind))
+    let path_target = path_visits x.attributes.items false in
+    all_both IsPlainVisit (flat_map used (inline_uses x.kind)) (flat_map path_target (extern_paths x.kind))
     (all_flat IsPlainVisit used (inline_uses x.kind) (λ k u at. use_visits_plain u (at_all IsPlainUseOf (inline_uses x.kind) (inline_uses_plain x.kind h.kind) k u at)))
-    (all_flat IsPlainVisit led (extern_paths x.kind) (λ k p at. path_visits_plain x.attributes.items false p h.attributes (at_all (λ (p : UsePath). IsPlainPath (see_path p)) (extern_paths x.kind) (extern_paths_plain x.kind h.kind) k p at)))
+    (all_flat IsPlainVisit path_target (extern_paths x.kind) (λ k p at. path_visits_plain x.attributes.items false p h.attributes (at_all (λ (p : UsePath). IsPlainPath (see_path p)) (extern_paths x.kind) (extern_paths_plain x.kind h.kind) k p at)))
 
 one_side : {X : Type 0} (P : X → Type 0) (b : Bool) (xs : List X) → All P xs → All P (cond b xs [])
 one_side P true xs h = h
 one_side P false xs h = all_none P
 
 at_side_plain : (side : WorldSide) (p : Part) → IsPlainPart p → All IsPlainVisit (at_side extern_visits side p)
-at_side_plain side (Defining d) h = all_none IsPlainVisit
-at_side_plain side (Using u) h = all_none IsPlainVisit
-at_side_plain side (Including i) h = all_none IsPlainVisit
-at_side_plain side (Doing f) h = all_none IsPlainVisit
-at_side_plain side (Crossing x) h = one_side IsPlainVisit (same_side side x.side) (extern_visits x) (extern_visits_plain x h)
+at_side_plain side (DefinitionPart d) h = all_none IsPlainVisit
+at_side_plain side (UsePart u) h = all_none IsPlainVisit
+at_side_plain side (IncludePart i) h = all_none IsPlainVisit
+at_side_plain side (FunctionPart f) h = all_none IsPlainVisit
+at_side_plain side (ExternPart x) h = one_side IsPlainVisit (same_side side x.side) (extern_visits x) (extern_visits_plain x h)
 
 walk_plain : (ps : List Part) → All IsPlainPart ps → All IsPlainVisit (walk part_visits extern_visits ps)
 walk_plain ps h =
@@ -162,12 +162,12 @@ module _ (files : List PackageFile) (plain : All HasPlainNames files) where
   pub visits_plain : All IsPlainVisit (foreign_visits files)
   visits_plain = all_flat IsPlainVisit file_visits files (λ k f at. file_visits_plain f (at_all HasPlainNames files plain k f at))
 
-  of_use : (t : Taking) → IsTakenAt files t → ArePlain t.attributes
+  of_use : (t : ForeignUse) → IsUsedAt files t → ArePlain t.attributes
   of_use t it =
       let i = at_all IsPlainScope (all_items files) items_plain it.place it.item it.at in
       let j = at_contains (uses it.item) it.part it.among in
       let u = at_all IsPlainUseOf (uses it.item) (uses_plain it.item i) j.0 it.part j.1 in
-      subst (λ (s : Taking). ArePlain s.attributes) (sym it.is) u.attributes
+      subst (λ (s : ForeignUse). ArePlain s.attributes) (sym it.is) u.attributes
 
-  pub takings_plain : All (λ (t : Taking). ArePlain t.attributes) (takings files)
-  takings_plain = all_at (λ (t : Taking). ArePlain t.attributes) (takings files) (λ k t at. of_use t (taken_at files k t at))
+  pub foreign_uses_plain : All (λ (t : ForeignUse). ArePlain t.attributes) (foreign_uses files)
+  foreign_uses_plain = all_at (λ (t : ForeignUse). ArePlain t.attributes) (foreign_uses files) (λ k t at. of_use t (used_at files k t at))

@@ -26,35 +26,35 @@ use Rattle.wit_model.specs.declared.world.WorldKey.TheVariants as key
 use Rattle.wit_grammar.specs.Seen.{see_include, see_package_id}
 use Rattle.wit_syntax.specs.Address.{Address, package_of, same_address, same_package}
 use Rattle.wit_syntax.specs.Broken.{IsLegal, last_header}
-use Rattle.wit_syntax.specs.Crossing.{same_side}
+use Rattle.wit_syntax.specs.ExternPart.{same_side}
 use Rattle.wit_syntax.specs.Foreign.{ForeignVisit, foreign_interfaces, foreign_items, foreign_packages, foreign_visits, foreign_worlds, visited}
 use Rattle.wit_syntax.specs.Function.{SourceFunction, functions}
-use Rattle.wit_syntax.specs.Notes.{stability_of}
+use Rattle.wit_syntax.specs.Metadata.{stability_of}
 use Rattle.wit_syntax.specs.Scope.{includes, part_includes, worlds_of}
 use Rattle.wit_syntax.specs.Sides.{SideItem, SideFunction, SideLink, SideInline, inline_items, role_side, side_items}
-use Rattle.wit_syntax.specs.Source.{Part, Defining, Using, Including, Doing, Crossing, Item, ScopeName, TopName, about, address, local_id, local_name, parts, path_scope}
+use Rattle.wit_syntax.specs.Source.{Part, DefinitionPart, UsePart, IncludePart, FunctionPart, ExternPart, Item, ScopeName, TopName, about, address, local_id, local_name, parts, path_scope}
 use Rattle.wit_syntax.proofs.Firsts.{firsts_at}
 use Rattle.wit_syntax.proofs.Kept.{kept_at}
 use Rattle.wit_syntax.proofs.Scopes.{scopes_declared}
 use Rattle.wit_arena.specs.Made.{Makes, entries_on, foreign_interface, foreign_world, function_in, include_in, interface_scopes, name_imports, names_in_turn, own_interface, own_interfaces, own_world, scope_place, side_entries, world_entries, world_scopes}
-use Rattle.wit_arena.specs.Meet.{Key, Def}
+use Rattle.wit_arena.specs.Occurrences.{Key, Def}
 use Rattle.wit_arena.specs.SideItems.{inline_entry, link_item, link_key, settled}
 use Rattle.wit_arena.specs.Whole.{dep, foreign_entry}
 use Rattle.wit_arena.proofs.Placed.{placed_at}
 use Rattle.wit_parser.specs.Ids.{AreIdsWithin, AreItemsWithin, IsKeyWithin}
 use Rattle.wit_json.specs.Plain.{HasVersions, IsPlainDep, IsPlainExtern, IsPlainInterface, IsPlainItem, IsPlainKey, IsPlainName, IsPlainPackage, IsPlainWorld}
-use Rattle.wit_json_laws.specs.Trees.{HasPlainNames, IsPlainInclude, IsPlainPackageId, IsPlainText}
+use Rattle.wit_json_laws.specs.PlainTrees.{HasPlainNames, IsPlainInclude, IsPlainPackageId, IsPlainText}
 use Rattle.wit_json_laws.proofs.Deps.{Dep}
 use Rattle.wit_json_laws.proofs.Lists.{all_at, all_both, all_map, all_more, all_none, all_tail, at_all}
 use Rattle.wit_json_laws.proofs.Members.{interfaces_among, worlds_declared}
 use Rattle.wit_json_laws.proofs.PlainItems.{IsPlainScope, IsPlainVisit, functions_plain, last_header_plain, scope_plain, sides_plain, visits_plain}
-use Rattle.wit_json_laws.proofs.PlainNotes.{all_flat, no_colon, package_plain, stability_plain}
+use Rattle.wit_json_laws.proofs.PlainMetadata.{all_flat, no_colon, package_plain, stability_plain}
 use Rattle.wit_json_laws.proofs.PlainParts.{IsPlainPart, IsPlainScopeName, IsPlainSide, IsPlainSource}
 use Rattle.wit_json_laws.proofs.PlainTypes.{turn_names, types_plain}
 
 -- ---- setters placed
-all_placed : {K V : Type 0} (tells : V → Option Function) (P : K × V → Type 0) (es : List (K × V)) → All P es → All P (placed tells es)
-all_placed tells P es h = all_at P (placed tells es) (λ i x at. (let k = placed_at (pairs tells) es i x at in at_all P es h k.0 x k.1))
+all_placed : {K V : Type 0} (gives : V → Option Function) (P : K × V → Type 0) (es : List (K × V)) → All P es → All P (placed gives es)
+all_placed gives P es h = all_at P (placed gives es) (λ i x at. (let k = placed_at (pairs gives) es i x at in at_all P es h k.0 x k.1))
 
 -- ---- interfaces
 abbrev HasStability : List ℕ × Function → Type 0
@@ -120,11 +120,11 @@ abbrev IsPlainIncludeOf : Include → Type 0
 IsPlainIncludeOf n = IsPlainInclude (see_include n)
 
 part_includes_plain : (p : Part) → IsPlainPart p → All IsPlainIncludeOf (part_includes p)
-part_includes_plain (Defining d) h = all_none IsPlainIncludeOf
-part_includes_plain (Using u) h = all_none IsPlainIncludeOf
-part_includes_plain (Including n) h = all_more IsPlainIncludeOf n [] h (all_none IsPlainIncludeOf)
-part_includes_plain (Doing f) h = all_none IsPlainIncludeOf
-part_includes_plain (Crossing x) h = all_none IsPlainIncludeOf
+part_includes_plain (DefinitionPart d) h = all_none IsPlainIncludeOf
+part_includes_plain (UsePart u) h = all_none IsPlainIncludeOf
+part_includes_plain (IncludePart n) h = all_more IsPlainIncludeOf n [] h (all_none IsPlainIncludeOf)
+part_includes_plain (FunctionPart f) h = all_none IsPlainIncludeOf
+part_includes_plain (ExternPart x) h = all_none IsPlainIncludeOf
 
 includes_plain : (i : Item) → IsPlainScope i → All IsPlainIncludeOf (includes i)
 includes_plain i h = all_flat IsPlainIncludeOf part_includes (parts i) (λ k p at. part_includes_plain p (at_all IsPlainPart (parts i) h.parts k p at))
@@ -146,10 +146,10 @@ own_world_plain : (id : Key → ℕ) (order : Address → List ℕ) (ss ws : Lis
 own_world_plain id order ss ws w h names =
     let on = λ (side : WorldSide). entries_on side (world_entries id ss w) in
     let on_side : (side : WorldSide) → All IsPlainEntry (entries_on side (world_entries id ss w)) = λ side. on_plain id (address w) ss w.top side (side_items w) (inline_items w) (sides_plain w h) in
-    let front = name_imports id (address w) (names_in_turn order w) in
+    let prefix = name_imports id (address w) (names_in_turn order w) in
     record {
       stability = stability_plain (about w.declared).attributes h.attributes;
-      imports = settled_plain (includes w) (front ++ on Imported) (all_both IsPlainEntry front (on Imported) (imports_plain id (address w) (names_in_turn order w) names) (on_side Imported));
+      imports = settled_plain (includes w) (prefix ++ on Imported) (all_both IsPlainEntry prefix (on Imported) (imports_plain id (address w) (names_in_turn order w) names) (on_side Imported));
       exports = settled_plain (includes w) (on Exported) (on_side Exported);
       includes = all_map HasIncluded (include_in ws w.top) (includes w) (λ k n at. stability_plain n.attributes.items (at_all IsPlainIncludeOf (includes w) (includes_plain w h) k n at).attributes);
     }

@@ -1,4 +1,4 @@
--- The parts of items that plain trees declare: their functions, their names and what stands on their sides.
+-- The parts of items that plain trees declare: their functions, their names and what is on their sides.
 use Rattle.std.proofs.Common.{ℕ, List, [], ◌++◌, map, Option, Some, None, refl}
 use Rattle.std.specs.Prelude.{All, IfSome, codes}
 use Rattle.wit_type_tree.specs.declared.leaves.Id.{Id}
@@ -22,22 +22,22 @@ use Rattle.wit_tree.specs.declared.tree.Use.{Use}
 use Rattle.wit_tree.specs.declared.tree.UseName.{UseName}
 use Rattle.wit_grammar.specs.Seen.{see_body, see_definition, see_extern, see_include, see_item, see_kind, see_named_func, see_resource_func, see_use, see_used, see_world_item}
 use Rattle.wit_syntax.specs.Address.{Address}
-use Rattle.wit_syntax.specs.Crossing.{inline_uses, item_uses}
+use Rattle.wit_syntax.specs.ExternPart.{inline_uses, item_uses}
 use Rattle.wit_syntax.specs.Function.{SourceFunction, accessor, definition_functions, extern_functions, free_function, part_functions, resource_function, side_function}
 use Rattle.wit_syntax.specs.Scope.{part_uses}
 use Rattle.wit_syntax.specs.Sides.{SideItem, SideFunction, SideLink, SideInline, extern_items, extern_link, part_items}
-use Rattle.wit_syntax.specs.Source.{Part, Defining, Using, Including, Doing, Crossing, ScopeName, Used, Defined, TopName, about_name, interface_part, local_name, part_names, path_scope, world_part}
+use Rattle.wit_syntax.specs.Source.{Part, DefinitionPart, UsePart, IncludePart, FunctionPart, ExternPart, ScopeName, Used, Defined, TopName, about_name, interface_part, local_name, part_names, path_scope, world_part}
 use Rattle.wit_json.specs.Plain.{HasVersions}
-use Rattle.wit_json_laws.specs.Trees.{IsPlainBody, IsPlainDefinition, IsPlainExtern, IsPlainFunction, IsPlainInclude, IsPlainItem, IsPlainKind, IsPlainMember, IsPlainText, IsPlainUse, IsPlainUsed, IsPlainWorldItem}
+use Rattle.wit_json_laws.specs.PlainTrees.{IsPlainBody, IsPlainDefinition, IsPlainExtern, IsPlainFunction, IsPlainInclude, IsPlainItem, IsPlainKind, IsPlainMember, IsPlainText, IsPlainUse, IsPlainUsed, IsPlainWorldItem}
 use Rattle.wit_json_laws.proofs.Lists.{all_map, all_more, all_none, at_all}
-use Rattle.wit_json_laws.proofs.PlainNotes.{ArePlain, all_flat, all_seen, called_plain, plain_both, stability_plain}
+use Rattle.wit_json_laws.proofs.PlainMetadata.{ArePlain, all_flat, all_seen, called_plain, plain_both, stability_plain}
 
 abbrev pub IsPlainPart : Part → Type 0
-IsPlainPart (Defining d) = IsPlainDefinition (see_definition d)
-IsPlainPart (Using u) = IsPlainUse (see_use u)
-IsPlainPart (Including i) = IsPlainInclude (see_include i)
-IsPlainPart (Doing f) = IsPlainFunction (see_named_func f)
-IsPlainPart (Crossing x) = IsPlainExtern (see_extern x)
+IsPlainPart (DefinitionPart d) = IsPlainDefinition (see_definition d)
+IsPlainPart (UsePart u) = IsPlainUse (see_use u)
+IsPlainPart (IncludePart i) = IsPlainInclude (see_include i)
+IsPlainPart (FunctionPart f) = IsPlainFunction (see_named_func f)
+IsPlainPart (ExternPart x) = IsPlainExtern (see_extern x)
 
 interface_part_plain : (x : InterfaceItem) → IsPlainItem (see_item x) → IsPlainPart (interface_part x)
 interface_part_plain (interface_item.TypeDef d) h = h
@@ -67,9 +67,9 @@ accessor_plain form.Async = refl
 accessor_plain form.Getter = refl
 accessor_plain form.Setter = refl
 
-dotted_plain : (front r f : List ℕ) (a : FuncForm) → IsPlainText front → IsPlainText r → IsPlainText f → IsPlainText (front ++ accessor a ++ (r ++ codes "." ++ f))
-dotted_plain front r f a p q h =
-    plain_both (front ++ accessor a) (r ++ codes "." ++ f) (plain_both front (accessor a) p (accessor_plain a)) (plain_both (r ++ codes ".") f (plain_both r (codes ".") q refl) h)
+dotted_plain : (prefix r f : List ℕ) (a : FuncForm) → IsPlainText prefix → IsPlainText r → IsPlainText f → IsPlainText (prefix ++ accessor a ++ (r ++ codes "." ++ f))
+dotted_plain prefix r f a p q h =
+    plain_both (prefix ++ accessor a) (r ++ codes "." ++ f) (plain_both prefix (accessor a) p (accessor_plain a)) (plain_both (r ++ codes ".") f (plain_both r (codes ".") q refl) h)
 
 member_plain : (r : Id) (f : ResourceFunc) → IsPlainText r.name.now → IsPlainMember (see_resource_func f) → IsPlainSource (resource_function r f)
 member_plain r (resource.Method f) w h = record { name = dotted_plain (codes "[method]") r.name.now f.name.name.now f.func.form refl w h.name; attributes = h.attributes }
@@ -94,28 +94,28 @@ extern_functions_plain x (extern.Func name f) a h = all_more IsPlainSource (side
 extern_functions_plain x (extern.NamedPath name path) a h = all_none IsPlainSource
 
 pub part_functions_plain : (p : Part) → IsPlainPart p → All IsPlainSource (part_functions p)
-part_functions_plain (Defining d) h = definition_functions_plain d.name d.body h.name h.body
-part_functions_plain (Using u) h = all_none IsPlainSource
-part_functions_plain (Including i) h = all_none IsPlainSource
-part_functions_plain (Doing f) h = all_more IsPlainSource (free_function f) [] (free_plain f h) (all_none IsPlainSource)
-part_functions_plain (Crossing x) h = extern_functions_plain x x.kind h.attributes h.kind
+part_functions_plain (DefinitionPart d) h = definition_functions_plain d.name d.body h.name h.body
+part_functions_plain (UsePart u) h = all_none IsPlainSource
+part_functions_plain (IncludePart i) h = all_none IsPlainSource
+part_functions_plain (FunctionPart f) h = all_more IsPlainSource (free_function f) [] (free_plain f h) (all_none IsPlainSource)
+part_functions_plain (ExternPart x) h = extern_functions_plain x x.kind h.attributes h.kind
 
 -- ---- names
--- its text is plain, and the versions that are told of it are by SemVer
+-- its text is plain, and the versions that are stated of it are by SemVer
 pub record IsPlainScopeName (x : ScopeName) : Type 0 where
   pub text : IsPlainText (local_name x)
-  pub stability : HasVersions (about_name x).notes.stability
+  pub stability : HasVersions (about_name x).metadata.stability
 
 used_name_plain : (s : Address) (attributes : List Attribute) (n : UseName) → ArePlain attributes → IsPlainUsed (see_used n) → IsPlainScopeName (Used s attributes n)
 used_name_plain s attributes n a h = record { text = called_plain n.name n.as_ h.0 h.1; stability = stability_plain attributes a }
 
 pub part_names_plain : (top : List TopName) (p : Part) → IsPlainPart p → All IsPlainScopeName (part_names top p)
-part_names_plain top (Defining d) h = all_more IsPlainScopeName (Defined d) [] (record { text = h.name; stability = stability_plain d.attributes.items h.attributes }) (all_none IsPlainScopeName)
-part_names_plain top (Using u) h =
+part_names_plain top (DefinitionPart d) h = all_more IsPlainScopeName (Defined d) [] (record { text = h.name; stability = stability_plain d.attributes.items h.attributes }) (all_none IsPlainScopeName)
+part_names_plain top (UsePart u) h =
     all_map IsPlainScopeName (Used (path_scope top u.from) u.attributes.items) u.names.items (λ k n at. used_name_plain (path_scope top u.from) u.attributes.items n h.attributes (all_seen IsPlainUsed see_used u.names.items h.names k n at))
-part_names_plain top (Including i) h = all_none IsPlainScopeName
-part_names_plain top (Doing f) h = all_none IsPlainScopeName
-part_names_plain top (Crossing x) h = all_none IsPlainScopeName
+part_names_plain top (IncludePart i) h = all_none IsPlainScopeName
+part_names_plain top (FunctionPart f) h = all_none IsPlainScopeName
+part_names_plain top (ExternPart x) h = all_none IsPlainScopeName
 
 -- ---- uses
 abbrev pub IsPlainUseOf : Use → Type 0
@@ -133,13 +133,13 @@ inline_uses_plain (extern.Func name f) h = all_none IsPlainUseOf
 inline_uses_plain (extern.NamedPath name path) h = all_none IsPlainUseOf
 
 pub part_uses_plain : (p : Part) → IsPlainPart p → All IsPlainUseOf (part_uses p)
-part_uses_plain (Defining d) h = all_none IsPlainUseOf
-part_uses_plain (Using u) h = all_more IsPlainUseOf u [] h (all_none IsPlainUseOf)
-part_uses_plain (Including i) h = all_none IsPlainUseOf
-part_uses_plain (Doing f) h = all_none IsPlainUseOf
-part_uses_plain (Crossing x) h = inline_uses_plain x.kind h.kind
+part_uses_plain (DefinitionPart d) h = all_none IsPlainUseOf
+part_uses_plain (UsePart u) h = all_more IsPlainUseOf u [] h (all_none IsPlainUseOf)
+part_uses_plain (IncludePart i) h = all_none IsPlainUseOf
+part_uses_plain (FunctionPart f) h = all_none IsPlainUseOf
+part_uses_plain (ExternPart x) h = inline_uses_plain x.kind h.kind
 
--- ---- what stands on a side
+-- ---- what is on a side
 abbrev IsPlainIdIf : Option Id → Type 0
 IsPlainIdIf o = IfSome o (λ (id : Id). IsPlainText id.name.now)
 
@@ -155,8 +155,8 @@ extern_items_plain x (extern.Func name f) a h = all_more IsPlainSide (SideFuncti
 extern_items_plain x (extern.NamedPath name path) a h = all_more IsPlainSide (SideLink (extern_link x (Some name) path)) [] (a, h.0) (all_none IsPlainSide)
 
 pub part_items_plain : (p : Part) → IsPlainPart p → All IsPlainSide (part_items p)
-part_items_plain (Defining d) h = all_map IsPlainSide SideFunction (definition_functions d.name d.body) (λ k fn at. at_all IsPlainSource (definition_functions d.name d.body) (definition_functions_plain d.name d.body h.name h.body) k fn at)
-part_items_plain (Using u) h = all_none IsPlainSide
-part_items_plain (Including i) h = all_none IsPlainSide
-part_items_plain (Doing f) h = all_more IsPlainSide (SideFunction (free_function f)) [] (free_plain f h) (all_none IsPlainSide)
-part_items_plain (Crossing x) h = extern_items_plain x x.kind h.attributes h.kind
+part_items_plain (DefinitionPart d) h = all_map IsPlainSide SideFunction (definition_functions d.name d.body) (λ k fn at. at_all IsPlainSource (definition_functions d.name d.body) (definition_functions_plain d.name d.body h.name h.body) k fn at)
+part_items_plain (UsePart u) h = all_none IsPlainSide
+part_items_plain (IncludePart i) h = all_none IsPlainSide
+part_items_plain (FunctionPart f) h = all_more IsPlainSide (SideFunction (free_function f)) [] (free_plain f h) (all_none IsPlainSide)
+part_items_plain (ExternPart x) h = extern_items_plain x x.kind h.attributes h.kind

@@ -16,71 +16,71 @@ use Rattle.wit_model.specs.declared.unresolved.UnresolvedPackage.{UnresolvedPack
 use Rattle.wit_syntax.specs.Address.{Address, InterfaceNamed, WorldNamed, InlineAt, ForeignNamed, same_address}
 use Rattle.wit_syntax.specs.Broken.{IsLegal}
 use Rattle.wit_syntax.specs.Function.{SourceFunction, signature}
-use Rattle.wit_syntax.specs.Notes.{first_known, stability_of}
+use Rattle.wit_syntax.specs.Metadata.{first_known, stability_of}
 use Rattle.wit_syntax.specs.Scope.{interfaces_of, worlds_of}
 use Rattle.wit_syntax.specs.Shape.{Shape, Shapes}
 use Rattle.wit_syntax.specs.Shape as shape
 use Rattle.wit_syntax.specs.Sides.{SideItem, SideFunction, SideLink, SideInline, all_scopes, inline_items, side_items}
-use Rattle.wit_syntax.specs.Source.{Item, ScopeName, Taken, Taking, about_name, address, first_takings, item_at, same_taking, scope_names, taken_names, takings}
-use Rattle.wit_syntax.specs.Trees.{scope}
+use Rattle.wit_syntax.specs.Source.{Item, ScopeName, ForeignName, ForeignUse, about_name, address, first_foreign_uses, item_at, same_foreign_use, scope_names, used_names, foreign_uses}
+use Rattle.wit_syntax.specs.ScopesOfTrees.{scope}
 use Rattle.wit_syntax.proofs.Firsts.{firsts_at}
 use Rattle.wit_syntax.proofs.Found.{at_contains, contains_at, find_among}
 use Rattle.wit_syntax.proofs.Kept.{kept_at}
-use Rattle.wit_syntax.proofs.Lists.{at_front, at_take, at_within, map_at}
+use Rattle.wit_syntax.proofs.Lists.{at_prefix, at_take, at_within, map_at}
 use Rattle.wit_syntax.proofs.Scopes.{scopes_declared, scopes_inline}
 use Rattle.wit_syntax.proofs.Turns.{in_turn_among}
 use Rattle.wit_arena.specs.Expr.{exprs_of}
 use Rattle.wit_arena.specs.Made.{AreInOrder, AreNamesInOrder, IsEntryOf, Makes, interface_scopes, interface_turn, item_turns, names_in_turn, turns_of_world, turns_on_sides, types_of, world_scopes}
-use Rattle.wit_arena.specs.Meet.{Key, Def, Whole, Meeting, all_function_meetings, name_meetings, shape_meetings, shapes_meetings, stability_at}
-use Rattle.wit_arena.specs.Whole.{Turned, all_meetings, owner_at, taking_meeting, turn_meetings}
+use Rattle.wit_arena.specs.Occurrences.{Key, Def, Whole, Occurrence, all_function_occurrences, name_occurrences, shape_occurrences, shapes_occurrences, stability_at}
+use Rattle.wit_arena.specs.Whole.{Turned, all_occurrences, owner_at, foreign_use_occurrence, turn_occurrences}
 use Rattle.wit_json.specs.Plain.{HasVersions}
-use Rattle.wit_json_laws.specs.Trees.{HasPlainNames}
+use Rattle.wit_json_laws.specs.PlainTrees.{HasPlainNames}
 use Rattle.wit_json_laws.proofs.Lists.{all_at, all_both, all_map, all_more, all_none, at_all}
 use Rattle.wit_json_laws.proofs.Members.{interfaces_among, worlds_declared}
-use Rattle.wit_json_laws.proofs.PlainItems.{names_plain, scope_plain, takings_plain}
-use Rattle.wit_json_laws.proofs.PlainNotes.{ArePlain, all_flat, stability_plain}
+use Rattle.wit_json_laws.proofs.PlainItems.{names_plain, scope_plain, foreign_uses_plain}
+use Rattle.wit_json_laws.proofs.PlainMetadata.{ArePlain, all_flat, stability_plain}
 use Rattle.wit_json_laws.proofs.PlainParts.{IsPlainScopeName}
 
--- ---- what is met
-abbrev HasGiven : Meeting → Type 0
+-- ---- what occurs
+abbrev HasGiven : Occurrence → Type 0
 HasGiven m = HasVersions m.given
 
-abbrev meeting_of : Address → Stability → Span → Key → Meeting
-meeting_of s given span k = record { key = k; span = span; given = given }
+abbrev occurrence_of : Address → Stability → Span → Key → Occurrence
+occurrence_of s given span k = record { key = k; span = span; given = given }
 
 mutual
-  shape_given : (s : Address) (given : Stability) (x : Shape) → HasVersions given → All HasGiven (shape_meetings s given x)
+  shape_given : (s : Address) (given : Stability) (x : Shape) → HasVersions given → All HasGiven (shape_occurrences s given x)
   shape_given s given (shape.Prim p) h = all_none HasGiven
   shape_given s given (shape.Word id) h = all_none HasGiven
   shape_given s given (shape.Of span form parts) h =
-      let whole = meeting_of s given span (Whole form (exprs_of s parts)) in
-      all_both HasGiven (shapes_meetings s given parts) (whole ∷ []) (shapes_given s given parts h) (all_more HasGiven whole [] h (all_none HasGiven))
+      let whole = occurrence_of s given span (Whole form (exprs_of s parts)) in
+      all_both HasGiven (shapes_occurrences s given parts) (whole ∷ []) (shapes_given s given parts h) (all_more HasGiven whole [] h (all_none HasGiven))
 
-  shapes_given : (s : Address) (given : Stability) (xs : Shapes) → HasVersions given → All HasGiven (shapes_meetings s given xs)
+  shapes_given : (s : Address) (given : Stability) (xs : Shapes) → HasVersions given → All HasGiven (shapes_occurrences s given xs)
   shapes_given s given shape.End h = all_none HasGiven
-  shapes_given s given (shape.More x xs) h = all_both HasGiven (shape_meetings s given x) (shapes_meetings s given xs) (shape_given s given x h) (shapes_given s given xs h)
+  shapes_given s given (shape.More x xs) h = all_both HasGiven (shape_occurrences s given x) (shapes_occurrences s given xs) (shape_given s given x h) (shapes_given s given xs h)
 
 abbrev pub HasStability : ScopeName → Type 0
-HasStability x = HasVersions (about_name x).notes.stability
+HasStability x = HasVersions (about_name x).metadata.stability
 
-name_given : (s : Address) (x : ScopeName) → HasStability x → All HasGiven (name_meetings s x)
+name_given : (s : Address) (x : ScopeName) → HasStability x → All HasGiven (name_occurrences s x)
 name_given s x h =
-    let own : Meeting = record { key = Def s (about_name x).id.name.now; span = (about_name x).span; given = (about_name x).notes.stability } in
-    let before = shapes_meetings (unwrap_or (about_name x).from s) (about_name x).notes.stability (about_name x).body.parts in
-    all_both HasGiven before (own ∷ []) (shapes_given (unwrap_or (about_name x).from s) (about_name x).notes.stability (about_name x).body.parts h) (all_more HasGiven own [] h (all_none HasGiven))
+    let own : Occurrence = record { key = Def s (about_name x).id.name.now; span = (about_name x).span; given = (about_name x).metadata.stability } in
+    let before = shapes_occurrences (unwrap_or (about_name x).from s) (about_name x).metadata.stability (about_name x).body.parts in
+    all_both HasGiven before (own ∷ []) (shapes_given (unwrap_or (about_name x).from s) (about_name x).metadata.stability (about_name x).body.parts h) (all_more HasGiven own [] h (all_none HasGiven))
 
-functions_given : (s : Address) (fns : List SourceFunction) → All HasGiven (all_function_meetings s fns)
+functions_given : (s : Address) (fns : List SourceFunction) → All HasGiven (all_function_occurrences s fns)
 functions_given s fns =
-    all_flat HasGiven (λ (fn : SourceFunction). flat_map (shape_meetings s stability.Unknown) (signature fn)) fns
-    (λ k fn at. all_flat HasGiven (shape_meetings s stability.Unknown) (signature fn) (λ j x there. shape_given s stability.Unknown x tt))
+    all_flat HasGiven (λ (fn : SourceFunction). flat_map (shape_occurrences s stability.Unknown) (signature fn)) fns
+    (λ k fn at. all_flat HasGiven (shape_occurrences s stability.Unknown) (signature fn) (λ j x there. shape_given s stability.Unknown x tt))
 
 abbrev HasNames : Turned → Type 0
 HasNames t = All HasStability t.names
 
-turn_given : (t : Turned) → HasNames t → All HasGiven (turn_meetings t)
+turn_given : (t : Turned) → HasNames t → All HasGiven (turn_occurrences t)
 turn_given t h =
-    all_both HasGiven (flat_map (name_meetings t.address) t.names) (all_function_meetings t.address t.functions)
-    (all_flat HasGiven (name_meetings t.address) t.names (λ k x at. name_given t.address x (at_all HasStability t.names h k x at))) (functions_given t.address t.functions)
+    all_both HasGiven (flat_map (name_occurrences t.address) t.names) (all_function_occurrences t.address t.functions)
+    (all_flat HasGiven (name_occurrences t.address) t.names (λ k x at. name_given t.address x (at_all HasStability t.names h k x at))) (functions_given t.address t.functions)
 
 -- ---- entries
 known_first : (xs : List Stability) → All HasVersions xs → HasVersions (first_known xs)
@@ -129,24 +129,24 @@ module _ (files : List PackageFile) (plain : All HasPlainNames files) where
       let k = at_contains (scope_names i) x among in
       (at_all IsPlainScopeName (scope_names i) (names_plain i (scope_plain files plain i there)) k.0 x k.1).stability
 
-  taking_stability : (t : Taking) (k : ℕ) → slice_get (first_takings files) k ≡ Some t → HasVersions (stability_of t.attributes)
-  taking_stability t k at =
-      let p = firsts_at same_taking (takings files) k t at in
-      stability_plain t.attributes (at_all (λ (u : Taking). ArePlain u.attributes) (takings files) (takings_plain files plain) p.0 t p.1)
+  foreign_use_stability : (t : ForeignUse) (k : ℕ) → slice_get (first_foreign_uses files) k ≡ Some t → HasVersions (stability_of t.attributes)
+  foreign_use_stability t k at =
+      let p = firsts_at same_foreign_use (foreign_uses files) k t at in
+      stability_plain t.attributes (at_all (λ (u : ForeignUse). ArePlain u.attributes) (foreign_uses files) (foreign_uses_plain files plain) p.0 t p.1)
 
-  taken_stability : (s : Address) (x : ScopeName) → Contains (taken_names files s) x → HasStability x
-  taken_stability s x among =
-      let kept = filter (λ (t : Taking). same_address t.from s) (first_takings files) in
-      let k = at_contains (taken_names files s) x among in
-      let it = map_at (λ (t : Taking). Taken t.attributes t.id) kept k.0 x k.1 in
-      let p = kept_at (λ (t : Taking). same_address t.from s) (first_takings files) k.0 it.0 it.1 in
-      subst HasStability it.2 (taking_stability it.0 p.0 p.1)
+  used_stability : (s : Address) (x : ScopeName) → Contains (used_names files s) x → HasStability x
+  used_stability s x among =
+      let kept = filter (λ (t : ForeignUse). same_address t.from s) (first_foreign_uses files) in
+      let k = at_contains (used_names files s) x among in
+      let it = map_at (λ (t : ForeignUse). ForeignName t.attributes t.id) kept k.0 x k.1 in
+      let p = kept_at (λ (t : ForeignUse). same_address t.from s) (first_foreign_uses files) k.0 it.0 it.1 in
+      subst HasStability it.2 (foreign_use_stability it.0 p.0 p.1)
 
   scope_stability : (s : Address) (x : ScopeName) → Contains (scope files s) x → HasStability x
   scope_stability (InterfaceNamed name) x among = found_stability (InterfaceNamed name) x (item_at (all_scopes files) (InterfaceNamed name)) refl among
   scope_stability (WorldNamed name) x among = found_stability (WorldNamed name) x (item_at (all_scopes files) (WorldNamed name)) refl among
   scope_stability (InlineAt world side place) x among = found_stability (InlineAt world side place) x (item_at (all_scopes files) (InlineAt world side place)) refl among
-  scope_stability (ForeignNamed p name) x among = taken_stability (ForeignNamed p name) x among
+  scope_stability (ForeignNamed p name) x among = used_stability (ForeignNamed p name) x among
 
   module _ (order : Address → List ℕ) (orders : AreNamesInOrder files order) where
     -- the names of a scope in turn are plain
@@ -171,32 +171,32 @@ module _ (files : List PackageFile) (plain : All HasPlainNames files) where
     module _ (legal : IsLegal files) (items : List Item) (ordered : AreInOrder files items) where
       all_turned : All HasNames (item_turns order items)
       all_turned = all_both HasNames (map (interface_turn order) (interfaces_of items)) (flat_map (turns_of_world order) (worlds_of items))
-          (all_map HasNames (interface_turn order) (interfaces_of items) (λ k i at. turn_stability i (interfaces_among files legal items ordered k i (at_front (interfaces_of items) (flat_map inline_items (worlds_of items)) k i at)).0))
+          (all_map HasNames (interface_turn order) (interfaces_of items) (λ k i at. turn_stability i (interfaces_among files legal items ordered k i (at_prefix (interfaces_of items) (flat_map inline_items (worlds_of items)) k i at)).0))
           (all_flat HasNames (turns_of_world order) (worlds_of items) (λ k w at. (
           let among = worlds_declared files legal items ordered k w at in
           world_turned w (scopes_declared files w among) (λ j i there. scopes_inline files w i among (contains_at (inline_items w) j i there)))))
 
-      all_given : All HasGiven (all_meetings files (item_turns order items))
-      all_given = all_both HasGiven (map taking_meeting (takings files)) (flat_map turn_meetings (item_turns order items))
-          (all_map HasGiven taking_meeting (takings files) (λ k t at. stability_plain t.attributes (at_all (λ (u : Taking). ArePlain u.attributes) (takings files) (takings_plain files plain) k t at)))
-          (all_flat HasGiven turn_meetings (item_turns order items) (λ k t at. turn_given t (at_all HasNames (item_turns order items) all_turned k t at)))
+      all_given : All HasGiven (all_occurrences files (item_turns order items))
+      all_given = all_both HasGiven (map foreign_use_occurrence (foreign_uses files)) (flat_map turn_occurrences (item_turns order items))
+          (all_map HasGiven foreign_use_occurrence (foreign_uses files) (λ k t at. stability_plain t.attributes (at_all (λ (u : ForeignUse). ArePlain u.attributes) (foreign_uses files) (foreign_uses_plain files plain) k t at)))
+          (all_flat HasGiven turn_occurrences (item_turns order items) (λ k t at. turn_given t (at_all HasNames (item_turns order items) all_turned k t at)))
 
   module _ (legal : IsLegal files) (p : UnresolvedPackage) (m : Makes files p) where
-    met_given : (n : ℕ) (x : Meeting) → slice_get m.met n ≡ Some x → HasGiven x
-    met_given n x at =
-        let same = λ (a b : Meeting). m.same a.key b.key in
-        let all = all_meetings files (item_turns m.order m.items) in
-        let k = firsts_at same all n x (ap (λ (l : List Meeting). slice_get l n) (sym m.first) ∙ at) in
+    seen_given : (n : ℕ) (x : Occurrence) → slice_get m.seen n ≡ Some x → HasGiven x
+    seen_given n x at =
+        let same = λ (a b : Occurrence). m.same a.key b.key in
+        let all = all_occurrences files (item_turns m.order m.items) in
+        let k = firsts_at same all n x (ap (λ (l : List Occurrence). slice_get l n) (sym m.first) ∙ at) in
         at_all HasGiven all (all_given m.order m.names_in_order legal m.items m.in_order) k.0 x k.1
 
     before : (n k : ℕ) (e : TypeDef) → k < n → slice_get p.types k ≡ Some e → HasVersions e.stability
     before zero k e less at = absurd (let f : ⊥ = omega (arith, less) in f)
     before (suc n) k e less at =
         let within : k < length p.types = slice_get_within p.types k e at in
-        let count : length p.types ≡ length m.met = m.count in
-        let x = at_within m.met k (omega (arith, within, count)) in
+        let count : length p.types ≡ length m.seen = m.count in
+        let x = at_within m.seen k (omega (arith, within, count)) in
         let earlier : AreBefore (take k p.types) = λ j f there. (let it = at_take p.types k j f there in let lower = it.1 in before n j f (omega (arith, less, lower)) it.0) in
-        entry_plain (scope files) (owner_at (interface_scopes files m.items) (world_scopes files m.items)) m.id (take k p.types) earlier scope_stability x.0.key x.0.span x.0.given e (met_given k x.0 x.1) (m.types k x.0 e x.1 at)
+        entry_plain (scope files) (owner_at (interface_scopes files m.items) (world_scopes files m.items)) m.id (take k p.types) earlier scope_stability x.0.key x.0.span x.0.given e (seen_given k x.0 x.1) (m.types k x.0 e x.1 at)
 
     pub types_plain : All (λ (t : TypeDef). HasVersions t.stability) p.types
     types_plain = all_at (λ (t : TypeDef). HasVersions t.stability) p.types (λ k e at. before (suc k) k e (omega arith) at)

@@ -13,7 +13,7 @@ use Rattle.wit_model.specs.declared.world.WorldKey.{WorldKey}
 use Rattle.wit_model.specs.declared.world.WorldKey.TheVariants as key
 use Rattle.wit_model.specs.Worlds.{function_of}
 use Rattle.wit_syntax.specs.Address.{Address}
-use Rattle.wit_syntax.specs.Crossing.{same_side}
+use Rattle.wit_syntax.specs.ExternPart.{same_side}
 use Rattle.wit_syntax.specs.Repeats.{AllDiffer}
 use Rattle.wit_syntax.specs.Sides.{SideItem, SideFunction, SideLink, SideInline, Link, item_called, item_inline, items_on, role_side}
 use Rattle.wit_syntax.specs.Signature.{Called, name_called}
@@ -21,7 +21,7 @@ use Rattle.wit_syntax.specs.Source.{Item, ScopeName, TopName, address, local_id,
 use Rattle.wit_syntax.proofs.Lists.{at_split, flat_map_at, flat_map_has}
 use Rattle.wit_syntax.proofs.Repeated.{differ_none}
 use Rattle.wit_arena.specs.Made.{entries_on, function_in, name_imports, scope_place, side_entries}
-use Rattle.wit_arena.specs.Meet.{Key, Def}
+use Rattle.wit_arena.specs.Occurrences.{Key, Def}
 use Rattle.wit_arena.specs.SideItems.{inline_entry, link_item, link_key}
 use Rattle.wit_json_laws.proofs.Placed.{IsAtName}
 
@@ -59,8 +59,8 @@ differ_head x xs d i at =
     let f : ⊥ = cc in
     f
 
-differ_front : {X : Type 0} (x : X) (xs : List X) → AllDiffer xs → ((i : ℕ) → slice_get xs i ≡ Some x → ⊥) → AllDiffer (x ∷ xs)
-differ_front {X} x xs d new = record { differ = go }
+differ_prefix : {X : Type 0} (x : X) (xs : List X) → AllDiffer xs → ((i : ℕ) → slice_get xs i ≡ Some x → ⊥) → AllDiffer (x ∷ xs)
+differ_prefix {X} x xs d new = record { differ = go }
   where
     go : (i j : ℕ) (y : X) → slice_get (x ∷ xs) i ≡ Some y → slice_get (x ∷ xs) j ≡ Some y → i ≡ j
     go zero zero y a b = refl
@@ -71,10 +71,10 @@ differ_front {X} x xs d new = record { differ = go }
 -- keys differ, where names do and places do
 pub keys_differ : (ks : List WorldKey) → AllDiffer (flat_map key_names ks) → AllDiffer (flat_map key_places ks) → AllDiffer ks
 keys_differ [] names places = differ_none
-keys_differ (key.Name n ∷ ks) names places = differ_front (key.Name n) ks (keys_differ ks (differ_tail n (flat_map key_names ks) names) places) (λ i at. (
+keys_differ (key.Name n ∷ ks) names places = differ_prefix (key.Name n) ks (keys_differ ks (differ_tail n (flat_map key_names ks) names) places) (λ i at. (
     let p = flat_map_has key_names ks i 0 (key.Name n) n at refl in
     differ_head n (flat_map key_names ks) names p.0 p.1))
-keys_differ (key.Interface t ∷ ks) names places = differ_front (key.Interface t) ks (keys_differ ks names (differ_tail t (flat_map key_places ks) places)) (λ i at. (
+keys_differ (key.Interface t ∷ ks) names places = differ_prefix (key.Interface t) ks (keys_differ ks names (differ_tail t (flat_map key_places ks) places)) (λ i at. (
     let p = flat_map_has key_places ks i 0 (key.Interface t) t at refl in
     differ_head t (flat_map key_places ks) places p.0 p.1))
 
@@ -154,7 +154,7 @@ module _ (id : Key → ℕ) (s : Address) (ss : List Address) (top : List TopNam
   other_bare link xs apart bare q (SideInline x name items) at j here = (let f : ⊥ = cc in f)
 
   one_link : (link : Link) (xs : List SideItem) → AreLinksApart (SideLink link ∷ xs) → AllDiffer (flat_map bare_place xs) → (name : Option Id) → link.name ≡ name → AllDiffer (option_map_or (λ (id : Id). []) name (place_of link ∷ []) ++ flat_map bare_place xs)
-  one_link link xs apart rest None bare = differ_front (place_of link) (flat_map bare_place xs) rest (λ i at. (
+  one_link link xs apart rest None bare = differ_prefix (place_of link) (flat_map bare_place xs) rest (λ i at. (
       let it = flat_map_at bare_place xs i (place_of link) at in
       let own = it.3 in
       other_bare link xs apart bare it.0 it.1 it.2 own.0 own.1))
@@ -209,8 +209,8 @@ import_at_names id s [] k e at = absurd (let f : ⊥ = cc in f)
 import_at_names id s (x ∷ xs) zero e at = (let same : name_import id s x ≡ e = cc in subst (λ (y : Entry). IsAtName function_of key.Name y) same (λ f is. absurd (let g : ⊥ = cc in g)))
 import_at_names id s (x ∷ xs) (suc k) e at = import_at_names id s xs k e at
 
-pub both_at_names : (front es : List Entry) → AreAtNames front → AreAtNames es → AreAtNames (front ++ es)
-both_at_names front es a b k e at = elim (at_split front es k e at) [
+pub both_at_names : (prefix es : List Entry) → AreAtNames prefix → AreAtNames es → AreAtNames (prefix ++ es)
+both_at_names prefix es a b k e at = elim (at_split prefix es k e at) [
   | inl h ↦ a k e h
   | inr h ↦ b h.0 e h.2
 ]

@@ -10,13 +10,13 @@ use Rattle.wit_lex.specs.declared.kind.Kind.TheVariants.{Colon, Semicolon, OpenB
 use Rattle.wit_lex.specs.declared.word.Word.TheVariants as word
 use Rattle.wit_grammar.specs.Grammar.{Gram, mark, name, name_but, docs, never, both, act, either, opt, until, seq, applied, ◌▸◌, ◌◂◌}
 use Rattle.wit_grammar.specs.Laws.{IsSpelled, start}
-use Rattle.wit_grammar.specs.Trees.{Name, Documents, Release, Ty, Front, Parameter, Function, Body, PackageId, Path, by_name, UsedName, InterfaceItem, uses, defines, has_func, ExternKind, inline_interface, by_path, by_func, named_path, RenamedName, WorldItem, crosses, world_uses, world_defines, includes, Declaration, of_interface, of_world, of_use, Item, declares, nests, Items, no_more, then_item, items_of, Nested, File}
-use Rattle.wit_grammar.specs.Rules.{accessor, func_of, front, at_version, item_path, package_path, rest_of_path, path_of, path, label, used, use_of, top_used, top_use_of}
+use Rattle.wit_grammar.specs.Trees.{Name, Documents, Release, Ty, Prefix, Parameter, Function, Body, PackageId, Path, by_name, UsedName, InterfaceItem, uses, defines, has_func, ExternKind, inline_interface, by_path, by_func, named_path, RenamedName, WorldItem, crosses, world_uses, world_defines, includes, Declaration, of_interface, of_world, of_use, Item, declares, nests, Items, no_more, then_item, items_of, Nested, File}
+use Rattle.wit_grammar.specs.Rules.{accessor, func_of, prefix, at_version, item_path, package_path, rest_of_path, path_of, path, label, used, use_of, top_used, top_use_of}
 use Rattle.wit_grammar.specs.ItemRules.{closed_function, closed_signature, named_func_of, definition, definition_of, named_function, interface_item, interface_items, interface_rule, interface_of, after_second, extern_path, accessor_name, get_or_set, worded_function, inline_items, after_colon, extern_kind, side, extern, extern_of, renames, include, include_of, world_item, world_items, world_rule, world_of, declaration, two_names, package_names, package_of, braced, nest, item_of, package_to, item_to, Beginning, header, first_item, header_or_nested, package_first, beginning, declaration_in, declarations_in, nested_in, names_in, file_from, file_of, items_to_end, file}
-use Rattle.wit_json_laws.specs.Trees.{IsPlainDeclaration, IsPlainFile, IsPlainItem, IsPlainKind, IsPlainNested, IsPlainPackageId, IsPlainPath, IsPlainWord, IsPlainWorldItem}
+use Rattle.wit_json_laws.specs.PlainTrees.{IsPlainDeclaration, IsPlainFile, IsPlainItem, IsPlainKind, IsPlainNested, IsPlainPackageId, IsPlainPath, IsPlainWord, IsPlainWorldItem}
 use Rattle.wit_json_laws.proofs.Gives.{Gives, gives_act, gives_after, gives_any, gives_before, gives_both, gives_either, gives_name, gives_none, gives_opt, gives_other, gives_seq, gives_until}
 use Rattle.wit_json_laws.proofs.Lists.{all_both, all_more, all_none, all_tail, at_all}
-use Rattle.wit_json_laws.proofs.SpelledItems.{IsPlainEnd, IsPlainFront, IsPlainReleaseIf, IsPlainRestIf, gives_at_version, gives_definition, gives_front, gives_item_path, gives_label, gives_path, gives_rest_of_path, gives_top_used, gives_used, package_plain, path_plain, release_plain}
+use Rattle.wit_json_laws.proofs.SpelledItems.{IsPlainEnd, IsPlainPrefix, IsPlainReleaseIf, IsPlainRestIf, gives_at_version, gives_definition, gives_prefix, gives_item_path, gives_label, gives_path, gives_rest_of_path, gives_top_used, gives_used, package_plain, path_plain, release_plain}
 
 -- ---- interfaces
 abbrev IsNamedFunction : Name × Function → Type 0
@@ -26,18 +26,18 @@ gives_named_function : Gives IsNamedFunction named_function
 unfolding named_function
 gives_named_function = gives_both IsNamedFunction IsPlainWord (λ (f : Function). ⊤) (λ (x : Name) (y : Function). (x, y)) label closed_function gives_label (gives_any closed_function) (λ a b q r. q)
 
--- what makes a plain item of an interface, behind plain attributes
-abbrev MakesItem : (Front → InterfaceItem) → Type 0
-MakesItem f = (d : Front) → IsPlainFront d → IsPlainItem (f d)
+-- what makes a plain item of an interface, after plain attributes
+abbrev MakesItem : (Prefix → InterfaceItem) → Type 0
+MakesItem f = (d : Prefix) → IsPlainPrefix d → IsPlainItem (f d)
 
 gives_interface_item : Gives IsPlainItem interface_item
 unfolding interface_item
 gives_interface_item =
-    let a : Path × List UsedName → Front → InterfaceItem = λ x f. uses (use_of f.attributes x) in
-    let b : Name × Function → Front → InterfaceItem = λ x f. has_func (named_func_of f x.0 x.1) in
-    let c : Name × Body → Front → InterfaceItem = λ x f. defines (definition_of f x) in
+    let a : Path × List UsedName → Prefix → InterfaceItem = λ x f. uses (use_of f.attributes x) in
+    let b : Name × Function → Prefix → InterfaceItem = λ x f. has_func (named_func_of f x.0 x.1) in
+    let c : Name × Body → Prefix → InterfaceItem = λ x f. defines (definition_of f x) in
     let rest = either (act b named_function) (act c definition) in
-    gives_both IsPlainItem IsPlainFront MakesItem applied front (either (act a used) rest) gives_front
+    gives_both IsPlainItem IsPlainPrefix MakesItem applied prefix (either (act a used) rest) gives_prefix
     (gives_either MakesItem (act a used) rest
     (gives_act MakesItem a used (λ x s e h d p. (let u = gives_used x s e h in record { attributes = p; from = u.0; names = u.1 })))
     (gives_either MakesItem (act b named_function) (act c definition)
@@ -133,12 +133,12 @@ gives_extern_kind =
     (gives_either MakesOfOne colon (act f (mark Semicolon)) (gives_after MakesOfOne Colon after_colon gives_after_colon) (gives_act MakesOfOne f (mark Semicolon) (λ x s e h n p. tt)))
     (λ n g q r. r n q)
 
-abbrev IsPlainCrossing : WorldSide × ExternKind → Type 0
-IsPlainCrossing x = IsPlainKind x.1
+abbrev IsPlainExternPart : WorldSide × ExternKind → Type 0
+IsPlainExternPart x = IsPlainKind x.1
 
-gives_extern : Gives IsPlainCrossing extern
+gives_extern : Gives IsPlainExternPart extern
 unfolding extern
-gives_extern = gives_both IsPlainCrossing (λ (s : WorldSide). ⊤) IsPlainKind (λ (x : WorldSide) (y : ExternKind). (x, y)) side extern_kind (gives_any side) gives_extern_kind (λ a b q r. r)
+gives_extern = gives_both IsPlainExternPart (λ (s : WorldSide). ⊤) IsPlainKind (λ (x : WorldSide) (y : ExternKind). (x, y)) side extern_kind (gives_any side) gives_extern_kind (λ a b q r. r)
 
 abbrev IsPlainIncluding : Path × List RenamedName → Type 0
 IsPlainIncluding x = IsPlainPath x.0
@@ -148,19 +148,19 @@ unfolding include
 gives_include =
     gives_after IsPlainIncluding (Word word.Include) (seq path renames) (gives_both IsPlainIncluding IsPlainPath (λ (xs : List RenamedName). ⊤) (λ (x : Path) (y : List RenamedName). (x, y)) path renames gives_path (gives_any renames) (λ a b q r. q))
 
-abbrev MakesWorldItem : (Front → WorldItem) → Type 0
-MakesWorldItem f = (d : Front) → IsPlainFront d → IsPlainWorldItem (f d)
+abbrev MakesWorldItem : (Prefix → WorldItem) → Type 0
+MakesWorldItem f = (d : Prefix) → IsPlainPrefix d → IsPlainWorldItem (f d)
 
 gives_world_item : Gives IsPlainWorldItem world_item
 unfolding world_item
 gives_world_item =
-    let a : Path × List UsedName → Front → WorldItem = λ x f. world_uses (use_of f.attributes x) in
-    let b : Path × List RenamedName → Front → WorldItem = λ x f. includes (include_of f.attributes x) in
-    let c : WorldSide × ExternKind → Front → WorldItem = λ x f. crosses (extern_of f x) in
-    let d : Name × Body → Front → WorldItem = λ x f. world_defines (definition_of f x) in
+    let a : Path × List UsedName → Prefix → WorldItem = λ x f. world_uses (use_of f.attributes x) in
+    let b : Path × List RenamedName → Prefix → WorldItem = λ x f. includes (include_of f.attributes x) in
+    let c : WorldSide × ExternKind → Prefix → WorldItem = λ x f. crosses (extern_of f x) in
+    let d : Name × Body → Prefix → WorldItem = λ x f. world_defines (definition_of f x) in
     let last = either (act c extern) (act d definition) in
     let rest = either (act b include) last in
-    gives_both IsPlainWorldItem IsPlainFront MakesWorldItem applied front (either (act a used) rest) gives_front
+    gives_both IsPlainWorldItem IsPlainPrefix MakesWorldItem applied prefix (either (act a used) rest) gives_prefix
     (gives_either MakesWorldItem (act a used) rest
     (gives_act MakesWorldItem a used (λ x s e h f p. (let u = gives_used x s e h in record { attributes = p; from = u.0; names = u.1 })))
     (gives_either MakesWorldItem (act b include) last
@@ -188,17 +188,17 @@ gives_world_rule =
     gives_after HasWorldItems (Word word.World) (seq name world_items) (gives_both HasWorldItems IsPlainWord AreWorldItems (λ (x : Name) (y : List WorldItem). (x, y)) name world_items gives_name gives_world_items (λ a b q r. r))
 
 -- ---- files
-abbrev MakesDeclaration : (Front → Declaration) → Type 0
-MakesDeclaration f = (d : Front) → IsPlainFront d → IsPlainDeclaration (f d)
+abbrev MakesDeclaration : (Prefix → Declaration) → Type 0
+MakesDeclaration f = (d : Prefix) → IsPlainPrefix d → IsPlainDeclaration (f d)
 
 gives_declaration : Gives IsPlainDeclaration declaration
 unfolding declaration
 gives_declaration =
-    let a : Span × Path × Option Name → Front → Declaration = λ x f. of_use (top_use_of f.attributes x) in
-    let b : Name × List WorldItem → Front → Declaration = λ x f. of_world (world_of f x) in
-    let c : Name × List InterfaceItem → Front → Declaration = λ x f. of_interface (interface_of f x) in
+    let a : Span × Path × Option Name → Prefix → Declaration = λ x f. of_use (top_use_of f.attributes x) in
+    let b : Name × List WorldItem → Prefix → Declaration = λ x f. of_world (world_of f x) in
+    let c : Name × List InterfaceItem → Prefix → Declaration = λ x f. of_interface (interface_of f x) in
     let rest = either (act b world_rule) (act c interface_rule) in
-    gives_both IsPlainDeclaration IsPlainFront MakesDeclaration applied front (either (act a top_used) rest) gives_front
+    gives_both IsPlainDeclaration IsPlainPrefix MakesDeclaration applied prefix (either (act a top_used) rest) gives_prefix
     (gives_either MakesDeclaration (act a top_used) rest
     (gives_act MakesDeclaration a top_used (λ x s e h f p. record { attributes = p; item = gives_top_used x s e h }))
     (gives_either MakesDeclaration (act b world_rule) (act c interface_rule)

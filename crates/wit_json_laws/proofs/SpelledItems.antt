@@ -6,10 +6,10 @@ use Rattle.wit_values.specs.declared.span.Span.{Span}
 use Rattle.wit_lex.specs.declared.kind.Kind.TheVariants.{Colon, Semicolon, Equals, OpenParen, CloseParen, OpenBrace, CloseBrace, Dot, Slash, At, Word}
 use Rattle.wit_lex.specs.declared.word.Word.TheVariants as word
 use Rattle.wit_grammar.specs.Grammar.{mark, spanned, says, name, version, docs, both, act, either, until, listed, seq, applied, ◌▸◌, ◌◂◌}
-use Rattle.wit_grammar.specs.Trees.{Name, Documents, Release, Ty, Attribute, Front, Parameter, Function, ResourceFunction, Body, alias, of_fields, of_flags, of_cases, of_labels, of_funcs, Field, Flag, Case, Path, UsedName}
-use Rattle.wit_grammar.specs.Rules.{label, types, since_version, since_of, deprecated_of, unstable_of, since_attribute, unstable_attribute, deprecated_attribute, after_at, attribute, attributes, front, at_version, release_of, item_path, package_path, rest_of_path, path_of, path, local, used_name, used_names, used, top_used}
+use Rattle.wit_grammar.specs.Trees.{Name, Documents, Release, Ty, Attribute, Prefix, Parameter, Function, ResourceFunction, Body, alias, of_fields, of_flags, of_cases, of_labels, of_funcs, Field, Flag, Case, Path, UsedName}
+use Rattle.wit_grammar.specs.Rules.{label, types, since_version, since_of, deprecated_of, unstable_of, since_attribute, unstable_attribute, deprecated_attribute, after_at, attribute, attributes, prefix, at_version, release_of, item_path, package_path, rest_of_path, path_of, path, local, used_name, used_names, used, top_used}
 use Rattle.wit_grammar.specs.ItemRules.{alias_definition, field, record_definition, flag, flags_definition, case, variant_definition, enum_definition, closed_function, constructed, is_static, member, maker_of, member_of, resource_function, braced_functions, resource_body, resource_definition, definition}
-use Rattle.wit_json_laws.specs.Trees.{ArePlainAttributes, IsPlainAttribute, IsPlainBody, IsPlainMember, IsPlainPath, IsPlainUsed, IsPlainWord}
+use Rattle.wit_json_laws.specs.PlainTrees.{ArePlainAttributes, IsPlainAttribute, IsPlainBody, IsPlainMember, IsPlainPath, IsPlainUsed, IsPlainWord}
 use Rattle.wit_json_laws.proofs.Gives.{Gives, IsPlainRelease, gives_act, gives_after, gives_any, gives_before, gives_both, gives_either, gives_listed, gives_many, gives_name, gives_opt, gives_second, gives_seq, gives_until, gives_version}
 use Rattle.wit_json_laws.proofs.Lists.{all_none}
 
@@ -60,12 +60,12 @@ gives_attributes : Gives ArePlainAttributes attributes
 unfolding attributes
 gives_attributes = gives_many IsPlainAttribute attribute gives_attribute
 
-abbrev pub IsPlainFront : Front → Type 0
-IsPlainFront f = ArePlainAttributes f.attributes
+abbrev pub IsPlainPrefix : Prefix → Type 0
+IsPlainPrefix f = ArePlainAttributes f.attributes
 
-pub gives_front : Gives IsPlainFront front
-unfolding front
-gives_front = gives_both IsPlainFront (λ (d : Documents). ⊤) ArePlainAttributes (λ (d : Documents) (xs : List Attribute). (record { docs = d; attributes = xs })) docs attributes (gives_any docs) gives_attributes (λ a b q r. r)
+pub gives_prefix : Gives IsPlainPrefix prefix
+unfolding prefix
+gives_prefix = gives_both IsPlainPrefix (λ (d : Documents). ⊤) ArePlainAttributes (λ (d : Documents) (xs : List Attribute). (record { docs = d; attributes = xs })) docs attributes (gives_any docs) gives_attributes (λ a b q r. r)
 
 -- ---- paths and uses
 abbrev pub IsPlainReleaseIf : Option (Span × Release) → Type 0
@@ -195,9 +195,9 @@ gives_enum =
     let last = listed OpenBrace CloseBrace flag in
     gives_after IsPlainNamed (Word word.Enum) (both f name last) (gives_both IsPlainNamed IsPlainWord (λ (xs : List Flag). ⊤) f name last gives_name (gives_any last) (λ a b q r. (q, tt)))
 
--- what makes a plain function of a resource, behind plain attributes
-abbrev MakesMember : (Front → ResourceFunction) → Type 0
-MakesMember f = (d : Front) → IsPlainFront d → IsPlainMember (f d)
+-- what makes a plain function of a resource, after plain attributes
+abbrev MakesMember : (Prefix → ResourceFunction) → Type 0
+MakesMember f = (d : Prefix) → IsPlainPrefix d → IsPlainMember (f d)
 
 abbrev IsNamedFirst : Name × Bool × Function → Type 0
 IsNamedFirst x = IsPlainWord x.0
@@ -209,17 +209,17 @@ gives_member =
     let last = seq is_static closed_function in
     gives_both IsNamedFirst IsPlainWord (λ (x : Bool × Function). ⊤) f label last gives_label (gives_any last) (λ a b q r. q)
 
-member_plain : (d : Front) (x : Name × Bool × Function) → IsPlainFront d → IsPlainWord x.0 → IsPlainMember (member_of d x)
+member_plain : (d : Prefix) (x : Name × Bool × Function) → IsPlainPrefix d → IsPlainWord x.0 → IsPlainMember (member_of d x)
 member_plain d (n, false, x) f w = record { attributes = f; name = w }
 member_plain d (n, true, x) f w = record { attributes = f; name = w }
 
 gives_resource_function : Gives IsPlainMember resource_function
 unfolding resource_function
 gives_resource_function =
-    let f : Span × List Parameter × Option Ty → Front → ResourceFunction = λ x f. maker_of f x in
-    let g : Name × Bool × Function → Front → ResourceFunction = λ x f. member_of f x in
+    let f : Span × List Parameter × Option Ty → Prefix → ResourceFunction = λ x f. maker_of f x in
+    let g : Name × Bool × Function → Prefix → ResourceFunction = λ x f. member_of f x in
     let body = either (act f constructed) (act g member) in
-    gives_both IsPlainMember IsPlainFront MakesMember applied front body gives_front
+    gives_both IsPlainMember IsPlainPrefix MakesMember applied prefix body gives_prefix
     (gives_either MakesMember (act f constructed) (act g member)
     (gives_act MakesMember f constructed (λ x s e h a p. p))
     (gives_act MakesMember g member (λ x s e h a p. member_plain a x p (gives_member x s e h))))

@@ -18,7 +18,7 @@ use Rattle.wit_model.specs.declared.world.WorldKey.TheVariants as key
 use Rattle.wit_model.specs.Worlds.{function_of}
 use Rattle.wit_syntax.specs.Address.{Address}
 use Rattle.wit_syntax.specs.Broken.{LinkedTwice, IsLegal}
-use Rattle.wit_syntax.specs.Crossing.{same_side}
+use Rattle.wit_syntax.specs.ExternPart.{same_side}
 use Rattle.wit_syntax.specs.Fault.{fault}
 use Rattle.wit_syntax.specs.Foreign.{ForeignVisit, foreign_worlds}
 use Rattle.wit_syntax.specs.Repeats.{AllDiffer}
@@ -27,22 +27,22 @@ use Rattle.wit_syntax.specs.Sides.{SideItem, SideLink, Link, all_scopes, inline_
 use Rattle.wit_syntax.specs.Signature.{Called, name_called}
 use Rattle.wit_syntax.specs.Source.{Item, ScopeName, address, all_items, leads, path_id, path_scope, scope_names}
 use Rattle.wit_syntax.proofs.Found.{contains_at}
-use Rattle.wit_syntax.proofs.Inline.{length-inline_behind}
+use Rattle.wit_syntax.proofs.Inline.{length-inline_after}
 use Rattle.wit_syntax.proofs.Kept.{kept_at}
 use Rattle.wit_syntax.proofs.Repeated.{called_key, differ_at, differ_by}
 use Rattle.wit_syntax.proofs.Scopes.{scopes_declared}
 use Rattle.wit_arena.specs.Made.{AreInOrder, AreNamesInOrder, entries_on, foreign_world, interface_scopes, name_imports, names_in_turn, own_world, scope_place, world_entries}
-use Rattle.wit_arena.specs.Meet.{Key}
+use Rattle.wit_arena.specs.Occurrences.{Key}
 use Rattle.wit_arena.specs.SideItems.{settled}
-use Rattle.wit_json.specs.Keys.{HasOwnKeys, HasOwnSides}
+use Rattle.wit_json.specs.DistinctKeys.{HasOwnKeys, HasOwnSides}
 use Rattle.wit_json_laws.proofs.Leading.{HasPlace, IsLinked, link_leads}
 use Rattle.wit_json_laws.proofs.Lists.{all_both, all_map, no_keys, own_keys}
 use Rattle.wit_json_laws.proofs.Members.{side_keys, worlds_declared}
 use Rattle.wit_json_laws.proofs.Placed.{placed_differ}
 use Rattle.wit_json_laws.proofs.Sides.{AreAtNames, AreLinksApart, Entry, bare_differ, bare_place, both_at_names, called_name, import_at_names, import_names, import_places, key_names, key_of, key_places, keys_differ, names_among, places_among, side_at_names, side_names, side_places}
 
-place_tells : (ss : List Address) (a b : Address) → HasPlace ss a → HasPlace ss b → scope_place ss a ≡ scope_place ss b → a ≡ b
-place_tells ss a b one other same = (let both : Some a ≡ Some b = sym one ∙ ap (slice_get ss) same ∙ other in cc)
+place_determines : (ss : List Address) (a b : Address) → HasPlace ss a → HasPlace ss b → scope_place ss a ≡ scope_place ss b → a ≡ b
+place_determines ss a b one other same = (let both : Some a ≡ Some b = sym one ∙ ap (slice_get ss) same ∙ other in cc)
 
 -- names that differ once folded do
 called_differ : (cs : List Called) → AllDiffer (map called_key cs) → AllDiffer (map called_name cs)
@@ -79,7 +79,7 @@ module _ (files : List PackageFile) (legal : IsLegal files) (items : List Item) 
     on side = entries_on side (world_entries id ss w)
 
     count : length (inline_items w) ≡ length (flat_map item_inline (side_items w))
-    count = length-inline_behind w [] (side_items w)
+    count = length-inline_after w [] (side_items w)
 
     linked : (side : WorldSide) (p : ℕ) (a : Link) → slice_get (there side) p ≡ Some (SideLink a) → IsLinked files items (leads w.top a.path)
     linked side p a at_a = (let k = kept_at (λ (x : SideItem). same_side side (item_side x)) (side_items w) p (SideLink a) at_a in link_leads files legal items ordered t w at k.0 a k.1)
@@ -89,7 +89,7 @@ module _ (files : List PackageFile) (legal : IsLegal files) (items : List Item) 
         let earlier : Contains (take q (there side)) (SideLink a) = contains_at (take q (there side)) p (SideLink a) (slice_get-take (there side) q p before ∙ at_a) in
         let one = linked side p a at_a in
         let other = linked side q b at_b in
-        let scopes : path_scope w.top a.path ≡ path_scope w.top b.path = place_tells ss (path_scope w.top a.path) (path_scope w.top b.path) one.placed other.placed same in
+        let scopes : path_scope w.top a.path ≡ path_scope w.top b.path = place_determines ss (path_scope w.top a.path) (path_scope w.top b.path) one.placed other.placed same in
         legal (fault 43 (path_id b.path).span) (LinkedTwice w among (side, q, a, b, earlier, at_b, bare_a, bare_b, scopes, other.sort, refl))
 
     names_differ : (side : WorldSide) → AllDiffer (map called_name (all_called side))
@@ -107,30 +107,30 @@ module _ (files : List PackageFile) (legal : IsLegal files) (items : List Item) 
     abbrev xs : List ScopeName
     xs = names_in_turn order w
 
-    abbrev front : List Entry
-    front = name_imports id (address w) xs
+    abbrev prefix : List Entry
+    prefix = name_imports id (address w) xs
 
-    all_names : names_among (front ++ on Imported) ≡ map called_name (all_called Imported)
+    all_names : names_among (prefix ++ on Imported) ≡ map called_name (all_called Imported)
     all_names =
-        ap (flat_map key_names) (map-append key_of front (on Imported))
-        ∙ flat_map-append key_names (map key_of front) (map key_of (on Imported))
+        ap (flat_map key_names) (map-append key_of prefix (on Imported))
+        ∙ flat_map-append key_names (map key_of prefix) (map key_of (on Imported))
         ∙ ap (λ (l : List (List ℕ)). l ++ names_among (on Imported)) (import_names id (address w) xs)
         ∙ ap (λ (l : List (List ℕ)). map called_name (map name_called xs) ++ l) (side_names id (address w) ss w.top Imported (side_items w) (inline_items w) count)
         ∙ sym (map-append called_name (map name_called xs) (flat_map item_called (there Imported)))
 
-    all_places : places_among (front ++ on Imported) ≡ flat_map (bare_place id (address w) ss w.top) (there Imported)
+    all_places : places_among (prefix ++ on Imported) ≡ flat_map (bare_place id (address w) ss w.top) (there Imported)
     all_places =
-        ap (flat_map key_places) (map-append key_of front (on Imported))
-        ∙ flat_map-append key_places (map key_of front) (map key_of (on Imported))
+        ap (flat_map key_places) (map-append key_of prefix (on Imported))
+        ∙ flat_map-append key_places (map key_of prefix) (map key_of (on Imported))
         ∙ ap (λ (l : List ℕ). l ++ places_among (on Imported)) (import_places id (address w) xs)
         ∙ side_places id (address w) ss w.top Imported (side_items w) (inline_items w) count
 
-    imported_keys : AllDiffer (map key_of (front ++ on Imported))
-    imported_keys = keys_differ (map key_of (front ++ on Imported)) (subst AllDiffer (sym all_names) (names_differ Imported)) (subst AllDiffer (sym all_places) (places_differ Imported))
+    imported_keys : AllDiffer (map key_of (prefix ++ on Imported))
+    imported_keys = keys_differ (map key_of (prefix ++ on Imported)) (subst AllDiffer (sym all_names) (names_differ Imported)) (subst AllDiffer (sym all_places) (places_differ Imported))
 
     own_sides : (ws : List Address) → HasOwnSides (own_world id order ss ws w)
     own_sides ws = record {
-      imports = settled_keys (includes w) (front ++ on Imported) imported_keys (both_at_names front (on Imported) (import_at_names id (address w) xs) (side_at_names id (address w) ss w.top Imported (side_items w) (inline_items w)));
+      imports = settled_keys (includes w) (prefix ++ on Imported) imported_keys (both_at_names prefix (on Imported) (import_at_names id (address w) xs) (side_at_names id (address w) ss w.top Imported (side_items w) (inline_items w)));
       exports = settled_keys (includes w) (on Exported) exported_keys (side_at_names id (address w) ss w.top Exported (side_items w) (inline_items w));
     }
 

@@ -1,4 +1,4 @@
--- What holds of the packages of all legal files and of all sources, by which their JSON has no key twice and tells them.
+-- What holds of the packages of all legal files and of all sources, by which their JSON has no key twice and says them.
 use Rattle.std.specs.Prelude.{ℕ, ◌≡◌, List, All}
 use Rattle.json.specs.Strict.{HasUniqueKeys}
 use Rattle.wit_lex.specs.declared.source.Source.{Source}
@@ -10,11 +10,11 @@ use Rattle.wit_syntax.specs.Broken.{IsLegal}
 use Rattle.wit_arena.specs.Made.{Makes}
 use Rattle.wit_groups.specs.Groups.{IsGroup}
 use Rattle.wit_groups.specs.declared.group.UnresolvedPackageGroup.{UnresolvedPackageGroup}
-use Rattle.wit_json.specs.Keys.{HasOwnEntries}
-use Rattle.wit_json.specs.Laws.{Group, HasOwnMaps, IsPlain, json_of, told_of}
+use Rattle.wit_json.specs.DistinctKeys.{HasOwnEntries}
+use Rattle.wit_json.specs.Laws.{Group, HasOwnMaps, IsPlain, json_of, stated_of}
 use Rattle.wit_json.specs.Numbers.{HasShortNumbers}
 use Rattle.wit_json.specs.Plain.{IsPlainPackage}
-use Rattle.wit_json_laws.specs.Trees.{HasPlainNames, IsPlainFile}
+use Rattle.wit_json_laws.specs.PlainTrees.{HasPlainNames, IsPlainFile}
 
 -- no map of a package that legal files make has a key twice
 abbrev pub PackagesHaveOwnMaps : Type 0
@@ -50,12 +50,12 @@ HasOwnJson g = IsRead g → HasUniqueKeys (json_of (group_of g))
 
 -- all of two groups but the texts of their sources is equal
 abbrev pub AreAlike : UnresolvedPackageGroup → UnresolvedPackageGroup → Type 0
-AreAlike g h = told_of (group_of g) ≡ told_of (group_of h)
+AreAlike g h = stated_of (group_of g) ≡ stated_of (group_of h)
 
 -- they have one JSON
 abbrev pub HaveOneJson : UnresolvedPackageGroup → UnresolvedPackageGroup → Type 0
 HaveOneJson g h = json_of (group_of g) ≡ json_of (group_of h)
 
 -- groups with one JSON are alike, if their sources make their packages and the numbers in it are short, as in all that is written
-abbrev pub IsToldByJson : UnresolvedPackageGroup → UnresolvedPackageGroup → Type 0
-IsToldByJson g h = IsRead g → IsRead h → HasShortNumbers (json_of (group_of g)) → HaveOneJson g h → AreAlike g h
+abbrev pub IsStatedByJson : UnresolvedPackageGroup → UnresolvedPackageGroup → Type 0
+IsStatedByJson g h = IsRead g → IsRead h → HasShortNumbers (json_of (group_of g)) → HaveOneJson g h → AreAlike g h

@@ -1,10 +1,10 @@
 //! What holds of the JSON of all packages that legal files make.
 //!
-//! `wit_json` says of each group that no object in its JSON has a key twice, and that its JSON tells it, if
+//! `wit_json` says of each group that no object in its JSON has a key twice, and that its JSON says it, if
 //! its maps have no key twice and it is plain. Here it is that each package that legal files make has such
 //! maps, and that each group that is read from text is plain.
 ghost use Rattle.std.specs.Prelude.{All};
-ghost use Rattle.wit_json_laws.specs.Laws.{AreAlike, GroupsHaveOwnMaps, HasOwnJson, HaveOneJson, IsPlainWhereMade, IsPlainWhereRead, IsToldByJson, PackagesHaveOwnMaps, SpelledIsPlain};
+ghost use Rattle.wit_json_laws.specs.Laws.{AreAlike, GroupsHaveOwnMaps, HasOwnJson, HaveOneJson, IsPlainWhereMade, IsPlainWhereRead, IsStatedByJson, PackagesHaveOwnMaps, SpelledIsPlain};
 
 use wit_groups::UnresolvedPackageGroup;
 use wit_model::UnresolvedPackage;
@@ -59,8 +59,8 @@ pub fn keys_are_unique(group: &UnresolvedPackageGroup)
 
 /// Two groups that are read from text have one JSON exactly if all of them but the texts of their sources
 /// is equal. Numbers in the JSON are those of `group_json`, of at most 20 digits.
-pub fn json_tells(first: &UnresolvedPackageGroup, second: &UnresolvedPackageGroup)
-    ensures tells { IsToldByJson first.now second.now }
+pub fn json_determines(first: &UnresolvedPackageGroup, second: &UnresolvedPackageGroup)
+    ensures gives { IsStatedByJson first.now second.now }
     ensures alike { AreAlike first.now second.now → HaveOneJson first.now second.now }
 {
     groups_are_plain(first);

@@ -24,7 +24,7 @@ pub docs_more : (source : List ℕ) (offset from : ℕ) (docs more : List (Bor (
     found.start ≡ offset + at → found.end ≡ offset + end → more ≡ docs ++ comment ∷ [] → whole ≡ stretched docs span found → IsStretch source offset from more whole end
 docs_more source offset from docs more span whole found comment at end h k d text first last e f = rw (e, f) (Found docs span found comment at end h k d text first last)
 
--- places of a comment behind each of which stands no `/`
+-- places of a comment after each of which is no `/`
 nested_on : (source : List ℕ) (from depth at n : ℕ) → IsNested source from depth at → 0 < depth → at + n ≤ length source → ((i : ℕ) → at ≤ i → i < at + n + 1 → i < length source → slice_index source i ≡ 47 → ⊥) → IsNested source from depth (at + n)
 nested_on source from depth at zero h some room none =
     let same : at ≡ at + 0 = omega arith in
@@ -70,7 +70,7 @@ nested_closed source from depth at slash h some next order star =
     let same : slash - 1 + 2 ≡ slash + 1 = omega arith in
     subst (IsNested source from (depth - 1)) same (Closed depth (slash - 1) before some pair)
 
--- what docs stand among is blanks and comments
+-- what docs are among is blanks and comments
 pub stretch_skipped : (source : List ℕ) (offset from : ℕ) (docs : List (Bor (List ℕ))) (span : Span) (at : ℕ) → IsStretch source offset from docs span at → IsSkipped source from at
 stretch_skipped source offset from _ _ _ Start = Here
 stretch_skipped source offset from _ _ _ (Blank docs span at h room blank) = PastBlank at (stretch_skipped source offset from docs span at h) room blank

@@ -155,7 +155,7 @@ run_on test source at end (suc n) e within inside last =
 pub run_is : (test : ℕ → Bool) (source : List ℕ) (at end : ℕ) → IsRun test source at end → run_end test at (drop at source) ≡ end
 run_is test source at end r = let order = r.order in run_on test source at end (end - at) (omega arith) r.within r.inside r.stop
 
--- a place where some byte stands is within the source
+-- a place where some byte is is within the source
 within_at : (test : ℕ → Bool) (source : List ℕ) (at : ℕ) → test 0 ≡ false → test (slice_index source at) ≡ true → at < length source
 within_at test source at z h = elim (cases_lt at (length source)) [
   | inl lt ↦ lt
@@ -264,7 +264,7 @@ found_escaped : (source : List ℕ) (start end : ℕ) → IsEscaped source start
 found_escaped source start end e =
     let room = within_at is_letter source (start + 1) refl e.letter in
     let rest = more source (start + 1) room in
-    ap (token_here source start) (more source start (omega arith) ∙ ap (λ c. c ∷ drop (start + 1) source) e.front) ∙ other_begun source start 37 (drop (start + 1) source) refl refl refl
+    ap (token_here source start) (more source start (omega arith) ∙ ap (λ c. c ∷ drop (start + 1) source) e.prefix) ∙ other_begun source start 37 (drop (start + 1) source) refl refl refl
     ∙ ap (arrow_or_escaped source start 37) rest ∙ escaped_paired source start (slice_index source (start + 1)) (drop (start + 1 + 1) source) e.letter
     ∙ ap (λ n. Ok (record { kind = kind.Name; start = start; end = n })) (ap (run_end is_in_word (start + 1)) (sym rest) ∙ run_is is_in_word source (start + 1) end e.run)
 

@@ -8,7 +8,7 @@ use Rattle.wit_type_tree.specs.Comments.{IsPair, IsLine}
 use Rattle.wit_lex.specs.Blanks.{IsNextSlash, IsNoSlash}
 use Rattle.wit_lex.specs.Places.{IsLineEnd, IsLineStart}
 
--- what stands from a place on, as it is searched
+-- what is from a place on, as it is searched
 abbrev rest : List ℕ → ℕ → List ℕ
 rest text at = take (length text - at) (drop at text)
 
@@ -30,7 +30,7 @@ line_found text from count pair found =
     let long = length-rest text (from + 2) in
     let within : from + 2 + count < length text = omega (arith, found.0.high, long) in
     record {
-      front = pair;
+      prefix = pair;
       order = omega arith;
       within = omega arith;
       inside = no_byte text 10 (from + 2) count refl (omega arith) found.0.before;
@@ -43,7 +43,7 @@ line_last text from pair none =
     let order : from + 2 ≤ length text = pair.within in
     let place : from + 2 + (length text - (from + 2)) ≡ length text = omega arith in
     record {
-      front = pair;
+      prefix = pair;
       order = order;
       within = omega arith;
       inside = λ i low high. no_byte text 10 (from + 2) (length text - (from + 2)) refl (omega arith) (rw long at none) i low (omega arith);

@@ -11,7 +11,7 @@ use Rattle.wit_lex.specs.VersionLexis.{number_from, dot_number_from, dot_number,
 use Rattle.wit_lex.proofs.Lexing.{run_is}
 use Rattle.wit_lex.proofs.Walking.{more, next_byte}
 
--- a place lies in the text where its byte is not that which stands for none
+-- a place lies in the text where its byte is not that which means none
 in_text : (source : List ℕ) (at c : ℕ) → slice_index source at ≡ c → 0 < c → at < length source
 in_text source at c is some = elim (cases_lt at (length source)) [
   | inl lt ↦ lt
@@ -133,7 +133,7 @@ pub version_ends : (source : List ℕ) (from end : ℕ) → IsVersionEnd source 
 unfolding version_to
 version_ends source from end v =
     ap (with_marks source) (numbers_are source from v.numbers v.more)
-    ∙ ap (λ pre. Ok (marked 43 source pre)) (marked_is 45 source v.numbers v.pre (omega arith) v.before) ∙ ap Ok (marked_is 43 source v.pre end (omega arith) v.behind)
+    ∙ ap (λ pre. Ok (marked 43 source pre)) (marked_is 45 source v.numbers v.pre (omega arith) v.before) ∙ ap Ok (marked_is 43 source v.pre end (omega arith) v.rest_after)
 
 pub version_missing : (source : List ℕ) (from at : ℕ) → IsNoNumbers source from at → version_to source from ≡ Err at
 unfolding version_to

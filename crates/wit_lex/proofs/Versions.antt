@@ -3,7 +3,7 @@ use Rattle.std.proofs.Common.{ℕ, List}
 use Rattle.std.specs.Prelude.{IfErr, Result, Ok, Err}
 use Rattle.wit_lex.specs.Versions.{IsDotNumber, IsNoDotNumber, IsNoNumbers, NoPatch}
 
--- the third number is missing where it is not found behind the second
+-- the third number is missing where it is not found after the second
 pub no_patch : (source : List ℕ) (from middle : ℕ) (r : Result ℕ ℕ) → IsDotNumber source from middle → IfErr r (IsNoDotNumber source middle) → IfErr r (IsNoNumbers source from)
 no_patch source from middle (Ok end) minor h = tt
 no_patch source from middle (Err at) minor h = NoPatch middle minor h

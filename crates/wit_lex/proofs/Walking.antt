@@ -67,7 +67,7 @@ module _ {X : Type 0} (go : Mode → ℕ → List ℕ → X) (put : ℕ → ℕ 
   line_passed at end l =
       let order = l.order in
       let place : at + 1 + 1 ≡ at + 2 = omega arith in
-      ap (go between at) (pair_rest source at 47 47 l.front) ∙ w.line at (drop (at + 2) source) ∙ ap (λ i. go (in_line at) i (drop (at + 2) source)) place
+      ap (go between at) (pair_rest source at 47 47 l.prefix) ∙ w.line at (drop (at + 2) source) ∙ ap (λ i. go (in_line at) i (drop (at + 2) source)) place
       ∙ line_on at (at + 2) end (end - (at + 2)) (omega arith) l.within l.inside l.last
 
   -- what is made at a place where so many comments are open, the first of which begins at `start`

@@ -25,7 +25,7 @@ pub record IsFirst (source : List ℕ) (from at : ℕ) : Type 0 where
 
 -- block comments from a place on, of which some are still open where at most one byte is left
 pub record IsEndless (source : List ℕ) (at : ℕ) : Type 0 where
-  pub front : IsPair source at 47 42
+  pub prefix : IsPair source at 47 42
   pub depth : ℕ
   pub place : ℕ
   pub nested : IsNested source at depth place

@@ -1,4 +1,4 @@
--- The docs in front of a token, as a function of the text.
+-- The docs before a token, as a function of the text.
 use Rattle.std.specs.Prelude.{◌≡◌, ℕ, zero, suc, ◌+◌, ◌≤◌, ◌==◌, ◌&&◌, Bool, nat_le, List, [], ◌∷◌, drop, if◌then◌else◌, length, map, slice_index, slice_range, Ok}
 use Rattle.std.specs.List.{filter}
 use Rattle.wit_values.specs.declared.span.Span.{Span}

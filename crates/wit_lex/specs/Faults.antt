@@ -4,7 +4,7 @@ use Rattle.wit_values.specs.declared.span.Span.{Span}
 use Rattle.wit_type_tree.specs.declared.error.ParseError.{ParseError}
 use Rattle.wit_type_tree.specs.declared.error.ParseErrorKind.{ParseErrorKind}
 use Rattle.wit_type_tree.specs.declared.error.ParseErrorKind.TheVariants.{Syntax, ItemNotFound, TypeCycle, OutOfMemory}
-use Rattle.wit_type_tree.specs.Refusal.{IsWantOfMemory}
+use Rattle.wit_type_tree.specs.Refusal.{IsAllocationFailure}
 use Rattle.wit_lex.specs.Blanks.{IsEndless, IsFirst, IsSkipped}
 use Rattle.wit_lex.specs.Starts.{IsStrange}
 use Rattle.wit_lex.specs.declared.fault.ReadError.{ReadError}
@@ -36,19 +36,19 @@ pub record IsFaultAt (fault : ReadFault) (from to number : ℕ) (span : Span) (m
   pub start : span.start ≡ from
   pub end : span.end ≡ to
 
--- this fault from one place to another, or want of memory for its words
-abbrev pub TellsFault : ReadFault → ℕ → ℕ → ℕ → ParseErrorKind → Type 0
-TellsFault fault from to number (Syntax span message) = IsFaultAt fault from to number span (string_bytes message)
-TellsFault fault from to number (ItemNotFound span name kind hint) = ⊥
-TellsFault fault from to number (TypeCycle span name kind) = ⊥
-TellsFault fault from to number OutOfMemory = number ≡ 45
+-- this fault from one place to another, or a failed allocation for its words
+abbrev pub ReportsFault : ReadFault → ℕ → ℕ → ℕ → ParseErrorKind → Type 0
+ReportsFault fault from to number (Syntax span message) = IsFaultAt fault from to number span (string_bytes message)
+ReportsFault fault from to number (ItemNotFound span name kind hint) = ⊥
+ReportsFault fault from to number (TypeCycle span name kind) = ⊥
+ReportsFault fault from to number OutOfMemory = number ≡ 45
 
--- why reading ended, told of a source whose first byte has the place `offset`
+-- why reading ended, stated of a source whose first byte has the place `offset`
 abbrev pub IsRefusalOf : ReadError → ℕ → ParseError → Type 0
-IsRefusalOf (Fault fault start end) offset e = TellsFault fault (offset + start) (offset + end) e.rule e.kind
-IsRefusalOf Wanting offset e = IsWantOfMemory e
+IsRefusalOf (Fault fault start end) offset e = ReportsFault fault (offset + start) (offset + end) e.rule e.kind
+IsRefusalOf Wanting offset e = IsAllocationFailure e
 
--- what is at fault stands in the source
+-- what is at fault is in the source
 abbrev pub IsWithin : List ℕ → ReadError → Type 0
 IsWithin source (Fault fault start end) = (start ≤ end) × (end ≤ length source)
 IsWithin source Wanting = Unit {0}
@@ -63,7 +63,7 @@ IsNoToken source at (Fault Version start end) = ⊥
 IsNoToken source at (Fault Number start end) = ⊥
 IsNoToken source at Wanting = ⊥
 
--- behind the blanks and comments from a place on stands a character that begins no token, or a comment that has no end
+-- after the blanks and comments from a place on is a character that begins no token, or a comment that has no end
 abbrev pub IsUnread : List ℕ → ℕ → ReadError → Type 0
 IsUnread source from (Fault Character start end) = IsFirst source from start × IsStrange source start end
 IsUnread source from (Fault Comment start end) = IsSkipped source from start × IsEndless source start × (end ≡ start + 2)
@@ -73,7 +73,7 @@ IsUnread source from (Fault Version start end) = ⊥
 IsUnread source from (Fault Number start end) = ⊥
 IsUnread source from Wanting = ⊥
 
--- behind the blanks and comments from a place on stands a comment that has no end, or memory was wanted
+-- after the blanks and comments from a place on is a comment that has no end, or memory was wanted
 abbrev pub IsUnended : List ℕ → ℕ → ReadError → Type 0
 IsUnended source from (Fault Comment start end) = IsSkipped source from start × IsEndless source start × (end ≡ start + 2)
 IsUnended source from (Fault Character start end) = ⊥

@@ -11,13 +11,13 @@ use Rattle.wit_lex.specs.Sources.{LiesIn}
 abbrev pub IsOneLine : List ℕ → ℕ → ℕ → Type 0
 IsOneLine text from to = (i : ℕ) → from ≤ i → i < to → slice_index text i ≢ 10
 
--- the line that an offset lies in begins with the text, or behind a line feed
+-- the line that an offset lies in begins with the text, or after a line feed
 pub record IsLineStart (text : List ℕ) (at start : ℕ) : Type 0 where
   pub order : start ≤ at
   pub begins : (start ≡ 0) ⊎ ((0 < start) × (slice_index text (start - 1) ≡ 10))
   pub inside : IsOneLine text start at
 
--- it ends with the text, or in front of a line feed
+-- it ends with the text, or before a line feed
 pub record IsLineEnd (text : List ℕ) (at end : ℕ) : Type 0 where
   pub order : at ≤ end
   pub within : end ≤ length text

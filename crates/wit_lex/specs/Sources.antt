@@ -1,4 +1,4 @@
--- Sources one behind the other, and the places in them.
+-- Sources one after the other, and the places in them.
 use Rattle.std.specs.Prelude.{◌≡◌, ℕ, ◌+◌, ◌-◌, ◌<◌, ◌≤◌, List, codes, length, map, slice_range, string_bytes, sum_by}
 use Rattle.std.specs.Str.{IsCharBoundary}
 use Rattle.wit_values.specs.declared.span.Span.{Span}
@@ -14,11 +14,11 @@ pub record IsSource (path text : List ℕ) (place : ℕ) (s : Source) : Type 0 w
   pub offset : s.offset ≡ place
 
 -- what a source is: its path, its text and its place
-abbrev pub told_of : Source → List ℕ × List ℕ × ℕ
-told_of s = (string_bytes s.path, string_bytes s.contents, s.offset)
+abbrev pub stated_of : Source → List ℕ × List ℕ × ℕ
+stated_of s = (string_bytes s.path, string_bytes s.contents, s.offset)
 
-abbrev pub told : List Source → List (List ℕ × List ℕ × ℕ)
-told sources = map told_of sources
+abbrev pub as_stated : List Source → List (List ℕ × List ℕ × ℕ)
+as_stated sources = map stated_of sources
 
 -- the places that sources take: as many as they have bytes, and one more for each
 abbrev pub space : List Source → ℕ
@@ -43,12 +43,12 @@ pub record LiesIn (s : Source) (span : Span) : Type 0 where
   pub high : IsCharBoundary (string_bytes s.contents) (span.end - s.offset)
 
 -- sources that would take so many places are too large, or memory was wanted
-abbrev pub TellsTooLarge : ℕ → ℕ → ParseErrorKind → Type 0
-TellsTooLarge end number (Syntax span message) =
+abbrev pub ReportsTooLarge : ℕ → ℕ → ParseErrorKind → Type 0
+ReportsTooLarge end number (Syntax span message) =
     (number ≡ 52) × (4294967295 < end) × (span.start ≡ 0) × (span.end ≡ 0) × (string_bytes message ≡ codes "sources too large")
-TellsTooLarge end number (ItemNotFound span name kind hint) = ⊥
-TellsTooLarge end number (TypeCycle span name kind) = ⊥
-TellsTooLarge end number OutOfMemory = number ≡ 45
+ReportsTooLarge end number (ItemNotFound span name kind hint) = ⊥
+ReportsTooLarge end number (TypeCycle span name kind) = ⊥
+ReportsTooLarge end number OutOfMemory = number ≡ 45
 
 pub record IsTooLarge (end : ℕ) (e : ParseError) : Type 0 where
-  pub tells : TellsTooLarge end e.rule e.kind
+  pub gives : ReportsTooLarge end e.rule e.kind

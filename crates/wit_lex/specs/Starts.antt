@@ -18,7 +18,7 @@ is_sign c = c == 61 || c == 44 || c == 58 || c == 59 || c == 40 || c == 41 || c 
 abbrev pub width_of : ℕ → ℕ
 width_of c = cond (nat_lt c 0xC0) 1 (cond (nat_lt c 0xE0) 2 (cond (nat_lt c 0xF0) 3 4))
 
--- from one place to another stand such bytes alone, and none directly behind
+-- from one place to another are such bytes alone, and none directly after
 pub record IsRun (test : ℕ → Bool) (source : List ℕ) (from end : ℕ) : Type 0 where
   pub order : from ≤ end
   pub within : end ≤ length source
@@ -27,7 +27,7 @@ pub record IsRun (test : ℕ → Bool) (source : List ℕ) (from end : ℕ) : Ty
 
 -- `%` and a run of letters, digits and `-` that begins with a letter
 pub record IsEscaped (source : List ℕ) (start end : ℕ) : Type 0 where
-  pub front : slice_index source start ≡ 37
+  pub prefix : slice_index source start ≡ 37
   pub letter : is_letter (slice_index source (start + 1)) ≡ true
   pub run : IsRun is_in_word source (start + 1) end
 

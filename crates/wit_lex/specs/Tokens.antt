@@ -38,7 +38,7 @@ pub record IsOther (c : ℕ) : Type 0 where
   pub escape : c ≡ 37 → ⊥
   pub dash : c ≡ 45 → ⊥
 
--- what a token is that begins with a byte and has a text: behind a letter it is the word that the text is, or a name where it is none;
+-- what a token is that begins with a byte and has a text: after a letter it is the word that the text is, or a name where it is none;
 -- `%` begins a name, `-` an arrow, a sign is a token by itself, and all else is a number
 abbrev pub IsKindOf : ℕ → List ℕ → Kind → Type 0
 IsKindOf first text (kind.Word word) = (is_letter first ≡ true) × (text ≡ word_text word)
@@ -57,7 +57,7 @@ IsFound source start end text kind.Arrow = IsPair source start 45 62 × (end ≡
 IsFound source start end text kind.End = (start ≡ length source) × (end ≡ start)
 IsFound source start end text sign = IsSign (slice_index source start) sign × (end ≡ start + 1)
 
--- a word of the grammar is written as it is told
+-- a word of the grammar is written as it is stated
 abbrev pub IsWritten : Kind → List ℕ → Type 0
 IsWritten kind text = (word : Word) → kind ≡ Kind.Word word → text ≡ word_text word
 

@@ -18,7 +18,7 @@ pub record IsDotNumber (source : List ℕ) (from end : ℕ) : Type 0 where
   pub some : from + 1 < end
   pub run : IsRun is_ascii_digit source (from + 1) end
 
--- there is no `.` at the place, or no digit behind it, at the other place
+-- there is no `.` at the place, or no digit after it, at the other place
 abbrev pub IsNoDotNumber : List ℕ → ℕ → ℕ → Type 0
 IsNoDotNumber source from at =
     ((at ≡ from) × (from < length source → slice_index source from ≡ 46 → ⊥))
@@ -35,7 +35,7 @@ pub data IsNoNumbers (source : List ℕ) (from at : ℕ) : Type 0 where
   NoMinor : IsNoDotNumber source from at → IsNoNumbers source from at
   NoPatch : (middle : ℕ) → IsDotNumber source from middle → IsNoDotNumber source middle at → IsNoNumbers source from at
 
--- from one place to another stand letters, digits, `-`, and `.` with one of them directly behind
+-- from one place to another are letters, digits, `-`, and `.` with one of them directly after
 pub data IsDotted (source : List ℕ) (from : ℕ) : ℕ → Type 0 where
   Start : IsDotted source from from
   Byte : (at : ℕ) → IsDotted source from at → is_in_word (slice_index source at) ≡ true → IsDotted source from (at + 1)
@@ -47,16 +47,16 @@ pub record IsLongest (source : List ℕ) (from end : ℕ) : Type 0 where
   pub stop : end < length source → is_in_word (slice_index source end) ≡ false
   pub dot : end + 1 < length source → slice_index source end ≡ 46 → is_in_word (slice_index source (end + 1)) ≡ false
 
--- a mark and what goes on behind it, or nothing where there is no such mark, or nothing behind it
+-- a mark and what goes on after it, or nothing where there is no such mark, or nothing after it
 pub record IsMarked (mark : ℕ) (source : List ℕ) (from end : ℕ) : Type 0 where
   pub order : from ≤ end
   pub some : from < end → (slice_index source from ≡ mark) × (from + 1 < end) × IsLongest source (from + 1) end
   pub none : end ≡ from → from < length source → slice_index source from ≡ mark → IsLongest source (from + 1) (from + 1)
 
--- two more numbers, perhaps `-` and what goes on behind it, and perhaps `+` and what goes on behind that
+-- two more numbers, perhaps `-` and what goes on after it, and perhaps `+` and what goes on after that
 pub record IsVersionEnd (source : List ℕ) (from end : ℕ) : Type 0 where
   pub numbers : ℕ
   pub pre : ℕ
   pub more : IsNumbers source from numbers
   pub before : IsMarked 45 source numbers pre
-  pub behind : IsMarked 43 source pre end
+  pub rest_after : IsMarked 43 source pre end

@@ -51,6 +51,6 @@ word_text word.With = codes "with"
 abbrev pub IsPlain : List ℕ → Type 0
 IsPlain text = (word : Word) → text ≡ word_text word → ⊥
 
--- a front `%` taken off
+-- a prefix `%` taken off
 abbrev pub unescaped : List ℕ → List ℕ
 unescaped text = if slice_index text 0 == 37 then drop 1 text else text

@@ -10,7 +10,7 @@ use memchr::memchr;
 pub enum Blank {
     /// A blank.
     Space,
-    /// A comment, and where it ends: in front of the LF of its line, or behind its `*/`.
+    /// A comment, and where it ends: before the LF of its line, or after its `*/`.
     Comment(usize),
     /// A comment that has no end.
     Endless,
@@ -25,7 +25,7 @@ pub(crate) fn is_blank(c: u8) -> bool
     c == b' ' || c == b'\n' || c == b'\t' || c == b'\r'
 }
 
-/// The end of the line that a `//` at a place stands in: that of its LF, or the text's end.
+/// The end of the line that a `//` at a place is in: that of its LF, or the text's end.
 fn line_end(bytes: &[u8], from: usize) -> usize
     requires { IsPair bytes.now from 47 47 }
     ensures { IsLine bytes.now from result }
@@ -49,9 +49,9 @@ fn next_slash(bytes: &[u8], from: usize) -> Option<usize>
     }
 }
 
-/// The end of the block comment whose first two bytes stand at a place. Such comments nest.
+/// The end of the block comment whose first two bytes are at a place. Such comments nest.
 ///
-/// Each `/*` and each `*/` has a `/`, so that what stands between two of these is passed at once.
+/// Each `/*` and each `*/` has a `/`, so that what is between two of these is passed at once.
 fn block_end(bytes: &[u8], from: usize) -> Option<usize>
     requires { IsPair bytes.now from 47 42 }
     ensures whole { IfSome result (λ end. IsNested bytes.now from 0 end) }

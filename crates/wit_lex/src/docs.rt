@@ -1,4 +1,4 @@
-//! Docs: comments that document what stands behind them.
+//! Docs: comments that document what comes after them.
 ghost use Rattle.std.specs.Prelude.{◌≡◌, ◌+◌, ◌<◌, ◌≤◌, ◌^◌, ◌++◌, ◌∷◌, [], length, IfOk, IfErr, OnOk, MatchBool};
 ghost use Rattle.wit_lex.specs.DocsLexis.{AreDocsFrom, IsDocs, stretched as stretched_span};
 ghost use Rattle.wit_lex.specs.Faults.{IsUnended};
@@ -49,7 +49,7 @@ fn add_comment<'a>(docs: &mut Docs<'a>, comment: &'a str, found: Span) -> Result
 }
 
 /// The docs among the blanks and comments from a place on, and where these end.
-pub fn docs_behind<'a>(
+pub fn docs_after<'a>(
     alloc: Global,
     source: &'a str,
     offset: u32,

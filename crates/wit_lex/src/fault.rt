@@ -16,7 +16,7 @@ pub enum ReadFault {
     Token,
     /// A block comment has no end.
     Comment,
-    /// Types stand too deep in one another.
+    /// Types are too deep in one another.
     Nesting,
     /// A version is none by SemVer 2.0.0.
     Version,
@@ -90,7 +90,7 @@ impl ReadError {
     pub fn refusal(self, alloc: Global, source: &str, offset: u32) -> ParseError
         requires within { IsWithin source.now self }
         requires fits { offset + length source.now < 2 ^ 32 }
-        ensures told { IsRefusalOf self offset result }
+        ensures as_stated { IsRefusalOf self offset result }
     {
         match self {
             ReadError::Fault(fault, start, end) => refusal(alloc, offset, fault, start, end),

@@ -12,7 +12,7 @@ pub struct Place<'a> {
     pub path: &'a str,
     /// The number of the line, from 1: one more than there are line feeds before it.
     pub line: usize,
-    /// The column, from 1: one more than the characters of the line in front of the place.
+    /// The column, from 1: one more than the characters of the line before the place.
     pub column: usize,
     /// The line, without its line feed.
     pub text: &'a str,
@@ -48,8 +48,8 @@ pub(crate) fn line_number(text: &[u8], start: usize) -> usize
     memchr_iter(b'\n', &text[..start]).count() + 1
 }
 
-/// The column of what comes behind a part of a line.
-pub(crate) fn column_behind(part: &str) -> usize
+/// The column of what comes after a part of a line.
+pub(crate) fn column_after(part: &str) -> usize
     ensures { result ≡ length (chars part.now) + 1 }
 {
     part.chars().count() + 1

@@ -98,7 +98,7 @@ pub fn width(c: u8) -> usize
     }
 }
 
-/// A part of a text that begins with an ASCII character, and ends before or behind one, or with the text.
+/// A part of a text that begins with an ASCII character, and ends before or after one, or with the text.
 pub fn cut(text: &str, start: usize, end: usize) -> &str
     requires order { start < end }
     requires within { end ≤ length text.now }
@@ -109,7 +109,7 @@ pub fn cut(text: &str, start: usize, end: usize) -> &str
     &text[start..end]
 }
 
-/// A name without a front `%`.
+/// A name without a prefix `%`.
 pub fn without_escape(text: &str) -> &str
     ensures { result.now ≡ unescaped text.now }
 {

@@ -1,7 +1,7 @@
 //! A source.
 ghost use Rattle.std.specs.Prelude.{◌≡◌, ◌+◌, ◌<◌, ◌^◌, length, string_bytes, IfSome, IfNone};
 
-use crate::place::{Place, column_behind, line_end, line_number, line_start};
+use crate::place::{Place, column_after, line_end, line_number, line_start};
 use std::alloc::AllocError;
 use wit_values::Span;
 
@@ -54,16 +54,16 @@ impl Source {
         Some(Place {
             path,
             line: line_number(text.as_bytes(), start),
-            column: column_behind(&text[start..at]),
+            column: column_after(&text[start..at]),
             text: &text[start..end],
         })
     }
 }
 
 impl Clone for Source {
-    ghost use Rattle.wit_lex.specs.Sources.{told_of};
+    ghost use Rattle.wit_lex.specs.Sources.{stated_of};
 
-    ghost is_clone = { λ s copy. told_of copy ≡ told_of s };
+    ghost is_clone = { λ s copy. stated_of copy ≡ stated_of s };
 
     fn clone(&self) -> Result<Source, AllocError> {
         Ok(Source {

@@ -1,8 +1,8 @@
-//! The sources of a package, one behind the other.
+//! The sources of a package, one after the other.
 ghost use Rattle.std.specs.Prelude.{◌≡◌, ◌+◌, ◌<◌, ◌++◌, ◌∷◌, [], ℕ, length, slice_get, OnOk, OnErr, IfErr, IfSome, IfNone, Some, IsTrue, ◌↔◌};
 ghost use Rattle.wit_lex.specs.declared.source.Source.{Source};
 ghost use Rattle.wit_lex.specs.Places.{IsPlace};
-ghost use Rattle.wit_lex.specs.Sources.{IsLocated, IsTooLarge, LiesIn, space, told};
+ghost use Rattle.wit_lex.specs.Sources.{IsLocated, IsTooLarge, LiesIn, space, as_stated};
 
 use crate::place::Place;
 use crate::source::Source;
@@ -12,7 +12,7 @@ use wit_values::Span;
 
 /// Sources, each with a range of places of its own.
 ///
-/// The first begins at 0, and each other one place behind the end of the one before, so that the
+/// The first begins at 0, and each other one place after the end of the one before, so that the
 /// end of a source is no place of the next.
 #[derive(Debug, PartialEq, Eq, Drop)]
 pub struct SourceMap {
@@ -42,10 +42,10 @@ impl SourceMap {
         self.sources.as_slice()
     }
 
-    /// Adds a source behind the others.
+    /// Adds a source after the others.
     ///
     /// Refused under the number 52, at (0, 0), where the lengths of all sources, and one place more
-    /// for each, are more than 4,294,967,295 together, and under 45 for want of memory. Then the map
+    /// for each, are more than 4,294,967,295 together, and under 45 because an allocation failed. Then the map
     /// is as it was.
     pub fn push(&mut self, alloc: Global, path: &str, contents: &str) -> ParseResult<()>
         ensures sources { OnOk result ((s : _) × IsSource path.now contents.now (space self.old.sources.items) s × (self.new.sources.items ≡ self.old.sources.items ++ s ∷ [])) }
@@ -94,7 +94,7 @@ impl SourceMap {
 }
 
 impl Clone for SourceMap {
-    ghost is_clone = { λ map copy. told copy.sources.items ≡ told map.sources.items };
+    ghost is_clone = { λ map copy. as_stated copy.sources.items ≡ as_stated map.sources.items };
 
     fn clone(&self) -> Result<SourceMap, AllocError> {
         Ok(SourceMap {
@@ -119,7 +119,7 @@ pub fn source_with(sources: &[Source], span: Span) -> Option<&Source>
 
 /// Whether two maps have the same sources: path, text and place of each, by `==`.
 pub fn is_same_map(a: &SourceMap, b: &SourceMap) -> bool
-    ensures { IsTrue result ↔ (told a.now.sources.items ≡ told b.now.sources.items) }
+    ensures { IsTrue result ↔ (as_stated a.now.sources.items ≡ as_stated b.now.sources.items) }
 {
     a == b
 }

@@ -11,7 +11,7 @@ use crate::fault::{ReadError, ReadFault, ReadResult};
 use crate::kind::{Kind, kind_of, sign};
 use crate::scan::{cut, digits_end, is_digit, is_letter, width, word_end};
 
-/// A token: what it is, its range in the text, which is empty only at the end, and what stands in it.
+/// A token: what it is, its range in the text, which is empty only at the end, and what is in it.
 #[derive(Clone, Copy, Debug)]
 pub struct Token<'a> {
     pub kind: Kind,
@@ -103,9 +103,9 @@ fn token_at<'a>(source: &'a str, start: usize) -> ReadResult<Token<'a>>
 }
 
 impl<'a> Token<'a> {
-    /// Becomes the token behind the blanks from a place on; behind a refusal it is as it was.
+    /// Becomes the token after the blanks from a place on; after a refusal it is as it was.
     ///
-    /// It is written where it stands: each token of a source goes through here.
+    /// It is written where it is: each token of a source goes through here.
     #[inline(never)]
     pub fn advance(&mut self, source: &'a str, from: usize) -> ReadResult<()>
         requires within { from ≤ length source.now }
@@ -130,7 +130,7 @@ impl<'a> Token<'a> {
     }
 }
 
-/// The token behind the blanks from a place on.
+/// The token after the blanks from a place on.
 pub fn next_token<'a>(source: &'a str, from: usize) -> ReadResult<Token<'a>>
     requires within { from ≤ length source.now }
     ensures token { IfOk result (λ t. IsToken source.now t) }

@@ -7,7 +7,7 @@ ghost use Rattle.wit_lex.specs.Versions.{IsDotNumber, IsLongest, IsMarked, IsNoD
 
 use crate::scan::{digits_end, is_word_byte};
 
-/// The place behind a `.`; else the place where none stands.
+/// The place after a `.`; else the place where none is.
 fn dot_end(bytes: &[u8], from: usize) -> Result<usize, usize>
     requires { from ≤ length bytes.now }
     ensures found { IfOk result (λ end. (end ≡ from + 1) × (end ≤ length bytes.now)) }
@@ -35,8 +35,8 @@ fn number_end(bytes: &[u8], from: usize) -> Result<usize, usize>
     if from < end { Ok(end) } else { Err(from) }
 }
 
-/// The end of a `.` and a number; else the place where the `.`, or the number behind it, is wanted
-/// and does not stand.
+/// The end of a `.` and a number; else the place where the `.`, or the number after it, is wanted
+/// and is not.
 fn dot_number_end(bytes: &[u8], from: usize) -> Result<usize, usize>
     requires { from ≤ length bytes.now }
     ensures after { IfOk result (λ end. (from < end) × (end ≤ length bytes.now)) }
@@ -72,7 +72,7 @@ fn run_end(bytes: &[u8], from: usize) -> usize
     at
 }
 
-/// The end of a mark and the run behind it, or the place itself where no mark or no run stands.
+/// The end of a mark and the run after it, or the place itself where no mark or no run is.
 fn marked_end(bytes: &[u8], from: usize, mark: u8) -> usize
     requires within { from ≤ length bytes.now }
     requires some { 0 < from }
@@ -90,7 +90,7 @@ fn marked_end(bytes: &[u8], from: usize, mark: u8) -> usize
 }
 
 /// The end of the second and third number of a version whose first number ends at a place; else
-/// the place where a `.` or a number is wanted and does not stand.
+/// the place where a `.` or a number is wanted and is not.
 fn numbers_end(bytes: &[u8], from: usize) -> Result<usize, usize>
     requires { from ≤ length bytes.now }
     ensures after { IfOk result (λ end. (from < end) × (end ≤ length bytes.now)) }
@@ -105,7 +105,7 @@ fn numbers_end(bytes: &[u8], from: usize) -> Result<usize, usize>
 
 /// The end of a version whose first number ends at a place: three numbers joined by `.`, then
 /// perhaps `-` and a run, then perhaps `+` and a run; else the place where a `.` or a number is
-/// wanted and does not stand.
+/// wanted and is not.
 pub fn version_end(bytes: &[u8], from: usize) -> Result<usize, usize>
     requires { from ≤ length bytes.now }
     ensures after { IfOk result (λ end. (from < end) × (end ≤ length bytes.now)) }

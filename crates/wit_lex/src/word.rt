@@ -2,7 +2,7 @@
 ghost use Rattle.std.specs.Prelude.{◌≡◌, ◌<◌, IfNone, IfSome, length, slice_index};
 ghost use Rattle.wit_lex.specs.Words.{IsPlain, word_text};
 
-/// A word that is no name where no `%` stands before it.
+/// A word that is no name where no `%` comes before it.
 #[derive(Clone, Copy, Debug, PartialEq, Eq)]
 pub enum Word {
     Use,
@@ -59,7 +59,7 @@ fn spelled(text: &str, like: &str, word: Word) -> Option<Word>
     if text == like { Some(word) } else { None }
 }
 
-/// The word of two letters that a text is, told by its first one first.
+/// The word of two letters that a text is, given by its first one first.
 fn word_of_two(text: &str, first: u8) -> Option<Word>
     requires long { length text.now ≡ 2 }
     requires first { slice_index text.now 0 ≡ first }
@@ -200,7 +200,7 @@ fn word_of_more(text: &str, first: u8) -> Option<Word>
     }
 }
 
-/// The word that a text is, told by its length and its first letter first.
+/// The word that a text is, given by its length and its first letter first.
 pub fn word_of(text: &str) -> Option<Word>
     ensures word { IfSome result (λ word. text.now ≡ word_text word) }
     ensures none { IfNone result (IsPlain text.now) }

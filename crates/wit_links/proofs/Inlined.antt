@@ -1,4 +1,4 @@
--- The names that are held of the interfaces that are written in a world.
+-- The names that are borrowed of the interfaces that are written in a world.
 use Rattle.std.proofs.Common.{◌≡◌, ℕ, suc, ◌+◌, ◌<◌, All, Bool, cond, List, [], ◌∷◌, ◌++◌, length, get_or, Some, map, refl, sym, ap, ◌∙◌, subst, arith}
 use Rattle.std.specs.Prelude.{slice_get}
 use Rattle.std.specs.List.{flat_map}
@@ -9,13 +9,13 @@ use Rattle.std.proofs.lemmas.Option.{slice_get-get_or, slice_get-map, slice_get_
 use Rattle.wit_tree.specs.declared.tree.Extern.{Extern}
 use Rattle.wit_type_tree.specs.declared.leaves.Id.{Id}
 use Rattle.wit_tree.specs.declared.tree.InterfaceItem.{InterfaceItem}
-use Rattle.wit_syntax.specs.Crossing.{same_side}
+use Rattle.wit_syntax.specs.ExternPart.{same_side}
 use Rattle.wit_syntax.specs.Source.{Item, ScopeName, TopName, interface_part, part_names, scope_names}
 use Rattle.wit_syntax.specs.Sides.{SideItem, SideFunction, SideLink, SideInline, inline_item, item_inline, item_side, items_on, side_items}
 use Rattle.wit_syntax.proofs.Addresses.{side_itself}
 use Rattle.wit_syntax.proofs.Lists.{at_back}
-use Rattle.wit_item_names.specs.Inside.{inline_names}
-use Rattle.wit_items.specs.Inside.{names_written}
+use Rattle.wit_item_names.specs.InlineNames.{inline_names}
+use Rattle.wit_items.specs.InlineNames.{names_written}
 
 -- there are as many lists of names as interfaces
 names_count : (top : List TopName) (xs : List SideItem) → length (flat_map (inline_names top) xs) ≡ length (flat_map item_inline xs)
@@ -24,32 +24,32 @@ names_count top (SideFunction fn ∷ xs) = names_count top xs
 names_count top (SideLink link ∷ xs) = names_count top xs
 names_count top (SideInline x name items ∷ xs) = ap suc (names_count top xs)
 
--- the names of the next interface that is written on a side stand behind those of the others
+-- the names of the next interface that is written on a side come after those of the others
 pub names_next : (i : Item) (xs rest : List SideItem) (x : Extern) (name : Id) (items : List InterfaceItem) → side_items i ≡ xs ++ SideInline x name items ∷ rest → slice_get (names_written x.side i) (length (flat_map item_inline (items_on x.side xs))) ≡ Some (flat_map (part_names i.top) (map interface_part items))
 names_next i xs rest x name items all =
     let here = SideInline x name items in
     let of = inline_names i.top in
     let before = items_on x.side xs in
     let own = flat_map (part_names i.top) (map interface_part items) in
-    let behind = flat_map of (items_on x.side rest) in
+    let rest_after = flat_map of (items_on x.side rest) in
     let split : items_on x.side (xs ++ here ∷ rest) ≡ before ++ here ∷ items_on x.side rest = filter-append (λ y. same_side x.side (item_side y)) xs (here ∷ rest) ∙ ap (λ (b : Bool). before ++ cond b (here ∷ items_on x.side rest) (items_on x.side rest)) (side_itself x.side) in
-    let whole : names_written x.side i ≡ flat_map of before ++ own ∷ behind = ap (λ (l : List SideItem). flat_map of (items_on x.side l)) all ∙ ap (flat_map of) split ∙ flat_map-append of before (here ∷ items_on x.side rest) in
+    let whole : names_written x.side i ≡ flat_map of before ++ own ∷ rest_after = ap (λ (l : List SideItem). flat_map of (items_on x.side l)) all ∙ ap (flat_map of) split ∙ flat_map-append of before (here ∷ items_on x.side rest) in
     let count : length (flat_map of before) ≡ length (flat_map item_inline before) = names_count i.top before in
     let index : length (flat_map item_inline before) ≡ length (flat_map of before) + 0 = omega arith in
-    ap (slice_get (names_written x.side i)) index ∙ ap (λ (l : List (List ScopeName)). slice_get l (length (flat_map of before) + 0)) whole ∙ at_back (flat_map of before) (own ∷ behind) 0 own refl
+    ap (slice_get (names_written x.side i)) index ∙ ap (λ (l : List (List ScopeName)). slice_get l (length (flat_map of before) + 0)) whole ∙ at_back (flat_map of before) (own ∷ rest_after) 0 own refl
 
--- so there are names of it among those that are held
-pub names_within : (held : List (List ScopeName)) (i : Item) (xs rest : List SideItem) (x : Extern) (name : Id) (items : List InterfaceItem) (n : ℕ) → held ≡ names_written x.side i → side_items i ≡ xs ++ SideInline x name items ∷ rest → n ≡ length (flat_map item_inline (items_on x.side xs)) → n < length held
-names_within held i xs rest x name items n same all count = slice_get_within held n (flat_map (part_names i.top) (map interface_part items)) (ap (slice_get held) count ∙ ap (λ (l : List (List ScopeName)). slice_get l (length (flat_map item_inline (items_on x.side xs)))) same ∙ names_next i xs rest x name items all)
+-- so there are names of it among those that are borrowed
+pub names_within : (borrowed : List (List ScopeName)) (i : Item) (xs rest : List SideItem) (x : Extern) (name : Id) (items : List InterfaceItem) (n : ℕ) → borrowed ≡ names_written x.side i → side_items i ≡ xs ++ SideInline x name items ∷ rest → n ≡ length (flat_map item_inline (items_on x.side xs)) → n < length borrowed
+names_within borrowed i xs rest x name items n same all count = slice_get_within borrowed n (flat_map (part_names i.top) (map interface_part items)) (ap (slice_get borrowed) count ∙ ap (λ (l : List (List ScopeName)). slice_get l (length (flat_map item_inline (items_on x.side xs)))) same ∙ names_next i xs rest x name items all)
 
 pub head_same : {X : Type 0} (x y : X) → x ∷ [] ≡ y ∷ [] → x ≡ y
 head_same x y h = cc
 
 -- and those at its place are its own
-pub names_own : (held : List (List ScopeName)) (i s : Item) (xs rest : List SideItem) (x : Extern) (name : Id) (items : List InterfaceItem) (n place : ℕ) (names : List ScopeName) → held ≡ names_written x.side i → side_items i ≡ xs ++ SideInline x name items ∷ rest → n ≡ length (flat_map item_inline (items_on x.side xs)) → inline_item i place (SideInline x name items) ≡ s ∷ [] → slice_get held n ≡ Some names → names ≡ scope_names s
-names_own held i s xs rest x name items n place names same all count is at =
+pub names_own : (borrowed : List (List ScopeName)) (i s : Item) (xs rest : List SideItem) (x : Extern) (name : Id) (items : List InterfaceItem) (n place : ℕ) (names : List ScopeName) → borrowed ≡ names_written x.side i → side_items i ≡ xs ++ SideInline x name items ∷ rest → n ≡ length (flat_map item_inline (items_on x.side xs)) → inline_item i place (SideInline x name items) ≡ s ∷ [] → slice_get borrowed n ≡ Some names → names ≡ scope_names s
+names_own borrowed i s xs rest x name items n place names same all count is at =
     let own = flat_map (part_names i.top) (map interface_part items) in
-    let there : slice_get held n ≡ Some own = ap (slice_get held) count ∙ ap (λ (l : List (List ScopeName)). slice_get l (length (flat_map item_inline (items_on x.side xs)))) same ∙ names_next i xs rest x name items all in
+    let there : slice_get borrowed n ≡ Some own = ap (slice_get borrowed) count ∙ ap (λ (l : List (List ScopeName)). slice_get l (length (flat_map item_inline (items_on x.side xs)))) same ∙ names_next i xs rest x name items all in
     let one : names ≡ own = cc in
     let made : own ∷ [] ≡ scope_names s ∷ [] = ap (map scope_names) is in
     one ∙ head_same own (scope_names s) made

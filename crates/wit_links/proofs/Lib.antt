@@ -1,4 +1,4 @@
-mod Including
+mod IncludePart
 pub mod Inlined
 pub mod Leading
 pub mod WorldsFound

@@ -9,32 +9,32 @@ use Rattle.indexmap.specs.IndexMap.{insert_entry}
 use Rattle.wit_tree.specs.declared.tree.PackageFile.{PackageFile}
 use Rattle.wit_model.specs.declared.world.World.{World}
 use Rattle.wit_syntax.specs.Address.{Address, WorldNamed}
-use Rattle.wit_syntax.proofs.Lists.{at_front, at_seam}
+use Rattle.wit_syntax.proofs.Lists.{at_prefix, at_seam}
 use Rattle.wit_syntax.proofs.Names.{name_cases, name_itself, lookup-insert_entry}
 use Rattle.wit_arena.specs.Resolving.{Names, env_of}
 use Rattle.wit_arena.specs.Resolved.{worlds_at}
 use Rattle.wit_items.specs.Items.{others_of}
 use Rattle.wit_links.specs.Worlds.{AreFound, name_at}
 
--- the world at a place, where one stands
+-- the world at a place, where one is
 named_at : (ws : List World) (t : ℕ) (name : List ℕ) → name_at ws t ≡ Some name → (w : World) × (slice_get ws t ≡ Some w) × (w.name ≡ name)
 named_at [] t name at = absurd (let f : ⊥ = cc in f)
 named_at (w ∷ ws) zero name at = (w, refl, cc)
 named_at (w ∷ ws) (suc t) name at = named_at ws t name at
 
--- it stands there among more
+-- it is there among more
 at_more : (ws more : List World) (t : ℕ) (name : List ℕ) → name_at ws t ≡ Some name → name_at (ws ++ more) t ≡ Some name
 at_more ws more t name at =
     let w = named_at ws t name at in
-    ap (option_map (λ (x : World). x.name)) (at_front ws more t w.0 w.1) ∙ ap Some w.2
+    ap (option_map (λ (x : World). x.name)) (at_prefix ws more t w.0 w.1) ∙ ap Some w.2
 
 -- no name, nothing found
 pub found_none : (count : ℕ) (ws : List World) (by_name : Names) → by_name ≡ [] → AreFound count ws by_name
 found_none count ws by_name none = subst (AreFound count ws) (sym none) (λ n t here. absurd (let f : ⊥ = cc in f))
 
 -- more worlds
-pub front_wider : (count : ℕ) (ws more : List World) → count ≤ length ws → count ≤ length (ws ++ more)
-front_wider count ws more enough = omega (arith, length-append ws more)
+pub prefix_wider : (count : ℕ) (ws more : List World) → count ≤ length ws → count ≤ length (ws ++ more)
+prefix_wider count ws more enough = omega (arith, length-append ws more)
 
 -- more worlds, and no more names
 pub found_wider : (count : ℕ) (ws more : List World) (by_name : Names) → AreFound count ws by_name → AreFound count (ws ++ more) by_name
@@ -61,7 +61,7 @@ pub found_put : {X E : Type 0} (r : Result X E) (count : ℕ) (ws : List World) 
 found_put (Ok x) count ws by_name now w name enough found called put kept = subst (AreFound count (ws ++ w ∷ [])) (sym put) (found_more count ws by_name w name enough found called)
 found_put (Err e) count ws by_name now w name enough found called put kept = subst (AreFound count (ws ++ w ∷ [])) (sym kept) (found_wider count ws (w ∷ []) by_name found)
 
--- the address of a world that stands after those at these addresses
+-- the address of a world that is after those at these addresses
 found_place : (ss : List Address) (ws : List World) (t : ℕ) (name : List ℕ) → length ss ≤ t → name_at ws t ≡ Some name → slice_get (worlds_at ss ws) t ≡ Some (WorldNamed name)
 found_place [] ws t name enough at =
     let w = named_at ws t name at in

@@ -4,7 +4,7 @@ use Rattle.wit_tree.specs.declared.tree.Include.{Include}
 use Rattle.wit_tree.specs.declared.tree.PackageFile.{PackageFile}
 use Rattle.wit_syntax.specs.Source.{TopName, leads, path_id}
 use Rattle.wit_syntax.specs.Fault.{Fault, fault}
-use Rattle.wit_syntax.specs.Notes.{IsBrokenStability}
+use Rattle.wit_syntax.specs.Metadata.{IsBrokenStability}
 use Rattle.wit_arena.specs.Resolving.{IsNoWorld, Names}
 
 -- an include leads to no world

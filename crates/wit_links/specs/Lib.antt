@@ -1,3 +1,3 @@
 pub mod Includes
-pub mod Inside
+pub mod SideCounts
 pub mod Worlds

@@ -4,7 +4,7 @@ use Rattle.std.specs.Option.{option_map}
 use Rattle.wit_model.specs.declared.world.World.{World}
 use Rattle.wit_arena.specs.Resolving.{Names, env_of}
 
--- the name of the world at a place, if one stands there
+-- the name of the world at a place, if one is there
 abbrev pub name_at : List World → ℕ → Option (List ℕ)
 name_at ws place = option_map (λ (w : World). w.name) (slice_get ws place)
 

@@ -1,34 +1,34 @@
-//! What stands on the sides of a world as it is written, with the interfaces that its paths lead to.
+//! What is on the sides of a world as it is written, with the interfaces that its paths lead to.
 ghost use Rattle.std.specs.Prelude.{◌≡◌, ◌<◌, ◌++◌, ◌∷◌, [], Contains, IfOk, OnOk, length, map, false, true};
 ghost use Rattle.std.specs.List.{flat_map};
 ghost use Rattle.wit_syntax.specs.Address.{is_foreign};
 ghost use Rattle.wit_syntax.specs.Function.{definition_functions};
 ghost use Rattle.wit_syntax.specs.Sides.{SideFunction, extern_items, extern_link, part_items};
-ghost use Rattle.wit_syntax.specs.Source.{TheWorld, Crossing, Local, leads, path_scope, world_part, about};
-ghost use Rattle.wit_externs.specs.Held.{extern_behind, externs_behind, link_behind};
-ghost use Rattle.wit_externs.specs.declared.held.HeldLink.{HeldLink as TheLink};
-ghost use Rattle.wit_externs.specs.declared.held.HeldExtern.TheVariants.{Link as TheHeld};
+ghost use Rattle.wit_syntax.specs.Source.{TheWorld, ExternPart, Local, leads, path_scope, world_part, about};
+ghost use Rattle.wit_externs.specs.SideMembers.{extern_view, externs_view, link_view};
+ghost use Rattle.wit_externs.specs.declared.borrowed.BorrowedLink.{BorrowedLink as TheLink};
+ghost use Rattle.wit_externs.specs.declared.borrowed.BorrowedExtern.TheVariants.{Link as TheBorrowed};
 ghost use Rattle.wit_files.specs.FileNames.{top_at};
 ghost use Rattle.wit_item_names.specs.Items.{HasItem, HasPart, HasPath};
-ghost use Rattle.wit_items.specs.Items.{declared_behind};
-ghost use Rattle.wit_item_names.specs.Interfaces.{front_of};
-ghost use Rattle.wit_world_sides.specs.Links.{AreLed, IsLed, source_place};
+ghost use Rattle.wit_items.specs.Items.{declared_view};
+ghost use Rattle.wit_item_names.specs.Interfaces.{prefix_of};
+ghost use Rattle.wit_world_sides.specs.Links.{ArePathTargets, IsPathTarget, source_place};
 
 use crate::inside::declared_world;
 use std::alloc::{AllocError, Global};
-use wit_externs::held::{HeldExtern, HeldInline, HeldLink, Led};
+use wit_externs::borrowed::{BorrowedExtern, BorrowedInline, BorrowedLink, PathTarget};
 use wit_item_names::files::Files;
-use wit_item_names::reached::{Reached, reach};
+use wit_item_names::resolved_path::{ResolvedPath, resolve_path};
 use wit_items::interfaces::Interfaces;
 use wit_items::items::Declared;
-use wit_rules::held::HeldFunction;
+use wit_rules::borrowed::BorrowedFunction;
 use wit_scopes::scope_name::Source;
 use wit_top_names::Target;
 use wit_top_names::declaration::world_items;
 use wit_tree::tree::{Extern, ExternKind, Id, TypeBody, TypeDef, UsePath, World, WorldItem};
 use wit_values::push;
 
-/// The place of the interface that is held, where it is resolved.
+/// The place of the interface that is borrowed, where it is resolved.
 fn resolved(interfaces: &Interfaces<'_, '_, '_, '_>, source: Source<'_, '_>) -> Option<usize>
     ensures { result ≡ source_place interfaces.now.by_name source.entry }
 {
@@ -54,37 +54,37 @@ fn local_name<'f, 'a>(files: &Files<'_, '_, 'f, 'a>, place: usize, path: &'f Use
 }
 
 /// What a path of a world in the file at a place leads to, among the interfaces that are resolved.
-fn led<'f, 'a>(
+fn path_target<'f, 'a>(
     interfaces: &Interfaces<'_, '_, 'f, 'a>,
     place: usize,
     path: &'f UsePath<'a>,
-) -> Led<'a>
+) -> PathTarget<'a>
     requires path { HasPath interfaces.now.files place path.now }
-    ensures { IsLed interfaces.now.files (front_of interfaces.now.files) interfaces.now.by_name (top_at interfaces.now.files place) path.now result }
+    ensures { IsPathTarget interfaces.now.files (prefix_of interfaces.now.files) interfaces.now.by_name (top_at interfaces.now.files place) path.now result }
 {
-    match reach(&interfaces.files, place, path) {
-        Reached::Interface(source) => match resolved(interfaces, source) {
-            Some(place) => Led::Interface(place),
-            None => Led::Nothing(local_name(&interfaces.files, place, path)),
+    match resolve_path(&interfaces.files, place, path) {
+        ResolvedPath::Interface(source) => match resolved(interfaces, source) {
+            Some(place) => PathTarget::Interface(place),
+            None => PathTarget::Nothing(local_name(&interfaces.files, place, path)),
         },
-        Reached::World => Led::World,
-        Reached::Nothing(id) => Led::Nothing(id),
+        ResolvedPath::World => PathTarget::World,
+        ResolvedPath::Nothing(id) => PathTarget::Nothing(id),
     }
 }
 
 /// Adds the functions of a definition: those of a resource.
 fn add_definition<'f, 'a>(
-    externs: &mut Vec<HeldExtern<'f, 'a>>,
+    externs: &mut Vec<BorrowedExtern<'f, 'a>>,
     definition: &'f TypeDef<'a>,
 ) -> Result<(), AllocError>
-    ensures behind { OnOk result (externs_behind externs.new.items ≡ externs_behind externs.old.items ++ map SideFunction (definition_functions definition.now.name definition.now.body)) }
-    ensures links { OnOk result ((l : TheLink) → Contains externs.new.items (TheHeld l) → Contains externs.old.items (TheHeld l)) }
+    ensures rest_after { OnOk result (externs_view externs.new.items ≡ externs_view externs.old.items ++ map SideFunction (definition_functions definition.now.name definition.now.body)) }
+    ensures links { OnOk result ((l : TheLink) → Contains externs.new.items (TheBorrowed l) → Contains externs.old.items (TheBorrowed l)) }
 {
     if let TypeBody::Resource { funcs } = &definition.body {
         for function in funcs {
             push(
                 externs,
-                HeldExtern::Function(HeldFunction::Of(definition.name, function)),
+                BorrowedExtern::Function(BorrowedFunction::Of(definition.name, function)),
             )?;
         }
     }
@@ -92,42 +92,42 @@ fn add_definition<'f, 'a>(
 }
 
 /// An interface that is imported or exported by its path, perhaps under a name.
-fn held_link<'f, 'a>(
+fn borrowed_link<'f, 'a>(
     written: &'f Extern<'a>,
     name: Option<Id<'a>>,
     path: &'f UsePath<'a>,
-    led: Led<'a>,
-) -> HeldLink<'f, 'a>
-    ensures behind { link_behind result ≡ extern_link written.now name.entry path.now }
-    ensures led { result.led ≡ led.entry }
+    path_target: PathTarget<'a>,
+) -> BorrowedLink<'f, 'a>
+    ensures rest_after { link_view result ≡ extern_link written.now name.entry path.now }
+    ensures path_target { result.path_target ≡ path_target.entry }
 {
-    HeldLink {
+    BorrowedLink {
         side: written.side,
         docs: &written.docs,
         attributes: &written.attributes,
         name,
         path,
-        led,
+        path_target,
     }
 }
 
 /// What a world in the file at a place imports or exports.
-fn held_extern<'f, 'a>(
+fn borrowed_extern<'f, 'a>(
     written: &'f Extern<'a>,
     interfaces: &Interfaces<'_, '_, 'f, 'a>,
     place: usize,
-) -> HeldExtern<'f, 'a>
-    requires part { HasPart interfaces.now.files place (Crossing written.now) }
-    ensures behind { extern_behind result ∷ [] ≡ extern_items written.now written.now.kind }
-    ensures led { (l : TheLink) → result ≡ TheHeld l → IsLed interfaces.now.files (front_of interfaces.now.files) interfaces.now.by_name (top_at interfaces.now.files place) l.path.now l.led }
+) -> BorrowedExtern<'f, 'a>
+    requires part { HasPart interfaces.now.files place (ExternPart written.now) }
+    ensures rest_after { extern_view result ∷ [] ≡ extern_items written.now written.now.kind }
+    ensures path_target { (l : TheLink) → result ≡ TheBorrowed l → IsPathTarget interfaces.now.files (prefix_of interfaces.now.files) interfaces.now.by_name (top_at interfaces.now.files place) l.path.now l.path_target }
 {
     match &written.kind {
-        ExternKind::Interface(name, items) => HeldExtern::Inline(HeldInline {
+        ExternKind::Interface(name, items) => BorrowedExtern::Inline(BorrowedInline {
             written,
             name: *name,
             items,
         }),
-        ExternKind::Func(name, func) => HeldExtern::Function(HeldFunction::Across(
+        ExternKind::Func(name, func) => BorrowedExtern::Function(BorrowedFunction::Across(
             written.side,
             &written.docs,
             &written.attributes,
@@ -135,12 +135,12 @@ fn held_extern<'f, 'a>(
             func,
         )),
         ExternKind::Path(path) => {
-            let led = led(interfaces, place, path);
-            HeldExtern::Link(held_link(written, None, path, led))
+            let path_target = path_target(interfaces, place, path);
+            BorrowedExtern::Link(borrowed_link(written, None, path, path_target))
         }
         ExternKind::NamedPath(name, path) => {
-            let led = led(interfaces, place, path);
-            HeldExtern::Link(held_link(written, Some(*name), path, led))
+            let path_target = path_target(interfaces, place, path);
+            BorrowedExtern::Link(borrowed_link(written, Some(*name), path, path_target))
         }
     }
 }
@@ -156,16 +156,16 @@ fn extern_count(world: &World<'_>) -> usize {
     count
 }
 
-/// What stands on the sides of a world in the file at a place.
+/// What is on the sides of a world in the file at a place.
 fn world_externs<'f, 'a>(
     alloc: Global,
     world: &'f World<'a>,
     interfaces: &Interfaces<'_, '_, 'f, 'a>,
     place: usize,
-) -> Result<Vec<HeldExtern<'f, 'a>>, AllocError>
+) -> Result<Vec<BorrowedExtern<'f, 'a>>, AllocError>
     requires item { HasItem interfaces.now.files place (TheWorld world.now) }
-    ensures behind { IfOk result (λ externs. externs_behind externs.items ≡ flat_map part_items (map world_part world.now.items.items)) }
-    ensures led { IfOk result (λ externs. AreLed interfaces.now.files (front_of interfaces.now.files) interfaces.now.by_name (top_at interfaces.now.files place) externs.items) }
+    ensures rest_after { IfOk result (λ externs. externs_view externs.items ≡ flat_map part_items (map world_part world.now.items.items)) }
+    ensures path_target { IfOk result (λ externs. ArePathTargets interfaces.now.files (prefix_of interfaces.now.files) interfaces.now.by_name (top_at interfaces.now.files place) externs.items) }
 {
     let mut externs = Vec::with_capacity(alloc, extern_count(world))?;
     for part in world_items(world) {
@@ -174,24 +174,24 @@ fn world_externs<'f, 'a>(
             WorldItem::Use(_) => {}
             WorldItem::Include(_) => {}
             WorldItem::Extern(written) => {
-                push(&mut externs, held_extern(written, interfaces, place))?
+                push(&mut externs, borrowed_extern(written, interfaces, place))?
             }
         }
     }
     Ok(externs)
 }
 
-/// What stands on the sides of a declared world in the file at a place.
+/// What is on the sides of a declared world in the file at a place.
 pub fn declared_externs<'f, 'a>(
     alloc: Global,
     declared: &Declared<'f, 'a>,
     interfaces: &Interfaces<'_, '_, 'f, 'a>,
     place: usize,
-) -> Result<Vec<HeldExtern<'f, 'a>>, AllocError>
-    requires sort { (about (declared_behind declared.now)).is_world ≡ true }
-    requires item { HasItem interfaces.now.files place (declared_behind declared.now) }
-    ensures behind { IfOk result (λ externs. externs_behind externs.items ≡ flat_map part_items (about (declared_behind declared.now)).parts) }
-    ensures led { IfOk result (λ externs. AreLed interfaces.now.files (front_of interfaces.now.files) interfaces.now.by_name (top_at interfaces.now.files place) externs.items) }
+) -> Result<Vec<BorrowedExtern<'f, 'a>>, AllocError>
+    requires sort { (about (declared_view declared.now)).is_world ≡ true }
+    requires item { HasItem interfaces.now.files place (declared_view declared.now) }
+    ensures rest_after { IfOk result (λ externs. externs_view externs.items ≡ flat_map part_items (about (declared_view declared.now)).parts) }
+    ensures path_target { IfOk result (λ externs. ArePathTargets interfaces.now.files (prefix_of interfaces.now.files) interfaces.now.by_name (top_at interfaces.now.files place) externs.items) }
 {
     let world = declared_world(declared);
     world_externs(alloc, world, interfaces, place)

@@ -2,9 +2,9 @@
 ghost use Rattle.std.specs.Prelude.{◌≡◌, ◌<◌, ◌⊎◌, ◌++◌, IfErr, IfOk, OnOk, length, map, true, codes, string_bytes};
 ghost use Rattle.std.specs.List.{flat_map};
 ghost use Rattle.std.specs.Option.{option_copied};
-ghost use Rattle.wit_syntax.specs.Source.{leads, TheWorld, Including, world_part, about};
+ghost use Rattle.wit_syntax.specs.Source.{leads, TheWorld, IncludePart, world_part, about};
 ghost use Rattle.wit_syntax.specs.Scope.{part_includes};
-ghost use Rattle.wit_syntax.specs.Notes.{IsBrokenStability};
+ghost use Rattle.wit_syntax.specs.Metadata.{IsBrokenStability};
 ghost use Rattle.wit_syntax.specs.Fault.{Fault};
 ghost use Rattle.wit_syntax.specs.Broken.{Refused};
 ghost use Rattle.wit_arena.specs.Whole.{renamed, IsInclude, AreIncludes};
@@ -12,16 +12,16 @@ ghost use Rattle.wit_arena.specs.Resolving.{IsLostInclude};
 ghost use Rattle.wit_arena.specs.Resolved.{worlds_at, IsBrokenItemStability};
 ghost use Rattle.wit_files.specs.FileNames.{top_at};
 ghost use Rattle.wit_item_names.specs.Items.{HasItem, HasPart, world_entry, world_at};
-ghost use Rattle.wit_items.specs.Items.{declared_behind, others_of};
+ghost use Rattle.wit_items.specs.Items.{declared_view, others_of};
 ghost use Rattle.wit_links.specs.Includes.{IsLost, AreStable};
 
 use crate::worlds::Worlds;
 use std::alloc::{AllocError, Global};
-use wit_item_names::reached::entry_of;
+use wit_item_names::resolved_path::entry_of;
 use wit_items::items::Declared;
 use wit_model::{AstItem as Entry, IncludeName, WorldInclude};
 use wit_notes::attributes::check_stability;
-use wit_notes::{path_id, told_stability};
+use wit_notes::{path_id, stated_stability};
 use wit_refusals::refusal::refuse;
 use wit_top_names::Target;
 use wit_top_names::declaration::world_items;
@@ -88,7 +88,7 @@ fn resolve_include<'f, 'a>(
     place: usize,
     include: &'f tree::Include<'a>,
 ) -> ParseResult<WorldInclude>
-    requires part { HasPart worlds.now.interfaces.now.files place (Including include.now) }
+    requires part { HasPart worlds.now.interfaces.now.files place (IncludePart include.now) }
     ensures is { IfOk result (λ i. IsInclude (worlds_at (others_of worlds.now.interfaces.now.files) worlds.now.arena) (top_at worlds.now.interfaces.now.files place) include.now i) }
     ensures stable { OnOk result ((f : Fault) → IsBrokenStability include.now.attributes.items f → ⊥) }
     ensures refused { IfErr result (Refused (λ f. IsBrokenStability include.now.attributes.items f ⊎ IsLost worlds.now.interfaces.now.files worlds.now.by_name (top_at worlds.now.interfaces.now.files place) include.now f)) }
@@ -103,7 +103,7 @@ fn resolve_include<'f, 'a>(
         }
     };
     let names = renames(alloc, &include.names)?;
-    let stability = told_stability(alloc, &include.attributes)?;
+    let stability = stated_stability(alloc, &include.attributes)?;
     Ok(WorldInclude {
         stability,
         id,
@@ -152,11 +152,11 @@ pub fn declared_includes<'f, 'a>(
     worlds: &Worlds<'_, '_, '_, 'f, 'a>,
     place: usize,
 ) -> ParseResult<Row<WorldInclude>>
-    requires sort { (about (declared_behind declared.now)).is_world ≡ true }
-    requires item { HasItem worlds.now.interfaces.now.files place (declared_behind declared.now) }
-    ensures are { IfOk result (λ includes. AreIncludes (worlds_at (others_of worlds.now.interfaces.now.files) worlds.now.arena) (record { top = top_at worlds.now.interfaces.now.files place; declared = declared_behind declared.now }) includes) }
-    ensures stable { OnOk result (AreStable (flat_map part_includes (about (declared_behind declared.now)).parts)) }
-    ensures refused { IfErr result (Refused (λ f. IsBrokenItemStability (record { top = top_at worlds.now.interfaces.now.files place; declared = declared_behind declared.now }) f ⊎ IsLostInclude worlds.now.interfaces.now.files worlds.now.by_name (record { top = top_at worlds.now.interfaces.now.files place; declared = declared_behind declared.now }) f)) }
+    requires sort { (about (declared_view declared.now)).is_world ≡ true }
+    requires item { HasItem worlds.now.interfaces.now.files place (declared_view declared.now) }
+    ensures are { IfOk result (λ includes. AreIncludes (worlds_at (others_of worlds.now.interfaces.now.files) worlds.now.arena) (record { top = top_at worlds.now.interfaces.now.files place; declared = declared_view declared.now }) includes) }
+    ensures stable { OnOk result (AreStable (flat_map part_includes (about (declared_view declared.now)).parts)) }
+    ensures refused { IfErr result (Refused (λ f. IsBrokenItemStability (record { top = top_at worlds.now.interfaces.now.files place; declared = declared_view declared.now }) f ⊎ IsLostInclude worlds.now.interfaces.now.files worlds.now.by_name (record { top = top_at worlds.now.interfaces.now.files place; declared = declared_view declared.now }) f)) }
 {
     match declared {
         Declared::World(world) => resolve_includes(alloc, *world, worlds, place),

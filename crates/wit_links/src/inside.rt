@@ -5,23 +5,23 @@ ghost use Rattle.wit_syntax.specs.Address.{Address};
 ghost use Rattle.wit_syntax.specs.Source.{TheWorld, item_name, about};
 ghost use Rattle.std.specs.List.{filter};
 ghost use Rattle.wit_syntax.specs.Sides.{SideItem, inline_item, is_interface, item_inline};
-ghost use Rattle.wit_externs.specs.declared.held.HeldExtern.TheVariants.{Inline as TheHeld};
-ghost use Rattle.wit_externs.specs.Held.{extern_behind};
-ghost use Rattle.wit_scopes.specs.Front.{AreNamesPlaced};
-ghost use Rattle.wit_scopes.specs.Held.{name_behind};
-ghost use Rattle.wit_items.specs.Front.{AreItemsPlaced};
-ghost use Rattle.wit_items.specs.Inside.{inside_behind};
-ghost use Rattle.wit_items.specs.Items.{declared_behind, item_behind, scope_item};
-ghost use Rattle.wit_links.specs.Inside.{IsMet, met_on};
+ghost use Rattle.wit_externs.specs.declared.borrowed.BorrowedExtern.TheVariants.{Inline as TheBorrowed};
+ghost use Rattle.wit_externs.specs.SideMembers.{extern_view};
+ghost use Rattle.wit_scopes.specs.PlacedNames.{AreNamesPlaced};
+ghost use Rattle.wit_scopes.specs.Borrowed.{name_view};
+ghost use Rattle.wit_items.specs.PlacedItems.{AreItemsPlaced};
+ghost use Rattle.wit_items.specs.InlineNames.{inside_view};
+ghost use Rattle.wit_items.specs.Items.{declared_view, item_view, scope_item};
+ghost use Rattle.wit_links.specs.SideCounts.{IsSeen, seen_on};
 
-use wit_externs::held::{HeldExtern, HeldInline};
+use wit_externs::borrowed::{BorrowedExtern, BorrowedInline};
 use wit_items::items::{Declared, InlineInterface, Item, ItemScope};
 use wit_scopes::scope_name::ScopeName;
 use wit_tree::tree::{Id, World, WorldSide};
 
 /// The name of a declared item.
 pub fn declared_name<'a>(declared: &Declared<'_, 'a>) -> Id<'a>
-    ensures { result ≡ (about (declared_behind declared.now)).id }
+    ensures { result ≡ (about (declared_view declared.now)).id }
 {
     match declared {
         Declared::Interface(interface) => interface.name,
@@ -32,8 +32,8 @@ pub fn declared_name<'a>(declared: &Declared<'_, 'a>) -> Id<'a>
 
 /// The world that a declared item is.
 pub(crate) fn declared_world<'f, 'a>(declared: &Declared<'f, 'a>) -> &'f World<'a>
-    requires { (about (declared_behind declared.now)).is_world ≡ true }
-    ensures { declared_behind declared.now ≡ TheWorld result.now }
+    requires { (about (declared_view declared.now)).is_world ≡ true }
+    ensures { declared_view declared.now ≡ TheWorld result.now }
 {
     match declared {
         Declared::World(world) => *world,
@@ -41,10 +41,10 @@ pub(crate) fn declared_world<'f, 'a>(declared: &Declared<'f, 'a>) -> &'f World<'
     }
 }
 
-/// What was met on a side of a world.
+/// What occurred on a side of a world.
 #[derive(Clone, Copy)]
 pub struct Counts {
-    /// How many interfaces stand there.
+    /// How many interfaces are there.
     pub interfaces: usize,
     /// How many of these are written there.
     pub inline: usize,
@@ -52,19 +52,19 @@ pub struct Counts {
 
 impl Counts {
     /// With one more.
-    fn with(self, held: &HeldExtern<'_, '_>) -> Counts
+    fn with(self, borrowed: &BorrowedExtern<'_, '_>) -> Counts
         requires interfaces { self.interfaces < usize.MAX }
         requires inline { self.inline < usize.MAX }
-        ensures interfaces { result.interfaces ≡ self.interfaces + length (filter is_interface (extern_behind held.now ∷ [])) }
-        ensures inline { result.inline ≡ self.inline + length (item_inline (extern_behind held.now)) }
+        ensures interfaces { result.interfaces ≡ self.interfaces + length (filter is_interface (extern_view borrowed.now ∷ [])) }
+        ensures inline { result.inline ≡ self.inline + length (item_inline (extern_view borrowed.now)) }
     {
-        match held {
-            HeldExtern::Function(_) => self,
-            HeldExtern::Link(_) => Counts {
+        match borrowed {
+            BorrowedExtern::Function(_) => self,
+            BorrowedExtern::Link(_) => Counts {
                 interfaces: self.interfaces + 1,
                 inline: self.inline,
             },
-            HeldExtern::Inline(_) => Counts {
+            BorrowedExtern::Inline(_) => Counts {
                 interfaces: self.interfaces + 1,
                 inline: self.inline + 1,
             },
@@ -72,33 +72,33 @@ impl Counts {
     }
 }
 
-/// What was met on both sides of a world.
+/// What occurred on both sides of a world.
 #[derive(Clone, Copy)]
-pub struct Met {
-    /// What was met among the imports.
+pub struct Seen {
+    /// What occurred among the imports.
     pub imports: Counts,
-    /// What was met among the exports.
+    /// What occurred among the exports.
     pub exports: Counts,
 }
 
-impl Met {
+impl Seen {
     /// Nothing.
-    pub fn none() -> Met
-        ensures { IsMet [] result }
+    pub fn none() -> Seen
+        ensures { IsSeen [] result }
     {
         let none = Counts {
             interfaces: 0,
             inline: 0,
         };
-        Met {
+        Seen {
             imports: none,
             exports: none,
         }
     }
 
-    /// What was met on a side.
+    /// What occurred on a side.
     pub fn on(self, side: WorldSide) -> Counts
-        ensures { result ≡ met_on side self }
+        ensures { result ≡ seen_on side self }
     {
         match side {
             WorldSide::Imported => self.imports,
@@ -107,19 +107,19 @@ impl Met {
     }
 
     /// With one more.
-    pub fn with(self, held: &HeldExtern<'_, '_>) -> Met
-        requires interfaces { (side : TheSide) → (met_on side self).interfaces < usize.MAX }
-        requires inline { (side : TheSide) → (met_on side self).inline < usize.MAX }
-        ensures { (xs : List SideItem) → IsMet xs self → IsMet (xs ++ extern_behind held.now ∷ []) result }
+    pub fn with(self, borrowed: &BorrowedExtern<'_, '_>) -> Seen
+        requires interfaces { (side : TheSide) → (seen_on side self).interfaces < usize.MAX }
+        requires inline { (side : TheSide) → (seen_on side self).inline < usize.MAX }
+        ensures { (xs : List SideItem) → IsSeen xs self → IsSeen (xs ++ extern_view borrowed.now ∷ []) result }
     {
-        match held.side() {
-            WorldSide::Imported => Met {
-                imports: self.imports.with(held),
+        match borrowed.side() {
+            WorldSide::Imported => Seen {
+                imports: self.imports.with(borrowed),
                 exports: self.exports,
             },
-            WorldSide::Exported => Met {
+            WorldSide::Exported => Seen {
                 imports: self.imports,
-                exports: self.exports.with(held),
+                exports: self.exports.with(borrowed),
             },
         }
     }
@@ -131,9 +131,9 @@ fn names_at<'i, 'f, 'a>(
     side: WorldSide,
     place: usize,
 ) -> &'i [ScopeName<'f, 'a>]
-    requires { place < length (inside_behind side item.now) }
-    ensures named { slice_get (inside_behind side item.now) place ≡ Some (map name_behind result.now) }
-    ensures placed { (front : List Address) → AreItemsPlaced front (item.now ∷ []) → AreNamesPlaced front result.now }
+    requires { place < length (inside_view side item.now) }
+    ensures named { slice_get (inside_view side item.now) place ≡ Some (map name_view result.now) }
+    ensures placed { (prefix : List Address) → AreItemsPlaced prefix (item.now ∷ []) → AreNamesPlaced prefix result.now }
 {
     match side {
         WorldSide::Imported => &item.imported[place],
@@ -141,18 +141,18 @@ fn names_at<'i, 'f, 'a>(
     }
 }
 
-/// The interface that is written in a world of this name, where that was met before it on its side.
+/// The interface that is written in a world of this name, where that occurred before it on its side.
 pub fn inside_scope<'i, 'f, 'a>(
     item: &'i Item<'f, 'a>,
     world: &'a str,
-    inline: &HeldInline<'f, 'a>,
+    inline: &BorrowedInline<'f, 'a>,
     before: Counts,
 ) -> ItemScope<'f, 'a, 'i>
-    requires called { item_name (item_behind item.now) ≡ world.now }
-    requires within { before.inline < length (inside_behind inline.now.written.now.side item.now) }
-    ensures item { inline_item (item_behind item.now) before.interfaces (extern_behind (TheHeld inline.now)) ≡ scope_item result ∷ [] }
-    ensures named { slice_get (inside_behind inline.now.written.now.side item.now) before.inline ≡ Some (map name_behind result.names.now) }
-    ensures placed { (front : List Address) → AreItemsPlaced front (item.now ∷ []) → AreNamesPlaced front result.names.now }
+    requires called { item_name (item_view item.now) ≡ world.now }
+    requires within { before.inline < length (inside_view inline.now.written.now.side item.now) }
+    ensures item { inline_item (item_view item.now) before.interfaces (extern_view (TheBorrowed inline.now)) ≡ scope_item result ∷ [] }
+    ensures named { slice_get (inside_view inline.now.written.now.side item.now) before.inline ≡ Some (map name_view result.names.now) }
+    ensures placed { (prefix : List Address) → AreItemsPlaced prefix (item.now ∷ []) → AreNamesPlaced prefix result.names.now }
 {
     ItemScope {
         file: item.file,

@@ -4,18 +4,18 @@ ghost use Rattle.wit_items.specs.Items.{others_of};
 ghost use Rattle.wit_links.specs.Worlds.{AreFound};
 
 use wit_items::interfaces::Interfaces;
+use wit_maps::TextTable;
 use wit_model::World;
 use wit_types::{Arena, WorldId, WorldPlace};
-use wit_maps::TextTable;
 
 /// The worlds of files that are resolved, once the interfaces are, and the places of the declared ones by
-/// their names: what is found by a name has that name, and stands after those of other packages.
+/// their names: what is found by a name has that name, and is after those of other packages.
 #[derive(Drop)]
 pub struct Worlds<'i, 'n, 'e, 'f, 'a> {
     pub interfaces: &'i Interfaces<'n, 'e, 'f, 'a>,
-    /// The worlds of other packages are its front.
+    /// The worlds of other packages are its prefix.
     pub arena: Arena<World, WorldPlace>,
     pub by_name: TextTable<WorldId>,
-    pub ghost front: { length (others_of interfaces.now.files) ≤ length arena },
+    pub ghost prefix: { length (others_of interfaces.now.files) ≤ length arena },
     pub ghost found: { AreFound (length (others_of interfaces.now.files)) arena by_name },
 }

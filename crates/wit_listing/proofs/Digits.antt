@@ -10,10 +10,10 @@ decimal_parts n large small =
     let last : n % 10 < 10 = omega arith in
     decimal_step n large small ∙ ap (λ digit. decimal (n / 10) ++ digit) (sym (decimal_digit (n % 10) last))
 
--- the front of a number, and then its last digit
+-- the prefix of a number, and then its last digit
 pub last_digit : {T E : Type 0} (r : Result T E) (n : ℕ) (first before after : List ℕ) → 10 ≤ n → n < 2 ^ 64 →
     before ≡ first ++ decimal (n / 10) → OnOk r (after ≡ before ++ decimal (n % 10)) → OnOk r (after ≡ first ++ decimal n)
-last_digit r n first before after large small was grown =
+last_digit r n first before after large small was extended =
     on_ok_weaker r
     (λ new. new ∙ ap (λ text. text ++ decimal (n % 10)) was ∙ append_assoc first (decimal (n / 10)) (decimal (n % 10)) ∙ ap (λ more. first ++ more) (sym (decimal_parts n large small)))
-    grown
+    extended

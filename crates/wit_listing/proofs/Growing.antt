@@ -18,16 +18,16 @@ numbered-append f n (x ∷ xs) ys =
 pub numbered_more : {A : Type 0} (f : ℕ → A → List ℕ) (i : ℕ) (xs : List A) (x : A) → slice_get xs i ≡ Some x → numbered f 0 (take (i + 1) xs) ≡ numbered f 0 (take i xs) ++ f i x
 numbered_more f i xs x h =
     let within = slice_get_within xs i x h in
-    let taken : 0 + length (take i xs) ≡ i = grind (arith, common_steps, length-take-le i xs) in
+    let in_use : 0 + length (take i xs) ≡ i = grind (arith, common_steps, length-take-le i xs) in
     ap (numbered f 0) (take_more xs i x within ∙ ap (λ y. take i xs ++ y ∷ []) (get_or_from_slice_get xs i x x h))
     ∙ numbered-append f 0 (take i xs) (x ∷ [])
-    ∙ ap (λ more. numbered f 0 (take i xs) ++ more) (append-nil (f (0 + length (take i xs)) x) ∙ ap (λ m. f m x) taken)
+    ∙ ap (λ more. numbered f 0 (take i xs) ++ more) (append-nil (f (0 + length (take i xs)) x) ∙ ap (λ m. f m x) in_use)
 
 -- a text that grew by the text of the next value
 pub added_more : {A : Type 0} (f : ℕ → A → List ℕ) (i : ℕ) (xs : List A) (x : A) (first before after : List ℕ) → slice_get xs i ≡ Some x →
     before ≡ first ++ numbered f 0 (take i xs) → after ≡ before ++ f i x → after ≡ first ++ numbered f 0 (take (i + 1) xs)
-added_more f i xs x first before after h was grown =
-    grown ∙ ap (λ text. text ++ f i x) was ∙ append_assoc first (numbered f 0 (take i xs)) (f i x) ∙ ap (λ more. first ++ more) (sym (numbered_more f i xs x h))
+added_more f i xs x first before after h was extended =
+    extended ∙ ap (λ text. text ++ f i x) was ∙ append_assoc first (numbered f 0 (take i xs)) (f i x) ∙ ap (λ more. first ++ more) (sym (numbered_more f i xs x h))
 
 pub flat_map_more : {A : Type 0} (f : A → List ℕ) (i : ℕ) (xs : List A) (x : A) → slice_get xs i ≡ Some x → flat_map f (take (i + 1) xs) ≡ flat_map f (take i xs) ++ f x
 flat_map_more f i xs x h =
@@ -39,5 +39,5 @@ flat_map_more f i xs x h =
 -- the same without the place
 pub joined_more : {A : Type 0} (f : A → List ℕ) (i : ℕ) (xs : List A) (x : A) (first before after : List ℕ) → slice_get xs i ≡ Some x →
     before ≡ first ++ flat_map f (take i xs) → after ≡ before ++ f x → after ≡ first ++ flat_map f (take (i + 1) xs)
-joined_more f i xs x first before after h was grown =
-    grown ∙ ap (λ text. text ++ f x) was ∙ append_assoc first (flat_map f (take i xs)) (f x) ∙ ap (λ more. first ++ more) (sym (flat_map_more f i xs x h))
+joined_more f i xs x first before after h was extended =
+    extended ∙ ap (λ text. text ++ f x) was ∙ append_assoc first (flat_map f (take i xs)) (f x) ∙ ap (λ more. first ++ more) (sym (flat_map_more f i xs x h))

@@ -1,4 +1,4 @@
--- What a type is, in one line of a listing: a word, and the parts behind single blanks.
+-- What a type is, in one line of a listing: a word, and the parts after single blanks.
 use Rattle.std.specs.Prelude.{ℕ, List, [], ◌∷◌, ◌++◌, Option, Some, None, codes}
 use Rattle.std.specs.List.{flat_map}
 use Rattle.std.specs.Fmt.{decimal}

@@ -1,4 +1,4 @@
--- The listing of a package, and behind it of those that are nested in it, one after another.
+-- The listing of a package, and after it of those that are nested in it, one after another.
 use Rattle.std.specs.Prelude.{ℕ, List, ◌++◌}
 use Rattle.std.specs.List.{flat_map}
 use Rattle.wit_model.specs.declared.unresolved.UnresolvedPackage.{UnresolvedPackage}

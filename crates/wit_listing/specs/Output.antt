@@ -6,7 +6,7 @@ use Rattle.std.specs.declared.io.ErrorKind.TheVariants as kind
 use Rattle.wit_listing.specs.declared.fault.RunFault.{RunFault}
 use Rattle.wit_listing.specs.declared.fault.RunFault.TheVariants.{Output, Memory}
 
--- the kind of the error that stands for a fault
+-- the kind of the error that means a fault
 abbrev pub fault_kind : RunFault → ErrorKind
 fault_kind Output = kind.Other
 fault_kind Memory = kind.OutOfMemory
@@ -20,7 +20,7 @@ fault_text Memory = codes "out of memory"
 abbrev pub IsCutShort : Option (List ℕ) → Option (List ℕ) → List ℕ → Type 0
 IsCutShort old new text = (n : ℕ) × (n < length text) × Appends old new (take n text)
 
--- a text that is as described went out; after a failed write a beginning of it and not the whole, for want of memory nothing
+-- a text that is as described went out; after a failed write a beginning of it and not the whole, because an allocation failed nothing
 abbrev pub IsWritten : (List ℕ → Type 0) → Option (List ℕ) → Option (List ℕ) → Result (Unit {0}) RunFault → Type 0
 IsWritten IsText old new (Ok _) = (text : List ℕ) × IsText text × Appends old new text
 IsWritten IsText old new (Err Output) = (text : List ℕ) × IsText text × IsCutShort old new text
@@ -28,6 +28,6 @@ IsWritten IsText old new (Err Memory) = Keeps old new
 
 -- the same, with an answer
 abbrev pub IsWrittenAs : {A : Type 0} → A → (List ℕ → Type 0) → Option (List ℕ) → Option (List ℕ) → Result A RunFault → Type 0
-IsWrittenAs told IsText old new (Ok answer) = (answer ≡ told) × (text : List ℕ) × IsText text × Appends old new text
-IsWrittenAs told IsText old new (Err Output) = (text : List ℕ) × IsText text × IsCutShort old new text
-IsWrittenAs told IsText old new (Err Memory) = Keeps old new
+IsWrittenAs as_stated IsText old new (Ok answer) = (answer ≡ as_stated) × (text : List ℕ) × IsText text × Appends old new text
+IsWrittenAs as_stated IsText old new (Err Output) = (text : List ℕ) × IsText text × IsCutShort old new text
+IsWrittenAs as_stated IsText old new (Err Memory) = Keeps old new

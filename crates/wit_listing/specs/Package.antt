@@ -1,4 +1,4 @@
--- A package in a listing: its name, then its types, its interfaces, its worlds and what it names of other packages, each behind a number.
+-- A package in a listing: its name, then its types, its interfaces, its worlds and what it names of other packages, each after a number.
 use Rattle.std.specs.Prelude.{ℕ, List, [], ◌∷◌, ◌++◌, codes, length}
 use Rattle.std.specs.List.{flat_map}
 use Rattle.std.specs.Fmt.{decimal}
@@ -24,19 +24,19 @@ header_text name = codes "package " ++ (name_text name ++ (10 ∷ []))
 abbrev pub count_line : List ℕ → ℕ → List ℕ
 count_line word n = word ++ (32 ∷ (decimal n ++ (10 ∷ [])))
 
--- the types behind their number
+-- the types after their number
 abbrev pub types_text : List TypeDef → List ℕ
 types_text types = count_line (codes "types") (length types) ++ numbered type_line 0 types
 
--- the interfaces behind their number
+-- the interfaces after their number
 abbrev pub interfaces_text : List Interface → List ℕ
 interfaces_text interfaces = count_line (codes "interfaces") (length interfaces) ++ numbered interface_lines 0 interfaces
 
--- the worlds behind their number
+-- the worlds after their number
 abbrev pub worlds_text : List Interface → List World → List ℕ
 worlds_text interfaces worlds = count_line (codes "worlds") (length worlds) ++ numbered (world_lines interfaces) 0 worlds
 
--- what is of other packages, behind the number of these packages
+-- what is of other packages, after the number of these packages
 abbrev pub foreign_text : List (PackageName × List (List ℕ × (AstItem × List Stability))) → List ℕ
 foreign_text deps = count_line (codes "foreign") (length deps) ++ flat_map dep_lines deps
 

@@ -13,7 +13,7 @@ owner_place (owner.World w) = 119 ∷ decimal w
 owner_place (owner.Interface i) = 105 ∷ decimal i
 owner_place owner.None = codes "-"
 
--- the name of a type behind that of its owner, or `-`
+-- the name of a type after that of its owner, or `-`
 abbrev pub owner_text : TypeOwner → Option (List ℕ) → List ℕ
 owner_text o None = codes "-"
 owner_text o (Some name) = owner_place o ++ (46 ∷ name)

@@ -9,7 +9,7 @@ use Rattle.wit_types.specs.declared.types.«Type».TheVariants as ty
 use Rattle.wit_types.specs.declared.stability.Stability.{Stability}
 use Rattle.wit_types.specs.declared.stability.Stability.TheVariants.{Unknown, Unstable, Stable}
 
--- the new text is the old one with more behind it
+-- the new text is the old one with more after it
 abbrev pub Adds : String Global → String Global → List ℕ → Type 0
 Adds old new more = string_bytes new ≡ string_bytes old ++ more
 

@@ -38,7 +38,7 @@ abbrev pub is_such : Option Interface → Bool
 is_such None = false
 is_such (Some i) = has_own_line i
 
--- an import or export by a name whose interface has a line that tells its stability
+-- an import or export by a name whose interface has a line that says its stability
 abbrev pub is_inline : List Interface → WorldKey → ℕ → Bool
 is_inline interfaces (key.Interface i) id = false
 is_inline interfaces (key.Name name) id = is_such (slice_get interfaces id)

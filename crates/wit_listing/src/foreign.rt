@@ -8,10 +8,10 @@ ghost use Rattle.wit_listing.specs.Foreign.{dep_lines, item_line, item_place};
 use crate::package_names::push_package_name;
 use crate::words::push_marked;
 use std::alloc::AllocError;
+use wit_maps::{Table, TextTable};
 use wit_model::AstItem;
 use wit_package_names::PackageName;
 use wit_types::Stability;
-use wit_maps::{Table, TextTable};
 use wit_values::Row;
 
 /// An interface or a world by its place.
@@ -24,7 +24,7 @@ fn push_place(text: &mut String, item: AstItem) -> Result<(), AllocError>
     }
 }
 
-/// The name of an item behind that of its package.
+/// The name of an item after that of its package.
 fn push_path(text: &mut String, package_name: &PackageName, name: &str) -> Result<(), AllocError>
     ensures { OnOk result (Adds text.old text.new (name_text package_name.now ++ (32 ∷ name.now))) }
 {

@@ -43,7 +43,7 @@ fn push_result(text: &mut String, result_type: Option<Type>) -> Result<(), Alloc
     }
 }
 
-/// The words in front of what a function takes.
+/// The words before what a function takes.
 fn push_front(text: &mut String, is_async: bool) -> Result<(), AllocError>
     ensures { OnOk result (Adds text.old text.new (codes " = " ++ ((if is_async then codes "async " else []) ++ codes "func("))) }
 {
@@ -54,7 +54,7 @@ fn push_front(text: &mut String, is_async: bool) -> Result<(), AllocError>
     }
 }
 
-/// What a function takes and gives, behind a sign of equality.
+/// What a function takes and gives, after a sign of equality.
 pub fn push_signature(text: &mut String, function: &Function) -> Result<(), AllocError>
     ensures { OnOk result (Adds text.old text.new (codes " = " ++ signature_text function.now)) }
 {

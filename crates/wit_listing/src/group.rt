@@ -13,7 +13,7 @@ use std::alloc::{AllocError, Global};
 use std::io::Write;
 use wit_model::UnresolvedPackage;
 
-/// Packages, one behind the other.
+/// Packages, one after the other.
 fn push_packages(text: &mut String, packages: &[UnresolvedPackage]) -> Result<(), AllocError>
     ensures { OnOk result (Adds text.old text.new (flat_map package_text packages.now)) }
 {
@@ -37,12 +37,12 @@ fn listing_of(
     Ok(text)
 }
 
-/// Writes the listing of a package, and behind it, in the same way, of those that are nested in it: of
+/// Writes the listing of a package, and after it, in the same way, of those that are nested in it: of
 /// each its name, its types, its interfaces, its worlds, and what it names of other packages, a line for
 /// each and for what it holds.
 ///
 /// Where a write fails or takes no byte, a beginning of the listing went out, and not the whole; for
-/// want of memory, nothing.
+/// a failed allocation, nothing.
 pub fn listing<W: Write>(
     alloc: Global,
     main: &UnresolvedPackage,

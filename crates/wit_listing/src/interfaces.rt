@@ -8,9 +8,9 @@ ghost use Rattle.wit_listing.specs.Interfaces.{function_line, interface_lines, n
 use crate::functions::push_signature;
 use crate::words::{push_marked, push_numbered, push_stability};
 use std::alloc::AllocError;
+use wit_maps::TextTable;
 use wit_model::{Function, Interface};
 use wit_types::{Arena, InterfacePlace, TypeId};
-use wit_maps::TextTable;
 use wit_values::Text;
 
 /// A name, or `-` where there is none.
@@ -23,7 +23,7 @@ fn push_name(text: &mut String, name: &Option<Text>) -> Result<(), AllocError>
     }
 }
 
-/// A name behind two blanks.
+/// A name after two blanks.
 fn push_indented(text: &mut String, name: &str) -> Result<(), AllocError>
     ensures { OnOk result (Adds text.old text.new (codes "  " ++ name.now)) }
 {

@@ -100,7 +100,7 @@ fn push_perhaps(text: &mut String, word: &str, ty: Option<Type>) -> Result<(), A
     push_optional(text, ty)
 }
 
-/// What a result is, behind a sign of equality.
+/// What a result is, after a sign of equality.
 fn push_outcome(text: &mut String, ok: Option<Type>, err: Option<Type>) -> Result<(), AllocError>
     ensures { OnOk result (Adds text.old text.new (codes " = " ++ kind_text (kind.Result (record { ok = ok; err = err })))) }
 {
@@ -108,7 +108,7 @@ fn push_outcome(text: &mut String, ok: Option<Type>, err: Option<Type>) -> Resul
     push_perhaps(text, " ", err)
 }
 
-/// What a map is, behind a sign of equality.
+/// What a map is, after a sign of equality.
 fn push_map(text: &mut String, key: Type, value: Type) -> Result<(), AllocError>
     ensures { OnOk result (Adds text.old text.new (codes " = " ++ kind_text (kind.Map key value))) }
 {
@@ -117,7 +117,7 @@ fn push_map(text: &mut String, key: Type, value: Type) -> Result<(), AllocError>
     push_type(text, value)
 }
 
-/// What a list of fixed length is, behind a sign of equality.
+/// What a list of fixed length is, after a sign of equality.
 fn push_fixed(text: &mut String, ty: Type, count: u32) -> Result<(), AllocError>
     ensures { OnOk result (Adds text.old text.new (codes " = " ++ kind_text (kind.FixedLengthList ty count))) }
 {
@@ -125,7 +125,7 @@ fn push_fixed(text: &mut String, ty: Type, count: u32) -> Result<(), AllocError>
     write!(text, " {count}")
 }
 
-/// What a type is, behind a sign of equality, its parts behind single blanks.
+/// What a type is, after a sign of equality, its parts after single blanks.
 pub fn push_kind(text: &mut String, kind: &TypeDefKind) -> Result<(), AllocError>
     ensures { OnOk result (Adds text.old text.new (codes " = " ++ kind_text kind.now)) }
 {

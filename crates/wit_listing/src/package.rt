@@ -10,10 +10,10 @@ use crate::types::push_type_lines;
 use crate::words::push_marked;
 use crate::worlds::push_worlds;
 use std::alloc::AllocError;
+use wit_maps::{Table, TextTable};
 use wit_model::{AstItem, Interface, UnresolvedPackage, World};
 use wit_package_names::PackageName;
 use wit_types::{Arena, InterfacePlace, Stability, TypeDef, TypePlace, WorldPlace};
-use wit_maps::{Table, TextTable};
 use wit_values::Row;
 
 /// A word and a number in a line.
@@ -25,7 +25,7 @@ fn push_count(text: &mut String, word: &str, count: usize) -> Result<(), AllocEr
     text.push('\n')
 }
 
-/// The types behind their number.
+/// The types after their number.
 fn push_types(text: &mut String, types: &Arena<TypeDef, TypePlace>) -> Result<(), AllocError>
     ensures { OnOk result (Adds text.old text.new (types_text types.now)) }
 {
@@ -33,7 +33,7 @@ fn push_types(text: &mut String, types: &Arena<TypeDef, TypePlace>) -> Result<()
     push_type_lines(text, types)
 }
 
-/// The interfaces behind their number.
+/// The interfaces after their number.
 fn push_all_interfaces(
     text: &mut String,
     interfaces: &Arena<Interface, InterfacePlace>,
@@ -44,7 +44,7 @@ fn push_all_interfaces(
     push_interfaces(text, interfaces)
 }
 
-/// The worlds behind their number.
+/// The worlds after their number.
 fn push_all_worlds(
     text: &mut String,
     interfaces: &Arena<Interface, InterfacePlace>,
@@ -64,7 +64,7 @@ fn push_header(text: &mut String, name: &PackageName) -> Result<(), AllocError>
     text.push('\n')
 }
 
-/// The items of other packages behind the number of these packages.
+/// The items of other packages after the number of these packages.
 fn push_foreign(
     text: &mut String,
     deps: &Table<PackageName, TextTable<(AstItem, Row<Stability>)>>,

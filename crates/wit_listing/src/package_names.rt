@@ -8,7 +8,7 @@ use std::alloc::AllocError;
 use wit_package_names::PackageName;
 use wit_values::Release;
 
-/// A version behind `@`, where there is one.
+/// A version after `@`, where there is one.
 fn push_at_version(text: &mut String, version: &Option<Release>) -> Result<(), AllocError>
     ensures { OnOk result (Adds text.old text.new (at_version version.now)) }
 {

@@ -11,7 +11,7 @@ use std::io::Write;
 use wit_lex::SourceMap;
 use wit_type_tree::ParseError;
 
-/// The front of a text up to its first LF or CR.
+/// The prefix of a text up to its first LF or CR.
 fn first_line(text: &str) -> &str
     ensures { result.now ≡ first_line text.now }
 {
@@ -25,7 +25,7 @@ fn first_line(text: &str) -> &str
 }
 
 /// Whether a refusal has a place in a source: not the one without a header, that of sources that
-/// are too large, and that for want of memory.
+/// are too large, and that because an allocation failed.
 fn has_place(rule: u8) -> bool
     ensures { result ≡ has_place rule }
 {
@@ -70,10 +70,10 @@ fn line_of(alloc: Global, map: &SourceMap, fault: &ParseError) -> Result<String,
 
 /// Writes the line of a refusal: `error EN PATH "SLICE": MESSAGE`.
 ///
-/// `PATH` is the source in which the refusal's span lies, `SLICE` what stands there up to its first
+/// `PATH` is the source in which the refusal's span lies, `SLICE` what is there up to its first
 /// LF or CR. Where it lies in no source, and for the numbers 4, 45 and 52, `PATH` is `-` and
 /// `SLICE` empty. Where a write fails or takes no byte, a beginning of the line went out, and
-/// not the whole; for want of memory, nothing.
+/// not the whole; because an allocation failed, nothing.
 pub fn error_line<W: Write>(
     alloc: Global,
     map: &SourceMap,

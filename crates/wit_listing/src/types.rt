@@ -21,7 +21,7 @@ fn push_owner_place(text: &mut String, owner: TypeOwner) -> Result<(), AllocErro
     }
 }
 
-/// The name of a type behind that of its owner, or `-`.
+/// The name of a type after that of its owner, or `-`.
 fn push_owner(text: &mut String, owner: TypeOwner, name: &Option<Text>) -> Result<(), AllocError>
     ensures { OnOk result (Adds text.old text.new (owner_text owner name.now)) }
 {

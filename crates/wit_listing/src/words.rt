@@ -1,4 +1,4 @@
-//! Small texts of a listing, each put behind a text.
+//! Small texts of a listing, each put after a text.
 ghost use Rattle.std.specs.Prelude.{◌≡◌, ◌<◌, ◌∷◌, ◌++◌, OnOk, decimal, string_bytes};
 ghost use Rattle.semver.specs.Identifiers.{marked};
 ghost use Rattle.wit_values.specs.ReleaseText.{release_text};
@@ -53,7 +53,7 @@ fn push_number(text: &mut String, number: usize) -> Result<(), AllocError>
     text.push_str(digits.format(number))
 }
 
-/// A mark, and a number in decimal digits behind it.
+/// A mark, and a number in decimal digits after it.
 pub fn push_marked(text: &mut String, mark: char, number: usize) -> Result<(), AllocError>
     requires { mark < 128 }
     ensures { OnOk result (Adds text.old text.new (mark ∷ decimal number)) }
@@ -62,11 +62,11 @@ pub fn push_marked(text: &mut String, mark: char, number: usize) -> Result<(), A
     push_number(text, number)
 }
 
-/// A text, and a number in decimal digits behind it.
-pub fn push_numbered(text: &mut String, front: &str, number: usize) -> Result<(), AllocError>
-    ensures { OnOk result (Adds text.old text.new (front.now ++ decimal number)) }
+/// A text, and a number in decimal digits after it.
+pub fn push_numbered(text: &mut String, prefix: &str, number: usize) -> Result<(), AllocError>
+    ensures { OnOk result (Adds text.old text.new (prefix.now ++ decimal number)) }
 {
-    text.push_str(front)?;
+    text.push_str(prefix)?;
     push_number(text, number)
 }
 
@@ -103,7 +103,7 @@ pub fn push_optional(text: &mut String, ty: Option<Type>) -> Result<(), AllocErr
     }
 }
 
-/// A part of a version behind its mark; nothing where it is empty.
+/// A part of a version after its mark; nothing where it is empty.
 fn push_part(text: &mut String, mark: char, part: &str) -> Result<(), AllocError>
     requires { mark < 128 }
     ensures { OnOk result (Adds text.old text.new (marked mark part.now)) }

@@ -8,9 +8,9 @@ ghost use Rattle.wit_listing.specs.Worlds.{extern_line, extern_text, has_own_lin
 use crate::functions::push_signature;
 use crate::words::{push_marked, push_numbered, push_stability};
 use std::alloc::AllocError;
+use wit_maps::Table;
 use wit_model::{IncludeName, Interface, World, WorldInclude, WorldItem, WorldKey};
 use wit_types::{Arena, InterfaceId, InterfacePlace, Stability, WorldId, WorldPlace};
-use wit_maps::Table;
 
 /// What an import or export is found by.
 fn push_key(text: &mut String, key: &WorldKey) -> Result<(), AllocError>
@@ -33,7 +33,7 @@ fn has_own_line(interface: &Interface) -> bool
     }
 }
 
-/// Whether an import or export by a name is an interface whose own line tells its stability.
+/// Whether an import or export by a name is an interface whose own line says its stability.
 fn is_inline(interfaces: &Arena<Interface, InterfacePlace>, key: &WorldKey, id: InterfaceId) -> bool
     ensures { result ≡ is_inline interfaces.now key.now id }
 {
@@ -49,7 +49,7 @@ fn is_inline(interfaces: &Arena<Interface, InterfacePlace>, key: &WorldKey, id: 
     }
 }
 
-/// What is imported or exported, behind a sign of equality.
+/// What is imported or exported, after a sign of equality.
 fn push_extern(
     text: &mut String,
     interfaces: &Arena<Interface, InterfacePlace>,

@@ -12,7 +12,7 @@ use Rattle.std.specs.declared.cmp.Ordering.{Ordering}
 use Rattle.std.specs.declared.alloc.Global.{Global}
 use Rattle.wit_maps.specs.declared.index.Index.{Index}
 use Rattle.wit_maps.specs.Indexed.{AreApart, AreKnown, IsFoundOrNew, IsIndexed, IsKept, IsKeptWith, IsKnown}
-use Rattle.wit_maps.specs.Slots.{digest_of, home_of, AreFilled, IsAt, IsFull, IsNear, IsNotAt, IsNowhere, IsNowhereNear, IsRoom}
+use Rattle.wit_maps.specs.Slots.{key_hash_of, home_of, AreFilled, IsAt, IsFull, IsNear, IsNotAt, IsNowhere, IsNowhereNear, IsRoom}
 
 same_key : {A : Type 0} {x y : A} → Some x ≡ Some y → x ≡ y
 same_key {A} {x} e = ap (λ r. unwrap_or r x) e
@@ -75,8 +75,8 @@ module _ {K : Type 0} (eq : K → K → Bool) (ks : List K) (apart : AreApart eq
     | inr miss ↦ miss
   ]
 
--- what is sought in slots, where its digest has this home
-module _ {K : Type 0} (cmp : K → K → Ordering) (writes : K → List (List ℕ)) (slots : List ℕ) (keys : BTreeMap K ℕ) (ks : List K) (known : AreKnown cmp writes slots keys ks (length ks)) (t : K → Bool) (h : ℕ) (home : (k : K) → IsTrue (t k) → h ≡ home_of (length slots) (digest_of (writes k))) (far : IsNowhereNear t ks slots h) where
+-- what is sought in slots, where its hash has this home
+module _ {K : Type 0} (cmp : K → K → Ordering) (writes : K → List (List ℕ)) (slots : List ℕ) (keys : BTreeMap K ℕ) (ks : List K) (known : AreKnown cmp writes slots keys ks (length ks)) (t : K → Bool) (h : ℕ) (home : (k : K) → IsTrue (t k) → h ≡ home_of (length slots) (key_hash_of (writes k))) (far : IsNowhereNear t ks slots h) where
   nowhere_but : ((j : ℕ) (k : K) → slice_get ks j ≡ Some k → IsTrue (t k) → IsFull slots h → get cmp keys k ≡ Some j → ⊥) → IsNowhere t ks
   nowhere_but rest j k at = elim (cases_Bool (t k)) [
     | inr miss ↦ miss
@@ -90,7 +90,7 @@ module _ {K : Type 0} (cmp : K → K → Ordering) (writes : K → List (List �
   pub nowhere_with_room : (slot : ℕ) → IsRoom slots h slot → IsNowhere t ks
   nowhere_with_room slot room = nowhere_but (λ j k at hit full kept. full room.step room.near (ap (slice_get slots) (sym room.is) ∙ room.free))
 
-  -- none is free, and what stands at the key is not it
+  -- none is free, and what is at the key is not it
   pub nowhere_kept : (r : Option ℕ) → ((k : K) → IsTrue (t k) → r ≡ get cmp keys k) → ((i : ℕ) → r ≡ Some i → IsNotAt t ks i) → IsNowhere t ks
   nowhere_kept r finds missed = nowhere_but (λ j k at hit full kept. true≢false (sym hit ∙ missed j (finds k hit ∙ kept) k at))
 
@@ -100,8 +100,8 @@ module _ {K : Type 0} (eq : K → K → Bool) (cmp : K → K → Ordering) (writ
       → length slots' ≡ length slots → AreFilled slots slots' → (get cmp keys k ≡ Some j → get cmp keys' k ≡ Some j)
       → IsKnown cmp writes slots keys k j → IsKnown cmp writes slots' keys' k j
   known_more slots slots' keys keys' k j len filled kept known = elim known [
-    | inl near ↦ inl (subst (λ n. IsNear slots' (home_of n (digest_of (writes k))) j) (sym len) (filled.near _ j near))
-    | inr full ↦ inr (subst (λ n. IsFull slots' (home_of n (digest_of (writes k)))) (sym len) (filled.full _ full.0), kept full.1)
+    | inl near ↦ inl (subst (λ n. IsNear slots' (home_of n (key_hash_of (writes k))) j) (sym len) (filled.near _ j near))
+    | inr full ↦ inr (subst (λ n. IsFull slots' (home_of n (key_hash_of (writes k)))) (sym len) (filled.full _ full.0), kept full.1)
   ]
 
   -- all is known with one more place, whose key is another than those before it
@@ -128,7 +128,7 @@ module _ {K : Type 0} (eq : K → K → Bool) (cmp : K → K → Ordering) (writ
     | inr h ↦ inr (omega (arith, h.0), h.1)
   ]
 
-  -- a key behind the others, which differs from them
+  -- a key after the others, which differs from them
   pub apart_push : (ks : List K) (key : K) → AreApart eq ks → ((j : ℕ) (l : K) → slice_get ks j ≡ Some l → eq l key ≡ false) → AreApart eq (ks ++ key ∷ [])
   apart_push ks key apart other i j k l before at_i at_j = elim (get_pushed ks key l j at_j) [
     | inl old ↦ elim (get_pushed ks key k i at_i) [
@@ -148,7 +148,7 @@ module _ {K : Type 0} (eq : K → K → Bool) (cmp : K → K → Ordering) (writ
       → IsIndexed eq cmp writes slots' keys' ks
   indexed_still slots slots' keys keys' ks ix still = record { apart = ix.apart; known = λ j k below at. still j k at (ix.known j k below at) }
 
-  -- a key behind the others, whose place is known
+  -- a key after the others, whose place is known
   pub indexed_push : (slots slots' : List ℕ) (keys keys' : BTreeMap K ℕ) (ks : List K) (key : K) (place : ℕ)
       → place ≡ length ks
       → IsIndexed eq cmp writes slots keys ks

@@ -1,9 +1,9 @@
--- Entries that are found by digests of their keys.
+-- Entries that are found by hashes of their keys.
 use Rattle.std.specs.Prelude.{◌≡◌, ◌⊎◌, ◌<◌, ℕ, Bool, false, List, Option, Some, None, Box, length, slice_get, [], ◌∷◌, ◌++◌}
 use Rattle.std.specs.declared.alloc.Global.{Global}
 use Rattle.std.specs.BTreeMap.{BTreeMap, get}
 use Rattle.std.specs.declared.cmp.Ordering.{Ordering}
-use Rattle.wit_maps.specs.Slots.{digest_of, home_of, IsAt, IsFull, IsNear, IsNowhere}
+use Rattle.wit_maps.specs.Slots.{key_hash_of, home_of, IsAt, IsFull, IsNear, IsNowhere}
 use Rattle.wit_maps.specs.declared.index.Index.{Index}
 
 module _ {K : Type 0} where
@@ -11,9 +11,9 @@ module _ {K : Type 0} where
   abbrev pub AreApart : (K → K → Bool) → List K → Type 0
   AreApart eq ks = (i j : ℕ) (k l : K) → i < j → slice_get ks i ≡ Some k → slice_get ks j ≡ Some l → eq k l ≡ false
 
-  -- a place stands in the slots for the digest of its key, or, where these are full, at the key itself
+  -- a place is in the slots for the hash of its key, or, where these are full, at the key itself
   abbrev pub IsKnown : (K → K → Ordering) → (K → List (List ℕ)) → List ℕ → BTreeMap K ℕ → K → ℕ → Type 0
-  IsKnown cmp writes slots keys k j = IsNear slots (home_of (length slots) (digest_of (writes k))) j ⊎ (IsFull slots (home_of (length slots) (digest_of (writes k))) × (get cmp keys k ≡ Some j))
+  IsKnown cmp writes slots keys k j = IsNear slots (home_of (length slots) (key_hash_of (writes k))) j ⊎ (IsFull slots (home_of (length slots) (key_hash_of (writes k))) × (get cmp keys k ≡ Some j))
 
   -- the first places are known
   abbrev pub AreKnown : (K → K → Ordering) → (K → List (List ℕ)) → List ℕ → BTreeMap K ℕ → List K → ℕ → Type 0
@@ -24,7 +24,7 @@ module _ {K : Type 0} where
     pub apart : AreApart eq ks
     pub known : AreKnown cmp writes slots keys ks (length ks)
 
-  -- where a key stands; or that none is equal, and the place behind the last is known
+  -- where a key is; or that none is equal, and the place after the last is known
   abbrev pub IsFoundOrNew : (K → K → Bool) → (K → K → Ordering) → (K → List (List ℕ)) → List ℕ → BTreeMap K ℕ → List K → K → Option ℕ → Type 0
   IsFoundOrNew eq cmp writes slots keys ks k (Some i) = IsAt (eq k) ks i
   IsFoundOrNew eq cmp writes slots keys ks k None = IsNowhere (eq k) ks × IsKnown cmp writes slots keys k (length ks)
@@ -34,7 +34,7 @@ module _ {K : Type 0} where
   IsKept eq cmp writes ks None = AreApart eq ks
   IsKept eq cmp writes ks (Some index) = IsIndexed eq cmp writes index.value.slots.items index.value.keys ks
 
-  -- where a key stands; or that none is equal, and that with it behind the others, this is their index, if there is one
+  -- where a key is; or that none is equal, and that with it after the others, this is their index, if there is one
   abbrev pub IsKeptWith : (K → K → Bool) → (K → K → Ordering) → (K → List (List ℕ)) → List K → K → Option (Box (Index K) Global) → Option ℕ → Type 0
   IsKeptWith eq cmp writes ks k index (Some i) = IsAt (eq k) ks i
   IsKeptWith eq cmp writes ks k index None = IsNowhere (eq k) ks × IsKept eq cmp writes (ks ++ k ∷ []) index

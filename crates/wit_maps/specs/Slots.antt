@@ -1,4 +1,4 @@
--- Slots in which places stand near the digests of what stands there.
+-- Slots in which places are near the hashes of what is there.
 use Rattle.std.specs.Prelude.{◌≡◌, ℕ, ◌+◌, ◌-◌, ◌%◌, ◌<◌, Bool, true, false, List, Some, slice_get, nat_lt, if◌then◌else◌}
 use Rattle.std.specs.Hash.FoldHasher.{initial, write, finish}
 use Rattle.std.specs.List.{fold}
@@ -6,10 +6,10 @@ use Rattle.wit_maps.specs.declared.slots.Sight.{Sight}
 use Rattle.wit_maps.specs.declared.slots.Sight.TheVariants.{Entry, Room, Full}
 
 -- the hash of what a key writes
-abbrev pub digest_of : List (List ℕ) → ℕ
-digest_of writes = finish (fold write initial writes)
+abbrev pub key_hash_of : List (List ℕ) → ℕ
+key_hash_of writes = finish (fold write initial writes)
 
--- the first slot for a digest, of as many slots
+-- the first slot for a hash, of as many slots
 abbrev pub home_of : ℕ → ℕ → ℕ
 home_of len d = if nat_lt 8 len then d % (len - 8) else 0
 
@@ -18,29 +18,29 @@ abbrev pub AreFree : List ℕ → Type 0
 AreFree slots = (i s : ℕ) → slice_get slots i ≡ Some s → s ≡ 0
 
 -- none of the first slots from one on is free
-abbrev pub AreTaken : List ℕ → ℕ → ℕ → Type 0
-AreTaken slots h count = (v : ℕ) → v < count → slice_get slots (h + v) ≡ Some 0 → ⊥
+abbrev pub AreUsed : List ℕ → ℕ → ℕ → Type 0
+AreUsed slots h count = (v : ℕ) → v < count → slice_get slots (h + v) ≡ Some 0 → ⊥
 
 -- none of the slots from one on is free
 abbrev pub IsFull : List ℕ → ℕ → Type 0
-IsFull slots h = AreTaken slots h 8
+IsFull slots h = AreUsed slots h 8
 
--- a place stands in one of the slots from one on, behind none that is free
+-- a place is in one of the slots from one on, after none that is free
 pub record IsNear (slots : List ℕ) (h j : ℕ) : Type 0 where
   pub step : ℕ
   pub near : step < 8
   pub at : slice_get slots (h + step) ≡ Some (1 + j)
-  pub taken : AreTaken slots h step
+  pub in_use : AreUsed slots h step
 
--- a slot is free, and behind none that is
+-- a slot is free, and after none that is
 pub record IsRoom (slots : List ℕ) (h slot : ℕ) : Type 0 where
   pub step : ℕ
   pub near : step < 8
   pub is : slot ≡ h + step
   pub free : slice_get slots slot ≡ Some 0
-  pub taken : AreTaken slots h step
+  pub in_use : AreUsed slots h step
 
--- what stood in slots stands there still
+-- what was in slots is there still
 pub record AreFilled (old new : List ℕ) : Type 0 where
   pub near : (h j : ℕ) → IsNear old h j → IsNear new h j
   pub full : (h : ℕ) → IsFull old h → IsFull new h
@@ -54,7 +54,7 @@ module _ {K : Type 0} where
   abbrev pub IsNotAt : (K → Bool) → List K → ℕ → Type 0
   IsNotAt t ks i = (k : K) → slice_get ks i ≡ Some k → t k ≡ false
 
-  -- no key passes at a place that stands in the slots from one on
+  -- no key passes at a place that is in the slots from one on
   abbrev pub IsNowhereNear : (K → Bool) → List K → List ℕ → ℕ → Type 0
   IsNowhereNear t ks slots h = (j : ℕ) → IsNear slots h j → IsNotAt t ks j
 
@@ -68,7 +68,7 @@ module _ {K : Type 0} where
   abbrev pub IsNowhere : (K → Bool) → List K → Type 0
   IsNowhere t ks = (j : ℕ) (k : K) → slice_get ks j ≡ Some k → t k ≡ false
 
-  -- where the key that passes stands, or that none does, and which slot is free for one
+  -- where the key that passes is, or that none does, and which slot is free for one
   abbrev pub IsSightOf : (K → Bool) → List K → List ℕ → ℕ → Sight → Type 0
   IsSightOf t ks slots h (Entry i) = IsAt t ks i
   IsSightOf t ks slots h (Room slot) = IsNowhere t ks × IsRoom slots h slot

@@ -1,11 +1,11 @@
-//! Indexes that find entries by digests of their keys.
+//! Indexes that find entries by hashes of their keys.
 ghost use Rattle.std.specs.Prelude.{◌≡◌, ◌<◌, ◌^◌, ◌++◌, ◌∷◌, ℕ, Some, None, IfOk, OnOk, IfSome, IfNone, [], IsSome, IsTrue, false, length, map, position};
 ghost use Rattle.std.specs.Map.{keys_of};
 ghost use Rattle.std.specs.BTreeMap as tree;
 ghost use Rattle.wit_maps.specs.Indexed.{AreApart, IsFoundOrNew, IsIndexed, IsKept, IsKeptWith, IsKnown};
-ghost use Rattle.wit_maps.specs.Slots.{AreFilled, IsAt, IsNotAt, IsNowhere, IsSightOf, digest_of, home_of};
+ghost use Rattle.wit_maps.specs.Slots.{AreFilled, IsAt, IsNotAt, IsNowhere, IsSightOf, key_hash_of, home_of};
 
-use crate::slots::{NEAR, Sight, digest, free_near, free_slots, home, is_at, look, take};
+use crate::slots::{NEAR, Sight, free_near, free_slots, home, is_at, key_hash, look, take};
 use crate::sought::Sought;
 use indexmap::Equivalent;
 use std::alloc::{AllocError, Global};
@@ -18,9 +18,9 @@ pub(crate) const FEW: usize = 4;
 /// One more than the last place that an entry may have.
 const MOST: usize = u32::MAX as usize;
 
-/// Where entries stand.
+/// Where entries are.
 ///
-/// Each place stands in one of the few slots for the digest of its key, and where all of these are
+/// Each place is in one of the few slots for the hash of its key, and where all of these are
 /// taken, at the key itself in an ordered map: so no keys cost more than others. A place that was noted
 /// for a key which did not come does no harm, since the key at a place is looked at.
 #[derive(Drop)]
@@ -29,7 +29,7 @@ pub(crate) struct Index<K: Eq + Hash + Ord> {
     keys: BTreeMap<K, usize>,
 }
 
-/// A place, if what stands for the key there is sought.
+/// A place, if what means the key there is sought.
 fn checked<K: Eq + Hash, V, Q: Equivalent<K>>(
     entries: &[(K, V)],
     place: Option<usize>,
@@ -46,7 +46,7 @@ fn checked<K: Eq + Hash, V, Q: Equivalent<K>>(
     }
 }
 
-/// What stands for a key: its place, or else the slot that is free for it, if one is.
+/// What means a key: its place, or else the slot that is free for it, if one is.
 fn sight_of<K: Eq + Hash + Ord, V, Q: Sought<K>>(
     entries: &[(K, V)],
     slots: &[u32],
@@ -56,7 +56,7 @@ fn sight_of<K: Eq + Hash + Ord, V, Q: Sought<K>>(
 ) -> Sight
     requires indexed { IsIndexed K.eq K.cmp K.hash_input slots.now keys.now (keys_of entries.now) }
     requires small { home < 2 ^ 63 }
-    requires home { (k : K) → IsTrue (Q.equivalent key k) → home ≡ home_of (length slots.now) (digest_of (K.hash_input k)) }
+    requires home { (k : K) → IsTrue (Q.equivalent key k) → home ≡ home_of (length slots.now) (key_hash_of (K.hash_input k)) }
     ensures { IsSightOf (Q.equivalent key) (keys_of entries.now) slots.now home result }
 {
     match look(slots, entries, home, key) {
@@ -69,7 +69,7 @@ fn sight_of<K: Eq + Hash + Ord, V, Q: Sought<K>>(
     }
 }
 
-/// The place of what stands for a key.
+/// The place of what means a key.
 fn place_of<K: Eq + Hash + Ord, V, Q: Sought<K>>(
     entries: &[(K, V)],
     slots: &[u32],
@@ -80,7 +80,7 @@ fn place_of<K: Eq + Hash + Ord, V, Q: Sought<K>>(
     requires small { length slots.now < 2 ^ 63 }
     ensures { result ≡ position (Q.equivalent key) (keys_of entries.now) }
 {
-    let home = home(slots.len(), digest(&key));
+    let home = home(slots.len(), key_hash(&key));
     match sight_of(entries, slots, keys, home, key) {
         Sight::Entry(place) => Some(place),
         Sight::Room(_) => None,
@@ -105,7 +105,7 @@ fn keep<K: Eq + Hash + Ord + Clone + Drop>(
     Ok(())
 }
 
-/// Notes the place of a key in a slot for its digest, and where none is free, at itself.
+/// Metadata the place of a key in a slot for its hash, and where none is free, at itself.
 fn note<K: Eq + Hash + Ord + Clone + Drop>(
     slots: &mut Vec<u32>,
     keys: &mut BTreeMap<K, usize>,
@@ -117,7 +117,7 @@ fn note<K: Eq + Hash + Ord + Clone + Drop>(
     ensures keys { (k : K) (j : ℕ) → K.eq key.now k ≡ false → tree.get K.cmp keys.old k ≡ Some j → tree.get K.cmp keys.new k ≡ Some j }
     ensures noted { OnOk result (IsKnown K.cmp K.hash_input slots.new.items keys.new key.now place) }
 {
-    let home = home(slots.len(), digest(key));
+    let home = home(slots.len(), key_hash(key));
     match free_near(slots, home) {
         Some(slot) => {
             if place >= MOST {
@@ -149,7 +149,7 @@ fn index_of<K: Eq + Hash + Ord + Clone + Drop, V>(
     Ok(Index { slots, keys })
 }
 
-/// The place of what stands for a key, looked for from the first entry on.
+/// The place of what means a key, looked for from the first entry on.
 fn place_among<K: Eq + Hash, V, Q: Equivalent<K>>(entries: &[(K, V)], key: Q) -> Option<usize>
     ensures found { IfSome result (IsAt (Q.equivalent key) (keys_of entries.now)) }
     ensures missed { IfNone result (IsNowhere (Q.equivalent key) (keys_of entries.now)) }
@@ -162,7 +162,7 @@ fn place_among<K: Eq + Hash, V, Q: Equivalent<K>>(entries: &[(K, V)], key: Q) ->
     None
 }
 
-/// The place of what stands for a key among entries with an index, or without one.
+/// The place of what means a key among entries with an index, or without one.
 pub(crate) fn place_in<K: Eq + Hash + Ord, V, Q: Sought<K>>(
     entries: &[(K, V)],
     index: &Option<Box<Index<K>>>,
@@ -177,7 +177,7 @@ pub(crate) fn place_in<K: Eq + Hash + Ord, V, Q: Sought<K>>(
     }
 }
 
-/// The place of a key; or else the place behind the last entry is noted for it.
+/// The place of a key; or else the place after the last entry is noted for it.
 fn find_or_note<K: Eq + Hash + Ord + Clone + Drop, V>(
     entries: &[(K, V)],
     index: &mut Index<K>,
@@ -191,7 +191,7 @@ fn find_or_note<K: Eq + Hash + Ord + Clone + Drop, V>(
     if place >= MOST {
         return Err(AllocError);
     }
-    let home = home(index.slots.len(), digest(key));
+    let home = home(index.slots.len(), key_hash(key));
     match sight_of(entries, &index.slots, &index.keys, home, key) {
         Sight::Entry(at) => Ok(Some(at)),
         Sight::Room(slot) => {
@@ -277,7 +277,7 @@ pub(crate) fn index_for<K: Eq + Hash + Ord + Clone + Drop, V>(
     Ok(Some(Box::new(alloc, index)?))
 }
 
-/// The place of a key among entries with an index, or without one; or else the place behind the last
+/// The place of a key among entries with an index, or without one; or else the place after the last
 /// entry is noted for it. Where there is no index with room for it, one is made if there are more than
 /// a few entries.
 pub(crate) fn place_or_note<K: Eq + Hash + Ord + Clone + Drop, V>(

@@ -1,43 +1,43 @@
-//! Slots in which places stand near the digests of what stands there.
+//! Slots in which places are near the hashes of what is there.
 ghost use Rattle.std.specs.Prelude.{◌≡◌, ◌⊎◌, ◌<◌, ◌^◌, ◌+◌, ◌-◌, ℕ, IfOk, IfSome, IfNone, length};
 ghost use Rattle.std.specs.Bool.{MatchBool};
 ghost use Rattle.std.specs.Map.{keys_of};
-ghost use Rattle.wit_maps.specs.Slots.{digest_of, AreFilled, AreFree, IsAt, IsNotAt, IsFull, IsNear, IsRoom, IsSight, home_of};
+ghost use Rattle.wit_maps.specs.Slots.{key_hash_of, AreFilled, AreFree, IsAt, IsNotAt, IsFull, IsNear, IsRoom, IsSight, home_of};
 
 use indexmap::Equivalent;
 use std::alloc::{AllocError, Global};
 use std::hash::{FoldHasher, Hash, Hasher};
 
-/// How many slots are looked at for a digest.
+/// How many slots are looked at for a hash.
 pub(crate) const NEAR: usize = 8;
 
-/// What the slots for a digest say of a key.
+/// What the slots for a hash say of a key.
 pub(crate) enum Sight {
-    /// It stands at this place.
+    /// It is at this place.
     Entry(usize),
-    /// It does not stand in these slots, of which this one is free.
+    /// It is not in these slots, of which this one is free.
     Room(usize),
-    /// It does not stand in these slots, and none is free.
+    /// It is not in these slots, and none is free.
     Full,
 }
 
 /// A number made of a key, which two keys seldom share.
-pub(crate) fn digest<Q: Hash>(key: &Q) -> u64
-    ensures { result ≡ digest_of (Q.hash_input key.now) }
+pub(crate) fn key_hash<Q: Hash>(key: &Q) -> u64
+    ensures { result ≡ key_hash_of (Q.hash_input key.now) }
 {
     let mut hasher = FoldHasher::default();
     key.hash(&mut hasher);
     hasher.finish()
 }
 
-/// The first of the slots for a digest.
-pub(crate) fn home(len: usize, digest: u64) -> usize
+/// The first of the slots for a hash.
+pub(crate) fn home(len: usize, key_hash: u64) -> usize
     requires { len < 2 ^ 63 }
-    ensures home { result ≡ home_of len digest }
+    ensures home { result ≡ home_of len key_hash }
     ensures small { result < 2 ^ 63 }
 {
     if len > NEAR {
-        digest as usize % (len - NEAR)
+        key_hash as usize % (len - NEAR)
     } else {
         0
     }
@@ -51,7 +51,7 @@ pub(crate) fn free_slots(alloc: Global, entries: usize) -> Result<Vec<u32>, Allo
     vec![in alloc; 0; 2 * entries + NEAR + 8]
 }
 
-/// Whether what stands for a key stands at a place.
+/// Whether what means a key is at a place.
 pub(crate) fn is_at<K: Eq + Hash, V, Q: Equivalent<K>>(
     entries: &[(K, V)],
     place: usize,
@@ -76,11 +76,11 @@ pub(crate) fn look<K: Eq + Hash, V, Q: Equivalent<K>>(
     ensures { IsSight (Q.equivalent key) (keys_of entries.now) slots.now home result }
 {
     for step in 0..NEAR {
-        if let Some(taken) = slots.get(home + step) {
-            if *taken == 0 {
+        if let Some(in_use) = slots.get(home + step) {
+            if *in_use == 0 {
                 return Sight::Room(home + step);
             }
-            let place = *taken as usize - 1;
+            let place = *in_use as usize - 1;
             if is_at(entries, place, key) {
                 return Sight::Entry(place);
             }
@@ -96,8 +96,8 @@ pub(crate) fn free_near(slots: &[u32], home: usize) -> Option<usize>
     ensures full { IfNone result (IsFull slots.now home) }
 {
     for step in 0..NEAR {
-        if let Some(taken) = slots.get(home + step) {
-            if *taken == 0 {
+        if let Some(in_use) = slots.get(home + step) {
+            if *in_use == 0 {
                 return Some(home + step);
             }
         }

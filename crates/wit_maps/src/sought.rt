@@ -6,9 +6,9 @@ use indexmap::Equivalent;
 use std::collections::BTreeMap;
 use std::hash::Hash;
 
-/// What finds a key in an ordered map, as well as it tells it.
+/// What finds a key in an ordered map, as well as it says it.
 pub trait Sought<K: Eq + Hash + Ord>: Equivalent<K> {
-    /// What stands at the key for which it stands.
+    /// What is at the key for which it is.
     fn place_in(&self, places: &BTreeMap<K, usize>) -> Option<usize>
         ensures { (k : K) → IsTrue (Self.equivalent self.now k) → result ≡ tree.get K.cmp places.now k };
 }

@@ -25,7 +25,7 @@ use std::mem::replace;
 ///
 /// Where its entries are few, they are looked through one by one: most maps have few, and then take one
 /// list and no more. More are found by an index, in which no keys cost more than others. There are fewer
-/// than 2^32; one more is refused as for want of memory. Two maps are equal if they hold the same pairs, in
+/// than 2^32; one more is refused as because an allocation failed. Two maps are equal if they hold the same pairs, in
 /// any order; a copy has its source's order too.
 pub struct Table<K: Eq + Hash + Ord, V> {
     entries: Vec<(K, V)>,
@@ -127,14 +127,14 @@ impl<K: Eq + Hash + Ord, V> Table<K, V> {
         self.entries.as_slice()
     }
 
-    /// The place of what stands for a key, counted from 0 in insertion order, if it has one.
+    /// The place of what means a key, counted from 0 in insertion order, if it has one.
     pub fn get_index_of<Q: Sought<K>>(&self, key: Q) -> Option<usize>
         ensures { result ≡ position (Q.equivalent key) (map (λ e. e.0) self.now) }
     {
         place_in(&self.entries, &self.index, key)
     }
 
-    /// The value at what stands for a key, if there is one.
+    /// The value at what means a key, if there is one.
     pub fn get_by<Q: Sought<K>>(&self, key: Q) -> Option<&V>
         ensures { option_copied result ≡ lookup (Q.equivalent key) self.now }
     {
@@ -151,7 +151,7 @@ impl<K: Eq + Hash + Ord, V> Table<K, V> {
         self.get_by(key)
     }
 
-    /// The entry at a place, counted from 0 in insertion order; `None` behind the last.
+    /// The entry at a place, counted from 0 in insertion order; `None` after the last.
     pub fn get_index(&self, place: usize) -> Option<(&K, &V)>
         ensures { option_map deref_pair result ≡ slice_get self.now place }
     {
@@ -172,7 +172,7 @@ impl<K: Eq + Hash + Ord, V> Table<K, V> {
 
     /// Puts a value at a key and gives back the one that was there.
     ///
-    /// A new key stands last, one that is there keeps its place. If a growth is refused, the
+    /// A new key comes last, one that is there keeps its place. If a growth is refused, the
     /// map stays as it was.
     pub fn insert(&mut self, key: K, value: V) -> Result<Option<V>, AllocFailed<(K, V)>>
     where
@@ -201,7 +201,7 @@ impl<K: Eq + Hash + Ord, V> Table<K, V> {
         }
     }
 
-    /// Puts a value at a key and lets go of the one that was there.
+    /// Puts a value at a key and drops the one that was there.
     ///
     /// If a growth is refused, the map stays as it was.
     pub fn put(&mut self, key: K, value: V) -> Result<(), AllocError>
@@ -220,8 +220,8 @@ impl<K: Eq + Hash + Ord, V> Table<K, V> {
         Ok(())
     }
 
-    /// Puts a value at a new key, behind the others; where the key is there, the map stays as it was and
-    /// its place is told.
+    /// Puts a value at a new key, after the others; where the key is there, the map stays as it was and
+    /// its place is stated.
     ///
     /// If a growth is refused, the map stays as it was.
     pub fn put_new(&mut self, key: K, value: V) -> Result<Option<usize>, AllocError>
@@ -272,12 +272,12 @@ impl<K: Eq + Hash + Ord, V> Table<K, V> {
     }
 
     /// The map with no more room than it takes.
-    pub fn fitted(self) -> Table<K, V>
+    pub fn shrunk(self) -> Table<K, V>
         ensures { result ≡ self }
     {
-        let mut fitted = self;
-        fitted.entries.shrink_to_fit();
-        fitted
+        let mut shrunk = self;
+        shrunk.entries.shrink_to_fit();
+        shrunk
     }
 
     /// The entries in their order, moved out of the map.
@@ -334,7 +334,7 @@ fn agree<K: Eq + Hash + Ord, V: PartialEq>(
     true
 }
 
-/// Puts an entry behind the others; want of memory, or a key that is there, is refused.
+/// Puts an entry after the others; a failed allocation, or a key that is there, is refused.
 fn append<K: Eq + Hash + Ord + Clone + Drop, V: Drop>(
     table: &mut Table<K, V>,
     key: K,

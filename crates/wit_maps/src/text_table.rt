@@ -107,7 +107,7 @@ impl<V> TextTable<V> {
         self.table.get_by(key)
     }
 
-    /// The entry at a place, counted from 0 in insertion order; `None` behind the last.
+    /// The entry at a place, counted from 0 in insertion order; `None` after the last.
     pub fn get_index(&self, place: usize) -> Option<(&str, &V)>
         ensures { option_map (λ p. (p.0.now, p.1.now)) result ≡ slice_get self.now place }
     {
@@ -128,7 +128,7 @@ impl<V> TextTable<V> {
 
     /// Puts a value at a text and gives back the one that was there.
     ///
-    /// A new text stands last, one that is there keeps its place. If a growth is refused, the
+    /// A new text comes last, one that is there keeps its place. If a growth is refused, the
     /// map stays as it was.
     pub fn insert(&mut self, key: String, value: V) -> Result<Option<V>, AllocFailed<(String, V)>>
     where
@@ -141,7 +141,7 @@ impl<V> TextTable<V> {
         self.table.insert(key, value)
     }
 
-    /// Puts a value at a text and lets go of the one that was there.
+    /// Puts a value at a text and drops the one that was there.
     ///
     /// If a growth is refused, the map stays as it was.
     pub fn put(&mut self, key: String, value: V) -> Result<(), AllocError>
@@ -173,12 +173,12 @@ impl<V> TextTable<V> {
     }
 
     /// The map with no more room than it takes.
-    pub fn fitted(self) -> TextTable<V>
+    pub fn shrunk(self) -> TextTable<V>
         ensures { result ≡ self }
     {
         let TextTable { table } = self;
         TextTable {
-            table: table.fitted(),
+            table: table.shrunk(),
         }
     }
 

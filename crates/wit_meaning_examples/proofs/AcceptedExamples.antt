@@ -12,21 +12,21 @@ use Rattle.wit_tree.specs.declared.tree.UsePath.{UsePath}
 use Rattle.wit_tree.specs.declared.tree.WorldSide.{WorldSide}
 use Rattle.wit_tree.specs.declared.tree.WorldSide.TheVariants.{Imported, Exported}
 use Rattle.wit_syntax.specs.Address.{Address}
-use Rattle.wit_syntax.specs.Broken.{DuplicateItem, DuplicateTopName, MissingItem, CyclicItem, IsBrokenNames, Items, ForeignStability, is_world_at, IsBrokenUse, MissingUse, WorldUsed, IsBrokenScope, DefinedTwice, MissingType, CyclicType, Notes, Body, Function, Headerless, Names, ItemStability, UseNotes, IncludeStability, Use, InterfaceIncluded, MissingName, LinkedTwice, IsLinkedTwice, Scope, Sides, Handle, Setter, IsLegal, TopUse, AttributedUse, LostUse}
+use Rattle.wit_syntax.specs.Broken.{DuplicateItem, DuplicateTopName, MissingItem, CyclicItem, IsBrokenNames, Items, ForeignStability, is_world_at, IsBrokenUse, MissingUse, WorldUsed, IsBrokenScope, DefinedTwice, MissingType, CyclicType, Metadata, Body, Function, Headerless, Names, ItemStability, UseMetadata, IncludeStability, Use, InterfaceIncluded, MissingName, LinkedTwice, IsLinkedTwice, Scope, Sides, Handle, Setter, IsLegal, TopUse, AttributedUse, LostUse}
 use Rattle.wit_syntax.specs.Fault.{Fault, missing_at, missing_type_at, item_word, type_word}
 use Rattle.wit_syntax.specs.Foreign.{ForeignVisit}
 use Rattle.wit_syntax.specs.Function.{functions, item_types}
-use Rattle.wit_syntax.specs.Notes.{IsBrokenStability, IsBrokenNotes}
+use Rattle.wit_syntax.specs.Metadata.{IsBrokenStability, IsBrokenMetadata}
 use Rattle.wit_syntax.specs.Repeats.{AllDiffer}
 use Rattle.wit_syntax.specs.Scope.{include_paths, includes, item_rows, rows_of, uses}
 use Rattle.wit_syntax.specs.Shape.{all_handles}
-use Rattle.wit_syntax.specs.Sides.{all_scopes, on_side, side_items, IsBrokenSides, FoldedTwice, CrossedTwice, side_called, items_on, InterfaceNotes}
-use Rattle.wit_syntax.specs.Source.{Item, ScopeName, Used, Defined, Taken, leads, address, all_items, item_name, local_name, scope_names, top_names, top_text, about}
+use Rattle.wit_syntax.specs.Sides.{all_scopes, on_side, side_items, IsBrokenSides, FoldedTwice, CrossedTwice, side_called, items_on, InterfaceMetadata}
+use Rattle.wit_syntax.specs.Source.{Item, ScopeName, Used, Defined, ForeignName, leads, address, all_items, item_name, local_name, scope_names, top_names, top_text, about}
 use Rattle.wit_syntax.proofs.Found.{at_contains, find_among}
 use Rattle.wit_syntax.proofs.Legal.{no_missing_edge, no_cyclic_edge, no_fold, no_crossed}
 use Rattle.wit_syntax.proofs.Repeated.{differ_none, no_repeat, called_key}
 use Rattle.wit_meaning_examples.proofs.SideExamples.{none_among, one_differs}
-use Rattle.wit_syntax.proofs.Unnoted.{unbroken_notes}
+use Rattle.wit_syntax.proofs.Unnoted.{unbroken_metadata}
 use Rattle.wit_meaning_examples.proofs.SignatureExamples.{one_order}
 use Rattle.wit_meaning_examples.proofs.ElsewhereExamples.{own_file, i_item, use_own, visit, t_used, other}
 
@@ -41,13 +41,13 @@ one_among x y among =
     only (suc i) at = absurd (let f : ⊥ = cc in f)
 
 pub no_stability : (f : Fault) → IsBrokenStability [] f → ⊥
-no_stability f h = unbroken_notes f (inl h)
+no_stability f h = unbroken_metadata f (inl h)
 
 -- whether a name of a scope is defined there, and the scope that it is used from
 abbrev pub from_of : ScopeName → List Address
 from_of (Used from attributes n) = from ∷ []
 from_of (Defined d) = []
-from_of (Taken attributes id) = []
+from_of (ForeignName attributes id) = []
 
 module _ (ptr : Ptr) (alloc : Global) where
   abbrev file : PackageFile
@@ -78,8 +78,8 @@ module _ (ptr : Ptr) (alloc : Global) where
   names_pass f (Items (MissingItem h)) = no_missing_edge (missing_at 7 item_word) (item_rows files) (0 ∷ []) f (one_order (codes "i")) h
   names_pass f (Items (CyclicItem h)) = no_cyclic_edge 8 item_word (item_rows files) (0 ∷ []) f (one_order (codes "i")) h
   names_pass f (ForeignStability v among h) = no_stability f (subst (λ (x : ForeignVisit). IsBrokenStability x.attributes f) (sym (one_among (visit ptr alloc) v among)) h)
-  names_pass f (TopUse g among (AttributedUse u used attributed told)) = no_top_use u (subst (λ (x : PackageFile). Contains x.decl_list.items.items (ast.Use u)) (sym (one_file g among)) used)
-  names_pass f (TopUse g among (LostUse u used id local missing told)) = no_top_use u (subst (λ (x : PackageFile). Contains x.decl_list.items.items (ast.Use u)) (sym (one_file g among)) used)
+  names_pass f (TopUse g among (AttributedUse u used attributed as_stated)) = no_top_use u (subst (λ (x : PackageFile). Contains x.decl_list.items.items (ast.Use u)) (sym (one_file g among)) used)
+  names_pass f (TopUse g among (LostUse u used id local missing as_stated)) = no_top_use u (subst (λ (x : PackageFile). Contains x.decl_list.items.items (ast.Use u)) (sym (one_file g among)) used)
 
   -- its only path leads to another package, and to no world there
   use_passes : (f : Fault) → IsBrokenUse files item f → ⊥
@@ -96,11 +96,11 @@ module _ (ptr : Ptr) (alloc : Global) where
 
   -- its only name is used from there
   from_other : (from : Address) (attributes : _) (n : _) → Contains names (Used from attributes n) → (target : Item) → from ≡ address target → Contains (all_items files) target → ⊥
-  from_other from attributes n among target own stands =
+  from_other from attributes n among target own present =
       let same = one_among (Used (other ptr alloc) [] (t_used ptr alloc)) (Used from attributes n) among in
       let one : other ptr alloc ∷ [] ≡ from ∷ [] = ap from_of same in
       let here : other ptr alloc ≡ from = cc in
-      let there : other ptr alloc ≡ address item = here ∙ own ∙ ap address (sym (one_item target stands)) in
+      let there : other ptr alloc ≡ address item = here ∙ own ∙ ap address (sym (one_item target present)) in
       let f : ⊥ = cc in
       f
 
@@ -115,7 +115,7 @@ module _ (ptr : Ptr) (alloc : Global) where
   scope_passes f (DefinedTwice h) = no_repeat local_name names h.0 (one_differs (codes "t")) h.1
   scope_passes f (MissingType h) = no_missing_edge missing_type_at (rows_of names) (0 ∷ []) f (one_order (codes "t")) h
   scope_passes f (CyclicType h) = no_cyclic_edge 16 type_word (rows_of names) (0 ∷ []) f (one_order (codes "t")) h
-  scope_passes f (Notes d among h) = none_defined d among
+  scope_passes f (Metadata d among h) = none_defined d among
   scope_passes f (Body d among h) = none_defined d among
   scope_passes f (Function k fn at h) = let f : ⊥ = cc in f
 
@@ -126,7 +126,7 @@ module _ (ptr : Ptr) (alloc : Global) where
   sides_pass : (f : Fault) → IsBrokenSides item f → ⊥
   sides_pass f (FoldedTwice h) = no_fold names (side_items item) (0 ∷ []) f (one_order (codes "t")) keys h
   sides_pass f (CrossedTwice h) = no_crossed names (side_items item) (0 ∷ []) f (one_order (codes "t")) keys h
-  sides_pass f (InterfaceNotes x among h) = none_among x among
+  sides_pass f (InterfaceMetadata x among h) = none_among x among
 
   not_linked : (i : Item) → item ≡ i → (f : Fault) → IsLinkedTwice files i f → ⊥
   not_linked i same f h = by (subst (λ (x : Item). IsLinkedTwice files x f) (sym same) h)
@@ -141,13 +141,13 @@ module _ (ptr : Ptr) (alloc : Global) where
   legal f (Headerless none h) = absurd (let f : ⊥ = cc in f)
   legal f (Names h) = names_pass f h
   legal f (ItemStability i among h) = no_stability f (subst (λ (x : Item). IsBrokenStability (about x.declared).attributes f) (sym (one_item i among)) h)
-  legal f (UseNotes i among u used h) =
+  legal f (UseMetadata i among u used h) =
       let own = subst (λ (x : Item). Contains (uses x) u) (sym (one_item i among)) used in
-      unbroken_notes f (subst (λ (x : WrittenUse). IsBrokenNotes x.attributes.items f) (sym (one_among (use_own ptr alloc) u own)) h)
+      unbroken_metadata f (subst (λ (x : WrittenUse). IsBrokenMetadata x.attributes.items f) (sym (one_among (use_own ptr alloc) u own)) h)
   legal f (IncludeStability i among n included h) = none_among n (subst (λ (x : Item). Contains (includes x) n) (sym (one_item i among)) included)
   legal f (Use i among h) = use_passes f (subst (λ (x : Item). IsBrokenUse files x f) (sym (one_item i among)) h)
-  legal f (InterfaceIncluded i among path included leads_there told) = none_among path (subst (λ (x : Item). Contains (include_paths x) path) (sym (one_item i among)) included)
-  legal f (MissingName i among from attributes n used target own first missing told) = from_other from attributes n (subst (λ (x : Item). Contains (scope_names x) (Used from attributes n)) (sym (one_scope i among)) used) target own (find_among (λ (x : Item). bytes_eq (item_name x) (item_name target)) (all_items files) target first)
+  legal f (InterfaceIncluded i among path included leads_there as_stated) = none_among path (subst (λ (x : Item). Contains (include_paths x) path) (sym (one_item i among)) included)
+  legal f (MissingName i among from attributes n used target own first missing as_stated) = from_other from attributes n (subst (λ (x : Item). Contains (scope_names x) (Used from attributes n)) (sym (one_scope i among)) used) target own (find_among (λ (x : Item). bytes_eq (item_name x) (item_name target)) (all_items files) target first)
   legal f (Scope i among h) = scope_passes f (subst (λ (x : Item). IsBrokenScope (scope_names x) (functions x) f) (sym (one_scope i among)) h)
   legal f (Sides i among h) = sides_pass f (subst (λ (x : Item). IsBrokenSides x f) (sym (one_scope i among)) h)
   legal f (LinkedTwice i among h) = not_linked i (one_item i among) f h

@@ -36,20 +36,20 @@ use Rattle.wit_syntax.specs.Fault.{fault}
 use Rattle.wit_syntax.specs.Foreign.{ForeignVisit, foreign_visits, foreign_items}
 use Rattle.wit_syntax.specs.Form.{AliasForm, UnknownForm}
 use Rattle.wit_syntax.specs.Node.{Head, Named, Tree}
-use Rattle.wit_syntax.specs.Notes.{no_docs}
+use Rattle.wit_syntax.specs.Metadata.{no_docs}
 use Rattle.wit_syntax.specs.Scope.{item_rows, rows_of}
 use Rattle.wit_syntax.specs.Shape.{Word}
-use Rattle.wit_syntax.specs.Source.{Foreign, leads, path_scope, top_names, TheInterface, TheWorld, Item, Used, scope_names, takings, Taken}
-use Rattle.wit_syntax.specs.Trees.{source_tree}
-use Rattle.wit_arena.specs.Meet.{Def, Meeting, Meets, IsMeeting}
+use Rattle.wit_syntax.specs.Source.{Foreign, leads, path_scope, top_names, TheInterface, TheWorld, Item, Used, scope_names, foreign_uses, ForeignName}
+use Rattle.wit_syntax.specs.ScopesOfTrees.{source_tree}
+use Rattle.wit_arena.specs.Occurrences.{Def, Occurrence, Collects, IsOccurrence}
 use Rattle.wit_arena.specs.Package.{owner_of, package_tree}
-use Rattle.wit_arena.specs.Whole.{Ordered, turned, all_meetings, interface_addresses, declarations, NamesOthers}
-use Rattle.wit_meaning_examples.proofs.Examples.{at, id, vec, no_comments, untold, header}
+use Rattle.wit_arena.specs.Whole.{Ordered, turned, all_occurrences, interface_addresses, declarations, NamesOthers}
+use Rattle.wit_meaning_examples.proofs.Examples.{at, id, vec, no_comments, unstated, header}
 use Rattle.wit_meaning_examples.proofs.SignatureExamples.{one_order}
-use Rattle.wit_meaning_examples.proofs.FirstMet.{meets_each, none_met, met_named}
+use Rattle.wit_meaning_examples.proofs.FirstSeen.{collects_each, none_seen, seen_named}
 
 module _ (ptr : Ptr) (alloc : Global) where
-  -- a package in a path, and the c behind it
+  -- a package in a path, and the c after it
   abbrev ab_at : Span → Span → Span → Written
   ab_at whole a b = record { docs = no_comments ptr alloc; span = whole; namespace = id ptr alloc (codes "a") a refl; name = id ptr alloc (codes "b") b refl; version = None }
 
@@ -63,7 +63,7 @@ module _ (ptr : Ptr) (alloc : Global) where
   ab = record { namespace = codes "a"; name = codes "b"; version = None }
 
   abbrev including : UsePath → WorldItem
-  including from = world_item.Include (record { attributes = untold ptr alloc; from = from; names = vec ptr alloc [] (lit< tt) })
+  including from = world_item.Include (record { attributes = unstated ptr alloc; from = from; names = vec ptr alloc [] (lit< tt) })
 
   -- package foo:foo; use a:b/c; world w { include c; }
   module _ where
@@ -71,13 +71,13 @@ module _ (ptr : Ptr) (alloc : Global) where
     visited = ab_at (at 21 24) (at 21 22) (at 23 24)
 
     abbrev on_top : ToplevelUse
-    on_top = record { attributes = untold ptr alloc; span = at 17 20; item = path.Package visited (c_at (at 25 26)); as_ = None }
+    on_top = record { attributes = unstated ptr alloc; span = at 17 20; item = path.Package visited (c_at (at 25 26)); as_ = None }
 
     abbrev included : UsePath
     included = path.Id (c_at (at 46 47))
 
     abbrev w : WrittenWorld
-    w = record { docs = no_comments ptr alloc; attributes = untold ptr alloc; name = id ptr alloc (codes "w") (at 34 35) refl; items = vec ptr alloc (including included ∷ []) (lit< tt) }
+    w = record { docs = no_comments ptr alloc; attributes = unstated ptr alloc; name = id ptr alloc (codes "w") (at 34 35) refl; items = vec ptr alloc (including included ∷ []) (lit< tt) }
 
     abbrev file : PackageFile
     file = record { package_id = Some (header ptr alloc); decl_list = record { items = vec ptr alloc (ast.Use on_top ∷ ast.World w ∷ []) (lit< tt) } }
@@ -85,7 +85,7 @@ module _ (ptr : Ptr) (alloc : Global) where
     abbrev item : Item
     item = record { top = top_names file; declared = TheWorld w }
 
-    -- c is a:b's, as the `use` at the top says, where it stands there
+    -- c is a:b's, as the `use` at the top says, where it is there
     leads_there : leads item.top included ≡ Foreign ab (c_at (at 25 26))
     leads_there = refl
 
@@ -114,10 +114,10 @@ module _ (ptr : Ptr) (alloc : Global) where
     used_path = path.Package used_ab (c_at (at 50 51))
 
     abbrev use_t : WrittenUse
-    use_t = record { attributes = untold ptr alloc; from = used_path; names = vec ptr alloc (t_at (at 53 54) ∷ []) (lit< tt) }
+    use_t = record { attributes = unstated ptr alloc; from = used_path; names = vec ptr alloc (t_at (at 53 54) ∷ []) (lit< tt) }
 
     abbrev both : WrittenWorld
-    both = record { docs = no_comments ptr alloc; attributes = untold ptr alloc; name = id ptr alloc (codes "w") (at 23 24) refl; items = vec ptr alloc (including (path.Package included_ab (c_at (at 39 40))) ∷ world_item.Use use_t ∷ []) (lit< tt) }
+    both = record { docs = no_comments ptr alloc; attributes = unstated ptr alloc; name = id ptr alloc (codes "w") (at 23 24) refl; items = vec ptr alloc (including (path.Package included_ab (c_at (at 39 40))) ∷ world_item.Use use_t ∷ []) (lit< tt) }
 
     abbrev both_file : PackageFile
     both_file = record { package_id = Some (header ptr alloc); decl_list = record { items = vec ptr alloc (ast.World both ∷ []) (lit< tt) } }
@@ -147,10 +147,10 @@ module _ (ptr : Ptr) (alloc : Global) where
     t_used = t_at (at 46 47)
 
     abbrev pub use_own : WrittenUse
-    use_own = record { attributes = untold ptr alloc; from = path.Package own i_visited; names = vec ptr alloc (t_used ∷ []) (lit< tt) }
+    use_own = record { attributes = unstated ptr alloc; from = path.Package own i_visited; names = vec ptr alloc (t_used ∷ []) (lit< tt) }
 
     abbrev i : WrittenInterface
-    i = record { docs = no_comments ptr alloc; attributes = untold ptr alloc; name = id ptr alloc (codes "i") (at 27 28) refl; items = vec ptr alloc (interface_item.Use use_own ∷ []) (lit< tt) }
+    i = record { docs = no_comments ptr alloc; attributes = unstated ptr alloc; name = id ptr alloc (codes "i") (at 27 28) refl; items = vec ptr alloc (interface_item.Use use_own ∷ []) (lit< tt) }
 
     abbrev pub own_file : PackageFile
     own_file = record { package_id = Some (header ptr alloc); decl_list = record { items = vec ptr alloc (ast.Interface i ∷ []) (lit< tt) } }
@@ -180,8 +180,8 @@ module _ (ptr : Ptr) (alloc : Global) where
     visits_of_i : foreign_items files ≡ (visit ∷ [])
     visits_of_i = refl
 
-    taken : takings files ≡ (record { from = other; attributes = []; id = t_used.name } ∷ [])
-    taken = refl
+    in_use : foreign_uses files ≡ (record { from = other; attributes = []; id = t_used.name } ∷ [])
+    in_use = refl
 
     names : scope_names i_item ≡ (Used other [] t_used ∷ [])
     names = refl
@@ -199,15 +199,15 @@ module _ (ptr : Ptr) (alloc : Global) where
     addresses : interface_addresses files (in_turn ∷ []) ≡ (other ∷ here ∷ [])
     addresses = refl
 
-    -- both types are first meetings: the other package's, and i's
-    abbrev t_met : Address → Meeting
-    t_met s = record { key = Def s (codes "t"); span = at 46 47; given = Unknown }
+    -- both types are first occurrences: the other package's, and i's
+    abbrev t_seen : Address → Occurrence
+    t_seen s = record { key = Def s (codes "t"); span = at 46 47; given = Unknown }
 
-    abbrev met : List Meeting
-    met = t_met other ∷ t_met here ∷ []
+    abbrev seen : List Occurrence
+    seen = t_seen other ∷ t_seen here ∷ []
 
-    met_once : Meets [] (all_meetings files (turned in_turn ∷ [])) met
-    met_once = meets_each [] met refl
+    seen_once : Collects [] (all_occurrences files (turned in_turn ∷ [])) seen
+    seen_once = collects_each [] seen refl
 
     -- the package: the other i, and then its own
     abbrev t_entry : ℕ → TypeDefKind → TypeDef
@@ -216,10 +216,10 @@ module _ (ptr : Ptr) (alloc : Global) where
     abbrev types : List TypeDef
     types = t_entry 0 kind.Unknown ∷ t_entry 1 (kind.Type_ (type.Id 0)) ∷ []
 
-    arena : IsMeeting (declarations files (other ∷ here ∷ []) []) met types
+    arena : IsOccurrence (declarations files (other ∷ here ∷ []) []) seen types
     arena =
-        let first : IsMeeting (declarations files (other ∷ here ∷ []) []) (t_met other ∷ []) (t_entry 0 kind.Unknown ∷ []) = met_named other 0 (Taken [] t_used.name) kind.Unknown (none_met _) refl refl refl tt in
-        met_named here 0 (Used other [] t_used) (kind.Type_ (type.Id 0)) first refl refl refl ((0, refl, refl), tt)
+        let first : IsOccurrence (declarations files (other ∷ here ∷ []) []) (t_seen other ∷ []) (t_entry 0 kind.Unknown ∷ []) = seen_named other 0 (ForeignName [] t_used.name) kind.Unknown (none_seen _) refl refl refl tt in
+        seen_named here 0 (Used other [] t_used) (kind.Type_ (type.Id 0)) first refl refl refl ((0, refl, refl), tt)
 
     abbrev whole : UnresolvedPackage
     whole = record {

@@ -38,11 +38,11 @@ use Rattle.wit_syntax.specs.Form.{Member, RecordForm, ListForm, AliasForm}
 use Rattle.wit_arena.specs.Kind.{kind_of}
 use Rattle.wit_syntax.specs.Node.{Head, Leaf, Named, Unnamed, Tree}
 use Rattle.wit_syntax.specs.Address.{InterfaceNamed}
-use Rattle.wit_syntax.specs.Notes.{no_docs}
+use Rattle.wit_syntax.specs.Metadata.{no_docs}
 use Rattle.wit_syntax.specs.Source.{path_id, Local, TopName, top_names, top_text, TheInterface, Item, all_items, ScopeName, Used, Defined, scope_names}
-use Rattle.wit_syntax.specs.Trees.{source_tree}
+use Rattle.wit_syntax.specs.ScopesOfTrees.{source_tree}
 use Rattle.wit_arena.specs.Expr.{Prim, one}
-use Rattle.wit_arena.specs.Meet.{Def, Whole, Meeting, IsMet, Meets}
+use Rattle.wit_arena.specs.Occurrences.{Def, Whole, Occurrence, IsSeen, Collects}
 use Rattle.wit_syntax.specs.Scope.{rows_of, item_rows, in_turn}
 use Rattle.wit_type_tree.specs.Refusal.{Missing, Cyclic}
 use Rattle.wit_syntax.specs.Fault.{fault, missing_type_at, type_word}
@@ -52,7 +52,7 @@ use Rattle.wit_syntax.specs.Broken.{last_header, IsMissingEdge, IsCyclicEdge, Is
 use Rattle.wit_arena.specs.Package.{package_tree}
 use Rattle.wit_arena.specs.Whole.{turned}
 use Rattle.wit_meaning_examples.proofs.SmallOrders.{two, three, two_order, three_order}
-use Rattle.wit_arena.proofs.Turns.{meetings}
+use Rattle.wit_arena.proofs.Turns.{occurrences}
 
 folded_names : map folded (codes "P-q1" ∷ codes "p-Q1" ∷ []) ≡ (codes "p-q1" ∷ codes "p-q1" ∷ [])
 folded_names = refl
@@ -72,8 +72,8 @@ module _ (ptr : Ptr) (alloc : Global) where
   abbrev pub no_comments : Comments
   no_comments = record { docs = vec [] (lit< tt); span = at 0 0 }
 
-  abbrev pub untold : Vec Attribute Global
-  untold = vec [] (lit< tt)
+  abbrev pub unstated : Vec Attribute Global
+  unstated = vec [] (lit< tt)
 
   abbrev box : Box (Unit {0}) Global
   box = record { ptr = ptr; alloc = alloc; value = tt }
@@ -92,10 +92,10 @@ module _ (ptr : Ptr) (alloc : Global) where
   p_id = id (codes "p") (at 38 39) refl
 
   abbrev p : Definition
-  p = record { docs = no_comments; attributes = untold; name = p_id; body = Record (at 38 39) (vec written_fields (lit< tt)) }
+  p = record { docs = no_comments; attributes = unstated; name = p_id; body = Record (at 38 39) (vec written_fields (lit< tt)) }
 
   abbrev i : WrittenInterface
-  i = record { docs = no_comments; attributes = untold; name = id (codes "i") (at 27 28) refl; items = vec (TypeItem p ∷ []) (lit< tt) }
+  i = record { docs = no_comments; attributes = unstated; name = id (codes "i") (at 27 28) refl; items = vec (TypeItem p ∷ []) (lit< tt) }
 
   abbrev file : PackageFile
   file = record { package_id = Some header; decl_list = record { items = vec (InterfaceItem i ∷ []) (lit< tt) } }
@@ -121,26 +121,26 @@ module _ (ptr : Ptr) (alloc : Global) where
   source : source_tree files 3 (InterfaceNamed (codes "i"), Word p_id) ≡ p_tree
   source = refl
 
-  abbrev list_met : Span → Meeting
-  list_met span = record { key = Whole ListForm (one (Prim primitive.U8)); span = span; given = Unknown }
+  abbrev list_seen : Span → Occurrence
+  list_seen span = record { key = Whole ListForm (one (Prim primitive.U8)); span = span; given = Unknown }
 
-  abbrev p_met : Meeting
-  p_met = record { key = Def (InterfaceNamed (codes "i")) (codes "p"); span = at 38 39; given = Unknown }
+  abbrev p_seen : Occurrence
+  p_seen = record { key = Def (InterfaceNamed (codes "i")) (codes "p"); span = at 38 39; given = Unknown }
 
-  -- both lists are met before p, each at its own word
-  met : meetings (map turned (record { item = item; order = 0 ∷ [] } ∷ [])) ≡ (list_met (at 45 49) ∷ list_met (at 58 62) ∷ p_met ∷ [])
-  met = refl
+  -- both lists occur before p, each at its own word
+  seen : occurrences (map turned (record { item = item; order = 0 ∷ [] } ∷ [])) ≡ (list_seen (at 45 49) ∷ list_seen (at 58 62) ∷ p_seen ∷ [])
+  seen = refl
 
-  list_is_new : IsMet [] (Whole ListForm (one (Prim primitive.U8))) → ⊥
+  list_is_new : IsSeen [] (Whole ListForm (one (Prim primitive.U8))) → ⊥
   list_is_new (k, is) = let f : ⊥ = cc in f
 
-  p_is_new : IsMet (Whole ListForm (one (Prim primitive.U8)) ∷ []) (Def (InterfaceNamed (codes "i")) (codes "p")) → ⊥
+  p_is_new : IsSeen (Whole ListForm (one (Prim primitive.U8)) ∷ []) (Def (InterfaceNamed (codes "i")) (codes "p")) → ⊥
   p_is_new (zero, is) = let f : ⊥ = cc in f
   p_is_new (suc k, is) = let f : ⊥ = cc in f
 
   -- the second list is the first one again
-  met_once : Meets [] (list_met (at 45 49) ∷ list_met (at 58 62) ∷ p_met ∷ []) (list_met (at 45 49) ∷ p_met ∷ [])
-  met_once = inr (list_is_new, inl ((0, refl), inr (p_is_new, refl)))
+  seen_once : Collects [] (list_seen (at 45 49) ∷ list_seen (at 58 62) ∷ p_seen ∷ []) (list_seen (at 45 49) ∷ p_seen ∷ [])
+  seen_once = inr (list_is_new, inl ((0, refl), inr (p_is_new, refl)))
 
   -- no name is written in p
   rows_of_p : rows_of (scope_names item) ≡ (record { name = codes "p"; needs = [] } ∷ [])
@@ -181,7 +181,7 @@ module _ (ptr : Ptr) (alloc : Global) where
   around = record { name = codes "a"; needs = in_a ∷ [] } ∷ record { name = codes "b"; needs = in_b ∷ [] } ∷ []
 
   abbrev around_names : List ScopeName
-  around_names = Defined (record { docs = no_comments; attributes = untold; name = id (codes "a") (at 19 20) refl; body = Plain (written.Name in_a) }) ∷ Defined (record { docs = no_comments; attributes = untold; name = id (codes "b") (at 31 32) refl; body = Plain (written.Name in_b) }) ∷ []
+  around_names = Defined (record { docs = no_comments; attributes = unstated; name = id (codes "a") (at 19 20) refl; body = Plain (written.Name in_a) }) ∷ Defined (record { docs = no_comments; attributes = unstated; name = id (codes "b") (at 31 32) refl; body = Plain (written.Name in_b) }) ∷ []
 
   rows_around : rows_of around_names ≡ around
   rows_around = refl
@@ -213,7 +213,7 @@ module _ (ptr : Ptr) (alloc : Global) where
   u = id (codes "u") (at 23 24) refl
 
   abbrev t_names : List ScopeName
-  t_names = Defined (record { docs = no_comments; attributes = untold; name = id (codes "t") (at 19 20) refl; body = Plain (written.Name u) }) ∷ []
+  t_names = Defined (record { docs = no_comments; attributes = unstated; name = id (codes "t") (at 19 20) refl; body = Plain (written.Name u) }) ∷ []
 
   u_missing : IsMissing (rows_of t_names) 0 u
   u_missing = refl
@@ -237,7 +237,7 @@ module _ (ptr : Ptr) (alloc : Global) where
   in_list = id (codes "t") (at 28 29) refl
 
   abbrev list_names : List ScopeName
-  list_names = Defined (record { docs = no_comments; attributes = untold; name = id (codes "b") (at 19 20) refl; body = Plain (written.List' (at 23 27) box (written.Name in_list)) }) ∷ Defined (record { docs = no_comments; attributes = untold; name = id (codes "t") (at 37 38) refl; body = Plain (written.Primitive (at 41 43) primitive.U8) }) ∷ []
+  list_names = Defined (record { docs = no_comments; attributes = unstated; name = id (codes "b") (at 19 20) refl; body = Plain (written.List' (at 23 27) box (written.Name in_list)) }) ∷ Defined (record { docs = no_comments; attributes = unstated; name = id (codes "t") (at 37 38) refl; body = Plain (written.Primitive (at 41 43) primitive.U8) }) ∷ []
 
   list_rows : rows_of list_names ≡ two (codes "b") (codes "t") in_list
   list_rows = refl
@@ -252,10 +252,10 @@ module _ (ptr : Ptr) (alloc : Global) where
     of_a = id (codes "t") (at 40 41) refl
 
     abbrev a : Definition
-    a = record { docs = no_comments; attributes = untold; name = id (codes "a") (at 36 37) refl; body = Plain (written.Name of_a) }
+    a = record { docs = no_comments; attributes = unstated; name = id (codes "a") (at 36 37) refl; body = Plain (written.Name of_a) }
 
     abbrev b : Definition
-    b = record { docs = no_comments; attributes = untold; name = id (codes "b") (at 48 49) refl; body = Plain (written.Primitive (at 52 54) primitive.U8) }
+    b = record { docs = no_comments; attributes = unstated; name = id (codes "b") (at 48 49) refl; body = Plain (written.Primitive (at 52 54) primitive.U8) }
 
     abbrev path_x : Id
     path_x = id (codes "x") (at 60 61) refl
@@ -264,16 +264,16 @@ module _ (ptr : Ptr) (alloc : Global) where
     used_t = record { name = id (codes "t") (at 63 64) refl; as_ = None }
 
     abbrev use_t : Use
-    use_t = record { attributes = untold; from = path.Id path_x; names = vec (used_t ∷ []) (lit< tt) }
+    use_t = record { attributes = unstated; from = path.Id path_x; names = vec (used_t ∷ []) (lit< tt) }
 
     abbrev t : Definition
-    t = record { docs = no_comments; attributes = untold; name = id (codes "t") (at 88 89) refl; body = Plain (written.Primitive (at 92 95) primitive.U32) }
+    t = record { docs = no_comments; attributes = unstated; name = id (codes "t") (at 88 89) refl; body = Plain (written.Primitive (at 92 95) primitive.U32) }
 
     abbrev user : WrittenInterface
-    user = record { docs = no_comments; attributes = untold; name = id (codes "i") (at 27 28) refl; items = vec (TypeItem a ∷ TypeItem b ∷ UseItem use_t ∷ []) (lit< tt) }
+    user = record { docs = no_comments; attributes = unstated; name = id (codes "i") (at 27 28) refl; items = vec (TypeItem a ∷ TypeItem b ∷ UseItem use_t ∷ []) (lit< tt) }
 
     abbrev x : WrittenInterface
-    x = record { docs = no_comments; attributes = untold; name = id (codes "x") (at 79 80) refl; items = vec (TypeItem t ∷ []) (lit< tt) }
+    x = record { docs = no_comments; attributes = unstated; name = id (codes "x") (at 79 80) refl; items = vec (TypeItem t ∷ []) (lit< tt) }
 
     abbrev used_file : PackageFile
     used_file = record { package_id = Some header; decl_list = record { items = vec (InterfaceItem user ∷ InterfaceItem x ∷ []) (lit< tt) } }
@@ -312,13 +312,13 @@ module _ (ptr : Ptr) (alloc : Global) where
     tree_of_used : source_tree used_files 2 (InterfaceNamed (codes "i"), Word of_a) ≡ (Named (t_head (codes "i") (at 63 64)) AliasForm (Named (t_head (codes "x") (at 88 89)) AliasForm (tt ∷ []) ∷ []))
     tree_of_used = refl
 
-    abbrev name_met : List ℕ → List ℕ → Span → Meeting
-    name_met interface name span = record { key = Def (InterfaceNamed interface) name; span = span; given = Unknown }
+    abbrev name_seen : List ℕ → List ℕ → Span → Occurrence
+    name_seen interface name span = record { key = Def (InterfaceNamed interface) name; span = span; given = Unknown }
 
-    -- x's t is met before i's, which is met before b and a
-    met_in_turn : meetings (map turned (record { item = x_item; order = 0 ∷ [] } ∷ record { item = user_item; order = 1 ∷ 2 ∷ 0 ∷ [] } ∷ []))
-        ≡ (name_met (codes "x") (codes "t") (at 88 89) ∷ name_met (codes "i") (codes "t") (at 63 64) ∷ name_met (codes "i") (codes "b") (at 48 49) ∷ name_met (codes "i") (codes "a") (at 36 37) ∷ [])
-    met_in_turn = refl
+    -- x's t occurs before i's, which occurs before b and a
+    seen_in_turn : occurrences (map turned (record { item = x_item; order = 0 ∷ [] } ∷ record { item = user_item; order = 1 ∷ 2 ∷ 0 ∷ [] } ∷ []))
+        ≡ (name_seen (codes "x") (codes "t") (at 88 89) ∷ name_seen (codes "i") (codes "t") (at 63 64) ∷ name_seen (codes "i") (codes "b") (at 48 49) ∷ name_seen (codes "i") (codes "a") (at 36 37) ∷ [])
+    seen_in_turn = refl
 
     abbrev entry : List ℕ → Ty → ℕ → Span → TypeDef
     entry name ty place span = record { name = Some name; kind = kind.Type_ ty; owner = owner.Interface place; docs = no_docs; stability = Unknown; span = span; external_id = None }
@@ -340,19 +340,19 @@ module _ (ptr : Ptr) (alloc : Global) where
   -- use z as x; interface i { use x.{t}; }
   module _ where
     abbrev x_here : WrittenInterface
-    x_here = record { docs = no_comments; attributes = untold; name = id (codes "x") (at 27 28) refl; items = vec (TypeItem (record { docs = no_comments; attributes = untold; name = id (codes "t") (at 36 37) refl; body = Plain (written.Primitive (at 40 42) primitive.U8) }) ∷ []) (lit< tt) }
+    x_here = record { docs = no_comments; attributes = unstated; name = id (codes "x") (at 27 28) refl; items = vec (TypeItem (record { docs = no_comments; attributes = unstated; name = id (codes "t") (at 36 37) refl; body = Plain (written.Primitive (at 40 42) primitive.U8) }) ∷ []) (lit< tt) }
 
     abbrev z : WrittenInterface
-    z = record { docs = no_comments; attributes = untold; name = id (codes "z") (at 56 57) refl; items = vec (TypeItem (record { docs = no_comments; attributes = untold; name = id (codes "t") (at 65 66) refl; body = Plain (written.Primitive (at 69 72) primitive.U16) }) ∷ []) (lit< tt) }
+    z = record { docs = no_comments; attributes = unstated; name = id (codes "z") (at 56 57) refl; items = vec (TypeItem (record { docs = no_comments; attributes = unstated; name = id (codes "t") (at 65 66) refl; body = Plain (written.Primitive (at 69 72) primitive.U16) }) ∷ []) (lit< tt) }
 
     abbrev alias : ToplevelUse
-    alias = record { attributes = untold; span = at 77 80; item = path.Id (id (codes "z") (at 81 82) refl); as_ = Some (id (codes "x") (at 86 87) refl) }
+    alias = record { attributes = unstated; span = at 77 80; item = path.Id (id (codes "z") (at 81 82) refl); as_ = Some (id (codes "x") (at 86 87) refl) }
 
     abbrev t_of_x : UseName
     t_of_x = record { name = id (codes "t") (at 108 109) refl; as_ = None }
 
     abbrev i_of_x : WrittenInterface
-    i_of_x = record { docs = no_comments; attributes = untold; name = id (codes "i") (at 99 100) refl; items = vec (UseItem (record { attributes = untold; from = path.Id (id (codes "x") (at 105 106) refl); names = vec (t_of_x ∷ []) (lit< tt) }) ∷ []) (lit< tt) }
+    i_of_x = record { docs = no_comments; attributes = unstated; name = id (codes "i") (at 99 100) refl; items = vec (UseItem (record { attributes = unstated; from = path.Id (id (codes "x") (at 105 106) refl); names = vec (t_of_x ∷ []) (lit< tt) }) ∷ []) (lit< tt) }
 
     abbrev first_file : PackageFile
     first_file = record { package_id = Some header; decl_list = record { items = vec (InterfaceItem x_here ∷ InterfaceItem z ∷ []) (lit< tt) } }
@@ -378,7 +378,7 @@ module _ (ptr : Ptr) (alloc : Global) where
 
     -- use x as y; use y as z;
     abbrev of_an_alias : ToplevelUse
-    of_an_alias = record { attributes = untold; span = at 12 15; item = path.Id (id (codes "y") (at 16 17) refl); as_ = Some (id (codes "z") (at 21 22) refl) }
+    of_an_alias = record { attributes = unstated; span = at 12 15; item = path.Id (id (codes "y") (at 16 17) refl); as_ = Some (id (codes "z") (at 21 22) refl) }
 
     original_missing : IsWrongTop (all_items two_files) (ToplevelItem alias ∷ ToplevelItem of_an_alias ∷ []) (record { rule = 7; span = at 16 17; name = Some (codes "y"); sort = Missing (codes "interface or world"); hint = None })
     original_missing = LostUse of_an_alias (1, lit< tt, refl) (id (codes "y") (at 16 17) refl) refl refl refl

@@ -30,9 +30,9 @@ use Rattle.wit_syntax.specs.Ends.{Elsewhere, EndsAt}
 use Rattle.wit_syntax.specs.Fault.{Fault, fault}
 use Rattle.wit_syntax.specs.Source.{Declared, TheInterface, TheWorld, TheInline, TopName, Item, about, about_name, address, all_items, is_world, item_name, item_named, leads, ScopeName, scope_names, top_names}
 use Rattle.wit_syntax.specs.Sides.{Link, SideLink, items_on, side_items}
-use Rattle.wit_syntax.specs.Trees.{scope}
+use Rattle.wit_syntax.specs.ScopesOfTrees.{scope}
 use Rattle.wit_syntax.specs.Broken.{is_world_at, IsBroken, IsLinkedTwice, Use, WorldUsed}
-use Rattle.wit_meaning_examples.proofs.Examples.{at, id, vec, no_comments, untold, header}
+use Rattle.wit_meaning_examples.proofs.Examples.{at, id, vec, no_comments, unstated, header}
 
 -- whether the first of some spans starts there
 abbrev starts_at : ℕ → List Span → Bool
@@ -63,10 +63,10 @@ module _ (ptr : Ptr) (alloc : Global) where
   t_at span = id ptr alloc (codes "t") span refl
 
   abbrev interface : Id → (parts : List Part) → length parts < 2 ^ 63 → Interface
-  interface name parts small = record { docs = no_comments ptr alloc; attributes = untold ptr alloc; name = name; items = vec ptr alloc parts small }
+  interface name parts small = record { docs = no_comments ptr alloc; attributes = unstated ptr alloc; name = name; items = vec ptr alloc parts small }
 
   abbrev world : Id → (parts : List WorldItem) → length parts < 2 ^ 63 → World
-  world name parts small = record { docs = no_comments ptr alloc; attributes = untold ptr alloc; name = name; items = vec ptr alloc parts small }
+  world name parts small = record { docs = no_comments ptr alloc; attributes = unstated ptr alloc; name = name; items = vec ptr alloc parts small }
 
   abbrev file_of : (declared : List AstItem) → length declared < 2 ^ 63 → PackageFile
   file_of declared small = record { package_id = Some (header ptr alloc); decl_list = record { items = vec ptr alloc declared small } }
@@ -74,7 +74,7 @@ module _ (ptr : Ptr) (alloc : Global) where
   -- package foo:foo; world x {} interface x {} interface i { use x.{t}; }
   module _ where
     abbrev use_x : WrittenUse
-    use_x = record { attributes = untold ptr alloc; from = path.Id (x_at (at 61 62)); names = vec ptr alloc (record { name = t_at (at 64 65); as_ = None } ∷ []) (lit< tt) }
+    use_x = record { attributes = unstated ptr alloc; from = path.Id (x_at (at 61 62)); names = vec ptr alloc (record { name = t_at (at 64 65); as_ = None } ∷ []) (lit< tt) }
 
     abbrev i : Interface
     i = interface (id ptr alloc (codes "i") (at 53 54) refl) (interface_item.Use use_x ∷ []) (lit< tt)
@@ -96,18 +96,18 @@ module _ (ptr : Ptr) (alloc : Global) where
   -- package foo:foo; interface x { type t = u8; } interface x { resource t; f: func(a: borrow<t>); }
   module _ where
     abbrev plain : Interface
-    plain = interface (x_at (at 27 28)) (interface_item.TypeDef (record { docs = no_comments ptr alloc; attributes = untold ptr alloc; name = t_at (at 36 37); body = Plain (written.Primitive (at 40 42) primitive.U8) }) ∷ []) (lit< tt)
+    plain = interface (x_at (at 27 28)) (interface_item.TypeDef (record { docs = no_comments ptr alloc; attributes = unstated ptr alloc; name = t_at (at 36 37); body = Plain (written.Primitive (at 40 42) primitive.U8) }) ∷ []) (lit< tt)
 
     abbrev f : NamedFunc
     f = record {
       docs = no_comments ptr alloc;
-      attributes = untold ptr alloc;
+      attributes = unstated ptr alloc;
       name = id ptr alloc (codes "f") (at 72 73) refl;
       func = record { span = at 75 79; form = form.Plain; params = vec ptr alloc (record { name = id ptr alloc (codes "a") (at 80 81) refl; ty = written.Borrow (at 83 89) (t_at (at 90 91)) } ∷ []) (lit< tt); result = None };
     }
 
     abbrev lender : Interface
-    lender = interface (x_at (at 56 57)) (interface_item.TypeDef (record { docs = no_comments ptr alloc; attributes = untold ptr alloc; name = t_at (at 69 70); body = Resource (vec ptr alloc [] (lit< tt)) }) ∷ interface_item.Func f ∷ []) (lit< tt)
+    lender = interface (x_at (at 56 57)) (interface_item.TypeDef (record { docs = no_comments ptr alloc; attributes = unstated ptr alloc; name = t_at (at 69 70); body = Resource (vec ptr alloc [] (lit< tt)) }) ∷ interface_item.Func f ∷ []) (lit< tt)
 
     abbrev twins : PackageFile
     twins = file_of (ast.Interface plain ∷ ast.Interface lender ∷ []) (lit< tt)
@@ -130,7 +130,7 @@ module _ (ptr : Ptr) (alloc : Global) where
   -- package foo:foo; world v {} world w { import v; import v; }
   module _ where
     abbrev importing : Span → WorldItem
-    importing span = world_item.Extern (record { side = Imported; docs = no_comments ptr alloc; attributes = untold ptr alloc; kind = extern.Path (path.Id (v_at span)) })
+    importing span = world_item.Extern (record { side = Imported; docs = no_comments ptr alloc; attributes = unstated ptr alloc; kind = extern.Path (path.Id (v_at span)) })
 
     abbrev w : World
     w = world (id ptr alloc (codes "w") (at 34 35) refl) (importing (at 45 46) ∷ importing (at 55 56) ∷ []) (lit< tt)

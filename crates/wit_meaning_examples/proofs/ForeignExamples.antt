@@ -25,17 +25,17 @@ use Rattle.wit_model.specs.declared.unresolved.UnresolvedPackage.{UnresolvedPack
 use Rattle.wit_syntax.specs.Form.{AliasForm, UnknownForm}
 use Rattle.wit_syntax.specs.Address.{Address, InterfaceNamed, ForeignNamed}
 use Rattle.wit_syntax.specs.Node.{Head, Named, Tree}
-use Rattle.wit_syntax.specs.Notes.{no_docs}
-use Rattle.wit_syntax.specs.Source.{top_names, TheInterface, Item, takings}
-use Rattle.wit_syntax.specs.Trees.{source_tree}
+use Rattle.wit_syntax.specs.Metadata.{no_docs}
+use Rattle.wit_syntax.specs.Source.{top_names, TheInterface, Item, foreign_uses}
+use Rattle.wit_syntax.specs.ScopesOfTrees.{source_tree}
 use Rattle.wit_syntax.specs.Foreign.{foreign_items}
 use Rattle.wit_syntax.specs.Scope.{item_rows}
-use Rattle.wit_arena.specs.Meet.{Def, Meeting}
+use Rattle.wit_arena.specs.Occurrences.{Def, Occurrence}
 use Rattle.wit_syntax.specs.Shape.{Word}
 use Rattle.wit_arena.specs.Package.{owner_of, package_tree}
-use Rattle.wit_arena.specs.Whole.{turned, all_meetings, NamesOthers}
+use Rattle.wit_arena.specs.Whole.{turned, all_occurrences, NamesOthers}
 use Rattle.wit_arena.specs.Resolved.{foreign_type}
-use Rattle.wit_meaning_examples.proofs.Examples.{at, id, vec, no_comments, untold, header}
+use Rattle.wit_meaning_examples.proofs.Examples.{at, id, vec, no_comments, unstated, header}
 
 -- package foo:foo; use a:b/c as d; interface i { use d.{t}; }
 module _ (ptr : Ptr) (alloc : Global) where
@@ -46,7 +46,7 @@ module _ (ptr : Ptr) (alloc : Global) where
   c_id = id ptr alloc (codes "c") (at 25 26) refl
 
   abbrev alias : ToplevelUse
-  alias = record { attributes = untold ptr alloc; span = at 17 20; item = path.Package other c_id; as_ = Some (id ptr alloc (codes "d") (at 30 31) refl) }
+  alias = record { attributes = unstated ptr alloc; span = at 17 20; item = path.Package other c_id; as_ = Some (id ptr alloc (codes "d") (at 30 31) refl) }
 
   abbrev t_id : Id
   t_id = id ptr alloc (codes "t") (at 54 55) refl
@@ -55,7 +55,7 @@ module _ (ptr : Ptr) (alloc : Global) where
   used_t = record { name = t_id; as_ = None }
 
   abbrev i : WrittenInterface
-  i = record { docs = no_comments ptr alloc; attributes = untold ptr alloc; name = id ptr alloc (codes "i") (at 43 44) refl; items = vec ptr alloc (UseItem (record { attributes = untold ptr alloc; from = path.Id (id ptr alloc (codes "d") (at 51 52) refl); names = vec ptr alloc (used_t ∷ []) (lit< tt) }) ∷ []) (lit< tt) }
+  i = record { docs = no_comments ptr alloc; attributes = unstated ptr alloc; name = id ptr alloc (codes "i") (at 43 44) refl; items = vec ptr alloc (UseItem (record { attributes = unstated ptr alloc; from = path.Id (id ptr alloc (codes "d") (at 51 52) refl); names = vec ptr alloc (used_t ∷ []) (lit< tt) }) ∷ []) (lit< tt) }
 
   abbrev file : PackageFile
   file = record { package_id = Some (header ptr alloc); decl_list = record { items = vec ptr alloc (ToplevelItem alias ∷ InterfaceItem i ∷ []) (lit< tt) } }
@@ -74,8 +74,8 @@ module _ (ptr : Ptr) (alloc : Global) where
   c_of_ab = ForeignNamed ab (codes "c")
 
   -- t is taken from c of a:b, which the `use` at the top of the file visits first
-  taken : takings files ≡ (record { from = c_of_ab; id = t_id; attributes = [] } ∷ [])
-  taken = refl
+  in_use : foreign_uses files ≡ (record { from = c_of_ab; id = t_id; attributes = [] } ∷ [])
+  in_use = refl
 
   visits : foreign_items files ≡ (record { attributes = []; of = other; id = c_id; wants_world = false } ∷ [])
   visits = refl
@@ -84,12 +84,12 @@ module _ (ptr : Ptr) (alloc : Global) where
   no_edge : item_rows files ≡ (record { name = codes "i"; needs = [] } ∷ [])
   no_edge = refl
 
-  -- c's t is met before i's
-  abbrev t_met : Address → Meeting
-  t_met s = record { key = Def s (codes "t"); span = at 54 55; given = Unknown }
+  -- c's t occurs before i's
+  abbrev t_seen : Address → Occurrence
+  t_seen s = record { key = Def s (codes "t"); span = at 54 55; given = Unknown }
 
-  meetings_of_files : all_meetings files (turned (record { item = item; order = 0 ∷ [] }) ∷ []) ≡ (t_met c_of_ab ∷ t_met (InterfaceNamed (codes "i")) ∷ [])
-  meetings_of_files = refl
+  occurrences_of_files : all_occurrences files (turned (record { item = item; order = 0 ∷ [] }) ∷ []) ≡ (t_seen c_of_ab ∷ t_seen (InterfaceNamed (codes "i")) ∷ [])
+  occurrences_of_files = refl
 
   -- the package: c of a:b as an interface without a name, and then i
   abbrev interface : Interface
@@ -119,7 +119,7 @@ module _ (ptr : Ptr) (alloc : Global) where
   named = (refl, refl, refl)
 
   -- what is taken is the first entry, and the interface without a name is c's
-  first_type : map (foreign_type files) (takings files) ≡ (t_entry 0 kind.Unknown ∷ [])
+  first_type : map (foreign_type files) (foreign_uses files) ≡ (t_entry 0 kind.Unknown ∷ [])
   first_type = refl
 
   owner_of_c : owner_of whole (owner.Interface 0) ≡ Some c_of_ab

@@ -37,12 +37,12 @@ use Rattle.wit_model.specs.declared.interface.Interface.{Interface}
 use Rattle.wit_model.specs.declared.unresolved.UnresolvedPackage.{UnresolvedPackage}
 use Rattle.wit_syntax.specs.Form.{BorrowForm, FutureForm, FixedLengthListForm, MapForm, StreamForm, OptionForm}
 use Rattle.wit_syntax.specs.Address.{Address, InterfaceNamed}
-use Rattle.wit_syntax.specs.Notes.{no_docs}
+use Rattle.wit_syntax.specs.Metadata.{no_docs}
 use Rattle.wit_syntax.specs.Source.{top_names, TheInterface, Item, scope_names}
-use Rattle.wit_syntax.specs.Trees.{source_tree}
+use Rattle.wit_syntax.specs.ScopesOfTrees.{source_tree}
 use Rattle.wit_syntax.specs.Scope.{rows_of}
 use Rattle.wit_arena.specs.Expr.{Expr, Prim, Use, Of, End, More, one, expr_of}
-use Rattle.wit_arena.specs.Meet.{Key, Def, Whole, Meeting, IsAt}
+use Rattle.wit_arena.specs.Occurrences.{Key, Def, Whole, Occurrence, IsAt}
 use Rattle.wit_syntax.specs.Shape.{Word, all_handles, Shape}
 use Rattle.wit_syntax.specs.Shape as shape
 use Rattle.wit_syntax.specs.Function.{Freestanding, Method, Static, Constructor, SourceParam, SourceFunction, resource_function, free_function, functions, item_types, signature, role_names}
@@ -50,8 +50,8 @@ use Rattle.wit_arena.specs.Functions.{IsParam, IsFunction, AreFunctions, placed_
 use Rattle.wit_syntax.specs.Sides.{FunctionKey}
 use Rattle.wit_arena.specs.Package.{package_tree, functions_of, function_types}
 use Rattle.wit_arena.specs.Whole.{turned}
-use Rattle.wit_meaning_examples.proofs.Examples.{at, id, vec, no_comments, untold, header}
-use Rattle.wit_arena.proofs.Turns.{meetings}
+use Rattle.wit_meaning_examples.proofs.Examples.{at, id, vec, no_comments, unstated, header}
+use Rattle.wit_arena.proofs.Turns.{occurrences}
 use Rattle.wit_arena.specs.OneByOne.{OneByOne}
 
 -- what holds of two lists, place by place
@@ -91,13 +91,13 @@ module _ (ptr : Ptr) (alloc : Global) where
   x_borrow = record { name = id ptr alloc (codes "x") (at 79 80) refl; ty = written.Borrow (at 82 88) (named_r (at 89 90)) }
 
   abbrev method_m : NamedFunc
-  method_m = record { docs = no_comments ptr alloc; attributes = untold ptr alloc; name = id ptr alloc (codes "m") (at 65 66) refl; func = record { span = at 74 78; form = form.Async; params = vec ptr alloc (x_borrow ∷ []) (lit< tt); result = Some (written.Future' (at 96 102) (Some' box (written.Primitive (at 103 105) primitive.U8))) } }
+  method_m = record { docs = no_comments ptr alloc; attributes = unstated ptr alloc; name = id ptr alloc (codes "m") (at 65 66) refl; func = record { span = at 74 78; form = form.Async; params = vec ptr alloc (x_borrow ∷ []) (lit< tt); result = Some (written.Future' (at 96 102) (Some' box (written.Primitive (at 103 105) primitive.U8))) } }
 
   abbrev static_s : NamedFunc
-  static_s = record { docs = no_comments ptr alloc; attributes = untold ptr alloc; name = id ptr alloc (codes "s") (at 108 109) refl; func = record { span = at 118 122; form = form.Plain; params = vec ptr alloc [] (lit< tt); result = Some (written.Name (named_r (at 128 129))) } }
+  static_s = record { docs = no_comments ptr alloc; attributes = unstated ptr alloc; name = id ptr alloc (codes "s") (at 108 109) refl; func = record { span = at 118 122; form = form.Plain; params = vec ptr alloc [] (lit< tt); result = Some (written.Name (named_r (at 128 129))) } }
 
   abbrev r : Definition
-  r = record { docs = no_comments ptr alloc; attributes = untold ptr alloc; name = named_r (at 40 41); body = Resource (vec ptr alloc (resource.Constructor (no_comments ptr alloc) (untold ptr alloc) (at 44 55) (vec ptr alloc (n_u32 ∷ []) (lit< tt)) None ∷ resource.Method method_m ∷ resource.Static static_s ∷ []) (lit< tt)) }
+  r = record { docs = no_comments ptr alloc; attributes = unstated ptr alloc; name = named_r (at 40 41); body = Resource (vec ptr alloc (resource.Constructor (no_comments ptr alloc) (unstated ptr alloc) (at 44 55) (vec ptr alloc (n_u32 ∷ []) (lit< tt)) None ∷ resource.Method method_m ∷ resource.Static static_s ∷ []) (lit< tt)) }
 
   abbrev map_type : Written
   map_type = written.Map' (at 144 147) box (written.Primitive (at 148 154) primitive.String) box (written.FixedLengthList' (at 156 160) box (written.Primitive (at 161 163) primitive.U8) 4)
@@ -106,10 +106,10 @@ module _ (ptr : Ptr) (alloc : Global) where
   a_map = record { name = id ptr alloc (codes "a") (at 141 142) refl; ty = map_type }
 
   abbrev f : NamedFunc
-  f = record { docs = no_comments ptr alloc; attributes = untold ptr alloc; name = id ptr alloc (codes "f") (at 133 134) refl; func = record { span = at 136 140; form = form.Plain; params = vec ptr alloc (a_map ∷ []) (lit< tt); result = Some (written.Option' (at 173 179) box (written.Stream' (at 180 186) None')) } }
+  f = record { docs = no_comments ptr alloc; attributes = unstated ptr alloc; name = id ptr alloc (codes "f") (at 133 134) refl; func = record { span = at 136 140; form = form.Plain; params = vec ptr alloc (a_map ∷ []) (lit< tt); result = Some (written.Option' (at 173 179) box (written.Stream' (at 180 186) None')) } }
 
   abbrev i : WrittenInterface
-  i = record { docs = no_comments ptr alloc; attributes = untold ptr alloc; name = id ptr alloc (codes "i") (at 27 28) refl; items = vec ptr alloc (TypeItem r ∷ FuncItem f ∷ []) (lit< tt) }
+  i = record { docs = no_comments ptr alloc; attributes = unstated ptr alloc; name = id ptr alloc (codes "i") (at 27 28) refl; items = vec ptr alloc (TypeItem r ∷ FuncItem f ∷ []) (lit< tt) }
 
   abbrev file : PackageFile
   file = record { package_id = Some (header ptr alloc); decl_list = record { items = vec ptr alloc (InterfaceItem i ∷ []) (lit< tt) } }
@@ -123,7 +123,7 @@ module _ (ptr : Ptr) (alloc : Global) where
   abbrev in_i : Address
   in_i = InterfaceNamed (codes "i")
 
-  -- the functions of the resource stand at its definition
+  -- the functions of the resource are at its definition
   names : map (λ (g : SourceFunction). g.name) (functions item) ≡ (codes "[constructor]r" ∷ codes "[method]r.m" ∷ codes "[static]r.s" ∷ codes "f" ∷ [])
   names = refl
 
@@ -159,12 +159,12 @@ module _ (ptr : Ptr) (alloc : Global) where
   in_handles : all_handles (item_types item) ≡ (named_r (at 89 90) ∷ [])
   in_handles = refl
 
-  -- what is met: the resource, and then each signature with its parts in front
-  abbrev whole_met : Span → Primitive → Meeting
-  whole_met span p = record { key = Whole (FutureForm true) (one (Prim p)); span = span; given = Unknown }
+  -- what occurs: the resource, and then each signature with its parts in front
+  abbrev whole_seen : Span → Primitive → Occurrence
+  whole_seen span p = record { key = Whole (FutureForm true) (one (Prim p)); span = span; given = Unknown }
 
-  abbrev borrow_met : Span → Meeting
-  borrow_met span = record { key = Whole BorrowForm (one (Use in_i (codes "r"))); span = span; given = Unknown }
+  abbrev borrow_seen : Span → Occurrence
+  borrow_seen span = record { key = Whole BorrowForm (one (Use in_i (codes "r"))); span = span; given = Unknown }
 
   abbrev fixed : Expr
   fixed = Of (FixedLengthListForm 4) (one (Prim primitive.U8))
@@ -172,15 +172,15 @@ module _ (ptr : Ptr) (alloc : Global) where
   abbrev stream : Expr
   stream = Of (StreamForm false) End
 
-  abbrev behind_names : List Meeting
-  behind_names = borrow_met (at 74 78) ∷ borrow_met (at 82 88) ∷ whole_met (at 96 102) primitive.U8
+  abbrev after_names : List Occurrence
+  after_names = borrow_seen (at 74 78) ∷ borrow_seen (at 82 88) ∷ whole_seen (at 96 102) primitive.U8
       ∷ record { key = Whole (FixedLengthListForm 4) (one (Prim primitive.U8)); span = at 156 160; given = Unknown }
       ∷ record { key = Whole MapForm (More (Prim primitive.String) (one fixed)); span = at 144 147; given = Unknown }
       ∷ record { key = Whole (StreamForm false) End; span = at 180 186; given = Unknown }
       ∷ record { key = Whole OptionForm (one stream); span = at 173 179; given = Unknown } ∷ []
 
-  met : meetings (map turned (record { item = item; order = 0 ∷ [] } ∷ [])) ≡ (record { key = Def in_i (codes "r"); span = at 40 41; given = Unknown } ∷ behind_names)
-  met = refl
+  seen : occurrences (map turned (record { item = item; order = 0 ∷ [] } ∷ [])) ≡ (record { key = Def in_i (codes "r"); span = at 40 41; given = Unknown } ∷ after_names)
+  seen = refl
 
   -- the arena: each once
   abbrev ks : List Key
@@ -233,17 +233,17 @@ module _ (ptr : Ptr) (alloc : Global) where
   placed = refl
 
   -- each is the written one
-  is_constructor : IsFunction ks in_i (resource_function r.name (resource.Constructor (no_comments ptr alloc) (untold ptr alloc) (at 44 55) (vec ptr alloc (n_u32 ∷ []) (lit< tt)) None)) made_constructor
-  is_constructor = record { name = refl; kind = (0, refl, refl); params = params_are ks in_i _ _ refl ((refl, refl, refl), tt); result = result_is ks in_i _ _ (0, refl, refl); span = refl; notes = record { docs = refl; stability = refl; external_id = refl } }
+  is_constructor : IsFunction ks in_i (resource_function r.name (resource.Constructor (no_comments ptr alloc) (unstated ptr alloc) (at 44 55) (vec ptr alloc (n_u32 ∷ []) (lit< tt)) None)) made_constructor
+  is_constructor = record { name = refl; kind = (0, refl, refl); params = params_are ks in_i _ _ refl ((refl, refl, refl), tt); result = result_is ks in_i _ _ (0, refl, refl); span = refl; metadata = record { docs = refl; stability = refl; external_id = refl } }
 
   is_method : IsFunction ks in_i (resource_function r.name (resource.Method method_m)) made_method
-  is_method = record { name = refl; kind = (0, refl, refl); params = params_are ks in_i _ _ refl ((refl, refl, (1, refl, refl)), ((refl, refl, (1, refl, refl)), tt)); result = result_is ks in_i _ _ (2, refl, refl); span = refl; notes = record { docs = refl; stability = refl; external_id = refl } }
+  is_method = record { name = refl; kind = (0, refl, refl); params = params_are ks in_i _ _ refl ((refl, refl, (1, refl, refl)), ((refl, refl, (1, refl, refl)), tt)); result = result_is ks in_i _ _ (2, refl, refl); span = refl; metadata = record { docs = refl; stability = refl; external_id = refl } }
 
   is_static : IsFunction ks in_i (resource_function r.name (resource.Static static_s)) made_static
-  is_static = record { name = refl; kind = (0, refl, refl); params = params_are ks in_i _ _ refl tt; result = result_is ks in_i _ _ (0, refl, refl); span = refl; notes = record { docs = refl; stability = refl; external_id = refl } }
+  is_static = record { name = refl; kind = (0, refl, refl); params = params_are ks in_i _ _ refl tt; result = result_is ks in_i _ _ (0, refl, refl); span = refl; metadata = record { docs = refl; stability = refl; external_id = refl } }
 
   is_f : IsFunction ks in_i (free_function f) made_f
-  is_f = record { name = refl; kind = refl; params = params_are ks in_i _ _ refl ((refl, refl, (4, refl, refl)), tt); result = result_is ks in_i _ _ (6, refl, refl); span = refl; notes = record { docs = refl; stability = refl; external_id = refl } }
+  is_f = record { name = refl; kind = refl; params = params_are ks in_i _ _ refl ((refl, refl, (4, refl, refl)), tt); result = result_is ks in_i _ _ (6, refl, refl); span = refl; metadata = record { docs = refl; stability = refl; external_id = refl } }
 
   are_functions : AreFunctions ks in_i (functions item) made
   are_functions = record { count = refl; each = pairs (IsFunction ks in_i) (functions item) made (is_constructor, (is_method, (is_static, (is_f, tt)))) }

@@ -31,37 +31,37 @@ use Rattle.wit_types.specs.declared.types.TypeDefKind.TheVariants as kind
 use Rattle.wit_types.specs.declared.types.TypeOwner.TheVariants as owner
 use Rattle.wit_syntax.specs.Form.{BorrowForm}
 use Rattle.wit_syntax.specs.Address.{Address, InterfaceNamed, ForeignNamed}
-use Rattle.wit_syntax.specs.Notes.{no_docs}
+use Rattle.wit_syntax.specs.Metadata.{no_docs}
 use Rattle.wit_syntax.specs.Source.{top_names, TheInterface, Item}
 use Rattle.wit_arena.specs.Expr.{Use, More, expr_of, one}
-use Rattle.wit_arena.specs.Meet.{Key, Def, Whole, Meeting, IsMet, Meets, IsAt}
+use Rattle.wit_arena.specs.Occurrences.{Key, Def, Whole, Occurrence, IsSeen, Collects, IsAt}
 use Rattle.wit_syntax.specs.Fault.{fault}
 use Rattle.wit_syntax.specs.Shape.{shape_of}
 use Rattle.wit_syntax.specs.Ends.{AtResource, AtForeign, Elsewhere, EndsAt}
 use Rattle.wit_arena.specs.EntryEnds.{IsResource, IsUnknown, IsOther, entry_end}
 use Rattle.wit_syntax.specs.Broken.{IsBroken, Handle}
-use Rattle.wit_arena.specs.Whole.{Ordered, turned, turn_handles, all_meetings, AreRequired}
+use Rattle.wit_arena.specs.Whole.{Ordered, turned, turn_handles, all_occurrences, AreRequired}
 use Rattle.wit_arena.proofs.Required.{required_none, required_more}
-use Rattle.wit_meaning_examples.proofs.Examples.{at, id, vec, no_comments, untold, header}
+use Rattle.wit_meaning_examples.proofs.Examples.{at, id, vec, no_comments, unstated, header}
 
-none_is_met : {k : Key} → IsMet [] k → ⊥
-none_is_met (k, is) = let f : ⊥ = cc in f
+none_is_seen : {k : Key} → IsSeen [] k → ⊥
+none_is_seen (k, is) = let f : ⊥ = cc in f
 
--- whether what is met is about r
+-- whether what occurs is about r
 abbrev is_of_r : Option Key → Bool
 is_of_r (Some (Def s name)) = bytes_eq name (codes "r")
 is_of_r (Some (Whole form (More (Use s name) es))) = bytes_eq name (codes "r")
 is_of_r _ = false
 
--- what stands for a name or for an unnamed type in these rows
+-- what means a name or for an unnamed type in these rows
 abbrev in_i : Address
 in_i = InterfaceNamed (codes "i")
 
-abbrev name_met : Address → List ℕ → Span → Meeting
-name_met s name span = record { key = Def s name; span = span; given = Unknown }
+abbrev name_seen : Address → List ℕ → Span → Occurrence
+name_seen s name span = record { key = Def s name; span = span; given = Unknown }
 
-abbrev borrow_met : List ℕ → Span → Meeting
-borrow_met name span = record { key = Whole BorrowForm (one (Use in_i name)); span = span; given = Unknown }
+abbrev borrow_seen : List ℕ → Span → Occurrence
+borrow_seen name span = record { key = Whole BorrowForm (one (Use in_i name)); span = span; given = Unknown }
 
 abbrev named : List ℕ → TypeDefKind → ℕ → Span → TypeDef
 named name kind place span = record { name = Some name; kind = kind; owner = owner.Interface place; docs = no_docs; stability = Unknown; span = span; external_id = None }
@@ -72,7 +72,7 @@ borrowed place span = record { name = None; kind = kind.Handle (Borrow place); o
 module _ (ptr : Ptr) (alloc : Global) where
   -- package foo:foo; interface i { .. }
   abbrev i_of : (parts : List Part) → length parts < 2 ^ 63 → Interface
-  i_of parts small = record { docs = no_comments ptr alloc; attributes = untold ptr alloc; name = id ptr alloc (codes "i") (at 27 28) refl; items = vec ptr alloc parts small }
+  i_of parts small = record { docs = no_comments ptr alloc; attributes = unstated ptr alloc; name = id ptr alloc (codes "i") (at 27 28) refl; items = vec ptr alloc parts small }
 
   abbrev file_of : Interface → PackageFile
   file_of i = record { package_id = Some (header ptr alloc); decl_list = record { items = vec ptr alloc (InterfaceItem i ∷ []) (lit< tt) } }
@@ -97,7 +97,7 @@ module _ (ptr : Ptr) (alloc : Global) where
     abbrev f : NamedFunc
     f = record {
       docs = no_comments ptr alloc;
-      attributes = untold ptr alloc;
+      attributes = unstated ptr alloc;
       name = id ptr alloc (codes "f") (at 55 56) refl;
       func = record {
         span = at 58 62;
@@ -111,10 +111,10 @@ module _ (ptr : Ptr) (alloc : Global) where
     }
 
     abbrev r : Definition
-    r = record { docs = no_comments ptr alloc; attributes = untold ptr alloc; name = r_id (at 40 41); body = Resource (vec ptr alloc [] (lit< tt)) }
+    r = record { docs = no_comments ptr alloc; attributes = unstated ptr alloc; name = r_id (at 40 41); body = Resource (vec ptr alloc [] (lit< tt)) }
 
     abbrev a : Definition
-    a = record { docs = no_comments ptr alloc; attributes = untold ptr alloc; name = a_id (at 48 49); body = Plain (written.Name (r_id (at 52 53))) }
+    a = record { docs = no_comments ptr alloc; attributes = unstated ptr alloc; name = a_id (at 48 49); body = Plain (written.Name (r_id (at 52 53))) }
 
     abbrev i : Interface
     i = i_of (TypeItem r ∷ TypeItem a ∷ FuncItem f ∷ []) (lit< tt)
@@ -126,32 +126,32 @@ module _ (ptr : Ptr) (alloc : Global) where
     ordered = record { item = item_of i; order = 0 ∷ 1 ∷ [] }
 
     -- the two handles are two expressions
-    abbrev met : List Meeting
-    met = name_met in_i (codes "r") (at 40 41) ∷ name_met in_i (codes "a") (at 48 49) ∷ borrow_met (codes "r") (at 66 72) ∷ borrow_met (codes "a") (at 80 86) ∷ []
+    abbrev seen : List Occurrence
+    seen = name_seen in_i (codes "r") (at 40 41) ∷ name_seen in_i (codes "a") (at 48 49) ∷ borrow_seen (codes "r") (at 66 72) ∷ borrow_seen (codes "a") (at 80 86) ∷ []
 
-    meetings_of_files : all_meetings files (turned ordered ∷ []) ≡ met
-    meetings_of_files = refl
+    occurrences_of_files : all_occurrences files (turned ordered ∷ []) ≡ seen
+    occurrences_of_files = refl
 
     abbrev ks : List Key
-    ks = map (λ (m : Meeting). m.key) met
+    ks = map (λ (m : Occurrence). m.key) seen
 
-    a_is_new : IsMet (Def in_i (codes "r") ∷ []) (Def in_i (codes "a")) → ⊥
+    a_is_new : IsSeen (Def in_i (codes "r") ∷ []) (Def in_i (codes "a")) → ⊥
     a_is_new (zero, is) = let wrong : true ≡ false = ap is_of_r is in let f : ⊥ = cc in f
     a_is_new (suc k, is) = let f : ⊥ = cc in f
 
-    first_is_new : IsMet (Def in_i (codes "r") ∷ Def in_i (codes "a") ∷ []) (Whole BorrowForm (one (Use in_i (codes "r")))) → ⊥
+    first_is_new : IsSeen (Def in_i (codes "r") ∷ Def in_i (codes "a") ∷ []) (Whole BorrowForm (one (Use in_i (codes "r")))) → ⊥
     first_is_new (zero, is) = let f : ⊥ = cc in f
     first_is_new (suc zero, is) = let f : ⊥ = cc in f
     first_is_new (suc (suc k), is) = let f : ⊥ = cc in f
 
-    second_is_new : IsMet (Def in_i (codes "r") ∷ Def in_i (codes "a") ∷ Whole BorrowForm (one (Use in_i (codes "r"))) ∷ []) (Whole BorrowForm (one (Use in_i (codes "a")))) → ⊥
+    second_is_new : IsSeen (Def in_i (codes "r") ∷ Def in_i (codes "a") ∷ Whole BorrowForm (one (Use in_i (codes "r"))) ∷ []) (Whole BorrowForm (one (Use in_i (codes "a")))) → ⊥
     second_is_new (zero, is) = let f : ⊥ = cc in f
     second_is_new (suc zero, is) = let f : ⊥ = cc in f
     second_is_new (suc (suc zero), is) = let wrong : true ≡ false = ap is_of_r is in let f : ⊥ = cc in f
     second_is_new (suc (suc (suc k)), is) = let f : ⊥ = cc in f
 
-    met_once : Meets [] met met
-    met_once = inr (none_is_met, inr (a_is_new, inr (first_is_new, inr (second_is_new, refl))))
+    seen_once : Collects [] seen seen
+    seen_once = inr (none_is_seen, inr (a_is_new, inr (first_is_new, inr (second_is_new, refl))))
 
     -- z has the type of a, which is another entry than r's
     type_of_z : IsAt ks (expr_of in_i (shape_of (written.Own (at 94 97) (a_id (at 98 99))))) (type.Id 1)
@@ -186,9 +186,9 @@ module _ (ptr : Ptr) (alloc : Global) where
     path_c = path.Package (record { docs = no_comments ptr alloc; span = at 35 38; namespace = a_id (at 35 36); name = id ptr alloc (codes "b") (at 37 38) refl; version = None }) (id ptr alloc (codes "c") (at 39 40) refl)
 
     abbrev user : Interface
-    user = i_of (UseItem (record { attributes = untold ptr alloc; from = path_c; names = vec ptr alloc (used_r ∷ []) (lit< tt) }) ∷ FuncItem (record {
+    user = i_of (UseItem (record { attributes = unstated ptr alloc; from = path_c; names = vec ptr alloc (used_r ∷ []) (lit< tt) }) ∷ FuncItem (record {
       docs = no_comments ptr alloc;
-      attributes = untold ptr alloc;
+      attributes = unstated ptr alloc;
       name = id ptr alloc (codes "f") (at 46 47) refl;
       func = record { span = at 49 53; form = form.Plain; params = vec ptr alloc (x_of (at 54 55) (written.Borrow (at 57 63) (r_id (at 64 65))) ∷ []) (lit< tt); result = None };
     }) ∷ []) (lit< tt)
@@ -202,9 +202,9 @@ module _ (ptr : Ptr) (alloc : Global) where
     abbrev in_c : Address
     in_c = ForeignNamed (record { namespace = codes "a"; name = codes "b"; version = None }) (codes "c")
 
-    -- c's r is met first, then i's, and then the handle
-    user_meetings : all_meetings user_files (turned user_ordered ∷ []) ≡ (name_met in_c (codes "r") (at 42 43) ∷ name_met in_i (codes "r") (at 42 43) ∷ borrow_met (codes "r") (at 57 63) ∷ [])
-    user_meetings = refl
+    -- c's r occurs first, then i's, and then the handle
+    user_occurrences : all_occurrences user_files (turned user_ordered ∷ []) ≡ (name_seen in_c (codes "r") (at 42 43) ∷ name_seen in_i (codes "r") (at 42 43) ∷ borrow_seen (codes "r") (at 57 63) ∷ [])
+    user_occurrences = refl
 
     abbrev user_keys : List Key
     user_keys = Def in_c (codes "r") ∷ Def in_i (codes "r") ∷ Whole BorrowForm (one (Use in_i (codes "r"))) ∷ []
@@ -226,9 +226,9 @@ module _ (ptr : Ptr) (alloc : Global) where
   -- type t = u8; f: func(x: borrow<t>);
   module _ where
     abbrev lender : Interface
-    lender = i_of (TypeItem (record { docs = no_comments ptr alloc; attributes = untold ptr alloc; name = t_id (at 36 37); body = Plain (written.Primitive (at 40 42) primitive.U8) }) ∷ FuncItem (record {
+    lender = i_of (TypeItem (record { docs = no_comments ptr alloc; attributes = unstated ptr alloc; name = t_id (at 36 37); body = Plain (written.Primitive (at 40 42) primitive.U8) }) ∷ FuncItem (record {
       docs = no_comments ptr alloc;
-      attributes = untold ptr alloc;
+      attributes = unstated ptr alloc;
       name = id ptr alloc (codes "f") (at 44 45) refl;
       func = record { span = at 47 51; form = form.Plain; params = vec ptr alloc (x_of (at 52 53) (written.Borrow (at 55 61) (t_id (at 62 63))) ∷ []) (lit< tt); result = None };
     }) ∷ []) (lit< tt)

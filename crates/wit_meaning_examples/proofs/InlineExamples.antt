@@ -43,28 +43,28 @@ use Rattle.wit_model.specs.declared.unresolved.UnresolvedPackage.{UnresolvedPack
 use Rattle.wit_syntax.specs.Address.{Address, InterfaceNamed, InlineAt}
 use Rattle.wit_syntax.specs.Form.{AliasForm}
 use Rattle.wit_syntax.specs.Node.{Head, Leaf, Named}
-use Rattle.wit_syntax.specs.Notes.{no_docs}
+use Rattle.wit_syntax.specs.Metadata.{no_docs}
 use Rattle.wit_syntax.specs.Shape.{Word}
 use Rattle.wit_syntax.specs.Source.{TheWorld, TheInline, Item, address, top_names, Used, Defined, scope_names}
 use Rattle.wit_syntax.specs.Scope.{item_rows, uses}
 use Rattle.wit_syntax.specs.Sides.{side_items, inline_items}
-use Rattle.wit_syntax.specs.Trees.{source_tree}
+use Rattle.wit_syntax.specs.ScopesOfTrees.{source_tree}
 use Rattle.wit_arena.specs.Functions.{function_item}
 use Rattle.wit_arena.specs.Package.{owner_of, names_of, package_tree}
 use Rattle.wit_arena.specs.SideItems.{inline_entry, AreSideItems}
-use Rattle.wit_meaning_examples.proofs.Examples.{at, id, vec, no_comments, untold, header}
+use Rattle.wit_meaning_examples.proofs.Examples.{at, id, vec, no_comments, unstated, header}
 
 -- package foo:foo; interface i { type t = u8; }
 -- world w { import f: func(); import a: interface { use i.{t}; type s = t; } export a: interface {} }
 module _ (ptr : Ptr) (alloc : Global) where
   abbrev definition : Id → Written → Definition
-  definition name ty = record { docs = no_comments ptr alloc; attributes = untold ptr alloc; name = name; body = Plain ty }
+  definition name ty = record { docs = no_comments ptr alloc; attributes = unstated ptr alloc; name = name; body = Plain ty }
 
   abbrev i : WrittenInterface
-  i = record { docs = no_comments ptr alloc; attributes = untold ptr alloc; name = id ptr alloc (codes "i") (at 27 28) refl; items = vec ptr alloc (interface_item.TypeDef (definition (id ptr alloc (codes "t") (at 36 37) refl) (written.Primitive (at 40 42) primitive.U8)) ∷ []) (lit< tt) }
+  i = record { docs = no_comments ptr alloc; attributes = unstated ptr alloc; name = id ptr alloc (codes "i") (at 27 28) refl; items = vec ptr alloc (interface_item.TypeDef (definition (id ptr alloc (codes "t") (at 36 37) refl) (written.Primitive (at 40 42) primitive.U8)) ∷ []) (lit< tt) }
 
   abbrev extern_of : WorldSide → ExternKind → Extern
-  extern_of side kind = record { side = side; docs = no_comments ptr alloc; attributes = untold ptr alloc; kind = kind }
+  extern_of side kind = record { side = side; docs = no_comments ptr alloc; attributes = unstated ptr alloc; kind = kind }
 
   abbrev no_params : Func
   no_params = record { span = at 66 70; form = form.Plain; params = vec ptr alloc [] (lit< tt); result = None }
@@ -73,7 +73,7 @@ module _ (ptr : Ptr) (alloc : Global) where
   used_t = record { name = id ptr alloc (codes "t") (at 103 104) refl; as_ = None }
 
   abbrev use_i : Use
-  use_i = record { attributes = untold ptr alloc; from = path.Id (id ptr alloc (codes "i") (at 100 101) refl); names = vec ptr alloc (used_t ∷ []) (lit< tt) }
+  use_i = record { attributes = unstated ptr alloc; from = path.Id (id ptr alloc (codes "i") (at 100 101) refl); names = vec ptr alloc (used_t ∷ []) (lit< tt) }
 
   abbrev s : Definition
   s = definition (id ptr alloc (codes "s") (at 112 113) refl) (written.Name (id ptr alloc (codes "t") (at 116 117) refl))
@@ -94,7 +94,7 @@ module _ (ptr : Ptr) (alloc : Global) where
   out_a = extern_of Exported (extern.Interface out_name (vec ptr alloc [] (lit< tt)))
 
   abbrev w : WrittenWorld
-  w = record { docs = no_comments ptr alloc; attributes = untold ptr alloc; name = id ptr alloc (codes "w") (at 52 53) refl; items = vec ptr alloc (world_item.Extern (extern_of Imported (extern.Func (id ptr alloc (codes "f") (at 63 64) refl) no_params)) ∷ world_item.Extern in_a ∷ world_item.Extern out_a ∷ []) (lit< tt) }
+  w = record { docs = no_comments ptr alloc; attributes = unstated ptr alloc; name = id ptr alloc (codes "w") (at 52 53) refl; items = vec ptr alloc (world_item.Extern (extern_of Imported (extern.Func (id ptr alloc (codes "f") (at 63 64) refl) no_params)) ∷ world_item.Extern in_a ∷ world_item.Extern out_a ∷ []) (lit< tt) }
 
   abbrev file : PackageFile
   file = record { package_id = Some (header ptr alloc); decl_list = record { items = vec ptr alloc (ast.Interface i ∷ ast.World w ∷ []) (lit< tt) } }
@@ -134,7 +134,7 @@ module _ (ptr : Ptr) (alloc : Global) where
   names_of_a : scope_names in_item ≡ (Used (InterfaceNamed (codes "i")) [] used_t ∷ Defined s ∷ [])
   names_of_a = refl
 
-  -- the arenas: what is written in w stands behind i
+  -- the arenas: what is written in w comes after i
   abbrev entry : List ℕ → Ty → TypeOwner → Span → TypeDef
   entry name ty whose span = record { name = Some name; kind = kind.Type_ ty; owner = whose; docs = no_docs; stability = Unknown; span = span; external_id = None }
 
@@ -182,7 +182,7 @@ module _ (ptr : Ptr) (alloc : Global) where
     required_resource_types = [];
   }
 
-  -- the package tells them by where they stand in w
+  -- the package says them by where they are in w
   in_w : owner_of whole (owner.Interface 1) ≡ Some in_address
   in_w = refl
 

@@ -1,5 +1,5 @@
 pub mod SmallOrders
-pub mod FirstMet
+pub mod FirstSeen
 pub mod Examples
 pub mod WorldExamples
 pub mod ForeignExamples
@@ -11,7 +11,7 @@ pub mod SetterExamples
 pub mod SideExamples
 pub mod LinkExamples
 pub mod InlineExamples
-pub mod NotesExamples
+pub mod MetadataExamples
 pub mod ElsewhereExamples
 pub mod AcceptedExamples
 pub mod UsualExamples

@@ -21,16 +21,16 @@ use Rattle.wit_tree.specs.declared.tree.AstItem.TheVariants as ast
 use Rattle.wit_tree.specs.declared.tree.PackageFile.{PackageFile}
 use Rattle.wit_syntax.specs.Address.{InterfaceNamed}
 use Rattle.wit_syntax.specs.Fault.{Fault, fault}
-use Rattle.wit_syntax.specs.Notes.{IsBrokenNotes}
+use Rattle.wit_syntax.specs.Metadata.{IsBrokenMetadata}
 use Rattle.wit_syntax.specs.Repeats.{AllDiffer}
 use Rattle.wit_syntax.specs.Source.{top_names, TheWorld, Item, path_scope}
-use Rattle.wit_syntax.specs.Sides.{SideItem, SideLink, Link, side_items, items_on, side_called, IsBrokenSides, FoldedTwice, CrossedTwice, InterfaceNotes, interface_attributes}
+use Rattle.wit_syntax.specs.Sides.{SideItem, SideLink, Link, side_items, items_on, side_called, IsBrokenSides, FoldedTwice, CrossedTwice, InterfaceMetadata, interface_attributes}
 use Rattle.wit_syntax.specs.Broken.{IsBroken, IsLinkedTwice, LinkedTwice}
 use Rattle.wit_syntax.proofs.Found.{at_contains}
 use Rattle.wit_syntax.proofs.Legal.{no_fold, no_crossed}
 use Rattle.wit_syntax.proofs.Repeated.{differ_none, called_key}
-use Rattle.wit_syntax.proofs.Unnoted.{unbroken_notes}
-use Rattle.wit_meaning_examples.proofs.Examples.{at, id, vec, no_comments, untold, header}
+use Rattle.wit_syntax.proofs.Unnoted.{unbroken_metadata}
+use Rattle.wit_meaning_examples.proofs.Examples.{at, id, vec, no_comments, unstated, header}
 use Rattle.wit_meaning_examples.proofs.SideExamples.{no_rows, none_among, attributes_of}
 
 -- two that differ
@@ -60,10 +60,10 @@ module _ (ptr : Ptr) (alloc : Global) where
 
   -- package foo:foo; interface i {}
   abbrev i : WrittenInterface
-  i = record { docs = no_comments ptr alloc; attributes = untold ptr alloc; name = i_at (at 27 28); items = vec ptr alloc [] (lit< tt) }
+  i = record { docs = no_comments ptr alloc; attributes = unstated ptr alloc; name = i_at (at 27 28); items = vec ptr alloc [] (lit< tt) }
 
-  abbrev crossing : WorldSide → ExternKind → WorldItem
-  crossing side kind = world_item.Extern (record { side = side; docs = no_comments ptr alloc; attributes = untold ptr alloc; kind = kind })
+  abbrev extern_part : WorldSide → ExternKind → WorldItem
+  extern_part side kind = world_item.Extern (record { side = side; docs = no_comments ptr alloc; attributes = unstated ptr alloc; kind = kind })
 
   abbrev link : WorldSide → Option Id → Id → Link
   link side name to = record { side = side; name = name; path = path.Id to; docs = no_comments ptr alloc; attributes = [] }
@@ -74,10 +74,10 @@ module _ (ptr : Ptr) (alloc : Global) where
     j_at span = id ptr alloc (codes "j") span refl
 
     abbrev alias : ToplevelUse
-    alias = record { attributes = untold ptr alloc; span = at 32 35; item = path.Id (i_at (at 36 37)); as_ = Some (j_at (at 41 42)) }
+    alias = record { attributes = unstated ptr alloc; span = at 32 35; item = path.Id (i_at (at 36 37)); as_ = Some (j_at (at 41 42)) }
 
     abbrev w : WrittenWorld
-    w = record { docs = no_comments ptr alloc; attributes = untold ptr alloc; name = id ptr alloc (codes "w") (at 50 51) refl; items = vec ptr alloc (crossing Imported (extern.Path (path.Id (i_at (at 61 62)))) ∷ crossing Imported (extern.Path (path.Id (j_at (at 71 72)))) ∷ []) (lit< tt) }
+    w = record { docs = no_comments ptr alloc; attributes = unstated ptr alloc; name = id ptr alloc (codes "w") (at 50 51) refl; items = vec ptr alloc (extern_part Imported (extern.Path (path.Id (i_at (at 61 62)))) ∷ extern_part Imported (extern.Path (path.Id (j_at (at 71 72)))) ∷ []) (lit< tt) }
 
     abbrev file : PackageFile
     file = record { package_id = Some (header ptr alloc); decl_list = record { items = vec ptr alloc (ast.Interface i ∷ ast.Use alias ∷ ast.World w ∷ []) (lit< tt) } }
@@ -102,7 +102,7 @@ module _ (ptr : Ptr) (alloc : Global) where
     b_id = id ptr alloc (codes "b") (at 72 73) refl
 
     abbrev several : WrittenWorld
-    several = record { docs = no_comments ptr alloc; attributes = untold ptr alloc; name = id ptr alloc (codes "w") (at 38 39) refl; items = vec ptr alloc (crossing Imported (extern.Path (path.Id (i_at (at 49 50)))) ∷ crossing Imported (extern.NamedPath a_id (path.Id (i_at (at 62 63)))) ∷ crossing Imported (extern.NamedPath b_id (path.Id (i_at (at 75 76)))) ∷ crossing Exported (extern.Path (path.Id (i_at (at 85 86)))) ∷ []) (lit< tt) }
+    several = record { docs = no_comments ptr alloc; attributes = unstated ptr alloc; name = id ptr alloc (codes "w") (at 38 39) refl; items = vec ptr alloc (extern_part Imported (extern.Path (path.Id (i_at (at 49 50)))) ∷ extern_part Imported (extern.NamedPath a_id (path.Id (i_at (at 62 63)))) ∷ extern_part Imported (extern.NamedPath b_id (path.Id (i_at (at 75 76)))) ∷ extern_part Exported (extern.Path (path.Id (i_at (at 85 86)))) ∷ []) (lit< tt) }
 
     abbrev several_file : PackageFile
     several_file = record { package_id = Some (header ptr alloc); decl_list = record { items = vec ptr alloc (ast.Interface i ∷ ast.World several ∷ []) (lit< tt) } }
@@ -127,19 +127,19 @@ module _ (ptr : Ptr) (alloc : Global) where
     bare_alone Exported zero earlier own among here bare = none_among (SideLink earlier) among
     bare_alone Exported (suc place) earlier own among here bare = let f : ⊥ = cc in f
 
-    untold_link : (k : ℕ) (x : SideItem) → slice_get items k ≡ Some x → interface_attributes x ≡ []
-    untold_link zero x here = attributes_of (SideLink (link Imported None (i_at (at 49 50)))) x here refl
-    untold_link (suc zero) x here = attributes_of (SideLink (link Imported (Some a_id) (i_at (at 62 63)))) x here refl
-    untold_link (suc (suc zero)) x here = attributes_of (SideLink (link Imported (Some b_id) (i_at (at 75 76)))) x here refl
-    untold_link (suc (suc (suc zero))) x here = attributes_of (SideLink (link Exported None (i_at (at 85 86)))) x here refl
-    untold_link (suc (suc (suc (suc k)))) x here = absurd (let f : ⊥ = cc in f)
+    unstated_link : (k : ℕ) (x : SideItem) → slice_get items k ≡ Some x → interface_attributes x ≡ []
+    unstated_link zero x here = attributes_of (SideLink (link Imported None (i_at (at 49 50)))) x here refl
+    unstated_link (suc zero) x here = attributes_of (SideLink (link Imported (Some a_id) (i_at (at 62 63)))) x here refl
+    unstated_link (suc (suc zero)) x here = attributes_of (SideLink (link Imported (Some b_id) (i_at (at 75 76)))) x here refl
+    unstated_link (suc (suc (suc zero))) x here = attributes_of (SideLink (link Exported None (i_at (at 85 86)))) x here refl
+    unstated_link (suc (suc (suc (suc k)))) x here = absurd (let f : ⊥ = cc in f)
 
     sides_pass : (f : Fault) → IsBrokenSides several_item f → ⊥
     sides_pass f (FoldedTwice h) = no_fold [] items [] f no_rows keys h
     sides_pass f (CrossedTwice h) = no_crossed [] items [] f no_rows keys h
-    sides_pass f (InterfaceNotes x among h) =
+    sides_pass f (InterfaceMetadata x among h) =
         let it = at_contains items x among in
-        unbroken_notes f (subst (λ (l : List Attribute). IsBrokenNotes l f) (untold_link it.0 x it.1) h)
+        unbroken_metadata f (subst (λ (l : List Attribute). IsBrokenMetadata l f) (unstated_link it.0 x it.1) h)
 
     links_pass : (f : Fault) → IsLinkedTwice (several_file ∷ []) several_item f → ⊥
     links_pass f h = bare_alone h.0 h.1 h.2 h.3 h.4 h.5 h.7

@@ -35,9 +35,9 @@ use Rattle.wit_functions.specs.declared.function.FunctionKind.TheVariants as fun
 use Rattle.wit_model.specs.declared.unresolved.UnresolvedPackage.{UnresolvedPackage}
 use Rattle.wit_syntax.specs.Fault.{fault}
 use Rattle.wit_syntax.specs.Address.{WorldNamed}
-use Rattle.wit_syntax.specs.Notes.{no_docs}
+use Rattle.wit_syntax.specs.Metadata.{no_docs}
 use Rattle.wit_syntax.specs.Source.{top_names, TheWorld, Item, ScopeName, Defined}
-use Rattle.wit_syntax.specs.Trees.{source_tree}
+use Rattle.wit_syntax.specs.ScopesOfTrees.{source_tree}
 use Rattle.wit_syntax.specs.Shape.{Shape}
 use Rattle.wit_syntax.specs.Function.{Role, Freestanding, SourceFunction, functions, signature}
 use Rattle.wit_tree.specs.declared.tree.WorldSide.TheVariants.{Imported}
@@ -47,7 +47,7 @@ use Rattle.wit_syntax.specs.Broken.{IsBroken, Function, IsSetterAlone}
 use Rattle.wit_syntax.proofs.Found.{at_contains}
 use Rattle.wit_arena.specs.Package.{names_of, functions_of, function_types, package_tree}
 use Rattle.wit_arena.specs.Whole.{Ordered, ordered_names, type_imports}
-use Rattle.wit_meaning_examples.proofs.Examples.{at, id, vec, no_comments, untold, header}
+use Rattle.wit_meaning_examples.proofs.Examples.{at, id, vec, no_comments, unstated, header}
 use Rattle.wit_meaning_examples.proofs.SignatureExamples.{i_of, file_of, item_of, in_scope, f_id, r_id, t_id, x_id, param, func, func_of, v_u8, resource_of}
 
 module _ (ptr : Ptr) (alloc : Global) where
@@ -102,7 +102,7 @@ module _ (ptr : Ptr) (alloc : Global) where
   abbrev double : Interface
   double = i_of ptr alloc (FuncItem (record {
     docs = no_comments ptr alloc;
-    attributes = untold ptr alloc;
+    attributes = unstated ptr alloc;
     name = x_id ptr alloc (at 31 32);
     func = record { span = at 34 37; form = form.Setter; params = vec ptr alloc (v_u8 ptr alloc (at 38 39) (at 41 43) ∷ param ptr alloc (t_id ptr alloc (at 45 46)) (written.Primitive (at 48 50) primitive.U8) ∷ []) (lit< tt); result = None };
   }) ∷ FuncItem (getter (at 53 54) (at 56 59) (at 65 67)) ∷ []) (lit< tt)
@@ -119,7 +119,7 @@ module _ (ptr : Ptr) (alloc : Global) where
 
   -- resource r { constructor() -> u8; }
   abbrev making : Written → Interface
-  making t = i_of ptr alloc (TypeItem (resource_of ptr alloc (r_id ptr alloc (at 40 41)) (resource.Constructor (no_comments ptr alloc) (untold ptr alloc) (at 44 55) (vec ptr alloc [] (lit< tt)) (Some t) ∷ []) (lit< tt)) ∷ []) (lit< tt)
+  making t = i_of ptr alloc (TypeItem (resource_of ptr alloc (r_id ptr alloc (at 40 41)) (resource.Constructor (no_comments ptr alloc) (unstated ptr alloc) (at 44 55) (vec ptr alloc [] (lit< tt)) (Some t) ∷ []) (lit< tt)) ∷ []) (lit< tt)
 
   plain_refused : IsBroken (file_of ptr alloc (making (written.Primitive (at 61 63) primitive.U8)) ∷ []) (fault 41 (at 61 63))
   plain_refused = in_scope ptr alloc (making (written.Primitive (at 61 63) primitive.U8)) (fault 41 (at 61 63)) (Function 0 _ refl (ConstructorWithoutResult (r_id ptr alloc (at 40 41), refl, _, refl, refl, refl)))
@@ -134,7 +134,7 @@ module _ (ptr : Ptr) (alloc : Global) where
   -- type t = result<u8>; x: set(v: u8) -> t; x: get() -> u8;
   module _ where
     abbrev some_ok : Definition
-    some_ok = record { docs = no_comments ptr alloc; attributes = untold ptr alloc; name = t_id ptr alloc (at 36 37); body = Plain (written.Result (at 40 46) (Ok' (record { ptr = ptr; alloc = alloc; value = tt }) (written.Primitive (at 47 49) primitive.U8))) }
+    some_ok = record { docs = no_comments ptr alloc; attributes = unstated ptr alloc; name = t_id ptr alloc (at 36 37); body = Plain (written.Result (at 40 46) (Ok' (record { ptr = ptr; alloc = alloc; value = tt }) (written.Primitive (at 47 49) primitive.U8))) }
 
     abbrev called : Interface
     called = i_of ptr alloc (TypeItem some_ok ∷ FuncItem (func_of ptr alloc (x_id ptr alloc (at 52 53)) (at 55 58) form.Setter (v_u8 ptr alloc (at 59 60) (at 62 64)) (Some (written.Name (t_id ptr alloc (at 69 70))))) ∷ FuncItem (getter (at 72 73) (at 75 78) (at 84 86)) ∷ []) (lit< tt)
@@ -144,7 +144,7 @@ module _ (ptr : Ptr) (alloc : Global) where
 
   -- type t = result; type f = t;
   abbrev words : List ScopeName
-  words = Defined (record { docs = no_comments ptr alloc; attributes = untold ptr alloc; name = t_id ptr alloc (at 36 37); body = Plain (written.Result (at 40 46) Neither) }) ∷ Defined (record { docs = no_comments ptr alloc; attributes = untold ptr alloc; name = f_id ptr alloc (at 53 54); body = Plain (written.Name (t_id ptr alloc (at 57 58))) }) ∷ []
+  words = Defined (record { docs = no_comments ptr alloc; attributes = unstated ptr alloc; name = t_id ptr alloc (at 36 37); body = Plain (written.Result (at 40 46) Neither) }) ∷ Defined (record { docs = no_comments ptr alloc; attributes = unstated ptr alloc; name = f_id ptr alloc (at 53 54); body = Plain (written.Name (t_id ptr alloc (at 57 58))) }) ∷ []
 
   -- t is a result, f is only another word for one
   t_is_result : result_ok words (written.Name (t_id ptr alloc (at 69 70))) ≡ Some None
@@ -156,7 +156,7 @@ module _ (ptr : Ptr) (alloc : Global) where
   -- package foo:foo; world w { resource r { constructor(); x: set(v: u8); } }
   module _ where
     abbrev w : WrittenWorld
-    w = record { docs = no_comments ptr alloc; attributes = untold ptr alloc; name = id ptr alloc (codes "w") (at 23 24) refl; items = vec ptr alloc (world_item.TypeDef (resource_of ptr alloc (r_id ptr alloc (at 36 37)) (resource.Constructor (no_comments ptr alloc) (untold ptr alloc) (at 40 51) (vec ptr alloc [] (lit< tt)) None ∷ resource.Method (func_of ptr alloc (x_id ptr alloc (at 55 56)) (at 58 61) form.Setter (v_u8 ptr alloc (at 62 63) (at 65 67)) None) ∷ []) (lit< tt)) ∷ []) (lit< tt) }
+    w = record { docs = no_comments ptr alloc; attributes = unstated ptr alloc; name = id ptr alloc (codes "w") (at 23 24) refl; items = vec ptr alloc (world_item.TypeDef (resource_of ptr alloc (r_id ptr alloc (at 36 37)) (resource.Constructor (no_comments ptr alloc) (unstated ptr alloc) (at 40 51) (vec ptr alloc [] (lit< tt)) None ∷ resource.Method (func_of ptr alloc (x_id ptr alloc (at 55 56)) (at 58 61) form.Setter (v_u8 ptr alloc (at 62 63) (at 65 67)) None) ∷ []) (lit< tt)) ∷ []) (lit< tt) }
 
     abbrev file : PackageFile
     file = record { package_id = Some (header ptr alloc); decl_list = record { items = vec ptr alloc (ast.World w ∷ []) (lit< tt) } }

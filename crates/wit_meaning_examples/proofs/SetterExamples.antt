@@ -27,13 +27,13 @@ use Rattle.wit_model.specs.declared.world.WorldKey.{WorldKey}
 use Rattle.wit_syntax.specs.Broken.{IsBroken, Setter}
 use Rattle.wit_syntax.specs.Fault.{fault}
 use Rattle.wit_syntax.specs.Function.{SourceFunction, functions}
-use Rattle.wit_syntax.specs.Notes.{no_docs}
+use Rattle.wit_syntax.specs.Metadata.{no_docs}
 use Rattle.wit_syntax.specs.Sides.{on_side}
 use Rattle.wit_syntax.specs.Source.{Item, TheWorld, top_names}
 use Rattle.wit_syntax.proofs.Found.{at_contains}
 use Rattle.wit_arena.specs.Functions.{function_item}
 use Rattle.wit_arena.specs.SideItems.{settled}
-use Rattle.wit_meaning_examples.proofs.Examples.{at, id, vec, no_comments, untold, header}
+use Rattle.wit_meaning_examples.proofs.Examples.{at, id, vec, no_comments, unstated, header}
 use Rattle.wit_meaning_examples.proofs.SignatureExamples.{x_id, func, func_of, v_u8}
 
 -- import x: set(v: u8); import f: func(); import x: get() -> u8;
@@ -49,7 +49,7 @@ get_x = record { name = codes "[get]x"; kind = kind.Getter; params = []; result 
 abbrev as_written : List (WorldKey × WorldItem)
 as_written = map function_item (set_x ∷ plain_f ∷ get_x ∷ [])
 
--- where nothing is included, the setter stands behind its getter; where a world is, it stays
+-- where nothing is included, the setter comes after its getter; where a world is, it stays
 placed_alone : settled [] as_written ≡ map function_item (plain_f ∷ get_x ∷ set_x ∷ [])
 placed_alone = refl
 
@@ -58,11 +58,11 @@ left_with_include i = refl
 
 module _ (ptr : Ptr) (alloc : Global) where
   abbrev across : WorldSide → NamedFunc → Extern
-  across side f = record { side = side; docs = no_comments ptr alloc; attributes = untold ptr alloc; kind = extern.Func f.name f.func }
+  across side f = record { side = side; docs = no_comments ptr alloc; attributes = unstated ptr alloc; kind = extern.Func f.name f.func }
 
   -- package foo:foo; world w { import x: get() -> u8; export x: set(v: u8); }
   abbrev w : WrittenWorld
-  w = record { docs = no_comments ptr alloc; attributes = untold ptr alloc; name = id ptr alloc (codes "w") (at 23 24) refl; items = vec ptr alloc (world_item.Extern (across Imported (func ptr alloc (x_id ptr alloc (at 34 35)) (at 37 40) form.Getter (Some (written.Primitive (at 46 48) primitive.U8)))) ∷ world_item.Extern (across Exported (func_of ptr alloc (x_id ptr alloc (at 57 58)) (at 60 63) form.Setter (v_u8 ptr alloc (at 64 65) (at 67 69)) None)) ∷ []) (lit< tt) }
+  w = record { docs = no_comments ptr alloc; attributes = unstated ptr alloc; name = id ptr alloc (codes "w") (at 23 24) refl; items = vec ptr alloc (world_item.Extern (across Imported (func ptr alloc (x_id ptr alloc (at 34 35)) (at 37 40) form.Getter (Some (written.Primitive (at 46 48) primitive.U8)))) ∷ world_item.Extern (across Exported (func_of ptr alloc (x_id ptr alloc (at 57 58)) (at 60 63) form.Setter (v_u8 ptr alloc (at 64 65) (at 67 69)) None)) ∷ []) (lit< tt) }
 
   abbrev file : PackageFile
   file = record { package_id = Some (header ptr alloc); decl_list = record { items = vec ptr alloc (ast.World w ∷ []) (lit< tt) } }

@@ -26,19 +26,19 @@ use Rattle.wit_functions.specs.declared.function.FunctionKind.TheVariants as fun
 use Rattle.wit_model.specs.declared.unresolved.UnresolvedPackage.{UnresolvedPackage}
 use Rattle.wit_graph.specs.Table.{IsOrder}
 use Rattle.wit_syntax.specs.Fault.{Fault, fault}
-use Rattle.wit_syntax.specs.Notes.{no_docs, IsBrokenNotes}
+use Rattle.wit_syntax.specs.Metadata.{no_docs, IsBrokenMetadata}
 use Rattle.wit_syntax.specs.Repeats.{AllDiffer}
 use Rattle.wit_syntax.specs.Source.{top_names, TheWorld, Item, Defined, scope_names}
 use Rattle.wit_syntax.specs.Function.{SourceFunction, side_function, functions, role_names}
-use Rattle.wit_syntax.specs.Signature.{IsBrokenFunction, BrokenNotes, BrokenTypes, MissingInSignature, GetterGiven, SetterGiven, DuplicateParam, GetterWithoutResult, SetterWithResult, ConstructorWithoutResult, ConstructorOfOther}
-use Rattle.wit_syntax.specs.Sides.{SideItem, SideFunction, side_items, items_on, side_called, IsFoldedTwice, IsCrossedTwice, IsBrokenSides, FoldedTwice, CrossedTwice, InterfaceNotes, interface_attributes}
-use Rattle.wit_syntax.specs.Broken.{IsBrokenScope, DefinedTwice, MissingType, CyclicType, Notes, Body, Function, IsBroken, Sides}
+use Rattle.wit_syntax.specs.Signature.{IsBrokenFunction, BrokenMetadata, BrokenTypes, MissingInSignature, GetterGiven, SetterGiven, DuplicateParam, GetterWithoutResult, SetterWithResult, ConstructorWithoutResult, ConstructorOfOther}
+use Rattle.wit_syntax.specs.Sides.{SideItem, SideFunction, side_items, items_on, side_called, IsFoldedTwice, IsCrossedTwice, IsBrokenSides, FoldedTwice, CrossedTwice, InterfaceMetadata, interface_attributes}
+use Rattle.wit_syntax.specs.Broken.{IsBrokenScope, DefinedTwice, MissingType, CyclicType, Metadata, Body, Function, IsBroken, Sides}
 use Rattle.wit_syntax.proofs.Found.{at_contains}
 use Rattle.wit_syntax.proofs.Legal.{no_fold, no_crossed}
-use Rattle.wit_syntax.proofs.Unnoted.{unbroken_notes}
+use Rattle.wit_syntax.proofs.Unnoted.{unbroken_metadata}
 use Rattle.wit_arena.specs.Functions.{function_item}
 use Rattle.wit_arena.specs.Package.{functions_of}
-use Rattle.wit_meaning_examples.proofs.Examples.{at, id, vec, no_comments, untold, header}
+use Rattle.wit_meaning_examples.proofs.Examples.{at, id, vec, no_comments, unstated, header}
 use Rattle.wit_meaning_examples.proofs.SignatureExamples.{one_order}
 use Rattle.std.specs.List.{flat_map}
 use Rattle.wit_syntax.proofs.Repeated.{called_key}
@@ -77,19 +77,19 @@ attributes_of x y same none =
     ap interface_attributes (sym one) ∙ none
 
 module _ (ptr : Ptr) (alloc : Global) where
-  -- a function without parameters that a world imports or exports, where its name and `func` stand
+  -- a function without parameters that a world imports or exports, where its name and `func` are
   abbrev plain_func : Span → Func
   plain_func word = record { span = word; form = form.Plain; params = vec ptr alloc [] (lit< tt); result = None }
 
-  abbrev crossing : WorldSide → Id → Span → Extern
-  crossing side name word = record { side = side; docs = no_comments ptr alloc; attributes = untold ptr alloc; kind = extern.Func name (plain_func word) }
+  abbrev extern_part : WorldSide → Id → Span → Extern
+  extern_part side name word = record { side = side; docs = no_comments ptr alloc; attributes = unstated ptr alloc; kind = extern.Func name (plain_func word) }
 
   abbrev f_at : Span → Id
   f_at span = id ptr alloc (codes "f") span refl
 
   -- package foo:foo; world w { import f: func(); .. }
   abbrev w : Extern → WrittenWorld
-  w second = record { docs = no_comments ptr alloc; attributes = untold ptr alloc; name = id ptr alloc (codes "w") (at 23 24) refl; items = vec ptr alloc (world_item.Extern (crossing Imported (f_at (at 34 35)) (at 37 41)) ∷ world_item.Extern second ∷ []) (lit< tt) }
+  w second = record { docs = no_comments ptr alloc; attributes = unstated ptr alloc; name = id ptr alloc (codes "w") (at 23 24) refl; items = vec ptr alloc (world_item.Extern (extern_part Imported (f_at (at 34 35)) (at 37 41)) ∷ world_item.Extern second ∷ []) (lit< tt) }
 
   abbrev file_of : WrittenWorld → PackageFile
   file_of world = record { package_id = Some (header ptr alloc); decl_list = record { items = vec ptr alloc (ast.World world ∷ []) (lit< tt) } }
@@ -104,7 +104,7 @@ module _ (ptr : Ptr) (alloc : Global) where
   -- import f: func(); import F: func();
   module _ where
     abbrev folding : WrittenWorld
-    folding = w (crossing Imported (id ptr alloc (codes "F") (at 52 53) refl) (at 55 59))
+    folding = w (extern_part Imported (id ptr alloc (codes "F") (at 52 53) refl) (at 55 59))
 
     one_key : map called_key (side_called Imported [] (items_on Imported (side_items (item_of folding))) []) ≡ (codes "f" ∷ codes "f" ∷ [])
     one_key = refl
@@ -124,7 +124,7 @@ module _ (ptr : Ptr) (alloc : Global) where
   -- import f: func(); import f: func();
   module _ where
     abbrev repeating : WrittenWorld
-    repeating = w (crossing Imported (f_at (at 52 53)) (at 55 59))
+    repeating = w (extern_part Imported (f_at (at 52 53)) (at 55 59))
 
     repeating_refused : IsBroken (file_of repeating ∷ []) (fault 44 (at 52 53))
     repeating_refused = Sides (item_of repeating) (0, lit< tt, refl) (CrossedTwice (
@@ -146,7 +146,7 @@ module _ (ptr : Ptr) (alloc : Global) where
   -- import f: func(); export f: func();
   module _ where
     abbrev passing : WrittenWorld
-    passing = w (crossing Exported (f_at (at 52 53)) (at 55 59))
+    passing = w (extern_part Exported (f_at (at 52 53)) (at 55 59))
 
     abbrev fns : List SourceFunction
     fns = functions (item_of passing)
@@ -157,26 +157,26 @@ module _ (ptr : Ptr) (alloc : Global) where
     free : flat_map (λ fn. role_names fn.role) (functions (item_of passing)) ≡ (codes "f" ∷ codes "f" ∷ [])
     free = refl
 
-    -- one stands on each side
+    -- one is on each side
     keys_of : (side : WorldSide) → AllDiffer (map called_key (side_called side [] (items_on side items) []))
     keys_of Imported = one_differs (codes "f")
     keys_of Exported = one_differs (codes "f")
 
-    untold_items : (k : ℕ) (x : SideItem) → slice_get items k ≡ Some x → interface_attributes x ≡ []
-    untold_items zero x there = attributes_of (SideFunction (plain Imported (at 34 35) (at 37 41))) x there refl
-    untold_items (suc zero) x there = attributes_of (SideFunction (plain Exported (at 52 53) (at 55 59))) x there refl
-    untold_items (suc (suc k)) x there = absurd (let f : ⊥ = cc in f)
+    unstated_items : (k : ℕ) (x : SideItem) → slice_get items k ≡ Some x → interface_attributes x ≡ []
+    unstated_items zero x there = attributes_of (SideFunction (plain Imported (at 34 35) (at 37 41))) x there refl
+    unstated_items (suc zero) x there = attributes_of (SideFunction (plain Exported (at 52 53) (at 55 59))) x there refl
+    unstated_items (suc (suc k)) x there = absurd (let f : ⊥ = cc in f)
 
     sides_pass : (f : Fault) → IsBrokenSides (item_of passing) f → ⊥
     sides_pass f (FoldedTwice h) = no_fold [] items [] f no_rows keys_of h
     sides_pass f (CrossedTwice h) = no_crossed [] items [] f no_rows keys_of h
-    sides_pass f (InterfaceNotes x among h) = (let it = at_contains items x among in unbroken_notes f (subst (λ (l : List Attribute). IsBrokenNotes l f) (untold_items it.0 x it.1) h))
+    sides_pass f (InterfaceMetadata x among h) = (let it = at_contains items x among in unbroken_metadata f (subst (λ (l : List Attribute). IsBrokenMetadata l f) (unstated_items it.0 x it.1) h))
 
     -- a function without parameters and result breaks no rule of functions
     none_in : (side : WorldSide) (name word : Span) (k : ℕ) (f : Fault) → IsBrokenFunction [] fns k (plain side name word) f → ⊥
-    none_in side name word k f (BrokenNotes h) = unbroken_notes f h
+    none_in side name word k f (BrokenMetadata h) = unbroken_metadata f h
     none_in side name word k f (BrokenTypes h) = none_among h.0 h.1
-    none_in side name word k f (MissingInSignature id among missing told) = none_among id among
+    none_in side name word k f (MissingInSignature id among missing as_stated) = none_among id among
     none_in side name word k f (GetterGiven h) = let wrong = h.0 in let g : ⊥ = cc in g
     none_in side name word k f (SetterGiven h) = let wrong = h.0 in let g : ⊥ = cc in g
     none_in side name word k f (DuplicateParam h) = let wrong = h.1.4 in let g : ⊥ = cc in g
@@ -195,7 +195,7 @@ module _ (ptr : Ptr) (alloc : Global) where
     none_broken f (DefinedTwice h) = let wrong = h.1.4 in let g : ⊥ = cc in g
     none_broken f (MissingType h) = let wrong = h.3.1 in let g : ⊥ = cc in g
     none_broken f (CyclicType h) = let wrong = h.4.1 in let g : ⊥ = cc in g
-    none_broken f (Notes d among h) = none_among (Defined d) among
+    none_broken f (Metadata d among h) = none_among (Defined d) among
     none_broken f (Body d among h) = none_among (Defined d) among
     none_broken f (Function k fn at_k h) = none_at k fn at_k f h
 
@@ -226,18 +226,18 @@ module _ (ptr : Ptr) (alloc : Global) where
       required_resource_types = [];
     }
 
-    -- the world has both, and tells them apart
+    -- the world has both, and says them apart
     both : functions_of whole (owner.World 0) ≡ (((Imported, codes "f"), made (at 34 35)) ∷ ((Exported, codes "f"), made (at 52 53)) ∷ [])
     both = refl
 
   -- package foo:foo; world w { type f = u8; .. }
   module _ where
-    abbrev beside : Extern → WrittenWorld
-    beside second = record { docs = no_comments ptr alloc; attributes = untold ptr alloc; name = id ptr alloc (codes "w") (at 23 24) refl; items = vec ptr alloc (world_item.TypeDef (record { docs = no_comments ptr alloc; attributes = untold ptr alloc; name = f_at (at 32 33); body = Plain (written.Primitive (at 36 38) primitive.U8) }) ∷ world_item.Extern second ∷ []) (lit< tt) }
+    abbrev pair_with : Extern → WrittenWorld
+    pair_with second = record { docs = no_comments ptr alloc; attributes = unstated ptr alloc; name = id ptr alloc (codes "w") (at 23 24) refl; items = vec ptr alloc (world_item.TypeDef (record { docs = no_comments ptr alloc; attributes = unstated ptr alloc; name = f_at (at 32 33); body = Plain (written.Primitive (at 36 38) primitive.U8) }) ∷ world_item.Extern second ∷ []) (lit< tt) }
 
     -- import f: func();
     abbrev clashing : WrittenWorld
-    clashing = beside (crossing Imported (f_at (at 47 48)) (at 50 54))
+    clashing = pair_with (extern_part Imported (f_at (at 47 48)) (at 50 54))
 
     clashing_refused : IsBroken (file_of clashing ∷ []) (fault 44 (at 47 48))
     clashing_refused = Sides (item_of clashing) (0, lit< tt, refl) (CrossedTwice (
@@ -258,7 +258,7 @@ module _ (ptr : Ptr) (alloc : Global) where
 
     -- export f: func();
     abbrev apart : WrittenWorld
-    apart = beside (crossing Exported (f_at (at 47 48)) (at 50 54))
+    apart = pair_with (extern_part Exported (f_at (at 47 48)) (at 50 54))
 
     keys_apart : (side : WorldSide) → AllDiffer (map called_key (side_called side (scope_names (item_of apart)) (items_on side (side_items (item_of apart))) (0 ∷ [])))
     keys_apart Imported = one_differs (codes "f")

@@ -34,10 +34,10 @@ use Rattle.wit_graph.specs.Order.{IsDependencyFirst}
 use Rattle.wit_graph.specs.Table.{Row, IsEdge, Leads, IsOrder}
 use Rattle.wit_syntax.specs.Form.{ResultForm}
 use Rattle.wit_syntax.specs.Address.{InterfaceNamed}
-use Rattle.wit_syntax.specs.Notes.{no_docs}
+use Rattle.wit_syntax.specs.Metadata.{no_docs}
 use Rattle.wit_syntax.specs.Source.{top_names, TheInterface, Item, scope_names}
 use Rattle.wit_arena.specs.Expr.{Use, one}
-use Rattle.wit_arena.specs.Meet.{Def, Whole}
+use Rattle.wit_arena.specs.Occurrences.{Def, Whole}
 use Rattle.wit_syntax.specs.Fault.{Fault, fault}
 use Rattle.wit_syntax.specs.Shape.{Shape, Word, shape_of}
 use Rattle.wit_syntax.specs.Function.{SourceFunction, functions, role_names}
@@ -48,10 +48,10 @@ use Rattle.wit_syntax.specs.Sides.{side_items, all_scopes, side_called, FoldedTw
 use Rattle.wit_syntax.specs.Broken.{IsBrokenScope, MissingType, Function, IsBroken, Scope, Sides, MissingName, Setter}
 use Rattle.wit_arena.specs.Whole.{turned}
 use Rattle.wit_syntax.proofs.Found.{contains_at, at_contains}
-use Rattle.wit_meaning_examples.proofs.Examples.{at, id, vec, no_comments, untold, header}
+use Rattle.wit_meaning_examples.proofs.Examples.{at, id, vec, no_comments, unstated, header}
 use Rattle.std.specs.List.{flat_map}
 use Rattle.wit_syntax.proofs.Repeated.{called_key}
-use Rattle.wit_arena.proofs.Turns.{meetings}
+use Rattle.wit_arena.proofs.Turns.{occurrences}
 
 -- a scope of one name that needs none has one order
 abbrev pub alone : List ℕ → List Row
@@ -90,7 +90,7 @@ one_order name = record {
 abbrev made : List ℕ → FunctionKind → Made
 made name kind = record { name = name; kind = kind; params = []; result = None; docs = no_docs; stability = Unknown; span = at 0 0; external_id = None }
 
--- a setter that stands before its getter is put behind it
+-- a setter that comes before its getter is put after it
 placed : map (λ (f : List ℕ × Made). f.0) (placed_functions (made (codes "[set]x") kind.Setter ∷ made (codes "f") kind.Freestanding ∷ made (codes "[get]x") kind.Getter ∷ [])) ≡ (codes "f" ∷ codes "[get]x" ∷ codes "[set]x" ∷ [])
 placed = refl
 
@@ -103,7 +103,7 @@ module _ (ptr : Ptr) (alloc : Global) where
 
   -- package foo:foo; interface i { .. }
   abbrev pub i_of : (parts : List Part) → length parts < 2 ^ 63 → Interface
-  i_of parts small = record { docs = no_comments ptr alloc; attributes = untold ptr alloc; name = id ptr alloc (codes "i") (at 27 28) refl; items = vec ptr alloc parts small }
+  i_of parts small = record { docs = no_comments ptr alloc; attributes = unstated ptr alloc; name = id ptr alloc (codes "i") (at 27 28) refl; items = vec ptr alloc parts small }
 
   abbrev pub file_of : Interface → PackageFile
   file_of i = record { package_id = Some (header ptr alloc); decl_list = record { items = vec ptr alloc (InterfaceItem i ∷ []) (lit< tt) } }
@@ -135,17 +135,17 @@ module _ (ptr : Ptr) (alloc : Global) where
 
   -- a function with at most one parameter
   abbrev pub func : Id → Span → FuncForm → Option Written → NamedFunc
-  func name span form result = record { docs = no_comments ptr alloc; attributes = untold ptr alloc; name = name; func = record { span = span; form = form; params = vec ptr alloc [] (lit< tt); result = result } }
+  func name span form result = record { docs = no_comments ptr alloc; attributes = unstated ptr alloc; name = name; func = record { span = span; form = form; params = vec ptr alloc [] (lit< tt); result = result } }
 
   abbrev pub func_of : Id → Span → FuncForm → Param → Option Written → NamedFunc
-  func_of name span form given result = record { docs = no_comments ptr alloc; attributes = untold ptr alloc; name = name; func = record { span = span; form = form; params = vec ptr alloc (given ∷ []) (lit< tt); result = result } }
+  func_of name span form given result = record { docs = no_comments ptr alloc; attributes = unstated ptr alloc; name = name; func = record { span = span; form = form; params = vec ptr alloc (given ∷ []) (lit< tt); result = result } }
 
   abbrev pub v_u8 : Span → Span → Param
   v_u8 name ty = param (id ptr alloc (codes "v") name refl) (written.Primitive ty primitive.U8)
 
   -- a resource with at most two functions
   abbrev pub resource_of : Id → (funcs : List ResourceFunc) → length funcs < 2 ^ 63 → Definition
-  resource_of name funcs small = record { docs = no_comments ptr alloc; attributes = untold ptr alloc; name = name; body = Resource (vec ptr alloc funcs small) }
+  resource_of name funcs small = record { docs = no_comments ptr alloc; attributes = unstated ptr alloc; name = name; body = Resource (vec ptr alloc funcs small) }
 
   -- resource r { r: func(); }
   module _ where
@@ -175,14 +175,14 @@ module _ (ptr : Ptr) (alloc : Global) where
 
   -- resource r { constructor(); }
   abbrev maker : Interface
-  maker = i_of (TypeItem (resource_of (r_id (at 40 41)) (resource.Constructor (no_comments ptr alloc) (untold ptr alloc) (at 44 55) (vec ptr alloc [] (lit< tt)) None ∷ []) (lit< tt)) ∷ []) (lit< tt)
+  maker = i_of (TypeItem (resource_of (r_id (at 40 41)) (resource.Constructor (no_comments ptr alloc) (unstated ptr alloc) (at 44 55) (vec ptr alloc [] (lit< tt)) None ∷ []) (lit< tt)) ∷ []) (lit< tt)
 
   two_keys : map called_key (side_called Imported (scope_names (item_of maker)) (items_on Imported (side_items (item_of maker))) (0 ∷ [])) ≡ (codes "r" ∷ codes "[constructor]r" ∷ [])
   two_keys = refl
 
   -- type x = u8; x: get() -> u8;
   abbrev getter_beside : Interface
-  getter_beside = i_of (TypeItem (record { docs = no_comments ptr alloc; attributes = untold ptr alloc; name = x_id (at 36 37); body = Plain (written.Primitive (at 40 42) primitive.U8) }) ∷ FuncItem (func (x_id (at 44 45)) (at 47 50) form.Getter (Some (written.Primitive (at 56 58) primitive.U8))) ∷ []) (lit< tt)
+  getter_beside = i_of (TypeItem (record { docs = no_comments ptr alloc; attributes = unstated ptr alloc; name = x_id (at 36 37); body = Plain (written.Primitive (at 40 42) primitive.U8) }) ∷ FuncItem (func (x_id (at 44 45)) (at 47 50) form.Getter (Some (written.Primitive (at 56 58) primitive.U8))) ∷ []) (lit< tt)
 
   keys_beside : map called_key (side_called Imported (scope_names (item_of getter_beside)) (items_on Imported (side_items (item_of getter_beside))) (0 ∷ [])) ≡ (codes "x" ∷ codes "[get]x" ∷ [])
   keys_beside = refl
@@ -238,12 +238,12 @@ module _ (ptr : Ptr) (alloc : Global) where
     owning = written.Result (at 61 67) (Ok' box (written.Own (at 68 71) (r_id (at 72 73))))
 
     abbrev owned : Interface
-    owned = i_of (TypeItem (resource_of (r_id (at 40 41)) (resource.Constructor (no_comments ptr alloc) (untold ptr alloc) (at 44 55) (vec ptr alloc [] (lit< tt)) (Some owning) ∷ []) (lit< tt)) ∷ []) (lit< tt)
+    owned = i_of (TypeItem (resource_of (r_id (at 40 41)) (resource.Constructor (no_comments ptr alloc) (unstated ptr alloc) (at 44 55) (vec ptr alloc [] (lit< tt)) (Some owning) ∷ []) (lit< tt)) ∷ []) (lit< tt)
 
-    -- the result stands behind r, over it
-    met : meetings (map turned (record { item = item_of owned; order = 0 ∷ [] } ∷ []))
+    -- the result comes after r, over it
+    seen : occurrences (map turned (record { item = item_of owned; order = 0 ∷ [] } ∷ []))
         ≡ (record { key = Def (InterfaceNamed (codes "i")) (codes "r"); span = at 40 41; given = Unknown } ∷ record { key = Whole (ResultForm true false) (one (Use (InterfaceNamed (codes "i")) (codes "r"))); span = at 61 67; given = Unknown } ∷ [])
-    met = refl
+    seen = refl
 
     gives_r : result_ok (scope_names (item_of owned)) owning ≡ Some (Some (written.Own (at 68 71) (r_id (at 72 73))))
     gives_r = refl
@@ -257,7 +257,7 @@ module _ (ptr : Ptr) (alloc : Global) where
     in_a = id ptr alloc (codes "a") (at 68 69) refl
 
     abbrev other : Interface
-    other = i_of (TypeItem (resource_of (r_id (at 40 41)) (resource.Constructor (no_comments ptr alloc) (untold ptr alloc) (at 44 55) (vec ptr alloc [] (lit< tt)) (Some (written.Result (at 61 67) (Ok' box (written.Name in_a)))) ∷ []) (lit< tt)) ∷ TypeItem (record { docs = no_comments ptr alloc; attributes = untold ptr alloc; name = id ptr alloc (codes "a") (at 79 80) refl; body = Plain (written.Name (r_id (at 83 84))) }) ∷ []) (lit< tt)
+    other = i_of (TypeItem (resource_of (r_id (at 40 41)) (resource.Constructor (no_comments ptr alloc) (unstated ptr alloc) (at 44 55) (vec ptr alloc [] (lit< tt)) (Some (written.Result (at 61 67) (Ok' box (written.Name in_a)))) ∷ []) (lit< tt)) ∷ TypeItem (record { docs = no_comments ptr alloc; attributes = unstated ptr alloc; name = id ptr alloc (codes "a") (at 79 80) refl; body = Plain (written.Name (r_id (at 83 84))) }) ∷ []) (lit< tt)
 
     -- whether a type is written with the name r
     abbrev is_word_r : Shape → Bool
@@ -283,11 +283,11 @@ module _ (ptr : Ptr) (alloc : Global) where
       (OfFunction (0, lit≤ tt, _, refl, f_id (at 31 32), form.Plain, refl, refl) refl)))
 
   -- type t = f; f: func();
-  abbrev behind_name : Interface
-  behind_name = i_of (TypeItem (record { docs = no_comments ptr alloc; attributes = untold ptr alloc; name = t_id (at 36 37); body = Plain (written.Name (f_id (at 40 41))) }) ∷ FuncItem (func (f_id (at 43 44)) (at 46 50) form.Plain None) ∷ []) (lit< tt)
+  abbrev after_name : Interface
+  after_name = i_of (TypeItem (record { docs = no_comments ptr alloc; attributes = unstated ptr alloc; name = t_id (at 36 37); body = Plain (written.Name (f_id (at 40 41))) }) ∷ FuncItem (func (f_id (at 43 44)) (at 46 50) form.Plain None) ∷ []) (lit< tt)
 
-  behind_name_refused : IsBroken (file_of behind_name ∷ []) (record { rule = 15; span = at 40 41; name = Some (codes "f"); sort = Missing (codes "type"); hint = None })
-  behind_name_refused = in_scope behind_name _ (MissingType (0, 0, f_id (at 40 41), (record { name = codes "t"; needs = f_id (at 40 41) ∷ [] }, refl, refl), refl, refl))
+  after_name_refused : IsBroken (file_of after_name ∷ []) (record { rule = 15; span = at 40 41; name = Some (codes "f"); sort = Missing (codes "type"); hint = None })
+  after_name_refused = in_scope after_name _ (MissingType (0, 0, f_id (at 40 41), (record { name = codes "t"; needs = f_id (at 40 41) ∷ [] }, refl, refl), refl, refl))
 
   -- resource r { m: func(self: u8); }
   abbrev two_selves : Interface
@@ -304,7 +304,7 @@ module _ (ptr : Ptr) (alloc : Global) where
     abbrev some_ok : Written
     some_ok = written.Result (at 48 54) (Ok' box (written.Primitive (at 55 57) primitive.U8))
 
-    -- where the second x, `get` and its u8 stand
+    -- where the second x, `get` and its u8 are
     abbrev setter : Written → Span → Span → Span → Interface
     setter t name word ty = i_of (FuncItem (func_of (x_id (at 31 32)) (at 34 37) form.Setter (v_u8 (at 38 39) (at 41 43)) (Some t)) ∷ FuncItem (func (x_id name) word form.Getter (Some (written.Primitive ty primitive.U8))) ∷ []) (lit< tt)
 
@@ -324,13 +324,13 @@ module _ (ptr : Ptr) (alloc : Global) where
   -- package foo:foo; interface a { f: func(); } interface b { use a.{f}; }
   module _ where
     abbrev a : Interface
-    a = record { docs = no_comments ptr alloc; attributes = untold ptr alloc; name = id ptr alloc (codes "a") (at 27 28) refl; items = vec ptr alloc (FuncItem (func (f_id (at 31 32)) (at 34 38) form.Plain None) ∷ []) (lit< tt) }
+    a = record { docs = no_comments ptr alloc; attributes = unstated ptr alloc; name = id ptr alloc (codes "a") (at 27 28) refl; items = vec ptr alloc (FuncItem (func (f_id (at 31 32)) (at 34 38) form.Plain None) ∷ []) (lit< tt) }
 
     abbrev used_f : UseName
     used_f = record { name = f_id (at 65 66); as_ = None }
 
     abbrev b : Interface
-    b = record { docs = no_comments ptr alloc; attributes = untold ptr alloc; name = id ptr alloc (codes "b") (at 54 55) refl; items = vec ptr alloc (UseItem (record { attributes = untold ptr alloc; from = path.Id (id ptr alloc (codes "a") (at 62 63) refl); names = vec ptr alloc (used_f ∷ []) (lit< tt) }) ∷ []) (lit< tt) }
+    b = record { docs = no_comments ptr alloc; attributes = unstated ptr alloc; name = id ptr alloc (codes "b") (at 54 55) refl; items = vec ptr alloc (UseItem (record { attributes = unstated ptr alloc; from = path.Id (id ptr alloc (codes "a") (at 62 63) refl); names = vec ptr alloc (used_f ∷ []) (lit< tt) }) ∷ []) (lit< tt) }
 
     abbrev both : PackageFile
     both = record { package_id = Some (header ptr alloc); decl_list = record { items = vec ptr alloc (InterfaceItem a ∷ InterfaceItem b ∷ []) (lit< tt) } }

@@ -98,7 +98,7 @@ three_greedy leads edge first second last = record { within = within; once = onc
     after (suc (suc zero)) p h l = record { index = 1; below = omega arith; is = sym (first p l) }
     after (suc (suc (suc i))) p h l = absurd (omega arith)
 
-    -- before the index 1 stands the place 1 alone
+    -- before the index 1 is the place 1 alone
     only_one : (i : ℕ) → i < 1 → get_or turned_three i 0 ≡ 1
     only_one zero h = refl
     only_one (suc i) h = absurd (omega arith)
@@ -209,7 +209,7 @@ middle_greedy leads edge first second last = record { within = within; once = on
     after (suc (suc zero)) p h l = record { index = 1; below = omega arith; is = sym (second p l) }
     after (suc (suc (suc i))) p h l = absurd (omega arith)
 
-    -- before the index 1 stands the place 0 alone
+    -- before the index 1 is the place 0 alone
     only_zero : (i : ℕ) → i < 1 → get_or turned_end i 0 ≡ 0
     only_zero zero h = refl
     only_zero (suc i) h = absurd (omega arith)

@@ -1,4 +1,4 @@
--- Where a `use` stands at the top of a file it matters that files are split: these break no rule, and the one file with their declarations does.
+-- Where a `use` is at the top of a file it matters that files are split: these break no rule, and the one file with their declarations does.
 use Rattle.std.proofs.Common.{◌≡◌, ◌↔◌, ℕ, zero, suc, true, false, List, [], ◌∷◌, map, Some, None, ◌⊎◌, inl, inr, refl, sym, ap, ◌∙◌, subst, lit<}
 use Rattle.std.specs.Prelude.{codes, slice_get, Contains}
 use Rattle.std.specs.Str.{bytes_eq}
@@ -24,22 +24,22 @@ use Rattle.wit_tree.specs.declared.tree.WorldSide.{WorldSide}
 use Rattle.wit_tree.specs.declared.tree.WorldSide.TheVariants.{Imported, Exported}
 use Rattle.wit_syntax.specs.Address.{Address, ForeignNamed}
 use Rattle.wit_syntax.specs.Bodies.{IsBrokenBody, IsBrokenType, Itself, Inside}
-use Rattle.wit_syntax.specs.Broken.{headers, DuplicateItem, DuplicateTopName, MissingItem, CyclicItem, IsBrokenNames, Items, ForeignStability, is_world_at, IsBrokenUse, MissingUse, WorldUsed, IsBrokenScope, DefinedTwice, MissingType, CyclicType, Notes, Body, Function, IsBroken, Headerless, Names, ItemStability, UseNotes, IncludeStability, Use, InterfaceIncluded, MissingName, LinkedTwice, IsLinkedTwice, Scope, Sides, Handle, Setter, IsLegal, TopUse, AttributedUse, LostUse}
+use Rattle.wit_syntax.specs.Broken.{headers, DuplicateItem, DuplicateTopName, MissingItem, CyclicItem, IsBrokenNames, Items, ForeignStability, is_world_at, IsBrokenUse, MissingUse, WorldUsed, IsBrokenScope, DefinedTwice, MissingType, CyclicType, Metadata, Body, Function, IsBroken, Headerless, Names, ItemStability, UseMetadata, IncludeStability, Use, InterfaceIncluded, MissingName, LinkedTwice, IsLinkedTwice, Scope, Sides, Handle, Setter, IsLegal, TopUse, AttributedUse, LostUse}
 use Rattle.wit_syntax.specs.Fault.{Fault, fault, missing_at, missing_type_at, item_word, type_word}
 use Rattle.wit_syntax.specs.Foreign.{ForeignVisit}
 use Rattle.wit_syntax.specs.Function.{functions, item_types}
-use Rattle.wit_syntax.specs.Notes.{IsBrokenStability, IsBrokenNotes}
+use Rattle.wit_syntax.specs.Metadata.{IsBrokenStability, IsBrokenMetadata}
 use Rattle.wit_syntax.specs.Repeats.{AllDiffer}
 use Rattle.wit_syntax.specs.Scope.{include_paths, includes, item_rows, rows_of, uses}
 use Rattle.wit_syntax.specs.Shape.{all_handles}
-use Rattle.wit_syntax.specs.Sides.{all_scopes, on_side, side_items, IsBrokenSides, FoldedTwice, CrossedTwice, side_called, items_on, InterfaceNotes}
+use Rattle.wit_syntax.specs.Sides.{all_scopes, on_side, side_items, IsBrokenSides, FoldedTwice, CrossedTwice, side_called, items_on, InterfaceMetadata}
 use Rattle.wit_syntax.specs.Source.{Item, ScopeName, Used, Defined, TheInterface, leads, address, all_items, item_name, local_name, scope_names, top_names, top_text, about}
 use Rattle.wit_syntax.specs.Splitting.{declarations, file_declarations}
 use Rattle.wit_syntax.proofs.Found.{at_contains, find_among}
 use Rattle.wit_syntax.proofs.Legal.{no_missing_edge, no_cyclic_edge, no_fold, no_crossed}
 use Rattle.wit_syntax.proofs.Repeated.{differ_none, no_repeat, called_key}
-use Rattle.wit_syntax.proofs.Unnoted.{unbroken_notes}
-use Rattle.wit_meaning_examples.proofs.Examples.{at, id, vec, no_comments, untold, header}
+use Rattle.wit_syntax.proofs.Unnoted.{unbroken_metadata}
+use Rattle.wit_meaning_examples.proofs.Examples.{at, id, vec, no_comments, unstated, header}
 use Rattle.wit_meaning_examples.proofs.SideExamples.{none_among, one_differs}
 use Rattle.wit_meaning_examples.proofs.SignatureExamples.{one_order}
 use Rattle.wit_meaning_examples.proofs.SmallOrders.{apart_order}
@@ -68,25 +68,25 @@ x_and_i same = let wrong : true ≡ false = ap (bytes_eq (codes "x")) same in le
 -- use a:b/c as x; interface i { use x.{t}; }
 module _ (ptr : Ptr) (alloc : Global) where
   abbrev t : TypeDef
-  t = record { docs = no_comments ptr alloc; attributes = untold ptr alloc; name = id ptr alloc (codes "t") (at 36 37) refl; body = Plain (written.Primitive (at 40 42) primitive.U8) }
+  t = record { docs = no_comments ptr alloc; attributes = unstated ptr alloc; name = id ptr alloc (codes "t") (at 36 37) refl; body = Plain (written.Primitive (at 40 42) primitive.U8) }
 
   abbrev x : Interface
-  x = record { docs = no_comments ptr alloc; attributes = untold ptr alloc; name = id ptr alloc (codes "x") (at 27 28) refl; items = vec ptr alloc (TypeItem t ∷ []) (lit< tt) }
+  x = record { docs = no_comments ptr alloc; attributes = unstated ptr alloc; name = id ptr alloc (codes "x") (at 27 28) refl; items = vec ptr alloc (TypeItem t ∷ []) (lit< tt) }
 
   abbrev other : Header
   other = record { docs = no_comments ptr alloc; span = at 50 53; namespace = id ptr alloc (codes "a") (at 50 51) refl; name = id ptr alloc (codes "b") (at 52 53) refl; version = None }
 
   abbrev on_top : ToplevelUse
-  on_top = record { attributes = untold ptr alloc; span = at 46 49; item = path.Package other (id ptr alloc (codes "c") (at 54 55) refl); as_ = Some (id ptr alloc (codes "x") (at 59 60) refl) }
+  on_top = record { attributes = unstated ptr alloc; span = at 46 49; item = path.Package other (id ptr alloc (codes "c") (at 54 55) refl); as_ = Some (id ptr alloc (codes "x") (at 59 60) refl) }
 
   abbrev used_t : UseName
   used_t = record { name = id ptr alloc (codes "t") (at 83 84) refl; as_ = None }
 
   abbrev use_x : WrittenUse
-  use_x = record { attributes = untold ptr alloc; from = path.Id (id ptr alloc (codes "x") (at 80 81) refl); names = vec ptr alloc (used_t ∷ []) (lit< tt) }
+  use_x = record { attributes = unstated ptr alloc; from = path.Id (id ptr alloc (codes "x") (at 80 81) refl); names = vec ptr alloc (used_t ∷ []) (lit< tt) }
 
   abbrev i : Interface
-  i = record { docs = no_comments ptr alloc; attributes = untold ptr alloc; name = id ptr alloc (codes "i") (at 72 73) refl; items = vec ptr alloc (UseItem use_x ∷ []) (lit< tt) }
+  i = record { docs = no_comments ptr alloc; attributes = unstated ptr alloc; name = id ptr alloc (codes "i") (at 72 73) refl; items = vec ptr alloc (UseItem use_x ∷ []) (lit< tt) }
 
   abbrev a_file : PackageFile
   a_file = record { package_id = Some (header ptr alloc); decl_list = record { items = vec ptr alloc (ast.Interface x ∷ []) (lit< tt) } }
@@ -117,7 +117,7 @@ module _ (ptr : Ptr) (alloc : Global) where
   abbrev visit : ForeignVisit
   visit = record { attributes = []; of = other; id = id ptr alloc (codes "c") (at 54 55) refl; wants_world = false }
 
-  -- in neither file a name stands twice
+  -- in neither file a name occurs twice
   tops : (g : PackageFile) → Contains files g → AllDiffer (map top_text (top_names g))
   tops g among = each_of (λ (g : PackageFile). AllDiffer (map top_text (top_names g))) a_file b_file g (one_differs (codes "x")) (two_differ (codes "x") (codes "i") x_and_i) among
 
@@ -140,8 +140,8 @@ module _ (ptr : Ptr) (alloc : Global) where
   names_pass f (Items (MissingItem h)) = no_missing_edge (missing_at 7 item_word) (item_rows files) (0 ∷ 1 ∷ []) f (apart_order (codes "x") (codes "i")) h
   names_pass f (Items (CyclicItem h)) = no_cyclic_edge 8 item_word (item_rows files) (0 ∷ 1 ∷ []) f (apart_order (codes "x") (codes "i")) h
   names_pass f (ForeignStability v among h) = no_stability f (subst (λ (v : ForeignVisit). IsBrokenStability v.attributes f) (sym (one_among visit v among)) h)
-  names_pass f (TopUse g among (AttributedUse u used attributed told)) = attributed (ap (λ (u : ToplevelUse). u.attributes.items) (sym (top_use g among u used)))
-  names_pass f (TopUse g among (LostUse u used id local missing told)) =
+  names_pass f (TopUse g among (AttributedUse u used attributed as_stated)) = attributed (ap (λ (u : ToplevelUse). u.attributes.items) (sym (top_use g among u used)))
+  names_pass f (TopUse g among (LostUse u used id local missing as_stated)) =
       let there = ap (λ (u : ToplevelUse). leads [] u.item) (top_use g among u used) ∙ local in
       let f : ⊥ = cc in
       f
@@ -165,11 +165,11 @@ module _ (ptr : Ptr) (alloc : Global) where
 
   -- what i uses is of no item of these files, and x uses nothing
   from_other : (n : ScopeName) → Contains (scope_names i_item) n → (from : Address) (attributes : List Attribute) (u : UseName) → n ≡ Used from attributes u → (target : Item) → from ≡ address target → Contains (all_items files) target → ⊥
-  from_other n among from attributes u is target own stands =
+  from_other n among from attributes u is target own present =
       let same : Used c_of_ab [] used_t ≡ Used from attributes u = one_among (Used c_of_ab [] used_t) n among ∙ is in
       let one : c_of_ab ∷ [] ≡ from ∷ [] = ap from_of same in
       let here : c_of_ab ≡ from = cc in
-      each_of (λ (w : Item). c_of_ab ≡ address w → ⊥) x_item i_item target (λ there. (let f : ⊥ = cc in f)) (λ there. (let f : ⊥ = cc in f)) stands (here ∙ own)
+      each_of (λ (w : Item). c_of_ab ≡ address w → ⊥) x_item i_item target (λ there. (let f : ⊥ = cc in f)) (λ there. (let f : ⊥ = cc in f)) present (here ∙ own)
 
   nothing_used : (from : Address) (attributes : List Attribute) (u : UseName) → Contains (scope_names x_item) (Used from attributes u) → ⊥
   nothing_used from attributes u among =
@@ -179,7 +179,7 @@ module _ (ptr : Ptr) (alloc : Global) where
 
   -- no used name is one of an item of these files
   used_elsewhere : (w : Item) → Contains (all_scopes files) w → (from : Address) (attributes : List Attribute) (u : UseName) → Contains (scope_names w) (Used from attributes u) → (target : Item) → from ≡ address target → Contains (all_items files) target → ⊥
-  used_elsewhere w among = each_of (λ (w : Item). (from : Address) (attributes : List Attribute) (u : UseName) → Contains (scope_names w) (Used from attributes u) → (target : Item) → from ≡ address target → Contains (all_items files) target → ⊥) x_item i_item w (λ from attributes u has target own stands. nothing_used from attributes u has) (λ from attributes u has target own stands. from_other (Used from attributes u) has from attributes u refl target own stands) among
+  used_elsewhere w among = each_of (λ (w : Item). (from : Address) (attributes : List Attribute) (u : UseName) → Contains (scope_names w) (Used from attributes u) → (target : Item) → from ≡ address target → Contains (all_items files) target → ⊥) x_item i_item w (λ from attributes u has target own present. nothing_used from attributes u has) (λ from attributes u has target own present. from_other (Used from attributes u) has from attributes u refl target own present) among
 
   no_definition : (d : TypeDef) → Contains (scope_names i_item) (Defined d) → ⊥
   no_definition d among =
@@ -190,7 +190,7 @@ module _ (ptr : Ptr) (alloc : Global) where
   only_definition : (d : TypeDef) → Contains (scope_names x_item) (Defined d) → t ≡ d
   only_definition d among = let same = one_among (Defined t) (Defined d) among in cc
 
-  -- nothing stands in u8
+  -- nothing is in u8
   u8_passes : (f : Fault) → IsBrokenType (written.Primitive (at 40 42) primitive.U8) f → ⊥
   u8_passes f (Itself broken) = broken
   u8_passes f (Inside {t = part} among broken) = none_among part among
@@ -203,7 +203,7 @@ module _ (ptr : Ptr) (alloc : Global) where
   x_passes f (DefinedTwice h) = no_repeat local_name (scope_names x_item) h.0 (one_differs (codes "t")) h.1
   x_passes f (MissingType h) = no_missing_edge missing_type_at (rows_of (scope_names x_item)) (0 ∷ []) f (one_order (codes "t")) h
   x_passes f (CyclicType h) = no_cyclic_edge 16 type_word (rows_of (scope_names x_item)) (0 ∷ []) f (one_order (codes "t")) h
-  x_passes f (Notes d among h) = unbroken_notes f (subst (λ (d : TypeDef). IsBrokenNotes d.attributes.items f) (sym (only_definition d among)) h)
+  x_passes f (Metadata d among h) = unbroken_metadata f (subst (λ (d : TypeDef). IsBrokenMetadata d.attributes.items f) (sym (only_definition d among)) h)
   x_passes f (Body d among h) = body_passes f (subst (λ (d : TypeDef). IsBrokenBody d.body f) (sym (only_definition d among)) h)
   x_passes f (Function k fn at h) = let f : ⊥ = cc in f
 
@@ -211,11 +211,11 @@ module _ (ptr : Ptr) (alloc : Global) where
   i_passes f (DefinedTwice h) = no_repeat local_name (scope_names i_item) h.0 (one_differs (codes "t")) h.1
   i_passes f (MissingType h) = no_missing_edge missing_type_at (rows_of (scope_names i_item)) (0 ∷ []) f (one_order (codes "t")) h
   i_passes f (CyclicType h) = no_cyclic_edge 16 type_word (rows_of (scope_names i_item)) (0 ∷ []) f (one_order (codes "t")) h
-  i_passes f (Notes d among h) = no_definition d among
+  i_passes f (Metadata d among h) = no_definition d among
   i_passes f (Body d among h) = no_definition d among
   i_passes f (Function k fn at h) = let f : ⊥ = cc in f
 
-  -- on the sides of both stands the name t alone, among imports
+  -- on the sides of both is the name t alone, among imports
   abbrev HasKeys : Item → Type 0
   HasKeys w = (side : WorldSide) → AllDiffer (map called_key (side_called side (scope_names w) (items_on side (side_items w)) (0 ∷ [])))
 
@@ -230,29 +230,29 @@ module _ (ptr : Ptr) (alloc : Global) where
   x_sides : (f : Fault) → IsBrokenSides x_item f → ⊥
   x_sides f (FoldedTwice h) = no_fold (scope_names x_item) (side_items x_item) (0 ∷ []) f (one_order (codes "t")) x_keys h
   x_sides f (CrossedTwice h) = no_crossed (scope_names x_item) (side_items x_item) (0 ∷ []) f (one_order (codes "t")) x_keys h
-  x_sides f (InterfaceNotes x among h) = none_among x among
+  x_sides f (InterfaceMetadata x among h) = none_among x among
 
   i_sides : (f : Fault) → IsBrokenSides i_item f → ⊥
   i_sides f (FoldedTwice h) = no_fold (scope_names i_item) (side_items i_item) (0 ∷ []) f (one_order (codes "t")) i_keys h
   i_sides f (CrossedTwice h) = no_crossed (scope_names i_item) (side_items i_item) (0 ∷ []) f (one_order (codes "t")) i_keys h
-  i_sides f (InterfaceNotes x among h) = none_among x among
+  i_sides f (InterfaceMetadata x among h) = none_among x among
 
   -- what is so of both is so of each item of these files
   each_item : (P : Item → Type 0) → P x_item → P i_item → (w : Item) → Contains (all_items files) w → P w
   each_item P of_x of_i w among = each_of P x_item i_item w of_x of_i among
 
-  no_use_notes : (f : Fault) (u : WrittenUse) → Contains (uses i_item) u → IsBrokenNotes u.attributes.items f → ⊥
-  no_use_notes f u used h = unbroken_notes f (subst (λ (u : WrittenUse). IsBrokenNotes u.attributes.items f) (sym (one_among use_x u used)) h)
+  no_use_metadata : (f : Fault) (u : WrittenUse) → Contains (uses i_item) u → IsBrokenMetadata u.attributes.items f → ⊥
+  no_use_metadata f u used h = unbroken_metadata f (subst (λ (u : WrittenUse). IsBrokenMetadata u.attributes.items f) (sym (one_among use_x u used)) h)
 
   legal : IsLegal files
   legal f (Headerless none h) = absurd (let f : ⊥ = cc in f)
   legal f (Names h) = names_pass f h
   legal f (ItemStability w among h) = each_item (λ (w : Item). IsBrokenStability (about w.declared).attributes f → ⊥) (no_stability f) (no_stability f) w among h
-  legal f (UseNotes w among u used h) = each_item (λ (w : Item). Contains (uses w) u → ⊥) (none_among u) (λ used. no_use_notes f u used h) w among used
+  legal f (UseMetadata w among u used h) = each_item (λ (w : Item). Contains (uses w) u → ⊥) (none_among u) (λ used. no_use_metadata f u used h) w among used
   legal f (IncludeStability w among n included h) = each_item (λ (w : Item). Contains (includes w) n → ⊥) (none_among n) (none_among n) w among included
   legal f (Use w among h) = each_item (λ (w : Item). IsBrokenUse files w f → ⊥) (no_use f) (use_passes f) w among h
-  legal f (InterfaceIncluded w among path included leads_there told) = each_item (λ (w : Item). Contains (include_paths w) path → ⊥) (none_among path) (none_among path) w among included
-  legal f (MissingName w among from attributes n used target own first missing told) = used_elsewhere w among from attributes n used target own (find_among (λ (x : Item). bytes_eq (item_name x) (item_name target)) (all_items files) target first)
+  legal f (InterfaceIncluded w among path included leads_there as_stated) = each_item (λ (w : Item). Contains (include_paths w) path → ⊥) (none_among path) (none_among path) w among included
+  legal f (MissingName w among from attributes n used target own first missing as_stated) = used_elsewhere w among from attributes n used target own (find_among (λ (x : Item). bytes_eq (item_name x) (item_name target)) (all_items files) target first)
   legal f (Scope w among h) = each_item (λ (w : Item). IsBrokenScope (scope_names w) (functions w) f → ⊥) (x_passes f) (i_passes f) w among h
   legal f (Sides w among h) = each_item (λ (w : Item). IsBrokenSides w f → ⊥) (x_sides f) (i_sides f) w among h
   legal f (LinkedTwice w among h) = each_item (λ (w : Item). IsLinkedTwice files w f → ⊥) (λ h. (let there = h.5 in let g : ⊥ = cc in g)) (λ h. (let there = h.5 in let g : ⊥ = cc in g)) w among h

@@ -55,24 +55,24 @@ use Rattle.wit_syntax.specs.Address.{Address, InterfaceNamed, WorldNamed, Foreig
 use Rattle.wit_syntax.specs.Foreign.{foreign_items}
 use Rattle.wit_syntax.specs.Form.{BorrowForm, ListForm, ResultForm}
 use Rattle.wit_syntax.specs.Function.{functions, signature}
-use Rattle.wit_syntax.specs.Notes.{Notes, no_docs, notes}
+use Rattle.wit_syntax.specs.Metadata.{Metadata, no_docs, metadata}
 use Rattle.wit_syntax.specs.Docs.{joined}
 use Rattle.wit_syntax.specs.Scope.{in_order, item_rows, rows_of}
 use Rattle.wit_syntax.specs.Shape.{Shape, Word}
 use Rattle.wit_syntax.specs.Sides.{side_items}
-use Rattle.wit_syntax.specs.Source.{TheInterface, TheWorld, Item, all_items, Used, Defined, scope_names, takings, top_names, declared_notes, Taken}
-use Rattle.wit_syntax.specs.Trees.{source_tree}
+use Rattle.wit_syntax.specs.Source.{TheInterface, TheWorld, Item, all_items, Used, Defined, scope_names, foreign_uses, top_names, declared_metadata, ForeignName}
+use Rattle.wit_syntax.specs.ScopesOfTrees.{source_tree}
 use Rattle.wit_arena.specs.Expr.{End, More, Of, Prim, Use, one}
 use Rattle.wit_arena.specs.Functions.{function_item}
-use Rattle.wit_arena.specs.Meet.{Key, Def, Whole, Meeting, Meets, IsMeeting}
+use Rattle.wit_arena.specs.Occurrences.{Key, Def, Whole, Occurrence, Collects, IsOccurrence}
 use Rattle.wit_arena.specs.Package.{owner_of, function_types, package_tree}
 use Rattle.wit_arena.specs.Resolving.{named, unnamed}
 use Rattle.wit_arena.specs.SideItems.{AreSideItems}
-use Rattle.wit_arena.specs.Whole.{Turned, all_meetings, all_turns, declarations, turn_handles, interface_addresses, NamesOthers}
-use Rattle.wit_meaning_examples.proofs.Examples.{at, id, vec, no_comments, untold}
-use Rattle.wit_meaning_examples.proofs.NotesExamples.{trimmed}
+use Rattle.wit_arena.specs.Whole.{Turned, all_occurrences, all_turns, declarations, turn_handles, interface_addresses, NamesOthers}
+use Rattle.wit_meaning_examples.proofs.Examples.{at, id, vec, no_comments, unstated}
+use Rattle.wit_meaning_examples.proofs.MetadataExamples.{trimmed}
 use Rattle.wit_meaning_examples.proofs.SmallOrders.{straight, apart_order}
-use Rattle.wit_meaning_examples.proofs.FirstMet.{meets_each, none_met, met_named, met_unnamed}
+use Rattle.wit_meaning_examples.proofs.FirstSeen.{collects_each, none_seen, seen_named, seen_unnamed}
 
 abbrev version : Version
 version = record { major = 0; minor = 2; patch = 0; pre = record { identifier = None }; build = record { identifier = None } }
@@ -80,8 +80,8 @@ version = record { major = 0; minor = 2; patch = 0; pre = record { identifier = 
 abbrev release : Release
 release = record { major = 0; minor = 2; patch = 0; pre = []; build = [] }
 
-abbrev nothing : Notes
-nothing = notes no_docs []
+abbrev nothing : Metadata
+nothing = metadata no_docs []
 
 -- error of wasi:io
 abbrev io : PackageName
@@ -118,7 +118,7 @@ module _ (ptr : Ptr) (alloc : Global) where
   used_error = record { name = error_at (at 110 115); as_ = None }
 
   abbrev use_error : WrittenUse
-  use_error = record { attributes = untold ptr alloc; from = path.Package visited (error_at (at 97 102)); names = vec ptr alloc (used_error ∷ []) (lit< tt) }
+  use_error = record { attributes = unstated ptr alloc; from = path.Package visited (error_at (at 97 102)); names = vec ptr alloc (used_error ∷ []) (lit< tt) }
 
   -- read: func(len: u64) -> result<list<u8>, error>;
   abbrev result_type : Written
@@ -127,13 +127,13 @@ module _ (ptr : Ptr) (alloc : Global) where
   abbrev read : NamedFunc
   read = record {
     docs = no_comments ptr alloc;
-    attributes = untold ptr alloc;
+    attributes = unstated ptr alloc;
     name = id ptr alloc (codes "read") (at 141 145) refl;
     func = record { span = at 147 151; form = form.Plain; params = vec ptr alloc (record { name = id ptr alloc (codes "len") (at 152 155) refl; ty = written.Primitive (at 157 160) primitive.U64 } ∷ []) (lit< tt); result = Some result_type };
   }
 
   abbrev input : Definition
-  input = record { docs = no_comments ptr alloc; attributes = untold ptr alloc; name = id ptr alloc (codes "input") (at 129 134) refl; body = Resource (vec ptr alloc (resource.Method read ∷ []) (lit< tt)) }
+  input = record { docs = no_comments ptr alloc; attributes = unstated ptr alloc; name = id ptr alloc (codes "input") (at 129 134) refl; body = Resource (vec ptr alloc (resource.Method read ∷ []) (lit< tt)) }
 
   -- /// Streams.
   abbrev comments : Comments
@@ -144,7 +144,7 @@ module _ (ptr : Ptr) (alloc : Global) where
   streams = record { docs = comments; attributes = vec ptr alloc (attribute.Since (at 39 62) version ∷ []) (lit< tt); name = id ptr alloc (codes "streams") (at 73 80) refl; items = vec ptr alloc (interface_item.Use use_error ∷ interface_item.TypeDef input ∷ []) (lit< tt) }
 
   abbrev extern_of : WorldSide → ExternKind → Extern
-  extern_of side kind = record { side = side; docs = no_comments ptr alloc; attributes = untold ptr alloc; kind = kind }
+  extern_of side kind = record { side = side; docs = no_comments ptr alloc; attributes = unstated ptr alloc; kind = kind }
 
   -- world w { import streams; export run: func() -> result; }
   abbrev import_streams : Extern
@@ -154,7 +154,7 @@ module _ (ptr : Ptr) (alloc : Global) where
   export_run = extern_of Exported (extern.Func (id ptr alloc (codes "run") (at 233 236) refl) (record { span = at 238 242; form = form.Plain; params = vec ptr alloc [] (lit< tt); result = Some (written.Result (at 248 254) Neither) }))
 
   abbrev w : WrittenWorld
-  w = record { docs = no_comments ptr alloc; attributes = untold ptr alloc; name = id ptr alloc (codes "w") (at 202 203) refl; items = vec ptr alloc (world_item.Extern import_streams ∷ world_item.Extern export_run ∷ []) (lit< tt) }
+  w = record { docs = no_comments ptr alloc; attributes = unstated ptr alloc; name = id ptr alloc (codes "w") (at 202 203) refl; items = vec ptr alloc (world_item.Extern import_streams ∷ world_item.Extern export_run ∷ []) (lit< tt) }
 
   abbrev file : PackageFile
   file = record { package_id = Some demo; decl_list = record { items = vec ptr alloc (ast.Interface streams ∷ ast.World w ∷ []) (lit< tt) } }
@@ -169,8 +169,8 @@ module _ (ptr : Ptr) (alloc : Global) where
   w_item = record { top = top_names file; declared = TheWorld w }
 
   -- what is used from wasi:io, where it is visited
-  taken : takings files ≡ (record { from = io_error; attributes = []; id = error_at (at 110 115) } ∷ [])
-  taken = refl
+  in_use : foreign_uses files ≡ (record { from = io_error; attributes = []; id = error_at (at 110 115) } ∷ [])
+  in_use = refl
 
   visits : foreign_items files ≡ (record { attributes = []; of = visited; id = error_at (at 97 102); wants_world = false } ∷ [])
   visits = refl
@@ -192,26 +192,26 @@ module _ (ptr : Ptr) (alloc : Global) where
   abbrev turns : List Turned
   turns = all_turns (record { item = streams_item; order = straight } ∷ []) (record { own = record { item = w_item; order = [] }; inside = [] } ∷ [])
 
-  -- the types in the order in which they are met, each for the first time
-  abbrev met_at : Key → Span → Meeting
-  met_at key span = record { key = key; span = span; given = Unknown }
+  -- the types in the order in which they occur, each for the first time
+  abbrev seen_at : Key → Span → Occurrence
+  seen_at key span = record { key = key; span = span; given = Unknown }
 
-  abbrev met : List Meeting
-  met = met_at (Def io_error (codes "error")) (at 110 115)
-      ∷ met_at (Def in_streams (codes "error")) (at 110 115)
-      ∷ met_at (Def in_streams (codes "input")) (at 129 134)
-      ∷ met_at (Whole BorrowForm (one (Use in_streams (codes "input")))) (at 147 151)
-      ∷ met_at (Whole ListForm (one (Prim primitive.U8))) (at 172 176)
-      ∷ met_at (Whole (ResultForm true true) (More (Of ListForm (one (Prim primitive.U8))) (one (Use in_streams (codes "error"))))) (at 165 171)
-      ∷ met_at (Whole (ResultForm false false) End) (at 248 254) ∷ []
+  abbrev seen : List Occurrence
+  seen = seen_at (Def io_error (codes "error")) (at 110 115)
+      ∷ seen_at (Def in_streams (codes "error")) (at 110 115)
+      ∷ seen_at (Def in_streams (codes "input")) (at 129 134)
+      ∷ seen_at (Whole BorrowForm (one (Use in_streams (codes "input")))) (at 147 151)
+      ∷ seen_at (Whole ListForm (one (Prim primitive.U8))) (at 172 176)
+      ∷ seen_at (Whole (ResultForm true true) (More (Of ListForm (one (Prim primitive.U8))) (one (Use in_streams (codes "error"))))) (at 165 171)
+      ∷ seen_at (Whole (ResultForm false false) End) (at 248 254) ∷ []
 
-  met_once : Meets [] (all_meetings files turns) met
-  met_once = meets_each [] met refl
+  seen_once : Collects [] (all_occurrences files turns) seen
+  seen_once = collects_each [] seen refl
 
   no_handles : flat_map turn_handles turns ≡ []
   no_handles = refl
 
-  -- the arenas: what is written of streams stands behind wasi:io's error
+  -- the arenas: what is written of streams comes after wasi:io's error
   abbrev types : List TypeDef
   types = named (owner.Interface 0) (codes "error") kind.Unknown nothing (at 110 115)
       ∷ named (owner.Interface 1) (codes "error") (kind.Type_ (type.Id 0)) nothing (at 110 115)
@@ -234,24 +234,24 @@ module _ (ptr : Ptr) (alloc : Global) where
   addresses = refl
 
   abbrev so_far : ℕ → Type 0
-  so_far n = IsMeeting (declarations files interfaces (in_w ∷ [])) (take n met) (take n types)
+  so_far n = IsOccurrence (declarations files interfaces (in_w ∷ [])) (take n seen) (take n types)
 
   arena : so_far 7
   arena =
-      let one : so_far 1 = met_named io_error 0 (Taken [] used_error.name) kind.Unknown (none_met _) refl refl refl tt in
-      let two : so_far 2 = met_named in_streams 0 (Used io_error [] used_error) (kind.Type_ (type.Id 0)) one refl refl refl ((0, refl, refl), tt) in
-      let three : so_far 3 = met_named in_streams 1 (Defined input) kind.Resource two refl refl refl tt in
-      let four : so_far 4 = met_unnamed BorrowForm (More (Use in_streams (codes "input")) End) (kind.Handle (Borrow 2)) Unknown (at 147 151) three refl refl ((2, refl, refl), tt) in
-      let five : so_far 5 = met_unnamed ListForm (More (Prim primitive.U8) End) (kind.List type.U8) Unknown (at 172 176) four refl refl (refl, tt) in
-      let six : so_far 6 = met_unnamed (ResultForm true true) (More (Of ListForm (More (Prim primitive.U8) End)) (More (Use in_streams (codes "error")) End)) (kind.Result (record { ok = Some (type.Id 4); err = Some (type.Id 1) })) Unknown (at 165 171) five refl refl ((4, refl, refl), ((1, refl, refl), tt)) in
-      met_unnamed (ResultForm false false) End (kind.Result (record { ok = None; err = None })) Unknown (at 248 254) six refl refl tt
+      let one : so_far 1 = seen_named io_error 0 (ForeignName [] used_error.name) kind.Unknown (none_seen _) refl refl refl tt in
+      let two : so_far 2 = seen_named in_streams 0 (Used io_error [] used_error) (kind.Type_ (type.Id 0)) one refl refl refl ((0, refl, refl), tt) in
+      let three : so_far 3 = seen_named in_streams 1 (Defined input) kind.Resource two refl refl refl tt in
+      let four : so_far 4 = seen_unnamed BorrowForm (More (Use in_streams (codes "input")) End) (kind.Handle (Borrow 2)) Unknown (at 147 151) three refl refl ((2, refl, refl), tt) in
+      let five : so_far 5 = seen_unnamed ListForm (More (Prim primitive.U8) End) (kind.List type.U8) Unknown (at 172 176) four refl refl (refl, tt) in
+      let six : so_far 6 = seen_unnamed (ResultForm true true) (More (Of ListForm (More (Prim primitive.U8) End)) (More (Use in_streams (codes "error")) End)) (kind.Result (record { ok = Some (type.Id 4); err = Some (type.Id 1) })) Unknown (at 165 171) five refl refl ((4, refl, refl), ((1, refl, refl), tt)) in
+      seen_unnamed (ResultForm false false) End (kind.Result (record { ok = None; err = None })) Unknown (at 248 254) six refl refl tt
 
-  -- what is told of streams
-  abbrev told : Notes
-  told = record { docs = record { contents = Some (codes "Streams.") }; stability = Stable release None; external_id = None }
+  -- what is stated of streams
+  abbrev as_stated : Metadata
+  as_stated = record { docs = record { contents = Some (codes "Streams.") }; stability = Stable release None; external_id = None }
 
-  told_of_streams : declared_notes streams_item.declared ≡ told
-  told_of_streams = ap (λ (text : List ℕ). notes (record { contents = Some (joined (text ∷ [])) }) streams.attributes.items) trimmed
+  stated_of_streams : declared_metadata streams_item.declared ≡ as_stated
+  stated_of_streams = ap (λ (text : List ℕ). metadata (record { contents = Some (joined (text ∷ [])) }) streams.attributes.items) trimmed
 
   -- w has streams at its place, and run
   abbrev imports : List (WorldKey × WorldItem)
@@ -272,7 +272,7 @@ module _ (ptr : Ptr) (alloc : Global) where
     name = package_of demo;
     worlds = record { name = codes "w"; imports = imports; exports = exports; «package» = None; docs = no_docs; stability = Unknown; includes = []; span = at 202 203 } ∷ [];
     interfaces = record { name = None; types = (codes "error", 0) ∷ []; functions = []; docs = no_docs; stability = Unknown; «package» = None; span = at 97 102; clone_of = None }
-        ∷ record { name = Some (codes "streams"); types = (codes "error", 1) ∷ (codes "input", 2) ∷ []; functions = (made_read.name, made_read) ∷ []; docs = told.docs; stability = told.stability; «package» = None; span = at 73 80; clone_of = None } ∷ [];
+        ∷ record { name = Some (codes "streams"); types = (codes "error", 1) ∷ (codes "input", 2) ∷ []; functions = (made_read.name, made_read) ∷ []; docs = as_stated.docs; stability = as_stated.stability; «package» = None; span = at 73 80; clone_of = None } ∷ [];
     types = types;
     foreign_deps = (io, (codes "error", (entry.Interface 0, Unknown ∷ [])) ∷ []) ∷ [];
     name_span = at 8 23;

@@ -1,4 +1,4 @@
--- A world with all that can stand in one, computed by the definitions: a `use`, an interface that is written there, paths on both sides, a function, and an include.
+-- A world with all that can be in one, computed by the definitions: a `use`, an interface that is written there, paths on both sides, a function, and an include.
 use Rattle.std.proofs.Common.{◌≡◌, ℕ, List, [], ◌∷◌, map, Some, None, refl, lit<}
 use Rattle.std.specs.Prelude.{codes, take}
 use Rattle.std.specs.List.{flat_map}
@@ -50,22 +50,22 @@ use Rattle.wit_model.specs.declared.world.WorldKey.TheVariants as key
 use Rattle.wit_graph.specs.Table.{IsOrder}
 use Rattle.wit_syntax.specs.Address.{Address, InterfaceNamed, WorldNamed, InlineAt}
 use Rattle.wit_syntax.specs.Function.{functions, signature}
-use Rattle.wit_syntax.specs.Notes.{no_docs}
+use Rattle.wit_syntax.specs.Metadata.{no_docs}
 use Rattle.wit_syntax.specs.Scope.{in_order, item_rows, rows_of, interfaces_of, worlds_of}
 use Rattle.wit_syntax.specs.Shape.{Shape, Word}
 use Rattle.wit_syntax.specs.Sides.{side_items, inline_items}
 use Rattle.wit_syntax.specs.Source.{TheInterface, TheWorld, TheInline, Item, all_items, Used, Defined, scope_names, top_names}
-use Rattle.wit_syntax.specs.Trees.{source_tree}
+use Rattle.wit_syntax.specs.ScopesOfTrees.{source_tree}
 use Rattle.wit_arena.specs.Functions.{function_item}
-use Rattle.wit_arena.specs.Meet.{Def, Meeting, Meets, IsMeeting}
+use Rattle.wit_arena.specs.Occurrences.{Def, Occurrence, Collects, IsOccurrence}
 use Rattle.wit_arena.specs.Package.{owner_of, names_of, function_types, package_tree}
 use Rattle.wit_arena.specs.SideItems.{inline_entry, AreSideItems}
-use Rattle.wit_arena.specs.Whole.{Ordered, OrderedWorld, all_meetings, all_turns, declarations, interface_addresses, world_addresses, IsInclude}
-use Rattle.wit_meaning_examples.proofs.Examples.{at, id, vec, no_comments, untold, header}
+use Rattle.wit_arena.specs.Whole.{Ordered, OrderedWorld, all_occurrences, all_turns, declarations, interface_addresses, world_addresses, IsInclude}
+use Rattle.wit_meaning_examples.proofs.Examples.{at, id, vec, no_comments, unstated, header}
 use Rattle.wit_meaning_examples.proofs.SideExamples.{no_rows}
 use Rattle.wit_meaning_examples.proofs.SignatureExamples.{one_order}
 use Rattle.wit_meaning_examples.proofs.SmallOrders.{middle_order, turned_end}
-use Rattle.wit_meaning_examples.proofs.FirstMet.{meets_each, none_met, met_named}
+use Rattle.wit_meaning_examples.proofs.FirstSeen.{collects_each, none_seen, seen_named}
 
 -- the scopes
 abbrev in_a : Address
@@ -92,19 +92,19 @@ module _ (ptr : Ptr) (alloc : Global) where
   x_at span = id ptr alloc (codes "x") span refl
 
   abbrev t : Definition
-  t = record { docs = no_comments ptr alloc; attributes = untold ptr alloc; name = t_at (at 36 37); body = Plain (written.Primitive (at 40 42) primitive.U8) }
+  t = record { docs = no_comments ptr alloc; attributes = unstated ptr alloc; name = t_at (at 36 37); body = Plain (written.Primitive (at 40 42) primitive.U8) }
 
   abbrev a : WrittenInterface
-  a = record { docs = no_comments ptr alloc; attributes = untold ptr alloc; name = a_at (at 27 28); items = vec ptr alloc (interface_item.TypeDef t ∷ []) (lit< tt) }
+  a = record { docs = no_comments ptr alloc; attributes = unstated ptr alloc; name = a_at (at 27 28); items = vec ptr alloc (interface_item.TypeDef t ∷ []) (lit< tt) }
 
   abbrev used : Span → UseName
   used span = record { name = t_at span; as_ = None }
 
   abbrev use_t : Span → Span → Use
-  use_t a t = record { attributes = untold ptr alloc; from = path.Id (a_at a); names = vec ptr alloc (used t ∷ []) (lit< tt) }
+  use_t a t = record { attributes = unstated ptr alloc; from = path.Id (a_at a); names = vec ptr alloc (used t ∷ []) (lit< tt) }
 
   abbrev extern_of : WorldSide → ExternKind → Extern
-  extern_of side kind = record { side = side; docs = no_comments ptr alloc; attributes = untold ptr alloc; kind = kind }
+  extern_of side kind = record { side = side; docs = no_comments ptr alloc; attributes = unstated ptr alloc; kind = kind }
 
   abbrev b_name : Id
   b_name = id ptr alloc (codes "b") (at 74 75) refl
@@ -113,7 +113,7 @@ module _ (ptr : Ptr) (alloc : Global) where
   b_items = interface_item.Use (use_t (at 93 94) (at 96 97))
       ∷ interface_item.Func (record {
         docs = no_comments ptr alloc;
-        attributes = untold ptr alloc;
+        attributes = unstated ptr alloc;
         name = id ptr alloc (codes "f") (at 100 101) refl;
         func = record { span = at 103 107; form = form.Plain; params = vec ptr alloc (record { name = x_at (at 108 109); ty = written.Name (t_at (at 111 112)) } ∷ []) (lit< tt); result = None };
       }) ∷ []
@@ -125,7 +125,7 @@ module _ (ptr : Ptr) (alloc : Global) where
   g_func = record { span = at 147 151; form = form.Plain; params = vec ptr alloc [] (lit< tt); result = Some (written.Name (t_at (at 157 158))) }
 
   abbrev include_v : Include
-  include_v = record { attributes = untold ptr alloc; from = path.Id (id ptr alloc (codes "v") (at 168 169) refl); names = vec ptr alloc (record { name = x_at (at 177 178); as_ = id ptr alloc (codes "y") (at 182 183) refl } ∷ []) (lit< tt) }
+  include_v = record { attributes = unstated ptr alloc; from = path.Id (id ptr alloc (codes "v") (at 168 169) refl); names = vec ptr alloc (record { name = x_at (at 177 178); as_ = id ptr alloc (codes "y") (at 182 183) refl } ∷ []) (lit< tt) }
 
   abbrev w_parts : List WorldPart
   w_parts = world_item.Use (use_t (at 60 61) (at 63 64))
@@ -136,10 +136,10 @@ module _ (ptr : Ptr) (alloc : Global) where
       ∷ world_item.Include include_v ∷ []
 
   abbrev w : WrittenWorld
-  w = record { docs = no_comments ptr alloc; attributes = untold ptr alloc; name = id ptr alloc (codes "w") (at 52 53) refl; items = vec ptr alloc w_parts (lit< tt) }
+  w = record { docs = no_comments ptr alloc; attributes = unstated ptr alloc; name = id ptr alloc (codes "w") (at 52 53) refl; items = vec ptr alloc w_parts (lit< tt) }
 
   abbrev v : WrittenWorld
-  v = record { docs = no_comments ptr alloc; attributes = untold ptr alloc; name = id ptr alloc (codes "v") (at 194 195) refl; items = vec ptr alloc (world_item.Extern (extern_of Imported (extern.Func (x_at (at 205 206)) (record { span = at 208 212; form = form.Plain; params = vec ptr alloc [] (lit< tt); result = None }))) ∷ []) (lit< tt) }
+  v = record { docs = no_comments ptr alloc; attributes = unstated ptr alloc; name = id ptr alloc (codes "v") (at 194 195) refl; items = vec ptr alloc (world_item.Extern (extern_of Imported (extern.Func (x_at (at 205 206)) (record { span = at 208 212; form = form.Plain; params = vec ptr alloc [] (lit< tt); result = None }))) ∷ []) (lit< tt) }
 
   abbrev file : PackageFile
   file = record { package_id = Some (header ptr alloc); decl_list = record { items = vec ptr alloc (ast.Interface a ∷ ast.World w ∷ ast.World v ∷ []) (lit< tt) } }
@@ -191,18 +191,18 @@ module _ (ptr : Ptr) (alloc : Global) where
   abbrev worlds : List OrderedWorld
   worlds = record { own = record { item = v_item; order = [] }; inside = [] } ∷ record { own = record { item = w_item; order = 0 ∷ [] }; inside = inside } ∷ []
 
-  -- a's t is met first, then w's, and then b's
-  abbrev t_met : Address → Span → Meeting
-  t_met s span = record { key = Def s (codes "t"); span = span; given = Unknown }
+  -- a's t occurs first, then w's, and then b's
+  abbrev t_seen : Address → Span → Occurrence
+  t_seen s span = record { key = Def s (codes "t"); span = span; given = Unknown }
 
-  abbrev met : List Meeting
-  met = t_met in_a (at 36 37) ∷ t_met in_w (at 63 64) ∷ t_met in_b (at 96 97) ∷ []
+  abbrev seen : List Occurrence
+  seen = t_seen in_a (at 36 37) ∷ t_seen in_w (at 63 64) ∷ t_seen in_b (at 96 97) ∷ []
 
-  met_in_turn : all_meetings files (all_turns declared worlds) ≡ met
-  met_in_turn = refl
+  seen_in_turn : all_occurrences files (all_turns declared worlds) ≡ seen
+  seen_in_turn = refl
 
-  met_once : Meets [] (all_meetings files (all_turns declared worlds)) met
-  met_once = meets_each [] met refl
+  seen_once : Collects [] (all_occurrences files (all_turns declared worlds)) seen
+  seen_once = collects_each [] seen refl
 
   abbrev interface_places : List Address
   interface_places = in_a ∷ in_b ∷ []
@@ -224,13 +224,13 @@ module _ (ptr : Ptr) (alloc : Global) where
   types = t_entry type.U8 (owner.Interface 0) (at 36 37) ∷ t_entry (type.Id 0) (owner.World 1) (at 63 64) ∷ t_entry (type.Id 0) (owner.Interface 1) (at 96 97) ∷ []
 
   abbrev so_far : ℕ → Type 0
-  so_far n = IsMeeting (declarations files interface_places world_places) (take n met) (take n types)
+  so_far n = IsOccurrence (declarations files interface_places world_places) (take n seen) (take n types)
 
   arena : so_far 3
   arena =
-      let one : so_far 1 = met_named in_a 0 (Defined t) (kind.Type_ type.U8) (none_met _) refl refl refl (refl, tt) in
-      let two : so_far 2 = met_named in_w 0 (Used in_a [] (used (at 63 64))) (kind.Type_ (type.Id 0)) one refl refl refl ((0, refl, refl), tt) in
-      met_named in_b 0 (Used in_a [] (used (at 96 97))) (kind.Type_ (type.Id 0)) two refl refl refl ((0, refl, refl), tt)
+      let one : so_far 1 = seen_named in_a 0 (Defined t) (kind.Type_ type.U8) (none_seen _) refl refl refl (refl, tt) in
+      let two : so_far 2 = seen_named in_w 0 (Used in_a [] (used (at 63 64))) (kind.Type_ (type.Id 0)) one refl refl refl ((0, refl, refl), tt) in
+      seen_named in_b 0 (Used in_a [] (used (at 96 97))) (kind.Type_ (type.Id 0)) two refl refl refl ((0, refl, refl), tt)
 
   -- the functions, over these types
   abbrev made : List ℕ → List Param → Span → Function

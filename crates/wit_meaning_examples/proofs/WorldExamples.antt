@@ -33,39 +33,39 @@ use Rattle.wit_model.specs.declared.unresolved.UnresolvedPackage.{UnresolvedPack
 use Rattle.wit_syntax.specs.Form.{AliasForm}
 use Rattle.wit_syntax.specs.Node.{Head, Leaf, Named}
 use Rattle.wit_syntax.specs.Address.{Address, InterfaceNamed, WorldNamed}
-use Rattle.wit_syntax.specs.Notes.{no_docs}
+use Rattle.wit_syntax.specs.Metadata.{no_docs}
 use Rattle.wit_syntax.specs.Source.{TheInterface, TheWorld, Item, top_names, all_items, Used, Defined, scope_names}
-use Rattle.wit_syntax.specs.Trees.{source_tree}
-use Rattle.wit_arena.specs.Meet.{Def, Meeting}
+use Rattle.wit_syntax.specs.ScopesOfTrees.{source_tree}
+use Rattle.wit_arena.specs.Occurrences.{Def, Occurrence}
 use Rattle.wit_syntax.specs.Scope.{in_order, item_rows, interfaces_of, worlds_of}
 use Rattle.wit_syntax.specs.Shape.{Word}
 use Rattle.wit_arena.specs.Package.{names_of, package_tree}
 use Rattle.wit_arena.specs.Whole.{Ordered, addresses, turned, ordered_names, type_imports, IsInclude}
-use Rattle.wit_meaning_examples.proofs.Examples.{at, id, vec, no_comments, untold, header}
-use Rattle.wit_arena.proofs.Turns.{meetings}
+use Rattle.wit_meaning_examples.proofs.Examples.{at, id, vec, no_comments, unstated, header}
+use Rattle.wit_arena.proofs.Turns.{occurrences}
 
 -- package foo:foo; interface x { type t = u8; } world v { include w; } world w { use x.{t}; type s = t; }
 module _ (ptr : Ptr) (alloc : Global) where
   abbrev t : Definition
-  t = record { docs = no_comments ptr alloc; attributes = untold ptr alloc; name = id ptr alloc (codes "t") (at 36 37) refl; body = Plain (written.Primitive (at 40 42) primitive.U8) }
+  t = record { docs = no_comments ptr alloc; attributes = unstated ptr alloc; name = id ptr alloc (codes "t") (at 36 37) refl; body = Plain (written.Primitive (at 40 42) primitive.U8) }
 
   abbrev x : WrittenInterface
-  x = record { docs = no_comments ptr alloc; attributes = untold ptr alloc; name = id ptr alloc (codes "x") (at 27 28) refl; items = vec ptr alloc (interface_item.TypeDef t ∷ []) (lit< tt) }
+  x = record { docs = no_comments ptr alloc; attributes = unstated ptr alloc; name = id ptr alloc (codes "x") (at 27 28) refl; items = vec ptr alloc (interface_item.TypeDef t ∷ []) (lit< tt) }
 
   abbrev include_w : Include
-  include_w = record { attributes = untold ptr alloc; from = path.Id (id ptr alloc (codes "w") (at 64 65) refl); names = vec ptr alloc [] (lit< tt) }
+  include_w = record { attributes = unstated ptr alloc; from = path.Id (id ptr alloc (codes "w") (at 64 65) refl); names = vec ptr alloc [] (lit< tt) }
 
   abbrev v : WrittenWorld
-  v = record { docs = no_comments ptr alloc; attributes = untold ptr alloc; name = id ptr alloc (codes "v") (at 52 53) refl; items = vec ptr alloc (world_item.Include include_w ∷ []) (lit< tt) }
+  v = record { docs = no_comments ptr alloc; attributes = unstated ptr alloc; name = id ptr alloc (codes "v") (at 52 53) refl; items = vec ptr alloc (world_item.Include include_w ∷ []) (lit< tt) }
 
   abbrev used_t : UseName
   used_t = record { name = id ptr alloc (codes "t") (at 86 87) refl; as_ = None }
 
   abbrev s : Definition
-  s = record { docs = no_comments ptr alloc; attributes = untold ptr alloc; name = id ptr alloc (codes "s") (at 95 96) refl; body = Plain (written.Name (id ptr alloc (codes "t") (at 99 100) refl)) }
+  s = record { docs = no_comments ptr alloc; attributes = unstated ptr alloc; name = id ptr alloc (codes "s") (at 95 96) refl; body = Plain (written.Name (id ptr alloc (codes "t") (at 99 100) refl)) }
 
   abbrev w : WrittenWorld
-  w = record { docs = no_comments ptr alloc; attributes = untold ptr alloc; name = id ptr alloc (codes "w") (at 75 76) refl; items = vec ptr alloc (world_item.Use (record { attributes = untold ptr alloc; from = path.Id (id ptr alloc (codes "x") (at 83 84) refl); names = vec ptr alloc (used_t ∷ []) (lit< tt) }) ∷ world_item.TypeDef s ∷ []) (lit< tt) }
+  w = record { docs = no_comments ptr alloc; attributes = unstated ptr alloc; name = id ptr alloc (codes "w") (at 75 76) refl; items = vec ptr alloc (world_item.Use (record { attributes = unstated ptr alloc; from = path.Id (id ptr alloc (codes "x") (at 83 84) refl); names = vec ptr alloc (used_t ∷ []) (lit< tt) }) ∷ world_item.TypeDef s ∷ []) (lit< tt) }
 
   abbrev file : PackageFile
   file = record { package_id = Some (header ptr alloc); decl_list = record { items = vec ptr alloc (ast.Interface x ∷ ast.World v ∷ ast.World w ∷ []) (lit< tt) } }
@@ -99,13 +99,13 @@ module _ (ptr : Ptr) (alloc : Global) where
   abbrev ordered_w : Ordered
   ordered_w = record { item = w_item; order = 0 ∷ 1 ∷ [] }
 
-  abbrev name_met : Address → List ℕ → Span → Meeting
-  name_met scope name span = record { key = Def scope name; span = span; given = Unknown }
+  abbrev name_seen : Address → List ℕ → Span → Occurrence
+  name_seen scope name span = record { key = Def scope name; span = span; given = Unknown }
 
-  -- x's t is met before w's, which is met before s
-  met_in_turn : meetings (map turned (record { item = x_item; order = 0 ∷ [] } ∷ ordered_w ∷ record { item = v_item; order = [] } ∷ []))
-      ≡ (name_met (InterfaceNamed (codes "x")) (codes "t") (at 36 37) ∷ name_met (WorldNamed (codes "w")) (codes "t") (at 86 87) ∷ name_met (WorldNamed (codes "w")) (codes "s") (at 95 96) ∷ [])
-  met_in_turn = refl
+  -- x's t occurs before w's, which occurs before s
+  seen_in_turn : occurrences (map turned (record { item = x_item; order = 0 ∷ [] } ∷ ordered_w ∷ record { item = v_item; order = [] } ∷ []))
+      ≡ (name_seen (InterfaceNamed (codes "x")) (codes "t") (at 36 37) ∷ name_seen (WorldNamed (codes "w")) (codes "t") (at 86 87) ∷ name_seen (WorldNamed (codes "w")) (codes "s") (at 95 96) ∷ [])
+  seen_in_turn = refl
 
   -- the arenas: s is another word for w's t, which is one for x's
   abbrev entry : List ℕ → Ty → TypeOwner → Span → TypeDef

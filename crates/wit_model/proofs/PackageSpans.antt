@@ -37,11 +37,11 @@ PackageFits-from o p h =
     let to_worlds = written ++ flat_map world_spans p.worlds in
     let to_interfaces = to_worlds ++ flat_map interface_spans p.interfaces in
     let whole = AllFit-parts o to_interfaces (flat_map type_spans p.types) h.1 in
-    let front = AllFit-parts o to_worlds (flat_map interface_spans p.interfaces) whole.0 in
-    let outer = AllFit-parts o written (flat_map world_spans p.worlds) front.0 in
+    let prefix = AllFit-parts o to_worlds (flat_map interface_spans p.interfaces) whole.0 in
+    let outer = AllFit-parts o written (flat_map world_spans p.worlds) prefix.0 in
     let inner = AllFit-parts o named (flat_map required_spans p.required_resource_types) outer.0 in
     let names = AllFit-parts o p.unknown_type_spans p.foreign_dep_spans inner.0 in
-    record { own = h.0; unknown = each_fits o p.unknown_type_spans names.0; foreign = each_fits o p.foreign_dep_spans names.1; required = inner.1; worlds = outer.1; interfaces = front.1; types = whole.1 }
+    record { own = h.0; unknown = each_fits o p.unknown_type_spans names.0; foreign = each_fits o p.foreign_dep_spans names.1; required = inner.1; worlds = outer.1; interfaces = prefix.1; types = whole.1 }
 
 pub PackageFits-whole : (o : ℕ) (p : UnresolvedPackage) → PackageFits o p → AllFit o (package_spans p)
 PackageFits-whole o p fits =
@@ -52,5 +52,5 @@ PackageFits-whole o p fits =
     let names = AllFit-append o p.unknown_type_spans p.foreign_dep_spans (all_fit o p.unknown_type_spans fits.unknown) (all_fit o p.foreign_dep_spans fits.foreign) in
     let inner = AllFit-append o named (flat_map required_spans p.required_resource_types) names fits.required in
     let outer = AllFit-append o written (flat_map world_spans p.worlds) inner fits.worlds in
-    let front = AllFit-append o to_worlds (flat_map interface_spans p.interfaces) outer fits.interfaces in
-    (fits.own, AllFit-append o to_interfaces (flat_map type_spans p.types) front fits.types)
+    let prefix = AllFit-append o to_worlds (flat_map interface_spans p.interfaces) outer fits.interfaces in
+    (fits.own, AllFit-append o to_interfaces (flat_map type_spans p.types) prefix fits.types)

@@ -29,6 +29,6 @@ PartsFit-whole o w p =
     (p.own, AllFit-append o (imports ++ exports) (flat_map include_spans w.includes) (AllFit-append o imports exports p.imports p.exports) p.includes)
 
 -- a test of the last part is one of the whole, where the others fit
-pub tells_whole : {P Q : Type 0} (b : Bool) → (P → Q) → (Q → P) → MatchBool b P (P → ⊥) → MatchBool b Q (Q → ⊥)
-tells_whole true f g m = f m
-tells_whole false f g m = λ q. m (g q)
+pub gives_whole : {P Q : Type 0} (b : Bool) → (P → Q) → (Q → P) → MatchBool b P (P → ⊥) → MatchBool b Q (Q → ⊥)
+gives_whole true f g m = f m
+gives_whole false f g m = λ q. m (g q)

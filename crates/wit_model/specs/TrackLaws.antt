@@ -13,5 +13,5 @@ abbrev pub TrackOfTrack : Version → Type 0
 TrackOfTrack v = track_parts (track_parts (parts_of v)) ≡ track_parts (parts_of v)
 
 -- the track versions of two versions are equal exactly if their tracks are
-abbrev pub TracksTell : Version → Version → Type 0
-TracksTell v w = (track_parts (parts_of v) ≡ track_parts (parts_of w)) ↔ (track_text (parts_of v) ≡ track_text (parts_of w))
+abbrev pub TracksDetermine : Version → Version → Type 0
+TracksDetermine v w = (track_parts (parts_of v) ≡ track_parts (parts_of w)) ↔ (track_text (parts_of v) ≡ track_text (parts_of w))

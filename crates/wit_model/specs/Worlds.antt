@@ -1,4 +1,4 @@
--- What an item of a world tells.
+-- What an item of a world says.
 use Rattle.std.specs.Prelude.{ℕ, List, ◌++◌, ◌<◌, Bool, false, Option, Some, None, ⊤, codes, length, nat_eq, slice_get}
 use Rattle.std.specs.Cmp.Lexicographic.{pointwise}
 use Rattle.std.specs.Fmt.{decimal}

@@ -5,9 +5,9 @@ use crate::interface::Interface;
 use crate::world::{World, WorldInclude, WorldItem, WorldKey};
 use std::alloc::AllocError;
 use wit_functions::Function;
+use wit_maps::{Table, TextTable};
 use wit_types::TypeId;
 use wit_types::laws::copies::{copy_docs, copy_external_id, copy_stability, copy_text};
-use wit_maps::{Table, TextTable};
 use wit_values::Row;
 
 fn copy_types(types: &TextTable<TypeId>) -> Result<TextTable<TypeId>, AllocError>

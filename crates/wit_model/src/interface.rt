@@ -1,8 +1,8 @@
 //! Interfaces.
 
 use wit_functions::Function;
-use wit_types::{Docs, InterfaceId, PackageId, Stability, TypeId};
 use wit_maps::TextTable;
+use wit_types::{Docs, InterfaceId, PackageId, Stability, TypeId};
 use wit_values::{Span, Text};
 
 /// An interface: its types and functions by their names.

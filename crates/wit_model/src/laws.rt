@@ -3,7 +3,7 @@
 //!
 //! What each call here ensures is a law. The calls about tracks change nothing and answer nothing:
 //! their laws are of the definitions that the calls of `PackageName` meet.
-ghost use Rattle.wit_model.specs.TrackLaws.{TrackOfTrack, TrackThenSuffix, TracksTell};
+ghost use Rattle.wit_model.specs.TrackLaws.{TrackOfTrack, TrackThenSuffix, TracksDetermine};
 
 pub mod copies;
 pub mod equality;
@@ -22,10 +22,10 @@ pub fn track_of_track(version: &Version)
 {}
 
 /// Two versions have equal track versions exactly if they have equal tracks.
-pub fn tracks_tell(first: &Version, second: &Version)
-    ensures { TracksTell first.now second.now }
+pub fn tracks_determine(first: &Version, second: &Version)
+    ensures { TracksDetermine first.now second.now }
 {
-    // A number that is read is known to fit its field, and so to have digits that tell it.
+    // A number that is read is known to fit its field, and so to have digits that say it.
     let _major = first.major;
     let _minor = first.minor;
     let _patch = first.patch;

@@ -1,6 +1,6 @@
 //! The data of a resolved package: types, functions, interfaces and worlds.
 //!
-//! Types, interfaces and worlds stand in arenas and refer to one another by ids. Spans are
+//! Types, interfaces and worlds are in arenas and refer to one another by ids. Spans are
 //! half-open ranges of bytes in the sources. What is here of types is that of `wit_types`, what is
 //! here of functions that of `wit_functions`, and names of packages are those of `wit_package_names`.
 #![tactic(auto)]

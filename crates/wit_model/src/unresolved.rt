@@ -9,10 +9,10 @@ use crate::interface::Interface;
 use crate::laws::copies::copy_package_name;
 use crate::world::World;
 use std::alloc::AllocError;
+use wit_maps::{Table, TextTable};
 use wit_package_names::package_name::PackageName;
 use wit_types::laws::copies::copy_docs;
 use wit_types::{Arena, Docs, InterfacePlace, Stability, TypeDef, TypeId, TypePlace, WorldPlace};
-use wit_maps::{Table, TextTable};
 use wit_values::{Row, Span};
 
 /// A package whose names are resolved, but not those of other packages.
@@ -27,9 +27,9 @@ pub struct UnresolvedPackage {
     /// The name that the headers give.
     pub name: PackageName,
     pub worlds: Arena<World, WorldPlace>,
-    /// The interfaces: each behind those that it uses, and else in push order and source order.
+    /// The interfaces: each after those that it uses, and else in push order and source order.
     pub interfaces: Arena<Interface, InterfacePlace>,
-    /// The types: each behind those that it refers to.
+    /// The types: each after those that it refers to.
     pub types: Arena<TypeDef, TypePlace>,
     /// The other packages, in the order in which paths first name them. Each has the names of its
     /// items in the order in which paths first lead to them: what each is, an interface or a world
@@ -44,7 +44,7 @@ pub struct UnresolvedPackage {
 }
 
 impl UnresolvedPackage {
-    /// A package of these parts, with the docs of its headers, whose last header stands at
+    /// A package of these parts, with the docs of its headers, whose last header is at
     /// `name_span`, and with what it names of other packages.
     pub fn new(
         name: PackageName,
@@ -80,7 +80,7 @@ impl UnresolvedPackage {
         }
     }
 
-    /// Where the last header stands.
+    /// Where the last header is.
     pub fn package_name_span(&self) -> Span
         ensures { result ≡ self.now.name_span }
     {
@@ -88,7 +88,7 @@ impl UnresolvedPackage {
     }
 
     /// Where each type of another package is first used. These types are the unknown ones at the
-    /// front of the arena of types, in the same order.
+    /// prefix of the arena of types, in the same order.
     pub fn unknown_type_spans(&self) -> &[Span]
         ensures { result.now ≡ self.now.unknown_type_spans }
     {

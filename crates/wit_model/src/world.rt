@@ -6,9 +6,9 @@ ghost use Rattle.wit_model.specs.Worlds.{IsWithin, function_of, is_name, key_tex
 
 use std::alloc::{AllocError, Global};
 use wit_functions::Function;
-use wit_functions::told::Told;
-use wit_types::{Docs, InterfaceId, PackageId, Stability, TypeId, Types, WorldId};
+use wit_functions::maybe_function::MaybeFunction;
 use wit_maps::Table;
+use wit_types::{Docs, InterfaceId, PackageId, Stability, TypeId, Types, WorldId};
 use wit_values::{Rare, Row, Span, Text};
 
 /// A world: what a component imports and exports.
@@ -95,7 +95,7 @@ pub enum WorldItem {
         stability: Stability,
         external_id: Rare<Text>,
         docs: Docs,
-        /// The path's place, or that of the label in front of it.
+        /// The path's place, or that of the label before it.
         span: Span,
     },
     Function(Function),
@@ -146,7 +146,7 @@ impl WorldKey {
 
     /// The name, or `interface-` and the place of the interface.
     ///
-    /// The error is want of memory.
+    /// The error is a failed allocation.
     pub fn to_text(&self, alloc: Global) -> Result<String, AllocError>
         ensures { IfOk result (λ t. string_bytes t ≡ key_text self.now) }
     {
@@ -187,10 +187,10 @@ impl WorldItem {
     }
 }
 
-impl Told for WorldItem {
-    ghost tells = { function_of };
+impl MaybeFunction for WorldItem {
+    ghost function_at = { function_of };
 
-    fn told(&self) -> Option<&Function> {
+    fn maybe_function(&self) -> Option<&Function> {
         world_item_func(self)
     }
 }

@@ -1,8 +1,8 @@
 //! Rows, tables and arenas are gone through and looked into.
 use std::alloc::Global;
 use std::test::Fail;
-use wit_types::{Arena, TypePlace};
 use wit_maps::{Table, TextTable};
+use wit_types::{Arena, TypePlace};
 use wit_values::Row;
 
 fn is_row(row: &Row<u8>) -> bool {

@@ -3,13 +3,13 @@ use crate::shared::{SPAN, function};
 use indexmap::IndexMap;
 use std::alloc::{AllocError, Global};
 use std::test::Fail;
+use wit_maps::{Table, TextTable};
 use wit_model::{
     Function, FunctionKind, WorldItem, WorldKey, get_name, place_setters_after_getters,
     world_item_func,
 };
 use wit_order::toposort;
 use wit_type_tree::leaves::Id;
-use wit_maps::{Table, TextTable};
 use wit_values::{Row, Text};
 
 /// The map of the keys 3, 1, 2, 6, 5 and 4 to 7.

@@ -16,24 +16,24 @@ fn steps(alloc: Global) -> Result<Vec<InternStep>, AllocError> {
     Ok(steps)
 }
 
-fn are_told<T: InternTable>(alloc: Global, table: &mut T) -> Result<bool, Fail> {
+fn are_stated<T: InternTable>(alloc: Global, table: &mut T) -> Result<bool, Fail> {
     let asked = steps(alloc)?;
-    let (told, outcome) = intern_run(alloc, table, asked.as_slice());
+    let (as_stated, outcome) = intern_run(alloc, table, asked.as_slice());
     outcome?;
     let found = InternReply::Found(Some(first_id(alloc)));
     let wanted = [InternReply::Found(None), InternReply::Inserted, found];
-    Ok(told.as_slice() == wanted.as_slice())
+    Ok(as_stated.as_slice() == wanted.as_slice())
 }
 
 #[test]
 fn runs(rt: HostRuntime) -> Result<(), Fail> {
     let alloc = rt.alloc();
     let mut hashed: HashMap<InternKey, TypeId> = HashMap::new(alloc);
-    assert!(rt; are_told(alloc, &mut hashed)?);
+    assert!(rt; are_stated(alloc, &mut hashed)?);
     let mut ordered: BTreeMap<InternKey, TypeId> = BTreeMap::new(alloc);
-    assert!(rt; are_told(alloc, &mut ordered)?);
+    assert!(rt; are_stated(alloc, &mut ordered)?);
     let key = InternKey::List(Type::U8);
     assert!(rt; laws::is_same_key(&key, &key));
-    laws::keys_tell(&TypeDefKind::Unknown, &TypeDefKind::Unknown);
+    laws::keys_determine(&TypeDefKind::Unknown, &TypeDefKind::Unknown);
     Ok(())
 }

@@ -12,7 +12,7 @@ use wit_types::{
 };
 use wit_values::{Rare, Span, Text};
 
-// Puts a type of this kind behind others.
+// Puts a type of this kind after others.
 fn add_type(types: &mut Types, kind: TypeDefKind, span: Span) -> Result<(), AllocError> {
     place(
         types,
@@ -86,7 +86,7 @@ fn add_others(alloc: Global, types: &mut Types, span: Span) -> Result<(), AllocE
     add_type(types, TypeDefKind::Handle(Handle::Own(resource)), span)
 }
 
-/// Puts types that hold spans, and others, behind others.
+/// Puts types that hold spans, and others, after others.
 pub fn add_types(alloc: Global, types: &mut Types, span: Span) -> Result<(), AllocError> {
     add_record(alloc, types, span)?;
     add_flags(alloc, types, span)?;

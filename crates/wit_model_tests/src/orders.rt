@@ -26,6 +26,6 @@ fn numbered(rt: &impl Abort, alloc: Global) {
 }
 
 #[test]
-fn ids_tell(rt: HostRuntime) {
+fn ids_determine(rt: HostRuntime) {
     numbered(&rt, rt.alloc());
 }

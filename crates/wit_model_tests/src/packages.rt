@@ -7,6 +7,7 @@ use std::alloc::{AllocError, Global};
 use std::cmp::Ordering;
 use std::process::Abort;
 use std::test::Fail;
+use wit_maps::{Table, TextTable};
 use wit_model::laws::equality::{
     is_same_docs, is_same_package, is_same_package_name, is_same_stability,
 };
@@ -14,7 +15,6 @@ use wit_model::laws::order::{compare_package_names, compare_stabilities};
 use wit_model::{AstItem, ForeignItems, UnresolvedPackage};
 use wit_package_names::PackageName;
 use wit_types::{Arena, Docs, HasSpans, Stability};
-use wit_maps::{Table, TextTable};
 use wit_values::{Rare, Release, Row, Span, Text};
 
 // The name of a package, with a version.
@@ -35,7 +35,7 @@ fn stable(alloc: Global) -> Result<Stability, AllocError> {
     Ok(Stability::Stable { since, deprecated })
 }
 
-// Puts an interface that one path leads to behind others.
+// Puts an interface that one path leads to after others.
 fn add_visited(
     alloc: Global,
     items: &mut TextTable<(AstItem, Row<Stability>)>,
@@ -95,7 +95,7 @@ fn add_bare(
     push(packages, bare(alloc, name, span, foreign))
 }
 
-// Puts a package behind others, whose world imports interfaces of these names. All its spans are `span`.
+// Puts a package after others, whose world imports interfaces of these names. All its spans are `span`.
 fn add_package(
     alloc: Global,
     packages: &mut Vec<UnresolvedPackage>,

@@ -1,4 +1,4 @@
-//! Setters behind their getters.
+//! Setters after their getters.
 use crate::shared::{SPAN, check_text, function};
 use indexmap::IndexMap;
 use std::alloc::{AllocError, Global};
@@ -69,7 +69,7 @@ fn expect(rt: &impl Abort, alloc: Global, names: &str, wanted: &str) -> Result<(
 }
 
 #[test]
-fn setters_behind_getters(rt: HostRuntime) -> Result<(), Fail> {
+fn setters_after_getters(rt: HostRuntime) -> Result<(), Fail> {
     let alloc = rt.alloc();
     expect(&rt, alloc, "[set]x f [get]x", "f [get]x [set]x ")?;
     expect(&rt, alloc, "[get]x f [set]x", "[get]x f [set]x ")?;

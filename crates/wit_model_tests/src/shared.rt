@@ -1,12 +1,12 @@
 //! What the tests share: checks, ids, rows, arenas, tables and a function.
 use std::alloc::{AllocError, Global};
 use std::process::Abort;
+use wit_maps::TextTable;
 use wit_model::{Function, FunctionKind, Param};
 use wit_types::{Arena, Docs, Id, Stability};
-use wit_maps::TextTable;
 use wit_values::{Rare, Row, Span, Text};
 
-/// Where things stand.
+/// Where things are.
 pub const SPAN: Span = Span { start: 3, end: 5 };
 
 /// Checks that what is named here holds.
@@ -40,19 +40,19 @@ pub fn row<T: Drop>(alloc: Global, value: T) -> Result<Row<T>, AllocError> {
     Ok(row)
 }
 
-/// Puts a value behind others.
+/// Puts a value after others.
 pub fn push<T: Drop>(values: &mut Vec<T>, value: T) -> Result<(), AllocError> {
     values.push(value)?;
     Ok(())
 }
 
-/// Puts a value behind the others of a row.
+/// Puts a value after the others of a row.
 pub fn add<T: Drop>(row: &mut Row<T>, value: T) -> Result<(), AllocError> {
     row.push(value)?;
     Ok(())
 }
 
-/// Puts a value behind the others of an arena.
+/// Puts a value after the others of an arena.
 pub fn place<T: Drop, M>(arena: &mut Arena<T, M>, value: T) -> Result<(), AllocError> {
     arena.alloc(value)?;
     Ok(())

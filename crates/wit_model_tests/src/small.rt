@@ -1,4 +1,4 @@
-//! Small calls: resources of kinds, keys of worlds, and integers that hold flags and tell cases.
+//! Small calls: resources of kinds, keys of worlds, and integers that hold flags and say cases.
 use crate::shared::{SPAN, check, check_text, first_id};
 use std::alloc::{AllocError, Global};
 use std::process::Abort;

@@ -26,7 +26,7 @@ a: a;|0 type `a` depends on itself 0|
 a: c a; b: x; c:;|0 type `x` does not exist 0|
 a: c a; b: c; c:;|0 type `a` depends on itself 1|";
 
-/// Puts in a row whose needed names stand in a text, parted by spaces. Spans count them.
+/// Puts in a row whose needed names are in a text, parted by spaces. Spans count them.
 fn add<'a>(
     rt: &impl Abort,
     alloc: Global,
@@ -45,7 +45,7 @@ fn add<'a>(
     Ok(())
 }
 
-/// Checks an answer: the names behind one another, or the refusal and at which needed name of its row it is.
+/// Checks an answer: the names after one another, or the refusal and at which needed name of its row it is.
 fn expect(
     rt: &impl Abort,
     alloc: Global,

@@ -6,7 +6,7 @@ use wit_model::laws;
 use wit_package_names::PackageName;
 use wit_values::Release;
 
-/// A version a line, its track version, its track, and what stands behind this.
+/// A version a line, its track version, its track, and what comes after this.
 const CASES: &str = "1.2.3|1.0.0|1|.2.3
 101.201.301|101.0.0|101|.201.301
 0.2.6-rc.1|0.2.6-rc.1|0.2.6-rc.1|
@@ -17,9 +17,9 @@ const CASES: &str = "1.2.3|1.0.0|1|.2.3
 0.0.100+build.1|0.0.100|0.0.100|+build.1
 1.0.0-beta.1|1.0.0-beta.1|1.0.0-beta.1|";
 
-// Whether a text is this suffix, where an empty one stands for none.
-fn is_suffix(told: &Option<String>, suffix: &str) -> bool {
-    match told {
+// Whether a text is this suffix, where an empty one means none.
+fn is_suffix(as_stated: &Option<String>, suffix: &str) -> bool {
+    match as_stated {
         Some(text) => !suffix.is_empty() && text.as_str() == suffix,
         None => suffix.is_empty(),
     }
@@ -29,28 +29,28 @@ fn has_track(alloc: Global, text: &str, track: &str, suffix: &str) -> Result<boo
     let version = Version::parse(alloc, text)?;
     laws::track_then_suffix(&version);
     laws::track_of_track(&version);
-    laws::tracks_tell(&version, &version);
-    let (told, behind) = PackageName::version_compat_track_string(alloc, &version)?;
-    Ok(told.as_str() == track && is_suffix(&behind, suffix))
+    laws::tracks_determine(&version, &version);
+    let (as_stated, rest_after) = PackageName::version_compat_track_string(alloc, &version)?;
+    Ok(as_stated.as_str() == track && is_suffix(&rest_after, suffix))
 }
 
 fn has_track_version(alloc: Global, text: &str, track: &str, suffix: &str) -> Result<bool, Fail> {
     let version = Version::parse(alloc, text)?;
-    let (told, behind) = PackageName::version_compat_track(alloc, &version)?;
-    Ok(told == Version::parse(alloc, track)? && is_suffix(&behind, suffix))
+    let (as_stated, rest_after) = PackageName::version_compat_track(alloc, &version)?;
+    Ok(as_stated == Version::parse(alloc, track)? && is_suffix(&rest_after, suffix))
 }
 
 fn has_release_track(alloc: Global, text: &str, track: &str, suffix: &str) -> Result<bool, Fail> {
     let release = Release::of(alloc, &Version::parse(alloc, text)?)?;
-    let (told, behind) = PackageName::release_compat_track(alloc, &release)?;
+    let (as_stated, rest_after) = PackageName::release_compat_track(alloc, &release)?;
     let wanted = Version::parse(alloc, track)?;
-    Ok(told.into_version() == wanted && is_suffix(&behind, suffix))
+    Ok(as_stated.into_version() == wanted && is_suffix(&rest_after, suffix))
 }
 
 fn has_release_text(alloc: Global, text: &str, track: &str, suffix: &str) -> Result<bool, Fail> {
     let release = Release::of(alloc, &Version::parse(alloc, text)?)?;
-    let (told, behind) = PackageName::release_compat_track_string(alloc, &release)?;
-    Ok(told.as_str() == track && is_suffix(&behind, suffix))
+    let (as_stated, rest_after) = PackageName::release_compat_track_string(alloc, &release)?;
+    Ok(as_stated.as_str() == track && is_suffix(&rest_after, suffix))
 }
 
 #[test]
@@ -58,8 +58,8 @@ fn tracks_of_versions(rt: HostRuntime) -> Result<(), Fail> {
     let alloc = rt.alloc();
     for case in CASES.lines() {
         let (text, tracks) = case.split_once('|').expect(&rt, "a version");
-        let (version, told) = tracks.split_once('|').expect(&rt, "its track version");
-        let (track, suffix) = told.split_once('|').expect(&rt, "its track");
+        let (version, as_stated) = tracks.split_once('|').expect(&rt, "its track version");
+        let (track, suffix) = as_stated.split_once('|').expect(&rt, "its track");
         assert!(rt; has_track(alloc, text, track, suffix)?, "{text}");
         assert!(rt; has_track_version(alloc, text, version, suffix)?, "{text}");
         assert!(rt; has_release_text(alloc, text, track, suffix)?, "{text}");

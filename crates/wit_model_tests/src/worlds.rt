@@ -2,6 +2,7 @@
 use crate::shared::{add, check, check_text, first_id, function, place, put, row};
 use std::alloc::{AllocError, Global};
 use std::process::Abort;
+use wit_maps::{Table, TextTable};
 use wit_model::laws::copies::{copy_world_include, copy_world_key};
 use wit_model::laws::equality::{
     is_same_function, is_same_include_name, is_same_interface, is_same_param, is_same_world,
@@ -12,7 +13,6 @@ use wit_model::{
     WorldInclude, WorldItem, WorldKey,
 };
 use wit_types::{Arena, Docs, InterfacePlace, Stability, Type, Types, WorldPlace};
-use wit_maps::{Table, TextTable};
 use wit_values::{Rare, Row, Span, Text};
 
 fn params(alloc: Global, span: Span) -> Result<Row<Param>, AllocError> {
@@ -111,7 +111,7 @@ fn add_exports(
     set(alloc, items, "f", WorldItem::Function(function))
 }
 
-// Puts what a world includes behind others.
+// Puts what a world includes after others.
 fn add_include(
     alloc: Global,
     includes: &mut Row<WorldInclude>,

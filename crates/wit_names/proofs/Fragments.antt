@@ -1,4 +1,4 @@
--- Fragments told in one pass: what is still to come of a text, where three flags tell of the bytes since the last dash.
+-- Fragments stated in one pass: what is still to come of a text, where three flags say of the bytes since the last dash.
 use Rattle.std.proofs.Common.{◌≡◌, ◌∙◌, ℕ, ◌==◌, ◌&&◌, ◌||◌, not, Bool, true, false, if◌then◌else◌, List, [], ◌∷◌, length, refl, ap, sym, arith}
 use Rattle.std.specs.Char.{is_ascii_alphanumeric, is_ascii_lowercase, is_ascii_uppercase}
 use Rattle.std.specs.List.{list_all, list_any, onto_first}
@@ -14,10 +14,10 @@ abbrev pub ends_well : Bool → Bool → Bool → List ℕ → Bool
 ends_well empty lower upper [] = may_end empty lower upper
 ends_well empty lower upper (b ∷ text) = if b == 45 then may_end empty lower upper && ends_well true false false text else (is_ascii_alphanumeric b && ends_well false (lower || is_ascii_lowercase b) (upper || is_ascii_uppercase b) text)
 
--- the rest of a fragment ends it well, and what stands behind it is well
+-- the rest of a fragment ends it well, and what comes after it is well
 abbrev rest_is_well : Bool → Bool → Bool → List ℕ → Bool → Bool
-rest_is_well empty lower upper [] behind = may_end empty lower upper && behind
-rest_is_well empty lower upper (b ∷ part) behind = is_ascii_alphanumeric b && rest_is_well false (lower || is_ascii_lowercase b) (upper || is_ascii_uppercase b) part behind
+rest_is_well empty lower upper [] rest_after = may_end empty lower upper && rest_after
+rest_is_well empty lower upper (b ∷ part) rest_after = is_ascii_alphanumeric b && rest_is_well false (lower || is_ascii_lowercase b) (upper || is_ascii_uppercase b) part rest_after
 
 abbrev first_is_well : Bool → Bool → Bool → List (List ℕ) → Bool
 first_is_well empty lower upper [] = rest_is_well empty lower upper [] true
@@ -47,11 +47,11 @@ or_assoc : (a b c : Bool) → ((a || b) || c) ≡ (a || (b || c))
 or_assoc true b c = refl
 or_assoc false b c = refl
 
-rest-whole : (empty lower upper : Bool) (part : List ℕ) (behind : Bool) → rest_is_well empty lower upper part behind ≡ (is_well empty lower upper part && behind)
-rest-whole empty lower upper [] behind = rw (and_true empty, and_true (not empty), or_false lower, or_false upper) refl
-rest-whole empty lower upper (b ∷ part) behind = ap (λ w. is_ascii_alphanumeric b && w) (rest-whole false (lower || is_ascii_lowercase b) (upper || is_ascii_uppercase b) part behind) ∙ by (is_ascii_alphanumeric b) where
-  by : (a : Bool) → (a && (((true && list_all is_ascii_alphanumeric part) && not (((lower || is_ascii_lowercase b) || list_any is_ascii_lowercase part) && ((upper || is_ascii_uppercase b) || list_any is_ascii_uppercase part))) && behind))
-      ≡ (((not (empty && false) && (a && list_all is_ascii_alphanumeric part)) && not ((lower || (is_ascii_lowercase b || list_any is_ascii_lowercase part)) && (upper || (is_ascii_uppercase b || list_any is_ascii_uppercase part)))) && behind)
+rest-whole : (empty lower upper : Bool) (part : List ℕ) (rest_after : Bool) → rest_is_well empty lower upper part rest_after ≡ (is_well empty lower upper part && rest_after)
+rest-whole empty lower upper [] rest_after = rw (and_true empty, and_true (not empty), or_false lower, or_false upper) refl
+rest-whole empty lower upper (b ∷ part) rest_after = ap (λ w. is_ascii_alphanumeric b && w) (rest-whole false (lower || is_ascii_lowercase b) (upper || is_ascii_uppercase b) part rest_after) ∙ by (is_ascii_alphanumeric b) where
+  by : (a : Bool) → (a && (((true && list_all is_ascii_alphanumeric part) && not (((lower || is_ascii_lowercase b) || list_any is_ascii_lowercase part) && ((upper || is_ascii_uppercase b) || list_any is_ascii_uppercase part))) && rest_after))
+      ≡ (((not (empty && false) && (a && list_all is_ascii_alphanumeric part)) && not ((lower || (is_ascii_lowercase b || list_any is_ascii_lowercase part)) && (upper || (is_ascii_uppercase b || list_any is_ascii_uppercase part)))) && rest_after)
   by true = rw (and_false empty, or_assoc lower (is_ascii_lowercase b) (list_any is_ascii_lowercase part), or_assoc upper (is_ascii_uppercase b) (list_any is_ascii_uppercase part)) refl
   by false = rw (and_false empty) refl
 
@@ -78,8 +78,8 @@ fragment-well : (part : List ℕ) → is_fragment part ≡ is_well true false fa
 fragment-well part = λ i. not (is_nil-length part i) && list_all is_ascii_alphanumeric part && one_case part i
 
 -- with nothing before it, the rest of a fragment is the fragment
-rest-fragment : (part : List ℕ) (behind : Bool) → rest_is_well true false false part behind ≡ (is_fragment part && behind)
-rest-fragment part behind = rest-whole true false false part behind ∙ ap (λ w. w && behind) (sym (fragment-well part))
+rest-fragment : (part : List ℕ) (rest_after : Bool) → rest_is_well true false false part rest_after ≡ (is_fragment part && rest_after)
+rest-fragment part rest_after = rest-whole true false false part rest_after ∙ ap (λ w. w && rest_after) (sym (fragment-well part))
 
 first-onto : (b : ℕ) (parts : List (List ℕ)) → first_is_well true false false (onto_first b parts) ≡ list_all is_fragment (onto_first b parts)
 first-onto b [] = rest-fragment (b ∷ []) true
@@ -110,6 +110,6 @@ ends-first empty lower upper (b ∷ text) =
       by true anew on = ap (λ w. may_end empty lower upper && w) (anew ∙ first-fragments text)
       by false anew on = ap (λ w. is_ascii_alphanumeric b && w) on ∙ onto-well empty lower upper b (fragments text)
 
--- at the front of a text, all its fragments are told
+-- at the prefix of a text, all its fragments are stated
 pub ends_well-fragments : (text : List ℕ) → ends_well true false false text ≡ list_all is_fragment (fragments text)
 ends_well-fragments text = ends-first true false false text ∙ first-fragments text

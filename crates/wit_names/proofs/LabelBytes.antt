@@ -16,10 +16,10 @@ alphanumeric-fragment part h =
 alphanumeric-fragments : (parts : List (List ℕ)) → list_all is_fragment parts ≡ true → list_all (list_all is_ascii_alphanumeric) parts ≡ true
 alphanumeric-fragments [] h = refl
 alphanumeric-fragments (part ∷ parts) h =
-    let told = and_parts (is_fragment part) (list_all is_fragment parts) h in
-    and_from _ _ (alphanumeric-fragment part told.0) (alphanumeric-fragments parts told.1)
+    let as_stated = and_parts (is_fragment part) (list_all is_fragment parts) h in
+    and_from _ _ (alphanumeric-fragment part as_stated.0) (alphanumeric-fragments parts as_stated.1)
 
--- where all bytes of the parts pass with one more at the front, that one passes, and so do the others
+-- where all bytes of the parts pass with one more at the prefix, that one passes, and so do the others
 onto_first_parts : (test : ℕ → Bool) (b : ℕ) (parts : List (List ℕ)) → list_all (list_all test) (onto_first b parts) ≡ true → (test b ≡ true) × (list_all (list_all test) parts ≡ true)
 onto_first_parts test b [] h = ((and_parts (test b) true (and_parts (test b && true) true h).0).0, refl)
 onto_first_parts test b (part ∷ parts) h =
@@ -42,14 +42,14 @@ list_all-fragments test p (b ∷ t) h = by (b == 45) refl (list_all-fragments te
       let here : test b ≡ true = rw dash p.dash in
       and_from _ _ here (rest (rw e at h))
   by false e rest =
-      let told = onto_first_parts is_ascii_alphanumeric b (fragments t) (rw e at h) in
-      and_from _ _ (p.alphanumeric b told.0) (rest told.1)
+      let as_stated = onto_first_parts is_ascii_alphanumeric b (fragments t) (rw e at h) in
+      and_from _ _ (p.alphanumeric b as_stated.0) (rest as_stated.1)
 
 -- each byte of a label passes it
 pub list_all-label : (test : ℕ → Bool) → PassesNameBytes test → (t : List ℕ) → is_label t ≡ true → list_all test t ≡ true
 list_all-label test p t h =
-    let told = and_parts (starts_with_letter t) (list_all is_fragment (fragments t)) h in
-    list_all-fragments test p t (alphanumeric-fragments (fragments t) told.1)
+    let as_stated = and_parts (starts_with_letter t) (list_all is_fragment (fragments t)) h in
+    list_all-fragments test p t (alphanumeric-fragments (fragments t) as_stated.1)
 
 -- a byte that lower case turns into one before `a` is that one
 pub lowercase_other : (b c : ℕ) → c < 97 → to_ascii_lowercase b ≡ c → b ≡ c
@@ -63,7 +63,7 @@ no_dot-label = list_all-label (λ b. not (b == 46)) (record { alphanumeric = oth
     by : (v : Bool) → (b == 46) ≡ v → not v ≡ true
     by false e = refl
     by true e =
-        let told : false ≡ true = subst (λ (k : ℕ). is_ascii_alphanumeric k ≡ true) (eqb-true _ _ e) h in
+        let as_stated : false ≡ true = subst (λ (k : ℕ). is_ascii_alphanumeric k ≡ true) (eqb-true _ _ e) h in
         cc
 
 pub no_dot-lower_label : (t : List ℕ) → is_label t ≡ true → list_all (λ b. not (to_ascii_lowercase b == 46)) t ≡ true
@@ -74,5 +74,5 @@ no_dot-lower_label = list_all-label (λ b. not (to_ascii_lowercase b == 46)) (re
     by false e = refl
     by true e =
         let dot : b ≡ 46 = lowercase_other b 46 (omega arith) (eqb-true _ _ e) in
-        let told : false ≡ true = subst (λ (k : ℕ). is_ascii_alphanumeric k ≡ true) dot h in
+        let as_stated : false ≡ true = subst (λ (k : ℕ). is_ascii_alphanumeric k ≡ true) dot h in
         cc

@@ -11,29 +11,29 @@ use Rattle.wit_names.proofs.LabelBytes.{lowercase_other, no_dot-lower_label}
 use Rattle.wit_names.specs.Label.{fragments, is_fragment, is_label, starts_with_letter}
 use Rattle.wit_names.specs.Mangled.{is_mangled, member_of, owner_of}
 use Rattle.wit_names.specs.Folded.{folded_key, lower_case, single, single_if_bare}
-use Rattle.wit_names.specs.Front.{behind}
+use Rattle.wit_names.specs.Prefix.{rest_after}
 
 -- a label is a mangled name
 pub is_mangled-label : (t : List ℕ) → is_label t ≡ true → is_mangled t ≡ true
 is_mangled-label t h = rw h refl
 
--- a text without the byte has all of itself in front of the first such byte
+-- a text without the byte has all of itself before the first such byte
 pub prefix_len_all : (p : ℕ → Bool) (xs : List ℕ) → list_all p xs ≡ true → prefix_len p xs ≡ length xs
 prefix_len_all p [] h = refl
 prefix_len_all p (x ∷ xs) h =
-    let told = and_parts (p x) (list_all p xs) h in
-    rw (told.0, prefix_len_all p xs told.1) (omega arith)
+    let as_stated = and_parts (p x) (list_all p xs) h in
+    rw (as_stated.0, prefix_len_all p xs as_stated.1) (omega arith)
 
 -- a text with no dot is its own owner
 single-no_dot : (u : List ℕ) → list_all (λ b. not (b == 46)) u ≡ true → single u ≡ u
 single-no_dot u h =
-    let front : owner_of u ≡ u = rw (prefix_len_all (λ b. not (b == 46)) u h) (take-length u) in
-    by (pointwise nat_eq (owner_of u) (member_of u)) front where
+    let prefix : owner_of u ≡ u = rw (prefix_len_all (λ b. not (b == 46)) u h) (take-length u) in
+    by (pointwise nat_eq (owner_of u) (member_of u)) prefix where
       by : (v : Bool) → owner_of u ≡ u → (if v then owner_of u else u) ≡ u
       by true e = e
       by false e = refl
 
--- a text without a front keeps all of itself
+-- a text without a prefix keeps all of itself
 without_kind-none : (u : List ℕ) (method static : Option (List ℕ)) → method ≡ None → static ≡ None → unwrap_or method (unwrap_or static u) ≡ u
 without_kind-none u method static e f = rw (e, f) refl
 
@@ -44,7 +44,7 @@ single_if_bare-none u bracket e same = rw e same
 no_bracket : (b : ℕ) → is_ascii_alphabetic b ≡ true → (91 == to_ascii_lowercase b) ≡ false
 no_bracket b h = ne_eqb 91 (to_ascii_lowercase b) (λ e.
     let bracket : b ≡ 91 = lowercase_other b 91 (omega arith) (sym e) in
-    let told : false ≡ true = subst (λ (k : ℕ). is_ascii_alphabetic k ≡ true) bracket h in
+    let as_stated : false ≡ true = subst (λ (k : ℕ). is_ascii_alphabetic k ≡ true) bracket h in
     cc)
 
 -- the folded key of a label is the label in lower case
@@ -52,10 +52,10 @@ pub folded_key-label : (t : List ℕ) → is_label t ≡ true → folded_key t �
 folded_key-label [] h = refl
 folded_key-label (b ∷ t) h =
     let u : List ℕ = lower_case (b ∷ t) in
-    let told = and_parts (starts_with_letter (b ∷ t)) (list_all is_fragment (fragments (b ∷ t))) h in
-    let bare : (91 == to_ascii_lowercase b) ≡ false = no_bracket b told.0 in
-    let method : behind (codes "[method]") u ≡ None = rw bare refl in
-    let static : behind (codes "[static]") u ≡ None = rw bare refl in
-    let bracket : behind (codes "[") u ≡ None = rw bare refl in
+    let as_stated = and_parts (starts_with_letter (b ∷ t)) (list_all is_fragment (fragments (b ∷ t))) h in
+    let bare : (91 == to_ascii_lowercase b) ≡ false = no_bracket b as_stated.0 in
+    let method : rest_after (codes "[method]") u ≡ None = rw bare refl in
+    let static : rest_after (codes "[static]") u ≡ None = rw bare refl in
+    let bracket : rest_after (codes "[") u ≡ None = rw bare refl in
     let alone : single u ≡ u = single-no_dot u (list_all-map (λ b. not (b == 46)) to_ascii_lowercase (b ∷ t) ∙ no_dot-lower_label (b ∷ t) h) in
     ap single_if_bare (without_kind-none u _ _ method static) ∙ single_if_bare-none u _ bracket alone

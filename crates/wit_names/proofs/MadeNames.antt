@@ -13,8 +13,8 @@ use Rattle.wit_names.specs.Setter.{is_setter}
 prefix_len-dot : (r f : List ℕ) → list_all (λ b. not (b == 46)) r ≡ true → prefix_len (λ b. not (b == 46)) (r ++ (46 ∷ f)) ≡ length r
 prefix_len-dot [] f h = refl
 prefix_len-dot (b ∷ r) f h =
-    let told = and_parts (not (b == 46)) (list_all (λ b. not (b == 46)) r) h in
-    rw (told.0, prefix_len-dot r f told.1) (omega arith)
+    let as_stated = and_parts (not (b == 46)) (list_all (λ b. not (b == 46)) r) h in
+    rw (as_stated.0, prefix_len-dot r f as_stated.1) (omega arith)
 
 owner_of-dotted : (r f : List ℕ) → is_label r ≡ true → owner_of (r ++ (46 ∷ f)) ≡ r
 owner_of-dotted r f h = rw (prefix_len-dot r f (no_dot-label r h)) (take-append_seam r (46 ∷ f))
@@ -25,7 +25,7 @@ member_of-dotted r f h = rw (prefix_len-dot r f (no_dot-label r h)) (drop-append
 pub is_dotted-labels : (r f : List ℕ) → is_label r ≡ true → is_label f ≡ true → is_dotted (r ++ (46 ∷ f)) ≡ true
 is_dotted-labels r f hr hf = rw (owner_of-dotted r f hr, member_of-dotted r f hr) (and_from _ _ hr hf)
 
--- a second test that passes, whatever the first tells
+-- a second test that passes, whatever the first says
 or_true : (b : Bool) → (b || true) ≡ true
 or_true true = refl
 or_true false = refl

@@ -3,7 +3,7 @@ use Rattle.std.specs.Prelude.{ℕ, ◌==◌, ◌&&◌, ◌||◌, not, Bool, fals
 use Rattle.std.specs.Char.{is_ascii_alphabetic, is_ascii_alphanumeric, is_ascii_lowercase, is_ascii_uppercase}
 use Rattle.std.specs.List.{list_all, slice_split}
 
--- what stands between the dashes
+-- what is between the dashes
 abbrev pub fragments : List ℕ → List (List ℕ)
 fragments text = slice_split (λ b. b == 45) text
 

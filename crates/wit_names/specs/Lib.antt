@@ -1,5 +1,5 @@
 pub mod Label
-pub mod Front
+pub mod Prefix
 pub mod Mangled
 pub mod Folded
 pub mod Setter

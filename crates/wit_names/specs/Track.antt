@@ -4,7 +4,7 @@ use Rattle.std.specs.Fmt.{decimal}
 use Rattle.std.specs.declared.alloc.Global.{Global}
 use Rattle.semver.specs.Identifiers.{marked}
 
--- major, minor and patch, the pre-release and the build, as `semver` tells them
+-- major, minor and patch, the pre-release and the build, as `semver` says them
 abbrev pub Parts : Type 0
 Parts = ℕ × ℕ × ℕ × List ℕ × List ℕ
 
@@ -28,13 +28,13 @@ release_track p = if p.0 == 0
 abbrev pub track_text : Parts → List ℕ
 track_text p = if is_release p then release_track p else core_before p (45 ∷ p.3)
 
--- the numbers behind the track of a release
+-- the numbers after the track of a release
 abbrev pub release_rest : Parts → List ℕ
 release_rest p = if p.0 == 0
     then (if p.1 == 0 then [] else 46 ∷ decimal p.2)
     else 46 ∷ (decimal p.1 ++ (46 ∷ decimal p.2))
 
--- the rest of the text: the numbers behind the track, then `+` and the build, if there is one
+-- the rest of the text: the numbers after the track, then `+` and the build, if there is one
 abbrev pub suffix_text : Parts → List ℕ
 suffix_text p = (if is_release p then release_rest p else []) ++ marked 43 p.4
 
@@ -47,13 +47,13 @@ unless_empty (b ∷ rest) = Some (b ∷ rest)
 abbrev pub suffix_of : Parts → Option (List ℕ)
 suffix_of p = unless_empty (suffix_text p)
 
--- the numbers of a release, 0 where they stand behind the track
+-- the numbers of a release, 0 where they come after the track
 abbrev pub release_numbers : Parts → ℕ × ℕ × ℕ
 release_numbers p = if p.0 == 0
     then (if p.1 == 0 then (p.0, p.1, p.2) else (p.0, p.1, 0))
     else (p.0, 0, 0)
 
--- the track version: no build, and in a release no number behind the track
+-- the track version: no build, and in a release no number after the track
 abbrev pub track_parts : Parts → Parts
 track_parts p = if is_release p
     then ((release_numbers p).0, (release_numbers p).1, (release_numbers p).2, [], [])

@@ -9,7 +9,7 @@ ghost use Rattle.std.specs.Hash as fed;
 ghost use Rattle.wit_names.specs.Folded.{folded_key, lower_case, single, single_if_bare, without_kind};
 ghost use Rattle.wit_names.specs.Mangled.{is_mangled};
 
-use crate::front::behind;
+use crate::prefix::rest_after;
 use std::alloc::{AllocError, Global};
 use std::cmp::Ordering;
 use std::hash::{Hash, Hasher};
@@ -18,22 +18,22 @@ use std::marker::Model;
 fn without_kind(name: &str) -> &str
     ensures { result.now ≡ without_kind name.now }
 {
-    match behind(name, "[method]") {
+    match rest_after(name, "[method]") {
         Some(rest) => rest,
-        None => match behind(name, "[static]") {
+        None => match rest_after(name, "[static]") {
             Some(rest) => rest,
             None => name,
         },
     }
 }
 
-/// What stands behind `[method]` or `[static]`, where a name has one of them in front.
-fn behind_kind(name: &str) -> Option<&str>
+/// What comes after `[method]` or `[static]`, where a name has one of them in front.
+fn after_kind(name: &str) -> Option<&str>
     ensures { IfSome result (λ rest. without_kind (lower_case name.now) ≡ lower_case rest.now) }
 {
-    match behind(name, "[method]") {
+    match rest_after(name, "[method]") {
         Some(rest) => Some(rest),
-        None => behind(name, "[static]"),
+        None => rest_after(name, "[static]"),
     }
 }
 
@@ -49,14 +49,14 @@ fn single(text: &str) -> &str
 fn single_if_bare(text: &str) -> &str
     ensures { result.now ≡ single_if_bare text.now }
 {
-    if behind(text, "[").is_some() {
+    if rest_after(text, "[").is_some() {
         text
     } else {
         single(text)
     }
 }
 
-/// A mangled name by its key, which tells it apart from the other names beside it.
+/// A mangled name by its key, which says it apart from the other names beside it.
 ///
 /// The key is the name in ASCII lower case without `[method]` or `[static]` in front;
 /// `[constructor]`, `[get]` and `[set]` stay. What is then `l.l` with no accessor in front is `l`.
@@ -96,12 +96,12 @@ fn bare(alloc: Global, lower: String) -> Result<Folded, AllocError>
 impl Folded {
     /// The folded name of a mangled name.
     ///
-    /// The error is want of memory.
+    /// The error is a failed allocation.
     pub fn new(alloc: Global, name: &str) -> Result<Folded, AllocError>
         requires { IsTrue (is_mangled name.now) }
         ensures { IfOk result (λ f. f ≡ folded_key name.now) }
     {
-        if let Some(rest) = behind_kind(name) {
+        if let Some(rest) = after_kind(name) {
             return bare(alloc, rest.to_ascii_lowercase(alloc)?);
         }
         let lower = name.to_ascii_lowercase(alloc)?;

@@ -8,7 +8,7 @@ use std::alloc::{AllocError, Global};
 
 /// Whether two mangled names are one once folded: exactly if their keys are equal.
 ///
-/// The error is want of memory.
+/// The error is a failed allocation.
 pub fn equal_by_key(alloc: Global, first: &str, second: &str) -> Result<bool, AllocError>
     requires first { IsTrue (is_mangled first.now) }
     requires second { IsTrue (is_mangled second.now) }

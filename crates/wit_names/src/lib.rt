@@ -4,10 +4,10 @@
 #![tactic(auto)]
 
 pub mod folded;
-pub mod front;
 pub mod label;
 pub mod laws;
 pub mod mangled;
+pub mod prefix;
 pub mod setter;
 pub mod track;
 

@@ -1,9 +1,9 @@
 //! Mangled names.
 ghost use Rattle.std.specs.Prelude.{◌≡◌, ◌↔◌, IsTrue};
-ghost use Rattle.wit_names.specs.Front.{is_behind};
+ghost use Rattle.wit_names.specs.Prefix.{is_after};
 ghost use Rattle.wit_names.specs.Mangled.{is_accessed, is_dotted, is_mangled};
 
-use crate::front::{behind, is_label, is_label_behind};
+use crate::prefix::{is_label, is_label_after, rest_after};
 
 /// Whether the text is two labels with a dot between them.
 pub(crate) fn is_dotted(text: &str) -> bool
@@ -15,11 +15,11 @@ pub(crate) fn is_dotted(text: &str) -> bool
     }
 }
 
-/// Whether the text has the front, and behind it stand two labels with a dot between them.
-pub(crate) fn is_dotted_behind(text: &str, front: &str) -> bool
-    ensures { result ≡ is_behind is_dotted front.now text.now }
+/// Whether the text has the prefix, and after it are two labels with a dot between them.
+pub(crate) fn is_dotted_after(text: &str, prefix: &str) -> bool
+    ensures { result ≡ is_after is_dotted prefix.now text.now }
 {
-    match behind(text, front) {
+    match rest_after(text, prefix) {
         Some(rest) => is_dotted(rest),
         None => false,
     }
@@ -28,13 +28,13 @@ pub(crate) fn is_dotted_behind(text: &str, front: &str) -> bool
 fn is_accessed_dotted(text: &str) -> bool
     ensures { result ≡ is_accessed is_dotted text.now }
 {
-    is_dotted(text) || is_dotted_behind(text, "[get]") || is_dotted_behind(text, "[set]")
+    is_dotted(text) || is_dotted_after(text, "[get]") || is_dotted_after(text, "[set]")
 }
 
-fn is_accessed_dotted_behind(text: &str, front: &str) -> bool
-    ensures { result ≡ is_behind (is_accessed is_dotted) front.now text.now }
+fn is_accessed_dotted_after(text: &str, prefix: &str) -> bool
+    ensures { result ≡ is_after (is_accessed is_dotted) prefix.now text.now }
 {
-    match behind(text, front) {
+    match rest_after(text, prefix) {
         Some(rest) => is_accessed_dotted(rest),
         None => false,
     }
@@ -42,15 +42,15 @@ fn is_accessed_dotted_behind(text: &str, front: &str) -> bool
 
 /// Whether the text is a mangled name.
 ///
-/// These are `f`, `[get]f`, `[set]f`, `[constructor]r`, and behind `[method]` or `[static]` each
+/// These are `f`, `[get]f`, `[set]f`, `[constructor]r`, and after `[method]` or `[static]` each
 /// of `r.f`, `[get]r.f` and `[set]r.f`, where `f` and `r` are labels.
 pub fn is_mangled(name: &str) -> bool
     ensures { IsTrue result ↔ IsTrue (is_mangled name.now) }
 {
     is_label(name)
-        || is_label_behind(name, "[get]")
-        || is_label_behind(name, "[set]")
-        || is_label_behind(name, "[constructor]")
-        || is_accessed_dotted_behind(name, "[method]")
-        || is_accessed_dotted_behind(name, "[static]")
+        || is_label_after(name, "[get]")
+        || is_label_after(name, "[set]")
+        || is_label_after(name, "[constructor]")
+        || is_accessed_dotted_after(name, "[method]")
+        || is_accessed_dotted_after(name, "[static]")
 }

@@ -50,9 +50,9 @@ fn unless_empty(text: String) -> Option<String>
 
 /// The compatibility track of a version, and the rest of its text, None where nothing is left.
 ///
-/// The track of a pre-release is the text in front of the `+` of its build. That of any other
+/// The track of a pre-release is the text before the `+` of its build. That of any other
 /// version is `major` if it is not 0, else `0.minor` if that minor is not 0, else `0.0.patch`.
-/// The error is want of memory.
+/// The error is a failed allocation.
 pub fn split_canonical(
     alloc: Global,
     version: &Version,

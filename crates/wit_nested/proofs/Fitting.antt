@@ -32,7 +32,7 @@ fit_all ns ps f each b =
     let made = zip_at IsMadeByNested ns ps each at.0 b.n at.1 in
     fit_nested b.n made.0 f made.1 b.broken
 
--- nor with a source in which they are nested, where its file may stand behind files
+-- nor with a source in which they are nested, where its file may be after files
 pub not_unfit : (files : List PackageFile) (s rest : SourceFile) (ns : List NestedPackage) (ps : List UnresolvedPackage) → ns ≡ s.nested.items → AllZip IsMadeByNested ns ps → rest.file ≡ s.file →
     ((f : Fault) → IsStray files rest f → ⊥) → (f : Fault) → IsUnfit files s f → ⊥
 not_unfit files s rest ns ps same each is fits f (Nested b) = fit_all ns ps f each (subst (λ ms. IsBrokenAmong ms f) (sym same) b)

@@ -1,5 +1,5 @@
 pub mod Fitting
-pub mod Fronts
+pub mod Prefixes
 pub mod Joining
 pub mod Making
 pub mod Names

@@ -19,7 +19,7 @@ use Rattle.wit_parser.specs.Stray.{IsNesting, IsStray}
 use Rattle.wit_nested.specs.Nested.{GrowByNested, IsBrokenAmong, IsBrokenNested, IsMadeByNested, IsUnfit, file_of}
 use Rattle.wit_nested.specs.Nested.IsBrokenNested.{Inner, Alone}
 use Rattle.wit_nested.specs.Nested.IsUnfit.{Nested, OtherPackage, DocumentedTwice}
-use Rattle.wit_nested.specs.Between.{IsSourceOf}
+use Rattle.wit_nested.specs.NestedSources.{IsSourceOf}
 use Rattle.wit_nested.proofs.Names.{named_among, none_among, none_nested}
 
 -- one more of two lists
@@ -30,8 +30,8 @@ zip_more R (a ∷ xs) [] x y all r = absurd all
 zip_more R (a ∷ xs) (b ∷ ys) x y all r = (all.0, zip_more R xs ys x y all.1 r)
 
 -- the next of a list is an element of it
-pub next_among : {A : Type 0} (front rest all : List A) (x : A) → front ++ x ∷ rest ≡ all → Contains all x
-next_among front rest all x e = subst (λ xs. Contains xs x) (append_assoc front (x ∷ []) rest ∙ e) (Contains-append_left (front ++ x ∷ []) rest x (Contains-push front x))
+pub next_among : {A : Type 0} (prefix rest all : List A) (x : A) → prefix ++ x ∷ rest ≡ all → Contains all x
+next_among prefix rest all x e = subst (λ xs. Contains xs x) (append_assoc prefix (x ∷ []) rest ∙ e) (Contains-append_left (prefix ++ x ∷ []) rest x (Contains-push prefix x))
 
 -- the first source is stray only where a package is nested in it
 inner_of : (n : NestedPackage) (s : SourceFile) (f : Fault) → IsSourceOf n s → IsStray [] s f → IsBrokenNested n f
@@ -47,26 +47,26 @@ inner_broken n files s e none is h = refused_weaker (IsStray files s) (IsBrokenN
 
 -- the file of one
 alone : (n : NestedPackage) (s : SourceFile) (old files : List PackageFile) → old ≡ [] → IsSourceOf n s → files ≡ old ++ s.file ∷ [] → files ≡ file_of n ∷ []
-alone n s old files none is grown = grown ∙ (ap (λ fs. fs ++ s.file ∷ []) none ∙ ap (λ file. file ∷ []) is.file)
+alone n s old files none is extended = extended ∙ (ap (λ fs. fs ++ s.file ∷ []) none ∙ ap (λ file. file ∷ []) is.file)
 
 -- the package of one
 pub one_made : (n : NestedPackage) (s : SourceFile) (old files : List PackageFile) (r : Result UnresolvedPackage ParseError) → old ≡ [] → IsSourceOf n s → files ≡ old ++ s.file ∷ [] →
     ((f : Fault) → IsStray old s f → ⊥) → OnOk r (IsLegal files) → IfOk r (IsPackage files) → IfOk r (IsMadeByNested n)
-one_made n s old files (Ok p) none is grown fits legal whole = record {
+one_made n s old files (Ok p) none is extended fits legal whole = record {
   flat = sym is.inner ∙ ap (map (λ (i : NestedPackage). i.name)) (none_nested s.nested.items (λ f nesting. fits f (inr (inr nesting))));
-  made = subst (λ fs. IsMadeOf fs p) (alone n s old files none is grown) (record { legal = legal; whole = whole });
+  made = subst (λ fs. IsMadeOf fs p) (alone n s old files none is extended) (record { legal = legal; whole = whole });
 }
-one_made n s old files (Err e) none is grown fits legal whole = tt
+one_made n s old files (Err e) none is extended fits legal whole = tt
 
 -- one that breaks a rule
 pub one_broken : (n : NestedPackage) (s : SourceFile) (old files : List PackageFile) (r : Result UnresolvedPackage ParseError) → old ≡ [] → IsSourceOf n s → files ≡ old ++ s.file ∷ [] →
     IfErr r (Refused (IsBroken files)) → IfErr r (Refused (IsBrokenNested n))
-one_broken n s old files (Ok p) none is grown h = tt
-one_broken n s old files (Err e) none is grown h = refused_weaker (IsBroken files) (IsBrokenNested n) e (λ f broken. Alone (subst (λ fs. IsBroken fs f) (alone n s old files none is grown) broken)) h
+one_broken n s old files (Ok p) none is extended h = tt
+one_broken n s old files (Err e) none is extended h = refused_weaker (IsBroken files) (IsBrokenNested n) e (λ f broken. Alone (subst (λ fs. IsBroken fs f) (alone n s old files none is extended) broken)) h
 
 -- one of some is broken
-pub broken_at : (front rest all : List NestedPackage) (n : NestedPackage) (e : ParseError) → front ++ n ∷ rest ≡ all → Refused (IsBrokenNested n) e → Refused (IsBrokenAmong all) e
-broken_at front rest all n e same h = refused_weaker (IsBrokenNested n) (IsBrokenAmong all) e (λ f broken. record { n = n; among = next_among front rest all n same; broken = broken }) h
+pub broken_at : (prefix rest all : List NestedPackage) (n : NestedPackage) (e : ParseError) → prefix ++ n ∷ rest ≡ all → Refused (IsBrokenNested n) e → Refused (IsBrokenAmong all) e
+broken_at prefix rest all n e same h = refused_weaker (IsBrokenNested n) (IsBrokenAmong all) e (λ f broken. record { n = n; among = next_among prefix rest all n same; broken = broken }) h
 
 -- a source in which a broken one is nested
 pub among_unfit : (files : List PackageFile) (s : SourceFile) (ns : List NestedPackage) (e : ParseError) → ns ≡ s.nested.items → Refused (IsBrokenAmong ns) e → Refused (IsUnfit files s) e
@@ -80,14 +80,14 @@ rest_stray files s ns f none stray = elim stray [
   | inr (inr nesting) ↦ absurd (none_among nesting.inner (subst (λ ms. Contains ms nesting.inner) none nesting.among))
 ]
 
--- a source whose file cannot stand behind files
+-- a source whose file cannot be after files
 pub rest_unfit : (files : List PackageFile) (s rest : SourceFile) (e : ParseError) → rest.file ≡ s.file → rest.nested.items ≡ [] → Refused (IsStray files rest) e → Refused (IsUnfit files s) e
 rest_unfit files s rest e same none h =
     refused_weaker (IsStray files rest) (IsUnfit files s) e (λ f stray. rest_stray files s rest.nested.items f none (subst (λ file. IsOtherPackage files file f ⊎ (IsDocumentedTwice files file f ⊎ IsNesting rest.nested.items f)) same stray)) h
 
--- the packages that are nested in a source stand behind packages
-pub nested_grown : (ns ms : List NestedPackage) (made old new : List UnresolvedPackage) → ms ≡ ns → AllZip IsMadeByNested ms made → new ≡ old ++ made → GrowByNested ns old new
-nested_grown ns ms made old new same each grown = record { made = made; each = subst (λ ks. AllZip IsMadeByNested ks made) same each; grown = grown }
+-- the packages that are nested in a source come after packages
+pub nested_extended : (ns ms : List NestedPackage) (made old new : List UnresolvedPackage) → ms ≡ ns → AllZip IsMadeByNested ms made → new ≡ old ++ made → GrowByNested ns old new
+nested_extended ns ms made old new same each extended = record { made = made; each = subst (λ ks. AllZip IsMadeByNested ks made) same each; extended = extended }
 
 -- a name more
 pub name_more : (nested : List NestedPackage) (n : NestedPackage) (names : List Header) → map (λ (i : NestedPackage). i.name) nested ≡ names → map (λ (i : NestedPackage). i.name) (nested ++ n ∷ []) ≡ names ++ n.name ∷ []

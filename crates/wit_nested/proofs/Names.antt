@@ -19,7 +19,7 @@ pub none_nested : (ns : List NestedPackage) → ((f : Fault) → IsNesting ns f 
 none_nested [] none = refl
 none_nested (n ∷ ns) none = absurd (none (fault 3 n.name.span) (record { inner = n; among = contains_at (n ∷ ns) 0 n refl; is = refl }))
 
--- the name of a package that is nested stands among the names
+-- the name of a package that is nested is among the names
 pub named_among : (n : NestedPackage) (ns : List NestedPackage) (f : Fault) → map (λ (i : NestedPackage). i.name) ns ≡ n.nested.items → IsNesting ns f → IsInner n f
 named_among n ns f same nesting =
     let at = at_contains ns nesting.inner nesting.among in

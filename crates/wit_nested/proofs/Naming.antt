@@ -1,4 +1,4 @@
--- Names that are met one by one, and which of them is met again.
+-- Names that occur one by one, and which of them occurs again.
 use Rattle.std.proofs.Common.{◌≡◌, ℕ, ◌<◌, ◌+◌, suc, Bool, true, false, not, List, [], ◌∷◌, ◌++◌, length, take, get_or, map, Some, Contains, inl, inr, sym, ap, subst, ◌∙◌, true≢false}
 use Rattle.std.specs.Prelude.{MatchBool}
 use Rattle.std.specs.List.{list_any}
@@ -13,7 +13,7 @@ use Rattle.wit_syntax.proofs.Found.{contains_at, at_contains}
 use Rattle.wit_syntax.proofs.Lists.{map_at}
 use Rattle.wit_syntax.proofs.Repeated.{differ_none, differ_more}
 use Rattle.wit_nested.specs.Names.{package_names}
-use Rattle.wit_nested.proofs.Fronts.{front_more}
+use Rattle.wit_nested.proofs.Prefixes.{prefix_more}
 use Rattle.wit_nested.proofs.Names.{none_among}
 
 -- keys are compared by what they lead to
@@ -36,34 +36,34 @@ pub turned : (a b : Bool) → a ≡ not b → b ≡ not a
 turned a true is = sym (ap not is)
 turned a false is = sym (ap not is)
 
--- a key is put behind these, where it is none of them
+-- a key is put after these, where it is none of them
 pub inserted : {K N : Type 0} (now : K → N) (eq : K → K → Bool) → ((x y : K) → eq x y ≡ true → now x ≡ now y) → ((x y : K) → now x ≡ now y → eq x y ≡ true) → (ks keys : List K) (k : K) (new : Bool) →
     new ≡ not (list_any (eq k) ks) → keys ≡ insert_key eq ks k → MatchBool new ((map now keys ≡ map now ks ++ now k ∷ []) × (Contains (map now ks) (now k) → ⊥)) (Contains (map now ks) (now k))
-inserted now eq equal same ks keys k true told is =
-    let none : list_any (eq k) ks ≡ false = not-true (list_any (eq k) ks) (sym told) in
+inserted now eq equal same ks keys k true as_stated is =
+    let none : list_any (eq k) ks ≡ false = not-true (list_any (eq k) ks) (sym as_stated) in
     (ap (map now) (is ∙ cond-false (list_any (eq k) ks) ks (ks ++ k ∷ []) none) ∙ map-append now ks (k ∷ []), λ among. true≢false (sym (any_among now eq same ks k among) ∙ none))
-inserted now eq equal same ks keys k false told is = among_any now eq equal ks k (not-false (list_any (eq k) ks) (sym told))
+inserted now eq equal same ks keys k false as_stated is = among_any now eq equal ks k (not-false (list_any (eq k) ks) (sym as_stated))
 
 -- these are the names of the main package and of the first nested ones, and no two of them are one
-pub record AreMet (main : UnresolvedPackage) (nested : List UnresolvedPackage) (i : ℕ) (names : List PackageName) : Type 0 where
+pub record AreSeen (main : UnresolvedPackage) (nested : List UnresolvedPackage) (i : ℕ) (names : List PackageName) : Type 0 where
   pub are : names ≡ package_names (main ∷ take i nested)
   pub apart : AllDiffer names
 
 -- the main package alone
-pub main_met : (main : UnresolvedPackage) (nested : List UnresolvedPackage) (old new : List PackageName) (fresh : Bool) → old ≡ [] → MatchBool fresh ((new ≡ old ++ main.name ∷ []) × (Contains old main.name → ⊥)) (Contains old main.name) →
-    AreMet main nested 0 new
-main_met main nested old new true none h =
+pub main_seen : (main : UnresolvedPackage) (nested : List UnresolvedPackage) (old new : List PackageName) (fresh : Bool) → old ≡ [] → MatchBool fresh ((new ≡ old ++ main.name ∷ []) × (Contains old main.name → ⊥)) (Contains old main.name) →
+    AreSeen main nested 0 new
+main_seen main nested old new true none h =
     let one : new ≡ main.name ∷ [] = h.0 ∙ ap (λ ns. ns ++ main.name ∷ []) none in
     record {
       are = one;
       apart = subst AllDiffer (sym h.0) (differ_more old main.name (subst AllDiffer (sym none) differ_none) (λ i at. h.1 (contains_at old i main.name at)));
     }
-main_met main nested old new false none h = absurd (none_among main.name (subst (λ ns. Contains ns main.name) none h))
+main_seen main nested old new false none h = absurd (none_among main.name (subst (λ ns. Contains ns main.name) none h))
 
 -- a nested one more
-pub more_met : (main : UnresolvedPackage) (nested : List UnresolvedPackage) (i : ℕ) (p : UnresolvedPackage) (old new : List PackageName) → i < length nested → p ≡ get_or nested i p → AreMet main nested i old →
-    (new ≡ old ++ p.name ∷ []) × (Contains old p.name → ⊥) → AreMet main nested (i + 1) new
-more_met main nested i p old new lt is met h = record {
-  are = h.0 ∙ (ap (λ ns. ns ++ p.name ∷ []) met.are ∙ ap (λ ns. main.name ∷ ns) (sym (front_more (λ (q : UnresolvedPackage). q.name) nested i p lt is)));
-  apart = subst AllDiffer (sym h.0) (differ_more old p.name met.apart (λ j at. h.1 (contains_at old j p.name at)));
+pub more_seen : (main : UnresolvedPackage) (nested : List UnresolvedPackage) (i : ℕ) (p : UnresolvedPackage) (old new : List PackageName) → i < length nested → p ≡ get_or nested i p → AreSeen main nested i old →
+    (new ≡ old ++ p.name ∷ []) × (Contains old p.name → ⊥) → AreSeen main nested (i + 1) new
+more_seen main nested i p old new lt is seen h = record {
+  are = h.0 ∙ (ap (λ ns. ns ++ p.name ∷ []) seen.are ∙ ap (λ ns. main.name ∷ ns) (sym (prefix_more (λ (q : UnresolvedPackage). q.name) nested i p lt is)));
+  apart = subst AllDiffer (sym h.0) (differ_more old p.name seen.apart (λ j at. h.1 (contains_at old j p.name at)));
 }

@@ -19,7 +19,7 @@ AreNamedApart main nested = AllDiffer (package_names (main ∷ nested))
 -- a nested package has the name of the main one or of a nested one before it, and those before it are named apart
 pub record IsNamedAgain (main : UnresolvedPackage) (nested : List UnresolvedPackage) (later : UnresolvedPackage) : Type 0 where
   pub place : ℕ
-  pub stands : slice_get nested place ≡ Some later
+  pub present : slice_get nested place ≡ Some later
   pub again : Contains (package_names (main ∷ take place nested)) later.name
   pub apart : AreNamedApart main (take place nested)
 

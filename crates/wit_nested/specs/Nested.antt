@@ -36,15 +36,15 @@ pub record IsBrokenAmong (ns : List NestedPackage) (f : Fault) : Type 0 where
   pub among : Contains ns n
   pub broken : IsBrokenNested n f
 
--- what is wrong with a source behind files: a package that is nested in it is broken, or its file's header names another package than the last one
+-- what is wrong with a source after files: a package that is nested in it is broken, or its file's header names another package than the last one
 -- before it, or has docs, as one before it has
 pub data IsUnfit (files : List PackageFile) (s : SourceFile) (f : Fault) : Type 0 where
   Nested : IsBrokenAmong s.nested.items f → IsUnfit files s f
   OtherPackage : IsOtherPackage files s.file f → IsUnfit files s f
   DocumentedTwice : IsDocumentedTwice files s.file f → IsUnfit files s f
 
--- the packages that nested ones make stand behind packages, one for each, in their order
+-- the packages that nested ones make come after packages, one for each, in their order
 pub record GrowByNested (ns : List NestedPackage) (old new : List UnresolvedPackage) : Type 0 where
   pub made : List UnresolvedPackage
   pub each : AllZip IsMadeByNested ns made
-  pub grown : new ≡ old ++ made
+  pub extended : new ≡ old ++ made

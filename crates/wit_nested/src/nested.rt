@@ -3,7 +3,7 @@ ghost use Rattle.std.specs.Prelude.{◌≡◌, [], IfErr, IfOk, map};
 ghost use Rattle.std.specs.List.{AllZip};
 ghost use Rattle.wit_syntax.specs.Broken.{Refused};
 ghost use Rattle.wit_nested.specs.Nested.{IsBrokenAmong, IsBrokenNested, IsMadeByNested};
-ghost use Rattle.wit_nested.specs.Between.{IsSourceOf};
+ghost use Rattle.wit_nested.specs.NestedSources.{IsSourceOf};
 
 use std::alloc::{AllocError, Global};
 use wit_model::UnresolvedPackage;

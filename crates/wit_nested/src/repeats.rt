@@ -6,13 +6,13 @@ ghost use Rattle.wit_syntax.specs.Broken.{Refused};
 ghost use Rattle.wit_nested.specs.Names.{AreNamedApart, IsNamedAgain, IsRepeatedPackage};
 
 use std::alloc::{AllocError, Global};
+use wit_maps::Table;
 use wit_model::UnresolvedPackage;
 use wit_package_names::PackageName;
 use wit_refusals::refusal::refuse_in;
 use wit_tree::ParseResult;
-use wit_maps::Table;
 
-/// Puts a name behind these, where it is none of them; tells whether it was new.
+/// Puts a name after these, where it is none of them; says whether it was new.
 fn insert<'p>(
     names: &mut Table<&'p PackageName, ()>,
     name: &'p PackageName,

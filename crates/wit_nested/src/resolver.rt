@@ -34,7 +34,7 @@ impl<'a> GroupResolver<'a> {
         }
     }
 
-    /// Adds the file of a source behind the others. Each package that is nested in the source, in order,
+    /// Adds the file of a source after the others. Each package that is nested in the source, in order,
     /// is taken as a file of its own, with its name as the header, and is resolved by itself.
     ///
     /// # Errors
@@ -42,8 +42,8 @@ impl<'a> GroupResolver<'a> {
     /// A refusal leaves files and packages as they were.
     ///
     /// - 3, at its name: a package is nested in a nested one.
-    /// - 4 to 44: a nested package breaks a rule by itself, as `Resolver::resolve` tells.
-    /// - 1, 2: the source's file cannot stand behind the files before it, as `Resolver::push` tells.
+    /// - 4 to 44: a nested package breaks a rule by itself, as `Resolver::resolve` says.
+    /// - 1, 2: the source's file cannot be after the files before it, as `Resolver::push` says.
     /// - 45: a growth was refused.
     pub fn push(&mut self, alloc: Global, source: SourceFile<'a>) -> ParseResult<()>
         ensures files { OnOk result (self.new.main.files.items ≡ self.old.main.files.items ++ source.entry.file ∷ []) }
@@ -71,8 +71,8 @@ impl<'a> GroupResolver<'a> {
     ///
     /// # Errors
     ///
-    /// - 4 to 45, as `Resolver::resolve` tells, of the main package: all others are resolved already.
-    /// - 53, at its name, behind all others: a nested package has the name of the main one, or of a nested
+    /// - 4 to 45, as `Resolver::resolve` says, of the main package: all others are resolved already.
+    /// - 53, at its name, after all others: a nested package has the name of the main one, or of a nested
     ///   one before it. Versions count.
     pub fn resolve(self, alloc: Global) -> ParseResult<(UnresolvedPackage, Vec<UnresolvedPackage>)>
         ensures made { IfOk result (λ made. IsMadeOf self.entry.main.files.items made.0) }

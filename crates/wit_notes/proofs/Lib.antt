@@ -1,3 +1,3 @@
 pub mod Texts
 pub mod Trimmed
-pub mod Plain
+pub mod PlainComments

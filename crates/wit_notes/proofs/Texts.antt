@@ -12,19 +12,19 @@ use Rattle.std.proofs.lemmas.List.{take-append-drop}
 use Rattle.std.proofs.Math.Seq.{drop-length}
 use denote.Ref.{Bor}
 use Rattle.memchr.specs.Find.{IsFirstByte, is_byte}
-use Rattle.wit_names.specs.Front.{behind}
+use Rattle.wit_names.specs.Prefix.{rest_after}
 use Rattle.wit_notes.specs.Indents.{written_indent}
 use Rattle.wit_syntax.proofs.Lists.{map_map}
 use Rattle.wit_syntax.proofs.Names.{name_equal}
-use Rattle.wit_syntax.specs.Docs.{behind_slashes, behind_spaces, docs_text, ended, ended_lines, indent, is_written, joined, said, unmarked, without_end, without_last_lines}
+use Rattle.wit_syntax.specs.Docs.{after_slashes, after_spaces, docs_text, ended, ended_lines, indent, is_written, joined, said, unmarked, without_end, without_last_lines}
 
 -- a text whose end was taken off
 pub without_end-stripped : (n s : List ℕ) (x : Bor (List ℕ)) → StripsSuffix (FindsTextSuffix n) s x.now → x.now ≡ without_end n s
 without_end-stripped n s x h =
     let cut : length s - h.0 ≡ length s - length n = ap (λ k. length s - k) h.1.0 in
     let at : x.now ≡ take (length s - length n) s = h.2 ∙ ap (λ k. take k s) cut in
-    let front : IsCharBoundary s (length s - h.0) = rw cut h.1.2 in
-    let e : true ≡ ends_with nat_eq s n = ends_text true n s (h.0, h.1, omega (arith, h.3), front) in
+    let prefix : IsCharBoundary s (length s - h.0) = rw cut h.1.2 in
+    let e : true ≡ ends_with nat_eq s n = ends_text true n s (h.0, h.1, omega (arith, h.3), prefix) in
     rw (← e) at
 
 pub without_end-kept : (n s : List ℕ) → FindsTextSuffix n s None → s ≡ without_end n s
@@ -32,29 +32,29 @@ without_end-kept n s h =
     let e : false ≡ ends_with nat_eq s n = ends_text false n s h in
     rw (← e) refl
 
--- one slash, and then all, taken off the front
-slashes-one : (m : List ℕ) (n : ℕ) → HasCharAt 47 m 0 n → behind_slashes m ≡ behind_slashes (drop n m)
-slashes-one m n h = let e : m ≡ 47 ∷ drop n m = drop_at_char 47 m 0 n h (lit< tt) in ap behind_slashes e
+-- one slash, and then all, taken off the prefix
+slashes-one : (m : List ℕ) (n : ℕ) → HasCharAt 47 m 0 n → after_slashes m ≡ after_slashes (drop n m)
+slashes-one m n h = let e : m ≡ 47 ∷ drop n m = drop_at_char 47 m 0 n h (lit< tt) in ap after_slashes e
 
-slashes-cut : (s r : List ℕ) (ns : List ℕ) → CutsPrefixes (FindsCharPrefix 47) s ns r → behind_slashes s ≡ behind_slashes r
-slashes-cut s r [] h = ap behind_slashes (sym h)
-slashes-cut s r (n ∷ ns) h = slashes-cut s h.0 ns h.1 ∙ slashes-one h.0 n h.2 ∙ ap behind_slashes (sym h.3)
+slashes-cut : (s r : List ℕ) (ns : List ℕ) → CutsPrefixes (FindsCharPrefix 47) s ns r → after_slashes s ≡ after_slashes r
+slashes-cut s r [] h = ap after_slashes (sym h)
+slashes-cut s r (n ∷ ns) h = slashes-cut s h.0 ns h.1 ∙ slashes-one h.0 n h.2 ∙ ap after_slashes (sym h.3)
 
-slashes-none : (r : List ℕ) → ((rest : List ℕ) → r ≢ 47 ∷ rest) → behind_slashes r ≡ r
+slashes-none : (r : List ℕ) → ((rest : List ℕ) → r ≢ 47 ∷ rest) → after_slashes r ≡ r
 slashes-none [] h = refl
 slashes-none (b ∷ r) h = elim (cases_Bool (b == 47)) [
   | inl slash ↦ absurd (h r (ap (λ c. c ∷ r) (eqb-true b 47 slash)))
   | inr other ↦ rw other refl
 ]
 
-slashes-done : (r : List ℕ) (o : Option ℕ) → FindsCharPrefix 47 r o → IfSome o (λ n. n ≡ 0) → behind_slashes r ≡ r
+slashes-done : (r : List ℕ) (o : Option ℕ) → FindsCharPrefix 47 r o → IfSome o (λ n. n ≡ 0) → after_slashes r ≡ r
 slashes-done r None h z = slashes-none r (λ rest e. h rest (e ∙ sym (ap (λ x. x ++ rest) (encode_ascii 47 (lit< tt)))))
 slashes-done r (Some n) h z = absurd (let ends = h.ends in omega arith)
 
-pub slashes-trimmed : (s r : List ℕ) → IsTrimStartMatches (FindsCharPrefix 47) s r → r ≡ behind_slashes s
+pub slashes-trimmed : (s r : List ℕ) → IsTrimStartMatches (FindsCharPrefix 47) s r → r ≡ after_slashes s
 slashes-trimmed s r h = sym (slashes-cut s r h.0.0 h.0.1 ∙ slashes-done r h.1.0 h.1.1 h.1.2)
 
-pub spaces-none : (n : ℕ) (text : List ℕ) → 0 < n → ((rest : List ℕ) → text ≢ 32 ∷ rest) → behind_spaces n text ≡ None
+pub spaces-none : (n : ℕ) (text : List ℕ) → 0 < n → ((rest : List ℕ) → text ≢ 32 ∷ rest) → after_spaces n text ≡ None
 spaces-none zero text lt h = absurd (omega arith)
 spaces-none (suc n) [] lt h = refl
 spaces-none (suc n) (b ∷ text) lt h = elim (cases_Bool (b == 32)) [
@@ -63,17 +63,17 @@ spaces-none (suc n) (b ∷ text) lt h = elim (cases_Bool (b == 32)) [
 ]
 
 -- LFs at the end
-pub last_lines-one : (front : List ℕ) → without_last_lines (front ++ 10 ∷ []) ≡ without_last_lines front
+pub last_lines-one : (prefix : List ℕ) → without_last_lines (prefix ++ 10 ∷ []) ≡ without_last_lines prefix
 last_lines-one [] = refl
-last_lines-one (b ∷ front) = rw (last_lines-one front) refl
+last_lines-one (b ∷ prefix) = rw (last_lines-one prefix) refl
 
-pub last_lines-none : (text : List ℕ) → ((front : List ℕ) → text ≢ front ++ 10 ∷ []) → without_last_lines text ≡ text
+pub last_lines-none : (text : List ℕ) → ((prefix : List ℕ) → text ≢ prefix ++ 10 ∷ []) → without_last_lines text ≡ text
 last_lines-none [] h = refl
 last_lines-none (b ∷ []) h = elim (cases_Bool (b == 10)) [
   | inl end ↦ absurd (h [] (ap (λ c. c ∷ []) (eqb-true b 10 end)))
   | inr other ↦ rw other refl
 ]
-last_lines-none (b ∷ c ∷ text) h = kept b c text (without_last_lines (c ∷ text)) (last_lines-none (c ∷ text) (λ front e. h (b ∷ front) (ap (λ t. b ∷ t) e)))
+last_lines-none (b ∷ c ∷ text) h = kept b c text (without_last_lines (c ∷ text)) (last_lines-none (c ∷ text) (λ prefix e. h (b ∷ prefix) (ap (λ t. b ∷ t) e)))
   where
     kept : (b c : ℕ) (text found : List ℕ) → found ≡ c ∷ text → (if b == 10 && length found == 0 then [] else b ∷ found) ≡ b ∷ c ∷ text
     kept b c text found e = elim (cases_Bool (b == 10)) [
@@ -92,7 +92,7 @@ last_lines-cut s r [] h = ap without_last_lines (sym h)
 last_lines-cut s r (n ∷ ns) h = last_lines-cut s h.0 ns h.1 ∙ last_lines-cut-one h.0 n h.2.1 ∙ ap without_last_lines (sym h.3)
 
 last_lines-done : (r : List ℕ) (o : Option ℕ) → FindsCharSuffix 10 r o → IfSome o (λ n. n ≡ 0) → without_last_lines r ≡ r
-last_lines-done r None h z = last_lines-none r (λ front e. h front (e ∙ sym (ap (λ x. front ++ x) (encode_ascii 10 (lit< tt)))))
+last_lines-done r None h z = last_lines-none r (λ prefix e. h prefix (e ∙ sym (ap (λ x. prefix ++ x) (encode_ascii 10 (lit< tt)))))
 last_lines-done r (Some n) h z = absurd (let ends = h.1.ends in let f : ⊥ = omega arith in f)
 
 pub last_lines-trimmed : (s r : List ℕ) → IsTrimEndMatches (FindsCharSuffix 10) s r → r ≡ without_last_lines s
@@ -122,21 +122,21 @@ pub lines-many : (text : List ℕ) (found : Option ℕ) → IsFirstByte (is_byte
 lines-many text None h some = absurd (let f : ⊥ = cc in f)
 lines-many text (Some place) h some = ne_eqb (length text) 0 (λ z. (let high = h.0.high in let f : ⊥ = omega arith in f))
 
--- the text behind a front stands behind it
-behind-some : (front text rest : List ℕ) → behind front text ≡ Some rest → text ≡ front ++ rest
-behind-some front text rest h = by (starts_with nat_eq text front) refl
+-- the text after a prefix comes after it
+rest_after-some : (prefix text rest : List ℕ) → rest_after prefix text ≡ Some rest → text ≡ prefix ++ rest
+rest_after-some prefix text rest h = by (starts_with nat_eq text prefix) refl
   where
-    by : (b : Bool) → starts_with nat_eq text front ≡ b → text ≡ front ++ rest
+    by : (b : Bool) → starts_with nat_eq text prefix ≡ b → text ≡ prefix ++ rest
     by true e =
-        let some : Some (drop (length front) text) ≡ Some rest = rw e at h in
-        let is : drop (length front) text ≡ rest = cc in
-        let starts : front ≡ take (length front) text = name_equal front (take (length front) text) e in
-        sym (take-append-drop (length front) text) ∙ ap (λ t. t ++ drop (length front) text) (sym starts) ∙ ap (λ t. front ++ t) is
+        let some : Some (drop (length prefix) text) ≡ Some rest = rw e at h in
+        let is : drop (length prefix) text ≡ rest = cc in
+        let starts : prefix ≡ take (length prefix) text = name_equal prefix (take (length prefix) text) e in
+        sym (take-append-drop (length prefix) text) ∙ ap (λ t. t ++ drop (length prefix) text) (sym starts) ∙ ap (λ t. prefix ++ t) is
     by false e = absurd (let wrong : None ≡ Some rest = rw e at h in let f : ⊥ = cc in f)
 
 -- a comment that begins with three slashes has no other mark
-pub unmarked-slashes : (comment rest : List ℕ) → behind (codes "///") comment ≡ Some rest → behind_slashes rest ≡ unmarked comment
-unmarked-slashes comment rest h = sym (ap unmarked (behind-some (codes "///") comment rest h))
+pub unmarked-slashes : (comment rest : List ℕ) → rest_after (codes "///") comment ≡ Some rest → after_slashes rest ≡ unmarked comment
+unmarked-slashes comment rest h = sym (ap unmarked (rest_after-some (codes "///") comment rest h))
 
 -- the indents of what lent comments say
 pub indents-found : (comments : List (Bor (List ℕ))) → filter_map (λ (m : Bor (List ℕ)). written_indent (said m.now)) comments ≡ map indent (filter is_written (map (λ (m : Bor (List ℕ)). said m.now) comments))

@@ -40,11 +40,11 @@ chars-sign : (b : ℕ) → b < 128 → chars (b ∷ []) ≡ b ∷ []
 unfolding chars
 chars-sign b h = let one : nat_lt b 128 ≡ true = grind arith in rw one refl
 
-chars-kept : (s front : List ℕ) (b : ℕ) → IsUtf8 s → IsUtf8 front → s ≡ front ++ b ∷ [] → is_ascii_graphic b ≡ true → s ≡ trim_end s
+chars-kept : (s prefix : List ℕ) (b : ℕ) → IsUtf8 s → IsUtf8 prefix → s ≡ prefix ++ b ∷ [] → is_ascii_graphic b ≡ true → s ≡ trim_end s
 unfolding trim_end
-chars-kept s front b u v at h =
-    let parts : chars s ≡ chars front ++ b ∷ [] = ap chars at ∙ chars-append front (b ∷ []) v ∙ ap (λ l. chars front ++ l) (chars-sign b (sign-byte b h)) in
-    let kept : drop_trailing_whitespace (chars s) ≡ chars s = ap drop_trailing_whitespace parts ∙ end-kept (chars front) b (sign-kept b h) ∙ sym parts in
+chars-kept s prefix b u v at h =
+    let parts : chars s ≡ chars prefix ++ b ∷ [] = ap chars at ∙ chars-append prefix (b ∷ []) v ∙ ap (λ l. chars prefix ++ l) (chars-sign b (sign-byte b h)) in
+    let kept : drop_trailing_whitespace (chars s) ≡ chars s = ap drop_trailing_whitespace parts ∙ end-kept (chars prefix) b (sign-kept b h) ∙ sym parts in
     sym (ap encode_utf8_all kept ∙ encodes-chars s u)
 
 pub sign-trimmed : (s : List ℕ) → IsUtf8 s → 0 < length s → is_ascii_graphic (slice_index s (length s - 1)) ≡ true → s ≡ trim_end s

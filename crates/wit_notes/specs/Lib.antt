@@ -1,3 +1,3 @@
 pub mod Indents
-pub mod Notes
-pub mod Plain
+pub mod Metadata
+pub mod PlainComments

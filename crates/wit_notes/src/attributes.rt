@@ -1,12 +1,12 @@
-//! What the attributes of an item tell: how stable it is, and its name elsewhere.
+//! What the attributes of an item say: how stable it is, and its name elsewhere.
 ghost use Rattle.std.specs.Prelude.{◌≡◌, ◌⊎◌, IfOk};
 ghost use Rattle.std.specs.Option.{option_copied, option_map};
-ghost use Rattle.wit_type_tree.specs.Refusal.{IsWantOfMemory};
+ghost use Rattle.wit_type_tree.specs.Refusal.{IsAllocationFailure};
 ghost use Rattle.wit_first.specs.Attributes.{each_once_fault, external_fault, number_of, repeat_fault, stability_fault, together_fault};
 ghost use Rattle.wit_first.specs.First.{Finds};
 ghost use Rattle.wit_syntax.specs.Fault.{fault, fault_of};
-ghost use Rattle.wit_type_tree.specs.Attributes.{told_text, told_version};
-ghost use Rattle.wit_syntax.specs.Notes.{deprecation, stability_of};
+ghost use Rattle.wit_type_tree.specs.Attributes.{stated_text, stated_version};
+ghost use Rattle.wit_syntax.specs.Metadata.{deprecation, stability_of};
 ghost use Rattle.wit_type_tree.specs.declared.attribute_kind.AttributeKind.TheVariants.{ExternalId};
 
 use semver::Version;
@@ -18,9 +18,9 @@ use wit_tree::{ParseError, ParseResult, Span};
 use wit_types::Stability;
 use wit_values::{Rare, Release, Text};
 
-/// The version that the first attribute of a kind tells.
-fn told_version<'f>(attributes: &'f [Attribute<'_>], kind: AttributeKind) -> Option<&'f Version>
-    ensures { option_copied result ≡ told_version kind attributes.now }
+/// The version that the first attribute of a kind says.
+fn stated_version<'f>(attributes: &'f [Attribute<'_>], kind: AttributeKind) -> Option<&'f Version>
+    ensures { option_copied result ≡ stated_version kind attributes.now }
 {
     match first_of(attributes, kind) {
         Some(Attribute::Since { version, .. }) => Some(version),
@@ -29,9 +29,9 @@ fn told_version<'f>(attributes: &'f [Attribute<'_>], kind: AttributeKind) -> Opt
     }
 }
 
-/// The text that the first attribute of a kind tells.
-fn told_text<'a>(attributes: &[Attribute<'a>], kind: AttributeKind) -> Option<&'a str>
-    ensures { option_copied result ≡ told_text kind attributes.now }
+/// The text that the first attribute of a kind says.
+fn stated_text<'a>(attributes: &[Attribute<'a>], kind: AttributeKind) -> Option<&'a str>
+    ensures { option_copied result ≡ stated_text kind attributes.now }
 {
     match first_of(attributes, kind) {
         Some(Attribute::Unstable { feature, .. }) => Some(feature.name),
@@ -42,7 +42,7 @@ fn told_text<'a>(attributes: &[Attribute<'a>], kind: AttributeKind) -> Option<&'
 
 /// A second attribute of a kind.
 fn refuse_second(alloc: Global, kind: AttributeKind, span: Span) -> ParseError
-    ensures { IsWantOfMemory result ⊎ (fault_of result ≡ fault (number_of kind) span) }
+    ensures { IsAllocationFailure result ⊎ (fault_of result ≡ fault (number_of kind) span) }
 {
     match kind {
         AttributeKind::Since => refuse(alloc, 30, span, "cannot specify @since twice"),
@@ -63,7 +63,7 @@ fn check_new(alloc: Global, earlier: &[Attribute<'_>], attribute: &Attribute<'_>
     Ok(())
 }
 
-/// Refuses a second attribute of a kind that tells of stability.
+/// Refuses a second attribute of a kind that says of stability.
 fn check_each_once(alloc: Global, attributes: &[Attribute<'_>]) -> ParseResult<()>
     ensures { Finds (each_once_fault attributes.now) result }
 {
@@ -113,32 +113,35 @@ fn check_together(alloc: Global, attributes: &[Attribute<'_>]) -> ParseResult<()
     }
 }
 
-/// The version from which on attributes tell that a thing is deprecated, if they do.
+/// The version from which on attributes say that a thing is deprecated, if they do.
 fn deprecation(alloc: Global, attributes: &[Attribute<'_>]) -> Result<Rare<Release>, AllocError>
     ensures { IfOk result (λ release. release ≡ deprecation attributes.now) }
 {
-    match told_version(attributes, AttributeKind::Deprecated) {
+    match stated_version(attributes, AttributeKind::Deprecated) {
         Some(version) => Rare::some(alloc, Release::of(alloc, version)?),
         None => Ok(Rare::none()),
     }
 }
 
-/// The stability that attributes tell, the first of each kind, whatever rule they break; other
+/// The stability that attributes say, the first of each kind, whatever rule they break; other
 /// attributes are ignored.
 ///
-/// The error is want of memory.
-pub fn told_stability(alloc: Global, attributes: &[Attribute<'_>]) -> Result<Stability, AllocError>
+/// The error is a failed allocation.
+pub fn stated_stability(
+    alloc: Global,
+    attributes: &[Attribute<'_>],
+) -> Result<Stability, AllocError>
     ensures { IfOk result (λ stability. stability ≡ stability_of attributes.now) }
 {
     if attributes.len() == 0 {
         return Ok(Stability::Unknown);
     }
     let deprecated = deprecation(alloc, attributes)?;
-    if let Some(version) = told_version(attributes, AttributeKind::Since) {
+    if let Some(version) = stated_version(attributes, AttributeKind::Since) {
         let since = Release::of(alloc, version)?;
         return Ok(Stability::Stable { since, deprecated });
     }
-    match told_text(attributes, AttributeKind::Unstable) {
+    match stated_text(attributes, AttributeKind::Unstable) {
         Some(feature) => Ok(Stability::Unstable {
             feature: Text::from_str(alloc, feature)?,
             deprecated,
@@ -161,44 +164,44 @@ pub fn check_stability(alloc: Global, attributes: &[Attribute<'_>]) -> ParseResu
     Ok(())
 }
 
-/// The stability that attributes tell; other attributes are ignored.
+/// The stability that attributes say; other attributes are ignored.
 ///
 /// The error is E30, E31 or E32 at a second `@since`, `@deprecated` or `@unstable`, E33 at a
-/// `@since` beside `@unstable`, E34 at a `@deprecated` without either, or want of memory.
+/// `@since` beside `@unstable`, E34 at a `@deprecated` without either, or a failed allocation.
 pub fn stability(alloc: Global, attributes: &[Attribute<'_>]) -> ParseResult<Stability>
-    ensures told { IfOk result (λ stability. stability ≡ stability_of attributes.now) }
+    ensures as_stated { IfOk result (λ stability. stability ≡ stability_of attributes.now) }
     ensures first { Finds (stability_fault attributes.now) result }
 {
     if attributes.len() == 0 {
         return Ok(Stability::Unknown);
     }
     check_stability(alloc, attributes)?;
-    Ok(told_stability(alloc, attributes)?)
+    Ok(stated_stability(alloc, attributes)?)
 }
 
-/// The external id that attributes tell, the first, whatever rule they break; other attributes are
+/// The external id that attributes say, the first, whatever rule they break; other attributes are
 /// ignored.
 ///
-/// The error is want of memory.
-pub fn told_external_id(
+/// The error is a failed allocation.
+pub fn stated_external_id(
     alloc: Global,
     attributes: &[Attribute<'_>],
 ) -> Result<Rare<Text>, AllocError>
-    ensures { IfOk result (λ id. id ≡ told_text ExternalId attributes.now) }
+    ensures { IfOk result (λ id. id ≡ stated_text ExternalId attributes.now) }
 {
-    match told_text(attributes, AttributeKind::ExternalId) {
+    match stated_text(attributes, AttributeKind::ExternalId) {
         Some(id) => Rare::some(alloc, Text::from_str(alloc, id)?),
         None => Ok(Rare::none()),
     }
 }
 
-/// The external id that attributes tell, if one does; other attributes are ignored.
+/// The external id that attributes say, if one does; other attributes are ignored.
 ///
-/// The error is E35 at a second external id, or want of memory.
+/// The error is E35 at a second external id, or a failed allocation.
 pub fn external_id(alloc: Global, attributes: &[Attribute<'_>]) -> ParseResult<Rare<Text>>
-    ensures told { IfOk result (λ id. id ≡ told_text ExternalId attributes.now) }
+    ensures as_stated { IfOk result (λ id. id ≡ stated_text ExternalId attributes.now) }
     ensures first { Finds (external_fault attributes.now) result }
 {
     check_external_once(alloc, attributes)?;
-    Ok(told_external_id(alloc, attributes)?)
+    Ok(stated_external_id(alloc, attributes)?)
 }

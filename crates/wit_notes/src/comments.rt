@@ -3,14 +3,14 @@ ghost use Rattle.std.specs.Prelude.{◌≡◌, ◌++◌, IfNone, IfOk, IfSome, I
 ghost use Rattle.std.specs.List.{All};
 ghost use Rattle.std.specs.Option.{option_copied};
 ghost use Rattle.std.specs.Str.{trim_end};
-ghost use Rattle.wit_syntax.specs.Docs.{behind_slashes, behind_spaces, common_indent, ended, ended_lines, indent, joined, said, unmarked, without_end, without_last_lines, without_spaces};
-ghost use Rattle.wit_syntax.specs.Notes.{docs_of};
+ghost use Rattle.wit_syntax.specs.Docs.{after_slashes, after_spaces, common_indent, ended, ended_lines, indent, joined, said, unmarked, without_end, without_last_lines, without_spaces};
+ghost use Rattle.wit_syntax.specs.Metadata.{docs_of};
 ghost use Rattle.wit_notes.specs.Indents.{written_indent};
-ghost use Rattle.wit_notes.specs.Plain.{HasNoReturn, IsIndented, IsPushed, all_lines, ends_in_line, first_indent};
+ghost use Rattle.wit_notes.specs.PlainComments.{HasNoReturn, IsIndented, IsPushed, all_lines, ends_in_line, first_indent};
 
 use memchr::memchr;
 use std::alloc::{AllocError, Global};
-use wit_names::front::behind;
+use wit_names::prefix::rest_after;
 use wit_tree::tree;
 use wit_types::Docs;
 use wit_values::Text;
@@ -20,37 +20,37 @@ fn without_end<'t>(text: &'t str, end: &str) -> &'t str
     ensures { result.now ≡ without_end end.now text.now }
 {
     match text.strip_suffix(end) {
-        Some(front) => front,
+        Some(prefix) => prefix,
         None => text,
     }
 }
 
-/// The text behind the slashes that it begins with.
-fn behind_slashes(text: &str) -> &str
-    ensures { result.now ≡ behind_slashes text.now }
+/// The text after the slashes that it begins with.
+fn after_slashes(text: &str) -> &str
+    ensures { result.now ≡ after_slashes text.now }
 {
     text.trim_start_matches('/')
 }
 
 /// A comment without its marks.
 ///
-/// Most begin with `///`, and are told by that first.
+/// Most begin with `///`, and are given by that first.
 fn unmarked(comment: &str) -> &str
     ensures { result.now ≡ unmarked comment.now }
 {
-    if let Some(rest) = behind(comment, "///") {
-        return behind_slashes(rest);
+    if let Some(rest) = rest_after(comment, "///") {
+        return after_slashes(rest);
     }
     if comment == "/**/" {
         return "";
     }
-    match behind(comment, "/**") {
+    match rest_after(comment, "/**") {
         Some(rest) => without_end(rest, "*/"),
-        None => behind_slashes(comment),
+        None => after_slashes(comment),
     }
 }
 
-/// Whether a text ends with a letter, a digit or another sign of ASCII: then no white space stands at its end.
+/// Whether a text ends with a letter, a digit or another sign of ASCII: then no white space is at its end.
 fn ends_in_sign(text: &str) -> bool
     ensures { IsTrue result → text.now ≡ trim_end text.now }
 {
@@ -117,9 +117,9 @@ fn first_indent(comments: &[&str]) -> usize
     0
 }
 
-/// The text behind this many spaces, where it begins with them.
-fn behind_spaces(text: &str, count: usize) -> Option<&str>
-    ensures { option_copied result ≡ behind_spaces count text.now }
+/// The text after this many spaces, where it begins with them.
+fn after_spaces(text: &str, count: usize) -> Option<&str>
+    ensures { option_copied result ≡ after_spaces count text.now }
 {
     let mut rest = text;
     let mut left = count;
@@ -137,7 +137,7 @@ fn behind_spaces(text: &str, count: usize) -> Option<&str>
 fn without_spaces(text: &str, count: usize) -> &str
     ensures { result.now ≡ without_spaces count text.now }
 {
-    match behind_spaces(text, count) {
+    match after_spaces(text, count) {
         Some(rest) => rest,
         None => text,
     }
@@ -150,7 +150,7 @@ fn unindented(text: &str, count: usize) -> Option<&str>
     ensures some { IfSome result (λ _. IsIndented count text.now) }
     ensures none { IfNone result (IsIndented count text.now → ⊥) }
 {
-    if let Some(rest) = behind_spaces(text, count) {
+    if let Some(rest) = after_spaces(text, count) {
         return Some(rest);
     }
     if text.is_empty() || count <= indent(text) {
@@ -210,7 +210,7 @@ fn ends_in_line(text: &str) -> bool
     bytes[len - 1] == b'\n'
 }
 
-/// Adds a text with an LF behind it: these are its lines, unless a CR stands in it. Only one that ends
+/// Adds a text with an LF after it: these are its lines, unless a CR is in it. Only one that ends
 /// with an LF, as nothing that a comment says does, is looked through.
 fn push_plain(text: &mut String, added: &str) -> Result<(), AllocError>
     ensures { OnOk result (IsPushed (string_bytes text.old) (string_bytes text.new) added.now) }
@@ -221,7 +221,7 @@ fn push_plain(text: &mut String, added: &str) -> Result<(), AllocError>
     push_line(text, added)
 }
 
-/// What comments say, line by line without this many spaces, unless a CR stands in it; none if the
+/// What comments say, line by line without this many spaces, unless a CR is in it; none if the
 /// indent of one is less.
 fn plain_lines(alloc: Global, comments: &[&str], count: usize) -> Result<Option<String>, AllocError>
     ensures lines { IfOk result (λ found. IfSome found (λ text. HasNoReturn (string_bytes text) → string_bytes text ≡ all_lines count (map (λ c. said c.now) comments.now))) }
@@ -251,7 +251,7 @@ fn all_lines(alloc: Global, comments: &[&str], count: usize) -> Result<String, A
 
 /// What comments say, line by line without the spaces that they have in common.
 ///
-/// The indent of the first is mostly the least, and a CR stands in few: so what is written while this is
+/// The indent of the first is mostly the least, and a CR is in few: so what is written while this is
 /// found out is mostly what is wanted, and else is written anew.
 fn common_lines(alloc: Global, comments: &[&str]) -> Result<String, AllocError>
     ensures { IfOk result (λ text. string_bytes text ≡ all_lines (common_indent (map (λ c. said c.now) comments.now)) (map (λ c. said c.now) comments.now)) }
@@ -275,14 +275,14 @@ fn joined(alloc: Global, comments: &[&str]) -> Result<String, AllocError>
 
 /// The docs that comments give.
 ///
-/// From a comment that begins with `/**` this front is taken, and the `*/` at its end; `/**/` says
-/// nothing. From any other comment all slashes at its front are taken. Then white space at the end
+/// From a comment that begins with `/**` this prefix is taken, and the `*/` at its end; `/**/` says
+/// nothing. From any other comment all slashes at its prefix are taken. Then white space at the end
 /// is taken from each. Where all that is not empty begins with at least n bytes of ASCII white
 /// space, and n is the most, n spaces are taken from each text that begins with them. The texts
-/// stand line by line, with LF at the end of a line and an empty line for an empty text; LFs at
+/// are line by line, with LF at the end of a line and an empty line for an empty text; LFs at
 /// the end of all are taken. No comment gives no contents.
 ///
-/// The error is want of memory.
+/// The error is a failed allocation.
 pub fn docs(alloc: Global, docs: &tree::Docs<'_>) -> Result<Docs, AllocError>
     ensures { IfOk result (λ d. d ≡ docs_of docs.now) }
 {

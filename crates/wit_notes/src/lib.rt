@@ -3,12 +3,12 @@
 
 pub mod attributes;
 pub mod comments;
-pub mod notes;
+pub mod metadata;
 pub mod package;
 pub mod paths;
 
-pub use attributes::{external_id, stability, told_external_id, told_stability};
+pub use attributes::{external_id, stability, stated_external_id, stated_stability};
 pub use comments::docs;
-pub use notes::{Notes, check_notes, notes_of, told_notes, use_notes};
+pub use metadata::{Metadata, check_metadata, metadata_of, stated_metadata, use_metadata};
 pub use package::package_name;
 pub use paths::{is_same_side, path_id};

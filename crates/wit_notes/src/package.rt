@@ -24,7 +24,7 @@ pub fn release_of(alloc: Global, version: Option<&Version>) -> Result<Option<Rel
 
 /// The name of a package, as a header or a path gives it.
 ///
-/// The error is want of memory.
+/// The error is a failed allocation.
 pub fn package_name(
     alloc: Global,
     written: &tree::PackageName<'_>,

@@ -1,6 +1,6 @@
 //! What a path ends in, and the sides of a world.
 ghost use Rattle.std.specs.Prelude.{◌≡◌};
-ghost use Rattle.wit_syntax.specs.Crossing.{same_side};
+ghost use Rattle.wit_syntax.specs.ExternPart.{same_side};
 ghost use Rattle.wit_syntax.specs.Source.{path_id as the_path};
 
 use wit_tree::tree::{Id, UsePath, WorldSide};

@@ -1,4 +1,4 @@
--- Rows that stand in one list.
+-- Rows that are in one list.
 use Rattle.std.proofs.Common.{◌≡◌, ℕ, zero, suc, ◌+◌, ◌-◌, ◌<◌, ◌≤◌, List, [], ◌∷◌, ◌++◌, length, get_or, take, drop, arith, sym, ◌∙◌, ap, refl, subst, inl, inr, Some, slice_get}
 use Rattle.std.proofs.lemmas.Bool.{cases_lt}
 use Rattle.std.proofs.lemmas.List.{length_push, length-drop, length-take-le, take-append-le, drop-append-le, get_or_append_left, get_or_push, get_or_default}
@@ -30,7 +30,7 @@ cut_at (start ∷ more) xs p h = let next : suc p ≡ p + 1 = omega arith in
 pub between_long : (a b : ℕ) (xs : List ℕ) → b ≤ length xs → length (between a b xs) ≡ b - a
 between_long a b xs h = length-take-le (b - a) (drop a xs) (omega (arith, h, length-drop a xs))
 
--- what stands before the end of a list stays there when the list grows
+-- what comes before the end of a list stays there when the list grows
 between_more : (a b : ℕ) (xs ys : List ℕ) → a ≤ b → b ≤ length xs → between a b (xs ++ ys) ≡ between a b xs
 between_more a b xs ys le h =
     ap (take (b - a)) (drop-append-le a xs ys (omega (arith, le, h))) ∙ take-append-le (b - a) (drop a xs) ys (omega (arith, h, length-drop a xs))
@@ -69,7 +69,7 @@ pub is_cut_more : (starts xs ys : List ℕ) → IsCut starts xs → IsCut (start
 is_cut_more starts xs ys c =
     let n = length (xs ++ ys) in
     let wide : length starts ≤ length (starts ++ n ∷ []) = omega (arith, length_push starts n) in
-    let grown : length xs ≤ n = omega (arith, length-drop (length xs) (xs ++ ys), ap length (drop-append_seam xs ys), between_grown xs ys) in
+    let extended : length xs ≤ n = omega (arith, length-drop (length xs) (xs ++ ys), ap length (drop-append_seam xs ys), between_extended xs ys) in
     record {
       some = omega (arith, length_push starts n);
       rises = λ i h. elim (cases_lt (i + 1) (length starts)) [
@@ -78,17 +78,17 @@ is_cut_more starts xs ys c =
         | inr g ↦
             let li : i < length starts = omega (arith, h, length_push starts n) in
             let last : i + 1 ≡ length starts = omega (arith, g, li) in
-            omega (arith, get_or_append_left starts (n ∷ []) 0 i li, get_or_push starts n 0 (i + 1) (sym last), c.within i li, grown)
+            omega (arith, get_or_append_left starts (n ∷ []) 0 i li, get_or_push starts n 0 (i + 1) (sym last), c.within i li, extended)
       ];
       within = λ i h. elim (cases_lt i (length starts)) [
-        | inl l ↦ omega (arith, get_or_append_left starts (n ∷ []) 0 i l, c.within i l, grown)
+        | inl l ↦ omega (arith, get_or_append_left starts (n ∷ []) 0 i l, c.within i l, extended)
         | inr g ↦ let last : i ≡ length starts = omega (arith, h, g, length_push starts n) in omega (arith, get_or_push starts n 0 i (sym last))
       ];
     }
   where
-    between_grown : (xs ys : List ℕ) → length xs ≤ length (xs ++ ys)
-    between_grown [] ys = omega arith
-    between_grown (x ∷ xs) ys = omega (arith, between_grown xs ys)
+    between_extended : (xs ys : List ℕ) → length xs ≤ length (xs ++ ys)
+    between_extended [] ys = omega arith
+    between_extended (x ∷ xs) ys = omega (arith, between_extended xs ys)
 
 from_count : (start : ℕ) (starts xs : List ℕ) → IsCut (start ∷ starts) xs → edge_count (cut_from start starts xs) + start ≤ length xs
 from_count start [] xs c = let first = c.within 0 (omega arith) in omega (arith, first)
@@ -130,13 +130,13 @@ module _ (starts xs : List ℕ) (g : List (List ℕ)) (is : cut starts xs ≡ g)
         ap (λ (rows : List (List ℕ)). slice_get rows p) (sym is) ∙ cut_at starts xs p row_within ∙ ap Some (sym here)
 
 -- one more row, as the list and the places that it is cut at were read
-pub row_added : (starts xs row grown new : List ℕ) (n : ℕ) → IsCut starts xs → get_or starts (length starts - 1) 0 ≡ length xs → new ≡ xs ++ row → n ≡ length new → grown ≡ starts ++ n ∷ []
-    → IsCut grown new × (get_or grown (length grown - 1) 0 ≡ length new) × (cut grown new ≡ cut starts xs ++ row ∷ [])
-row_added starts xs row grown new n c last more long push =
+pub row_added : (starts xs row extended new : List ℕ) (n : ℕ) → IsCut starts xs → get_or starts (length starts - 1) 0 ≡ length xs → new ≡ xs ++ row → n ≡ length new → extended ≡ starts ++ n ∷ []
+    → IsCut extended new × (get_or extended (length extended - 1) 0 ≡ length new) × (cut extended new ≡ cut starts xs ++ row ∷ [])
+row_added starts xs row extended new n c last more long push =
     let end : n ≡ length (xs ++ row) = long ∙ ap length more in
-    let all : grown ≡ starts ++ length (xs ++ row) ∷ [] = push ∙ ap (λ k. starts ++ k ∷ []) end in
-    let at : length starts ≡ length grown - 1 = omega (arith, ap length push, length_push starts n) in (
-      subst (λ xs. IsCut grown xs) (sym more) (subst (λ ss. IsCut ss (xs ++ row)) (sym all) (is_cut_more starts xs row c)),
-      ap (λ ss. get_or ss (length grown - 1) 0) push ∙ get_or_push starts n 0 (length grown - 1) at ∙ long,
-      ap (cut grown) more ∙ ap (λ ss. cut ss (xs ++ row)) all ∙ cut_more starts xs row c last,
+    let all : extended ≡ starts ++ length (xs ++ row) ∷ [] = push ∙ ap (λ k. starts ++ k ∷ []) end in
+    let at : length starts ≡ length extended - 1 = omega (arith, ap length push, length_push starts n) in (
+      subst (λ xs. IsCut extended xs) (sym more) (subst (λ ss. IsCut ss (xs ++ row)) (sym all) (is_cut_more starts xs row c)),
+      ap (λ ss. get_or ss (length extended - 1) 0) push ∙ get_or_push starts n 0 (length extended - 1) at ∙ long,
+      ap (cut extended) more ∙ ap (λ ss. cut ss (xs ++ row)) all ∙ cut_more starts xs row c last,
     )

@@ -1,4 +1,4 @@
--- How often a place stands in a set of places.
+-- How often a place is in a set of places.
 use Rattle.std.proofs.Common.{◌≡◌, ◌≢◌, ℕ, suc, ◌+◌, ◌<◌, ◌≤◌, List, [], ◌∷◌, length, get_or, set, arith, sym, ◌∙◌, ap, refl, subst, inl, inr, cond, nat_eq, nat_lt, All, Option, Some, None, IfSome, IfNone, Result, Ok, Err, OnOk, OnErr}
 use Rattle.std.specs.Ordering.{nat_cmp, match_ordering}
 use Rattle.std.specs.declared.cmp.Ordering.{Ordering}
@@ -48,9 +48,9 @@ least_key k q old new e all h = elim (cases_eq k q) [
 ]
 
 -- what a set of places below n keeps when one is taken out, or put in
-pub below_taken : (r : Option ℕ) (old new : List ℕ) (n : ℕ) → IfSome r (λ k. old ≡ k ∷ new) → IfNone r (new ≡ old) → ((q : ℕ) → 0 < times q old → q < n) → (q : ℕ) → 0 < times q new → q < n
-below_taken None old new n some none below q h = below q (omega (arith, h, ap (times q) none))
-below_taken (Some k) old new n some none below q h = below q (omega (arith, h, ap (times q) some, times-cons q k new))
+pub below_used : (r : Option ℕ) (old new : List ℕ) (n : ℕ) → IfSome r (λ k. old ≡ k ∷ new) → IfNone r (new ≡ old) → ((q : ℕ) → 0 < times q old → q < n) → (q : ℕ) → 0 < times q new → q < n
+below_used None old new n some none below q h = below q (omega (arith, h, ap (times q) none))
+below_used (Some k) old new n some none below q h = below q (omega (arith, h, ap (times q) some, times-cons q k new))
 
 pub below_put : {A B : Type 0} (r : Result A B) (old new : List ℕ) (u n : ℕ) → OnOk r (new ≡ insert_key nat_cmp old u) → OnErr r (new ≡ old) → times u old ≡ 0 → u < n
     → ((q : ℕ) → 0 < times q old → q < n) → (q : ℕ) → 0 < times q new → q < n
@@ -64,8 +64,8 @@ below_put (Err x) old new u n put kept fresh less below q h = below q (omega (ar
 abbrev pub ahead : ℕ → ℕ → ℕ → ℕ → ℕ
 ahead q next n count = cond (nat_lt q next) 0 (cond (nat_lt q n) (cond (nat_eq count 0) 1 0) 0)
 
-ahead_behind : (q next n count : ℕ) → q < next → ahead q next n count ≡ 0
-ahead_behind q next n count h = cond-true (nat_lt q next) 0 (cond (nat_lt q n) (cond (nat_eq count 0) 1 0) 0) (lt-ltb q next h)
+ahead_after : (q next n count : ℕ) → q < next → ahead q next n count ≡ 0
+ahead_after q next n count h = cond-true (nat_lt q next) 0 (cond (nat_lt q n) (cond (nat_eq count 0) 1 0) 0) (lt-ltb q next h)
 
 ahead_here : (q next n count : ℕ) → next ≤ q → q < n → ahead q next n count ≡ one count 0
 ahead_here q next n count h l = cond-false (nat_lt q next) 0 (cond (nat_lt q n) (cond (nat_eq count 0) 1 0) 0) (le-ltb q next h) ∙ cond-true (nat_lt q n) (cond (nat_eq count 0) 1 0) 0 (lt-ltb q n l)
@@ -76,7 +76,7 @@ ahead_past q next n count h l = cond-false (nat_lt q next) 0 (cond (nat_lt q n) 
 -- where each place from next on has a count, none is ahead
 pub none_ahead : (next : ℕ) (counts : List ℕ) → ((q : ℕ) → next ≤ q → q < length counts → get_or counts q 0 ≢ 0) → (q : ℕ) → ahead q next (length counts) (get_or counts q 0) ≡ 0
 none_ahead next counts some q = elim (cases_lt q next) [
-  | inl l ↦ ahead_behind q next (length counts) (get_or counts q 0) l
+  | inl l ↦ ahead_after q next (length counts) (get_or counts q 0) l
   | inr g ↦ elim (cases_lt q (length counts)) [
     | inl l ↦ ahead_here q next (length counts) (get_or counts q 0) g l ∙ one_other (get_or counts q 0) 0 (some q g l)
     | inr past ↦ ahead_past q next (length counts) (get_or counts q 0) g past
@@ -88,7 +88,7 @@ pub first_ahead : (p next : ℕ) (counts : List ℕ) → ((q : ℕ) → next ≤
 first_ahead p next counts some q h = elim (cases_lt q p) [
   | inr g ↦ g
   | inl l ↦ elim (cases_lt q next) [
-    | inl before ↦ absurd (omega (arith, h, ahead_behind q next (length counts) (get_or counts q 0) before))
+    | inl before ↦ absurd (omega (arith, h, ahead_after q next (length counts) (get_or counts q 0) before))
     | inr g ↦ elim (cases_lt q (length counts)) [
       | inl inside ↦ absurd (omega (arith, h, ahead_here q next (length counts) (get_or counts q 0) g inside, one_other (get_or counts q 0) 0 (some q g l)))
       | inr past ↦ absurd (omega (arith, h, ahead_past q next (length counts) (get_or counts q 0) g past))
@@ -100,13 +100,13 @@ first_ahead p next counts some q h = elim (cases_lt q p) [
 pub passed_least : (k q next n count : ℕ) (old new : List ℕ) → old ≡ k ∷ new → All (λ x. nat_cmp k x ≡ Less) new → ((q : ℕ) → 0 < times q old → q < next)
     → 0 < times q old + ahead q next n count → k ≤ q
 passed_least k q next n count old new e all below h = elim (cases_lt q next) [
-  | inl l ↦ least_key k q old new e all (omega (arith, h, ahead_behind q next n count l))
+  | inl l ↦ least_key k q old new e all (omega (arith, h, ahead_after q next n count l))
   | inr g ↦ omega (arith, g, below k (omega (arith, ap (times k) e, times-cons k k new, one_same k k refl)))
 ]
 
--- a count behind next changes nothing ahead
+-- a count after next changes nothing ahead
 pub ahead_set : (q u v next : ℕ) (counts : List ℕ) → u < next → ahead q next (length (set counts u v)) (get_or (set counts u v) q 0) ≡ ahead q next (length counts) (get_or counts q 0)
 ahead_set q u v next counts h = elim (cases_lt q next) [
-  | inl l ↦ ahead_behind q next _ (get_or (set counts u v) q 0) l ∙ sym (ahead_behind q next (length counts) (get_or counts q 0) l)
+  | inl l ↦ ahead_after q next _ (get_or (set counts u v) q 0) l ∙ sym (ahead_after q next (length counts) (get_or counts q 0) l)
   | inr g ↦ ap (λ n. ahead q next n (get_or (set counts u v) q 0)) (length-set counts u v) ∙ ap (ahead q next (length counts)) (get_or-set_other counts u q v 0 (λ e. absurd (omega (arith, e, g, h))))
 ]

@@ -1,4 +1,4 @@
--- Edges counted down, one behind the other.
+-- Edges counted down, one after the other.
 use Rattle.std.proofs.Common.{◌≡◌, ◌≢◌, ℕ, ◌+◌, ◌-◌, ◌<◌, ◌≤◌, List, [], length, get_or, set, take, arith, sym, ◌∙◌, ap, refl, subst, inl, inr, cond, nat_eq, sum, ◌^◌}
 use Rattle.std.proofs.lemmas.Bool.{cases_eq, cond-true, cond-false, eq-eqb, ne_eqb}
 use Rattle.std.proofs.lemmas.List.{length-set, get_or-set_same}

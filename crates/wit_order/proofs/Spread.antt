@@ -32,7 +32,7 @@ module _ (g : Graph) (starts : List ℕ) (s : IsSpread g starts) where
   pub fill_start : IsFilling starts (λ w. edges_to w (take 0 g)) (λ w q. cond (nat_lt q 0) (times w (row_at g q)) 0) (replicate (get_or starts (length g) 0) 0) starts
   fill_start = record {
     long = refl;
-    front = λ w h. omega arith;
+    prefix = λ w h. omega arith;
     room = λ w h. omega (arith, s.step w (omega (arith, h, s.long)));
     within = λ i h. omega (arith, s.last i h, length-replicate {A = ℕ} (get_or starts (length g) 0) 0);
     noted = λ w h q.
@@ -45,13 +45,13 @@ module _ (g : Graph) (starts : List ℕ) (s : IsSpread g starts) where
       let same = get_or_from_slice_get g p row row at in
       omega (arith, s.step w (omega (arith, h, s.long)), sum_by_more_le (λ r. times w r) g p row (slice_get_within g p row at), ap (times w) same)
 
-  pub fill_next : (p : ℕ) (row users fronts : List ℕ) → slice_get g p ≡ Some row
-      → IsFilling starts (λ w. edges_to w (take p g) + times w row) (λ w q. cond (nat_lt q p) (times w (row_at g q)) 0 + cond (nat_eq p q) (times w row) 0) users fronts
-      → IsFilling starts (λ w. edges_to w (take (p + 1) g)) (λ w q. cond (nat_lt q (p + 1)) (times w (row_at g q)) 0) users fronts
-  fill_next p row users fronts at f =
+  pub fill_next : (p : ℕ) (row users prefixes : List ℕ) → slice_get g p ≡ Some row
+      → IsFilling starts (λ w. edges_to w (take p g) + times w row) (λ w q. cond (nat_lt q p) (times w (row_at g q)) 0 + cond (nat_eq p q) (times w row) 0) users prefixes
+      → IsFilling starts (λ w. edges_to w (take (p + 1) g)) (λ w q. cond (nat_lt q (p + 1)) (times w (row_at g q)) 0) users prefixes
+  fill_next p row users prefixes at f =
       let same : row ≡ row_at g p = sym (get_or_from_slice_get g p row [] at) in
       let read = get_or_from_slice_get g p row row at in
-      filling_same starts _ _ _ _ users fronts
+      filling_same starts _ _ _ _ users prefixes
       (λ w. omega (arith, sum_by_more (λ r. times w r) g p row (slice_get_within g p row at), ap (times w) read))
       (λ w q. noted_step q p (times w row) _ _ (times w (row_at g q)) refl refl (λ e. ap (times w) (same ∙ ap (row_at g) e))) f
 
@@ -68,7 +68,7 @@ module _ (g : Graph) (starts : List ℕ) (s : IsSpread g starts) where
     | inr past ↦ λ k d h. absurd (omega (arith, h, ap length (row_at-past g q past)))
   ]
 
-  module _ (p : ℕ) (users fronts : List ℕ) (f : IsFilling starts (λ w. edges_to w (take p g)) (λ w q. cond (nat_lt q p) (times w (row_at g q)) 0) users fronts) where
+  module _ (p : ℕ) (users prefixes : List ℕ) (f : IsFilling starts (λ w. edges_to w (take p g)) (λ w q. cond (nat_lt q p) (times w (row_at g q)) 0) users prefixes) where
     pub filled_cut : IsCut starts users
     filled_cut = record {
       some = omega (arith, s.long);
@@ -86,20 +86,20 @@ module _ (g : Graph) (starts : List ℕ) (s : IsSpread g starts) where
             | inl l ↦
                 let inside : w + 1 < length starts = omega (arith, l, s.long) in
                 let all = ap (edges_to w) (take_all p g done) in
-                let front : get_or fronts (w + 1) 0 ≡ get_or starts w 0 = omega (arith, f.front w inside, s.step w l, all) in
+                let prefix : get_or prefixes (w + 1) 0 ≡ get_or starts w 0 = omega (arith, f.prefix w inside, s.step w l, all) in
                 let row : row_at (cut starts users) w ≡ between (get_or starts w 0) (get_or starts (w + 1) 0) users = get_or_from_slice_get (cut starts users) w _ [] (cut_at starts users w inside) in
-                noted_all g q p _ w done (ap (times q) row ∙ ap (λ k. times q (between k (get_or starts (w + 1) 0) users)) (sym front) ∙ f.noted w inside q)
+                noted_all g q p _ w done (ap (times q) row ∙ ap (λ k. times q (between k (get_or starts (w + 1) 0) users)) (sym prefix) ∙ f.noted w inside q)
             | inr past ↦ ap (times q) (row_at-past (cut starts users) w (omega (arith, past, long))) ∙ sym (times_none w (row_at g q) (row_closed closed q) past)
           ];
         }
 
-pub fill_begin : (g : Graph) (starts users fronts : List ℕ) (n : ℕ) → IsSpread g starts → users ≡ replicate n 0 → n ≡ get_or starts (length g) 0 → fronts ≡ starts
-    → IsFilling starts (λ w. edges_to w (take 0 g)) (λ w q. cond (nat_lt q 0) (times w (row_at g q)) 0) users fronts
-fill_begin g starts users fronts n s is long same =
+pub fill_begin : (g : Graph) (starts users prefixes : List ℕ) (n : ℕ) → IsSpread g starts → users ≡ replicate n 0 → n ≡ get_or starts (length g) 0 → prefixes ≡ starts
+    → IsFilling starts (λ w. edges_to w (take 0 g)) (λ w q. cond (nat_lt q 0) (times w (row_at g q)) 0) users prefixes
+fill_begin g starts users prefixes n s is long same =
     let Put : ℕ → ℕ = λ w. edges_to w (take 0 g) in
     let Seen : ℕ → ℕ → ℕ = λ w q. cond (nat_lt q 0) (times w (row_at g q)) 0 in
     let all : users ≡ replicate (get_or starts (length g) 0) 0 = is ∙ ap (λ k. replicate k 0) long in
-    subst (λ us. IsFilling starts Put Seen us fronts) (sym all) (subst (λ fs. IsFilling starts Put Seen (replicate (get_or starts (length g) 0) 0) fs) (sym same) (fill_start g starts s))
+    subst (λ us. IsFilling starts Put Seen us prefixes) (sym all) (subst (λ fs. IsFilling starts Put Seen (replicate (get_or starts (length g) 0) 0) fs) (sym same) (fill_start g starts s))
 
 pub row_inside : (g : Graph) (p n : ℕ) (row : List ℕ) → IsClosed g → slice_get g p ≡ Some row → n ≡ length g + 1 → All (λ w. w + 1 < n) row
 row_inside g p n row closed at long k d h =

@@ -20,13 +20,13 @@ due_some done counts q some = elim (cases_Bool (get_or done q true)) [
 ]
 
 -- the first place of the set is taken, and an edge of each of its users is counted down
-module _ {g : Graph} {done : List Bool} {order : List ℕ} (closed : IsClosed g) (old taken : Ready) (s : HeapState g done order old.counts.items (λ q. times_in q old)) (p : ℕ)
-    (counts : taken.counts ≡ old.counts) (popped : (q : ℕ) → times_in q old ≡ one p q + times_in q taken) (us : List ℕ) (noted : (q : ℕ) → times q us ≡ times p (row_at g q)) where
-  pub may_release : taken.steps ≡ old.steps → old.steps.entered ≡ zeros old.counts.items → old.steps.closed + sum old.counts.items < 2 ^ 64 → MayRelease us taken
+module _ {g : Graph} {done : List Bool} {order : List ℕ} (closed : IsClosed g) (old in_use : Ready) (s : HeapState g done order old.counts.items (λ q. times_in q old)) (p : ℕ)
+    (counts : in_use.counts ≡ old.counts) (popped : (q : ℕ) → times_in q old ≡ one p q + times_in q in_use) (us : List ℕ) (noted : (q : ℕ) → times q us ≡ times p (row_at g q)) where
+  pub may_release : in_use.steps ≡ old.steps → old.steps.entered ≡ zeros old.counts.items → old.steps.closed + sum old.counts.items < 2 ^ 64 → MayRelease us in_use
   may_release steps entered room =
-      let enough : (u : ℕ) → times u us ≤ get_or old.counts.items u 0 = users_enough closed s p (λ q. times_in q taken) us popped noted in
+      let enough : (u : ℕ) → times u us ≤ get_or old.counts.items u 0 = users_enough closed s p (λ q. times_in q in_use) us popped noted in
       record {
-        within = subst (λ (v : Vec ℕ Global). All (λ u. u < length v.items) us) (sym counts) (users_within closed s p (λ q. times_in q taken) us popped noted);
+        within = subst (λ (v : Vec ℕ Global). All (λ u. u < length v.items) us) (sym counts) (users_within closed s p (λ q. times_in q in_use) us popped noted);
         enough = λ u. subst (λ (v : Vec ℕ Global). times u us ≤ get_or v.items u 0) (sym counts) (enough u);
         fresh = λ u h.
             let some : get_or old.counts.items u 0 ≢ 0 = λ z. let e = enough u in absurd (omega (arith, z, h, e)) in
@@ -35,11 +35,11 @@ module _ {g : Graph} {done : List Bool} {order : List ℕ} (closed : IsClosed g)
         room = omega (arith, room, ap (λ (x : Steps). x.closed) steps, ap (λ (v : Vec ℕ Global). sum v.items) counts);
       }
 
-  pub tree_pop : (next : Ready) → ((q : ℕ) → 0 < times_in q old → p ≤ q) → IsReleased us taken next
+  pub tree_pop : (next : Ready) → ((q : ℕ) → 0 < times_in q old → p ≤ q) → IsReleased us in_use next
       → HeapState g (set done p true) (order ++ p ∷ []) next.counts.items (λ q. times_in q next)
   tree_pop next least r =
-      let same : length taken.counts.items ≡ length old.counts.items = ap (λ (v : Vec ℕ Global). length v.items) counts in
-      heap_pop closed s p (λ q. times_in q taken) us popped noted next.counts.items (λ q. times_in q next) least (r.long ∙ same)
+      let same : length in_use.counts.items ≡ length old.counts.items = ap (λ (v : Vec ℕ Global). length v.items) counts in
+      heap_pop closed s p (λ q. times_in q in_use) us popped noted next.counts.items (λ q. times_in q next) least (r.long ∙ same)
       (λ u. r.counts u ∙ ap (λ (v : Vec ℕ Global). get_or v.items u 0) counts) r.places
 
 zeros_all : (xs : List ℕ) → ((k : ℕ) → k < length xs → get_or xs k 0 ≡ 0) → (zeros xs ≡ length xs) × (sum xs ≡ 0)

@@ -1,7 +1,7 @@
 -- A list in one piece, cut into rows where each begins.
 use Rattle.std.specs.Prelude.{ℕ, ◌+◌, ◌-◌, ◌<◌, ◌≤◌, List, [], ◌∷◌, length, take, drop, slice_index}
 
--- what stands from a on and before b
+-- what is from a on and before b
 abbrev pub between : ℕ → ℕ → List ℕ → List ℕ
 between a b xs = take (b - a) (drop a xs)
 

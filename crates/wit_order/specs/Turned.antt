@@ -13,13 +13,13 @@ pub record IsTurned (g users : Graph) : Type 0 where
   pub long : length users ≡ length g
   pub noted : (w q : ℕ) → times q (row_at users w) ≡ times w (row_at g q)
 
--- runs that begin at these places, each filled from its end down to its front: that of w with so many places, where q stands as often as seen says
-pub record IsFilling (starts : List ℕ) (put : ℕ → ℕ) (seen : ℕ → ℕ → ℕ) (users fronts : List ℕ) : Type 0 where
-  pub long : length fronts ≡ length starts
-  pub front : (w : ℕ) → w + 1 < length starts → slice_index fronts (w + 1) + put w ≡ slice_index starts (w + 1)
+-- runs that begin at these places, each filled from its end down to its prefix: that of w with so many places, where q is as often as seen says
+pub record IsFilling (starts : List ℕ) (put : ℕ → ℕ) (seen : ℕ → ℕ → ℕ) (users prefixes : List ℕ) : Type 0 where
+  pub long : length prefixes ≡ length starts
+  pub prefix : (w : ℕ) → w + 1 < length starts → slice_index prefixes (w + 1) + put w ≡ slice_index starts (w + 1)
   pub room : (w : ℕ) → w + 1 < length starts → slice_index starts w + put w ≤ slice_index starts (w + 1)
   pub within : (i : ℕ) → i < length starts → slice_index starts i ≤ length users
-  pub noted : (w : ℕ) → w + 1 < length starts → (q : ℕ) → times q (between (slice_index fronts (w + 1)) (slice_index starts (w + 1)) users) ≡ seen w q
+  pub noted : (w : ℕ) → w + 1 < length starts → (q : ℕ) → times q (between (slice_index prefixes (w + 1)) (slice_index starts (w + 1)) users) ≡ seen w q
 
 -- the runs have room for a row of edges
 abbrev pub HasRoom : List ℕ → (ℕ → ℕ) → List ℕ → Type 0

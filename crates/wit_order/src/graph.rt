@@ -1,11 +1,11 @@
-//! A graph of places, its rows one behind the other in one list.
+//! A graph of places, its rows one after the other in one list.
 ghost use Rattle.std.specs.Prelude.{◌≡◌, ℕ, ◌<◌, ◌≤◌, ◌^◌, Some, List, length, slice_get};
 ghost use Rattle.wit_order.specs.Cut.{between, cut, IsCut};
 ghost use Rattle.wit_graph.specs.Graph.{edge_count};
 
 use std::marker::Model;
 
-/// What stands from a place on and before another.
+/// What is from a place on and before another.
 fn part(list: &[usize], start: usize, end: usize) -> &[usize]
     requires within { end ≤ length list.now }
     requires rises { start ≤ end }
@@ -19,7 +19,7 @@ fn part(list: &[usize], start: usize, end: usize) -> &[usize]
 pub struct Graph {
     /// Where each row begins among the targets, and where the last one ends.
     pub starts: Vec<usize>,
-    /// What the edges lead to, those of a place behind those of the places before it.
+    /// What the edges lead to, those of a place after those of the places before it.
     pub targets: Vec<usize>,
 }
 

@@ -4,8 +4,8 @@ ghost use Rattle.std.specs.Map.{keys_of};
 ghost use Rattle.wit_graph.specs.Table.{Entry, AreNeedsAt, place_of, rows};
 
 use indexmap::IndexMap;
-use wit_type_tree::leaves::Id;
 use wit_maps::Table;
+use wit_type_tree::leaves::Id;
 
 /// A table of names, each with the names that it needs: an [`IndexMap`], as the resolver that this one
 /// follows has, or a [`Table`], as packages have.

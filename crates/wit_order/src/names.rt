@@ -10,7 +10,7 @@ use std::alloc::{AllocError, Global};
 use wit_graph::OrderFault;
 use wit_type_tree::leaves::Id;
 
-/// Puts the places of what the ids of a place name behind the targets.
+/// Puts the places of what the ids of a place name after the targets.
 fn add_row<'a, T: NameTable<'a>>(
     targets: &mut Vec<usize>,
     deps: &T,

@@ -18,9 +18,9 @@ use crate::{heap, tree};
 use std::alloc::Global;
 use wit_graph::OrderFault;
 use wit_graph::sorted::Sorted;
+use wit_maps::Table;
 use wit_type_tree::leaves::Id;
 use wit_type_tree::{ParseError, ParseErrorKind, ParseResult};
-use wit_maps::Table;
 
 /// The sorted places, or the first edge both of whose ends reach a cycle.
 fn conclude(graph: &Graph, sorted: Sorted) -> Result<Vec<usize>, OrderFault>
@@ -80,7 +80,7 @@ fn order_by_heap<'a, T: NameTable<'a>>(alloc: Global, deps: &T) -> Result<Vec<us
 ///
 /// # Errors
 ///
-/// The [`OrderFault`] that forbids an order, or want of memory.
+/// The [`OrderFault`] that forbids an order, or a failed allocation.
 pub fn order_places<'a>(
     alloc: Global,
     deps: &Table<&'a str, Vec<Id<'a>>>,

@@ -57,7 +57,7 @@ fn first_free(counts: &[usize], from: usize) -> Option<usize>
 
 /// The places that wait for none, and how many edges each other place still waits for.
 ///
-/// Places are taken in their order, so that only those that are behind the last of these, and
+/// Places are taken in their order, so that only those that are after the last of these, and
 /// came to wait for none afterwards, have to be kept in a set.
 #[derive(Drop)]
 pub struct Ready {

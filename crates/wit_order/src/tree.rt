@@ -58,7 +58,7 @@ fn release(users: &[usize], ready: &mut Ready) -> Result<(), AllocError>
     Ok(())
 }
 
-/// The places in the least order in which each stands after those that its edges lead to, and
+/// The places in the least order in which each is after those that its edges lead to, and
 /// what that took.
 pub fn sort_places(alloc: Global, graph: &Graph) -> Result<(Sorted, Steps), AllocError>
     requires { IsClosed graph.now }

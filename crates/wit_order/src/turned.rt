@@ -34,7 +34,7 @@ fn counts_to(alloc: Global, graph: &Graph) -> Result<Vec<usize>, AllocError>
     Ok(counts)
 }
 
-/// Where runs of these lengths begin, one behind the other, and where the last one ends.
+/// Where runs of these lengths begin, one after the other, and where the last one ends.
 fn starts_of(alloc: Global, lengths: &[usize]) -> Result<Vec<usize>, AllocError>
     requires { sum lengths.now < 2 ^ 64 }
     ensures long { IfOk result (λ starts. length starts.items ≡ length lengths.now + 1) }
@@ -50,18 +50,18 @@ fn starts_of(alloc: Global, lengths: &[usize]) -> Result<Vec<usize>, AllocError>
     Ok(starts)
 }
 
-/// Puts p in front of what the run of each place of its row has.
-fn add_user(users: &mut [usize], fronts: &mut [usize], row: &[usize], p: usize)
-    requires room { (starts : List ℕ) × (put : ℕ → ℕ) × (seen : ℕ → ℕ → ℕ) × IsFilling starts put seen users.old fronts.old × HasRoom starts put row.now }
-    requires within { All (λ w. w + 1 < length fronts.old) row.now }
+/// Puts p before what the run of each place of its row has.
+fn add_user(users: &mut [usize], prefixes: &mut [usize], row: &[usize], p: usize)
+    requires room { (starts : List ℕ) × (put : ℕ → ℕ) × (seen : ℕ → ℕ → ℕ) × IsFilling starts put seen users.old prefixes.old × HasRoom starts put row.now }
+    requires within { All (λ w. w + 1 < length prefixes.old) row.now }
     ensures wide { length users.new ≡ length users.old }
-    ensures long { length fronts.new ≡ length fronts.old }
-    ensures filling { (starts : List ℕ) (put : ℕ → ℕ) (seen : ℕ → ℕ → ℕ) → IsFilling starts put seen users.old fronts.old → HasRoom starts put row.now → IsFilling starts (λ w. put w + times w row.now) (λ w q. seen w q + cond (nat_eq p q) (times w row.now) 0) users.new fronts.new }
+    ensures long { length prefixes.new ≡ length prefixes.old }
+    ensures filling { (starts : List ℕ) (put : ℕ → ℕ) (seen : ℕ → ℕ → ℕ) → IsFilling starts put seen users.old prefixes.old → HasRoom starts put row.now → IsFilling starts (λ w. put w + times w row.now) (λ w q. seen w q + cond (nat_eq p q) (times w row.now) 0) users.new prefixes.new }
 {
     for w in row {
-        let front = fronts[*w + 1] - 1;
-        fronts[*w + 1] = front;
-        users[front] = p;
+        let prefix = prefixes[*w + 1] - 1;
+        prefixes[*w + 1] = prefix;
+        users[prefix] = p;
     }
 }
 
@@ -72,10 +72,10 @@ pub fn turned(alloc: Global, graph: &Graph) -> Result<Graph, AllocError>
 {
     let len = graph.len();
     let starts = starts_of(alloc, &counts_to(alloc, graph)?)?;
-    let mut fronts = starts.clone()?;
+    let mut prefixes = starts.clone()?;
     let mut targets = vec![in alloc; 0; starts[len]]?;
     for p in 0..len {
-        add_user(&mut targets, &mut fronts, graph.row(p), p);
+        add_user(&mut targets, &mut prefixes, graph.row(p), p);
     }
     Ok(Graph { starts, targets })
 }

@@ -5,7 +5,7 @@ use Rattle.wit_type_tree.specs.declared.error.ParseError.{ParseError}
 use Rattle.wit_type_tree.specs.declared.error.ParseErrorKind.{ParseErrorKind}
 use Rattle.wit_type_tree.specs.declared.error.ParseErrorKind.TheVariants.{Syntax, ItemNotFound, TypeCycle, OutOfMemory}
 use Rattle.wit_lex.specs.declared.source.Source.{Source}
-use Rattle.wit_lex.specs.Sources.{IsTooLarge, TellsTooLarge}
+use Rattle.wit_lex.specs.Sources.{IsTooLarge, ReportsTooLarge}
 use Rattle.wit_bundle.specs.Laid.{AreLaid, room}
 use Rattle.wit_groups.specs.Groups.{IsGroup}
 use Rattle.wit_outcome.specs.declared.outcome.Outcome.{Outcome}
@@ -25,15 +25,15 @@ pub result_of : {E : Type 0} (parts : List (List ℕ × List ℕ)) (sources : Li
 result_of parts sources (Ok o) are is = outcome_of parts sources are o is
 result_of parts sources (Err e) are is = tt
 
-large_end : (end number : ℕ) (kind : ParseErrorKind) → TellsTooLarge end number kind → (number ≡ 45 → ⊥) → 4294967295 < end
-large_end end number (Syntax span message) tells is = tells.1
-large_end end number (ItemNotFound span name kind hint) tells is = absurd tells
-large_end end number (TypeCycle span name kind) tells is = absurd tells
-large_end end number OutOfMemory tells is = absurd (is tells)
+large_end : (end number : ℕ) (kind : ParseErrorKind) → ReportsTooLarge end number kind → (number ≡ 45 → ⊥) → 4294967295 < end
+large_end end number (Syntax span message) gives is = gives.1
+large_end end number (ItemNotFound span name kind hint) gives is = absurd gives
+large_end end number (TypeCycle span name kind) gives is = absurd gives
+large_end end number OutOfMemory gives is = absurd (is gives)
 
 other_than_45 : (number : ℕ) → number ≡ 52 → number ≡ 45 → ⊥
 other_than_45 number is other = absurd (omega arith)
 
 pub too_much : (parts : List (List ℕ × List ℕ)) (e : ParseError) → IsTooLarge (room parts) e → e.rule ≡ 52 → (p : Plain) → IsPlain [] e p → IsOutcome parts (outcome.Refusal p)
 too_much parts e large is p plain =
-    TooMuch p (record { large = large_end _ e.rule e.kind large.tells (other_than_45 e.rule is); e = e; rule = is; tells = large; plain = plain })
+    TooMuch p (record { large = large_end _ e.rule e.kind large.gives (other_than_45 e.rule is); e = e; rule = is; gives = large; plain = plain })

@@ -1,4 +1,4 @@
--- The place of a refusal, told from the first byte of its source on.
+-- The place of a refusal, stated from the first byte of its source on.
 use Rattle.std.proofs.Common.{◌≡◌, ℕ, ◌+◌, ◌-◌, ◌≤◌, true, List, ap, sym, ◌∙◌, subst, refl, arith}
 use Rattle.std.specs.Prelude.{string_bytes}
 use Rattle.wit_values.specs.declared.span.Span.{Span}

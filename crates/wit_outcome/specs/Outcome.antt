@@ -32,7 +32,7 @@ pub record IsTooMuch (parts : List (List ℕ × List ℕ)) (p : Plain) : Type 0 
   pub large : 4294967295 < room parts
   pub e : ParseError
   pub rule : e.rule ≡ 52
-  pub tells : IsTooLarge (room parts) e
+  pub gives : IsTooLarge (room parts) e
   pub plain : IsPlain [] e p
 
 -- what sources of these paths and texts come to

@@ -36,7 +36,7 @@ impl fmt::Display for PackageName {
 impl PackageName {
     /// The text that Display writes.
     ///
-    /// The error is want of memory.
+    /// The error is a failed allocation.
     pub fn to_text(&self, alloc: Global) -> Result<String, AllocError>
         ensures { IfOk result (λ t. string_bytes t ≡ name_text self.now) }
     {
@@ -46,7 +46,7 @@ impl PackageName {
     /// The id of an interface of this package: `namespace:name/interface`, and where there is a
     /// version `@` and its text.
     ///
-    /// The error is want of memory.
+    /// The error is a failed allocation.
     pub fn interface_id(&self, alloc: Global, interface: &str) -> Result<String, AllocError>
         ensures { IfOk result (λ t. string_bytes t ≡ interface_text self.now interface.now) }
     {

@@ -11,7 +11,7 @@ use std::alloc::{AllocError, Global};
 use wit_names::split_canonical;
 use wit_values::Release;
 
-/// The numbers of a version without a pre-release, 0 where they stand behind the track.
+/// The numbers of a version without a pre-release, 0 where they come after the track.
 fn release_numbers(version: &Version) -> (u64, u64, u64)
     ensures { result ≡ release_numbers (parts_of version.now) }
 {
@@ -25,7 +25,7 @@ fn release_numbers(version: &Version) -> (u64, u64, u64)
     }
 }
 
-/// The version without its build, and without a pre-release with 0 for the numbers behind its
+/// The version without its build, and without a pre-release with 0 for the numbers after its
 /// track.
 fn track_version(version: &Version) -> Result<Version, AllocError>
     ensures { IfOk result (λ v. parts_of v ≡ track_parts (parts_of version.now)) }
@@ -45,11 +45,11 @@ fn track_version(version: &Version) -> Result<Version, AllocError>
 }
 
 impl PackageName {
-    /// The version that stands for the track of a version, and the rest of the version's text,
+    /// The version that means the track of a version, and the rest of the version's text,
     /// None where nothing is left.
     ///
     /// The track version has no build. It keeps a pre-release with all three numbers; without one,
-    /// the numbers behind the first that is not 0 are 0. The error is want of memory.
+    /// the numbers after the first that is not 0 are 0. The error is a failed allocation.
     pub fn version_compat_track(
         alloc: Global,
         version: &Version,
@@ -64,7 +64,7 @@ impl PackageName {
     /// The track of a version as names of imports and exports write it, and the rest of the
     /// version's text, None where nothing is left.
     ///
-    /// The error is want of memory.
+    /// The error is a failed allocation.
     pub fn version_compat_track_string(
         alloc: Global,
         version: &Version,

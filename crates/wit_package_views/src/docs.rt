@@ -1,11 +1,11 @@
 //! The view `docs`: the docs of a package and of what it holds.
 
 use std::alloc::AllocError;
+use wit_maps::Table;
 use wit_model::{Interface, UnresolvedPackage, World, WorldItem, WorldKey};
 use wit_types::{Arena, Docs, InterfacePlace, TypeDefKind, Types, WorldPlace};
-use wit_maps::Table;
 
-/// Puts a name and its docs behind a text, as a line; an LF is written `|`.
+/// Puts a name and its docs after a text, as a line; an LF is written `|`.
 fn push_docs(text: &mut String, name: &str, docs: &Docs) -> Result<(), AllocError> {
     let Some(contents) = &docs.contents else {
         return Ok(());
@@ -15,7 +15,7 @@ fn push_docs(text: &mut String, name: &str, docs: &Docs) -> Result<(), AllocErro
     push_lines(text, contents.as_str())
 }
 
-/// Puts the lines of docs behind a text.
+/// Puts the lines of docs after a text.
 fn push_lines(text: &mut String, contents: &str) -> Result<(), AllocError> {
     text.push_str(":")?;
     for line in contents.split('\n') {
@@ -25,7 +25,7 @@ fn push_lines(text: &mut String, contents: &str) -> Result<(), AllocError> {
     Ok(())
 }
 
-/// Puts the docs of fields, flags or cases behind a text.
+/// Puts the docs of fields, flags or cases after a text.
 fn push_members(text: &mut String, kind: &TypeDefKind) -> Result<(), AllocError> {
     match kind {
         TypeDefKind::Record(record) => {
@@ -53,7 +53,7 @@ fn push_members(text: &mut String, kind: &TypeDefKind) -> Result<(), AllocError>
     Ok(())
 }
 
-/// Puts the docs of an interface and of its functions behind a text.
+/// Puts the docs of an interface and of its functions after a text.
 fn push_interface(text: &mut String, interface: &Interface) -> Result<(), AllocError> {
     if let Some(name) = &interface.name {
         push_docs(text, name.as_str(), &interface.docs)?;
@@ -66,7 +66,7 @@ fn push_interface(text: &mut String, interface: &Interface) -> Result<(), AllocE
     Ok(())
 }
 
-/// Puts a key of a world behind a text, on a line of its own.
+/// Puts a key of a world after a text, on a line of its own.
 pub fn push_key(text: &mut String, key: &WorldKey) -> Result<(), AllocError> {
     text.push_str("\n")?;
     match key {
@@ -75,7 +75,7 @@ pub fn push_key(text: &mut String, key: &WorldKey) -> Result<(), AllocError> {
     }
 }
 
-/// Puts a key of a world and the docs of what it has by this key behind a text, as a line.
+/// Puts a key of a world and the docs of what it has by this key after a text, as a line.
 fn push_key_docs(text: &mut String, key: &WorldKey, docs: &Docs) -> Result<(), AllocError> {
     let Some(contents) = &docs.contents else {
         return Ok(());
@@ -84,7 +84,7 @@ fn push_key_docs(text: &mut String, key: &WorldKey, docs: &Docs) -> Result<(), A
     push_lines(text, contents.as_str())
 }
 
-/// Puts the docs of what a world has by this key behind a text, if it is a function or an interface.
+/// Puts the docs of what a world has by this key after a text, if it is a function or an interface.
 fn push_item(text: &mut String, key: &WorldKey, item: &WorldItem) -> Result<(), AllocError> {
     match item {
         WorldItem::Function(function) => push_key_docs(text, key, &function.docs),
@@ -93,7 +93,7 @@ fn push_item(text: &mut String, key: &WorldKey, item: &WorldItem) -> Result<(), 
     }
 }
 
-/// Puts the docs of functions and of interfaces on a side of a world behind a text.
+/// Puts the docs of functions and of interfaces on a side of a world after a text.
 fn push_side(text: &mut String, items: &Table<WorldKey, WorldItem>) -> Result<(), AllocError> {
     for place in 0..items.len() {
         if let Some((key, item)) = items.get_index(place) {
@@ -103,14 +103,14 @@ fn push_side(text: &mut String, items: &Table<WorldKey, WorldItem>) -> Result<()
     Ok(())
 }
 
-/// Puts the docs of a world, of its functions, and of interfaces that it imports and exports behind a text.
+/// Puts the docs of a world, of its functions, and of interfaces that it imports and exports after a text.
 fn push_world(text: &mut String, world: &World) -> Result<(), AllocError> {
     push_docs(text, world.name.as_str(), &world.docs)?;
     push_side(text, &world.imports)?;
     push_side(text, &world.exports)
 }
 
-/// Puts the docs of types and of their parts behind a text.
+/// Puts the docs of types and of their parts after a text.
 fn push_types(text: &mut String, types: &Types) -> Result<(), AllocError> {
     for ty in types.iter() {
         if let Some(name) = &ty.name {
@@ -121,7 +121,7 @@ fn push_types(text: &mut String, types: &Types) -> Result<(), AllocError> {
     Ok(())
 }
 
-/// Puts the docs of interfaces and of their functions behind a text.
+/// Puts the docs of interfaces and of their functions after a text.
 fn push_interfaces(
     text: &mut String,
     interfaces: &Arena<Interface, InterfacePlace>,
@@ -132,7 +132,7 @@ fn push_interfaces(
     Ok(())
 }
 
-/// Puts the docs of worlds and of what they have behind a text.
+/// Puts the docs of worlds and of what they have after a text.
 fn push_worlds(text: &mut String, worlds: &Arena<World, WorldPlace>) -> Result<(), AllocError> {
     for world in worlds.iter() {
         push_world(text, world)?;
@@ -140,7 +140,7 @@ fn push_worlds(text: &mut String, worlds: &Arena<World, WorldPlace>) -> Result<(
     Ok(())
 }
 
-/// Puts the docs of a package and of what it holds behind a text, each on its line.
+/// Puts the docs of a package and of what it holds after a text, each on its line.
 pub fn push_docs_of(text: &mut String, package: &UnresolvedPackage) -> Result<(), AllocError> {
     text.push_str("docs")?;
     push_docs(text, "package", &package.docs)?;

@@ -1,9 +1,10 @@
-//! The view `external-ids`: names that items have elsewhere. No text tells them: each
+//! The view `external-ids`: names that items have elsewhere. No text says them: each
 //! `@unstable(feature = id-..)` of a read tree is made such a name here, before any view of a package
 //! but `listing`.
 
 use crate::docs::push_key;
 use std::alloc::{AllocError, Global};
+use wit_maps::Table;
 use wit_model::{Interface, UnresolvedPackage, World, WorldItem, WorldKey};
 use wit_text::{Source, read_file};
 use wit_tree::ParseResult;
@@ -12,7 +13,6 @@ use wit_tree::tree::{
     SourceFile, TypeBody, TypeDef,
 };
 use wit_types::{Arena, InterfacePlace, Types, WorldPlace};
-use wit_maps::Table;
 use wit_values::{Rare, Text};
 
 /// The external id that a feature is made, where it begins with `id-`.
@@ -118,7 +118,7 @@ pub fn read_marked<'a>(alloc: Global, source: &'a Source) -> ParseResult<SourceF
     Ok(read)
 }
 
-/// Puts a name and its external id behind a text, as a line.
+/// Puts a name and its external id after a text, as a line.
 fn push_id(text: &mut String, name: &str, id: &Rare<Text>) -> Result<(), AllocError> {
     if let Some(id) = id.get() {
         text.push_str("\n")?;
@@ -129,7 +129,7 @@ fn push_id(text: &mut String, name: &str, id: &Rare<Text>) -> Result<(), AllocEr
     Ok(())
 }
 
-/// Puts a key of a world and the external id of what it has by this key behind a text, as a line.
+/// Puts a key of a world and the external id of what it has by this key after a text, as a line.
 fn push_key_id(text: &mut String, key: &WorldKey, id: &Rare<Text>) -> Result<(), AllocError> {
     if let Some(id) = id.get() {
         push_key(text, key)?;
@@ -139,7 +139,7 @@ fn push_key_id(text: &mut String, key: &WorldKey, id: &Rare<Text>) -> Result<(),
     Ok(())
 }
 
-/// Puts the external id of what a world has by this key behind a text, if it is a function or an interface.
+/// Puts the external id of what a world has by this key after a text, if it is a function or an interface.
 fn push_item_id(text: &mut String, key: &WorldKey, item: &WorldItem) -> Result<(), AllocError> {
     match item {
         WorldItem::Function(function) => push_key_id(text, key, &function.external_id),
@@ -148,7 +148,7 @@ fn push_item_id(text: &mut String, key: &WorldKey, item: &WorldItem) -> Result<(
     }
 }
 
-/// Puts the external ids of what stands on a side of a world behind a text.
+/// Puts the external ids of what is on a side of a world after a text.
 fn push_side_ids(text: &mut String, items: &Table<WorldKey, WorldItem>) -> Result<(), AllocError> {
     for place in 0..items.len() {
         if let Some((key, item)) = items.get_index(place) {
@@ -158,7 +158,7 @@ fn push_side_ids(text: &mut String, items: &Table<WorldKey, WorldItem>) -> Resul
     Ok(())
 }
 
-/// Puts the external ids of what worlds import and export behind a text.
+/// Puts the external ids of what worlds import and export after a text.
 fn push_world_ids(text: &mut String, worlds: &Arena<World, WorldPlace>) -> Result<(), AllocError> {
     for world in worlds.iter() {
         push_side_ids(text, &world.imports)?;
@@ -167,7 +167,7 @@ fn push_world_ids(text: &mut String, worlds: &Arena<World, WorldPlace>) -> Resul
     Ok(())
 }
 
-/// Puts the external ids of types behind a text.
+/// Puts the external ids of types after a text.
 fn push_type_ids(text: &mut String, types: &Types) -> Result<(), AllocError> {
     for ty in types.iter() {
         match &ty.name {
@@ -178,7 +178,7 @@ fn push_type_ids(text: &mut String, types: &Types) -> Result<(), AllocError> {
     Ok(())
 }
 
-/// Puts the external ids of the functions of interfaces behind a text.
+/// Puts the external ids of the functions of interfaces after a text.
 fn push_function_ids(
     text: &mut String,
     interfaces: &Arena<Interface, InterfacePlace>,
@@ -193,7 +193,7 @@ fn push_function_ids(
     Ok(())
 }
 
-/// Puts the external ids of a package behind a text, those of types and then those of functions.
+/// Puts the external ids of a package after a text, those of types and then those of functions.
 pub fn push_ids(text: &mut String, package: &UnresolvedPackage) -> Result<(), AllocError> {
     text.push_str("ids")?;
     push_type_ids(text, &package.types)?;

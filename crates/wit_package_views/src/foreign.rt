@@ -2,12 +2,12 @@
 //! stable each path that leads to it says that it is.
 
 use std::alloc::AllocError;
+use wit_maps::TextTable;
 use wit_model::{AstItem, UnresolvedPackage};
 use wit_types::Stability;
-use wit_maps::TextTable;
 use wit_values::{Rare, Release, Row};
 
-/// Puts the version from which on something is deprecated behind a text.
+/// Puts the version from which on something is deprecated after a text.
 fn push_deprecated(text: &mut String, deprecated: &Rare<Release>) -> Result<(), AllocError> {
     match deprecated.get() {
         Some(version) => write!(text, ", not from {version}"),
@@ -15,7 +15,7 @@ fn push_deprecated(text: &mut String, deprecated: &Rare<Release>) -> Result<(), 
     }
 }
 
-/// Puts a stability in words behind a text.
+/// Puts a stability in words after a text.
 fn push_stability(text: &mut String, stability: &Stability) -> Result<(), AllocError> {
     match stability {
         Stability::Unknown => text.push_str("unknown"),
@@ -34,7 +34,7 @@ fn push_stability(text: &mut String, stability: &Stability) -> Result<(), AllocE
     }
 }
 
-/// Puts the entry of an item behind a text.
+/// Puts the entry of an item after a text.
 fn push_entry(text: &mut String, item: &AstItem) -> Result<(), AllocError> {
     match item {
         AstItem::Interface(id) => write!(text, "i{}", id.index()),
@@ -42,7 +42,7 @@ fn push_entry(text: &mut String, item: &AstItem) -> Result<(), AllocError> {
     }
 }
 
-/// Puts the items of a package behind a text.
+/// Puts the items of a package after a text.
 fn push_items(
     text: &mut String,
     items: &TextTable<(AstItem, Row<Stability>)>,
@@ -51,11 +51,11 @@ fn push_items(
         if let Some((name, item)) = items.get_index(place) {
             write!(text, " [{name} ")?;
             push_entry(text, &item.0)?;
-            let mut front = ": ";
+            let mut prefix = ": ";
             for stability in item.1.as_slice() {
-                text.push_str(front)?;
+                text.push_str(prefix)?;
                 push_stability(text, stability)?;
-                front = ", ";
+                prefix = ", ";
             }
             text.push_str("]")?;
         }
@@ -63,7 +63,7 @@ fn push_items(
     Ok(())
 }
 
-/// Puts the items of other packages behind a text.
+/// Puts the items of other packages after a text.
 pub fn push_foreign(text: &mut String, package: &UnresolvedPackage) -> Result<(), AllocError> {
     for place in 0..package.foreign_deps.len() {
         if let Some((name, items)) = package.foreign_deps.get_index(place) {

@@ -8,7 +8,7 @@ use wit_model::{
 use wit_package_names::PackageName;
 use wit_types::{Type, Types, is_backward};
 
-/// Puts a type behind a text.
+/// Puts a type after a text.
 fn push_type(text: &mut String, ty: Type) -> Result<(), AllocError> {
     match ty {
         Type::Id(id) => write!(text, " #{}", id.index()),
@@ -16,7 +16,7 @@ fn push_type(text: &mut String, ty: Type) -> Result<(), AllocError> {
     }
 }
 
-/// Puts the names behind a text that a function of an interface is exported by, by each spelling.
+/// Puts the names after a text that a function of an interface is exported by, by each spelling.
 fn push_exports(
     alloc: Global,
     text: &mut String,
@@ -31,7 +31,7 @@ fn push_exports(
     text.push_str(standard.as_str())
 }
 
-/// Puts what the kind of a function says behind a text.
+/// Puts what the kind of a function says after a text.
 fn push_kind(text: &mut String, function: &Function) -> Result<(), AllocError> {
     if function.kind.is_async() {
         text.push_str(" async")?;
@@ -45,7 +45,7 @@ fn push_kind(text: &mut String, function: &Function) -> Result<(), AllocError> {
     Ok(())
 }
 
-/// Puts the futures and streams of a function behind a text, or that it reaches another package's type.
+/// Puts the futures and streams of a function after a text, or that it reaches another package's type.
 fn push_awaited(
     alloc: Global,
     text: &mut String,
@@ -64,7 +64,7 @@ fn push_awaited(
     Ok(())
 }
 
-/// Puts a function behind a text, in lines.
+/// Puts a function after a text, in lines.
 fn push_function(
     alloc: Global,
     text: &mut String,
@@ -90,7 +90,7 @@ fn push_function(
     text.push_str("\n")
 }
 
-/// Puts an interface of a package behind a text, and its functions.
+/// Puts an interface of a package after a text, and its functions.
 fn push_interface(
     alloc: Global,
     text: &mut String,
@@ -111,7 +111,7 @@ fn push_interface(
     Ok(())
 }
 
-/// Puts the functions of a world behind a text.
+/// Puts the functions of a world after a text.
 fn push_world(
     alloc: Global,
     text: &mut String,
@@ -132,7 +132,7 @@ fn push_world(
     Ok(())
 }
 
-/// Puts the functions of a package behind a text.
+/// Puts the functions of a package after a text.
 pub fn push_functions(
     alloc: Global,
     text: &mut String,

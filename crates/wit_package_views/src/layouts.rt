@@ -1,4 +1,4 @@
-//! The view `layouts`: the integers that hold the flags and tell the cases of each type.
+//! The view `layouts`: the integers that hold the flags and say the cases of each type.
 
 use std::alloc::AllocError;
 use wit_model::UnresolvedPackage;
@@ -7,7 +7,7 @@ use wit_types::TypeDefKind;
 /// More cases than a text of this view has.
 const MANY: usize = 1_000_000;
 
-/// Puts the integers of a kind behind a text.
+/// Puts the integers of a kind after a text.
 fn push_layout(text: &mut String, kind: &TypeDefKind) -> Result<(), AllocError> {
     match kind {
         TypeDefKind::Flags(flags) => {
@@ -33,7 +33,7 @@ fn push_layout(text: &mut String, kind: &TypeDefKind) -> Result<(), AllocError> 
     }
 }
 
-/// Puts the integers of all types behind a text, a line each.
+/// Puts the integers of all types after a text, a line each.
 pub fn push_layouts(text: &mut String, package: &UnresolvedPackage) -> Result<(), AllocError> {
     for ty in package.types.iter() {
         push_layout(text, &ty.kind)?;

@@ -1,14 +1,14 @@
-//! The view `parts`: what stands where the fields, flags and cases of definitions are, and the functions
+//! The view `parts`: what is where the fields, flags and cases of definitions are, and the functions
 //! with their parameters, and what worlds import, export and include.
 
 use crate::slices::push_slice;
 use std::alloc::AllocError;
+use wit_maps::Table;
 use wit_model::{Function, Interface, UnresolvedPackage, World, WorldItem, WorldKey};
 use wit_text::SourceMap;
 use wit_types::{Arena, InterfacePlace, TypeDefKind, Types};
-use wit_maps::Table;
 
-/// Puts what stands where fields, flags or cases are behind a text.
+/// Puts what is where fields, flags or cases are after a text.
 fn push_members(text: &mut String, map: &SourceMap, kind: &TypeDefKind) -> Result<(), AllocError> {
     match kind {
         TypeDefKind::Record(record) => {
@@ -36,7 +36,7 @@ fn push_members(text: &mut String, map: &SourceMap, kind: &TypeDefKind) -> Resul
     Ok(())
 }
 
-/// Puts what stands where a function and its parameters are behind a text.
+/// Puts what is where a function and its parameters are after a text.
 fn push_function(
     text: &mut String,
     map: &SourceMap,
@@ -49,7 +49,7 @@ fn push_function(
     Ok(())
 }
 
-/// Puts what stands where an item of a side of a world is behind a text.
+/// Puts what is where an item of a side of a world is after a text.
 fn push_item(text: &mut String, map: &SourceMap, item: &WorldItem) -> Result<(), AllocError> {
     match item {
         WorldItem::Function(function) => push_function(text, map, function),
@@ -57,7 +57,7 @@ fn push_item(text: &mut String, map: &SourceMap, item: &WorldItem) -> Result<(),
     }
 }
 
-/// Puts what stands where the items on a side of a world are behind a text.
+/// Puts what is where the items on a side of a world are after a text.
 fn push_side(
     text: &mut String,
     map: &SourceMap,
@@ -71,7 +71,7 @@ fn push_side(
     Ok(())
 }
 
-/// Puts what stands where what a world imports, exports and includes is behind a text.
+/// Puts what is where what a world imports, exports and includes is after a text.
 fn push_world(text: &mut String, map: &SourceMap, world: &World) -> Result<(), AllocError> {
     text.push_str("\nimports")?;
     push_side(text, map, &world.imports)?;
@@ -84,7 +84,7 @@ fn push_world(text: &mut String, map: &SourceMap, world: &World) -> Result<(), A
     Ok(())
 }
 
-/// Puts what stands where the parts of types are behind a text.
+/// Puts what is where the parts of types are after a text.
 fn push_types(text: &mut String, map: &SourceMap, types: &Types) -> Result<(), AllocError> {
     for ty in types.iter() {
         push_members(text, map, &ty.kind)?;
@@ -92,7 +92,7 @@ fn push_types(text: &mut String, map: &SourceMap, types: &Types) -> Result<(), A
     Ok(())
 }
 
-/// Puts what stands where the functions of interfaces are behind a text.
+/// Puts what is where the functions of interfaces are after a text.
 fn push_interfaces(
     text: &mut String,
     map: &SourceMap,
@@ -109,7 +109,7 @@ fn push_interfaces(
     Ok(())
 }
 
-/// Puts what stands where the parts of a package are behind a text.
+/// Puts what is where the parts of a package are after a text.
 pub fn push_parts(
     text: &mut String,
     map: &SourceMap,

@@ -1,4 +1,4 @@
-//! The view `spans`: what stands where a package and its entries are; and the view `required`: what
+//! The view `spans`: what is where a package and its entries are; and the view `required`: what
 //! handles require of other packages, and where.
 
 use crate::slices::{push_slice, push_slices};
@@ -6,7 +6,7 @@ use std::alloc::AllocError;
 use wit_model::UnresolvedPackage;
 use wit_text::SourceMap;
 
-/// Puts what stands where the items of a package are behind a text.
+/// Puts what is where the items of a package are after a text.
 fn push_items(
     text: &mut String,
     map: &SourceMap,
@@ -23,7 +23,7 @@ fn push_items(
     Ok(())
 }
 
-/// Puts what stands where a package and its entries are behind a text.
+/// Puts what is where a package and its entries are after a text.
 pub fn push_spans(
     text: &mut String,
     map: &SourceMap,
@@ -43,7 +43,7 @@ pub fn push_spans(
     text.push_str("\n")
 }
 
-/// Puts each type that a package requires to be a resource behind a text, and what stands at its span.
+/// Puts each type that a package requires to be a resource after a text, and what is at its span.
 pub fn push_required(
     text: &mut String,
     map: &SourceMap,

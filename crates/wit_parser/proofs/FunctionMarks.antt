@@ -29,7 +29,7 @@ use Rattle.wit_arena.specs.Functions.{by_name, placed_functions, AreFunctions}
 use Rattle.wit_arena.specs.SideItems.{AreSideItems, settled}
 use Rattle.wit_arena.proofs.Settled.{moved, settled_at}
 use Rattle.wit_arena.proofs.SideItems.{side_functions}
-use Rattle.wit_arena.specs.Meet.{Key, keys}
+use Rattle.wit_arena.specs.Occurrences.{Key, keys}
 use Rattle.wit_arena.specs.Package.{item_functions, keyed, interface_functions, world_functions, world_types, functions_of, IsForeignWorld}
 use Rattle.wit_arena.specs.OneByOne.{OneByOne}
 use Rattle.wit_arena.specs.Whole.{Ordered, OrderedWorld, ordered_names, addresses, all_inside, type_imports, IsPackage, interface_addresses, world_addresses, IsResolvedInterface, IsResolvedWorld, IsForeignInterface}
@@ -61,7 +61,7 @@ marked_keyed side es marked place key f at =
 
 both_keyed : (xs ys : List (FunctionKey × Function)) → AreKeyed xs → AreKeyed ys → AreKeyed (xs ++ ys)
 both_keyed xs ys first second place key f at = elim (at_split xs ys place (key, f) at) [
-  | inl front ↦ first place key f front
+  | inl prefix ↦ first place key f prefix
   | inr back ↦ second back.0 key f back.2
 ]
 
@@ -74,7 +74,7 @@ made_marked ks s i fs are k f at =
     let is = are.each k fn.0 f fn.1 at in
     subst (HasMarkOf (mark_of f.kind)) (sym is.name) (written_marked i k fn.0 fn.1 ks s f.kind is.kind)
 
--- where each setter stands behind its getter, too
+-- where each setter comes after its getter, too
 placed_marked : (ks : List Key) (s : Address) (i : Item) (fs : List Function) → AreFunctions ks s (functions i) fs → AreMarked (placed_functions fs)
 placed_marked ks s i fs are place name f at =
     let it = function_from fs place name f at in
@@ -89,7 +89,7 @@ type_imports_none (x ∷ xs) (t ∷ types) = type_imports_none xs types
 imported : (xs : List ScopeName) (types : List (List ℕ × ℕ)) (rest : List (WorldKey × WorldItem)) → flat_map item_functions (type_imports xs types ++ rest) ≡ flat_map item_functions rest
 imported xs types rest = flat_map-append item_functions (type_imports xs types) rest ∙ ap (λ (l : List (List ℕ × Function)). l ++ flat_map item_functions rest) (type_imports_none xs types)
 
--- what stands on a side of an item has the functions of the item there
+-- what is on a side of an item has the functions of the item there
 there : (interfaces inside : List Address) (side : WorldSide) (i : Item) (fs : List Function) (xs : List (WorldKey × WorldItem)) → AreSideItems interfaces i.top side (side_items i) fs inside xs → flat_map item_functions xs ≡ map by_name (made_on side (functions i) fs)
 there interfaces inside side i fs xs are = side_functions interfaces i.top side (side_items i) fs inside xs are ∙ ap (λ (fns : List SourceFunction). map by_name (made_on side fns fs)) (sym (functions_items i))
 
@@ -148,14 +148,14 @@ foreign_world vs ws are k w at =
 module _ (files : List PackageFile) (p : UnresolvedPackage) (is : IsPackage files p) where
   interface_marked : (k : ℕ) (i : Interface) → slice_get p.interfaces k ≡ Some i → AreMarked i.functions
   interface_marked k i at = elim (at_split is.interfaces.0 is.interfaces.1 k i (ap (λ (l : List Interface). slice_get l k) (sym is.interfaces.2) ∙ at)) [
-    | inl front ↦ foreign_interface files (keys is.met) (foreign_interfaces files) is.interfaces.0 is.interfaces.3 k i front
-    | inr own ↦ own_interface (keys is.met) (is.first.interfaces ++ all_inside is.first.worlds) is.interfaces.1 is.interfaces.4 own.0 i own.2
+    | inl prefix ↦ foreign_interface files (keys is.seen) (foreign_interfaces files) is.interfaces.0 is.interfaces.3 k i prefix
+    | inr own ↦ own_interface (keys is.seen) (is.first.interfaces ++ all_inside is.first.worlds) is.interfaces.1 is.interfaces.4 own.0 i own.2
   ]
 
   world_marked : (k : ℕ) (w : World) → slice_get p.worlds k ≡ Some w → AreKeyed (world_functions w)
   world_marked k w at = elim (at_split is.worlds.0 is.worlds.1 k w (ap (λ (l : List World). slice_get l k) (sym is.worlds.2) ∙ at)) [
-    | inl front ↦ foreign_world (foreign_worlds files) is.worlds.0 is.worlds.3 k w front
-    | inr own ↦ own_world (keys is.met) (interface_addresses files (is.first.interfaces ++ all_inside is.first.worlds)) (world_addresses files is.first.worlds) is.first.worlds is.worlds.1 is.worlds.4 own.0 w own.2
+    | inl prefix ↦ foreign_world (foreign_worlds files) is.worlds.0 is.worlds.3 k w prefix
+    | inr own ↦ own_world (keys is.seen) (interface_addresses files (is.first.interfaces ++ all_inside is.first.worlds)) (world_addresses files is.first.worlds) is.first.worlds is.worlds.1 is.worlds.4 own.0 w own.2
   ]
 
   -- what one of these has, if there is one

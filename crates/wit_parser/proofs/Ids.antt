@@ -25,7 +25,7 @@ use Rattle.wit_syntax.specs.Scope.{includes}
 use Rattle.wit_syntax.specs.Sides.{side_items}
 use Rattle.wit_syntax.specs.Source.{Item, address, leads, target_scope}
 use Rattle.wit_arena.specs.Kind.{kind_of}
-use Rattle.wit_arena.specs.Meet.{Key, Def, Whole, keys, IsEntry, IsKeyed}
+use Rattle.wit_arena.specs.Occurrences.{Key, Def, Whole, keys, IsEntry, IsKeyed}
 use Rattle.wit_arena.specs.Package.{world_types, IsForeignWorld}
 use Rattle.wit_arena.specs.OneByOne.{OneByOne}
 use Rattle.wit_arena.specs.Whole.{Ordered, OrderedWorld, turned, ordered_names, addresses, all_inside, all_turns, turn_handles, type_imports, place_at, owner_at, declarations, AreIncludes, IsPackage, interface_addresses, world_addresses, foreign_entry, dep, IsResolvedInterface, IsResolvedWorld, IsForeignInterface}
@@ -41,7 +41,7 @@ use Rattle.wit_parser.specs.Ids.{IsOwnerWithin, IsTypeWithin, IsInterfaceWithin,
 use Rattle.wit_arena.proofs.Turns.{foreign_turned, dep_item}
 use Rattle.wit_arena.specs.Expr.{name_exprs}
 
--- what is found among addresses stands among them
+-- what is found among addresses is among them
 place_within : (ss : List Address) (s : Address) (k : ℕ) → place_at ss s ≡ Some k → k < length ss
 place_within ss s k at = (position-Some (λ (a : Address). same_address a s) ss k s at).0
 
@@ -88,9 +88,9 @@ module _ (p : UnresolvedPackage) (ks : List Key) (types : length p.types ≡ len
         no_source = it.says.5;
       }
 
-  foreign_interface : (files : List PackageFile) (vs : List ForeignVisit) (front : List Interface) → OneByOne (IsForeignInterface files ks) vs front → (k : ℕ) (i : Interface) → slice_get front k ≡ Some i → IsInterfaceWithin p i
-  foreign_interface files vs front are k i at =
-      let within = slice_get_within front k i at in
+  foreign_interface : (files : List PackageFile) (vs : List ForeignVisit) (prefix : List Interface) → OneByOne (IsForeignInterface files ks) vs prefix → (k : ℕ) (i : Interface) → slice_get prefix k ≡ Some i → IsInterfaceWithin p i
+  foreign_interface files vs prefix are k i at =
+      let within = slice_get_within prefix k i at in
       let count = are.count in
       let v = at_within vs k (omega arith) in
       let says = are.each k v.0 i v.1 at in
@@ -129,9 +129,9 @@ module _ (p : UnresolvedPackage) (ks : List Key) (types : length p.types ≡ len
         no_package = it.says.4;
       }
 
-  foreign_world : (vs : List ForeignVisit) (front : List World) → OneByOne IsForeignWorld vs front → (k : ℕ) (w : World) → slice_get front k ≡ Some w → IsWorldWithin p w
-  foreign_world vs front are k w at =
-      let within = slice_get_within front k w at in
+  foreign_world : (vs : List ForeignVisit) (prefix : List World) → OneByOne IsForeignWorld vs prefix → (k : ℕ) (w : World) → slice_get prefix k ≡ Some w → IsWorldWithin p w
+  foreign_world vs prefix are k w at =
+      let within = slice_get_within prefix k w at in
       let count = are.count in
       let v = at_within vs k (omega arith) in
       let says = are.each k v.0 w v.1 at in
@@ -167,8 +167,8 @@ module _ (files : List PackageFile) (p : UnresolvedPackage) (is : IsPackage file
   abbrev world_list : List Address
   world_list = world_addresses files is.first.worlds
 
-  types : length p.types ≡ length (keys is.met)
-  types = is.meeting.keyed.count
+  types : length p.types ≡ length (keys is.seen)
+  types = is.occurrence.keyed.count
 
   interface_count : length p.interfaces ≡ length is.interfaces.0 + length is.interfaces.1
   interface_count = ap length is.interfaces.2 ∙ length-append is.interfaces.0 is.interfaces.1
@@ -188,28 +188,28 @@ module _ (files : List PackageFile) (p : UnresolvedPackage) (is : IsPackage file
 
   interface_within : (k : ℕ) (i : Interface) → slice_get p.interfaces k ≡ Some i → IsInterfaceWithin p i
   interface_within k i at = elim (at_split is.interfaces.0 is.interfaces.1 k i (ap (λ (l : List Interface). slice_get l k) (sym is.interfaces.2) ∙ at)) [
-    | inl front ↦ foreign_interface p (keys is.met) types interface_list world_list interfaces worlds files (foreign_interfaces files) is.interfaces.0 is.interfaces.3 k i front
-    | inr own ↦ own_interface p (keys is.met) types interface_list world_list interfaces worlds (is.first.interfaces ++ all_inside is.first.worlds) is.interfaces.1 is.interfaces.4 own.0 i own.2
+    | inl prefix ↦ foreign_interface p (keys is.seen) types interface_list world_list interfaces worlds files (foreign_interfaces files) is.interfaces.0 is.interfaces.3 k i prefix
+    | inr own ↦ own_interface p (keys is.seen) types interface_list world_list interfaces worlds (is.first.interfaces ++ all_inside is.first.worlds) is.interfaces.1 is.interfaces.4 own.0 i own.2
   ]
 
   world_within : (k : ℕ) (w : World) → slice_get p.worlds k ≡ Some w → IsWorldWithin p w
   world_within k w at = elim (at_split is.worlds.0 is.worlds.1 k w (ap (λ (l : List World). slice_get l k) (sym is.worlds.2) ∙ at)) [
-    | inl front ↦ foreign_world p (keys is.met) types interface_list world_list interfaces worlds (foreign_worlds files) is.worlds.0 is.worlds.3 k w front
-    | inr own ↦ own_world p (keys is.met) types interface_list world_list interfaces worlds is.first.worlds is.worlds.1 is.worlds.4 own.0 w own.2
+    | inl prefix ↦ foreign_world p (keys is.seen) types interface_list world_list interfaces worlds (foreign_worlds files) is.worlds.0 is.worlds.3 k w prefix
+    | inr own ↦ own_world p (keys is.seen) types interface_list world_list interfaces worlds is.first.worlds is.worlds.1 is.worlds.4 own.0 w own.2
   ]
 
   foreign_within : (k : ℕ) (d : PackageName × List (List ℕ × (AstItem × List Stability))) → slice_get p.foreign_deps k ≡ Some d → (j : ℕ) (x : List ℕ × (AstItem × List Stability)) → slice_get d.1 j ≡ Some x → IsForeignWithin p x.1.0
   foreign_within k d at j x there =
       let v = map_at (dep files) (foreign_packages files) k d (ap (λ l. slice_get l k) (sym is.others.0) ∙ at) in
-      let is_front : length (foreign_interfaces files) ≤ length p.interfaces = omega (arith, interface_count, is.interfaces.3.count) in
-      let ws_front : length (foreign_worlds files) ≤ length p.worlds = omega (arith, world_count, is.worlds.3.count) in
-      dep_within files p is_front ws_front v.0 j x (ap (λ (y : PackageName × List (List ℕ × (AstItem × List Stability))). slice_get y.1 j) v.2 ∙ there)
+      let is_prefix : length (foreign_interfaces files) ≤ length p.interfaces = omega (arith, interface_count, is.interfaces.3.count) in
+      let ws_prefix : length (foreign_worlds files) ≤ length p.worlds = omega (arith, world_count, is.worlds.3.count) in
+      dep_within files p is_prefix ws_prefix v.0 j x (ap (λ (y : PackageName × List (List ℕ × (AstItem × List Stability))). slice_get y.1 j) v.2 ∙ there)
 
   pub ids_within : AreIdsWithin p
   ids_within = record {
-    types = entries_within p (keys is.met) types interface_list world_list interfaces worlds files is.meeting.keyed;
+    types = entries_within p (keys is.seen) types interface_list world_list interfaces worlds files is.occurrence.keyed;
     interfaces = interface_within;
     worlds = world_within;
     foreign = foreign_within;
-    required = required_within p (keys is.met) types files (flat_map turn_handles (all_turns is.first.interfaces is.first.worlds)) p.required_resource_types is.required;
+    required = required_within p (keys is.seen) types files (flat_map turn_handles (all_turns is.first.interfaces is.first.worlds)) p.required_resource_types is.required;
   }

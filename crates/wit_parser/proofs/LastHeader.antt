@@ -5,9 +5,9 @@ use Rattle.std.specs.Option.{option_and_then, option_or, is_some}
 use Rattle.wit_tree.specs.declared.tree.PackageName.{PackageName as Header}
 use Rattle.wit_tree.specs.declared.tree.PackageFile.{PackageFile}
 use Rattle.wit_syntax.specs.Broken.{last_header}
-use Rattle.wit_syntax.proofs.Lists.{at_front, at_seam, at_either}
+use Rattle.wit_syntax.proofs.Lists.{at_prefix, at_seam, at_either}
 use Rattle.wit_syntax.proofs.Headers.{last_header-append}
-use Rattle.wit_items.specs.Headers.{header_at}
+use Rattle.wit_items.specs.FileHeaders.{header_at}
 
 abbrev of_file : Option PackageFile → Option Header
 of_file o = option_and_then (λ (f : PackageFile). f.package_id) o
@@ -33,7 +33,7 @@ pub header_kept : (fs : List PackageFile) (f : PackageFile) (last : ℕ) → f.p
 header_kept fs f last own is =
     let goal : last_header (fs ++ f ∷ []) ≡ last_header fs = last_header-append fs f ∙ ap (λ o. option_or o (last_header fs)) own in
     option_cases (slice_get fs last) (header_at (fs ++ f ∷ []) last ≡ last_header (fs ++ f ∷ []))
-    (λ g at. ap of_file (at_front fs (f ∷ []) last g at) ∙ sym (ap of_file at) ∙ is ∙ sym goal)
+    (λ g at. ap of_file (at_prefix fs (f ∷ []) last g at) ∙ sym (ap of_file at) ∙ is ∙ sym goal)
     (λ none. option_cases (slice_get (fs ++ f ∷ []) last) (header_at (fs ++ f ∷ []) last ≡ last_header (fs ++ f ∷ []))
     (λ g at. elim (at_either fs f last g at) [
       | inl old ↦ absurd (let wrong : None ≡ Some g = sym none ∙ old in let x : ⊥ = cc in x)

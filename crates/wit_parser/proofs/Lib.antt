@@ -11,7 +11,7 @@ mod PartsReady
 mod PartsTurns
 mod PartsItems
 mod PartsOrders
-mod PartsMet
+mod PartsSeen
 mod PartsFunctions
 mod PartsInterfaces
 mod PartsWorlds

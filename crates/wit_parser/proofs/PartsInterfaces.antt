@@ -1,4 +1,4 @@
--- An interface that is told by places is the written one, where all that it names is met.
+-- An interface that is given by places is the written one, where all that it names occurs.
 use Rattle.std.proofs.Common.{◌≡◌, ℕ, List, [], Some, None, refl, sym, ap}
 use Rattle.std.specs.Prelude.{slice_get, map}
 use Rattle.wit_tree.specs.declared.tree.PackageFile.{PackageFile}
@@ -7,26 +7,26 @@ use Rattle.wit_syntax.specs.Address.{Address}
 use Rattle.wit_syntax.specs.Foreign.{ForeignVisit, visited}
 use Rattle.wit_syntax.specs.Function.{SourceFunction, functions}
 use Rattle.wit_syntax.specs.Source.{Item, ScopeName, address, local_name}
-use Rattle.wit_syntax.specs.Trees.{scope}
+use Rattle.wit_syntax.specs.ScopesOfTrees.{scope}
 use Rattle.wit_syntax.proofs.Lists.{map_map}
 use Rattle.wit_arena.specs.Functions.{by_name}
 use Rattle.wit_arena.specs.Made.{foreign_interface, function_in, names_in_turn, own_interface}
-use Rattle.wit_arena.specs.Meet.{Key, Def, IsMet}
+use Rattle.wit_arena.specs.Occurrences.{Key, Def, IsSeen}
 use Rattle.wit_arena.specs.Whole.{Ordered, turned, IsForeignInterface, IsResolvedInterface}
-use Rattle.wit_parser.proofs.PartsPlaces.{FunctionStands, functions_in-are, name_places-are}
-use Rattle.wit_arena.proofs.Placing.{TellsPlaces}
+use Rattle.wit_parser.proofs.PartsPlaces.{FunctionPresent, functions_in-are, name_places-are}
+use Rattle.wit_arena.proofs.Placing.{GivesPlaces}
 use Rattle.wit_arena.proofs.Turns.{foreign_turned}
 
-module _ (id : Key → ℕ) (ks : List Key) (tells : TellsPlaces id ks) where
-  pub foreign_interface-is : (files : List PackageFile) (v : ForeignVisit) → ((k : ℕ) (x : ScopeName) → slice_get (scope files (visited v)) k ≡ Some x → IsMet ks (Def (visited v) (local_name x))) → IsForeignInterface files ks v (foreign_interface files id v)
-  foreign_interface-is files v met = ((refl, refl, refl, refl, refl, refl), name_places-are id ks tells (foreign_turned files v) met, refl)
+module _ (id : Key → ℕ) (ks : List Key) (gives : GivesPlaces id ks) where
+  pub foreign_interface-is : (files : List PackageFile) (v : ForeignVisit) → ((k : ℕ) (x : ScopeName) → slice_get (scope files (visited v)) k ≡ Some x → IsSeen ks (Def (visited v) (local_name x))) → IsForeignInterface files ks v (foreign_interface files id v)
+  foreign_interface-is files v seen = ((refl, refl, refl, refl, refl, refl), name_places-are id ks gives (foreign_turned files v) seen, refl)
 
   abbrev own : (Address → List ℕ) → Item → Ordered
   own order i = record { item = i; order = order (address i) }
 
-  pub own_interface-is : (order : Address → List ℕ) (i : Item) → ((k : ℕ) (x : ScopeName) → slice_get (names_in_turn order i) k ≡ Some x → IsMet ks (Def (address i) (local_name x))) → ((k : ℕ) (fn : SourceFunction) → slice_get (functions i) k ≡ Some fn → FunctionStands (IsMet ks) (address i) fn) → IsResolvedInterface ks (own order i) (own_interface id order i)
-  own_interface-is order i met stand = record {
+  pub own_interface-is : (order : Address → List ℕ) (i : Item) → ((k : ℕ) (x : ScopeName) → slice_get (names_in_turn order i) k ≡ Some x → IsSeen ks (Def (address i) (local_name x))) → ((k : ℕ) (fn : SourceFunction) → slice_get (functions i) k ≡ Some fn → FunctionPresent (IsSeen ks) (address i) fn) → IsResolvedInterface ks (own order i) (own_interface id order i)
+  own_interface-is order i seen are_present = record {
     says = (refl, refl, refl, refl, refl, refl);
-    types = name_places-are id ks tells (turned (own order i)) met;
-    functions = (map (function_in id (address i)) (functions i), functions_in-are id ks tells (address i) (functions i) stand, ap (placed Some) (sym (map_map by_name (function_in id (address i)) (functions i))));
+    types = name_places-are id ks gives (turned (own order i)) seen;
+    functions = (map (function_in id (address i)) (functions i), functions_in-are id ks gives (address i) (functions i) are_present, ap (placed Some) (sym (map_map by_name (function_in id (address i)) (functions i))));
   }

@@ -1,4 +1,4 @@
--- What is met in all items of files is met in an order in which the parts of each come before it.
+-- What occurs in all items of files occurs in an order in which the parts of each come before it.
 use Rattle.std.proofs.Common.{◌≡◌, ◌<◌, ◌≤◌, ℕ, ◌+◌, zero, suc, Bool, true, false, not, List, [], ◌∷◌, ◌++◌, length, take, Option, Some, None, ◌⊎◌, inl, inr, refl, sym, ap, ◌∙◌, subst, arith, append-nil}
 use Rattle.std.specs.Prelude.{slice_get, map, Contains}
 use Rattle.std.specs.List.{flat_map, filter, find}
@@ -23,8 +23,8 @@ use Rattle.wit_syntax.specs.Scope.{in_order, item_rows, interfaces_of, worlds_of
 use Rattle.wit_syntax.specs.Shape.{Shape, words}
 use Rattle.wit_syntax.specs.Sides.{SideItem, SideFunction, SideLink, SideInline, all_scopes, inline_items, item_function, side_items, with_inline}
 use Rattle.wit_syntax.specs.Signature.{OfFunction, OfNothing}
-use Rattle.wit_syntax.specs.Source.{Item, ScopeName, Used, Taken, Taking, address, all_items, is_world, item_at, item_name, local_name, meaning, scope_names, takings}
-use Rattle.wit_syntax.specs.Trees.{scope}
+use Rattle.wit_syntax.specs.Source.{Item, ScopeName, Used, ForeignName, ForeignUse, address, all_items, is_world, item_at, item_name, local_name, meaning, scope_names, foreign_uses}
+use Rattle.wit_syntax.specs.ScopesOfTrees.{scope}
 use Rattle.wit_syntax.proofs.Found.{at_contains, contains_at, find_at, find_passes}
 use Rattle.wit_syntax.proofs.Inline.{inline_items_none}
 use Rattle.wit_syntax.proofs.Kept.{kept_at, kept_early, kept_has, kept_next, kept_past}
@@ -35,43 +35,43 @@ use Rattle.wit_syntax.proofs.Orders.{in_order_at}
 use Rattle.wit_syntax.proofs.Scopes.{all_declared, scope_item_at}
 use Rattle.wit_arena.specs.Expr.{name_exprs}
 use Rattle.wit_arena.specs.Made.{AreNamesInOrder, interface_turn, item_turns, turns_of_world, turns_on_sides}
-use Rattle.wit_arena.specs.Meet.{Key, Def, Meeting, keys, name_meetings, all_function_meetings}
-use Rattle.wit_arena.specs.Whole.{Ordered, Turned, ordered_names, turned, turn_meetings, taking_meeting, all_meetings}
+use Rattle.wit_arena.specs.Occurrences.{Key, Def, Occurrence, keys, name_occurrences, all_function_occurrences}
+use Rattle.wit_arena.specs.Whole.{Ordered, Turned, ordered_names, turned, turn_occurrences, foreign_use_occurrence, all_occurrences}
 use Rattle.wit_arena.proofs.Interfaces.{own_interface_address}
 use Rattle.wit_arena.proofs.Itemizing.{items_within, item_index, named_found}
 use Rattle.wit_arena.proofs.KnownItems.{IsItem}
 use Rattle.wit_arena.proofs.Leading.{IsOwnUse, IsForeignUse, IsUseBefore, used_before, used_interface}
 use Rattle.wit_arena.proofs.LegalScopes.{distinct_items, scope_among, uses_lead}
-use Rattle.wit_arena.proofs.Meeting.{Has}
-use Rattle.wit_parser.proofs.PartsPlaces.{AllStand}
-use Rattle.wit_parser.proofs.PartsReady.{After, Ready, has_back, has_front, has_of, ready_all, ready_append, functions_ready}
-use Rattle.wit_parser.proofs.PartsTurns.{UsesStand, NamesStand, names_met, names_ready, signature_known, turn_names, turn_ready}
-use Rattle.wit_arena.proofs.Takings.{taken_at, taken_name_at}
+use Rattle.wit_arena.proofs.Occurrence.{Has}
+use Rattle.wit_parser.proofs.PartsPlaces.{AllPresent}
+use Rattle.wit_parser.proofs.PartsReady.{After, Ready, has_back, has_prefix, has_of, ready_all, ready_append, functions_ready}
+use Rattle.wit_parser.proofs.PartsTurns.{UsesPresent, NamesPresent, names_seen, names_ready, signature_known, turn_names, turn_ready}
+use Rattle.wit_arena.proofs.ForeignUses.{used_at, used_name_at}
 
--- what stands in a list is met in it
-pub has_at : (ms : List Meeting) (i : ℕ) (m : Meeting) → slice_get ms i ≡ Some m → Has (keys ms) m.key
+-- what is in a list occurs in it
+pub has_at : (ms : List Occurrence) (i : ℕ) (m : Occurrence) → slice_get ms i ≡ Some m → Has (keys ms) m.key
 has_at [] i m at = absurd (let f : ⊥ = cc in f)
-has_at (x ∷ ms) zero m at = (let same : x ≡ m = cc in inl (ap (λ (y : Meeting). y.key) same))
+has_at (x ∷ ms) zero m at = (let same : x ≡ m = cc in inl (ap (λ (y : Occurrence). y.key) same))
 has_at (x ∷ ms) (suc i) m at = inr (has_at ms i m at)
 
--- what a name of another package stands for has no parts
-pub no_parts : (files : List PackageFile) (s : Address) (x : ScopeName) (a : Key → Type 0) → is_foreign s ≡ true → Contains (scope files s) x → AllStand a (name_exprs s x)
+-- what a name of another package means has no parts
+pub no_parts : (files : List PackageFile) (s : Address) (x : ScopeName) (a : Key → Type 0) → is_foreign s ≡ true → Contains (scope files s) x → AllPresent a (name_exprs s x)
 no_parts files (ForeignNamed p name) x a foreign among =
     let s = ForeignNamed p name in
     let i = at_contains (scope files s) x among in
-    let it = taken_name_at files s i.0 x i.1 in
-    subst (λ (y : ScopeName). AllStand a (name_exprs s y)) (sym it.4) tt
+    let it = used_name_at files s i.0 x i.1 in
+    subst (λ (y : ScopeName). AllPresent a (name_exprs s y)) (sym it.4) tt
 no_parts files (InterfaceNamed name) x a foreign among = absurd (let f : ⊥ = cc in f)
 no_parts files (WorldNamed name) x a foreign among = absurd (let f : ⊥ = cc in f)
 no_parts files (InlineAt world side place) x a foreign among = absurd (let f : ⊥ = cc in f)
 
--- lists of turns, one behind another
-turns_ready : {X : Type 0} (names : Address → List ScopeName) (f : X → List Turned) (xs : List X) (a : Key → Type 0) → ((k : ℕ) (x : X) → slice_get xs k ≡ Some x → (b : Key → Type 0) → ((q : Key) → a q → b q) → Ready names b (flat_map turn_meetings (f x))) → Ready names a (flat_map turn_meetings (flat_map f xs))
+-- lists of turns, one after another
+turns_ready : {X : Type 0} (names : Address → List ScopeName) (f : X → List Turned) (xs : List X) (a : Key → Type 0) → ((k : ℕ) (x : X) → slice_get xs k ≡ Some x → (b : Key → Type 0) → ((q : Key) → a q → b q) → Ready names b (flat_map turn_occurrences (f x))) → Ready names a (flat_map turn_occurrences (flat_map f xs))
 turns_ready names f [] a each = tt
 turns_ready names f (x ∷ xs) a each =
-    let first = flat_map turn_meetings (f x) in
-    let rest = flat_map turn_meetings (flat_map f xs) in
-    subst (λ l. Ready names a l) (sym (flat_map-append turn_meetings (f x) (flat_map f xs))) (ready_append names first rest a (each 0 x refl a (λ q p. p)) (turns_ready names f xs (After a first) (λ k y at b wider. each (suc k) y at b (λ q p. wider q (inl p)))))
+    let first = flat_map turn_occurrences (f x) in
+    let rest = flat_map turn_occurrences (flat_map f xs) in
+    subst (λ l. Ready names a l) (sym (flat_map-append turn_occurrences (f x) (flat_map f xs))) (ready_append names first rest a (each 0 x refl a (λ q p. p)) (turns_ready names f xs (After a first) (λ k y at b wider. each (suc k) y at b (λ q p. wider q (inl p)))))
 
 flat_map-map : {X Y Z : Type 0} (g : Y → List Z) (f : X → Y) (xs : List X) → flat_map g (map f xs) ≡ flat_map (λ x. g (f x)) xs
 flat_map-map g f [] = refl
@@ -100,9 +100,9 @@ module _ (files : List PackageFile) (legal : IsLegal files) (order : Address →
   pub declared_item : (p : ℕ) (w : Item) → slice_get all p ≡ Some w → IsItem files (own w)
   declared_item p w at = with_item p 0 w w at refl
 
-  -- what is met in an item, as an interface
-  abbrev pub interface_meets : Item → List Meeting
-  interface_meets i = turn_meetings (interface_turn order i)
+  -- what occurs in an item, as an interface
+  abbrev pub interface_collects : Item → List Occurrence
+  interface_collects i = turn_occurrences (interface_turn order i)
 
   -- a used name is one of the interface that it comes from
   used_name : (o : Ordered) (it : IsItem files o) (from : Address) (attributes : List Attribute) (n : UseName) → Contains (scope_names o.item) (Used from attributes n) → (q : ℕ) (v : Item) → slice_get all q ≡ Some v → is_world v ≡ false → from ≡ InterfaceNamed (item_name v) → (p : ℕ) × (x : ScopeName) × (slice_get (scope_names v) p ≡ Some x) × (Def (address v) (local_name x) ≡ Def from n.name.name.now)
@@ -124,11 +124,11 @@ module _ (files : List PackageFile) (legal : IsLegal files) (order : Address →
           let same = name_equal (local_name x) n.name.name.now (find_passes test (scope_names v) x is) in
           (p.0, x, p.1, ap (λ (a : Address). Def a (local_name x)) there ∙ ap (Def from) same)
 
-  abbrev pub taken : List Meeting
-  taken = map taking_meeting (takings files)
+  abbrev pub in_use : List Occurrence
+  in_use = map foreign_use_occurrence (foreign_uses files)
 
-  foreign_known : (from : Address) (n : UseName) → IsForeignUse files from n → Has (keys taken) (Def from n.name.name.now)
-  foreign_known from n u = has_at taken u.index (taking_meeting (record { from = from; attributes = u.attributes; id = n.name })) (slice_get-map taking_meeting (takings files) u.index ∙ ap (option_map taking_meeting) u.taken)
+  foreign_known : (from : Address) (n : UseName) → IsForeignUse files from n → Has (keys in_use) (Def from n.name.name.now)
+  foreign_known from n u = has_at in_use u.index (foreign_use_occurrence (record { from = from; attributes = u.attributes; id = n.name })) (slice_get-map foreign_use_occurrence (foreign_uses files) u.index ∙ ap (option_map foreign_use_occurrence) u.in_use)
 
   module _ (places : List ℕ) (least : IsOrder (item_rows files) places) where
     abbrev interface_test : Item → Bool
@@ -137,44 +137,44 @@ module _ (files : List PackageFile) (legal : IsLegal files) (order : Address →
     abbrev early : ℕ → List Item
     early n = interfaces_of (in_order all (take n places))
 
-    module _ (a : Key → Type 0) (first : (k : Key) → Has (keys taken) k → a k) where
-      before_known : (n p : ℕ) (w : Item) → is_world w ≡ false → slice_get places n ≡ Some p → (at : slice_get all p ≡ Some w) → UsesStand files legal (own w) (declared_item p w at) (After a (flat_map interface_meets (early n)))
+    module _ (a : Key → Type 0) (first : (k : Key) → Has (keys in_use) k → a k) where
+      before_known : (n p : ℕ) (w : Item) → is_world w ≡ false → slice_get places n ≡ Some p → (at : slice_get all p ≡ Some w) → UsesPresent files legal (own w) (declared_item p w at) (After a (flat_map interface_collects (early n)))
       before_known n p w sort next at from attributes n' among = elim (used_before files (uses_lead files legal) differ places least n p w from attributes n' sort next at among) [
         | inl u ↦ (
             let v = u.own.item in
             let q = used_name (own w) (declared_item p w at) from attributes n' among u.own.place v u.own.at u.own.sort u.own.is in
             let k = kept_early interface_test all places n u.index u.own.place v u.before u.at u.own.at (ap not u.own.sort) in
             let has = turn_names files legal (own v) (declared_item u.own.place v u.own.at) q.0 q.1 q.2 in
-            inr (subst (Has (keys (flat_map interface_meets (early n)))) q.3 (has_of interface_meets (early n) k.0 v (Def (address v) (local_name q.1)) k.1 has)))
+            inr (subst (Has (keys (flat_map interface_collects (early n)))) q.3 (has_of interface_collects (early n) k.0 v (Def (address v) (local_name q.1)) k.1 has)))
         | inr u ↦ inl (first (Def from n'.name.name.now) (foreign_known from n' u))
       ]
 
-      interfaces_one : (n p : ℕ) (w : Item) → slice_get places n ≡ Some p → slice_get all p ≡ Some w → Ready names a (flat_map interface_meets (early n)) → Ready names a (flat_map interface_meets (early (n + 1)))
+      interfaces_one : (n p : ℕ) (w : Item) → slice_get places n ≡ Some p → slice_get all p ≡ Some w → Ready names a (flat_map interface_collects (early n)) → Ready names a (flat_map interface_collects (early (n + 1)))
       interfaces_one n p w next at ready = elim (cases_Bool (is_world w)) [
-        | inl world ↦ subst (λ (l : List Item). Ready names a (flat_map interface_meets l)) (sym (kept_past interface_test all places n p w next at (ap not world))) ready
+        | inl world ↦ subst (λ (l : List Item). Ready names a (flat_map interface_collects l)) (sym (kept_past interface_test all places n p w next at (ap not world))) ready
         | inr other ↦ (
-            let before = flat_map interface_meets (early n) in
-            let here : Ready names (After a before) (interface_meets w) = turn_ready files legal (own w) (declared_item p w at) (After a before) (before_known n p w other next at) in
-            let last : Ready names (After a before) (interface_meets w ++ []) = subst (λ l. Ready names (After a before) l) (sym (append-nil (interface_meets w))) here in
-            subst (λ (l : List Item). Ready names a (flat_map interface_meets l)) (sym (kept_next interface_test all places n p w next at (ap not other))) (subst (λ l. Ready names a l) (sym (flat_map-append interface_meets (early n) (w ∷ []))) (ready_append names before (interface_meets w ++ []) a ready last)))
+            let before = flat_map interface_collects (early n) in
+            let here : Ready names (After a before) (interface_collects w) = turn_ready files legal (own w) (declared_item p w at) (After a before) (before_known n p w other next at) in
+            let last : Ready names (After a before) (interface_collects w ++ []) = subst (λ l. Ready names (After a before) l) (sym (append-nil (interface_collects w))) here in
+            subst (λ (l : List Item). Ready names a (flat_map interface_collects l)) (sym (kept_next interface_test all places n p w next at (ap not other))) (subst (λ l. Ready names a l) (sym (flat_map-append interface_collects (early n) (w ∷ []))) (ready_append names before (interface_collects w ++ []) a ready last)))
       ]
 
-      interfaces_ready : (n : ℕ) → n ≤ length places → Ready names a (flat_map interface_meets (early n))
+      interfaces_ready : (n : ℕ) → n ≤ length places → Ready names a (flat_map interface_collects (early n))
       interfaces_ready zero le = tt
       interfaces_ready (suc n) le =
           let p = at_within places n (omega (arith, le)) in
           let w = at_within all p.0 (items_within files places least n p.0 p.1) in
           let next : suc n ≡ n + 1 = omega arith in
-          subst (λ (m : ℕ). Ready names a (flat_map interface_meets (early m))) (sym next) (interfaces_one n p.0 w.0 p.1 w.1 (interfaces_ready n (omega (arith, le))))
+          subst (λ (m : ℕ). Ready names a (flat_map interface_collects (early m))) (sym next) (interfaces_one n p.0 w.0 p.1 w.1 (interfaces_ready n (omega (arith, le))))
 
     abbrev pub items : List Item
     items = in_order all places
 
-    -- the original of each used name is taken, or is met in an interface
+    -- the original of each used name is taken, or occurs in an interface
     abbrev pub Earlier : Key → Type 0
-    Earlier k = Has (keys taken) k ⊎ Has (keys (flat_map interface_meets (interfaces_of items))) k
+    Earlier k = Has (keys in_use) k ⊎ Has (keys (flat_map interface_collects (interfaces_of items))) k
 
-    pub uses_known : (o : Ordered) (it : IsItem files o) → UsesStand files legal o it Earlier
+    pub uses_known : (o : Ordered) (it : IsItem files o) → UsesPresent files legal o it Earlier
     uses_known o it from attributes n among = elim (used_interface files (uses_lead files legal) o.item from attributes n (scope_among files legal (address o.item) o.item it.found) among) [
       | inl u ↦ (
           let v = u.item in
@@ -182,18 +182,18 @@ module _ (files : List PackageFile) (legal : IsLegal files) (order : Address →
           let t = item_index files places least u.place v u.at in
           let k = kept_has interface_test items t.0 v (ap not u.sort) t.2 in
           let has = turn_names files legal (own v) (declared_item u.place v u.at) q.0 q.1 q.2 in
-          inr (subst (Has (keys (flat_map interface_meets (interfaces_of items)))) q.3 (has_of interface_meets (interfaces_of items) k.0 v (Def (address v) (local_name q.1)) k.1 has)))
+          inr (subst (Has (keys (flat_map interface_collects (interfaces_of items)))) q.3 (has_of interface_collects (interfaces_of items) k.0 v (Def (address v) (local_name q.1)) k.1 has)))
       | inr u ↦ inl (foreign_known from n u)
     ]
 
-    -- so the sides of worlds are met in order, and whole worlds
-    sides_ready : (w : Item) (it : IsItem files (own w)) (xs : List SideItem) (is : List Item) (b : Key → Type 0) → ((k : Key) → Earlier k → b k) → NamesStand files legal (own w) it b → ((k : ℕ) (fn : SourceFunction) → slice_get (flat_map item_function xs) k ≡ Some fn → (q : ℕ) × (slice_get (functions w) q ≡ Some fn)) → ((k : ℕ) (i : Item) → slice_get is k ≡ Some i → IsItem files (own i))
-        → Ready names b (flat_map turn_meetings (turns_on_sides order (address w) xs is))
+    -- so the sides of worlds occur in order, and whole worlds
+    sides_ready : (w : Item) (it : IsItem files (own w)) (xs : List SideItem) (is : List Item) (b : Key → Type 0) → ((k : Key) → Earlier k → b k) → NamesPresent files legal (own w) it b → ((k : ℕ) (fn : SourceFunction) → slice_get (flat_map item_function xs) k ≡ Some fn → (q : ℕ) × (slice_get (functions w) q ≡ Some fn)) → ((k : ℕ) (i : Item) → slice_get is k ≡ Some i → IsItem files (own i))
+        → Ready names b (flat_map turn_occurrences (turns_on_sides order (address w) xs is))
     sides_ready w it [] is b wider known among inside = tt
     sides_ready w it (SideFunction fn ∷ xs) is b wider known among inside =
-        let here = all_function_meetings (address w) (fn ∷ []) in
+        let here = all_function_occurrences (address w) (fn ∷ []) in
         let q = among 0 fn refl in
-        ready_append names here (flat_map turn_meetings (turns_on_sides order (address w) xs is)) b (functions_ready names (address w) (fn ∷ []) b (λ k g at j x there i id is_word. (
+        ready_append names here (flat_map turn_occurrences (turns_on_sides order (address w) xs is)) b (functions_ready names (address w) (fn ∷ []) b (λ k g at j x there i id is_word. (
         let same : fn ≡ g = one_of k g at in
         signature_known files legal (own w) it b known q.0 g (q.1 ∙ ap Some same) j x there i id is_word))) (sides_ready w it xs is (After b here) (λ k p. inl (wider k p)) (λ p x at. inl (known p x at)) (λ k. among (suc k)) inside)
       where
@@ -204,28 +204,28 @@ module _ (files : List PackageFile) (legal : IsLegal files) (order : Address →
     sides_ready w it (SideInline x name parts ∷ xs) [] b wider known among inside = sides_ready w it xs [] b wider known among inside
     sides_ready w it (SideInline x name parts ∷ xs) (i ∷ is) b wider known among inside =
         let one = inside 0 i refl in
-        ready_append names (interface_meets i) (flat_map turn_meetings (turns_on_sides order (address w) xs is)) b (turn_ready files legal (own i) one b (λ from attributes n there. wider (Def from n.name.name.now) (uses_known (own i) one from attributes n there))) (sides_ready w it xs is (After b (interface_meets i)) (λ k p. inl (wider k p)) (λ p y at. inl (known p y at)) among (λ k. inside (suc k)))
+        ready_append names (interface_collects i) (flat_map turn_occurrences (turns_on_sides order (address w) xs is)) b (turn_ready files legal (own i) one b (λ from attributes n there. wider (Def from n.name.name.now) (uses_known (own i) one from attributes n there))) (sides_ready w it xs is (After b (interface_collects i)) (λ k p. inl (wider k p)) (λ p y at. inl (known p y at)) among (λ k. inside (suc k)))
 
-    world_ready : (p : ℕ) (w : Item) → slice_get all p ≡ Some w → (b : Key → Type 0) → ((k : Key) → Earlier k → b k) → Ready names b (flat_map turn_meetings (turns_of_world order w))
+    world_ready : (p : ℕ) (w : Item) → slice_get all p ≡ Some w → (b : Key → Type 0) → ((k : Key) → Earlier k → b k) → Ready names b (flat_map turn_occurrences (turns_of_world order w))
     world_ready p w at b wider =
         let it = declared_item p w at in
         let s = address w in
-        let there = flat_map (name_meetings s) (ordered_names (own w)) in
-        let sides = flat_map turn_meetings (turns_on_sides order s (side_items w) (inline_items w)) in
-        let front : Ready names b (there ++ []) = subst (λ l. Ready names b l) (sym (append-nil there)) (names_ready files legal (own w) it b (λ from attributes n among. wider (Def from n.name.name.now) (uses_known (own w) it from attributes n among))) in
-        ready_append names (there ++ []) sides b front (sides_ready w it (side_items w) (inline_items w) (After b (there ++ [])) (λ k q. inl (wider k q)) (λ k x is. inr (has_front there [] (Def s (local_name x)) (names_met files legal (own w) it k x is))) (λ k fn is. (k, ap (λ (l : List SourceFunction). slice_get l k) (functions_items w) ∙ is)) (λ k i is. with_item p (suc k) w i at is))
+        let there = flat_map (name_occurrences s) (ordered_names (own w)) in
+        let sides = flat_map turn_occurrences (turns_on_sides order s (side_items w) (inline_items w)) in
+        let prefix : Ready names b (there ++ []) = subst (λ l. Ready names b l) (sym (append-nil there)) (names_ready files legal (own w) it b (λ from attributes n among. wider (Def from n.name.name.now) (uses_known (own w) it from attributes n among))) in
+        ready_append names (there ++ []) sides b prefix (sides_ready w it (side_items w) (inline_items w) (After b (there ++ [])) (λ k q. inl (wider k q)) (λ k x is. inr (has_prefix there [] (Def s (local_name x)) (names_seen files legal (own w) it k x is))) (λ k fn is. (k, ap (λ (l : List SourceFunction). slice_get l k) (functions_items w) ∙ is)) (λ k i is. with_item p (suc k) w i at is))
 
-    -- all that is met in scopes, behind what is taken
-    pub all_ready : Ready names (Has (keys taken)) (flat_map turn_meetings (item_turns order items))
+    -- all that occurs in scopes, after what is taken
+    pub all_ready : Ready names (Has (keys in_use)) (flat_map turn_occurrences (item_turns order items))
     all_ready =
-        let interfaces = flat_map interface_meets (interfaces_of items) in
-        let worlds = flat_map turn_meetings (flat_map (turns_of_world order) (worlds_of items)) in
-        let start = Has (keys taken) in
+        let interfaces = flat_map interface_collects (interfaces_of items) in
+        let worlds = flat_map turn_occurrences (flat_map (turns_of_world order) (worlds_of items)) in
+        let start = Has (keys in_use) in
         let le : length places ≤ length places = omega arith in
-        let declared : Ready names start interfaces = subst (λ (l : List ℕ). Ready names start (flat_map interface_meets (interfaces_of (in_order all l)))) (take_all (length places) places le) (interfaces_ready start (λ k h. h) (length places) le) in
-        let behind : Ready names (After start interfaces) worlds = turns_ready names (turns_of_world order) (worlds_of items) (After start interfaces) (λ k w at b wider. (
+        let declared : Ready names start interfaces = subst (λ (l : List ℕ). Ready names start (flat_map interface_collects (interfaces_of (in_order all l)))) (take_all (length places) places le) (interfaces_ready start (λ k h. h) (length places) le) in
+        let rest_after : Ready names (After start interfaces) worlds = turns_ready names (turns_of_world order) (worlds_of items) (After start interfaces) (λ k w at b wider. (
         let q = kept_at is_world items k w at in
         let p = in_order_at all places q.0 w (items_within files places least) q.1 in
-        world_ready p.0 w p.2 b (λ x h. wider x (elim h [ inl front ↦ inl front | inr own_one ↦ inr own_one ])))) in
-        let split : flat_map turn_meetings (item_turns order items) ≡ interfaces ++ worlds = flat_map-append turn_meetings (map (interface_turn order) (interfaces_of items)) (flat_map (turns_of_world order) (worlds_of items)) ∙ ap (λ l. l ++ worlds) (flat_map-map turn_meetings (interface_turn order) (interfaces_of items)) in
-        subst (λ l. Ready names start l) (sym split) (ready_append names interfaces worlds start declared behind)
+        world_ready p.0 w p.2 b (λ x h. wider x (elim h [ inl prefix ↦ inl prefix | inr own_one ↦ inr own_one ])))) in
+        let split : flat_map turn_occurrences (item_turns order items) ≡ interfaces ++ worlds = flat_map-append turn_occurrences (map (interface_turn order) (interfaces_of items)) (flat_map (turns_of_world order) (worlds_of items)) ∙ ap (λ l. l ++ worlds) (flat_map-map turn_occurrences (interface_turn order) (interfaces_of items)) in
+        subst (λ l. Ready names start l) (sym split) (ready_append names interfaces worlds start declared rest_after)

@@ -19,7 +19,7 @@ use Rattle.wit_arena.specs.Made.{AreNamesInOrder, interface_turn, item_turns, tu
 use Rattle.wit_arena.specs.Whole.{Ordered, OrderedWorld, AreOrdered, Turned, ordered_names, turned, side_turns, world_turns, all_turns, all_inside, addresses, interface_addresses, world_addresses}
 use Rattle.wit_arena.proofs.Itemizing.{items_within}
 use Rattle.wit_arena.proofs.KnownItems.{IsItem}
-use Rattle.wit_arena.proofs.Laid.{ordered_addresses}
+use Rattle.wit_arena.proofs.ScopesInTurn.{ordered_addresses}
 use Rattle.wit_parser.proofs.PartsItems.{own, declared_item, with_item}
 use Rattle.wit_arena.proofs.Turns.{item_of, own_item, names_turn}
 

@@ -17,18 +17,18 @@ use Rattle.wit_tree.specs.declared.tree.UsePath.{UsePath}
 use Rattle.wit_package_names.specs.declared.package_name.PackageName.{PackageName}
 use Rattle.wit_syntax.specs.Address.{Address, InterfaceNamed, WorldNamed}
 use Rattle.wit_syntax.specs.Broken.{is_world_at, Names, MissingUse, WorldUsed, InterfaceIncluded, Use, IsLegal}
-use Rattle.wit_syntax.specs.Crossing.{extern_paths, inline_uses}
+use Rattle.wit_syntax.specs.ExternPart.{extern_paths, inline_uses}
 use Rattle.wit_syntax.specs.Fault.{fault, missing_at, item_word}
 use Rattle.wit_syntax.specs.Foreign.{ForeignVisit, visited, path_visits, part_visits, extern_visits, foreign_at, foreign_items, foreign_interfaces, foreign_worlds}
 use Rattle.wit_syntax.specs.Function.{definition_functions}
 use Rattle.wit_syntax.specs.Repeats.{AllDiffer}
 use Rattle.wit_syntax.specs.Scope.{includes, include_path, include_paths, interfaces_of, needed_paths, part_includes, use_path, use_paths, worlds_of}
 use Rattle.wit_syntax.specs.Sides.{Link, SideItem, SideFunction, SideLink, SideInline, extern_items, extern_link, inline_items, item_link, part_items, side_items}
-use Rattle.wit_syntax.specs.Source.{Part, Defining, Using, Including, Doing, Crossing, Target, Local, Foreign, Item, address, all_items, at_side, is_world, item_name, item_named, leads, parts, path_id, path_scope, target_scope, walk}
+use Rattle.wit_syntax.specs.Source.{Part, DefinitionPart, UsePart, IncludePart, FunctionPart, ExternPart, Target, Local, Foreign, Item, address, all_items, at_side, is_world, item_name, item_named, leads, parts, path_id, path_scope, target_scope, walk}
 use Rattle.wit_syntax.proofs.Addresses.{side_itself}
 use Rattle.wit_syntax.proofs.Found.{contains_at, find_at, find_passes}
 use Rattle.wit_syntax.proofs.Kept.{kept_at, kept_has}
-use Rattle.wit_syntax.proofs.Lists.{at_front, at_back, flat_map_at, flat_map_has, map_at}
+use Rattle.wit_syntax.proofs.Lists.{at_prefix, at_back, flat_map_at, flat_map_has, map_at}
 use Rattle.wit_syntax.proofs.Names.{name_equal}
 use Rattle.wit_syntax.proofs.Orders.{in_order_at}
 use Rattle.wit_syntax.proofs.Scopes.{all_declared}
@@ -41,9 +41,9 @@ use Rattle.wit_arena.proofs.MadeScopes.{scope_place-found, interface_scopes-diff
 use Rattle.wit_parser.proofs.PartsSides.{HasPlace}
 use Rattle.wit_arena.proofs.Visits.{IsVisited, foreign_at-visited, path_among, path_visited, side_has, visit_listed}
 
--- what stands among such as differ has its place
-stands_placed : (ss : List Address) (i : ℕ) (s : Address) → AllDiffer ss → slice_get ss i ≡ Some s → HasPlace ss s
-stands_placed ss i s differ at = ap (slice_get ss) (scope_place-found ss s i differ at) ∙ at
+-- what is among such as differ has its place
+present_placed : (ss : List Address) (i : ℕ) (s : Address) → AllDiffer ss → slice_get ss i ≡ Some s → HasPlace ss s
+present_placed ss i s differ at = ap (slice_get ss) (scope_place-found ss s i differ at) ∙ at
 
 one_or_other : (a b : Bool) → (a ≡ b) ⊎ (a ≡ not b)
 one_or_other true true = inl refl
@@ -55,7 +55,7 @@ one_or_other false false = inl refl
 record IsCrossed (w : Item) (path : UsePath) : Type 0 where
   pub place : ℕ
   pub x : Extern
-  pub part : slice_get (parts w) place ≡ Some (Crossing x)
+  pub part : slice_get (parts w) place ≡ Some (ExternPart x)
   pub index : ℕ
   pub at : slice_get (extern_paths x.kind) index ≡ Some path
 
@@ -70,16 +70,16 @@ kind_path x (extern.NamedPath name own) zero link at = (let same : extern_link x
 kind_path x (extern.NamedPath name own) (suc j) link at = absurd (let f : ⊥ = cc in f)
 
 part_crossed : (w : Item) (m : ℕ) (p : Part) (j : ℕ) (link : Link) → slice_get (parts w) m ≡ Some p → slice_get (part_items p) j ≡ Some (SideLink link) → IsCrossed w link.path
-part_crossed w m (Defining d) j link there at = absurd (
+part_crossed w m (DefinitionPart d) j link there at = absurd (
     let it = map_at SideFunction (definition_functions d.name d.body) j (SideLink link) at in
     let wrong : SideFunction it.0 ≡ SideLink link = it.2 in
     let f : ⊥ = cc in
     f)
-part_crossed w m (Using u) j link there at = absurd (let f : ⊥ = cc in f)
-part_crossed w m (Including n) j link there at = absurd (let f : ⊥ = cc in f)
-part_crossed w m (Doing g) zero link there at = absurd (let f : ⊥ = cc in f)
-part_crossed w m (Doing g) (suc j) link there at = absurd (let f : ⊥ = cc in f)
-part_crossed w m (Crossing x) j link there at = record { place = m; x = x; part = there; index = 0; at = kind_path x x.kind j link at }
+part_crossed w m (UsePart u) j link there at = absurd (let f : ⊥ = cc in f)
+part_crossed w m (IncludePart n) j link there at = absurd (let f : ⊥ = cc in f)
+part_crossed w m (FunctionPart g) zero link there at = absurd (let f : ⊥ = cc in f)
+part_crossed w m (FunctionPart g) (suc j) link there at = absurd (let f : ⊥ = cc in f)
+part_crossed w m (ExternPart x) j link there at = record { place = m; x = x; part = there; index = 0; at = kind_path x x.kind j link at }
 
 -- the path of each link is
 link_crossed : (w : Item) (k : ℕ) (link : Link) → slice_get (flat_map item_link (side_items w)) k ≡ Some link → IsCrossed w link.path
@@ -101,7 +101,7 @@ crossed_path : (w : Item) (path : UsePath) → IsCrossed w path → Contains (us
 crossed_path w path c =
     let before = map (λ (u : WrittenUse). u.from) (inline_uses c.x.kind) in
     let own = at_back before (extern_paths c.x.kind) c.index path c.at in
-    let n = flat_map_has use_path (parts w) c.place (length before + c.index) (Crossing c.x) path c.part own in
+    let n = flat_map_has use_path (parts w) c.place (length before + c.index) (ExternPart c.x) path c.part own in
     contains_at (use_paths w) n.0 path n.1
 
 -- and where it names a package, its visit is one of the item's
@@ -112,14 +112,14 @@ crossed_visit w path c v first =
     let own = flat_map_has visits (extern_paths c.x.kind) c.index 0 path v c.at first in
     let there = at_back uses (flat_map visits (extern_paths c.x.kind)) own.0 v own.1 in
     let j = length uses + own.0 in
-    let here : slice_get (at_side extern_visits c.x.side (Crossing c.x)) j ≡ Some v = ap (λ (b : Bool). slice_get (cond b (extern_visits c.x) []) j) (side_itself c.x.side) ∙ there in
-    let on_side = flat_map_has (at_side extern_visits c.x.side) (parts w) c.place j (Crossing c.x) v c.part here in
+    let here : slice_get (at_side extern_visits c.x.side (ExternPart c.x)) j ≡ Some v = ap (λ (b : Bool). slice_get (cond b (extern_visits c.x) []) j) (side_itself c.x.side) ∙ there in
+    let on_side = flat_map_has (at_side extern_visits c.x.side) (parts w) c.place j (ExternPart c.x) v c.part here in
     side_has (flat_map part_visits (parts w)) (λ side. flat_map (at_side extern_visits side) (parts w)) c.x.side on_side.0 v on_side.1
 
--- an include of an item stands among its parts
+-- an include of an item is among its parts
 record IsIncluded (w : Item) (n : Include) : Type 0 where
   pub place : ℕ
-  pub part : slice_get (parts w) place ≡ Some (Including n)
+  pub part : slice_get (parts w) place ≡ Some (IncludePart n)
 
 include_part : (w : Item) (k : ℕ) (n : Include) → slice_get (includes w) k ≡ Some n → IsIncluded w n
 include_part w k n at =
@@ -127,15 +127,15 @@ include_part w k n at =
     of_part it.0 it.1 it.3.0 it.2 it.3.1
   where
     of_part : (m : ℕ) (p : Part) (j : ℕ) → slice_get (parts w) m ≡ Some p → slice_get (part_includes p) j ≡ Some n → IsIncluded w n
-    of_part m (Defining d) j there is = absurd (let f : ⊥ = cc in f)
-    of_part m (Using u) j there is = absurd (let f : ⊥ = cc in f)
-    of_part m (Including own) zero there is = (let same : own ≡ n = cc in record { place = m; part = there ∙ ap (λ (i : Include). Some (Including i)) same })
-    of_part m (Including own) (suc j) there is = absurd (let f : ⊥ = cc in f)
-    of_part m (Doing g) j there is = absurd (let f : ⊥ = cc in f)
-    of_part m (Crossing x) j there is = absurd (let f : ⊥ = cc in f)
+    of_part m (DefinitionPart d) j there is = absurd (let f : ⊥ = cc in f)
+    of_part m (UsePart u) j there is = absurd (let f : ⊥ = cc in f)
+    of_part m (IncludePart own) zero there is = (let same : own ≡ n = cc in record { place = m; part = there ∙ ap (λ (i : Include). Some (IncludePart i)) same })
+    of_part m (IncludePart own) (suc j) there is = absurd (let f : ⊥ = cc in f)
+    of_part m (FunctionPart g) j there is = absurd (let f : ⊥ = cc in f)
+    of_part m (ExternPart x) j there is = absurd (let f : ⊥ = cc in f)
 
 included_path : (w : Item) (n : Include) → IsIncluded w n → Contains (include_paths w) n.from
-included_path w n i = let it = flat_map_has include_path (parts w) i.place 0 (Including n) n.from i.part refl in contains_at (include_paths w) it.0 n.from it.1
+included_path w n i = let it = flat_map_has include_path (parts w) i.place 0 (IncludePart n) n.from i.part refl in contains_at (include_paths w) it.0 n.from it.1
 
 paths_of_world : (w : Item) → is_world w ≡ true → needed_paths w ≡ include_paths w
 paths_of_world w sort = ap (λ (b : Bool). cond b (include_paths w) (use_paths w)) sort
@@ -155,10 +155,10 @@ module _ (files : List PackageFile) (legal : IsLegal files) (items : List Item) 
   called world = cond world WorldNamed InterfaceNamed
 
   own_placed : (k : ℕ) (i : Item) → slice_get (own_interfaces items) k ≡ Some i → HasPlace (interface_scopes files items) (address i)
-  own_placed k i at = stands_placed (interface_scopes files items) (length (map visited (foreign_interfaces files)) + k) (address i) (interface_scopes-differ files legal items ordered) (at_back (map visited (foreign_interfaces files)) (map address (own_interfaces items)) k (address i) (slice_get-map address (own_interfaces items) k ∙ ap (option_map address) at))
+  own_placed k i at = present_placed (interface_scopes files items) (length (map visited (foreign_interfaces files)) + k) (address i) (interface_scopes-differ files legal items ordered) (at_back (map visited (foreign_interfaces files)) (map address (own_interfaces items)) k (address i) (slice_get-map address (own_interfaces items) k ∙ ap (option_map address) at))
 
   world_placed : (k : ℕ) (w : Item) → slice_get (worlds_of items) k ≡ Some w → HasPlace (world_scopes files items) (address w)
-  world_placed k w at = stands_placed (world_scopes files items) (length (map visited (foreign_worlds files)) + k) (address w) (world_scopes-differ files legal items ordered) (at_back (map visited (foreign_worlds files)) (map address (worlds_of items)) k (address w) (slice_get-map address (worlds_of items) k ∙ ap (option_map address) at))
+  world_placed k w at = present_placed (world_scopes files items) (length (map visited (foreign_worlds files)) + k) (address w) (world_scopes-differ files legal items ordered) (at_back (map visited (foreign_worlds files)) (map address (worlds_of items)) k (address w) (slice_get-map address (worlds_of items) k ∙ ap (option_map address) at))
 
   -- each item has its place
   item_placed : (world : Bool) (p : ℕ) (v : Item) → slice_get all p ≡ Some v → is_world v ≡ world → HasPlace (scopes world) (called world (item_name v))
@@ -169,16 +169,16 @@ module _ (files : List PackageFile) (legal : IsLegal files) (items : List Item) 
   item_placed false p v at sort =
       let t = item_index files places ordered.1 p v at in
       let k = kept_has (λ (i : Item). not (is_world i)) items t.0 v (ap not sort) (ap (λ (l : List Item). slice_get l t.0) ordered.2 ∙ t.2) in
-      subst (HasPlace (interface_scopes files items)) (own_interface_address v (all_declared files p v at) sort) (own_placed k.0 v (at_front (interfaces_of items) (flat_map inline_items (worlds_of items)) k.0 v k.1))
+      subst (HasPlace (interface_scopes files items)) (own_interface_address v (all_declared files p v at) sort) (own_placed k.0 v (at_prefix (interfaces_of items) (flat_map inline_items (worlds_of items)) k.0 v k.1))
 
   -- and so has each item of another package
   visit_placed : (world : Bool) (p : ℕ) (v : ForeignVisit) → slice_get (foreign_items files) p ≡ Some v → v.wants_world ≡ world → HasPlace (scopes world) (visited v)
   visit_placed true p v at wants =
       let k = kept_has (λ (u : ForeignVisit). u.wants_world) (foreign_items files) p v wants at in
-      stands_placed (world_scopes files items) k.0 (visited v) (world_scopes-differ files legal items ordered) (at_front (map visited (foreign_worlds files)) (map address (worlds_of items)) k.0 (visited v) (slice_get-map visited (foreign_worlds files) k.0 ∙ ap (option_map visited) k.1))
+      present_placed (world_scopes files items) k.0 (visited v) (world_scopes-differ files legal items ordered) (at_prefix (map visited (foreign_worlds files)) (map address (worlds_of items)) k.0 (visited v) (slice_get-map visited (foreign_worlds files) k.0 ∙ ap (option_map visited) k.1))
   visit_placed false p v at wants =
       let k = kept_has (λ (u : ForeignVisit). not u.wants_world) (foreign_items files) p v (ap not wants) at in
-      stands_placed (interface_scopes files items) k.0 (visited v) (interface_scopes-differ files legal items ordered) (at_front (map visited (foreign_interfaces files)) (map address (own_interfaces items)) k.0 (visited v) (slice_get-map visited (foreign_interfaces files) k.0 ∙ ap (option_map visited) k.1))
+      present_placed (interface_scopes files items) k.0 (visited v) (interface_scopes-differ files legal items ordered) (at_prefix (map visited (foreign_interfaces files)) (map address (own_interfaces items)) k.0 (visited v) (slice_get-map visited (foreign_interfaces files) k.0 ∙ ap (option_map visited) k.1))
 
   -- so where a path leads to an item, of the right sort, its scope has its place
   target_placed : (world : Bool) (t : Target) → ((id : Id) → t ≡ Local id → item_named all id.name.now ≡ None → ⊥) → (is_world_at files t ≡ Some (not world) → ⊥) → ((p : PackageName) (id : Id) → t ≡ Foreign p id → IsVisited files p id) → HasPlace (scopes world) (target_scope (called world) t)
@@ -204,7 +204,7 @@ module _ (files : List PackageFile) (legal : IsLegal files) (items : List Item) 
       ]
 
   module _ (t : ℕ) (w : Item) (at : slice_get (worlds_of items) t ≡ Some w) where
-    -- where the world stands among the items of files
+    -- where the world is among the items of files
     spot : (k : ℕ) × (p : ℕ) × (slice_get places k ≡ Some p) × (slice_get all p ≡ Some w) × (is_world w ≡ true)
     spot =
         let k = kept_at is_world items t w at in
@@ -244,4 +244,4 @@ module _ (files : List PackageFile) (legal : IsLegal files) (items : List Item) 
         let f : ⊥ = cc in
         f))
         (λ interface. legal (fault 11 (path_id n.from).span) (InterfaceIncluded w among n.from listed interface refl))
-        (λ p id lead. path_visited files spot.1 w i.place (Including n) n.attributes.items true n.from p id spot.3 i.part refl lead)
+        (λ p id lead. path_visited files spot.1 w i.place (IncludePart n) n.attributes.items true n.from p id spot.3 i.part refl lead)

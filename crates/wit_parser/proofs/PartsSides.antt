@@ -1,4 +1,4 @@
--- What is told of a side of a world stands there, where each interface that is named there has a place.
+-- What is stated of a side of a world is there, where each interface that is named there has a place.
 use Rattle.std.proofs.Common.{◌≡◌, ℕ, suc, Bool, true, false, cond, List, [], ◌∷◌, length, Some, None, refl, sym, ap, ◌∙◌, arith}
 use Rattle.std.specs.Prelude.{slice_get, map}
 use Rattle.std.specs.List.{cons_option, flat_map}
@@ -10,7 +10,7 @@ use Rattle.wit_model.specs.declared.world.WorldKey.TheVariants as key
 use Rattle.wit_model.specs.declared.world.WorldItem.{WorldItem}
 use Rattle.wit_model.specs.declared.world.WorldItem.TheVariants as item
 use Rattle.wit_syntax.specs.Address.{Address, WorldNamed}
-use Rattle.wit_syntax.specs.Crossing.{same_side}
+use Rattle.wit_syntax.specs.ExternPart.{same_side}
 use Rattle.wit_syntax.specs.Function.{SourceFunction}
 use Rattle.wit_syntax.specs.Sides.{role_side, SideItem, SideFunction, SideLink, SideInline, Link, item_function, item_inline, item_link}
 use Rattle.wit_syntax.specs.Source.{Item, TopName, address, path_scope, leads, target_scope}
@@ -23,7 +23,7 @@ use Rattle.wit_parser.proofs.PartsPlaces.{one_by_one-mapped}
 abbrev Entry : Type 0
 Entry = WorldKey × WorldItem
 
--- what is kept of what is told with its side is put on that side
+-- what is kept of what is stated with its side is put on that side
 kept_put : (side own : WorldSide) (x : Entry) (xs : List Entry) → cons_option (cond (same_side side own) (Some x) None) xs ≡ put_on side own x xs
 kept_put side own x xs = kept (same_side side own)
   where
@@ -31,7 +31,7 @@ kept_put side own x xs = kept (same_side side own)
     kept true = refl
     kept false = refl
 
--- a scope stands where it is told to
+-- a scope is where it is stated to
 abbrev pub HasPlace : List Address → Address → Type 0
 HasPlace ss s = slice_get ss (scope_place ss s) ≡ Some s
 
@@ -55,6 +55,6 @@ module _ (ss : List Address) (function : SourceFunction → Function) (named : (
       let place = scope_place ss (address i) in
       (place, rest, inside 0 i refl, kept_put side x.side (inline_entry x name place) rest, side_entries-are written is (omega (arith, count)) links (λ k. inside (suc k)))
 
--- includes that are told are the written ones, where each world that they name has a place
+-- includes that are stated are the written ones, where each world that they name has a place
 pub includes_in-are : (ws : List Address) (top : List TopName) (xs : List Include) → ((k : ℕ) (x : Include) → slice_get xs k ≡ Some x → HasPlace ws (target_scope WorldNamed (leads top x.from))) → OneByOne (IsInclude ws top) xs (map (include_in ws top) xs)
 includes_in-are ws top xs placed = one_by_one-mapped (IsInclude ws top) (include_in ws top) xs (λ k x at. (refl, placed k x at, refl, refl))

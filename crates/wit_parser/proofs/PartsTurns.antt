@@ -1,4 +1,4 @@
--- What is met in a scope is met in an order in which the parts of each come before it.
+-- What occurs in a scope occurs in an order in which the parts of each come before it.
 use Rattle.std.proofs.Common.{◌≡◌, ◌<◌, ◌≤◌, ℕ, ◌+◌, zero, suc, List, [], ◌∷◌, ◌++◌, length, take, Option, Some, None, IsSome, ◌⊎◌, inl, inr, refl, sym, ap, ◌∙◌, subst, arith, append-nil}
 use Rattle.std.specs.Prelude.{slice_get, slice_index, map, Contains}
 use Rattle.std.specs.List.{flat_map, filter, find}
@@ -20,8 +20,8 @@ use Rattle.wit_syntax.specs.Scope.{AreDistinct, rows_of, in_order, in_turn, used
 use Rattle.wit_syntax.specs.Shape.{Shape, words, all_words}
 use Rattle.wit_syntax.specs.Sides.{all_scopes}
 use Rattle.wit_syntax.specs.Signature.{IsEntered, MissingInSignature, OfFunction, OfNothing}
-use Rattle.wit_syntax.specs.Source.{ScopeName, Used, Defined, Taken, about_name, address, local_name, meaning, scope_names}
-use Rattle.wit_syntax.specs.Trees.{scope}
+use Rattle.wit_syntax.specs.Source.{ScopeName, Used, Defined, ForeignName, about_name, address, local_name, meaning, scope_names}
+use Rattle.wit_syntax.specs.ScopesOfTrees.{scope}
 use Rattle.wit_syntax.proofs.Found.{at_contains, contains_at, find_at, find_passes, some_of}
 use Rattle.wit_syntax.proofs.Kept.{kept_early, kept_next, kept_past}
 use Rattle.wit_syntax.proofs.Lists.{at_within, flat_map_has}
@@ -30,22 +30,22 @@ use Rattle.wit_syntax.proofs.Repeated.{differ_at}
 use Rattle.wit_syntax.proofs.Rows.{row_of}
 use Rattle.wit_syntax.proofs.Tables.{place_of-Some}
 use Rattle.wit_syntax.proofs.Turns.{either_at, in_turn_has, names_within, used_at, used_has, used_is}
-use Rattle.wit_arena.specs.Meet.{Key, Def, Meeting, keys, name_meetings, all_function_meetings}
-use Rattle.wit_arena.specs.Whole.{Ordered, turned, ordered_names, turn_meetings}
+use Rattle.wit_arena.specs.Occurrences.{Key, Def, Occurrence, keys, name_occurrences, all_function_occurrences}
+use Rattle.wit_arena.specs.Whole.{Ordered, turned, ordered_names, turn_occurrences}
 use Rattle.wit_arena.proofs.Itemizing.{own_names}
 use Rattle.wit_arena.proofs.KnownItems.{IsItem, scope_is}
 use Rattle.wit_arena.proofs.LegalScopes.{names_differ, scope_among}
-use Rattle.wit_arena.proofs.Meeting.{Has}
-use Rattle.wit_parser.proofs.PartsReady.{After, Ready, has_back, has_front, has_last, has_of, ready_all, ready_append, name_ready, functions_ready}
-use Rattle.wit_arena.proofs.Turns.{parts_meetings}
+use Rattle.wit_arena.proofs.Occurrence.{Has}
+use Rattle.wit_parser.proofs.PartsReady.{After, Ready, has_back, has_prefix, has_last, has_of, ready_all, ready_append, name_ready, functions_ready}
+use Rattle.wit_arena.proofs.Turns.{parts_occurrences}
 
 one_word : (x id : Id) (k : ℕ) → slice_get (x ∷ []) k ≡ Some id → x ≡ id
 one_word x id zero at = cc
 one_word x id (suc k) at = absurd (let f : ⊥ = cc in f)
 
--- a name is met where it is resolved
-pub name_has : (s : Address) (xs : List ScopeName) (p : ℕ) (x : ScopeName) → slice_get xs p ≡ Some x → Has (keys (flat_map (name_meetings s) xs)) (Def s (local_name x))
-name_has s xs p x at = has_of (name_meetings s) xs p x (Def s (local_name x)) at (has_last (parts_meetings s x) (record { key = Def s (local_name x); span = (about_name x).span; given = (about_name x).notes.stability }))
+-- a name occurs where it is resolved
+pub name_has : (s : Address) (xs : List ScopeName) (p : ℕ) (x : ScopeName) → slice_get xs p ≡ Some x → Has (keys (flat_map (name_occurrences s) xs)) (Def s (local_name x))
+name_has s xs p x at = has_of (name_occurrences s) xs p x (Def s (local_name x)) at (has_last (parts_occurrences s x) (record { key = Def s (local_name x); span = (about_name x).span; given = (about_name x).metadata.stability }))
 
 -- the row at the place of a name is that of a name that goes by it
 row_named : (xs : List ScopeName) (id : Id) (b : ℕ) → target (rows_of xs) id ≡ Some b → (y : ScopeName) × (slice_get xs b ≡ Some y) × (local_name y ≡ id.name.now)
@@ -57,7 +57,7 @@ row_named xs id b found =
     let is : r.0 ≡ row_of y.0 = cc in
     (y.0, y.1, sym (r.2 ∙ ap (λ (x : Row). x.name) is))
 
--- what a name needs stands before it in the order
+-- what a name needs comes before it in the order
 need_before : (xs : List ScopeName) (order : List ℕ) → IsOrder (rows_of xs) order → (n p j : ℕ) (x : ScopeName) (id : Id) → slice_get order n ≡ Some p → slice_get xs p ≡ Some x → slice_get (needed_ids x) j ≡ Some id → (t : ℕ) × (q : ℕ) × (y : ScopeName) × (t < n) × (slice_get order t ≡ Some q) × (slice_get xs q ≡ Some y) × (local_name y ≡ id.name.now)
 need_before xs order least n p j x id next at need =
     let rs = rows_of xs in
@@ -83,8 +83,8 @@ module _ (files : List PackageFile) (legal : IsLegal files) (o : Ordered) (it : 
   abbrev names : Address → List ScopeName
   names = scope files
 
-  abbrev of_name : ScopeName → List Meeting
-  of_name = name_meetings s
+  abbrev of_name : ScopeName → List Occurrence
+  of_name = name_occurrences s
 
   among : Contains (all_scopes files) o.item
   among = scope_among files legal s o.item it.found
@@ -97,13 +97,13 @@ module _ (files : List PackageFile) (legal : IsLegal files) (o : Ordered) (it : 
       cc
 
   -- the originals of used names are among some, or all its names are
-  abbrev pub UsesStand : (Key → Type 0) → Type 0
-  UsesStand a = (from : Address) (attributes : List Attribute) (n : UseName) → Contains xs (Used from attributes n) → a (Def from n.name.name.now)
+  abbrev pub UsesPresent : (Key → Type 0) → Type 0
+  UsesPresent a = (from : Address) (attributes : List Attribute) (n : UseName) → Contains xs (Used from attributes n) → a (Def from n.name.name.now)
 
-  abbrev pub NamesStand : (Key → Type 0) → Type 0
-  NamesStand a = (p : ℕ) (x : ScopeName) → slice_get xs p ≡ Some x → a (Def s (local_name x))
+  abbrev pub NamesPresent : (Key → Type 0) → Type 0
+  NamesPresent a = (p : ℕ) (x : ScopeName) → slice_get xs p ≡ Some x → a (Def s (local_name x))
 
-  used_ready : (a : Key → Type 0) → UsesStand a → Ready names a (flat_map of_name (used xs))
+  used_ready : (a : Key → Type 0) → UsesPresent a → Ready names a (flat_map of_name (used xs))
   used_ready a known = ready_all names of_name (used xs) a (λ k x at b wider. (
       let u = used_is xs (own_names o.item) k x at in
       let x' = Used u.0 u.1 u.2 in
@@ -132,11 +132,11 @@ module _ (files : List PackageFile) (legal : IsLegal files) (o : Ordered) (it : 
             let b = need_before xs o.order it.least n p j x id next at need in
             let k = kept_early is_defined xs o.order n b.0 b.1 (Defined d) b.3 b.4 there refl in
             inr (name_has s (early n) k.0 (Defined d) k.1))
-        by_sort (Taken attributes t) there = absurd (own_names o.item (need_before xs o.order it.least n p j x id next at need).1 attributes t there)
+        by_sort (ForeignName attributes t) there = absurd (own_names o.item (need_before xs o.order it.least n p j x id next at need).1 attributes t there)
 
     one_more : (n p : ℕ) (x : ScopeName) → slice_get o.order n ≡ Some p → slice_get xs p ≡ Some x → Ready names a (flat_map of_name (early n)) → Ready names a (flat_map of_name (early (n + 1)))
     one_more n p (Used from attributes m) next at ready = subst (λ (l : List ScopeName). Ready names a (flat_map of_name l)) (sym (kept_past is_defined xs o.order n p (Used from attributes m) next at refl)) ready
-    one_more n p (Taken attributes t) next at ready = absurd (own_names o.item p attributes t at)
+    one_more n p (ForeignName attributes t) next at ready = absurd (own_names o.item p attributes t at)
     one_more n p (Defined d) next at ready =
         let x = Defined d in
         let before = flat_map of_name (early n) in
@@ -152,16 +152,16 @@ module _ (files : List PackageFile) (legal : IsLegal files) (o : Ordered) (it : 
         let next : suc n ≡ n + 1 = omega arith in
         subst (λ (m : ℕ). Ready names a (flat_map of_name (early m))) (sym next) (one_more n p.0 x.0 p.1 x.1 (defined_ready n (omega (arith, le))))
 
-  -- its names, where the originals of the used ones were met before
-  pub names_ready : (a : Key → Type 0) → UsesStand a → Ready names a (flat_map of_name (ordered_names o))
+  -- its names, where the originals of the used ones occurred before
+  pub names_ready : (a : Key → Type 0) → UsesPresent a → Ready names a (flat_map of_name (ordered_names o))
   names_ready a known =
       let first = flat_map of_name (used xs) in
       let rest = defined_ready (After a first) (λ p x at. inr (name_has s (used xs) p x at)) (length o.order) (omega arith) in
       let all = subst (λ (l : List ℕ). Ready names (After a first) (flat_map of_name (defined (in_order xs l)))) (take_all (length o.order) o.order (omega arith)) rest in
       subst (λ l. Ready names a l) (sym (flat_map-append of_name (used xs) (defined (in_order xs o.order)))) (ready_append names first (flat_map of_name (defined (in_order xs o.order))) a (used_ready a known) all)
 
-  pub names_met : NamesStand (Has (keys (flat_map of_name (ordered_names o))))
-  names_met p x at = let k = in_turn_has xs o.order it.least p x at in name_has s (ordered_names o) k.0 x k.1
+  pub names_seen : NamesPresent (Has (keys (flat_map of_name (ordered_names o))))
+  names_seen p x at = let k = in_turn_has xs o.order it.least p x at in name_has s (ordered_names o) k.0 x k.1
 
   -- each word of a signature is a name of the scope
   word_meant : (id : Id) (m : Option ScopeName) → meaning xs id.name.now ≡ m → (m ≡ None → ⊥) → (p : ℕ) × (x : ScopeName) × (slice_get xs p ≡ Some x) × (local_name x ≡ id.name.now)
@@ -171,7 +171,7 @@ module _ (files : List PackageFile) (legal : IsLegal files) (o : Ordered) (it : 
       let p = find_at test xs x is in
       (p.0, x, p.1, name_equal (local_name x) id.name.now (find_passes test xs x is))
 
-  pub signature_known : (a : Key → Type 0) → NamesStand a → (k : ℕ) (fn : SourceFunction) → slice_get (functions o.item) k ≡ Some fn → (j : ℕ) (x : Shape) → slice_get (signature fn) j ≡ Some x → (i : ℕ) (id : Id) → slice_get (words x) i ≡ Some id → a (Def s id.name.now)
+  pub signature_known : (a : Key → Type 0) → NamesPresent a → (k : ℕ) (fn : SourceFunction) → slice_get (functions o.item) k ≡ Some fn → (j : ℕ) (x : Shape) → slice_get (signature fn) j ≡ Some x → (i : ℕ) (id : Id) → slice_get (words x) i ≡ Some id → a (Def s id.name.now)
   signature_known a known k fn at j x there i id is =
       let w = flat_map_has words (signature fn) j i x id there is in
       let written = contains_at (flat_map words (signature fn)) w.0 id w.1 in
@@ -181,10 +181,10 @@ module _ (files : List PackageFile) (legal : IsLegal files) (o : Ordered) (it : 
       subst (λ (name : List ℕ). a (Def s name)) m.3 (known m.0 m.1 m.2)
 
   -- so is the whole scope, with its functions
-  pub turn_ready : (a : Key → Type 0) → UsesStand a → Ready names a (turn_meetings (turned o))
+  pub turn_ready : (a : Key → Type 0) → UsesPresent a → Ready names a (turn_occurrences (turned o))
   turn_ready a known =
       let own = flat_map of_name (ordered_names o) in
-      ready_append names own (all_function_meetings s (functions o.item)) a (names_ready a known) (functions_ready names s (functions o.item) (After a own) (signature_known (After a own) (λ p x at. inr (names_met p x at))))
+      ready_append names own (all_function_occurrences s (functions o.item)) a (names_ready a known) (functions_ready names s (functions o.item) (After a own) (signature_known (After a own) (λ p x at. inr (names_seen p x at))))
 
-  pub turn_names : NamesStand (Has (keys (turn_meetings (turned o))))
-  turn_names p x at = has_front (flat_map of_name (ordered_names o)) (all_function_meetings s (functions o.item)) (Def s (local_name x)) (names_met p x at)
+  pub turn_names : NamesPresent (Has (keys (turn_occurrences (turned o))))
+  turn_names p x at = has_prefix (flat_map of_name (ordered_names o)) (all_function_occurrences s (functions o.item)) (Def s (local_name x)) (names_seen p x at)

@@ -1,4 +1,4 @@
--- A world that is told by places is the written one, where all that it names is met, and has a place.
+-- A world that is given by places is the written one, where all that it names occurs, and has a place.
 use Rattle.std.proofs.Common.{◌≡◌, ℕ, List, [], ◌∷◌, ◌++◌, Some, refl, sym, ap, ◌∙◌, subst}
 use Rattle.std.specs.Prelude.{slice_get, map}
 use Rattle.std.specs.List.{flat_map}
@@ -16,19 +16,19 @@ use Rattle.wit_syntax.specs.Function.{SourceFunction, functions}
 use Rattle.wit_syntax.specs.Scope.{includes}
 use Rattle.wit_syntax.specs.Sides.{Link, item_function, item_link, side_items, inline_items}
 use Rattle.wit_syntax.specs.Source.{Item, ScopeName, address, leads, local_id, local_name, path_scope, target_scope}
-use Rattle.wit_syntax.proofs.Inline.{length-inline_behind}
+use Rattle.wit_syntax.proofs.Inline.{length-inline_after}
 use Rattle.wit_syntax.proofs.Legal.{functions_items}
 use Rattle.wit_syntax.proofs.Lists.{map_map}
 use Rattle.wit_arena.specs.Made.{function_in, name_places, names_in_turn, entries_on, name_imports, world_entries, own_world}
-use Rattle.wit_arena.specs.Meet.{Key, Def, IsMet}
+use Rattle.wit_arena.specs.Occurrences.{Key, Def, IsSeen}
 use Rattle.wit_arena.specs.Package.{import_types, world_types}
 use Rattle.wit_arena.specs.SideItems.{AreSideItems, settled}
 use Rattle.wit_arena.specs.Whole.{Ordered, OrderedWorld, turned, addresses, type_imports, HasTypes, IsResolvedWorld}
 use Rattle.wit_arena.proofs.DoneWorlds.{own_types}
 use Rattle.wit_parser.proofs.PartsOrders.{own_world as world_in_order}
-use Rattle.wit_parser.proofs.PartsPlaces.{FunctionStands, functions_in-are, name_places-are}
+use Rattle.wit_parser.proofs.PartsPlaces.{FunctionPresent, functions_in-are, name_places-are}
 use Rattle.wit_parser.proofs.PartsSides.{HasPlace, side_entries-are, includes_in-are}
-use Rattle.wit_arena.proofs.Placing.{TellsPlaces}
+use Rattle.wit_arena.proofs.Placing.{GivesPlaces}
 use Rattle.wit_arena.proofs.Settled.{settled_none, settled_types}
 use Rattle.wit_arena.proofs.SideItems.{side_types}
 
@@ -36,9 +36,9 @@ imports_named : (id : Key → ℕ) (s : Address) (xs : List ScopeName) → name_
 imports_named id s [] = refl
 imports_named id s (x ∷ xs) = ap (λ (l : List (WorldKey × WorldItem)). (key.Name (local_name x), Type_ (id (Def s (local_name x))) (local_id x).span) ∷ l) (imports_named id s xs)
 
-module _ (id : Key → ℕ) (ks : List Key) (tells : TellsPlaces id ks) (order : Address → List ℕ) (ss ws : List Address) (i : Item)
-    (met : (k : ℕ) (x : ScopeName) → slice_get (names_in_turn order i) k ≡ Some x → IsMet ks (Def (address i) (local_name x)))
-    (stand : (k : ℕ) (fn : SourceFunction) → slice_get (functions i) k ≡ Some fn → FunctionStands (IsMet ks) (address i) fn)
+module _ (id : Key → ℕ) (ks : List Key) (gives : GivesPlaces id ks) (order : Address → List ℕ) (ss ws : List Address) (i : Item)
+    (seen : (k : ℕ) (x : ScopeName) → slice_get (names_in_turn order i) k ≡ Some x → IsSeen ks (Def (address i) (local_name x)))
+    (are_present : (k : ℕ) (fn : SourceFunction) → slice_get (functions i) k ≡ Some fn → FunctionPresent (IsSeen ks) (address i) fn)
     (links : (k : ℕ) (link : Link) → slice_get (flat_map item_link (side_items i)) k ≡ Some link → HasPlace ss (path_scope i.top link.path))
     (inside : (k : ℕ) (v : Item) → slice_get (inline_items i) k ≡ Some v → HasPlace ss (address v))
     (included : (k : ℕ) (x : Include) → slice_get (includes i) k ≡ Some x → HasPlace ws (target_scope WorldNamed (leads i.top x.from))) where
@@ -58,7 +58,7 @@ module _ (id : Key → ℕ) (ks : List Key) (tells : TellsPlaces id ks) (order :
   side_is side =
       let function = function_in id (address i) in
       let on = entries_on side (world_entries id ss i) in
-      let here = side_entries-are ss function (λ fn. refl) i.top side (side_items i) (inline_items i) (sym (length-inline_behind i [] (side_items i))) links inside in
+      let here = side_entries-are ss function (λ fn. refl) i.top side (side_items i) (inline_items i) (sym (length-inline_after i [] (side_items i))) links inside in
       subst (λ (l : List Address). AreSideItems ss i.top side (side_items i) made l on) (sym (map_map (λ (v : Ordered). address v.item) ord (inline_items i)))
       (subst (λ (l : List SourceFunction). AreSideItems ss i.top side (side_items i) (map function l) (map address (inline_items i)) on) (sym (functions_items i)) here)
 
@@ -82,10 +82,10 @@ module _ (id : Key → ℕ) (ks : List Key) (tells : TellsPlaces id ks) (order :
   pub own_world-is : IsResolvedWorld ks ss ws o w
   own_world-is = record {
     says = (refl, refl, refl, refl, refl);
-    types = subst (HasTypes ks (turned o.own)) (sym types_are) (name_places-are id ks tells (turned o.own) met);
+    types = subst (HasTypes ks (turned o.own)) (sym types_are) (name_places-are id ks gives (turned o.own) seen);
     sides = record {
       functions = made;
-      are = functions_in-are id ks tells (address i) (functions i) stand;
+      are = functions_in-are id ks gives (address i) (functions i) are_present;
       imports = (on, side_is Imported, imports_are ∙ ap (λ (l : List (List ℕ × ℕ)). settled (includes i) (type_imports names l ++ on)) (sym types_are));
       exports = (entries_on Exported (world_entries id ss i), side_is Exported, refl);
     };

@@ -1,4 +1,4 @@
--- What stands on the sides of a world: its ids are places of types and of interfaces.
+-- What is on the sides of a world: its ids are places of types and of interfaces.
 use Rattle.std.proofs.Common.{◌≡◌, ◌<◌, ℕ, suc, List, [], ◌∷◌, ◌++◌, length, Option, Some, None, refl, sym, subst, arith, inl, inr}
 use Rattle.std.specs.Prelude.{slice_get}
 use Rattle.std.proofs.lemmas.Bool.{cases_Bool, cond-true, cond-false}
@@ -13,14 +13,14 @@ use Rattle.wit_model.specs.declared.world.WorldKey.{WorldKey}
 use Rattle.wit_model.specs.declared.world.WorldKey.TheVariants as key
 use Rattle.wit_model.specs.declared.unresolved.UnresolvedPackage.{UnresolvedPackage}
 use Rattle.wit_syntax.specs.Address.{Address}
-use Rattle.wit_syntax.specs.Crossing.{same_side}
+use Rattle.wit_syntax.specs.ExternPart.{same_side}
 use Rattle.wit_syntax.specs.Sides.{role_side, SideItem, SideFunction, SideLink, SideInline}
 use Rattle.wit_syntax.specs.Source.{TopName, ScopeName, local_name, local_id, path_scope}
 use Rattle.wit_arena.specs.Functions.{function_item}
 use Rattle.wit_arena.specs.SideItems.{link_key, link_item, inline_entry, put_on, settled, AreSideItems}
 use Rattle.wit_arena.proofs.Settled.{settled_at}
 use Rattle.wit_arena.specs.Whole.{type_imports}
-use Rattle.wit_syntax.proofs.Kept.{behind_one}
+use Rattle.wit_syntax.proofs.Kept.{after_one}
 use Rattle.wit_syntax.proofs.Lists.{at_split}
 use Rattle.wit_parser.specs.Ids.{AreNamesWithin, IsFunctionWithin, IsKeyWithin, IsItemWithin, AreItemsWithin}
 
@@ -31,14 +31,14 @@ module _ (p : UnresolvedPackage) where
   abbrev IsEntryWithin : Entry → Type 0
   IsEntryWithin x = IsKeyWithin p x.0 × IsItemWithin p x.1
 
-  -- nothing, one more in front, one more on its side, and more behind
+  -- nothing, one more in front, one more on its side, and more after
   pub none_within : (xs : List Entry) → xs ≡ [] → AreItemsWithin p xs
   none_within xs none k x at = absurd (let f : ⊥ = cc in f)
 
   more_within : (x : Entry) (xs : List Entry) → IsEntryWithin x → AreItemsWithin p xs → AreItemsWithin p (x ∷ xs)
-  more_within x xs first rest k y at = elim (behind_one x xs k y at) [
+  more_within x xs first rest k y at = elim (after_one x xs k y at) [
     | inl here ↦ subst IsEntryWithin here first
-    | inr behind ↦ rest behind.0 y behind.1
+    | inr rest_after ↦ rest rest_after.0 y rest_after.1
   ]
 
   put_within : (side own : WorldSide) (x : Entry) (xs : List Entry) → IsEntryWithin x → AreItemsWithin p xs → AreItemsWithin p (put_on side own x xs)
@@ -49,7 +49,7 @@ module _ (p : UnresolvedPackage) where
 
   pub both_within : (xs ys : List Entry) → AreItemsWithin p xs → AreItemsWithin p ys → AreItemsWithin p (xs ++ ys)
   both_within xs ys first second k x at = elim (at_split xs ys k x at) [
-    | inl front ↦ first k x front
+    | inl prefix ↦ first k x prefix
     | inr back ↦ second back.0 x back.2
   ]
 

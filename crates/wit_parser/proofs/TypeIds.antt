@@ -1,4 +1,4 @@
--- Types, functions and names over the keys that were met: their ids are places of types.
+-- Types, functions and names over the keys that occurred: their ids are places of types.
 use Rattle.std.proofs.Common.{◌≡◌, ◌<◌, ℕ, zero, suc, List, [], ◌∷◌, length, Option, Some, None, refl, sym, ap, ◌∙◌, subst, arith}
 use Rattle.std.specs.Prelude.{slice_get}
 use Rattle.std.specs.List.{filter_map}
@@ -17,7 +17,7 @@ use Rattle.wit_syntax.specs.Address.{Address}
 use Rattle.wit_syntax.specs.Function.{Role, Freestanding, Method, Static, Constructor, OnSide, SourceFunction, signature}
 use Rattle.wit_arena.specs.Expr.{Expr, Prim, Use, Of, Exprs, End, More, expr_of}
 use Rattle.wit_arena.specs.Functions.{IsKind, IsFunction, AreFunctions}
-use Rattle.wit_arena.specs.Meet.{Key, Def, Whole, IsAt, AreAt}
+use Rattle.wit_arena.specs.Occurrences.{Key, Def, Whole, IsAt, AreAt}
 use Rattle.wit_arena.specs.Package.{IsBelow, function_types}
 use Rattle.wit_arena.specs.Whole.{Turned, HasTypes, AreRequired}
 use Rattle.wit_syntax.proofs.Lists.{at_within}
@@ -45,14 +45,14 @@ static_resource form.Async r = refl
 static_resource form.Getter r = refl
 static_resource form.Setter r = refl
 
--- what is kept of options stands among them
+-- what is kept of options is among them
 kept_from : {X : Type 0} (each : List (Option X)) (k : ℕ) (x : X) → slice_get (filter_map (λ r. r) each) k ≡ Some x → (i : ℕ) × (slice_get each i ≡ Some (Some x))
 kept_from [] k x at = absurd (let f : ⊥ = cc in f)
 kept_from (None ∷ each) k x at = (let it = kept_from each k x at in (suc it.0, it.1))
 kept_from (Some y ∷ each) zero x at = (0, ap Some at)
 kept_from (Some y ∷ each) (suc k) x at = (let it = kept_from each k x at in (suc it.0, it.1))
 
--- each key that was met is that of a type
+-- each key that occurred is that of a type
 module _ (p : UnresolvedPackage) (ks : List Key) (count : length p.types ≡ length ks) where
   key_within : (id : ℕ) (k : Key) → slice_get ks id ≡ Some k → id < length p.types
   key_within id k at = let within = slice_get_within ks id k at in omega (arith, count, within)
@@ -69,7 +69,7 @@ module _ (p : UnresolvedPackage) (ks : List Key) (count : length p.types ≡ len
   parts_within End (t ∷ tys) are k ty at = absurd are
   parts_within (More x xs) [] are k ty at = absurd are
 
-  -- the names of a scope stand for places of types
+  -- the names of a scope mean places of types
   pub names_within : (t : Turned) (names : List (List ℕ × ℕ)) → HasTypes ks t names → AreNamesWithin p names
   names_within t names has k name id at = key_within id (Def t.address name) (has.places k name id at)
 

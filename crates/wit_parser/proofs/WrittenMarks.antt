@@ -15,10 +15,10 @@ use Rattle.wit_type_tree.specs.declared.types.ResourceFunc.TheVariants as resour
 use Rattle.wit_functions.specs.Names.{mark_of, HasMark, HasMarkOf}
 use Rattle.wit_functions.specs.declared.function.FunctionKind.{FunctionKind}
 use Rattle.wit_syntax.specs.Address.{Address}
-use Rattle.wit_syntax.specs.Source.{Item, Part, Defining, Using, Including, Doing, Crossing, parts}
+use Rattle.wit_syntax.specs.Source.{Item, Part, DefinitionPart, UsePart, IncludePart, FunctionPart, ExternPart, parts}
 use Rattle.wit_syntax.specs.Function.{SourceFunction, accessor, dotted, free_function, resource_function, definition_functions, part_functions, functions, side_function}
 use Rattle.wit_arena.specs.Functions.{IsKind}
-use Rattle.wit_arena.specs.Meet.{Key}
+use Rattle.wit_arena.specs.Occurrences.{Key}
 use Rattle.wit_syntax.proofs.Lists.{map_at, flat_map_at}
 use Rattle.wit_type_tree.specs.declared.types.Func.{Func}
 use Rattle.wit_type_tree.specs.declared.leaves.Docs.{Docs}
@@ -31,12 +31,12 @@ use Rattle.wit_arena.proofs.Turns.{freestanding_kind, method_kind, static_kind}
 mark_before : (mark : ℕ) (text more : List ℕ) → HasMark mark text → HasMark mark (text ++ more)
 mark_before mark text more has = list_any-append (λ b. b == mark) text more ∙ or_left (list_any (λ b. b == mark) text) (list_any (λ b. b == mark) more) has
 
-mark_behind : (mark : ℕ) (front text : List ℕ) → HasMark mark text → HasMark mark (front ++ text)
-mark_behind mark front text has = list_any-append (λ b. b == mark) front text ∙ or_right (list_any (λ b. b == mark) front) (list_any (λ b. b == mark) text) has
+mark_after : (mark : ℕ) (prefix text : List ℕ) → HasMark mark text → HasMark mark (prefix ++ text)
+mark_after mark prefix text has = list_any-append (λ b. b == mark) prefix text ∙ or_right (list_any (λ b. b == mark) prefix) (list_any (λ b. b == mark) text) has
 
 -- the name of a resource's function has a dot
-dot_named : (front back : List ℕ) (r f : Id) → HasMark 46 (front ++ (back ++ dotted r f))
-dot_named front back r f = mark_behind 46 front (back ++ dotted r f) (mark_behind 46 back (dotted r f) (mark_before 46 (r.name.now ++ codes ".") f.name.now (mark_behind 46 r.name.now (codes ".") refl)))
+dot_named : (prefix back : List ℕ) (r f : Id) → HasMark 46 (prefix ++ (back ++ dotted r f))
+dot_named prefix back r f = mark_after 46 prefix (back ++ dotted r f) (mark_after 46 back (dotted r f) (mark_before 46 (r.name.now ++ codes ".") f.name.now (mark_after 46 r.name.now (codes ".") refl)))
 
 method_mark : (form : FuncForm) (r : ℕ) → mark_of (method_kind form r) ≡ Some 46
 method_mark form.Plain r = refl
@@ -80,12 +80,12 @@ definition_marked r (body.Enum span cases) k fn at = absurd (let f : ⊥ = cc in
 definition_marked r (body.Plain t) k fn at = absurd (let f : ⊥ = cc in f)
 
 part_marked : (p : Part) (k : ℕ) (fn : SourceFunction) → slice_get (part_functions p) k ≡ Some fn → IsMarked fn
-part_marked (Defining d) k fn at = definition_marked d.name d.body k fn at
-part_marked (Using u) k fn at = absurd (let f : ⊥ = cc in f)
-part_marked (Including i) k fn at = absurd (let f : ⊥ = cc in f)
-part_marked (Crossing x) k fn at = (let it = extern_at x x.kind k fn at in subst IsMarked it.2 (side_marked x.side x.docs x.attributes.items it.0 it.1))
-part_marked (Doing g) zero fn at = (let same : free_function g ≡ fn = cc in subst IsMarked same (free_marked g))
-part_marked (Doing g) (suc k) fn at = absurd (let f : ⊥ = cc in f)
+part_marked (DefinitionPart d) k fn at = definition_marked d.name d.body k fn at
+part_marked (UsePart u) k fn at = absurd (let f : ⊥ = cc in f)
+part_marked (IncludePart i) k fn at = absurd (let f : ⊥ = cc in f)
+part_marked (ExternPart x) k fn at = (let it = extern_at x x.kind k fn at in subst IsMarked it.2 (side_marked x.side x.docs x.attributes.items it.0 it.1))
+part_marked (FunctionPart g) zero fn at = (let same : free_function g ≡ fn = cc in subst IsMarked same (free_marked g))
+part_marked (FunctionPart g) (suc k) fn at = absurd (let f : ⊥ = cc in f)
 
 -- so it is with the functions of an item
 pub written_marked : (i : Item) (k : ℕ) (fn : SourceFunction) → slice_get (functions i) k ≡ Some fn → IsMarked fn

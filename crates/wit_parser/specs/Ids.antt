@@ -26,7 +26,7 @@ use Rattle.wit_arena.specs.Package.{IsBelow, function_types}
 abbrev pub AreTypesWithin : UnresolvedPackage → List Ty → Type 0
 AreTypesWithin p tys = (k : ℕ) (ty : Ty) → slice_get tys k ≡ Some ty → IsBelow (length p.types) ty
 
--- each of these names stands for the place of a type of the package
+-- each of these names means the place of a type of the package
 abbrev pub AreNamesWithin : UnresolvedPackage → List (List ℕ × ℕ) → Type 0
 AreNamesWithin p names = (k : ℕ) (name : List ℕ) (id : ℕ) → slice_get names k ≡ Some (name, id) → id < length p.types
 

@@ -6,7 +6,7 @@ ghost use Rattle.wit_syntax.specs.Splitting.{IsJoined, IsSplit};
 ghost use Rattle.wit_syntax.specs.Broken.{IsLegal};
 ghost use Rattle.wit_types.specs.Types.{IsBackward};
 ghost use Rattle.wit_arena.specs.Faithful.{IsFaithful, HasArena};
-ghost use Rattle.wit_arena.specs.Splitting.{HaveSameMeetings, HaveSamePackages};
+ghost use Rattle.wit_arena.specs.Splitting.{HaveSameOccurrences, HaveSamePackages};
 ghost use Rattle.wit_arena.specs.Made.{Makes};
 ghost use Rattle.wit_arena.specs.Whole.{IsPackage};
 ghost use Rattle.wit_parser.specs.Ids.{AreIdsWithin};
@@ -27,20 +27,20 @@ pub fn ids_are_within(package: &UnresolvedPackage)
     ensures { (files : List TheFile) → IsPackage files «package».now → AreIdsWithin «package».now }
 {}
 
-/// The ids of a package that legal files make point backward, as `is_backward` tells it:
+/// The ids of a package that legal files make point backward, as `is_backward` says it:
 /// `Function::find_futures_and_streams` can be called over its types.
 pub fn ids_point_backward(package: &UnresolvedPackage)
     ensures { (files : List TheFile) → IsLegal files → IsPackage files «package».now → IsBackward «package».now.types }
 {}
 
-/// What legal files make, as a value, is what its parts tell one by one, and the other way round.
+/// What legal files make, as a value, is what its parts say one by one, and the other way round.
 pub fn value_and_parts(package: &UnresolvedPackage)
     ensures made { (files : List TheFile) → IsLegal files → IsPackage files «package».now → Makes files «package».now }
     ensures parts { (files : List TheFile) → IsLegal files → Makes files «package».now → IsPackage files «package».now }
 {}
 
 /// What else `Resolver::resolve` says of a package follows from its being the one that legal files make:
-/// its arena of types is what is first met in the files, and each written type has one at its position,
+/// its arena of types is what is first seen in the files, and each written type has one at its position,
 /// with the tree that lexical scope gives it.
 pub fn packages_are_faithful(package: &UnresolvedPackage)
     ensures arena { (files : List TheFile) → IsLegal files → IsPackage files «package».now → HasArena files «package».now }
@@ -55,13 +55,13 @@ pub fn packages_are_faithful(package: &UnresolvedPackage)
 pub fn splitting()
     ensures visits { (files : List TheFile) (one : TheFile) → IsJoined files one → all_visits files ≡ all_visits (one ∷ []) }
     ensures same { (files : List TheFile) (one : TheFile) → IsJoined files one → IsSplit files (one ∷ []) }
-    ensures meetings { (files : List TheFile) (one : TheFile) → IsJoined files one → HaveSameMeetings files (one ∷ []) }
+    ensures occurrences { (files : List TheFile) (one : TheFile) → IsJoined files one → HaveSameOccurrences files (one ∷ []) }
     ensures packages { (files : List TheFile) (one : TheFile) → IsJoined files one → HaveSamePackages files (one ∷ []) }
     ensures equal { (files : List TheFile) (one : TheFile) (p q : ThePackage) → IsJoined files one → IsLegal files → IsPackage files p → IsPackage (one ∷ []) q → p ≡ q }
 {}
 
 /// Legal files make one package: two that they make are equal in all that a package holds, and so in
-/// the orders of its maps. So are two that are told by their parts.
+/// the orders of its maps. So are two that are given by their parts.
 pub fn one_package()
     ensures made { (files : List TheFile) (p q : ThePackage) → IsLegal files → Makes files p → Makes files q → p ≡ q }
     ensures parts { (files : List TheFile) (p q : ThePackage) → IsLegal files → IsPackage files p → IsPackage files q → p ≡ q }

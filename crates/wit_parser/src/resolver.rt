@@ -6,8 +6,8 @@ ghost use Rattle.wit_values.specs.ReleaseText.{release_parts};
 ghost use Rattle.wit_syntax.specs.Broken.{IsBroken, IsLegal, Refused, headers, last_header};
 ghost use Rattle.wit_first.specs.First.{Finds};
 ghost use Rattle.wit_first.specs.Headers.{have_docs as the_docs, nesting_fault, other_fault, push_fault};
-ghost use Rattle.wit_items.specs.Headers.{header_at};
-ghost use Rattle.wit_type_tree.specs.Refusal.{IsWantOfMemory};
+ghost use Rattle.wit_items.specs.FileHeaders.{header_at};
+ghost use Rattle.wit_type_tree.specs.Refusal.{IsAllocationFailure};
 ghost use Rattle.wit_arena.specs.Made.{Makes};
 ghost use Rattle.wit_arena.specs.Whole.{first_docs, IsPackage};
 ghost use Rattle.wit_arena.specs.Faithful.{IsFaithful, HasArena, IsMadeOf};
@@ -22,7 +22,7 @@ use wit_refusals::refusal::refuse;
 use wit_tree::tree::{self, NestedPackage, PackageFile, SourceFile};
 use wit_tree::{ParseResult, Span};
 use wit_types::Docs;
-use wit_values::beside;
+use wit_values::pair_with;
 
 /// The words for files without a header.
 const NO_HEADER: &str = "no `package` header was found in any WIT file for this package";
@@ -111,7 +111,7 @@ fn resolve_named(
     ensures refused { IfErr result (Refused (IsBroken files.now)) }
 {
     let made = resolve_contents(alloc, files)?;
-    let (contents, heading) = beside(made, package_heading(alloc, header, files))?;
+    let (contents, heading) = pair_with(made, package_heading(alloc, header, files))?;
     Ok(UnresolvedPackage::new(
         heading.0,
         contents.arenas.worlds,
@@ -162,11 +162,11 @@ impl<'a> Resolver<'a> {
         resolve_named(alloc, self.pushed(), header)
     }
 
-    /// Keeps a file behind the others.
+    /// Keeps a file after the others.
     fn keep(&mut self, file: PackageFile<'a>) -> ParseResult<()>
         ensures ok { OnOk result (self.new.files.items ≡ self.old.files.items ++ file.entry ∷ []) }
         ensures unchanged { OnErr result (self.new.files.items ≡ self.old.files.items) }
-        ensures wanted { IfErr result IsWantOfMemory }
+        ensures wanted { IfErr result IsAllocationFailure }
     {
         let place = self.files.len();
         let has_header = file.package_id.is_some();
@@ -179,7 +179,7 @@ impl<'a> Resolver<'a> {
         Ok(())
     }
 
-    /// Adds the file of a source behind the others.
+    /// Adds the file of a source after the others.
     ///
     /// # Errors
     ///
@@ -204,18 +204,18 @@ impl<'a> Resolver<'a> {
 
     /// The package that the files make.
     ///
-    /// The items stand in the least order in which each comes after those that it needs: an
+    /// The items are in the least order in which each comes after those that it needs: an
     /// interface after those that it uses, a world after those that it includes. The interfaces
     /// and the worlds each keep that order. Each has the names that it uses and then its
     /// definitions, in the least order in which each comes after those that it names; those of a
     /// world are imports. Behind them it has its functions, in source order, but that in an
     /// interface, and on each side of a world that includes nothing, a setter that is written before
-    /// its getter stands directly behind it; a world with an include keeps all its setters in place,
+    /// its getter comes directly after it; a world with an include keeps all its setters in place,
     /// since a getter may come with what it includes.
     ///
     /// Among the functions on a side, in source order, a world has the interfaces that it imports or
     /// exports there: each under the interface itself, or under the name that it has in the world.
-    /// Inline interfaces stand behind all declared ones, in the order of the worlds and of their
+    /// Inline interfaces come after all declared ones, in the order of the worlds and of their
     /// items. The arena of types has what occurs in the interfaces and then in the worlds, each once,
     /// in the order of first occurrence. What the files hold in which order beyond that changes
     /// nothing.
@@ -226,14 +226,14 @@ impl<'a> Resolver<'a> {
     ///
     /// - 4: no file names the package.
     /// - 5: an interface or a world is declared twice.
-    /// - 6: a name stands twice at the top of a file.
+    /// - 6: a name occurs twice at the top of a file.
     /// - 7, 8: a path leads to no interface or world; interfaces use, or worlds include, one another
     ///   in a cycle.
     /// - 9: a `use` at the top of a file has attributes.
     /// - 10, 11: a `use`, or the path of an import or an export, leads to a world; an include leads to
     ///   an interface.
     /// - 12, 13: a used name is none of the interface that it comes from; it is that of a function.
-    /// - 14, 17: a name stands twice in an interface or a world, to the letter or once case is folded.
+    /// - 14, 17: a name occurs twice in an interface or a world, to the letter or once case is folded.
     /// - 18: a setter of an interface, or on a side of a world that includes nothing, has no getter
     ///   there.
     /// - 15, 16: a name in a definition is none of its scope; definitions name one another in
@@ -251,7 +251,7 @@ impl<'a> Resolver<'a> {
     /// - 39 to 42: a getter has no result; that of a setter, or of a constructor, is another than it
     ///   has to be.
     /// - 43: a world imports, or exports, an interface twice by its path alone.
-    /// - 44: an import or an export has the name of something that stands before it on its side.
+    /// - 44: an import or an export has the name of something that comes before it on its side.
     /// - 45: a growth was refused.
     pub fn resolve(self, alloc: Global) -> ParseResult<UnresolvedPackage>
         ensures legal { OnOk result (IsLegal self.entry.files.items) }

@@ -30,11 +30,11 @@ appends_kept (Some xs) None c text p q = absurd p
 appends_kept (Some xs) (Some ys) None text p q = absurd q
 appends_kept (Some xs) (Some ys) (Some zs) text p q = q ∙ p
 
-pub written_kept : {A : Type 0} (told : A) (IsText : List ℕ → Type 0) (a b c : Option (List ℕ)) (result : Result A RunFault) →
-    IsWrittenAs told IsText a b result → Keeps b c → IsWrittenAs told IsText a c result
-written_kept told IsText a b c (Ok answer) w q = (w.0, w.1, w.2, appends_kept a b c w.1 w.3 q)
-written_kept told IsText a b c (Err Output) w q = (w.0, w.1, (w.2.0, w.2.1, appends_kept a b c (take w.2.0 w.0) w.2.2 q))
-written_kept told IsText a b c (Err Memory) w q = keeps_then a b c w q
+pub written_kept : {A : Type 0} (as_stated : A) (IsText : List ℕ → Type 0) (a b c : Option (List ℕ)) (result : Result A RunFault) →
+    IsWrittenAs as_stated IsText a b result → Keeps b c → IsWrittenAs as_stated IsText a c result
+written_kept as_stated IsText a b c (Ok answer) w q = (w.0, w.1, w.2, appends_kept a b c w.1 w.3 q)
+written_kept as_stated IsText a b c (Err Output) w q = (w.0, w.1, (w.2.0, w.2.1, appends_kept a b c (take w.2.0 w.0) w.2.2 q))
+written_kept as_stated IsText a b c (Err Memory) w q = keeps_then a b c w q
 
 pub run_kept : (sources : List Source) (a b c : Option (List ℕ)) (result : Result (Option UnresolvedPackageGroup) RunFault) → IsRun sources a b result → Keeps b c → IsRun sources a c result
 run_kept sources a b c result (Group group is kept written) q = Group group is kept (written_kept _ _ a b c result written q)
@@ -50,7 +50,7 @@ answered_kept text a b c result (TooMuch much) q = TooMuch (record {
   large = much.large;
   e = much.e;
   rule = much.rule;
-  tells = much.tells;
+  gives = much.gives;
   written = written_kept _ _ a b c result much.written q;
 })
 answered_kept text a b c result (GivenUp up) q = GivenUp (record { is = up.is; keeps = keeps_then a b c up.keeps q })

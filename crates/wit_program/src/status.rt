@@ -22,7 +22,7 @@ pub fn exit_code(answered: io::Result<bool>) -> ExitCode
 
 /// Answers a text and pushes out what the writer holds back; answers whether it was a listing.
 ///
-/// The group that was listed is not dropped: the program ends behind this, and the system takes all
+/// The group that was listed is not dropped: the program ends after this, and the system takes all
 /// its memory back at once.
 fn answer_whole<W: Write>(alloc: Global, text: &str, out: &mut W) -> io::Result<bool>
     ensures { IsEnded text.now (W.contents out.old) (W.contents out.new) (status_of result) }

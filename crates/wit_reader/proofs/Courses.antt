@@ -27,7 +27,7 @@ pub stops_at : {A : Type 0} (r : Result A ReadError) (e : ReadError) → r ≡ E
 stops_at r (Fault k start end) h = h
 stops_at r OutOfMemory h = tt
 
--- one token tells which way a grammar goes on
+-- one token says which way a grammar goes on
 no_more : (b : Bool) → (b || false) ≡ b
 no_more true = refl
 no_more false = refl

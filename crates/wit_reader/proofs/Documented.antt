@@ -13,7 +13,7 @@ use Rattle.wit_reader.specs.Reading.{spot, ParsesOn}
 -- the token is the first one from its own beginning on too
 pub token_stays : (r : Reader) → first_token r.source.now r.token.start ≡ Ok (lexeme r.token)
 token_stays r =
-    let front = r.front in
+    let prefix = r.prefix in
     let order = r.within.order in
     let within = r.within.within in
     (token_placed r.source.now r.before (lexeme r.token) (omega arith) r.next).same ∙ r.next
@@ -22,11 +22,11 @@ docs_given : (s : Spot) (t : Lexeme) → lexed s ≡ Ok t → docs_at s ≡ Ok (
 unfolding docs_at
 docs_given s t h = rw h refl
 
--- the docs that were found in front of the token
+-- the docs that were found before the token
 pub docs_parsed : {a b : Reader} (docs : Docs) (to : ℕ) → b.source ≡ a.source → b.offset ≡ a.offset → b.before ≡ a.token.start → AreDocsFrom a.source.now a.offset a.before docs to →
     ParsesOn a (docs_at (spot a)) (see_docs docs) b
 docs_parsed {a} {b} docs to source offset place h =
-    let front = a.front in
+    let prefix = a.prefix in
     record {
       source = source;
       offset = offset;

@@ -102,9 +102,9 @@ unfolding same_kind
 other a b n = ne_eqb (kind_code a) (kind_code b) (λ e. n (one_code a b e))
 
 -- what `==` says of two kinds
-pub told : (r : Bool) (a b : Kind) → (IsTrue r ↔ (a ≡ b)) → r ≡ same_kind a b
-told true a b h = sym (same a b (h.0 refl))
-told false a b h = sym (other a b (λ e. false≢true (h.1 e)))
+pub as_stated : (r : Bool) (a b : Kind) → (IsTrue r ↔ (a ≡ b)) → r ≡ same_kind a b
+as_stated true a b h = sym (same a b (h.0 refl))
+as_stated false a b h = sym (other a b (λ e. false≢true (h.1 e)))
 
 abbrev word_of : Kind → Word
 word_of (kind.Word w) = w
@@ -114,9 +114,9 @@ pub other_word : {v w : Word} → (v ≡ w → ⊥) → kind.Word v ≡ kind.Wor
 other_word n e = n (ap word_of e)
 
 -- what `==` says of the word of a token
-pub told_word : (r : Bool) (k : Kind) (v w : Word) → k ≡ kind.Word v → (IsTrue r ↔ (v ≡ w)) → r ≡ same_kind k (kind.Word w)
-told_word true k v w e h = sym (same k (kind.Word w) (e ∙ ap kind.Word (h.0 refl)))
-told_word false k v w e h = sym (other k (kind.Word w) (λ f. other_word (λ g. false≢true (h.1 g)) (sym e ∙ f)))
+pub stated_word : (r : Bool) (k : Kind) (v w : Word) → k ≡ kind.Word v → (IsTrue r ↔ (v ≡ w)) → r ≡ same_kind k (kind.Word w)
+stated_word true k v w e h = sym (same k (kind.Word w) (e ∙ ap kind.Word (h.0 refl)))
+stated_word false k v w e h = sym (other k (kind.Word w) (λ f. other_word (λ g. false≢true (h.1 g)) (sym e ∙ f)))
 
-pub told_none : (k : Kind) (w : Word) → ((v : Word) → k ≡ kind.Word v → ⊥) → false ≡ same_kind k (kind.Word w)
-told_none k w h = sym (other k (kind.Word w) (h w))
+pub stated_none : (k : Kind) (w : Word) → ((v : Word) → k ≡ kind.Word v → ⊥) → false ≡ same_kind k (kind.Word w)
+stated_none k w h = sym (other k (kind.Word w) (h w))

@@ -12,16 +12,16 @@ use Rattle.wit_reader.specs.declared.reader.Reader.{Reader}
 use Rattle.wit_reader.specs.Reading.{Parses, spot}
 
 -- what was read before, and then the rest
-abbrev pub with_front : {V : Type 0} → List V → Read (List V) → Read (List V)
-with_front front r = r >>= λ x. Ok (front ++ x.0, x.1)
+abbrev pub with_prefix : {V : Type 0} → List V → Read (List V) → Read (List V)
+with_prefix prefix r = r >>= λ x. Ok (prefix ++ x.0, x.1)
 
-pub no_front : {V : Type 0} (r : Read (List V)) → with_front [] r ≡ r
-no_front (Ok x) = refl
-no_front (Err e) = refl
+pub no_prefix : {V : Type 0} (r : Read (List V)) → with_prefix [] r ≡ r
+no_prefix (Ok x) = refl
+no_prefix (Err e) = refl
 
-pub fronts : {V : Type 0} (xs ys : List V) (r : Read (List V)) → with_front xs (with_front ys r) ≡ with_front (xs ++ ys) r
-fronts xs ys (Ok x) = ap (λ zs. Ok (zs, x.1)) (sym (append_assoc xs ys x.0))
-fronts xs ys (Err e) = refl
+pub prefixes : {V : Type 0} (xs ys : List V) (r : Read (List V)) → with_prefix xs (with_prefix ys r) ≡ with_prefix (xs ++ ys) r
+prefixes xs ys (Ok x) = ap (λ zs. Ok (zs, x.1)) (sym (append_assoc xs ys x.0))
+prefixes xs ys (Err e) = refl
 
 pub map_more : {A V : Type 0} (view : A → V) (xs : List A) (x : A) → map view (xs ++ x ∷ []) ≡ map view xs ++ view x ∷ []
 map_more view [] x = refl
@@ -31,7 +31,7 @@ map_more view (y ∷ xs) x = ap (λ zs. view y ∷ zs) (map_more view xs x)
 pub bytes_left : (old cur : Reader) (left : ℕ) → cur.source ≡ old.source → length old.source.now < left + cur.before → (n : ℕ) × (left ≡ suc n)
 bytes_left old cur left same enough = by_left left (
     let len : length cur.source.now ≡ length old.source.now = ap (λ s. length s.now) same in
-    let front = cur.front in
+    let prefix = cur.prefix in
     let order = cur.within.order in
     let within = cur.within.within in
     omega arith)
@@ -47,7 +47,7 @@ pub record IsListing {A V : Type 0} (view : A → V) (item : Spot → Read V) (c
   pub onward : old.before < cur.before
   pub left : ℕ
   pub enough : length old.source.now < left + cur.before
-  pub goes : whole ≡ with_front (map view xs) (items_at item close left (more, spot cur))
+  pub goes : whole ≡ with_prefix (map view xs) (items_at item close left (more, spot cur))
 
 pub listing_opened : {A V : Type 0} {old cur : Reader} (view : A → V) (item : Spot → Read V) (opening close : Kind) (more : Bool) → Parses old (open_at opening close (spot old)) more cur →
     IsListing view item close old (listed_at item opening close (spot old)) [] more cur
@@ -58,11 +58,11 @@ listing_opened {A} {V} {old} {cur} view item opening close more r = record {
   onward = r.onward;
   left = suc (length old.source.now);
   enough = omega arith;
-  goes = rw r.parses (sym (no_front (items_at item close (suc (length old.source.now)) (more, spot cur))));
+  goes = rw r.parses (sym (no_prefix (items_at item close (suc (length old.source.now)) (more, spot cur))));
 }
 
 one_step : {V : Type 0} (item : Spot → Read V) (close : Kind) (n : ℕ) (s m e : Spot) (v : V) (more : Bool) → item s ≡ Ok (v, m) → next_at close m ≡ Ok (more, e) →
-    items_at item close (suc n) (true, s) ≡ with_front (v ∷ []) (items_at item close n (more, e))
+    items_at item close (suc n) (true, s) ≡ with_prefix (v ∷ []) (items_at item close n (more, e))
 unfolding items_at
 one_step item close n s m e v more h k = rw h (rw k refl)
 
@@ -82,10 +82,10 @@ listing_more {A} {V} {view} {item} {close} {old} {cur} {mid} {new} {whole} {xs} 
       onward = omega arith;
       left = n.0;
       enough = omega arith;
-      goes = h.goes ∙ ap (λ m. with_front (map view xs) (items_at item close m (true, spot cur))) n.1
-          ∙ ap (with_front (map view xs)) (one_step item close n.0 (spot cur) (spot mid) (spot new) (view x) more r.parses k.parses)
-          ∙ fronts (map view xs) (view x ∷ []) (items_at item close n.0 (more, spot new))
-          ∙ ap (λ zs. with_front zs (items_at item close n.0 (more, spot new))) (sym (ap (map view) e ∙ map_more view xs x));
+      goes = h.goes ∙ ap (λ m. with_prefix (map view xs) (items_at item close m (true, spot cur))) n.1
+          ∙ ap (with_prefix (map view xs)) (one_step item close n.0 (spot cur) (spot mid) (spot new) (view x) more r.parses k.parses)
+          ∙ prefixes (map view xs) (view x ∷ []) (items_at item close n.0 (more, spot new))
+          ∙ ap (λ zs. with_prefix zs (items_at item close n.0 (more, spot new))) (sym (ap (map view) e ∙ map_more view xs x));
     }
 
 pub listing_closed : {A V : Type 0} {view : A → V} {item : Spot → Read V} {close : Kind} {old cur : Reader} {whole : Read (List V)} {xs : List A} →
@@ -117,12 +117,12 @@ pub item_stops : {A V : Type 0} {view : A → V} {item : Spot → Read V} {close
     IsListing view item close old whole xs true cur → Stops (item (spot cur)) e → Stops whole e
 item_stops {A} {V} {view} {item} {close} {old} {cur} {whole} {xs} (Fault f a b) h k =
     let n = bytes_left old cur h.left h.source h.enough in
-    h.goes ∙ ap (λ m. with_front (map view xs) (items_at item close m (true, spot cur))) n.1 ∙ rw (item_fault item close n.0 (spot cur) (Fault f a b) k) refl
+    h.goes ∙ ap (λ m. with_prefix (map view xs) (items_at item close m (true, spot cur))) n.1 ∙ rw (item_fault item close n.0 (spot cur) (Fault f a b) k) refl
 item_stops OutOfMemory h k = tt
 
 pub next_stops : {A V : Type 0} {view : A → V} {item : Spot → Read V} {close : Kind} {old cur mid : Reader} {whole : Read (List V)} {xs : List A} (v : V) (e : ReadError) →
     IsListing view item close old whole xs true cur → Parses cur (item (spot cur)) v mid → Stops (next_at close (spot mid)) e → Stops whole e
 next_stops {A} {V} {view} {item} {close} {old} {cur} {mid} {whole} {xs} v (Fault f a b) h r k =
     let n = bytes_left old cur h.left h.source h.enough in
-    h.goes ∙ ap (λ m. with_front (map view xs) (items_at item close m (true, spot cur))) n.1 ∙ rw (next_fault item close n.0 (spot cur) (spot mid) v (Fault f a b) r.parses k) refl
+    h.goes ∙ ap (λ m. with_prefix (map view xs) (items_at item close m (true, spot cur))) n.1 ∙ rw (next_fault item close n.0 (spot cur) (spot mid) v (Fault f a b) r.parses k) refl
 next_stops v OutOfMemory h r k = tt

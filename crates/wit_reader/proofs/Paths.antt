@@ -13,7 +13,7 @@ use Rattle.wit_grammar.specs.Trees.{Name, Release}
 use Rattle.wit_grammar.specs.Seen.{see_docs, see_name, see_package_id}
 use Rattle.wit_grammar.specs.Leaves.{Read, ◌>>=◌}
 use Rattle.wit_grammar.specs.Rules.{joined, no_docs, package_path, path_of, release_of}
-use Rattle.wit_reader.specs.Headers.{found_version, see_found}
+use Rattle.wit_reader.specs.FoundVersions.{found_version, see_found}
 use Rattle.wit_reader.proofs.Courses.{made}
 
 no_docs_seen : (docs : Docs) → IsNoDocs docs → see_docs docs ≡ no_docs

@@ -11,7 +11,7 @@ use Rattle.wit_grammar.specs.Leaves.{Spot, Read, ◌>>=◌}
 use Rattle.wit_grammar.specs.Grammar.{closes, many_at, until_at}
 use Rattle.wit_reader.specs.declared.reader.Reader.{Reader}
 use Rattle.wit_reader.specs.Reading.{spot, Parses, ParsesOn}
-use Rattle.wit_reader.proofs.Lists.{with_front, no_front, fronts, map_more, bytes_left}
+use Rattle.wit_reader.proofs.Lists.{with_prefix, no_prefix, prefixes, map_more, bytes_left}
 
 -- so far these were read, and what is read of the rest completes the whole
 pub record IsSeveral {A V : Type 0} (view : A → V) (goes : Spot → Bool) (item : Spot → Read V) (old : Reader) (whole : Read (List V)) (xs : List A) (cur : Reader) : Type 0 where
@@ -20,7 +20,7 @@ pub record IsSeveral {A V : Type 0} (view : A → V) (goes : Spot → Bool) (ite
   pub onward : old.before ≤ cur.before
   pub left : ℕ
   pub enough : length old.source.now < left + cur.before
-  pub rest : whole ≡ with_front (map view xs) (many_at goes item left (spot cur))
+  pub rest : whole ≡ with_prefix (map view xs) (many_at goes item left (spot cur))
 
 pub several_opened : {A V : Type 0} {old : Reader} {whole : Read (List V)} (view : A → V) (goes : Spot → Bool) (item : Spot → Read V) →
     whole ≡ many_at goes item (suc (length old.source.now)) (spot old) → IsSeveral view goes item old whole [] old
@@ -30,7 +30,7 @@ several_opened {A} {V} {old} {whole} view goes item h = record {
   onward = omega arith;
   left = suc (length old.source.now);
   enough = omega arith;
-  rest = h ∙ sym (no_front (many_at goes item (suc (length old.source.now)) (spot old)));
+  rest = h ∙ sym (no_prefix (many_at goes item (suc (length old.source.now)) (spot old)));
 }
 
 some_left : {A V : Type 0} {view : A → V} {goes : Spot → Bool} {item : Spot → Read V} {old cur : Reader} {whole : Read (List V)} {xs : List A} (h : IsSeveral view goes item old whole xs cur) →
@@ -39,11 +39,11 @@ some_left {old} {cur} h = bytes_left old cur h.left h.source h.enough
 
 -- what is read of the rest, where there is a step left
 rest_of : {A V : Type 0} {view : A → V} {goes : Spot → Bool} {item : Spot → Read V} {old cur : Reader} {whole : Read (List V)} {xs : List A} (h : IsSeveral view goes item old whole xs cur) →
-    whole ≡ with_front (map view xs) (many_at goes item (suc (some_left h).0) (spot cur))
-rest_of {A} {V} {view} {goes} {item} {old} {cur} {whole} {xs} h = h.rest ∙ ap (λ m. with_front (map view xs) (many_at goes item m (spot cur))) (some_left h).1
+    whole ≡ with_prefix (map view xs) (many_at goes item (suc (some_left h).0) (spot cur))
+rest_of {A} {V} {view} {goes} {item} {old} {cur} {whole} {xs} h = h.rest ∙ ap (λ m. with_prefix (map view xs) (many_at goes item m (spot cur))) (some_left h).1
 
 one_step : {V : Type 0} (goes : Spot → Bool) (item : Spot → Read V) (n : ℕ) (s m : Spot) (v : V) → goes s ≡ true → item s ≡ Ok (v, m) →
-    many_at goes item (suc n) s ≡ with_front (v ∷ []) (many_at goes item n m)
+    many_at goes item (suc n) s ≡ with_prefix (v ∷ []) (many_at goes item n m)
 one_step goes item n s m v g h = rw (g, h) refl
 
 pub several_more : {A V : Type 0} {view : A → V} {goes : Spot → Bool} {item : Spot → Read V} {old cur new : Reader} {whole : Read (List V)} {xs : List A} (ys : List A) (x : A) →
@@ -60,13 +60,13 @@ several_more {A} {V} {view} {goes} {item} {old} {cur} {new} {whole} {xs} ys x h 
       onward = omega arith;
       left = n.0;
       enough = omega arith;
-      rest = rest_of h ∙ ap (with_front (map view xs)) (one_step goes item n.0 (spot cur) (spot new) (view x) g r.parses)
-          ∙ fronts (map view xs) (view x ∷ []) (many_at goes item n.0 (spot new))
-          ∙ ap (λ zs. with_front zs (many_at goes item n.0 (spot new))) (sym (ap (map view) e ∙ map_more view xs x));
+      rest = rest_of h ∙ ap (with_prefix (map view xs)) (one_step goes item n.0 (spot cur) (spot new) (view x) g r.parses)
+          ∙ prefixes (map view xs) (view x ∷ []) (many_at goes item n.0 (spot new))
+          ∙ ap (λ zs. with_prefix zs (many_at goes item n.0 (spot new))) (sym (ap (map view) e ∙ map_more view xs x));
     }
 
-none_left : {V : Type 0} (goes : Spot → Bool) (item : Spot → Read V) (n : ℕ) (s : Spot) (front : List V) → goes s ≡ false → with_front front (many_at goes item (suc n) s) ≡ Ok (front, s)
-none_left goes item n s front g = rw g (ap (λ zs. Ok (zs, s)) (append-nil front))
+none_left : {V : Type 0} (goes : Spot → Bool) (item : Spot → Read V) (n : ℕ) (s : Spot) (prefix : List V) → goes s ≡ false → with_prefix prefix (many_at goes item (suc n) s) ≡ Ok (prefix, s)
+none_left goes item n s prefix g = rw g (ap (λ zs. Ok (zs, s)) (append-nil prefix))
 
 pub several_closed : {A V : Type 0} {view : A → V} {goes : Spot → Bool} {item : Spot → Read V} {old cur : Reader} {whole : Read (List V)} {xs : List A} →
     IsSeveral view goes item old whole xs cur → goes (spot cur) ≡ false → ParsesOn old whole (map view xs) cur
@@ -77,8 +77,8 @@ several_closed {A} {V} {view} {goes} {item} {old} {cur} {whole} {xs} h g = recor
   parses = rest_of h ∙ none_left goes item (some_left h).0 (spot cur) (map view xs) g;
 }
 
-fault_of : {V : Type 0} (goes : Spot → Bool) (item : Spot → Read V) (n : ℕ) (s : Spot) (front : List V) (e : ReadError) → goes s ≡ true → item s ≡ Err e → with_front front (many_at goes item (suc n) s) ≡ Err e
-fault_of goes item n s front e g h = rw (g, h) refl
+fault_of : {V : Type 0} (goes : Spot → Bool) (item : Spot → Read V) (n : ℕ) (s : Spot) (prefix : List V) (e : ReadError) → goes s ≡ true → item s ≡ Err e → with_prefix prefix (many_at goes item (suc n) s) ≡ Err e
+fault_of goes item n s prefix e g h = rw (g, h) refl
 
 -- a fault of an item stops the whole
 pub several_stops : {A V : Type 0} {view : A → V} {goes : Spot → Bool} {item : Spot → Read V} {old cur : Reader} {whole : Read (List V)} {xs : List A} (e : ReadError) →
@@ -110,6 +110,6 @@ until_is_many item close (suc n) s = one_way (closes close s) (item s) (until_at
 closes_here : (close : Kind) (r : Reader) → closes close (spot r) ≡ same_kind r.token.kind close
 closes_here close r = rw r.next refl
 
--- the token tells whether the mark is reached
+-- the token says whether the mark is reached
 pub goes_on : (close : Kind) (r : Reader) (b : Bool) → same_kind r.token.kind close ≡ b → goes_until close (spot r) ≡ not b
 goes_on close r b h = ap not (closes_here close r ∙ h)

@@ -1,6 +1,6 @@
 pub mod After
 pub mod Deeper
-pub mod Headers
+pub mod FoundVersions
 pub mod Primitives
 pub mod Reading
 pub mod ResultTypes

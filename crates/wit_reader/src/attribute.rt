@@ -3,7 +3,7 @@ ghost use Rattle.std.specs.Prelude.{◌≡◌, IfOk, IfErr};
 ghost use Rattle.wit_grammar.specs.Seen.{see_attribute, see_name};
 ghost use Rattle.wit_grammar.specs.Grammar.{applied};
 ghost use Rattle.wit_grammar.specs.Rules.{after_at, attribute, deprecated_attribute, deprecated_of, joined as joined_span, of_feature, since_attribute, since_of, since_version, unstable_attribute, unstable_of};
-ghost use Rattle.wit_reader.specs.Headers.{see_found};
+ghost use Rattle.wit_reader.specs.FoundVersions.{see_found};
 
 use crate::reader::Reader;
 use semver::Version;
@@ -25,9 +25,9 @@ fn joined(first: Span, last: Span) -> Span
 impl<'a> Reader<'a> {
     ghost use Rattle.wit_reader.specs.Reading.{Reads, ReadsAs, Refuses};
 
-    /// Reads `(version = V)`, and tells where the version and the `)` are.
+    /// Reads `(version = V)`, and says where the version and the `)` are.
     #[tactic(auto, unfolding(wit_grammar::specs::Rules::since_version))]
-    fn read_told_version(&mut self) -> ReadResult<((Span, Version), Span)>
+    fn read_stated_version(&mut self) -> ReadResult<((Span, Version), Span)>
         ensures reads { IfOk result (λ it. Reads since_version self.old (see_found it.0, it.1) self.new) }
         ensures stops { IfErr result (Refuses since_version self.old) }
     {
@@ -39,9 +39,9 @@ impl<'a> Reader<'a> {
         Ok((version, close))
     }
 
-    /// Reads `(feature = name)`, and tells where the `)` is.
+    /// Reads `(feature = name)`, and says where the `)` is.
     #[tactic(auto, unfolding(wit_grammar::specs::Rules::of_feature))]
-    fn read_told_feature(&mut self) -> ReadResult<(Id<'a>, Span)>
+    fn read_stated_feature(&mut self) -> ReadResult<(Id<'a>, Span)>
         ensures reads { IfOk result (λ it. Reads of_feature self.old (see_name it.0, it.1) self.new) }
         ensures stops { IfErr result (Refuses of_feature self.old) }
     {
@@ -60,7 +60,7 @@ impl<'a> Reader<'a> {
         ensures stops { IfErr result (Refuses since_attribute self.old) }
     {
         self.expect_text("since")?;
-        let ((_, version), close) = self.read_told_version()?;
+        let ((_, version), close) = self.read_stated_version()?;
         Ok(Attribute::Since {
             span: joined(at, close),
             version,
@@ -74,7 +74,7 @@ impl<'a> Reader<'a> {
         ensures stops { IfErr result (Refuses deprecated_attribute self.old) }
     {
         self.expect_text("deprecated")?;
-        let ((_, version), close) = self.read_told_version()?;
+        let ((_, version), close) = self.read_stated_version()?;
         Ok(Attribute::Deprecated {
             span: joined(at, close),
             version,
@@ -88,7 +88,7 @@ impl<'a> Reader<'a> {
         ensures stops { IfErr result (Refuses unstable_attribute self.old) }
     {
         self.expect_text("unstable")?;
-        let (feature, close) = self.read_told_feature()?;
+        let (feature, close) = self.read_stated_feature()?;
         Ok(Attribute::Unstable {
             span: joined(at, close),
             feature,

@@ -11,7 +11,7 @@ impl<'a> Reader<'a> {
     ghost use Rattle.wit_reader.specs.Reading.{Parses, spot};
 
     /// Goes past the mark that opens a list, and past the one that closes it where the list is empty;
-    /// tells whether an item follows.
+    /// says whether an item follows.
     #[tactic(auto, unfolding(wit_grammar::specs::Grammar::open_at))]
     pub fn open_list(&mut self, opening: Kind, close: Kind) -> ReadResult<bool>
         ensures reads { IfOk result (λ it. Parses self.old (open_at opening close (spot self.old)) it self.new) }
@@ -26,7 +26,7 @@ impl<'a> Reader<'a> {
     }
 
     /// Goes past the `,` after an item of a list, and past the mark that closes the list where no
-    /// further item follows; tells whether one does.
+    /// further item follows; says whether one does.
     #[tactic(auto, unfolding(wit_grammar::specs::Grammar::next_at))]
     pub fn next_in_list(&mut self, close: Kind) -> ReadResult<bool>
         ensures reads { IfOk result (λ it. Parses self.old (next_at close (spot self.old)) it self.new) }

@@ -20,7 +20,7 @@ use wit_tree::Span;
 use wit_tree::tree::Id;
 
 /// A source whose first byte has the place `offset`, and its first token that is not read yet, with
-/// the blanks and comments in front of it.
+/// the blanks and comments before it.
 ///
 /// What each token goes through is inlined.
 #[derive(Drop)]
@@ -28,10 +28,10 @@ pub struct Reader<'a> {
     pub alloc: Global,
     pub source: &'a str,
     pub offset: u32,
-    /// Where the blanks in front of the token begin.
+    /// Where the blanks before the token begin.
     pub before: usize,
     pub token: Token<'a>,
-    pub ghost front: { before ≤ token.start },
+    pub ghost prefix: { before ≤ token.start },
     pub ghost fits: { offset + length source.now < 2 ^ 32 },
     pub ghost within: { IsToken source.now token },
     pub ghost found: { ∥ IsFound source.now token.start token.end token.text.now token.kind ∥₁ },
@@ -122,7 +122,7 @@ impl<'a> Reader<'a> {
         self.bump()
     }
 
-    /// Goes past a word of the grammar, and tells where it is.
+    /// Goes past a word of the grammar, and says where it is.
     #[inline(always)]
     #[tactic(auto, unfolding(wit_grammar::specs::Leaves::spanned_at))]
     pub fn read_word(&mut self, word: Word) -> ReadResult<Span>
@@ -134,7 +134,7 @@ impl<'a> Reader<'a> {
         Ok(span)
     }
 
-    /// Goes past a token of this kind, and tells where it is.
+    /// Goes past a token of this kind, and says where it is.
     #[tactic(auto, unfolding(wit_grammar::specs::Leaves::spanned_at, wit_grammar::specs::Leaves::mark_at))]
     pub fn read_mark(&mut self, kind: Kind) -> ReadResult<Span>
         ensures reads { IfOk result (λ it. Reads (spanned kind) self.old it self.new) }
@@ -148,7 +148,7 @@ impl<'a> Reader<'a> {
         Ok(span)
     }
 
-    /// Goes past a name of this text, and tells where it is.
+    /// Goes past a name of this text, and says where it is.
     #[tactic(auto, unfolding(wit_grammar::specs::Leaves::text_at))]
     pub fn read_text(&mut self, text: &str) -> ReadResult<Span>
         ensures reads { IfOk result (λ it. Reads (says text.now) self.old it self.new) }

@@ -13,7 +13,7 @@ use wit_lex::kind::Kind;
 use wit_lex::word::Word;
 use wit_tree::Span;
 use wit_tree::tree::{ResultTypes, Type};
-use wit_values::{beside, push};
+use wit_values::{pair_with, push};
 
 /// How many levels of types are read.
 pub const MOST_NESTED: u8 = 100;
@@ -59,7 +59,7 @@ impl<'a> Reader<'a> {
         }
     }
 
-    /// Reads `>`, perhaps with `,` and a number in front of it.
+    /// Reads `>`, perhaps with `,` and a number before it.
     #[tactic(auto, unfolding(wit_grammar::specs::Rules::size, wit_grammar::specs::Leaves::mark_at))]
     fn read_size(&mut self) -> ReadResult<Option<u32>>
         ensures reads { IfOk result (λ it. Reads size self.old it self.new) }
@@ -125,7 +125,7 @@ impl<'a> Reader<'a> {
         let span = self.read_word(Word::List)?;
         self.expect(Kind::OpenAngle)?;
         let ty = self.read_type(left)?;
-        let (item, size) = beside(ty, self.read_size())?;
+        let (item, size) = pair_with(ty, self.read_size())?;
         let boxed = Box::new(self.alloc, item)?;
         Ok(list(span, boxed, size))
     }
@@ -140,7 +140,7 @@ impl<'a> Reader<'a> {
         let span = self.read_word(Word::Map)?;
         self.expect(Kind::OpenAngle)?;
         let first = self.read_boxed_before(left, Kind::Comma)?;
-        let (key, value) = beside(first, self.read_boxed_before(left, Kind::CloseAngle))?;
+        let (key, value) = pair_with(first, self.read_boxed_before(left, Kind::CloseAngle))?;
         Ok(Type::Map(span, key, value))
     }
 
@@ -187,11 +187,11 @@ impl<'a> Reader<'a> {
             return Ok(ResultTypes::Err(err));
         }
         let first = self.read_boxed(left)?;
-        let (ok, err) = beside(first, self.read_error_type(left))?;
+        let (ok, err) = pair_with(first, self.read_error_type(left))?;
         Ok(ok_and(ok, err))
     }
 
-    /// Reads `>`, perhaps with `,` and the type of the error of a result in front of it.
+    /// Reads `>`, perhaps with `,` and the type of the error of a result before it.
     #[cycle(types)]
     #[tactic(auto, unfolding(wit_grammar::specs::Rules::error_type, wit_grammar::specs::Leaves::mark_at))]
     fn read_error_type(&mut self, left: u8) -> ReadResult<Option<Box<Type<'a>>>>

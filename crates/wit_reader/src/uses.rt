@@ -6,7 +6,7 @@ ghost use Rattle.wit_grammar.specs.Seen.{see_name, see_path, see_top_use, see_us
 ghost use Rattle.wit_grammar.specs.Grammar.{◌▸◌, ◌◂◌};
 ghost use Rattle.wit_grammar.specs.Rules.{item_path, joined, local, path, rest_of_path, top_used, used, used_name, used_names};
 ghost use Rattle.wit_reader.specs.After.{item_after, rest_after, top_use_after, use_after};
-ghost use Rattle.wit_reader.specs.Headers.{found_version};
+ghost use Rattle.wit_reader.specs.FoundVersions.{found_version};
 
 use crate::reader::Reader;
 use crate::room::add;
@@ -16,7 +16,7 @@ use wit_lex::kind::Kind;
 use wit_lex::word::Word;
 use wit_tree::Span;
 use wit_tree::tree::{Attribute, Docs, Id, PackageName, ToplevelUse, Use, UseName, UsePath};
-use wit_values::{beside, fitted};
+use wit_values::{pair_with, shrunk};
 
 /// The package that a path names, with the version that was found after the item's name.
 fn path_package<'a>(
@@ -130,11 +130,11 @@ impl<'a> Reader<'a> {
             add(&mut names, used, self.at(Kind::CloseBrace))?;
             more = self.next_in_list(Kind::CloseBrace)?;
         }
-        Ok(fitted(names))
+        Ok(shrunk(names))
     }
 
     /// Reads what follows the path of a `use`: `.{name, name as name, ..};`.
-    fn read_behind_path(&mut self) -> ReadResult<Vec<UseName<'a>>>
+    fn read_after_path(&mut self) -> ReadResult<Vec<UseName<'a>>>
         ensures reads { IfOk result (λ it. Reads (Dot ▸ (used_names ◂ Semicolon)) self.old (map see_used it.items) self.new) }
         ensures stops { IfErr result (Refuses (Dot ▸ (used_names ◂ Semicolon)) self.old) }
     {
@@ -152,7 +152,7 @@ impl<'a> Reader<'a> {
     {
         self.expect_word(Word::Use)?;
         let path = self.read_path()?;
-        let (from, names) = beside(path, self.read_behind_path())?;
+        let (from, names) = pair_with(path, self.read_after_path())?;
         Ok(Use {
             attributes,
             from,
@@ -160,7 +160,7 @@ impl<'a> Reader<'a> {
         })
     }
 
-    /// Reads `;`, perhaps with `as` and the local name in front of it.
+    /// Reads `;`, perhaps with `as` and the local name before it.
     fn read_local_and_close(&mut self) -> ReadResult<Option<Id<'a>>>
         ensures reads { IfOk result (λ it. Reads (local ◂ Semicolon) self.old (option_map see_name it) self.new) }
         ensures stops { IfErr result (Refuses (local ◂ Semicolon) self.old) }
@@ -181,7 +181,7 @@ impl<'a> Reader<'a> {
     {
         let span = self.read_word(Word::Use)?;
         let path = self.read_path()?;
-        let (item, local) = beside(path, self.read_local_and_close())?;
+        let (item, local) = pair_with(path, self.read_local_and_close())?;
         Ok(ToplevelUse {
             span,
             attributes,

@@ -4,7 +4,7 @@ ghost use Rattle.std.specs.Option.{option_map};
 ghost use Rattle.wit_grammar.specs.Leaves.{version_at};
 ghost use Rattle.wit_grammar.specs.Grammar.{version};
 ghost use Rattle.wit_grammar.specs.Rules.{at_version};
-ghost use Rattle.wit_reader.specs.Headers.{see_found};
+ghost use Rattle.wit_reader.specs.FoundVersions.{see_found};
 ghost use Rattle.wit_reader.specs.Versions.{broken_off, version_between};
 
 use crate::reader::Reader;
@@ -49,7 +49,7 @@ impl<'a> Reader<'a> {
         }
     }
 
-    /// Reads `@` and a version, where there is one, and tells where it is.
+    /// Reads `@` and a version, where there is one, and says where it is.
     #[tactic(auto, unfolding(wit_grammar::specs::Rules::at_version, wit_grammar::specs::Leaves::mark_at))]
     pub fn read_at_version(&mut self) -> ReadResult<Option<(Span, Version)>>
         ensures reads { IfOk result (λ it. ReadsOn at_version self.old (option_map see_found it) self.new) }
@@ -63,7 +63,7 @@ impl<'a> Reader<'a> {
         Ok(Some(found))
     }
 
-    /// Reads a version, and tells where it is.
+    /// Reads a version, and says where it is.
     pub fn read_version(&mut self) -> ReadResult<(Span, Version)>
         ensures reads { IfOk result (λ it. Reads version self.old (see_found it) self.new) }
         ensures stops { IfErr result (Refuses version self.old) }

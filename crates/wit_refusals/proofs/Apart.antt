@@ -1,4 +1,4 @@
--- Texts whose digests differ.
+-- Texts whose hashes differ.
 use Rattle.std.proofs.Common.{◌≡◌, ℕ, ◌+◌, ◌<◌, ◌==◌, Bool, true, false, List, length, Some, get_or, inl, inr, refl, sym, ap, ◌∙◌, arith}
 use Rattle.std.specs.Prelude.{slice_get, map}
 use Rattle.std.specs.List.{IsDistinct}
@@ -10,7 +10,7 @@ use Rattle.std.proofs.lemmas.Map.Keys.{IsDistinct-from_apart, IsDistinct-IsPermu
 use Rattle.std.proofs.lemmas.Option.{slice_get-map, slice_get_within, get_or_from_slice_get}
 use Rattle.std.specs.Option.{option_map}
 use Rattle.wit_syntax.specs.Repeats.{AllDiffer}
-use Rattle.wit_refusals.specs.Digests.{digest_of}
+use Rattle.wit_refusals.specs.KeyHashes.{key_hash_of}
 
 same_turned : (x y : ℕ) → (x == y) ≡ (y == x)
 same_turned x y = elim (cases_Bool (x == y)) [
@@ -22,21 +22,21 @@ rising_apart : (ds : List ℕ) → IsStrictlyIncreasing ds → IsDistinct (λ x 
 rising_apart ds up = IsDistinct-from_apart (λ x y. x == y) ds (λ i j d lt within.
     (let less = below_from_sorted ds i j d (sorted_from_strictly_increasing ds up) lt within in ne_eqb (get_or ds i d) (get_or ds j d) (λ e. (let f : ⊥ = omega arith in f))))
 
--- texts are told apart by numbers that are made of them and rise once they are in order
-pub differ_by_digests : (texts : List (List ℕ)) (ds : List ℕ) → IsPermutation (map digest_of texts) ds → IsStrictlyIncreasing ds → AllDiffer texts
-differ_by_digests texts ds turned up = record { differ = λ i j x ati atj. same_place i j x ati atj }
+-- texts are distinguished by numbers that are made of them and rise once they are in order
+pub differ_by_key_hashes : (texts : List (List ℕ)) (ds : List ℕ) → IsPermutation (map key_hash_of texts) ds → IsStrictlyIncreasing ds → AllDiffer texts
+differ_by_key_hashes texts ds turned up = record { differ = λ i j x ati atj. same_place i j x ati atj }
   where
-    apart : IsDistinct (λ x y. x == y) (map digest_of texts)
-    apart = IsDistinct-IsPermutation (λ x y. x == y) same_turned ds (map digest_of texts) (IsPermutation-sym (map digest_of texts) ds turned) (rising_apart ds up)
+    apart : IsDistinct (λ x y. x == y) (map key_hash_of texts)
+    apart = IsDistinct-IsPermutation (λ x y. x == y) same_turned ds (map key_hash_of texts) (IsPermutation-sym (map key_hash_of texts) ds turned) (rising_apart ds up)
 
-    digest_at : (i : ℕ) (x : List ℕ) → slice_get texts i ≡ Some x → get_or (map digest_of texts) i 0 ≡ digest_of x
-    digest_at i x at = get_or_from_slice_get (map digest_of texts) i (digest_of x) 0 (slice_get-map digest_of texts i ∙ ap (option_map digest_of) at)
+    key_hash_at : (i : ℕ) (x : List ℕ) → slice_get texts i ≡ Some x → get_or (map key_hash_of texts) i 0 ≡ key_hash_of x
+    key_hash_at i x at = get_or_from_slice_get (map key_hash_of texts) i (key_hash_of x) 0 (slice_get-map key_hash_of texts i ∙ ap (option_map key_hash_of) at)
 
     not_before : (i j : ℕ) (x : List ℕ) → slice_get texts i ≡ Some x → slice_get texts j ≡ Some x → i < j → ⊥
     not_before i j x ati atj lt =
         let within = slice_get_within texts j x atj in
-        let differ = apart_from_distinct (λ x y. x == y) (map digest_of texts) i j 0 apart lt (omega (arith, length-map texts digest_of)) in
-        let alike = eq-eqb _ _ (digest_at i x ati ∙ sym (digest_at j x atj)) in
+        let differ = apart_from_distinct (λ x y. x == y) (map key_hash_of texts) i j 0 apart lt (omega (arith, length-map texts key_hash_of)) in
+        let alike = eq-eqb _ _ (key_hash_at i x ati ∙ sym (key_hash_at j x atj)) in
         let wrong : true ≡ false = sym alike ∙ differ in
         cc
 

@@ -19,15 +19,15 @@ lower-byte b h = grind (arith, nat_tests)
 lower-text : (text : List ℕ) → list_any is_ascii_uppercase text ≡ false → folded text ≡ text
 lower-text [] h = refl
 lower-text (b ∷ text) h =
-    let told = none_of (is_ascii_uppercase b) (list_any is_ascii_uppercase text) h in
-    rw (lower-byte b told.0) (ap (λ t. b ∷ t) (lower-text text told.1))
+    let as_stated = none_of (is_ascii_uppercase b) (list_any is_ascii_uppercase text) h in
+    rw (lower-byte b as_stated.0) (ap (λ t. b ∷ t) (lower-text text as_stated.1))
 
 -- their keys are the texts
 pub texts-lower : (ts : List (Bor (List ℕ))) → list_any (λ (t : Bor (List ℕ)). list_any is_ascii_uppercase t.now) ts ≡ false → map (λ (t : Bor (List ℕ)). t.now) ts ≡ map (λ (t : Bor (List ℕ)). folded t.now) ts
 texts-lower [] h = refl
 texts-lower (t ∷ ts) h =
-    let told = none_of (list_any is_ascii_uppercase t.now) (list_any (λ (u : Bor (List ℕ)). list_any is_ascii_uppercase u.now) ts) h in
-    rw (lower-text t.now told.0) (ap (λ ns. t.now ∷ ns) (texts-lower ts told.1))
+    let as_stated = none_of (list_any is_ascii_uppercase t.now) (list_any (λ (u : Bor (List ℕ)). list_any is_ascii_uppercase u.now) ts) h in
+    rw (lower-text t.now as_stated.0) (ap (λ ns. t.now ∷ ns) (texts-lower ts as_stated.1))
 
 -- the keys of texts that are those of names
 pub names-folded : (ts : List (Bor (List ℕ))) (names : List Id) → map (λ (t : Bor (List ℕ)). t.now) ts ≡ map (λ (id : Id). id.name.now) names → map (λ (t : Bor (List ℕ)). folded t.now) ts ≡ map (λ (id : Id). folded id.name.now) names

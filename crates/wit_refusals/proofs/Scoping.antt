@@ -10,7 +10,7 @@ use Rattle.std.proofs.lemmas.Bool.{cases_Bool}
 use Rattle.std.proofs.lemmas.List.{map-append, take-append-drop}
 use Rattle.std.proofs.lemmas.Option.{slice_get-map}
 use Rattle.wit_names.specs.Folded.{folded_key}
-use Rattle.wit_names.specs.Front.{behind, passes, is_behind}
+use Rattle.wit_names.specs.Prefix.{rest_after, passes, is_after}
 use Rattle.wit_names.specs.Label.{is_label}
 use Rattle.wit_names.specs.Mangled.{is_dotted, is_mangled}
 use Rattle.wit_names.specs.Setter.{getter_of, is_setter}
@@ -24,14 +24,14 @@ use Rattle.wit_refusals.specs.declared.name_scope.DefinedName.{DefinedName}
 use Rattle.wit_type_tree.specs.declared.error.ParseError.{ParseError}
 use Rattle.wit_syntax.specs.Fault.{fault}
 use Rattle.wit_syntax.specs.Broken.{Refused}
-use Rattle.wit_refusals.specs.Names.{Name, IsTaken, IsLoneSetter, IsFirstLoneSetter}
+use Rattle.wit_refusals.specs.Names.{Name, AreUsed, IsLoneSetter, IsFirstLoneSetter}
 use Rattle.wit_refusals.specs.Scope.{Entry, spelled, name_of, names_of, IsKeyed, HasName}
 use Rattle.wit_refusals.proofs.Tables.{lookup-at, lookup-none}
 
 abbrev key : Entry → List ℕ
 key e = e.0
 
--- the entry behind a name
+-- the entry after a name
 entry_at : (es : List Entry) (i : ℕ) (n : Name) → slice_get (names_of es) i ≡ Some n → (e : Entry) × (slice_get es i ≡ Some e) × (name_of e ≡ n)
 entry_at es i n h = map_at name_of es i n h
 
@@ -47,29 +47,29 @@ keyed-more es k d is none fits = record {
       lookup-none es k i found.0 none found.1 found.2)));
 }
 
--- a new key more, unless it stands somewhere
+-- a new key more, unless it is somewhere
 pub keyed-put : (es new : List Entry) (name k : List ℕ) (d : DefinedName) (place : Option ℕ) → IsKeyed es → k ≡ folded_key name → spelled k d ≡ name → place ≡ position (pointwise nat_eq k) (keys_of es) → IfNone place (new ≡ es ++ (k, d) ∷ []) → IfSome place (λ i. new ≡ es) → IsKeyed new
 keyed-put es new name k d (Some i) is fits named at fresh there = subst IsKeyed (sym there) is
 keyed-put es new name k d None is fits named at fresh there = subst IsKeyed (sym fresh) (keyed-more es k d is (lookup_nowhere (pointwise nat_eq k) es (sym at)) (fits ∙ ap folded_key (sym named)))
 
 -- a key that is found is taken, and one that is not found is free
-pub taken-found : (es : List Entry) (name k : List ℕ) (d : DefinedName) → IsKeyed es → k ≡ folded_key name → lookup (pointwise nat_eq k) es ≡ Some d → IsTaken (names_of es) name
-taken-found es name k d is fits h =
+pub in_use-found : (es : List Entry) (name k : List ℕ) (d : DefinedName) → IsKeyed es → k ≡ folded_key name → lookup (pointwise nat_eq k) es ≡ Some d → AreUsed (names_of es) name
+in_use-found es name k d is fits h =
     let found = lookup-at es k d h in
     record { place = found.0; earlier = (spelled k d, d.span); at = slice_get-map name_of es found.0 ∙ ap (option_map name_of) found.1; same = sym (is.keyed found.0 (k, d) found.1) ∙ fits }
 
--- a key that stands at a place is taken
-pub taken-at : (es : List Entry) (name k : List ℕ) (place : ℕ) → IsKeyed es → k ≡ folded_key name → position (pointwise nat_eq k) (keys_of es) ≡ Some place → IsTaken (names_of es) name
-taken-at es name k place is fits h =
+-- a key that is at a place is taken
+pub in_use-at : (es : List Entry) (name k : List ℕ) (place : ℕ) → IsKeyed es → k ≡ folded_key name → position (pointwise nat_eq k) (keys_of es) ≡ Some place → AreUsed (names_of es) name
+in_use-at es name k place is fits h =
     let found = Found-position (pointwise nat_eq k) es place h in
     let there = at_within es place found.within in
-    taken-found es name k there.0.1 is fits (found.value ∙ slice_get-map (λ (e : Entry). e.1) es place ∙ ap (option_map (λ (e : Entry). e.1)) there.1)
+    in_use-found es name k there.0.1 is fits (found.value ∙ slice_get-map (λ (e : Entry). e.1) es place ∙ ap (option_map (λ (e : Entry). e.1)) there.1)
 
-pub free-none : (es : List Entry) (name k : List ℕ) → IsKeyed es → k ≡ folded_key name → lookup (pointwise nat_eq k) es ≡ None → IsTaken (names_of es) name → ⊥
-free-none es name k is fits none taken =
-    let found = entry_at es taken.place taken.earlier taken.at in
-    let same : folded_key (spelled found.0.0 found.0.1) ≡ folded_key name = ap (λ (n : Name). folded_key n.0) found.2 ∙ taken.same in
-    lookup-none es k taken.place found.0 none found.1 (is.keyed taken.place found.0 found.1 ∙ same ∙ sym fits)
+pub free-none : (es : List Entry) (name k : List ℕ) → IsKeyed es → k ≡ folded_key name → lookup (pointwise nat_eq k) es ≡ None → AreUsed (names_of es) name → ⊥
+free-none es name k is fits none in_use =
+    let found = entry_at es in_use.place in_use.earlier in_use.at in
+    let same : folded_key (spelled found.0.0 found.0.1) ≡ folded_key name = ap (λ (n : Name). folded_key n.0) found.2 ∙ in_use.same in
+    lookup-none es k in_use.place found.0 none found.1 (is.keyed in_use.place found.0 found.1 ∙ same ∙ sym fits)
 
 -- what a key finds has the name, where a name of the scope is spelled so
 pub has-found : (es : List Entry) (name k : List ℕ) (d : DefinedName) → IsKeyed es → k ≡ folded_key name → lookup (pointwise nat_eq k) es ≡ Some d → spelled k d ≡ name → HasName (names_of es) name
@@ -81,52 +81,52 @@ pub found-has : (es : List Entry) (name k : List ℕ) (d : DefinedName) → IsKe
 found-has es name k d is fits h has =
     let found = lookup-at es k d h in
     let other = entry_at es has.place (name, has.span) has.at in
-    let told : spelled other.0.0 other.0.1 ≡ name = ap (λ (n : Name). n.0) other.2 in
-    let keyed : other.0.0 ≡ k = is.keyed has.place other.0 other.1 ∙ ap folded_key told ∙ sym fits in
+    let as_stated : spelled other.0.0 other.0.1 ≡ name = ap (λ (n : Name). n.0) other.2 in
+    let keyed : other.0.0 ≡ k = is.keyed has.place other.0 other.1 ∙ ap folded_key as_stated ∙ sym fits in
     let at_found : slice_get (map key es) found.0 ≡ Some k = slice_get-map key es found.0 ∙ ap (option_map key) found.1 in
     let at_other : slice_get (map key es) has.place ≡ Some k = slice_get-map key es has.place ∙ ap (option_map key) other.1 ∙ ap Some keyed in
     let place : found.0 ≡ has.place = is.differ.differ found.0 has.place k at_found at_other in
     let both : Some (k, d) ≡ Some other.0 = sym found.1 ∙ ap (λ i. slice_get es i) place ∙ other.1 in
     let one : (k, d) ≡ other.0 = cc in
-    ap (λ (e : Entry). spelled e.0 e.1) one ∙ told
+    ap (λ (e : Entry). spelled e.0 e.1) one ∙ as_stated
 
 pub none-has : (es : List Entry) (name k : List ℕ) → IsKeyed es → k ≡ folded_key name → lookup (pointwise nat_eq k) es ≡ None → HasName (names_of es) name → ⊥
 none-has es name k is fits none has = free-none es name k is fits none (record { place = has.place; earlier = (name, has.span); at = has.at; same = refl })
 
--- the text behind a front stands behind it
-pub behind-some : (front text rest : List ℕ) → behind front text ≡ Some rest → text ≡ front ++ rest
-behind-some front text rest h = by (starts_with nat_eq text front) refl
+-- the text after a prefix comes after it
+pub rest_after-some : (prefix text rest : List ℕ) → rest_after prefix text ≡ Some rest → text ≡ prefix ++ rest
+rest_after-some prefix text rest h = by (starts_with nat_eq text prefix) refl
   where
-    by : (b : Bool) → starts_with nat_eq text front ≡ b → text ≡ front ++ rest
+    by : (b : Bool) → starts_with nat_eq text prefix ≡ b → text ≡ prefix ++ rest
     by true e =
-        let some : Some (drop (length front) text) ≡ Some rest = rw e at h in
-        let is : drop (length front) text ≡ rest = cc in
-        let starts : front ≡ take (length front) text = name_equal front (take (length front) text) e in
-        sym (take-append-drop (length front) text) ∙ ap (λ t. t ++ drop (length front) text) (sym starts) ∙ ap (λ t. front ++ t) is
+        let some : Some (drop (length prefix) text) ≡ Some rest = rw e at h in
+        let is : drop (length prefix) text ≡ rest = cc in
+        let starts : prefix ≡ take (length prefix) text = name_equal prefix (take (length prefix) text) e in
+        sym (take-append-drop (length prefix) text) ∙ ap (λ t. t ++ drop (length prefix) text) (sym starts) ∙ ap (λ t. prefix ++ t) is
     by false e = absurd (let wrong : None ≡ Some rest = rw e at h in let f : ⊥ = cc in f)
 
--- a text that has a front with what passes behind it
-front-parts : (test : List ℕ → Bool) (front text : List ℕ) → is_behind test front text ≡ true → (rest : List ℕ) × (text ≡ front ++ rest) × (test rest ≡ true)
-front-parts test front text h = by (behind front text) refl
+-- a text that has a prefix with what passes after it
+prefix-parts : (test : List ℕ → Bool) (prefix text : List ℕ) → is_after test prefix text ≡ true → (rest : List ℕ) × (text ≡ prefix ++ rest) × (test rest ≡ true)
+prefix-parts test prefix text h = by (rest_after prefix text) refl
   where
-    by : (o : Option (List ℕ)) → behind front text ≡ o → (rest : List ℕ) × (text ≡ front ++ rest) × (test rest ≡ true)
+    by : (o : Option (List ℕ)) → rest_after prefix text ≡ o → (rest : List ℕ) × (text ≡ prefix ++ rest) × (test rest ≡ true)
     by None e = absurd (let wrong : false ≡ true = sym (ap (passes test) e) ∙ h in let f : ⊥ = cc in f)
-    by (Some rest) e = (rest, behind-some front text rest e, sym (ap (passes test) e) ∙ h)
+    by (Some rest) e = (rest, rest_after-some prefix text rest e, sym (ap (passes test) e) ∙ h)
 
 -- a setter's getter is a mangled name
 pub is_mangled-getter : (name : List ℕ) → is_setter name ≡ true → is_mangled (getter_of name) ≡ true
-is_mangled-getter name h = elim (cases_Bool (is_behind is_label (codes "[set]") name)) [
-  | inl free ↦ (let p = front-parts is_label (codes "[set]") name free in rw p.1 (is_mangled-get p.0 p.2))
-  | inr other ↦ elim (cases_Bool (is_behind is_dotted (codes "[method][set]") name)) [
-    | inl method ↦ (let p = front-parts is_dotted (codes "[method][set]") name method in rw p.1 (is_mangled-method_get p.0 p.2))
+is_mangled-getter name h = elim (cases_Bool (is_after is_label (codes "[set]") name)) [
+  | inl free ↦ (let p = prefix-parts is_label (codes "[set]") name free in rw p.1 (is_mangled-get p.0 p.2))
+  | inr other ↦ elim (cases_Bool (is_after is_dotted (codes "[method][set]") name)) [
+    | inl method ↦ (let p = prefix-parts is_dotted (codes "[method][set]") name method in rw p.1 (is_mangled-method_get p.0 p.2))
     | inr neither ↦ (
-        let last : is_behind is_dotted (codes "[static][set]") name ≡ true = rw (other, neither) at h in
-        let p = front-parts is_dotted (codes "[static][set]") name last in
+        let last : is_after is_dotted (codes "[static][set]") name ≡ true = rw (other, neither) at h in
+        let p = prefix-parts is_dotted (codes "[static][set]") name last in
         rw p.1 (is_mangled-static_get p.0 p.2))
   ]
 ]
 
--- a setter that stands first without its getter, and setters that have theirs
+-- a setter that is first without its getter, and setters that have theirs
 pub paired-more : (names : List Name) (place : ℕ) (n : Name) → slice_get names place ≡ Some n → (is_setter n.0 ≡ true → HasName names (getter_of n.0)) → IsLoneSetter names place → ⊥
 paired-more names place n at paired lone =
     let both : Some n ≡ Some lone.setter = sym at ∙ lone.at in

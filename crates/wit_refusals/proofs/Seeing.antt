@@ -9,25 +9,25 @@ use Rattle.std.proofs.lemmas.List.{take_more}
 use Rattle.std.proofs.lemmas.Option.{slice_get-map, slice_get-get_or, slice_get_within, get_or_from_slice_get}
 use denote.Ref.{Bor}
 use Rattle.wit_syntax.specs.Repeats.{IsRepeatAt, AllDiffer}
-use Rattle.wit_syntax.proofs.Lists.{at_either, at_seam, at_front, at_take}
+use Rattle.wit_syntax.proofs.Lists.{at_either, at_seam, at_prefix, at_take}
 use Rattle.wit_syntax.proofs.Names.{name_cases, name_itself}
 
 -- exactly these texts have a place, each its own
 pub record ArePlaced (texts : List (List ℕ)) (place : List ℕ → Option ℕ) : Type 0 where
-  pub stands : (text : List ℕ) (i : ℕ) → place text ≡ Some i → slice_get texts i ≡ Some text
+  pub present : (text : List ℕ) (i : ℕ) → place text ≡ Some i → slice_get texts i ≡ Some text
   pub has : (i : ℕ) (text : List ℕ) → slice_get texts i ≡ Some text → place text ≡ Some i
 
 -- one text more
 placed_more : (texts : List (List ℕ)) (old new : List ℕ → Option ℕ) (text : List ℕ) → ArePlaced texts old → old text ≡ None →
     ((q : List ℕ) → new q ≡ update bytes_eq old text (Some (length texts)) q) → ArePlaced (texts ++ text ∷ []) new
-placed_more texts old new text is none tells = record {
-  stands = λ q i h. elim (name_cases text q) [
+placed_more texts old new text is none gives = record {
+  present = λ q i h. elim (name_cases text q) [
     | inl same ↦ (
         let found : Some (length texts) ≡ Some i = sym (here q same) ∙ h in
         let at : length texts ≡ i = cc in
         let turned : q ≡ text = sym same in
         rw (← at, turned) (at_seam texts text))
-    | inr other ↦ at_front texts (text ∷ []) i q (is.stands q i (sym (there q other) ∙ h))
+    | inr other ↦ at_prefix texts (text ∷ []) i q (is.present q i (sym (there q other) ∙ h))
   ];
   has = λ i q h. elim (at_either texts text i q h) [
     | inl old_one ↦ elim (name_cases text q) [
@@ -39,10 +39,10 @@ placed_more texts old new text is none tells = record {
 }
   where
     here : (q : List ℕ) → text ≡ q → new q ≡ Some (length texts)
-    here q same = tells q ∙ ap (λ b. cond b (Some (length texts)) (old q)) (ap (pointwise nat_eq text) (sym same) ∙ name_itself text)
+    here q same = gives q ∙ ap (λ b. cond b (Some (length texts)) (old q)) (ap (pointwise nat_eq text) (sym same) ∙ name_itself text)
 
     there : (q : List ℕ) → pointwise nat_eq text q ≡ false → new q ≡ old q
-    there q other = tells q ∙ ap (λ b. cond b (Some (length texts)) (old q)) other
+    there q other = gives q ∙ ap (λ b. cond b (Some (length texts)) (old q)) other
 
 -- texts with a place each differ
 pub placed_differ : (texts : List (List ℕ)) (place : List ℕ → Option ℕ) → ArePlaced texts place → AllDiffer texts
@@ -61,7 +61,7 @@ take-next xs i x h = take_more xs i x (slice_get_within xs i x h) ∙ ap (λ z. 
 pub seen-again : (ts : List (Bor (List ℕ))) (place : List ℕ → Option ℕ) (i earlier : ℕ) (d : Bor (List ℕ)) → ArePlaced (take i (texts_of ts)) place → i < length ts → Some earlier ≡ place (get_or ts i d).now → IsRepeatAt (texts_of ts) earlier i
 seen-again ts place i earlier d is lt found =
     let text = (get_or ts i d).now in
-    let there = at_take (texts_of ts) i earlier text (is.stands text earlier (sym found)) in
+    let there = at_take (texts_of ts) i earlier text (is.present text earlier (sym found)) in
     record { x = text; before = there.1; at_first = there.0; at_second = text-at ts i d lt }
 
 -- one that was not

@@ -7,7 +7,7 @@ use Rattle.std.proofs.lemmas.Bool.{cases_Bool}
 use Rattle.indexmap.specs.IndexMap.{insert_entry}
 use Rattle.wit_syntax.proofs.Names.{name_cases, name_itself}
 
--- where a value that is found stands
+-- where a value that is found is
 pub lookup-at : {V : Type 0} (es : List (List ℕ × V)) (key : List ℕ) (v : V) → lookup (pointwise nat_eq key) es ≡ Some v → (i : ℕ) × (slice_get es i ≡ Some (key, v))
 lookup-at [] key v h = absurd (let f : ⊥ = cc in f)
 lookup-at {V} (e ∷ es) key v h = elim (name_cases key e.0) [
@@ -37,7 +37,7 @@ lookup-none {V} (x ∷ es) key i e none at is = elim (name_cases key x.0) [
     further zero at rest = let here : x ≡ e = cc in hit (sym is ∙ sym (ap (λ (y : List ℕ × V). y.0) here))
     further (suc i) at rest = rest i at
 
--- a new key stands last
+-- a new key comes last
 pub insert_entry-last : {V : Type 0} (es : List (List ℕ × V)) (key : List ℕ) (v : V) → lookup (pointwise nat_eq key) es ≡ None → insert_entry (pointwise nat_eq) es key v ≡ es ++ (key, v) ∷ []
 insert_entry-last [] key v none = refl
 insert_entry-last (e ∷ es) key v none = elim (name_cases key e.0) [

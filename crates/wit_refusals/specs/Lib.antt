@@ -1,4 +1,4 @@
-pub mod Digests
+pub mod KeyHashes
 pub mod Lent
 pub mod Names
 pub mod Scope

@@ -1,4 +1,4 @@
--- Names that must not stand side by side, and setters without a getter.
+-- Names that must not be side by side, and setters without a getter.
 use Rattle.std.specs.Prelude.{◌≡◌, ℕ, ◌<◌, List, Some, slice_get, IsTrue}
 use Rattle.wit_names.specs.Folded.{folded_key}
 use Rattle.wit_names.specs.Setter.{getter_of, is_setter}
@@ -10,7 +10,7 @@ abbrev pub Name : Type 0
 Name = List ℕ × Span
 
 -- an earlier name of the scope has the key of a new one
-pub record IsTaken (names : List Name) (name : List ℕ) : Type 0 where
+pub record AreUsed (names : List Name) (name : List ℕ) : Type 0 where
   pub place : ℕ
   pub earlier : Name
   pub at : slice_get names place ≡ Some earlier
@@ -18,7 +18,7 @@ pub record IsTaken (names : List Name) (name : List ℕ) : Type 0 where
 
 -- a name is defined whose key an earlier one has
 pub record IsDefinedAgain (names : List Name) (name : List ℕ) (span : Span) (f : Fault) : Type 0 where
-  pub taken : IsTaken names name
+  pub in_use : AreUsed names name
   pub is : f ≡ fault 17 span
 
 -- the name at this place is a setter, and the scope has no getter of its exact spelling

@@ -24,7 +24,7 @@ name_of e = (spelled e.0 e.1, e.1.span)
 abbrev pub names_of : List Entry → List Name
 names_of es = map name_of es
 
--- each name stands at its own key, and no key stands twice
+-- each name is at its own key, and no key is twice
 pub record IsKeyed (es : List Entry) : Type 0 where
   pub keyed : (i : ℕ) (e : Entry) → slice_get es i ≡ Some e → e.0 ≡ folded_key (spelled e.0 e.1)
   pub differ : AllDiffer (map (λ (e : Entry). e.0) es)

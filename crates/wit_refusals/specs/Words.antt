@@ -1,4 +1,4 @@
--- The words of refusals of a name that stands twice.
+-- The words of refusals of a name that occurs twice.
 use Rattle.std.specs.Prelude.{ℕ, List, ◌++◌, codes, cond}
 use Rattle.std.specs.Str.{bytes_eq}
 

@@ -1,8 +1,8 @@
-//! Refusals of a broken rule, and names that break one: those that stand twice in a list, in a definition or in a scope.
+//! Refusals of a broken rule, and names that break one: those that are twice in a list, in a definition or in a scope.
 #![tactic(auto)]
 
-mod digests;
 mod getters;
+mod key_hashes;
 pub mod name_scope;
 pub mod refusal;
 pub mod repeats;

@@ -3,9 +3,9 @@ ghost use Rattle.std.specs.Prelude.{◌≡◌, ◌⊎◌, ◌++◌, ◌∷◌, [
 ghost use Rattle.wit_names.specs.Mangled.{is_mangled};
 ghost use Rattle.wit_names.specs.Setter.{getter_of, is_setter};
 ghost use Rattle.wit_syntax.specs.Broken.{Refused};
-ghost use Rattle.wit_type_tree.specs.Refusal.{IsWantOfMemory};
+ghost use Rattle.wit_type_tree.specs.Refusal.{IsAllocationFailure};
 ghost use Rattle.wit_syntax.specs.Fault.{fault, fault_of};
-ghost use Rattle.wit_refusals.specs.Names.{IsDefinedAgain, IsFirstLoneSetter, IsLoneSetter, IsTaken};
+ghost use Rattle.wit_refusals.specs.Names.{IsDefinedAgain, IsFirstLoneSetter, IsLoneSetter, AreUsed};
 ghost use Rattle.wit_refusals.specs.Scope.{HasName, IsKeyed, names_of, spelled, spelling};
 
 use crate::getters::is_getter_name;
@@ -13,9 +13,9 @@ use crate::refusal::refuse_in;
 use crate::words::clash;
 use std::alloc::{AllocError, Global};
 use std::marker::Model;
+use wit_maps::Table;
 use wit_names::{Folded, getter_for_setter, is_setter};
 use wit_type_tree::{ParseError, ParseResult};
-use wit_maps::Table;
 use wit_values::{Span, Text};
 
 /// A name of a scope, where it is not spelled as its key, and where it is written.
@@ -26,7 +26,7 @@ struct DefinedName {
 }
 
 impl DefinedName {
-    /// The name, which stands at this key.
+    /// The name, which is at this key.
     fn spelled<'s>(&'s self, key: &'s Folded) -> &'s str
         ensures { result.now ≡ spelled key.now self.now }
     {
@@ -83,7 +83,7 @@ fn defined_again(
     name: &str,
     span: Span,
 ) -> ParseError
-    ensures { IsWantOfMemory result ⊎ (fault_of result ≡ fault 17 span) }
+    ensures { IsAllocationFailure result ⊎ (fault_of result ≡ fault 17 span) }
 {
     let words = match names.get_index(place) {
         Some((key, earlier)) => clash(alloc, "name", earlier.spelled(key), name),
@@ -126,7 +126,7 @@ fn lone_setter(alloc: Global, setter: &str, getter: &str) -> Result<String, Allo
     format!(in alloc; "setter `{setter}` has no corresponding getter `{getter}`")
 }
 
-/// Refuses a setter at a place without the getter of its spelling, which mostly stands before it.
+/// Refuses a setter at a place without the getter of its spelling, which mostly comes before it.
 fn check_setter(
     alloc: Global,
     names: &Table<Folded, DefinedName>,
@@ -163,14 +163,14 @@ impl NameScope {
         }
     }
 
-    /// Defines a name behind the others.
+    /// Defines a name after the others.
     ///
     /// Refused under E17, at the span, where an earlier name has its folded key, and for want of
     /// memory. Then the scope is as it was.
     pub fn define(&mut self, name: &str, span: Span) -> ParseResult<()>
         requires { IsTrue (is_mangled name.now) }
         ensures defined { OnOk result (self.new ≡ self.old ++ (name.now, span) ∷ []) }
-        ensures free { OnOk result (IsTaken self.old name.now → ⊥) }
+        ensures free { OnOk result (AreUsed self.old name.now → ⊥) }
         ensures refused { IfErr result (Refused (IsDefinedAgain self.old name.now span)) }
         ensures unchanged { OnErr result (self.new ≡ self.old) }
     {
@@ -184,7 +184,7 @@ impl NameScope {
 
     /// Whether a name is spelled like this.
     ///
-    /// The error is want of memory.
+    /// The error is a failed allocation.
     pub fn has(&self, name: &str) -> Result<bool, AllocError>
         requires { IsTrue (is_mangled name.now) }
         ensures { IfOk result (λ found. IsTrue found ↔ HasName self.now name.now) }
@@ -194,7 +194,7 @@ impl NameScope {
 
     /// Refuses the first setter without the getter of its exact spelling.
     ///
-    /// The error is E18 at the setter, or want of memory.
+    /// The error is E18 at the setter, or a failed allocation.
     pub fn check_setters(&self) -> ParseResult<()>
         ensures paired { OnOk result ((i : ℕ) → IsLoneSetter self.now i → ⊥) }
         ensures refused { IfErr result (Refused (IsFirstLoneSetter self.now)) }

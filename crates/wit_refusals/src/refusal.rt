@@ -1,7 +1,7 @@
 //! Refusals of a broken rule.
 ghost use Rattle.std.specs.Prelude.{◌≡◌, ◌⊎◌, ◌++◌, IfErr, IfOk, None, Some, codes, string_bytes};
 ghost use Rattle.std.specs.Option.{option_map};
-ghost use Rattle.wit_type_tree.specs.Refusal.{IsWantOfMemory, IsItemNotFound, IsTypeCycle, kind_text};
+ghost use Rattle.wit_type_tree.specs.Refusal.{IsAllocationFailure, IsItemNotFound, IsTypeCycle, kind_text};
 ghost use Rattle.wit_syntax.specs.Fault.{fault, fault_of, missing_at, missing_type_at, cyclic_at, type_word};
 ghost use Rattle.wit_syntax.specs.Hint.{hint_of, renamed, type_hint};
 
@@ -14,9 +14,9 @@ use wit_values::Span;
 #[cold]
 #[inline(never)]
 pub fn refuse_in(rule: u8, span: Span, words: Result<String, AllocError>) -> ParseError
-    ensures fault { IsWantOfMemory result ⊎ (fault_of result ≡ fault rule span) }
+    ensures fault { IsAllocationFailure result ⊎ (fault_of result ≡ fault rule span) }
     ensures words { IfOk words (λ text. kind_text result.kind ≡ string_bytes text) }
-    ensures wanting { IfErr words (λ _. IsWantOfMemory result) }
+    ensures wanting { IfErr words (λ _. IsAllocationFailure result) }
 {
     match words {
         Ok(message) => ParseError::new_syntax(span, message).with_rule(rule),
@@ -28,12 +28,12 @@ pub fn refuse_in(rule: u8, span: Span, words: Result<String, AllocError>) -> Par
 #[cold]
 #[inline(never)]
 pub fn refuse(alloc: Global, rule: u8, span: Span, message: &str) -> ParseError
-    ensures { IsWantOfMemory result ⊎ (fault_of result ≡ fault rule span) }
+    ensures { IsAllocationFailure result ⊎ (fault_of result ≡ fault rule span) }
 {
     refuse_in(rule, span, String::from_str(alloc, message))
 }
 
-/// The kind of a refusal of a name that stands for nothing of a sort.
+/// The kind of a refusal of a name that means nothing of a sort.
 fn item_not_found(
     alloc: Global,
     sort: &str,
@@ -51,11 +51,11 @@ fn item_not_found(
     })
 }
 
-/// A name that stands for nothing of a sort.
+/// A name that means nothing of a sort.
 #[cold]
 #[inline(never)]
 pub fn refuse_missing(alloc: Global, rule: u8, sort: &str, id: Id<'_>) -> ParseError
-    ensures { IsWantOfMemory result ⊎ (fault_of result ≡ missing_at rule sort.now id.entry) }
+    ensures { IsAllocationFailure result ⊎ (fault_of result ≡ missing_at rule sort.now id.entry) }
 {
     match item_not_found(alloc, sort, id, None) {
         Ok(kind) => ParseError::of(kind, rule),
@@ -74,7 +74,7 @@ fn a_world(alloc: Global, name: &str) -> Result<String, AllocError>
 #[cold]
 #[inline(never)]
 pub fn refuse_world(alloc: Global, id: Id<'_>) -> ParseError
-    ensures { IsWantOfMemory result ⊎ (fault_of result ≡ fault 10 id.entry.span) }
+    ensures { IsAllocationFailure result ⊎ (fault_of result ≡ fault 10 id.entry.span) }
 {
     refuse_in(10, id.span, a_world(alloc, id.name))
 }
@@ -100,7 +100,7 @@ fn hint(alloc: Global, name: &str) -> Result<Option<String>, AllocError>
     }
 }
 
-/// The kind of a refusal of a name that stands for no type.
+/// The kind of a refusal of a name that means no type.
 fn type_not_found(alloc: Global, id: Id<'_>) -> Result<ParseErrorKind, AllocError>
     ensures kind { IfOk result (IsItemNotFound id.entry.span id.entry.name.now type_word) }
     ensures hint { IfOk result (λ kind. hint_of kind ≡ type_hint id.entry.name.now) }
@@ -109,11 +109,11 @@ fn type_not_found(alloc: Global, id: Id<'_>) -> Result<ParseErrorKind, AllocErro
     item_not_found(alloc, "type", id, hint)
 }
 
-/// A name that stands for no type (E15); the hint is for names that types had once.
+/// A name that means no type (E15); the hint is for names that types had once.
 #[cold]
 #[inline(never)]
 pub fn refuse_missing_type(alloc: Global, id: Id<'_>) -> ParseError
-    ensures { IsWantOfMemory result ⊎ (fault_of result ≡ missing_type_at id.entry) }
+    ensures { IsAllocationFailure result ⊎ (fault_of result ≡ missing_type_at id.entry) }
 {
     match type_not_found(alloc, id) {
         Ok(kind) => ParseError::of(kind, 15),
@@ -121,7 +121,7 @@ pub fn refuse_missing_type(alloc: Global, id: Id<'_>) -> ParseError
     }
 }
 
-/// The kind of a refusal of a name that stands for something of a sort that depends on itself.
+/// The kind of a refusal of a name that means something of a sort that depends on itself.
 fn type_cycle(alloc: Global, sort: &str, id: Id<'_>) -> Result<ParseErrorKind, AllocError>
     ensures { IfOk result (IsTypeCycle id.entry.span id.entry.name.now sort.now) }
 {
@@ -132,11 +132,11 @@ fn type_cycle(alloc: Global, sort: &str, id: Id<'_>) -> Result<ParseErrorKind, A
     })
 }
 
-/// A name that stands for something of a sort that depends on itself.
+/// A name that means something of a sort that depends on itself.
 #[cold]
 #[inline(never)]
 pub fn refuse_cycle(alloc: Global, rule: u8, sort: &str, id: Id<'_>) -> ParseError
-    ensures { IsWantOfMemory result ⊎ (fault_of result ≡ cyclic_at rule sort.now id.entry) }
+    ensures { IsAllocationFailure result ⊎ (fault_of result ≡ cyclic_at rule sort.now id.entry) }
 {
     match type_cycle(alloc, sort, id) {
         Ok(kind) => ParseError::of(kind, rule),

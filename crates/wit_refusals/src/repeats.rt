@@ -1,4 +1,4 @@
-//! Texts that stand twice in a list.
+//! Texts that are twice in a list.
 ghost use Rattle.std.specs.Prelude.{◌≡◌, ◌<◌, ℕ, List, Some, IfOk, IfSome, IfNone, OnOk, length, map, take};
 ghost use Rattle.std.specs.Char.{is_ascii_uppercase};
 ghost use Rattle.std.specs.List.{list_any};
@@ -8,15 +8,15 @@ ghost use Rattle.wit_refusals.specs.Lent.{place_of};
 ghost use Rattle.wit_syntax.specs.Bodies.{folded};
 ghost use Rattle.wit_syntax.specs.Repeats.{IsRepeatAt, AllDiffer};
 
-use crate::digests::have_own_digests;
+use crate::key_hashes::have_own_key_hashes;
 use std::alloc::{AllocError, Global};
 use std::collections::BTreeMap;
 use wit_values::Text;
 
-/// As many texts are compared in pairs; for more their digests cost less.
+/// As many texts are compared in pairs; for more their hashes cost less.
 const FEW: usize = 8;
 
-/// Notes that a text stands at a place, and gives the earlier place where it stands already.
+/// Metadata that a text is at a place, and gives the earlier place where it is already.
 fn note<'t>(
     seen: &mut BTreeMap<&'t str, usize>,
     text: &'t str,
@@ -46,7 +46,7 @@ fn first_repeat_by_map(alloc: Global, texts: &[&str]) -> Result<Option<(usize, u
     Ok(None)
 }
 
-/// An earlier place where the text of a place stands too.
+/// An earlier place where the text of a place is too.
 fn earlier_place(texts: &[&str], place: usize) -> Option<usize>
     requires { place < length texts.now }
     ensures some { IfSome result (λ earlier. IsRepeatAt (map (λ t. t.now) texts.now) earlier place) }
@@ -75,9 +75,9 @@ fn first_repeat_by_pairs(texts: &[&str]) -> Option<(usize, usize)>
     None
 }
 
-/// The first place of a text that stands at an earlier place too, behind that earlier place.
+/// The first place of a text that is at an earlier place too, after that earlier place.
 ///
-/// The error is want of memory.
+/// The error is a failed allocation.
 pub fn first_repeat(alloc: Global, texts: &[&str]) -> Result<Option<(usize, usize)>, AllocError>
     ensures some { IfOk result (λ found. IfSome found (λ p. IsRepeatAt (map (λ t. t.now) texts.now) p.0 p.1)) }
     ensures first { IfOk result (λ found. IfSome found (λ p. AllDiffer (take p.1 (map (λ t. t.now) texts.now)))) }
@@ -86,7 +86,7 @@ pub fn first_repeat(alloc: Global, texts: &[&str]) -> Result<Option<(usize, usiz
     if texts.len() <= FEW {
         return Ok(first_repeat_by_pairs(texts));
     }
-    if have_own_digests(alloc, texts)? {
+    if have_own_key_hashes(alloc, texts)? {
         return Ok(None);
     }
     first_repeat_by_map(alloc, texts)
@@ -128,10 +128,10 @@ fn lent<'t>(alloc: Global, texts: &'t [Text]) -> Result<Vec<&'t str>, AllocError
     Ok(lent)
 }
 
-/// The first place of a text that stands at an earlier place too once case is folded, behind that
+/// The first place of a text that is at an earlier place too once case is folded, after that
 /// earlier place.
 ///
-/// Texts are copied only where one has a letter in upper case. The error is want of memory.
+/// Texts are copied only where one has a letter in upper case. The error is a failed allocation.
 pub fn first_folded_repeat(
     alloc: Global,
     texts: &[&str],

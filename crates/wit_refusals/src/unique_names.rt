@@ -24,7 +24,7 @@ fn spelled<'a>(alloc: Global, names: &[Id<'a>]) -> Result<Vec<&'a str>, AllocErr
 /// Refuses the first name that is an earlier one once case is folded. `desc` says what the names
 /// are of: `field`, `flag` or `case`.
 ///
-/// The error is E25 at the later name, or want of memory.
+/// The error is E25 at the later name, or a failed allocation.
 pub fn check_unique_names(alloc: Global, desc: &str, names: &[Id<'_>]) -> ParseResult<()>
     ensures { Finds (names_fault names.now) result }
 {

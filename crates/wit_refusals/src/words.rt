@@ -1,4 +1,4 @@
-//! The words of refusals of a name that stands twice.
+//! The words of refusals of a name that occurs twice.
 ghost use Rattle.std.specs.Prelude.{◌≡◌, IfOk, string_bytes};
 ghost use Rattle.wit_refusals.specs.Words.{clash, conflicting, defined_twice, duplicate};
 

@@ -8,8 +8,8 @@ use Rattle.wit_model.specs.declared.unresolved.UnresolvedPackage.{UnresolvedPack
 use Rattle.wit_syntax.proofs.Lists.{at_split}
 use Rattle.wit_arena.specs.Faithful.{IsMadeOf}
 use Rattle.wit_nested.specs.Nested.{GrowByNested, IsMadeByNested, file_of}
-use Rattle.wit_groups.specs.Groups.{AreTaken, IsGroup}
-use Rattle.wit_groups.specs.Groups.AreTaken.{None, More}
+use Rattle.wit_groups.specs.Groups.{AreUsed, IsGroup}
+use Rattle.wit_groups.specs.Groups.AreUsed.{None, More}
 use Rattle.wit_resolved.specs.Valid.{AreMade, IsMade}
 
 zip_made : (ns : List NestedPackage) (ps : List UnresolvedPackage) → AllZip IsMadeByNested ns ps → (k : ℕ) (p : UnresolvedPackage) → slice_get ps k ≡ Some p → IsMade p
@@ -19,21 +19,21 @@ zip_made (n ∷ ns) [] all k p at = absurd all
 zip_made (n ∷ ns) (q ∷ ps) all zero p at = (file_of n ∷ [], (let same : q ≡ p = cc in subst (IsMadeOf (file_of n ∷ [])) same all.0.made))
 zip_made (n ∷ ns) (q ∷ ps) all (suc k) p at = zip_made ns ps all.1 k p at
 
-grown_made : (ns : List NestedPackage) (old new : List UnresolvedPackage) → GrowByNested ns old new → AreMade old → AreMade new
-grown_made ns old new grow made = λ k p at. elim (at_split old grow.made k p (ap (λ l. slice_get l k) (sym grow.grown) ∙ at)) [
-  | inl front ↦ made k p front
+extended_made : (ns : List NestedPackage) (old new : List UnresolvedPackage) → GrowByNested ns old new → AreMade old → AreMade new
+extended_made ns old new grow made = λ k p at. elim (at_split old grow.made k p (ap (λ l. slice_get l k) (sym grow.extended) ∙ at)) [
+  | inl prefix ↦ made k p prefix
   | inr back ↦ zip_made ns grow.made grow.each back.0 p back.2
 ]
 
-taken_made : (turn : List Source) (files : List PackageFile) (nested : List UnresolvedPackage) → AreTaken turn files nested → AreMade nested
-taken_made turn files nested None = λ k p at. absurd (let wrong : ⊥ = cc in wrong)
-taken_made turn files nested (More sources before packages kept s read taken tree fit grow) = grown_made read.nested.items packages kept grow (taken_made sources before packages taken)
+used_made : (turn : List Source) (files : List PackageFile) (nested : List UnresolvedPackage) → AreUsed turn files nested → AreMade nested
+used_made turn files nested None = λ k p at. absurd (let wrong : ⊥ = cc in wrong)
+used_made turn files nested (More sources before packages kept s read in_use tree fit grow) = extended_made read.nested.items packages kept grow (used_made sources before packages in_use)
 
 pub main_made : (sources : List Source) (main : UnresolvedPackage) (nested : List UnresolvedPackage) → IsGroup sources main nested → IsMade main
 main_made sources main nested group = (group.files, group.made)
 
 pub nested_made : (sources : List Source) (main : UnresolvedPackage) (nested : List UnresolvedPackage) → IsGroup sources main nested → AreMade nested
-nested_made sources main nested group = taken_made group.turn group.files nested group.taken
+nested_made sources main nested group = used_made group.turn group.files nested group.in_use
 
 -- the first of some packages, and the others
 pub first_made : (p : UnresolvedPackage) (ps : List UnresolvedPackage) → AreMade (p ∷ ps) → IsMade p

@@ -19,7 +19,7 @@ use Rattle.wit_model.specs.declared.world.WorldItem.TheVariants as item
 use Rattle.wit_model.specs.declared.world.WorldKey.{WorldKey}
 use Rattle.wit_model.specs.declared.world.WorldKey.TheVariants as key
 use Rattle.wit_syntax.specs.Sides.{FunctionKey}
-use Rattle.wit_syntax.proofs.Lists.{at_back, at_front, flat_map_has}
+use Rattle.wit_syntax.proofs.Lists.{at_back, at_prefix, flat_map_has}
 use Rattle.wit_arena.specs.Package.{functions_of, interface_functions, item_functions, keyed, world_functions}
 use Rattle.wit_parser.specs.Ids.{AreNamesWithin, IsItemWithin}
 use Rattle.wit_resolved.specs.Valid.{AreFunctionsValid, AreItemsValid, IsFunctionValid, IsItemValid, IsValid, named_function}
@@ -79,7 +79,7 @@ imports_marked p place w v at = λ j name f here.
     let imports = map (keyed Imported) (flat_map item_functions w.imports) in
     let exports = map (keyed Exported) (flat_map item_functions w.exports) in
     let there : slice_get imports j ≡ Some ((Imported, name), f) = slice_get-map (keyed Imported) (flat_map item_functions w.imports) j ∙ ap (option_map (keyed Imported)) here in
-    v.marks.each (owner.World place) j (Imported, name) f (ap (λ (l : List (FunctionKey × Function)). slice_get l j) (world_keys p place w at) ∙ at_front imports exports j ((Imported, name), f) there)
+    v.marks.each (owner.World place) j (Imported, name) f (ap (λ (l : List (FunctionKey × Function)). slice_get l j) (world_keys p place w at) ∙ at_prefix imports exports j ((Imported, name), f) there)
 
 exports_marked : (p : UnresolvedPackage) (place : ℕ) (w : World) → IsValid p → slice_get p.worlds place ≡ Some w → AreMarked w.exports
 exports_marked p place w v at = λ j name f here.

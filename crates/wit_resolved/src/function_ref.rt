@@ -10,9 +10,9 @@ ghost use Rattle.wit_resolved.specs.Valid.{AreFunctionsValid, IsFunctionValid, I
 use crate::type_ref::TypeRef;
 use std::alloc::{AllocError, Global};
 use wit_functions::Function;
+use wit_maps::TextTable;
 use wit_model::UnresolvedPackage;
 use wit_types::TypeId;
-use wit_maps::TextTable;
 
 /// A function of a resolved package.
 #[derive(Clone, Copy)]

@@ -11,10 +11,10 @@ use crate::function_ref::FunctionRefs;
 use crate::paths::{interface_id, own_name, path_of};
 use crate::type_ref::TypeRef;
 use std::alloc::{AllocError, Global};
+use wit_maps::TextTable;
 use wit_model::{Interface, UnresolvedPackage};
 use wit_package_names::PackageName;
 use wit_types::{InterfaceId, TypeId};
-use wit_maps::TextTable;
 
 /// An interface of a resolved package.
 #[derive(Clone, Copy)]

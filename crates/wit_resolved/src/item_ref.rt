@@ -10,8 +10,8 @@ use crate::interface_ref::InterfaceRef;
 use crate::paths::interface_id;
 use crate::type_ref::TypeRef;
 use std::alloc::{AllocError, Global};
-use wit_model::{UnresolvedPackage, WorldItem, WorldKey};
 use wit_maps::Table;
+use wit_model::{UnresolvedPackage, WorldItem, WorldKey};
 
 /// An import or an export of a world, with its key.
 #[derive(Clone, Copy)]

@@ -5,10 +5,10 @@ ghost use Rattle.std.specs.Option.{option_copied, option_map};
 ghost use Rattle.wit_resolved.specs.Lookups.{first_of, foreign_name, interface_id, name_at, name_of_item, own_name, path_of, world_name};
 
 use std::alloc::{AllocError, Global};
+use wit_maps::{Table, TextTable};
 use wit_model::{AstItem, UnresolvedPackage};
 use wit_package_names::PackageName;
 use wit_types::Stability;
-use wit_maps::{Table, TextTable};
 use wit_values::Row;
 
 /// The name of an item, if it is the interface at a place.

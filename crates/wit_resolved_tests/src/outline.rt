@@ -60,7 +60,7 @@ package k:l
 interface j k:l/j
 ";
 
-/// Puts the line of a type behind a text.
+/// Puts the line of a type after a text.
 fn push_type(text: &mut String, name: &str, ty: &TypeRef<'_>) -> Result<(), AllocError> {
     write!(text, "  {name} = #{} ", ty.id().index())?;
     text.push_str(ty.get().kind.as_str())?;
@@ -73,7 +73,7 @@ fn push_type(text: &mut String, name: &str, ty: &TypeRef<'_>) -> Result<(), Allo
     text.push('\n')
 }
 
-/// Puts the line of a function behind a text.
+/// Puts the line of a function after a text.
 fn push_function(
     alloc: Global,
     text: &mut String,
@@ -87,7 +87,7 @@ fn push_function(
     write!(text, ", futures {}\n", found.len())
 }
 
-/// Puts the lines of an interface behind a text.
+/// Puts the lines of an interface after a text.
 fn push_interface(
     alloc: Global,
     text: &mut String,
@@ -107,7 +107,7 @@ fn push_interface(
     Ok(())
 }
 
-/// Puts the line of an import or an export behind a text.
+/// Puts the line of an import or an export after a text.
 fn push_item(alloc: Global, text: &mut String, item: &ItemRef<'_>) -> Result<(), AllocError> {
     if let Some(name) = item.name(alloc)? {
         write!(text, "  {name}: ")?;
@@ -124,7 +124,7 @@ fn push_item(alloc: Global, text: &mut String, item: &ItemRef<'_>) -> Result<(),
     Ok(())
 }
 
-/// Puts the lines of a world behind a text.
+/// Puts the lines of a world after a text.
 fn push_world(alloc: Global, text: &mut String, world: &WorldRef<'_>) -> Result<(), AllocError> {
     write!(text, "world {}\n", world.name())?;
     for item in world.imports() {
@@ -136,7 +136,7 @@ fn push_world(alloc: Global, text: &mut String, world: &WorldRef<'_>) -> Result<
     Ok(())
 }
 
-/// Puts the outline of a package behind a text.
+/// Puts the outline of a package after a text.
 fn push_package(
     alloc: Global,
     text: &mut String,
@@ -151,7 +151,7 @@ fn push_package(
     Ok(())
 }
 
-/// Puts a line for each handle of a package behind a text.
+/// Puts a line for each handle of a package after a text.
 fn push_handles(text: &mut String, package: &PackageRef<'_>) -> Result<(), AllocError> {
     for ty in package.types() {
         if let Some(resource) = ty.resource() {

@@ -1,11 +1,11 @@
 //! A file of rows, case by case.
 //!
-//! Lines before the first case are comments. A case begins with a line `--- NAME VIEW`. Behind it stand
-//! sources, a line `=>`, and what the view writes of them, to the last LF. A line `=== PATH` stands
+//! Lines before the first case are comments. A case begins with a line `--- NAME VIEW`. Behind it are
+//! sources, a line `=>`, and what the view writes of them, to the last LF. A line `=== PATH` is
 //! before each source; where there is none, the text is the source `stdin.wit`. The LF at the end of a
-//! source's last line is none of its bytes. For the views `input` and `sources` a text stands there, as
-//! the program has it from standard input; the LF in front of `=>` is none of its bytes. Where `\` ends the
-//! name, what `crate::escapes` tells is written for other letters.
+//! source's last line is none of its bytes. For the views `input` and `sources` a text is there, as
+//! the program has it from standard input; the LF before `=>` is none of its bytes. Where `\` ends the
+//! name, what `crate::escapes` says is written for other letters.
 
 use crate::escapes::unescape;
 use std::alloc::{AllocError, Global};
@@ -20,7 +20,7 @@ pub struct Case {
     pub name: String,
     /// Which view of its sources it asks for.
     pub view: String,
-    /// Its sources, each behind its path.
+    /// Its sources, each after its path.
     pub sources: String,
     /// What the view writes of them.
     pub wanted: String,
@@ -54,13 +54,13 @@ fn case_of(
     }))
 }
 
-/// The case that a text is, behind what begins it, and without the LF at its end.
+/// The case that a text is, after what begins it, and without the LF at its end.
 pub fn read_case(alloc: Global, text: &str) -> Result<Option<Case>, AllocError> {
     let mut whole = String::from_str(alloc, text)?;
     whole.push_str("\n")?;
-    let Some((front, wanted)) = whole.as_str().split_once("\n=>\n") else {
+    let Some((prefix, wanted)) = whole.as_str().split_once("\n=>\n") else {
         return Ok(None);
     };
-    let (head, sources) = front.split_once('\n').unwrap_or((front, ""));
+    let (head, sources) = prefix.split_once('\n').unwrap_or((prefix, ""));
     case_of(alloc, head, sources, wanted)
 }

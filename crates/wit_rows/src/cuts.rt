@@ -15,12 +15,12 @@ fn written(alloc: Global, text: &str) -> Result<String> {
     }
 }
 
-/// Puts what is written of each beginning of a source behind a text.
+/// Puts what is written of each beginning of a source after a text.
 fn push_cuts(alloc: Global, text: &mut String, source: &str) -> Result<()> {
     let mut last = String::new(alloc);
     for length in 0..=source.len() {
-        if let Some(front) = source.get(..length) {
-            let found = written(alloc, front)?;
+        if let Some(prefix) = source.get(..length) {
+            let found = written(alloc, prefix)?;
             if found.as_str() != last.as_str() {
                 write!(text, "at {length}\n{}", found.as_str())?;
                 last = found;

@@ -2,7 +2,7 @@
 
 use std::alloc::{AllocError, Global};
 
-/// The letter that stands for another one behind a `\`.
+/// The letter that means another one after a `\`.
 fn letter_of(letter: char) -> char {
     match letter {
         'n' => '\n',
@@ -18,7 +18,7 @@ fn numbered(digits: &str) -> char {
     char::from_u32(number).unwrap_or('?')
 }
 
-/// Puts what a text means that stood behind a `\` behind another text.
+/// Puts what a text means that was after a `\` after another text.
 fn push_meant(text: &mut String, piece: &str) -> Result<(), AllocError> {
     if let Some(digits) = piece.strip_prefix("u{") {
         let (digits, rest) = digits.split_once('}').unwrap_or((digits, ""));
@@ -36,8 +36,8 @@ fn push_meant(text: &mut String, piece: &str) -> Result<(), AllocError> {
 pub fn unescape(alloc: Global, written: &str) -> Result<String, AllocError> {
     let mut text = String::new(alloc);
     let mut pieces = written.split('\\');
-    if let Some(front) = pieces.next() {
-        text.push_str(front)?;
+    if let Some(prefix) = pieces.next() {
+        text.push_str(prefix)?;
     }
     let mut doubled = false;
     for piece in pieces {

@@ -44,7 +44,7 @@ const FILES: [&str; 26] = [
     "pushed.rows",
 ];
 
-/// Replays each file, and tells how many cases it has; ends with 0 if each is answered as it says.
+/// Replays each file, and says how many cases it has; ends with 0 if each is answered as it says.
 fn main(rt: HostRuntime) -> anyhow::Result<ExitCode> {
     let mut status = ExitCode::SUCCESS;
     for file in FILES.iter() {

@@ -10,9 +10,9 @@ use wit_package_views::read_marked;
 use wit_parser::Resolver;
 use wit_text::SourceMap;
 use wit_type_tree::ParseResult;
-use wit_views::{Found, behind, without_nested};
+use wit_views::{Found, rest_after, without_nested};
 
-/// Puts the number of a refusal behind a text, or 0.
+/// Puts the number of a refusal after a text, or 0.
 fn push_rule(text: &mut String, pushed: ParseResult<()>) -> Result<(), AllocError> {
     match pushed {
         Ok(()) => text.push_str("0\n"),
@@ -20,7 +20,7 @@ fn push_rule(text: &mut String, pushed: ParseResult<()>) -> Result<(), AllocErro
     }
 }
 
-/// Pushes each source to a group, and puts the numbers of refusals behind a text.
+/// Pushes each source to a group, and puts the numbers of refusals after a text.
 fn push_to_group<'a>(
     alloc: Global,
     resolver: &mut GroupResolver<'a>,
@@ -34,7 +34,7 @@ fn push_to_group<'a>(
     Ok(())
 }
 
-/// Pushes each source as a file of one package, and puts the numbers of refusals behind a text.
+/// Pushes each source as a file of one package, and puts the numbers of refusals after a text.
 fn push_alone<'a>(
     alloc: Global,
     resolver: &mut Resolver<'a>,
@@ -52,14 +52,14 @@ fn push_alone<'a>(
 fn grouped(alloc: Global, map: &SourceMap, text: &mut String) -> Found {
     let mut resolver = GroupResolver::new(alloc);
     let pushed = push_to_group(alloc, &mut resolver, map, text);
-    behind(pushed, resolver.resolve(alloc))
+    rest_after(pushed, resolver.resolve(alloc))
 }
 
 /// What sources come to that are pushed as files of one package.
 fn alone(alloc: Global, map: &SourceMap, text: &mut String) -> Found {
     let mut resolver = Resolver::new(alloc);
     let pushed = push_alone(alloc, &mut resolver, map, text);
-    behind(pushed, without_nested(alloc, resolver.resolve(alloc)))
+    rest_after(pushed, without_nested(alloc, resolver.resolve(alloc)))
 }
 
 /// The numbers of the refusals of sources that are pushed to a group, and the docs of its packages.

@@ -1,4 +1,4 @@
-//! Replays the cases of a file, and tells those that differ.
+//! Replays the cases of a file, and says those that differ.
 
 use crate::cases::{CASE, Case, read_case};
 use crate::sources::map_for;
@@ -15,7 +15,7 @@ fn found(alloc: Global, case: &Case) -> Result<String> {
     }
 }
 
-/// Replays a case; tells on standard error how it differs, and answers whether it does not.
+/// Replays a case; says on standard error how it differs, and answers whether it does not.
 fn replay_case(rt: &impl Eprint, alloc: Global, file: &str, text: &str) -> Result<bool> {
     let Some(case) = read_case(alloc, text)? else {
         eprintln!(rt; "{file}: no case:\n{text}")?;
@@ -31,7 +31,7 @@ fn replay_case(rt: &impl Eprint, alloc: Global, file: &str, text: &str) -> Resul
     Ok(false)
 }
 
-/// Replays the cases of a file, tells how many there are, and answers whether none differs.
+/// Replays the cases of a file, says how many there are, and answers whether none differs.
 pub fn replay(rt: &(impl Print + Eprint), alloc: Global, file: &str, text: &str) -> Result<bool> {
     let mut same = true;
     let mut count: u64 = 0;

@@ -1,5 +1,5 @@
-//! The sources of a case, and what they come to; and the view `sources`, which tells of each
-//! source its place, its path and its text, with `|` behind it.
+//! The sources of a case, and what they come to; and the view `sources`, which says of each
+//! source its place, its path and its text, with `|` after it.
 
 use std::alloc::{AllocError, Global};
 use wit_nested::GroupResolver;
@@ -7,7 +7,7 @@ use wit_package_views::read_marked;
 use wit_text::SourceMap;
 use wit_tool::bundle;
 use wit_type_tree::ParseResult;
-use wit_views::{Found, behind};
+use wit_views::{Found, rest_after};
 
 /// The path of a source that has none.
 const PATH: &str = "stdin.wit";
@@ -52,7 +52,7 @@ fn push_all<'a>(
 pub fn resolved(alloc: Global, map: &SourceMap) -> Found {
     let mut resolver = GroupResolver::new(alloc);
     let pushed = push_all(alloc, &mut resolver, map);
-    behind(pushed, resolver.resolve(alloc))
+    rest_after(pushed, resolver.resolve(alloc))
 }
 
 /// The place, the path and the text of each source of a map.

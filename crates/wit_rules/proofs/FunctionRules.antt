@@ -20,9 +20,9 @@ use Rattle.wit_syntax.specs.Function.{Freestanding, Method, Static, Constructor,
 use Rattle.wit_syntax.specs.Repeats.{IsRepeatAt}
 use Rattle.wit_syntax.proofs.Lists.{map_at, map_map}
 use Rattle.wit_first.specs.Functions.{given_fault, params_fault}
-use Rattle.wit_rules.specs.declared.held.HeldFunction.{HeldFunction}
-use Rattle.wit_rules.specs.declared.held.HeldFunction.TheVariants as held
-use Rattle.wit_rules.specs.Held.{function_behind}
+use Rattle.wit_rules.specs.declared.borrowed.BorrowedFunction.{BorrowedFunction}
+use Rattle.wit_rules.specs.declared.borrowed.BorrowedFunction.TheVariants as borrowed
+use Rattle.wit_rules.specs.Borrowed.{function_view}
 use Rattle.wit_rules.specs.Signatures.{IsRepeatedAt}
 
 -- the names of parameters, of which some are written
@@ -35,14 +35,14 @@ names-append given params written is =
 pub keys-named : (names : List (Bor (List ℕ))) (params : List SourceParam) → map (λ t. t.now) names ≡ map (λ p. p.name) params → map (λ t. folded t.now) names ≡ map (λ p. folded p.name) params
 keys-named names params is = sym (map_map folded (λ t. t.now) names) ∙ ap (map folded) is ∙ map_map folded (λ p. p.name) params
 
--- a key that stands at two places is that of an item at the later one
+-- a key that is at two places is that of an item at the later one
 pub repeated_at : {X : Type 0} (key : X → List ℕ) (xs : List X) (first second : ℕ) → IsRepeatAt (map key xs) first second → IsRepeatedAt key xs second
 repeated_at key xs first second r =
     let earlier = map_at key xs first r.x r.at_first in
     let later = map_at key xs second r.x r.at_second in
     record { first = first; earlier = earlier.0; later = later.0; before = r.before; at_first = earlier.1; at = later.1; same = earlier.2 ∙ sym later.2 }
 
--- a key that stands at two places wants two of them
+-- a key that is at two places wants two of them
 pub too_few : {X : Type 0} (key : X → List ℕ) (xs : List X) (later : X) → length xs < 2 → IsRepeated key xs later → ⊥
 too_few key xs later few r =
     let second : r.1 < length xs = slice_get_within xs r.1 later r.5 in
@@ -50,10 +50,10 @@ too_few key xs later few r =
     omega arith
 
 -- no constructor is a setter
-pub no_setter : (h : HeldFunction) (of : Id) → (function_behind h).role ≡ Constructor of → (function_behind h).func.form ≡ form.Setter → ⊥
-no_setter (held.Free f) of is setter = (let wrong : Freestanding f.now.name f.now.func.form ≡ Constructor of = is in cc)
-no_setter (held.Across side docs attributes name f) of is setter = (let wrong : OnSide side name f.now.form ≡ Constructor of = is in cc)
-no_setter (held.Of r f) of is setter = by f.now is setter
+pub no_setter : (h : BorrowedFunction) (of : Id) → (function_view h).role ≡ Constructor of → (function_view h).func.form ≡ form.Setter → ⊥
+no_setter (borrowed.Free f) of is setter = (let wrong : Freestanding f.now.name f.now.func.form ≡ Constructor of = is in cc)
+no_setter (borrowed.Across side docs attributes name f) of is setter = (let wrong : OnSide side name f.now.form ≡ Constructor of = is in cc)
+no_setter (borrowed.Of r f) of is setter = by f.now is setter
   where
     by : (g : ResourceFunc) → (resource_function r g).role ≡ Constructor of → (resource_function r g).func.form ≡ form.Setter → ⊥
     by (resource.Method m) is setter = (let wrong : Method r m.func.form ≡ Constructor of = is in cc)
@@ -77,7 +77,7 @@ setter_second fn second is at = ap (λ (w : FuncForm). params_fault w fn.func.pa
 pub setter_alone : (fn : SourceFunction) → fn.func.form ≡ form.Setter → (length fn.func.params.items ≡ 1 → ⊥) → slice_get fn.func.params.items 1 ≡ None → given_fault fn ≡ Some (fault 37 fn.func.span)
 setter_alone fn is other none = ap (λ (w : FuncForm). params_fault w fn.func.params.items fn.func.span) is ∙ no_param fn.func.params.items fn.func.span other none
 
--- what is read at a place of a list stands there
+-- what is read at a place of a list is there
 pub got_at : {X : Type 0} (xs : List X) (i : ℕ) (r : Option (Bor X)) → IsItemAt xs i r → option_copied r ≡ slice_get xs i
 got_at xs i None h = sym (slice_get_past xs i (ltb-false i (length xs) (sym h.0)))
 got_at xs i (Some x) h = sym (slice_get_read xs (length xs) i x.now refl (ltb-true i (length xs) (sym h.0)) h.1)

@@ -1,2 +1,2 @@
-pub mod Held
+pub mod Borrowed
 pub mod Signatures

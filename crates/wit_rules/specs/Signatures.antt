@@ -21,18 +21,18 @@ use Rattle.wit_syntax.specs.Bodies.{IsBrokenType}
 use Rattle.wit_syntax.specs.Signature.{ok_of, meant_ok, IsEntered, IsGetterWithoutResult, IsSetterWithResult, IsConstructorWithoutResult, IsConstructorOfOther, IsBrokenFunction}
 use Rattle.wit_arena.specs.Resolving.{Env, env_of, IsWrongHandle}
 use Rattle.wit_rules.specs.declared.function_scope.FunctionScope.{FunctionScope}
-use Rattle.wit_rules.specs.Held.{function_behind, owner_of}
+use Rattle.wit_rules.specs.Borrowed.{function_view, owner_of}
 
 -- what the definition of a name gives where all is well, by a table of definitions that are written as results
-abbrev pub told_ok : Option (Bor Written) → Option (Option Written)
-told_ok None = None
-told_ok (Some t) = ok_of t.now
+abbrev pub stated_ok : Option (Bor Written) → Option (Option Written)
+stated_ok None = None
+stated_ok (Some t) = ok_of t.now
 
 -- a table has the definitions of a scope that are written as results
 pub record AreResults (results : List (List ℕ × Bor Written)) (xs : List ScopeName) : Type 0 where
-  pub told : (name : List ℕ) → told_ok (lookup (pointwise nat_eq name) results) ≡ meant_ok (meaning xs name)
+  pub as_stated : (name : List ℕ) → stated_ok (lookup (pointwise nat_eq name) results) ≡ meant_ok (meaning xs name)
 
--- the names of a scope have no further one than those that stand for places
+-- the names of a scope have no further one than those that mean places
 pub record AreAllNames (env : Env) (xs : List ScopeName) : Type 0 where
   pub unmeant : (name : List ℕ) → env name ≡ None → meaning xs name ≡ None
 
@@ -42,8 +42,8 @@ pub record IsScopeOf (scope : FunctionScope) (xs : List ScopeName) : Type 0 wher
   pub results : AreResults scope.results.now xs
 
 -- the functions of a scope
-abbrev pub functions_behind : FunctionScope → List SourceFunction
-functions_behind scope = map function_behind scope.functions.now
+abbrev pub functions_view : FunctionScope → List SourceFunction
+functions_view scope = map function_view scope.functions.now
 
 -- an item at a place has the key of an earlier one
 pub record IsRepeatedAt {X : Type 0} (key : X → List ℕ) (xs : List X) (place : ℕ) : Type 0 where
@@ -59,7 +59,7 @@ pub record IsRepeatedAt {X : Type 0} (key : X → List ℕ) (xs : List X) (place
 abbrev pub IsBrokenResult : List ScopeName → SourceFunction → Fault → Type 0
 IsBrokenResult xs fn f = IsSetterWithResult xs fn f ⊎ (IsConstructorWithoutResult xs fn f ⊎ IsConstructorOfOther xs fn f)
 
--- each function of a resource stands in a scope in which that has a place
+-- each function of a resource is in a scope in which that has a place
 abbrev pub HasOwner : Env → Option Id → Type 0
 HasOwner env None = ⊤
 HasOwner env (Some id) = IsSome (env id.name.now)
@@ -80,7 +80,7 @@ pub data IsLostAt (fns : List SourceFunction) (k : ℕ) (span : Span) (name : Li
   AtFunction : IsEntered fns k name → f ≡ fault 28 span → IsLostAt fns k span name f
   AtNothing : (IsEntered fns k name → ⊥) → f ≡ record { rule = 29; span = span; name = Some name; sort = Missing name_word; hint = None } → IsLostAt fns k span name f
 
--- a name among these stands for nothing, and it is that of a function up to a place, or of none
+-- a name among these means nothing, and it is that of a function up to a place, or of none
 pub record IsLostName (env : Env) (fns : List SourceFunction) (k : ℕ) (ids : List Id) (f : Fault) : Type 0 where
   pub id : Id
   pub among : Contains ids id
@@ -97,12 +97,12 @@ pub data IsWrongInSignature (env : Env) (es : List TypeDef) (fns : List SourceFu
 abbrev pub IsWrongInSignatures : Env → List TypeDef → List SourceFunction → ℕ → List Written → Fault → Type 0
 IsWrongInSignatures env es fns k ts f = (t : Written) × Contains ts t × IsWrongInSignature env es fns k t f
 
--- an item of a list is the one at a place where another list stands in front of it, and it is refused
-pub record IsRefusedParam (repeated : Option ℕ) (front : ℕ) (ws : List SourceParam) (f : Fault) : Type 0 where
+-- an item of a list is the one at a place where another list comes before it, and it is refused
+pub record IsRefusedParam (repeated : Option ℕ) (prefix : ℕ) (ws : List SourceParam) (f : Fault) : Type 0 where
   pub place : ℕ
   pub later : SourceParam
   pub at : slice_get ws place ≡ Some later
-  pub same : repeated ≡ Some (front + place)
+  pub same : repeated ≡ Some (prefix + place)
   pub is : f ≡ fault 38 later.span
 
 -- these are the parameters, over their types, which were added to the arena

@@ -1,6 +1,6 @@
 //! The rules of functions: of their parameters and of their results.
 ghost use Rattle.std.specs.Prelude.{◌≡◌, ◌⊎◌, List, Some, IfNone, IfOk, IfSome, map};
-ghost use Rattle.wit_type_tree.specs.Refusal.{IsWantOfMemory};
+ghost use Rattle.wit_type_tree.specs.Refusal.{IsAllocationFailure};
 ghost use Rattle.wit_type_tree.specs.declared.types.FuncForm.TheVariants.{Getter, Setter};
 ghost use Rattle.wit_syntax.specs.Bodies.{folded};
 ghost use Rattle.wit_syntax.specs.Fault.{Fault, fault, fault_of};
@@ -9,18 +9,18 @@ ghost use Rattle.wit_first.specs.Functions.{given_fault, gives_fault, is_written
 ghost use Rattle.wit_syntax.specs.Source.{ScopeName};
 ghost use Rattle.wit_syntax.specs.Function.{all_params};
 ghost use Rattle.wit_syntax.specs.Signature.{IsDuplicateParam, ok_span as the_ok_span, result_ok as the_result_ok};
-ghost use Rattle.wit_rules.specs.Held.{function_behind};
+ghost use Rattle.wit_rules.specs.Borrowed.{function_view};
 ghost use Rattle.wit_rules.specs.Signatures.{AreResults, IsRepeatedAt};
 
+use crate::borrowed::BorrowedFunction;
 use crate::function_scope::{result_ok, span_of};
-use crate::held::HeldFunction;
 use std::alloc::{AllocError, Global};
+use wit_maps::TextTable;
 use wit_refusals::refusal::{refuse, refuse_in};
 use wit_refusals::repeats::first_folded_repeat;
 use wit_refusals::words::defined_twice;
 use wit_tree::tree::{FuncForm, Id, Type};
 use wit_tree::{ParseError, ParseResult, Span};
-use wit_maps::TextTable;
 
 /// What is said of a setter whose result is no `result`, or gives something where all is well.
 const SETTER_RESULT: &str =
@@ -36,9 +36,9 @@ const SETTER_PARAMS: &str = "setters must have exactly one parameter";
 const CONSTRUCTOR_OK: &str = "the `ok` type must be the resource being constructed";
 
 /// Refuses a getter with a parameter (E36).
-fn check_getter(alloc: Global, function: HeldFunction<'_, '_>) -> ParseResult<()>
-    requires { (function_behind function).func.form ≡ Getter }
-    ensures { Finds (given_fault (function_behind function.entry)) result }
+fn check_getter(alloc: Global, function: BorrowedFunction<'_, '_>) -> ParseResult<()>
+    requires { (function_view function).func.form ≡ Getter }
+    ensures { Finds (given_fault (function_view function.entry)) result }
 {
     match function.params().first() {
         Some(first) => {
@@ -50,9 +50,9 @@ fn check_getter(alloc: Global, function: HeldFunction<'_, '_>) -> ParseResult<()
 }
 
 /// Refuses a setter that has not just one parameter (E37).
-fn check_setter(alloc: Global, function: HeldFunction<'_, '_>) -> ParseResult<()>
-    requires { (function_behind function).func.form ≡ Setter }
-    ensures { Finds (given_fault (function_behind function.entry)) result }
+fn check_setter(alloc: Global, function: BorrowedFunction<'_, '_>) -> ParseResult<()>
+    requires { (function_view function).func.form ≡ Setter }
+    ensures { Finds (given_fault (function_view function.entry)) result }
 {
     let params = function.params();
     if params.len() == 1 {
@@ -65,8 +65,8 @@ fn check_setter(alloc: Global, function: HeldFunction<'_, '_>) -> ParseResult<()
 }
 
 /// Refuses a getter with a parameter (E36), and a setter that has not just one (E37).
-pub fn check_given(alloc: Global, function: HeldFunction<'_, '_>) -> ParseResult<()>
-    ensures { Finds (given_fault (function_behind function.entry)) result }
+pub fn check_given(alloc: Global, function: BorrowedFunction<'_, '_>) -> ParseResult<()>
+    ensures { Finds (given_fault (function_view function.entry)) result }
 {
     match function.form() {
         FuncForm::Getter => check_getter(alloc, function),
@@ -78,9 +78,9 @@ pub fn check_given(alloc: Global, function: HeldFunction<'_, '_>) -> ParseResult
 /// The names of all parameters; `self` is the first of a method.
 fn param_names<'t, 'a>(
     alloc: Global,
-    function: HeldFunction<'t, 'a>,
+    function: BorrowedFunction<'t, 'a>,
 ) -> Result<Vec<&'a str>, AllocError>
-    ensures { IfOk result (λ names. map (λ t. t.now) names.items ≡ map (λ p. p.name) (all_params (function_behind function.entry))) }
+    ensures { IfOk result (λ names. map (λ t. t.now) names.items ≡ map (λ p. p.name) (all_params (function_view function.entry))) }
 {
     let params = function.params();
     let mut names = Vec::with_capacity(alloc, function.param_count())?;
@@ -96,10 +96,10 @@ fn param_names<'t, 'a>(
 /// The place among all parameters of the first that an earlier one is, once case is folded.
 pub fn repeated_param(
     alloc: Global,
-    function: HeldFunction<'_, '_>,
+    function: BorrowedFunction<'_, '_>,
 ) -> Result<Option<usize>, AllocError>
-    ensures some { IfOk result (λ found. IfSome found (λ place. IsRepeatedAt (λ p. folded p.name) (all_params (function_behind function.entry)) place)) }
-    ensures none { IfOk result (λ found. IfNone found ((f : Fault) → IsDuplicateParam (function_behind function.entry) f → ⊥)) }
+    ensures some { IfOk result (λ found. IfSome found (λ place. IsRepeatedAt (λ p. folded p.name) (all_params (function_view function.entry)) place)) }
+    ensures none { IfOk result (λ found. IfNone found ((f : Fault) → IsDuplicateParam (function_view function.entry) f → ⊥)) }
 {
     if function.param_count() < 2 {
         return Ok(None);
@@ -113,14 +113,14 @@ pub fn repeated_param(
 
 /// The refusal of a parameter whose name an earlier one has (E38).
 pub fn refuse_param(alloc: Global, name: Id<'_>) -> ParseError
-    ensures { IsWantOfMemory result ⊎ (fault_of result ≡ fault 38 name.entry.span) }
+    ensures { IsAllocationFailure result ⊎ (fault_of result ≡ fault 38 name.entry.span) }
 {
     refuse_in(38, name.span, defined_twice(alloc, "param", name.name))
 }
 
 /// Refuses a getter without a result (E39).
-pub fn check_returns(alloc: Global, function: HeldFunction<'_, '_>) -> ParseResult<()>
-    ensures { Finds (no_result_fault (function_behind function.entry)) result }
+pub fn check_returns(alloc: Global, function: BorrowedFunction<'_, '_>) -> ParseResult<()>
+    ensures { Finds (no_result_fault (function_view function.entry)) result }
 {
     match function.form() {
         FuncForm::Getter => {
@@ -192,10 +192,10 @@ fn check_made<'t, 'a>(
 pub fn check_result<'t, 'a>(
     alloc: Global,
     results: &TextTable<&'t Type<'a>>,
-    function: HeldFunction<'t, 'a>,
+    function: BorrowedFunction<'t, 'a>,
     ty: &'t Type<'a>,
 ) -> ParseResult<()>
-    ensures { (xs : List ScopeName) → AreResults results.now xs → Finds (gives_fault xs (function_behind function.entry) ty.now) result }
+    ensures { (xs : List ScopeName) → AreResults results.now xs → Finds (gives_fault xs (function_view function.entry) ty.now) result }
 {
     if let FuncForm::Setter = function.form() {
         return check_setter_result(alloc, results, ty);

@@ -5,21 +5,21 @@ ghost use Rattle.wit_syntax.specs.Source.{ScopeName};
 ghost use Rattle.wit_syntax.specs.Signature.{ok_of as the_ok, result_ok as the_result_ok, type_span};
 ghost use Rattle.wit_rules.specs.Signatures.{AreResults};
 
-use crate::held::HeldFunction;
+use crate::borrowed::BorrowedFunction;
+use wit_maps::TextTable;
 use wit_tree::Span;
 use wit_tree::tree::Type;
 use wit_types::TypeId;
-use wit_maps::TextTable;
 
 /// What the functions of a scope are read in.
 #[derive(Clone, Copy)]
 pub struct FunctionScope<'s, 't, 'a> {
-    /// What each name of the scope stands for.
+    /// What each name of the scope means.
     pub names: &'s TextTable<TypeId>,
     /// The definitions of the scope that are written as results, under their names.
     pub results: &'s TextTable<&'t Type<'a>>,
     /// The functions of the scope, in source order.
-    pub functions: &'s [HeldFunction<'t, 'a>],
+    pub functions: &'s [BorrowedFunction<'t, 'a>],
 }
 
 /// What a type that is written as a result gives where all is well, if it gives anything; none where
@@ -49,7 +49,7 @@ pub fn result_ok<'t, 'a>(
     }
 }
 
-/// Where a written type stands; of a name or a handle by itself, all of it.
+/// Where a written type is; of a name or a handle by itself, all of it.
 pub fn span_of(ty: &Type<'_>) -> Span
     ensures { result ≡ type_span ty.now }
 {

@@ -1,13 +1,13 @@
--- Lists of what is held, one more, and one by one.
+-- Lists of what is borrowed, one more, and one by one.
 use Rattle.std.proofs.Common.{◌≡◌, ℕ, List, [], ◌∷◌, ◌++◌, Some, map, sym, ap, ◌∙◌, append_assoc}
 use Rattle.std.specs.Prelude.{slice_get}
 use Rattle.std.specs.Option.{option_map}
 use Rattle.std.proofs.lemmas.List.{map-append}
 use Rattle.std.proofs.lemmas.Option.{slice_get-map}
 
--- what stands behind a list that grew by one
+-- what comes after a list that grew by one
 pub one_more : {X Y : Type 0} (f : X → Y) (old : List Y) (out new : List X) (x : X) (ys all : List Y) (y : Y) → new ≡ out ++ x ∷ [] → map f out ≡ old ++ ys → f x ≡ y → all ≡ ys ++ y ∷ [] → map f new ≡ old ++ all
-one_more f old out new x ys all y grown before own is = ap (map f) grown ∙ map-append f out (x ∷ []) ∙ ap (λ l. l ++ f x ∷ []) before ∙ append_assoc old ys (f x ∷ []) ∙ ap (λ z. old ++ (ys ++ z ∷ [])) own ∙ ap (λ l. old ++ l) (sym is)
+one_more f old out new x ys all y extended before own is = ap (map f) extended ∙ map-append f out (x ∷ []) ∙ ap (λ l. l ++ f x ∷ []) before ∙ append_assoc old ys (f x ∷ []) ∙ ap (λ z. old ++ (ys ++ z ∷ [])) own ∙ ap (λ l. old ++ l) (sym is)
 
 -- where two lists made from one are the same, what is made from each item is
 pub alike : {X Y : Type 0} (f g : X → Y) (xs : List X) → map f xs ≡ map g xs → (i : ℕ) (x : X) → slice_get xs i ≡ Some x → f x ≡ g x

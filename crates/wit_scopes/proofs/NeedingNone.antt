@@ -11,9 +11,9 @@ use Rattle.wit_graph.proofs.Greedy.{own_greedy, greedy_sorted, greedy_least}
 use Rattle.wit_graph.proofs.Tables.{slice_get-take}
 use Rattle.wit_syntax.specs.Source.{ScopeName, local_id}
 use Rattle.wit_syntax.specs.Scope.{needed_ids, rows_of, in_order, used, defined}
-use Rattle.wit_syntax.proofs.Lists.{at_front, at_seam, at_take, at_within, map_at}
+use Rattle.wit_syntax.proofs.Lists.{at_prefix, at_seam, at_take, at_within, map_at}
 use Rattle.wit_syntax.proofs.Orders.{take_next, in_order-append}
-use Rattle.wit_scopes.specs.Between.{AreOrdered, IsTurnOf, IsWritten, NeedNone}
+use Rattle.wit_scopes.specs.DefinitionOrder.{AreOrdered, IsTurnOf, IsWritten, NeedNone}
 use Rattle.wit_syntax.proofs.Rows.{row_of}
 
 -- the first n places in their own order
@@ -28,7 +28,7 @@ own-long (suc n) = omega (arith, length-append (own n) (n ∷ []), own-long n)
 own-at : (n i : ℕ) → i < n → slice_get (own n) i ≡ Some i
 own-at zero i lt = absurd (omega arith)
 own-at (suc n) i lt = elim (cases_lt i n) [
-  | inl less ↦ at_front (own n) (n ∷ []) i i (own-at n i less)
+  | inl less ↦ at_prefix (own n) (n ∷ []) i i (own-at n i less)
   | inr end ↦ (
       let is : i ≡ n = omega arith in
       ap (slice_get (own n ++ n ∷ [])) (is ∙ sym (own-long n)) ∙ at_seam (own n) n ∙ ap Some (sym is))

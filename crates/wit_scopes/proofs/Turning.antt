@@ -1,4 +1,4 @@
--- Definitions of a scope in their order: what each needs stands before it.
+-- Definitions of a scope in their order: what each needs comes before it.
 use Rattle.std.proofs.Common.{◌≡◌, ◌<◌, ℕ, zero, suc, Bool, true, List, [], ◌∷◌, ◌++◌, length, take, Option, Some, None, IsSome, inl, inr, refl, sym, ap, ◌∙◌, subst}
 use Rattle.std.specs.Prelude.{slice_get, map}
 use Rattle.std.specs.List.{filter, cons_option}
@@ -6,7 +6,7 @@ use Rattle.std.specs.Option.{option_map}
 use Rattle.std.proofs.lemmas.Option.{slice_get-map}
 use Rattle.std.proofs.lemmas.List.{map-append}
 use Rattle.std.proofs.lemmas.Bool.{cases_Bool, cond-true, cond-false}
-use Rattle.wit_syntax.specs.Source.{ScopeName, Used, Defined, Taken, local_id, local_name}
+use Rattle.wit_syntax.specs.Source.{ScopeName, Used, Defined, ForeignName, local_id, local_name}
 use Rattle.wit_type_tree.specs.declared.leaves.Id.{Id}
 use Rattle.wit_type_tree.specs.declared.types.TypeDef.{TypeDef as Definition}
 use Rattle.wit_syntax.specs.Shape.{all_words, body_of}
@@ -14,9 +14,9 @@ use Rattle.wit_syntax.specs.Scope.{in_order, is_defined, rows_of, used, defined,
 use Rattle.wit_syntax.specs.Fault.{Fault, fault, missing_type_at, type_word}
 use Rattle.wit_syntax.specs.Bodies.{IsRepeated}
 use Rattle.wit_syntax.specs.Function.{SourceFunction}
-use Rattle.wit_syntax.specs.Broken.{IsBrokenScope, DefinedTwice, MissingType, CyclicType, Notes, Body, Function}
+use Rattle.wit_syntax.specs.Broken.{IsBrokenScope, DefinedTwice, MissingType, CyclicType, Metadata, Body, Function}
 use Rattle.wit_syntax.specs.Repeats.{AllDiffer}
-use Rattle.wit_arena.specs.Resolving.{Env, AreLegalNotes, AreLegalBodies, HasNames, IsUnknown}
+use Rattle.wit_arena.specs.Resolving.{Env, AreLegalMetadata, AreLegalBodies, HasNames, IsUnknown}
 use Rattle.wit_syntax.proofs.Lists.{at_within, at_take, map_at, map_map}
 use Rattle.wit_syntax.proofs.Repeated.{no_repeat}
 use Rattle.wit_syntax.proofs.Orders.{in_order_at}
@@ -24,11 +24,11 @@ use Rattle.wit_syntax.proofs.Turns.{AreOwn, used_is, used_has, defined_at, defin
 use Rattle.wit_arena.proofs.Scoping.{needed_earlier}
 use Rattle.wit_syntax.proofs.Found.{at_contains, contains_at}
 use Rattle.wit_syntax.proofs.Legal.{no_missing_edge, no_cyclic_edge}
-use Rattle.wit_scopes.specs.Held.{Held, name_behind}
-use Rattle.wit_scopes.specs.declared.scope_name.Named.TheVariants as held
-use Rattle.wit_scopes.specs.Between.{AreOrdered, AreInTurn, IsBrokenAmong, IsRepeatedId, OfFunction, IsOfFunctions}
+use Rattle.wit_scopes.specs.Borrowed.{Borrowed, name_view}
+use Rattle.wit_scopes.specs.declared.scope_name.Named.TheVariants as borrowed
+use Rattle.wit_scopes.specs.DefinitionOrder.{AreOrdered, AreInTurn, IsBrokenAmong, IsRepeatedId, OfFunction, IsOfFunctions}
 
--- what stands at the first n places
+-- what is at the first n places
 in_order-take : {X : Type 0} (xs : List X) (places : List ℕ) (n : ℕ) → ((j p : ℕ) → slice_get places j ≡ Some p → p < length xs) → in_order xs (take n places) ≡ take n (in_order xs places)
 in_order-take xs places zero within = refl
 in_order-take xs [] (suc n) within = refl
@@ -36,7 +36,7 @@ in_order-take xs (k ∷ ks) (suc n) within =
     let y = at_within xs k (within 0 k refl) in
     ap (λ o. cons_option o (in_order xs (take n ks))) y.1 ∙ ap (λ l. y.0 ∷ l) (in_order-take xs ks n (λ j p h. within (suc j) p h)) ∙ ap (λ o. take (suc n) (cons_option o (in_order xs ks))) (sym y.1)
 
--- what is behind a list in an order
+-- what is after a list in an order
 pub map-in_order : {X Y : Type 0} (f : X → Y) (xs : List X) (places : List ℕ) → map f (in_order xs places) ≡ in_order (map f xs) places
 map-in_order f xs [] = refl
 map-in_order f xs (k ∷ ks) = map-cons f (slice_get xs k) (in_order xs ks) ∙ ap (λ o. cons_option o (map f (in_order xs ks))) (sym (slice_get-map f xs k)) ∙ ap (cons_option (slice_get (map f xs) k)) (map-in_order f xs ks)
@@ -48,19 +48,19 @@ map-in_order f xs (k ∷ ks) = map-cons f (slice_get xs k) (in_order xs ks) ∙ 
 abbrev IsKeptAt : (ScopeName → Bool) → List ScopeName → ℕ → ScopeName → Type 0
 IsKeptAt test xs k x = (p : ℕ) × (slice_get xs p ≡ Some x) × (filter test (take p xs) ≡ take k (filter test xs))
 
-kept_behind : (test : ScopeName → Bool) (y : ScopeName) (ys : List ScopeName) (k : ℕ) (x : ScopeName) → test y ≡ true → ((j : ℕ) → slice_get (filter test ys) j ≡ Some x → IsKeptAt test ys j x) → slice_get (y ∷ filter test ys) k ≡ Some x → (p : ℕ) × (slice_get (y ∷ ys) p ≡ Some x) × (filter test (take p (y ∷ ys)) ≡ take k (y ∷ filter test ys))
-kept_behind test y ys zero x hit rest at = (0, at, refl)
-kept_behind test y ys (suc k) x hit rest at =
+kept_after : (test : ScopeName → Bool) (y : ScopeName) (ys : List ScopeName) (k : ℕ) (x : ScopeName) → test y ≡ true → ((j : ℕ) → slice_get (filter test ys) j ≡ Some x → IsKeptAt test ys j x) → slice_get (y ∷ filter test ys) k ≡ Some x → (p : ℕ) × (slice_get (y ∷ ys) p ≡ Some x) × (filter test (take p (y ∷ ys)) ≡ take k (y ∷ filter test ys))
+kept_after test y ys zero x hit rest at = (0, at, refl)
+kept_after test y ys (suc k) x hit rest at =
     let it = rest k at in
     (suc it.0, it.1, cond-true (test y) (y ∷ filter test (take it.0 ys)) (filter test (take it.0 ys)) hit ∙ ap (λ l. y ∷ l) it.2)
 
--- what is kept stands behind what is kept before it
+-- what is kept comes after what is kept before it
 kept_before : (test : ScopeName → Bool) (xs : List ScopeName) (k : ℕ) (x : ScopeName) → slice_get (filter test xs) k ≡ Some x → IsKeptAt test xs k x
 kept_before test [] k x at = absurd (let f : ⊥ = cc in f)
 kept_before test (y ∷ ys) k x at = elim (cases_Bool (test y)) [
   | inl hit ↦ (
       let all = cond-true (test y) (y ∷ filter test ys) (filter test ys) hit in
-      let it = kept_behind test y ys k x hit (λ j h. kept_before test ys j x h) (sym (ap (λ zs. slice_get zs k) all) ∙ at) in
+      let it = kept_after test y ys k x hit (λ j h. kept_before test ys j x h) (sym (ap (λ zs. slice_get zs k) all) ∙ at) in
       (it.0, it.1, it.2 ∙ ap (take k) (sym all)))
   | inr miss ↦ (
       let all = cond-false (test y) (y ∷ filter test ys) (filter test ys) miss in
@@ -78,24 +78,24 @@ in_their_turn xs ds env own o has = record {
       let it = kept_before is_defined ordered k (Defined d) (sym (ap (λ l. slice_get l k) o.are) ∙ at) in
       let p = in_order_at xs o.order it.0 (Defined d) (names_within xs o.order o.least) it.1 in
       let y = needed_earlier xs o.order it.0 p.0 (Defined d) id o.least p.1 p.2 among in
-      let front : slice_get (take it.0 ordered) y.0 ≡ Some y.1 = ap (λ l. slice_get l y.0) (sym (in_order-take xs o.order it.0 (names_within xs o.order o.least))) ∙ y.2 in
-      elim (either_at (take it.0 ordered) y.0 y.1 front) [
+      let prefix : slice_get (take it.0 ordered) y.0 ≡ Some y.1 = ap (λ l. slice_get l y.0) (sym (in_order-take xs o.order it.0 (names_within xs o.order o.least))) ∙ y.2 in
+      elim (either_at (take it.0 ordered) y.0 y.1 prefix) [
         | inl u ↦ absurd (
-            let is = used_is (take it.0 ordered) (λ i attributes id at_i. (let q = in_order_among xs o.order o.least i (Taken attributes id) (at_take ordered it.0 i (Taken attributes id) at_i).0 in own q.0 attributes id q.1)) u.0 y.1 u.1 in
-            let q = in_order_among xs o.order o.least y.0 y.1 (at_take ordered it.0 y.0 y.1 front).0 in
+            let is = used_is (take it.0 ordered) (λ i attributes id at_i. (let q = in_order_among xs o.order o.least i (ForeignName attributes id) (at_take ordered it.0 i (ForeignName attributes id) at_i).0 in own q.0 attributes id q.1)) u.0 y.1 u.1 in
+            let q = in_order_among xs o.order o.least y.0 y.1 (at_take ordered it.0 y.0 y.1 prefix).0 in
             let there = used_has xs q.0 is.0 is.1 is.2 (q.1 ∙ ap Some is.3) in
             fresh there.0 (Used is.0 is.1 is.2) there.1 (ap local_name (sym is.3) ∙ y.3))
         | inr e ↦ (e.0, y.1, ap (λ l. slice_get l e.0) (ap (take k) o.are ∙ sym it.2) ∙ e.1, y.3)
       ]);
 }
 
--- the names that are held are used or defined
-pub own_held : (names : List Held) → AreOwn (map name_behind names)
-own_held names i attributes id at = let x = map_at name_behind names i (Taken attributes id) at in not_taken x.0 x.2
+-- the names that are borrowed are used or defined
+pub own_borrowed : (names : List Borrowed) → AreOwn (map name_view names)
+own_borrowed names i attributes id at = let x = map_at name_view names i (ForeignName attributes id) at in not_used x.0 x.2
   where
-    not_taken : (x : Held) → name_behind x ≡ Taken attributes id → ⊥
-    not_taken (held.Used u) h = let f : ⊥ = cc in f
-    not_taken (held.Defined d) h = let f : ⊥ = cc in f
+    not_used : (x : Borrowed) → name_view x ≡ ForeignName attributes id → ⊥
+    not_used (borrowed.Used u) h = let f : ⊥ = cc in f
+    not_used (borrowed.Defined d) h = let f : ⊥ = cc in f
 
 -- so none is unknown
 pub none_unknown : (old env : Env) (ds : List ScopeName) (k : ℕ) (d : Definition) (f : Fault) → AreInTurn old ds → slice_get ds k ≡ Some (Defined d) → ((xs : List ScopeName) → HasNames old xs → HasNames env xs) → HasNames env (take k ds) → IsUnknown env (all_words (body_of d.body).parts) f → ⊥
@@ -114,7 +114,7 @@ broken_definition xs ds f o b fns =
     let it = defined_at (in_order xs o.order) at.0 (Defined b.d) (sym (ap (λ l. slice_get l at.0) o.are) ∙ at.1) in
     let p = in_order_among xs o.order o.least it.0 (Defined b.d) it.1 in
     elim b.broken [
-      | inl notes ↦ Notes b.d (contains_at xs p.0 (Defined b.d) p.1) notes
+      | inl metadata ↦ Metadata b.d (contains_at xs p.0 (Defined b.d) p.1) metadata
       | inr body ↦ Body b.d (contains_at xs p.0 (Defined b.d) p.1) body
     ]
 
@@ -127,7 +127,7 @@ unmapped key zs later r =
 abbrev text : Id → List ℕ
 text id = id.name.now
 
--- a text that stands twice
+-- a text that occurs twice
 pub broken_twice : (xs : List ScopeName) (ids : List Id) (f : Fault) → ids ≡ map local_id (used xs ++ defined xs) → IsRepeatedId 14 text ids f → (fns : List SourceFunction) → IsBrokenScope xs fns f
 broken_twice xs ids f are h fns =
     let u = unmapped text (used xs ++ defined xs) h.0 (subst (λ l. IsRepeated text l h.0) are h.1) in
@@ -142,18 +142,18 @@ pub turn_differs : (xs ds : List ScopeName) (names : List (List ℕ)) → AreOrd
 turn_differs xs ds names o are distinct = rw (are, o.are) (subst AllDiffer (map-append local_name (used xs) (defined (in_order xs o.order))) (in_turn_distinct xs o.order o.least distinct))
 
 -- where the names and the definitions break no rule, functions do
-pub legal_unfolded : (xs ds : List ScopeName) (ids : List Id) → AreOrdered xs ds → ids ≡ map local_id (used xs ++ defined xs) → AllDiffer (map text ids) → AreLegalNotes ds → AreLegalBodies ds → (fns : List SourceFunction) (f : Fault) → IsBrokenScope xs fns f → IsOfFunctions xs fns f
-legal_unfolded xs ds ids o are distinct notes bodies fns f (DefinedTwice h) = absurd (no_repeat local_name (used xs ++ defined xs) h.0 (differ_names xs ids are distinct) h.1)
-legal_unfolded xs ds ids o are distinct notes bodies fns f (MissingType h) = absurd (no_missing_edge missing_type_at (rows_of xs) o.order f o.least h)
-legal_unfolded xs ds ids o are distinct notes bodies fns f (CyclicType h) = absurd (no_cyclic_edge 16 type_word (rows_of xs) o.order f o.least h)
-legal_unfolded xs ds ids o are distinct notes bodies fns f (Notes d among broken) = absurd (
+pub legal_unfolded : (xs ds : List ScopeName) (ids : List Id) → AreOrdered xs ds → ids ≡ map local_id (used xs ++ defined xs) → AllDiffer (map text ids) → AreLegalMetadata ds → AreLegalBodies ds → (fns : List SourceFunction) (f : Fault) → IsBrokenScope xs fns f → IsOfFunctions xs fns f
+legal_unfolded xs ds ids o are distinct metadata bodies fns f (DefinedTwice h) = absurd (no_repeat local_name (used xs ++ defined xs) h.0 (differ_names xs ids are distinct) h.1)
+legal_unfolded xs ds ids o are distinct metadata bodies fns f (MissingType h) = absurd (no_missing_edge missing_type_at (rows_of xs) o.order f o.least h)
+legal_unfolded xs ds ids o are distinct metadata bodies fns f (CyclicType h) = absurd (no_cyclic_edge 16 type_word (rows_of xs) o.order f o.least h)
+legal_unfolded xs ds ids o are distinct metadata bodies fns f (Metadata d among broken) = absurd (
     let p = at_contains xs (Defined d) among in
     let k = in_order_all xs o.order o.least p.0 (Defined d) p.1 in
     let it = defined_has (in_order xs o.order) k.0 d k.1 in
-    notes.legal it.0 d f (ap (λ l. slice_get l it.0) o.are ∙ it.1) broken)
-legal_unfolded xs ds ids o are distinct notes bodies fns f (Body d among broken) = absurd (
+    metadata.legal it.0 d f (ap (λ l. slice_get l it.0) o.are ∙ it.1) broken)
+legal_unfolded xs ds ids o are distinct metadata bodies fns f (Body d among broken) = absurd (
     let p = at_contains xs (Defined d) among in
     let k = in_order_all xs o.order o.least p.0 (Defined d) p.1 in
     let it = defined_has (in_order xs o.order) k.0 d k.1 in
     bodies.legal it.0 d f (ap (λ l. slice_get l it.0) o.are ∙ it.1) broken)
-legal_unfolded xs ds ids o are distinct notes bodies fns f (Function k fn at broken) = OfFunction k fn at broken
+legal_unfolded xs ds ids o are distinct metadata bodies fns f (Function k fn at broken) = OfFunction k fn at broken

@@ -1,3 +1,3 @@
-pub mod Held
-pub mod Front
-pub mod Between
+pub mod Borrowed
+pub mod PlacedNames
+pub mod DefinitionOrder

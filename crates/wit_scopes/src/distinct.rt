@@ -1,9 +1,9 @@
-//! Names of a scope that stand twice.
+//! Names of a scope that are twice.
 ghost use Rattle.std.specs.Prelude.{◌≡◌, ◌++◌, map, IfOk, OnOk};
 ghost use Rattle.wit_syntax.specs.Source.{local_id as the_local_id};
 ghost use Rattle.wit_first.specs.First.{Finds};
 ghost use Rattle.wit_first.specs.Names.{local_names_fault};
-ghost use Rattle.wit_scopes.specs.Held.{use_behind, definition_behind};
+ghost use Rattle.wit_scopes.specs.Borrowed.{use_view, definition_view};
 
 use crate::scope_name::{DefinedName, UsedName, local_of};
 use std::alloc::{AllocError, Global};
@@ -19,7 +19,7 @@ pub(crate) fn used_ids<'a>(
     uses: &[UsedName<'_, 'a>],
     more: usize,
 ) -> Result<Vec<Id<'a>>, AllocError>
-    ensures { IfOk result (λ ids. ids.items ≡ map the_local_id (map use_behind uses.now)) }
+    ensures { IfOk result (λ ids. ids.items ≡ map the_local_id (map use_view uses.now)) }
 {
     let mut ids = Vec::with_capacity(alloc, uses.len().saturating_add(more))?;
     for used in uses {
@@ -33,7 +33,7 @@ pub(crate) fn add_definition_ids<'a>(
     ids: &mut Vec<Id<'a>>,
     definitions: &[DefinedName<'_, 'a>],
 ) -> Result<(), AllocError>
-    ensures { OnOk result (ids.new.items ≡ ids.old.items ++ map the_local_id (map definition_behind definitions.now)) }
+    ensures { OnOk result (ids.new.items ≡ ids.old.items ++ map the_local_id (map definition_view definitions.now)) }
 {
     for defined in definitions {
         ids.push(defined.definition.name)?;

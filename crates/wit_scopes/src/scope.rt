@@ -6,8 +6,8 @@ ghost use Rattle.wit_syntax.specs.Scope.{needed_ids as the_needed, rows_of, used
 ghost use Rattle.wit_syntax.specs.Source.{local_id as the_local_id};
 ghost use Rattle.wit_first.specs.First.{FindsBy};
 ghost use Rattle.wit_first.specs.Orders.{IsTypeOrderFault};
-ghost use Rattle.wit_scopes.specs.Held.{name_behind, use_behind, definition_behind};
-ghost use Rattle.wit_scopes.specs.Between.{AreOrdered, IsTurnOf, IsWritten, NeedNone};
+ghost use Rattle.wit_scopes.specs.Borrowed.{name_view, use_view, definition_view};
+ghost use Rattle.wit_scopes.specs.DefinitionOrder.{AreOrdered, IsTurnOf, IsWritten, NeedNone};
 
 use crate::deps::body_deps;
 use crate::distinct::{add_definition_ids, used_ids};
@@ -15,14 +15,14 @@ use crate::order::in_order;
 use crate::scope_name::{DefinedName, ScopeName, UsedName, definitions, local_id};
 use std::alloc::{AllocError, Global};
 use wit_files::order_refusal::refuse_type_order;
+use wit_maps::Table;
 use wit_order::order_places;
 use wit_tree::ParseResult;
 use wit_tree::tree::Id;
-use wit_maps::Table;
 
 /// The names that a name of a scope needs: those in its body, where it is a definition.
 fn needed_ids<'a>(alloc: Global, name: &ScopeName<'_, 'a>) -> Result<Vec<Id<'a>>, AllocError>
-    ensures { IfOk result (λ ids. ids.items ≡ the_needed (name_behind name.now)) }
+    ensures { IfOk result (λ ids. ids.items ≡ the_needed (name_view name.now)) }
 {
     match name {
         ScopeName::Used(_) => Ok(Vec::new(alloc)),
@@ -35,8 +35,8 @@ fn scope_table<'a>(
     alloc: Global,
     names: &[ScopeName<'_, 'a>],
 ) -> Result<Table<&'a str, Vec<Id<'a>>>, AllocError>
-    requires distinct { AreDistinct (map name_behind names.now) }
-    ensures rows { IfOk result (λ table. rows table ≡ rows_of (map name_behind names.now)) }
+    requires distinct { AreDistinct (map name_view names.now) }
+    ensures rows { IfOk result (λ table. rows table ≡ rows_of (map name_view names.now)) }
 {
     let mut table = Table::with_capacity(alloc, names.len())?;
     for name in names {
@@ -48,9 +48,9 @@ fn scope_table<'a>(
 
 /// The places of the names of a scope, in the order in which the definitions are resolved.
 fn scope_order(alloc: Global, names: &[ScopeName<'_, '_>]) -> ParseResult<Vec<usize>>
-    requires distinct { AreDistinct (map name_behind names.now) }
-    ensures order { IfOk result (λ places. IsOrder (rows_of (map name_behind names.now)) places.items) }
-    ensures first { FindsBy (IsTypeOrderFault (map name_behind names.now)) result }
+    requires distinct { AreDistinct (map name_view names.now) }
+    ensures order { IfOk result (λ places. IsOrder (rows_of (map name_view names.now)) places.items) }
+    ensures first { FindsBy (IsTypeOrderFault (map name_view names.now)) result }
 {
     let table = scope_table(alloc, names)?;
     match order_places(alloc, &table) {
@@ -74,7 +74,7 @@ fn turn_of<'t, 'a>(
     definitions: Vec<DefinedName<'t, 'a>>,
 ) -> Result<Turn<'t, 'a>, AllocError>
     ensures definitions { IfOk result (λ turn. turn.definitions ≡ definitions.entry) }
-    ensures ids { IfOk result (λ turn. turn.ids.items ≡ map the_local_id (map use_behind uses.now ++ map definition_behind definitions.entry.items)) }
+    ensures ids { IfOk result (λ turn. turn.ids.items ≡ map the_local_id (map use_view uses.now ++ map definition_view definitions.entry.items)) }
 {
     let mut ids = used_ids(alloc, uses, definitions.len())?;
     add_definition_ids(&mut ids, &definitions)?;
@@ -87,8 +87,8 @@ pub fn written_turn<'t, 'a>(
     names: &[ScopeName<'t, 'a>],
     uses: &[UsedName<'t, 'a>],
 ) -> Result<Turn<'t, 'a>, AllocError>
-    requires { map use_behind uses.now ≡ used (map name_behind names.now) }
-    ensures { IfOk result (λ turn. IsWritten (map name_behind names.now) (map definition_behind turn.definitions.items) turn.ids.items) }
+    requires { map use_view uses.now ≡ used (map name_view names.now) }
+    ensures { IfOk result (λ turn. IsWritten (map name_view names.now) (map definition_view turn.definitions.items) turn.ids.items) }
 {
     let written = definitions(alloc, names, uses.len())?;
     turn_of(alloc, uses, written)
@@ -99,9 +99,9 @@ fn sorted_definitions<'t, 'a>(
     alloc: Global,
     names: &[ScopeName<'t, 'a>],
 ) -> ParseResult<Vec<DefinedName<'t, 'a>>>
-    requires distinct { AreDistinct (map name_behind names.now) }
-    ensures ordered { IfOk result (λ ordered. AreOrdered (map name_behind names.now) (map definition_behind ordered.items)) }
-    ensures first { FindsBy (IsTypeOrderFault (map name_behind names.now)) result }
+    requires distinct { AreDistinct (map name_view names.now) }
+    ensures ordered { IfOk result (λ ordered. AreOrdered (map name_view names.now) (map definition_view ordered.items)) }
+    ensures first { FindsBy (IsTypeOrderFault (map name_view names.now)) result }
 {
     let places = scope_order(alloc, names)?;
     let ordered = in_order(alloc, names, &places)?;
@@ -110,7 +110,7 @@ fn sorted_definitions<'t, 'a>(
 
 /// Whether each name of a scope needs none.
 fn need_none(alloc: Global, names: &[ScopeName<'_, '_>]) -> Result<bool, AllocError>
-    ensures { IfOk result (λ none. MatchBool none (NeedNone (map name_behind names.now)) (NeedNone (map name_behind names.now) → ⊥)) }
+    ensures { IfOk result (λ none. MatchBool none (NeedNone (map name_view names.now)) (NeedNone (map name_view names.now) → ⊥)) }
 {
     for name in names {
         let needed = needed_ids(alloc, name)?;
@@ -129,11 +129,11 @@ pub fn ordered_turn<'t, 'a>(
     uses: &[UsedName<'t, 'a>],
     written: Turn<'t, 'a>,
 ) -> ParseResult<Turn<'t, 'a>>
-    requires distinct { AreDistinct (map name_behind names.now) }
-    requires uses { map use_behind uses.now ≡ used (map name_behind names.now) }
-    requires written { IsWritten (map name_behind names.now) (map definition_behind written.definitions.items) written.ids.items }
-    ensures turn { IfOk result (λ turn. IsTurnOf (map name_behind names.now) (map definition_behind turn.definitions.items) turn.ids.items) }
-    ensures first { FindsBy (IsTypeOrderFault (map name_behind names.now)) result }
+    requires distinct { AreDistinct (map name_view names.now) }
+    requires uses { map use_view uses.now ≡ used (map name_view names.now) }
+    requires written { IsWritten (map name_view names.now) (map definition_view written.definitions.items) written.ids.items }
+    ensures turn { IfOk result (λ turn. IsTurnOf (map name_view names.now) (map definition_view turn.definitions.items) turn.ids.items) }
+    ensures first { FindsBy (IsTypeOrderFault (map name_view names.now)) result }
 {
     if need_none(alloc, names)? {
         return Ok(written);

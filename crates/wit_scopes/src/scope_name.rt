@@ -4,8 +4,8 @@ ghost use Rattle.std.specs.Option.{unwrap_or};
 ghost use Rattle.wit_syntax.specs.Address.{Address};
 ghost use Rattle.wit_syntax.specs.Source.{Used, local_id as the_local_id};
 ghost use Rattle.wit_syntax.specs.Scope.{used, defined};
-ghost use Rattle.wit_scopes.specs.Held.{source_behind, name_behind, use_behind, definition_behind, IsPlaced, ArePlaced};
-ghost use Rattle.wit_scopes.specs.Front.{AreNamesPlaced};
+ghost use Rattle.wit_scopes.specs.Borrowed.{source_view, name_view, use_view, definition_view, IsPlaced, ArePlaced};
+ghost use Rattle.wit_scopes.specs.PlacedNames.{AreNamesPlaced};
 
 use std::alloc::{AllocError, Global};
 use wit_tree::tree::{Attribute, Id, PackageName, TypeDef, UseName};
@@ -62,8 +62,8 @@ pub fn add_used_names<'t, 'a>(
     attributes: &'t [Attribute<'a>],
     used: &'t [UseName<'a>],
 ) -> Result<(), AllocError>
-    ensures names { OnOk result (map name_behind names.new.items ≡ map name_behind names.old.items ++ map (Used (source_behind from.now) attributes.now) used.now) }
-    ensures placed { OnOk result ((front : List Address) → IsPlaced front from.now → AreNamesPlaced front names.old.items → AreNamesPlaced front names.new.items) }
+    ensures names { OnOk result (map name_view names.new.items ≡ map name_view names.old.items ++ map (Used (source_view from.now) attributes.now) used.now) }
+    ensures placed { OnOk result ((prefix : List Address) → IsPlaced prefix from.now → AreNamesPlaced prefix names.old.items → AreNamesPlaced prefix names.new.items) }
 {
     for name in used {
         let from = *from;
@@ -81,8 +81,8 @@ pub fn used_names<'t, 'a>(
     alloc: Global,
     names: &[ScopeName<'t, 'a>],
 ) -> Result<Vec<UsedName<'t, 'a>>, AllocError>
-    ensures uses { IfOk result (λ uses. map use_behind uses.items ≡ used (map name_behind names.now)) }
-    ensures placed { IfOk result (λ uses. (front : List Address) → AreNamesPlaced front names.now → ArePlaced front uses.items) }
+    ensures uses { IfOk result (λ uses. map use_view uses.items ≡ used (map name_view names.now)) }
+    ensures placed { IfOk result (λ uses. (prefix : List Address) → AreNamesPlaced prefix names.now → ArePlaced prefix uses.items) }
 {
     let mut uses = Vec::new(alloc);
     for name in names {
@@ -99,7 +99,7 @@ pub(crate) fn definitions<'t, 'a>(
     names: &[ScopeName<'t, 'a>],
     used: usize,
 ) -> Result<Vec<DefinedName<'t, 'a>>, AllocError>
-    ensures { IfOk result (λ definitions. map definition_behind definitions.items ≡ defined (map name_behind names.now)) }
+    ensures { IfOk result (λ definitions. map definition_view definitions.items ≡ defined (map name_view names.now)) }
 {
     let mut definitions = Vec::with_capacity(alloc, names.len().saturating_sub(used))?;
     for name in names {
@@ -110,7 +110,7 @@ pub(crate) fn definitions<'t, 'a>(
     Ok(definitions)
 }
 
-/// The name that a used one goes by: that behind `as`, or its own.
+/// The name that a used one goes by: that after `as`, or its own.
 pub fn local_of<'a>(name: &UseName<'a>) -> Id<'a>
     ensures { result ≡ unwrap_or name.now.as_ name.now.name }
 {
@@ -119,7 +119,7 @@ pub fn local_of<'a>(name: &UseName<'a>) -> Id<'a>
 
 /// The name that a name of a scope goes by.
 pub fn local_id<'a>(name: &ScopeName<'_, 'a>) -> Id<'a>
-    ensures { result ≡ the_local_id (name_behind name.now) }
+    ensures { result ≡ the_local_id (name_view name.now) }
 {
     match name {
         ScopeName::Used(used) => local_of(used.name),

@@ -13,7 +13,7 @@ use Rattle.wit_model.specs.Worlds.{function_of}
 use Rattle.wit_functions.proofs.Pairs.{in_turn-placed}
 use Rattle.wit_syntax.specs.Repeats.{AllDiffer}
 use Rattle.wit_syntax.proofs.Names.{name_equal}
-use Rattle.wit_functions.specs.Told.{HaveOwnNames}
+use Rattle.wit_functions.specs.MaybeFunction.{HaveOwnNames}
 use Rattle.wit_setters.proofs.Keys.{in_turn_differ}
 use Rattle.wit_setters.proofs.OwnNames.{AtNames, own_names}
 

@@ -1,4 +1,4 @@
--- Where each setter stands behind its getter, all stay where they are.
+-- Where each setter comes after its getter, all stay where they are.
 use Rattle.std.proofs.Common.{◌≡◌, ℕ, zero, suc, ◌<◌, Bool, true, false, List, [], ◌∷◌, Option, Some, None, length, inl, inr, refl, sym, ap, ◌∙◌, arith}
 use Rattle.std.specs.Prelude.{map, slice_get, if◌then◌else◌}
 use Rattle.std.specs.List.{flat_map, list_any}
@@ -10,11 +10,11 @@ use Rattle.wit_functions.specs.declared.function.Function.{Function}
 use Rattle.wit_syntax.specs.Repeats.{AllDiffer}
 use Rattle.wit_syntax.proofs.Names.{name_equal}
 use Rattle.wit_setters.specs.Paired.{ArePaired}
-use Rattle.wit_functions.specs.Told.{is_setter, offered, wanted}
+use Rattle.wit_functions.specs.MaybeFunction.{is_setter, offered, wanted}
 use Rattle.wit_functions.proofs.GetterNames.{goes_wanted, same_as_none, wants_none}
 use Rattle.wit_setters.proofs.NoSetters.{each_alone}
 
--- no item goes with one behind it
+-- no item goes with one after it
 abbrev NoneWaits : {X : Type 0} → (X → X → Bool) → List X → Type 0
 NoneWaits {X} test es = (i j : ℕ) (s g : X) → i < j → slice_get es i ≡ Some s → slice_get es j ≡ Some g → test s g ≡ false
 
@@ -25,16 +25,16 @@ none_passes : {X : Type 0} (test : X → Bool) (es : List X) → ((j : ℕ) (g :
 none_passes test [] h = refl
 none_passes test (e ∷ es) h = rw (h 0 e refl) (none_passes test es (λ j g at. h (suc j) g at))
 
-none_behind : {X : Type 0} (test : X → X → Bool) (e : X) (es : List X) → NoneWaits test (e ∷ es) → list_any (test e) es ≡ false
-none_behind test e es h = none_passes (test e) es (λ j g at. h 0 (suc j) e g (omega arith) refl at)
+none_after : {X : Type 0} (test : X → X → Bool) (e : X) (es : List X) → NoneWaits test (e ∷ es) → list_any (test e) es ≡ false
+none_after test e es h = none_passes (test e) es (λ j g at. h 0 (suc j) e g (omega arith) refl at)
 
 early_empty : {X : Type 0} (test : X → X → Bool) (es : List X) → NoneWaits test es → early test es ≡ []
 early_empty test [] h = refl
-early_empty test (e ∷ es) h = rw (none_behind test e es h) (early_empty test es (waits_tail test e es h))
+early_empty test (e ∷ es) h = rw (none_after test e es h) (early_empty test es (waits_tail test e es h))
 
 others_all : {X : Type 0} (test : X → X → Bool) (es : List X) → NoneWaits test es → others test es ≡ es
 others_all test [] h = refl
-others_all test (e ∷ es) h = rw (none_behind test e es h) (ap (λ l. e ∷ l) (others_all test es (waits_tail test e es h)))
+others_all test (e ∷ es) h = rw (none_after test e es h) (ap (λ l. e ∷ l) (others_all test es (waits_tail test e es h)))
 
 none_moves : {X : Type 0} (test : X → X → Bool) (es : List X) → NoneWaits test es → setters_placed test es ≡ es
 none_moves test es h =

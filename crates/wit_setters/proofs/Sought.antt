@@ -1,4 +1,4 @@
--- An entry that passes is sought from the front of a list.
+-- An entry that passes is sought from the prefix of a list.
 use Rattle.std.proofs.Common.{◌≡◌, ℕ, zero, suc, ◌<◌, ◌≤◌, Bool, true, false, ◌||◌, List, [], ◌∷◌, length, slice_get, Some, refl, ap, ◌∙◌, arith, unwrap_or}
 use Rattle.std.specs.List.{list_any}
 

@@ -1,4 +1,4 @@
-//! Setters of an interface or of a side of a world, put behind their getters.
+//! Setters of an interface or of a side of a world, put after their getters.
 #![tactic(auto)]
 
 mod paired;

@@ -1,13 +1,13 @@
-//! Whether each setter stands directly behind its getter already.
+//! Whether each setter comes directly after its getter already.
 ghost use Rattle.std.specs.Prelude.{◌≡◌, ◌<◌, length, IsTrue};
 ghost use Rattle.std.specs.Option.{option_copied};
-ghost use Rattle.wit_functions.specs.Setters.{fronts as the_fronts, goes_on_alike, is_getter_of, is_same_text};
+ghost use Rattle.wit_functions.specs.Setters.{prefixes as the_prefixes, goes_on_alike, is_getter_of, is_same_text};
 ghost use Rattle.wit_setters.specs.Paired.{ArePaired, IsPaired};
 
-use wit_functions::told::is_setter;
+use wit_functions::maybe_function::is_setter;
 use wit_model::Function;
-use wit_model::setters::{fronts, is_getter};
-use wit_names::front::behind;
+use wit_model::setters::{is_getter, prefixes};
+use wit_names::prefix::rest_after;
 
 fn is_same_text(a: Option<&str>, b: Option<&str>) -> bool
     ensures { result ≡ is_same_text (option_copied a.entry) (option_copied b.entry) }
@@ -21,15 +21,15 @@ fn is_same_text(a: Option<&str>, b: Option<&str>) -> bool
     }
 }
 
-/// Whether the name of a setter goes on behind its front as another name does behind that of the
+/// Whether the name of a setter goes on after its prefix as another name does after that of the
 /// setter's getter.
 fn goes_on_alike(setter: &Function, getter: &Function) -> bool
-    ensures { result ≡ goes_on_alike (the_fronts setter.now.kind) setter.now.name getter.now.name }
+    ensures { result ≡ goes_on_alike (the_prefixes setter.now.kind) setter.now.name getter.now.name }
 {
-    match fronts(setter.kind) {
+    match prefixes(setter.kind) {
         Some((set, get)) => is_same_text(
-            behind(setter.name.as_str(), set),
-            behind(getter.name.as_str(), get),
+            rest_after(setter.name.as_str(), set),
+            rest_after(getter.name.as_str(), get),
         ),
         None => false,
     }
@@ -42,7 +42,7 @@ fn is_getter_of(setter: &Function, getter: &Function) -> bool
     is_getter(getter.kind) && goes_on_alike(setter, getter)
 }
 
-/// Whether the function at a place is no setter, or stands directly behind its getter.
+/// Whether the function at a place is no setter, or comes directly after its getter.
 fn is_paired(functions: &[Function], place: usize) -> bool
     requires { place < length functions.now }
     ensures { IsTrue result → IsPaired functions.now place }
@@ -57,7 +57,7 @@ fn is_paired(functions: &[Function], place: usize) -> bool
     is_getter_of(function, &functions[place - 1])
 }
 
-/// Whether each setter stands directly behind its getter.
+/// Whether each setter comes directly after its getter.
 pub(crate) fn are_paired(functions: &[Function]) -> bool
     ensures { IsTrue result → ArePaired functions.now }
 {

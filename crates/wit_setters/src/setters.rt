@@ -1,15 +1,15 @@
-//! Setters of an interface that are written before their getters, put directly behind them.
+//! Setters of an interface that are written before their getters, put directly after them.
 ghost use Rattle.std.specs.Prelude.{◌≡◌, IfOk, map};
 ghost use Rattle.wit_functions.specs.Setters.{is_getter_of, setters_placed};
 ghost use Rattle.wit_syntax.specs.Repeats.{AllDiffer};
 
 use crate::paired::are_paired;
 use std::alloc::{AllocError, Global};
-use wit_functions::items::behind_getters;
+use wit_functions::items::after_getters;
 use wit_model::Function;
 
-/// Functions, where each setter that stands before its getter stands directly behind it instead.
-pub fn setters_behind_getters(
+/// Functions, where each setter that comes before its getter comes directly after it instead.
+pub fn setters_after_getters(
     alloc: Global,
     functions: Vec<Function>,
 ) -> Result<Vec<Function>, AllocError>
@@ -19,6 +19,6 @@ pub fn setters_behind_getters(
     if are_paired(&functions) {
         return Ok(functions);
     }
-    let placed = behind_getters(alloc, functions)?;
+    let placed = after_getters(alloc, functions)?;
     Ok(placed)
 }

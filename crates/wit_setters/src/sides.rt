@@ -1,4 +1,4 @@
-//! Setters of a side of a world that stand before their getters, put directly behind them.
+//! Setters of a side of a world that come before their getters, put directly after them.
 ghost use Rattle.std.specs.Prelude.{◌≡◌, ℕ, Some, IfOk, map, slice_get};
 ghost use Rattle.std.specs.List.{list_any};
 ghost use Rattle.wit_functions.specs.Setters.{placed};
@@ -8,13 +8,13 @@ ghost use Rattle.wit_model.specs.declared.world.WorldItem.{WorldItem as TheItem}
 ghost use Rattle.wit_model.specs.declared.world.WorldKey.{WorldKey as TheKey};
 ghost use Rattle.wit_model.specs.declared.world.WorldKey.TheVariants.{Name};
 ghost use Rattle.wit_syntax.specs.Repeats.{AllDiffer};
-ghost use Rattle.wit_functions.specs.Told.{is_setter as is_a_setter};
+ghost use Rattle.wit_functions.specs.MaybeFunction.{is_setter as is_a_setter};
 
 use std::alloc::{AllocError, Global};
-use wit_functions::items::behind_getters;
-use wit_functions::told::is_setter;
-use wit_model::{WorldItem, WorldKey, world_item_func};
+use wit_functions::items::after_getters;
+use wit_functions::maybe_function::is_setter;
 use wit_maps::Table;
+use wit_model::{WorldItem, WorldKey, world_item_func};
 
 /// Whether an item is a setter.
 fn is_setter_item(item: &WorldItem) -> bool
@@ -37,8 +37,8 @@ fn have_setter(side: &Table<WorldKey, WorldItem>) -> bool
     false
 }
 
-/// A side of a world, where each setter that stands before its getter stands directly behind it
-/// instead. All else keeps its order. A function stands at its name.
+/// A side of a world, where each setter that comes before its getter comes directly after it
+/// instead. All else keeps its order. A function is at its name.
 pub fn place_setters(
     alloc: Global,
     side: Table<WorldKey, WorldItem>,
@@ -51,7 +51,7 @@ pub fn place_setters(
         return Ok(side);
     }
     let entries = side.into_entries();
-    let placed = behind_getters(alloc, entries)?;
+    let placed = after_getters(alloc, entries)?;
     let table = Table::from_entries(alloc, placed)?;
     Ok(table)
 }

@@ -2,14 +2,14 @@
 use Rattle.std.specs.Prelude.{List, [], ◌∷◌, if◌then◌else◌}
 use Rattle.wit_tree.specs.declared.tree.WorldSide.{WorldSide}
 use Rattle.wit_tree.specs.declared.tree.WorldSide.TheVariants.{Imported, Exported}
-use Rattle.wit_syntax.specs.Crossing.{same_side}
+use Rattle.wit_syntax.specs.ExternPart.{same_side}
 use Rattle.wit_refusals.specs.Names.{Name}
 use Rattle.wit_sides.specs.declared.sides.Sides.{Sides}
 
 -- the names on a side
-abbrev pub taken_on : WorldSide → Sides → List Name
-taken_on Imported s = s.imports
-taken_on Exported s = s.exports
+abbrev pub defined_on : WorldSide → Sides → List Name
+defined_on Imported s = s.imports
+defined_on Exported s = s.exports
 
 -- what a name on one side adds to a side
 abbrev pub only_on : WorldSide → WorldSide → Name → List Name

@@ -1,4 +1,4 @@
--- Parameters and results over their types, one behind the other.
+-- Parameters and results over their types, one after the other.
 use Rattle.std.proofs.Common.{◌≡◌, ◌≤◌, ℕ, zero, suc, List, [], ◌∷◌, ◌++◌, length, map, Option, Some, None, inl, inr, refl, sym, ap, ◌∙◌, subst, arith, append_assoc, length-append}
 use Rattle.std.specs.Prelude.{slice_get}
 use Rattle.std.proofs.lemmas.List.{map-append}
@@ -24,12 +24,12 @@ use Rattle.wit_arena.specs.Adding.{AreShapes, SaysParam}
 use Rattle.wit_arena.specs.Resolving.{Env, IsInterned}
 use Rattle.wit_arena.proofs.AddingFunctions.{shapes_none, shapes_one, shapes_append}
 use Rattle.wit_syntax.proofs.Lists.{at_split}
-use Rattle.wit_rules.specs.declared.held.HeldFunction.{HeldFunction}
-use Rattle.wit_rules.specs.declared.held.HeldFunction.TheVariants as held
-use Rattle.wit_rules.specs.Held.{function_behind, given_of}
+use Rattle.wit_rules.specs.declared.borrowed.BorrowedFunction.{BorrowedFunction}
+use Rattle.wit_rules.specs.declared.borrowed.BorrowedFunction.TheVariants as borrowed
+use Rattle.wit_rules.specs.Borrowed.{function_view, given_of}
 use Rattle.wit_entries.specs.Reading.{IsResolved}
 use Rattle.wit_rules.specs.Signatures.{AreParamsOver, IsResultOver, IsBrokenResult}
-use Rattle.wit_entries.proofs.Reading.{alone, resolved_word, whole_stands}
+use Rattle.wit_entries.proofs.Reading.{alone, resolved_word, whole_present}
 use Rattle.wit_signatures.proofs.SignatureTypes.{result_shape}
 
 params_none : (es : List TypeDef) (env : Env) → AreParamsOver es es env [] []
@@ -70,16 +70,16 @@ params_append old mid new env ws vs ps qs p q = record {
 
 -- one more of the written ones
 pub params_more : (first mid new : List TypeDef) (env : Env) (ws : List SourceParam) (done all : List WrittenParam) (item : WrittenParam) (ps qs : List Param) (p : Param) (ty : Ty) → all ≡ done ++ item ∷ [] → qs ≡ ps ++ p ∷ [] → p.name ≡ item.name.name.now → p.span ≡ item.name.span → p.ty ≡ ty → IsResolved mid new env Unknown (shape_of item.ty) ty → AreParamsOver first mid env (ws ++ map written_param done) ps → AreParamsOver first new env (ws ++ map written_param all) qs
-params_more first mid new env ws done all item ps qs p ty taken pushed name span same is h =
+params_more first mid new env ws done all item ps qs p ty in_use pushed name span same is h =
     let w = written_param item in
     let one = params_one mid new env w p (name, span) (subst (IsResolved mid new env Unknown (shape_of item.ty)) (sym same) is) in
     let both = params_append first mid new env (ws ++ map written_param done) (w ∷ []) ps (p ∷ []) h one in
-    let written : (ws ++ map written_param done) ++ w ∷ [] ≡ ws ++ map written_param all = append_assoc ws (map written_param done) (w ∷ []) ∙ ap (λ (l : List SourceParam). ws ++ l) (sym (map-append written_param done (item ∷ []))) ∙ ap (λ (l : List WrittenParam). ws ++ map written_param l) (sym taken) in
+    let written : (ws ++ map written_param done) ++ w ∷ [] ≡ ws ++ map written_param all = append_assoc ws (map written_param done) (w ∷ []) ∙ ap (λ (l : List SourceParam). ws ++ l) (sym (map-append written_param done (item ∷ []))) ∙ ap (λ (l : List WrittenParam). ws ++ map written_param l) (sym in_use) in
     subst (AreParamsOver first new env (ws ++ map written_param all)) (sym pushed) (subst (λ (l : List SourceParam). AreParamsOver first new env l (ps ++ p ∷ [])) written both)
 
 -- the type of a method's first parameter, once it is interned
-pub self_stands : (old new : List TypeDef) (env : Env) (r : Id) (word : Span) (place i : ℕ) → env r.name.now ≡ Some place → IsInterned old new (kind.Handle (handle.Borrow place)) Unknown word i → IsResolved old new env Unknown (self_param r word).shape (type.Id i)
-self_stands old new env r word place i found interned = whole_stands old old new env Unknown (self_param r word).shape (kind.Handle (handle.Borrow place)) word i (refl, refl, tt, alone Unknown (Word r) (resolved_word old env Unknown r place found)) interned
+pub self_present : (old new : List TypeDef) (env : Env) (r : Id) (word : Span) (place i : ℕ) → env r.name.now ≡ Some place → IsInterned old new (kind.Handle (handle.Borrow place)) Unknown word i → IsResolved old new env Unknown (self_param r word).shape (type.Id i)
+self_present old new env r word place i found interned = whole_present old old new env Unknown (self_param r word).shape (kind.Handle (handle.Borrow place)) word i (refl, refl, tt, alone Unknown (Word r) (resolved_word old env Unknown r place found)) interned
 
 result_one : (old new : List TypeDef) (env : Env) (x : Shape) (t : Ty) → IsResolved old new env Unknown x t → IsResultOver old new env (Some x) (Some t)
 result_one old new env x t is = record { types = λ s. shapes_one old new s env x t (is s) }
@@ -90,45 +90,45 @@ no_result xs fn f none (inl h) = none-some h.1 (sym none ∙ h.2)
 no_result xs fn f none (inr (inl h)) = none-some h.2 (sym none ∙ h.3)
 no_result xs fn f none (inr (inr h)) = none-some h.2 (sym none ∙ h.3)
 
--- a written result stands for a type
-pub result_behind : (old new : List TypeDef) (env : Env) (h : HeldFunction) (t : Written) (ty : Ty) → (function_behind h).func.result ≡ Some t → IsResolved old new env Unknown (shape_of t) ty → IsResultOver old new env (function_behind h).result (Some ty)
-result_behind old new env h t ty written is = subst (λ (x : Option Shape). IsResultOver old new env x (Some ty)) (sym (result_shape h t written)) (result_one old new env (shape_of t) ty is)
+-- a written result means a type
+pub result_view : (old new : List TypeDef) (env : Env) (h : BorrowedFunction) (t : Written) (ty : Ty) → (function_view h).func.result ≡ Some t → IsResolved old new env Unknown (shape_of t) ty → IsResultOver old new env (function_view h).result (Some ty)
+result_view old new env h t ty written is = subst (λ (x : Option Shape). IsResultOver old new env x (Some ty)) (sym (result_shape h t written)) (result_one old new env (shape_of t) ty is)
 
 -- a method is given its resource, and no other function is given anything
-given_resource : (h : HeldFunction) (r : Id) → given_of (function_behind h).role ≡ Some r → (function_behind h).given ≡ self_param r (function_behind h).func.span ∷ []
-given_resource (held.Free f) r is = absurd (let x : ⊥ = cc in x)
-given_resource (held.Across side docs attributes name f) r is = absurd (let x : ⊥ = cc in x)
-given_resource (held.Of of f) r is = by f.now is
+given_resource : (h : BorrowedFunction) (r : Id) → given_of (function_view h).role ≡ Some r → (function_view h).given ≡ self_param r (function_view h).func.span ∷ []
+given_resource (borrowed.Free f) r is = absurd (let x : ⊥ = cc in x)
+given_resource (borrowed.Across side docs attributes name f) r is = absurd (let x : ⊥ = cc in x)
+given_resource (borrowed.Of of f) r is = by f.now is
   where
     by : (g : ResourceFunc) → given_of (resource_function of g).role ≡ Some r → (resource_function of g).given ≡ self_param r (resource_function of g).func.span ∷ []
     by (resource.Method m) is = let same : of ≡ r = cc in ap (λ (x : Id). self_param x m.func.span ∷ []) same
     by (resource.Static m) is = absurd (let x : ⊥ = cc in x)
     by (resource.Constructor docs attributes span params result) is = absurd (let x : ⊥ = cc in x)
 
-given_nothing : (h : HeldFunction) → given_of (function_behind h).role ≡ None → (function_behind h).given ≡ []
-given_nothing (held.Free f) is = refl
-given_nothing (held.Across side docs attributes name f) is = refl
-given_nothing (held.Of of f) is = by f.now is
+given_nothing : (h : BorrowedFunction) → given_of (function_view h).role ≡ None → (function_view h).given ≡ []
+given_nothing (borrowed.Free f) is = refl
+given_nothing (borrowed.Across side docs attributes name f) is = refl
+given_nothing (borrowed.Of of f) is = by f.now is
   where
     by : (g : ResourceFunc) → given_of (resource_function of g).role ≡ None → (resource_function of g).given ≡ []
     by (resource.Method m) is = absurd (let x : ⊥ = cc in x)
     by (resource.Static m) is = refl
     by (resource.Constructor docs attributes span params result) is = refl
 
-pub given_one : (old new : List TypeDef) (env : Env) (h : HeldFunction) (r : Id) (word : Span) (p : Param) (before ps : List Param) → given_of (function_behind h).role ≡ Some r → word ≡ (function_behind h).func.span → before ≡ [] → ps ≡ before ++ p ∷ [] → SaysParam (self_param r word) p → IsResolved old new env Unknown (self_param r word).shape p.ty → AreParamsOver old new env (function_behind h).given ps
+pub given_one : (old new : List TypeDef) (env : Env) (h : BorrowedFunction) (r : Id) (word : Span) (p : Param) (before ps : List Param) → given_of (function_view h).role ≡ Some r → word ≡ (function_view h).func.span → before ≡ [] → ps ≡ before ++ p ∷ [] → SaysParam (self_param r word) p → IsResolved old new env Unknown (self_param r word).shape p.ty → AreParamsOver old new env (function_view h).given ps
 given_one old new env h r word p before ps given there empty pushed says is =
     let only : ps ≡ p ∷ [] = pushed ∙ ap (λ (l : List Param). l ++ p ∷ []) empty in
-    let written : self_param r word ∷ [] ≡ (function_behind h).given = ap (λ (at : Span). self_param r at ∷ []) there ∙ sym (given_resource h r given) in
-    subst (AreParamsOver old new env (function_behind h).given) (sym only) (subst (λ (l : List SourceParam). AreParamsOver old new env l (p ∷ [])) written (params_one old new env (self_param r word) p says is))
+    let written : self_param r word ∷ [] ≡ (function_view h).given = ap (λ (at : Span). self_param r at ∷ []) there ∙ sym (given_resource h r given) in
+    subst (AreParamsOver old new env (function_view h).given) (sym only) (subst (λ (l : List SourceParam). AreParamsOver old new env l (p ∷ [])) written (params_one old new env (self_param r word) p says is))
 
-pub given_none : (es : List TypeDef) (env : Env) (h : HeldFunction) (ps : List Param) → given_of (function_behind h).role ≡ None → ps ≡ [] → AreParamsOver es es env (function_behind h).given ps
-given_none es env h ps given empty = subst (AreParamsOver es es env (function_behind h).given) (sym empty) (subst (λ (l : List SourceParam). AreParamsOver es es env l []) (sym (given_nothing h given)) (params_none es env))
+pub given_none : (es : List TypeDef) (env : Env) (h : BorrowedFunction) (ps : List Param) → given_of (function_view h).role ≡ None → ps ≡ [] → AreParamsOver es es env (function_view h).given ps
+given_none es env h ps given empty = subst (AreParamsOver es es env (function_view h).given) (sym empty) (subst (λ (l : List SourceParam). AreParamsOver es es env l []) (sym (given_nothing h given)) (params_none es env))
 
 -- a function is given one parameter at most
-pub given_few : (h : HeldFunction) → length (function_behind h).given ≤ 1
-given_few (held.Free f) = omega arith
-given_few (held.Across side docs attributes name f) = omega arith
-given_few (held.Of r f) = few f.now
+pub given_few : (h : BorrowedFunction) → length (function_view h).given ≤ 1
+given_few (borrowed.Free f) = omega arith
+given_few (borrowed.Across side docs attributes name f) = omega arith
+given_few (borrowed.Of r f) = few f.now
   where
     few : (g : ResourceFunc) → length (resource_function r g).given ≤ 1
     few (resource.Method f) = omega arith

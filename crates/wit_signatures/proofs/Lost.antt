@@ -1,4 +1,4 @@
--- Names in signatures that stand for nothing: those of functions, and others.
+-- Names in signatures that mean nothing: those of functions, and others.
 use Rattle.std.proofs.Common.{◌≡◌, ◌<◌, ◌≤◌, ◌+◌, ℕ, List, Some, inl, inr, refl, sym, ap, ◌∙◌, subst, arith}
 use Rattle.std.specs.Prelude.{slice_get}
 use Rattle.std.proofs.lemmas.Bool.{cases_lt}
@@ -8,7 +8,7 @@ use Rattle.wit_type_tree.specs.declared.error.ParseErrorKind.{ParseErrorKind}
 use Rattle.wit_type_tree.specs.declared.types.«Type».{«Type» as Written}
 use Rattle.wit_type_tree.specs.declared.types.«Type».TheVariants as written
 use Rattle.wit_types.specs.declared.types.TypeDef.{TypeDef}
-use Rattle.wit_syntax.specs.Fault.{Fault, fault_of, told}
+use Rattle.wit_syntax.specs.Fault.{Fault, fault_of, as_stated}
 use Rattle.wit_syntax.specs.Function.{Role, Freestanding, Method, Static, Constructor, OnSide, SourceFunction}
 use Rattle.wit_syntax.specs.Bodies.{IsBrokenForm, IsBrokenType, Itself, Inside}
 use Rattle.wit_syntax.specs.Broken.{Refused}
@@ -25,7 +25,7 @@ pub none_free-more : (fns : List SourceFunction) (i j : ℕ) (name : List ℕ) (
 none_free-more fns i j name fn next at own h = record {
   none = λ k g lt there free. elim (cases_lt k i) [
     | inl before ↦ h.none k g before there free
-    | inr behind ↦ (
+    | inr rest_after ↦ (
         let here : k ≡ i = omega arith in
         let both : Some fn ≡ Some g = sym at ∙ ap (slice_get fns) (sym here) ∙ there in
         let one : fn ≡ g = cc in
@@ -62,7 +62,7 @@ broken_type-rule t f (Inside {t = part} among broken) is = broken_type-rule part
 
 -- under the number of a missing type a refusal is one of a name
 unknown_in : (env : Env) (es : List TypeDef) (t : Written) (e : ParseError) → (fault_of e).rule ≡ 15 → Refused (IsWrongType env es t) e → IsUnknown env (words (shape_of t)) (fault_of e)
-unknown_in env es t e is (inl want) = absurd (let same : (fault_of e).rule ≡ e.rule = ap (λ (k : ParseErrorKind). (told e.rule k).rule) want.kind in let it = want.rule in let f : ⊥ = omega arith in f)
+unknown_in env es t e is (inl want) = absurd (let same : (fault_of e).rule ≡ e.rule = ap (λ (k : ParseErrorKind). (as_stated e.rule k).rule) want.kind in let it = want.rule in let f : ⊥ = omega arith in f)
 unknown_in env es t e is (inr (inl broken)) = absurd (broken_type-rule t (fault_of e) broken is)
 unknown_in env es t e is (inr (inr (inl unknown))) = unknown
 unknown_in env es t e is (inr (inr (inr handle))) = absurd (let it = ap (λ (x : Fault). x.rule) handle.is in let f : ⊥ = omega arith in f)

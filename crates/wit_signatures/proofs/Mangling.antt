@@ -9,16 +9,16 @@ use Rattle.wit_type_tree.specs.declared.types.FuncForm.{FuncForm}
 use Rattle.wit_type_tree.specs.declared.types.FuncForm.TheVariants.{Plain, Async, Getter, Setter}
 use Rattle.wit_type_tree.specs.declared.types.ResourceFunc.{ResourceFunc}
 use Rattle.wit_type_tree.specs.declared.types.ResourceFunc.TheVariants as resource
-use Rattle.wit_names.specs.Front.{behind, passes}
+use Rattle.wit_names.specs.Prefix.{rest_after, passes}
 use Rattle.wit_names.specs.Label.{fragments, is_fragment, is_label, starts_with_letter}
 use Rattle.wit_names.specs.Mangled.{is_dotted, is_mangled}
-use Rattle.wit_names.specs.Setter.{getter_of, is_setter, with_front}
+use Rattle.wit_names.specs.Setter.{getter_of, is_setter, with_prefix}
 use Rattle.wit_names.proofs.Labels.{is_mangled-label}
 use Rattle.wit_names.proofs.MadeNames.{is_dotted-labels, is_mangled-get, is_mangled-set, is_mangled-constructor, is_mangled-method, is_mangled-method_get, is_mangled-method_set, is_mangled-static, is_mangled-static_get, is_mangled-static_set, is_setter-set, is_setter-method, is_setter-static}
 use Rattle.wit_syntax.specs.Function.{accessor, dotted, resource_function}
-use Rattle.wit_rules.specs.declared.held.HeldFunction.{HeldFunction}
-use Rattle.wit_rules.specs.declared.held.HeldFunction.TheVariants.{Free, Of, Across}
-use Rattle.wit_rules.specs.Held.{function_behind}
+use Rattle.wit_rules.specs.declared.borrowed.BorrowedFunction.{BorrowedFunction}
+use Rattle.wit_rules.specs.declared.borrowed.BorrowedFunction.TheVariants.{Free, Of, Across}
+use Rattle.wit_rules.specs.Borrowed.{function_view}
 
 -- a function by itself, of a resource, a static one
 mangled_free : (form : FuncForm) (id : Id) → is_mangled (accessor form ++ id.name.now) ≡ true
@@ -51,10 +51,10 @@ mangled_resource r (resource.Static f) = mangled_static f.func.form (dotted r f.
 mangled_resource r (resource.Constructor docs attributes span params result) = is_mangled-constructor r.name.now r.label
 
 -- the name of a function is mangled
-pub mangled_behind : (h : HeldFunction) → IsTrue (is_mangled (function_behind h).name)
-mangled_behind (Free f) = mangled_free f.now.func.form f.now.name
-mangled_behind (Of r f) = mangled_resource r f.now
-mangled_behind (Across side docs attributes name f) = mangled_free f.now.form name
+pub mangled_view : (h : BorrowedFunction) → IsTrue (is_mangled (function_view h).name)
+mangled_view (Free f) = mangled_free f.now.func.form f.now.name
+mangled_view (Of r f) = mangled_resource r f.now
+mangled_view (Across side docs attributes name f) = mangled_free f.now.form name
 
 -- a label begins with a letter, and so does what has one in front
 letter-label : (text : List ℕ) → is_label text ≡ true → starts_with_letter text ≡ true
@@ -88,14 +88,14 @@ pub no_setter-label : (text : List ℕ) → is_label text ≡ true → is_setter
 no_setter-label text h = no_setter-letter text (letter-label text h)
 
 -- the name of a setter's getter is no label
-no_label-with_front : (name : List ℕ) (set method static : Option (List ℕ)) → (passes is_label set || passes is_dotted method || passes is_dotted static) ≡ true → is_label (with_front (codes "[method][get]") method (with_front (codes "[static][get]") static (with_front (codes "[get]") set name))) ≡ false
-no_label-with_front name set (Some rest) static h = refl
-no_label-with_front name set None (Some rest) h = refl
-no_label-with_front name (Some rest) None None h = refl
-no_label-with_front name None None None h = (let wrong : false ≡ true = h in cc)
+no_label-with_prefix : (name : List ℕ) (set method static : Option (List ℕ)) → (passes is_label set || passes is_dotted method || passes is_dotted static) ≡ true → is_label (with_prefix (codes "[method][get]") method (with_prefix (codes "[static][get]") static (with_prefix (codes "[get]") set name))) ≡ false
+no_label-with_prefix name set (Some rest) static h = refl
+no_label-with_prefix name set None (Some rest) h = refl
+no_label-with_prefix name (Some rest) None None h = refl
+no_label-with_prefix name None None None h = (let wrong : false ≡ true = h in cc)
 
 pub no_label-getter_of : (name : List ℕ) → is_setter name ≡ true → is_label (getter_of name) ≡ false
-no_label-getter_of name h = no_label-with_front name (behind (codes "[set]") name) (behind (codes "[method][set]") name) (behind (codes "[static][set]") name) h
+no_label-getter_of name h = no_label-with_prefix name (rest_after (codes "[set]") name) (rest_after (codes "[method][set]") name) (rest_after (codes "[static][set]") name) h
 
 -- whether a form is that of setters
 abbrev is_set : FuncForm → Bool
@@ -130,10 +130,10 @@ set_resource r (resource.Method f) = set_method f.func.form (dotted r f.name) (l
 set_resource r (resource.Static f) = set_static f.func.form (dotted r f.name) (letter-dotted r f.name) (is_dotted-ids r f.name)
 set_resource r (resource.Constructor docs attributes span params result) = refl
 
-set_behind : (h : HeldFunction) → is_setter (function_behind h).name ≡ is_set (function_behind h).func.form
-set_behind (Free f) = set_free f.now.func.form f.now.name.name.now f.now.name.label
-set_behind (Of r f) = set_resource r f.now
-set_behind (Across side docs attributes name f) = set_free f.now.form name.name.now name.label
+set_view : (h : BorrowedFunction) → is_setter (function_view h).name ≡ is_set (function_view h).func.form
+set_view (Free f) = set_free f.now.func.form f.now.name.name.now f.now.name.label
+set_view (Of r f) = set_resource r f.now
+set_view (Across side docs attributes name f) = set_free f.now.form name.name.now name.label
 
 set_form : (form : FuncForm) → is_set form ≡ true → form ≡ Setter
 set_form Plain h = (let wrong : false ≡ true = h in cc)
@@ -142,8 +142,8 @@ set_form Getter h = (let wrong : false ≡ true = h in cc)
 set_form Setter h = refl
 
 -- a function is a setter exactly where its name is that of one
-pub setter_behind : (h : HeldFunction) → IsTrue (is_setter (function_behind h).name) → (function_behind h).func.form ≡ Setter
-setter_behind h sets = set_form (function_behind h).func.form (sym (set_behind h) ∙ sets)
+pub setter_view : (h : BorrowedFunction) → IsTrue (is_setter (function_view h).name) → (function_view h).func.form ≡ Setter
+setter_view h sets = set_form (function_view h).func.form (sym (set_view h) ∙ sets)
 
-pub sets_behind : (h : HeldFunction) → (function_behind h).func.form ≡ Setter → IsTrue (is_setter (function_behind h).name)
-sets_behind h setter = set_behind h ∙ ap is_set setter
+pub sets_view : (h : BorrowedFunction) → (function_view h).func.form ≡ Setter → IsTrue (is_setter (function_view h).name)
+sets_view h setter = set_view h ∙ ap is_set setter

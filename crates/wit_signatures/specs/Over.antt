@@ -1,4 +1,4 @@
--- What the signature of a function stands for, and where it breaks no rule.
+-- What the signature of a function means, and where it breaks no rule.
 use Rattle.std.specs.Prelude.{List, Option}
 use Rattle.wit_types.specs.declared.types.«Type».{«Type» as Ty}
 use Rattle.wit_types.specs.declared.types.TypeDef.{TypeDef}
@@ -17,7 +17,7 @@ pub record IsSignatureOver (old new : List TypeDef) (env : Env) (fn : SourceFunc
   pub params : AreParamsOver old mid env (all_params fn) ps
   pub result : IsResultOver mid new env fn.result t
 
--- a function's signature breaks no rule, whatever its names stand for
+-- a function's signature breaks no rule, whatever its names mean
 pub record IsLegalSignature (xs : List ScopeName) (fn : SourceFunction) : Type 0 where
   pub getter : (f : Fault) → IsGetterGiven fn f → ⊥
   pub setter : (f : Fault) → IsSetterGiven fn f → ⊥

@@ -1,7 +1,7 @@
 //! Functions over their resolved types.
 ghost use Rattle.std.specs.Prelude.{◌≡◌, ◌<◌, ◌≤◌, ◌⊎◌, ◌++◌, ◌+◌, ℕ, List, [], ◌∷◌, IfOk, IfErr, IsTrue, OnOk, None, Some, length, map, slice_get};
 ghost use Rattle.std.specs.Option.{option_to_list};
-ghost use Rattle.wit_type_tree.specs.Refusal.{IsWantOfMemory};
+ghost use Rattle.wit_type_tree.specs.Refusal.{IsAllocationFailure};
 ghost use Rattle.wit_types.specs.declared.types.TypeDef.{TypeDef as Entry};
 ghost use Rattle.wit_types.specs.declared.stability.Stability.TheVariants.{Unknown};
 ghost use Rattle.wit_names.specs.Mangled.{is_mangled};
@@ -19,25 +19,25 @@ ghost use Rattle.wit_arena.specs.Resolved.{IsNameless};
 ghost use Rattle.wit_arena.specs.Adding.{IsKindIn, SaysParam};
 ghost use Rattle.wit_signatures.specs.Over.{IsSignatureOver, IsLegalSignature};
 ghost use Rattle.wit_entries.specs.Reading.{IsResolved};
-ghost use Rattle.wit_entries.specs.Requiring.{IsGrown, Requires};
-ghost use Rattle.wit_rules.specs.Held.{function_behind, owner_of};
-ghost use Rattle.wit_rules.specs.Signatures.{functions_behind, HasOwner, HaveOwners, IsScopeOf, IsRefusedParam, AreParamsOver, IsResultOver, IsBrokenReturn, IsWrongInSignatures, IsWrongFunction};
+ghost use Rattle.wit_entries.specs.Requiring.{IsExtended, Requires};
+ghost use Rattle.wit_rules.specs.Borrowed.{function_view, owner_of};
+ghost use Rattle.wit_rules.specs.Signatures.{functions_view, HasOwner, HaveOwners, IsScopeOf, IsRefusedParam, AreParamsOver, IsResultOver, IsBrokenReturn, IsWrongInSignatures, IsWrongFunction};
 
 use crate::signatures::resolve_in_signature;
 use std::alloc::{AllocError, Global};
 use wit_entries::entries::Entries;
 use wit_entries::scope::Required;
 use wit_functions::{Function, FunctionKind, Param};
-use wit_notes::notes_of;
+use wit_maps::TextTable;
+use wit_notes::metadata_of;
+use wit_rules::borrowed::BorrowedFunction;
 use wit_rules::function_rules::{
     check_given, check_result, check_returns, refuse_param, repeated_param,
 };
 use wit_rules::function_scope::FunctionScope;
-use wit_rules::held::HeldFunction;
 use wit_tree::tree::{self, FuncForm, Id, ResourceFunc};
 use wit_tree::{ParseResult, Span};
 use wit_types::{Handle, Stability, Type, TypeDefKind, TypeId};
-use wit_maps::TextTable;
 use wit_values::{Row, Text};
 
 /// The kind of a function by itself.
@@ -88,20 +88,20 @@ fn place_of(names: &TextTable<TypeId>, resource: Id<'_>) -> TypeId
 }
 
 /// The kind of a function.
-fn kind_of(names: &TextTable<TypeId>, function: HeldFunction<'_, '_>) -> FunctionKind
-    requires { HasOwner (env_of names.now) (owner_of (function_behind function).role) }
-    ensures { IsKindIn (env_of names.now) (function_behind function.entry).role result }
+fn kind_of(names: &TextTable<TypeId>, function: BorrowedFunction<'_, '_>) -> FunctionKind
+    requires { HasOwner (env_of names.now) (owner_of (function_view function).role) }
+    ensures { IsKindIn (env_of names.now) (function_view function.entry).role result }
 {
     match function {
-        HeldFunction::Free(f) => freestanding(f.func.form),
-        HeldFunction::Across(_, _, _, _, f) => freestanding(f.form),
-        HeldFunction::Of(resource, ResourceFunc::Method(f)) => {
+        BorrowedFunction::Free(f) => freestanding(f.func.form),
+        BorrowedFunction::Across(_, _, _, _, f) => freestanding(f.form),
+        BorrowedFunction::Of(resource, ResourceFunc::Method(f)) => {
             method(f.func.form, place_of(names, resource))
         }
-        HeldFunction::Of(resource, ResourceFunc::Static(f)) => {
+        BorrowedFunction::Of(resource, ResourceFunc::Static(f)) => {
             static_function(f.func.form, place_of(names, resource))
         }
-        HeldFunction::Of(resource, ResourceFunc::Constructor { .. }) => {
+        BorrowedFunction::Of(resource, ResourceFunc::Constructor { .. }) => {
             FunctionKind::Constructor(place_of(names, resource))
         }
     }
@@ -120,7 +120,7 @@ fn param(alloc: Global, name: Id<'_>, ty: Type) -> Result<Param, AllocError>
     })
 }
 
-/// The first parameter of a method: its resource, lent, where the function stands.
+/// The first parameter of a method: its resource, lent, where the function is.
 fn self_param(
     alloc: Global,
     types: &mut Entries,
@@ -131,8 +131,8 @@ fn self_param(
     requires { HasOwner (env_of names.now) (Some resource) }
     ensures says { IfOk result (λ p. SaysParam (the_self resource.entry word) p) }
     ensures resolved { IfOk result (λ p. IsResolved types.old types.new (env_of names.now) Unknown (the_self resource.entry word).shape p.ty) }
-    ensures grown { IsGrown types.old types.new }
-    ensures refused { IfErr result IsWantOfMemory }
+    ensures extended { IsExtended types.old types.new }
+    ensures refused { IfErr result IsAllocationFailure }
 {
     let borrow = TypeDefKind::Handle(Handle::Borrow(place_of(names, resource)));
     let id = types.intern(borrow, &Stability::Unknown, word)?;
@@ -147,13 +147,13 @@ fn self_param(
 fn given_params(
     alloc: Global,
     names: &TextTable<TypeId>,
-    function: HeldFunction<'_, '_>,
+    function: BorrowedFunction<'_, '_>,
     types: &mut Entries,
 ) -> ParseResult<Vec<Param>>
-    requires { HasOwner (env_of names.now) (owner_of (function_behind function).role) }
-    ensures params { IfOk result (λ ps. AreParamsOver types.old types.new (env_of names.now) (function_behind function.entry).given ps.items) }
-    ensures grown { IsGrown types.old types.new }
-    ensures refused { IfErr result IsWantOfMemory }
+    requires { HasOwner (env_of names.now) (owner_of (function_view function).role) }
+    ensures params { IfOk result (λ ps. AreParamsOver types.old types.new (env_of names.now) (function_view function.entry).given ps.items) }
+    ensures extended { IsExtended types.old types.new }
+    ensures refused { IfErr result IsAllocationFailure }
 {
     let mut params = Vec::with_capacity(alloc, function.param_count())?;
     if let Some(resource) = function.given() {
@@ -162,7 +162,7 @@ fn given_params(
     Ok(params)
 }
 
-/// Adds the written parameters of the function at a place behind those that it is given. The one at
+/// Adds the written parameters of the function at a place after those that it is given. The one at
 /// the place `repeated` among all is refused (E38).
 fn resolve_params(
     alloc: Global,
@@ -179,8 +179,8 @@ fn resolve_params(
     ensures distinct { OnOk result ((k : ℕ) → repeated ≡ Some k → length params.old.items ≤ k → length params.old.items + length written.now ≤ k) }
     ensures legal { OnOk result ((f : Fault) → IsBrokenPart (map (λ p. p.ty) written.now) f → ⊥) }
     ensures handled { OnOk result (Requires (env_of scope.entry.names.now) types.new (all_handles (map (λ p. p.ty) written.now)) required.old.items required.new.items) }
-    ensures grown { IsGrown types.old types.new }
-    ensures refused { IfErr result (Refused (λ f. IsRefusedParam repeated (length params.old.items) (map written_param written.now) f ⊎ IsWrongInSignatures (env_of scope.entry.names.now) types.new (functions_behind scope.entry) place (map (λ p. p.ty) written.now) f)) }
+    ensures extended { IsExtended types.old types.new }
+    ensures refused { IfErr result (Refused (λ f. IsRefusedParam repeated (length params.old.items) (map written_param written.now) f ⊎ IsWrongInSignatures (env_of scope.entry.names.now) types.new (functions_view scope.entry) place (map (λ p. p.ty) written.now) f)) }
 {
     for written in written {
         if repeated == Some(params.len()) {
@@ -200,16 +200,16 @@ fn all_params<'t, 'a>(
     types: &mut Entries,
     required: &mut Vec<Required>,
     place: usize,
-    function: HeldFunction<'t, 'a>,
+    function: BorrowedFunction<'t, 'a>,
 ) -> ParseResult<Vec<Param>>
     requires place { place < length scope.functions.now }
-    requires owner { HasOwner (env_of scope.names.now) (owner_of (function_behind function).role) }
-    ensures params { IfOk result (λ ps. AreParamsOver types.old types.new (env_of scope.entry.names.now) (the_params (function_behind function.entry)) ps.items) }
-    ensures distinct { OnOk result ((f : Fault) → IsDuplicateParam (function_behind function.entry) f → ⊥) }
-    ensures legal { OnOk result ((f : Fault) → IsBrokenPart (map (λ p. p.ty) (function_behind function.entry).func.params.items) f → ⊥) }
-    ensures handled { OnOk result (Requires (env_of scope.entry.names.now) types.new (all_handles (map (λ p. p.ty) (function_behind function.entry).func.params.items)) required.old.items required.new.items) }
-    ensures grown { IsGrown types.old types.new }
-    ensures refused { IfErr result (Refused (λ f. IsDuplicateParam (function_behind function.entry) f ⊎ IsWrongInSignatures (env_of scope.entry.names.now) types.new (functions_behind scope.entry) place (map (λ p. p.ty) (function_behind function.entry).func.params.items) f)) }
+    requires owner { HasOwner (env_of scope.names.now) (owner_of (function_view function).role) }
+    ensures params { IfOk result (λ ps. AreParamsOver types.old types.new (env_of scope.entry.names.now) (the_params (function_view function.entry)) ps.items) }
+    ensures distinct { OnOk result ((f : Fault) → IsDuplicateParam (function_view function.entry) f → ⊥) }
+    ensures legal { OnOk result ((f : Fault) → IsBrokenPart (map (λ p. p.ty) (function_view function.entry).func.params.items) f → ⊥) }
+    ensures handled { OnOk result (Requires (env_of scope.entry.names.now) types.new (all_handles (map (λ p. p.ty) (function_view function.entry).func.params.items)) required.old.items required.new.items) }
+    ensures extended { IsExtended types.old types.new }
+    ensures refused { IfErr result (Refused (λ f. IsDuplicateParam (function_view function.entry) f ⊎ IsWrongInSignatures (env_of scope.entry.names.now) types.new (functions_view scope.entry) place (map (λ p. p.ty) (function_view function.entry).func.params.items) f)) }
 {
     let repeated = repeated_param(alloc, function)?;
     let mut params = given_params(alloc, scope.names, function, types)?;
@@ -232,13 +232,13 @@ fn all_params<'t, 'a>(
 fn made_result(
     alloc: Global,
     names: &TextTable<TypeId>,
-    function: HeldFunction<'_, '_>,
+    function: BorrowedFunction<'_, '_>,
 ) -> ParseResult<Option<Type>>
-    requires owner { HasOwner (env_of names.now) (owner_of (function_behind function).role) }
-    requires none { (function_behind function).func.result ≡ None }
-    ensures result { IfOk result (λ r. (es : List Entry) → IsResultOver es es (env_of names.now) (function_behind function.entry).result r) }
-    ensures legal { OnOk result ((f : Fault) → IsGetterWithoutResult (function_behind function.entry) f → ⊥) }
-    ensures refused { IfErr result (Refused (IsGetterWithoutResult (function_behind function.entry))) }
+    requires owner { HasOwner (env_of names.now) (owner_of (function_view function).role) }
+    requires none { (function_view function).func.result ≡ None }
+    ensures result { IfOk result (λ r. (es : List Entry) → IsResultOver es es (env_of names.now) (function_view function.entry).result r) }
+    ensures legal { OnOk result ((f : Fault) → IsGetterWithoutResult (function_view function.entry) f → ⊥) }
+    ensures refused { IfErr result (Refused (IsGetterWithoutResult (function_view function.entry))) }
 {
     check_returns(alloc, function)?;
     match function.made() {
@@ -254,16 +254,16 @@ fn resolve_result<'t, 'a>(
     types: &mut Entries,
     required: &mut Vec<Required>,
     place: usize,
-    function: HeldFunction<'t, 'a>,
+    function: BorrowedFunction<'t, 'a>,
 ) -> ParseResult<Option<Type>>
     requires place { place < length scope.functions.now }
-    requires owner { HasOwner (env_of scope.names.now) (owner_of (function_behind function).role) }
-    ensures result { IfOk result (IsResultOver types.old types.new (env_of scope.entry.names.now) (function_behind function.entry).result) }
-    ensures returns { OnOk result ((xs : List ScopeName) → IsScopeOf scope.entry xs → (f : Fault) → IsBrokenReturn xs (function_behind function.entry) f → ⊥) }
-    ensures legal { OnOk result ((f : Fault) → IsBrokenPart (option_to_list (function_behind function.entry).func.result) f → ⊥) }
-    ensures handled { OnOk result (Requires (env_of scope.entry.names.now) types.new (all_handles (option_to_list (function_behind function.entry).func.result)) required.old.items required.new.items) }
-    ensures grown { IsGrown types.old types.new }
-    ensures refused { IfErr result (λ e. (xs : List ScopeName) → IsScopeOf scope.entry xs → Refused (λ f. IsBrokenReturn xs (function_behind function.entry) f ⊎ IsWrongInSignatures (env_of scope.entry.names.now) types.new (functions_behind scope.entry) place (option_to_list (function_behind function.entry).func.result) f) e) }
+    requires owner { HasOwner (env_of scope.names.now) (owner_of (function_view function).role) }
+    ensures result { IfOk result (IsResultOver types.old types.new (env_of scope.entry.names.now) (function_view function.entry).result) }
+    ensures returns { OnOk result ((xs : List ScopeName) → IsScopeOf scope.entry xs → (f : Fault) → IsBrokenReturn xs (function_view function.entry) f → ⊥) }
+    ensures legal { OnOk result ((f : Fault) → IsBrokenPart (option_to_list (function_view function.entry).func.result) f → ⊥) }
+    ensures handled { OnOk result (Requires (env_of scope.entry.names.now) types.new (all_handles (option_to_list (function_view function.entry).func.result)) required.old.items required.new.items) }
+    ensures extended { IsExtended types.old types.new }
+    ensures refused { IfErr result (λ e. (xs : List ScopeName) → IsScopeOf scope.entry xs → Refused (λ f. IsBrokenReturn xs (function_view function.entry) f ⊎ IsWrongInSignatures (env_of scope.entry.names.now) types.new (functions_view scope.entry) place (option_to_list (function_view function.entry).func.result) f) e) }
 {
     match function.result() {
         Some(written) => {
@@ -290,15 +290,15 @@ fn resolve_signature<'t, 'a>(
     types: &mut Entries,
     required: &mut Vec<Required>,
     place: usize,
-    function: HeldFunction<'t, 'a>,
+    function: BorrowedFunction<'t, 'a>,
 ) -> ParseResult<Signature>
     requires place { place < length scope.functions.now }
-    requires owner { HasOwner (env_of scope.names.now) (owner_of (function_behind function).role) }
-    ensures over { IfOk result (λ s. IsSignatureOver types.old types.new (env_of scope.entry.names.now) (function_behind function.entry) s.params s.result) }
-    ensures legal { OnOk result ((xs : List ScopeName) → IsScopeOf scope.entry xs → IsLegalSignature xs (function_behind function.entry)) }
-    ensures handled { OnOk result (Requires (env_of scope.entry.names.now) types.new (all_handles (written_types (function_behind function.entry))) required.old.items required.new.items) }
-    ensures grown { IsGrown types.old types.new }
-    ensures refused { IfErr result (λ e. (xs : List ScopeName) → IsScopeOf scope.entry xs → Refused (IsWrongFunction (env_of scope.entry.names.now) types.new xs (functions_behind scope.entry) place (function_behind function.entry)) e) }
+    requires owner { HasOwner (env_of scope.names.now) (owner_of (function_view function).role) }
+    ensures over { IfOk result (λ s. IsSignatureOver types.old types.new (env_of scope.entry.names.now) (function_view function.entry) s.params s.result) }
+    ensures legal { OnOk result ((xs : List ScopeName) → IsScopeOf scope.entry xs → IsLegalSignature xs (function_view function.entry)) }
+    ensures handled { OnOk result (Requires (env_of scope.entry.names.now) types.new (all_handles (written_types (function_view function.entry))) required.old.items required.new.items) }
+    ensures extended { IsExtended types.old types.new }
+    ensures refused { IfErr result (λ e. (xs : List ScopeName) → IsScopeOf scope.entry xs → Refused (IsWrongFunction (env_of scope.entry.names.now) types.new xs (functions_view scope.entry) place (function_view function.entry)) e) }
 {
     check_given(alloc, function)?;
     let params = all_params(alloc, scope, types, required, place, function)?;
@@ -309,12 +309,12 @@ fn resolve_signature<'t, 'a>(
     })
 }
 
-/// The function at a place of a scope, with its notes, over its types, which are added to the arena:
+/// The function at a place of a scope, with its metadata, over its types, which are added to the arena:
 /// those of its parameters and then that of its result.
 ///
 /// A refusal is E30 to E35 at its attributes, E28 or E29 at a name in its signature, E27 at one in a
 /// handle, E22 or E26 at a type, E36 or E37 at its parameters, E38 at one of them, E39 to E42 at its
-/// result, or want of memory.
+/// result, or a failed allocation.
 pub fn resolve_function(
     alloc: Global,
     scope: FunctionScope<'_, '_, '_>,
@@ -323,26 +323,26 @@ pub fn resolve_function(
     place: usize,
 ) -> ParseResult<Function>
     requires place { place < length scope.functions.now }
-    requires owners { HaveOwners (env_of scope.names.now) (functions_behind scope) }
-    ensures adds { IfOk result (λ f. (fn : SourceFunction) → slice_get (functions_behind scope.entry) place ≡ Some fn → (s : Address) → AddsFunctions types.old types.new s scope.entry.names.now (fn ∷ []) (f ∷ [])) }
-    ensures named { IfOk result (λ f. (fn : SourceFunction) → slice_get (functions_behind scope.entry) place ≡ Some fn → (f.name ≡ fn.name) × (f.span ≡ fn.span)) }
+    requires owners { HaveOwners (env_of scope.names.now) (functions_view scope) }
+    ensures adds { IfOk result (λ f. (fn : SourceFunction) → slice_get (functions_view scope.entry) place ≡ Some fn → (s : Address) → AddsFunctions types.old types.new s scope.entry.names.now (fn ∷ []) (f ∷ [])) }
+    ensures named { IfOk result (λ f. (fn : SourceFunction) → slice_get (functions_view scope.entry) place ≡ Some fn → (f.name ≡ fn.name) × (f.span ≡ fn.span)) }
     ensures mangled { IfOk result (λ f. IsTrue (is_mangled f.name)) }
-    ensures legal { OnOk result ((xs : List ScopeName) → IsScopeOf scope.entry xs → (fn : SourceFunction) → slice_get (functions_behind scope.entry) place ≡ Some fn → (f : Fault) → IsBrokenFunction xs (functions_behind scope.entry) place fn f → IsNameless xs (functions_behind scope.entry)) }
-    ensures handled { OnOk result ((fn : SourceFunction) → slice_get (functions_behind scope.entry) place ≡ Some fn → Requires (env_of scope.entry.names.now) types.new (all_handles (written_types fn)) required.old.items required.new.items) }
-    ensures grown { IsGrown types.old types.new }
-    ensures refused { IfErr result (λ e. (xs : List ScopeName) → IsScopeOf scope.entry xs → (fn : SourceFunction) → slice_get (functions_behind scope.entry) place ≡ Some fn → Refused (IsWrongFunction (env_of scope.entry.names.now) types.new xs (functions_behind scope.entry) place fn) e) }
+    ensures legal { OnOk result ((xs : List ScopeName) → IsScopeOf scope.entry xs → (fn : SourceFunction) → slice_get (functions_view scope.entry) place ≡ Some fn → (f : Fault) → IsBrokenFunction xs (functions_view scope.entry) place fn f → IsNameless xs (functions_view scope.entry)) }
+    ensures handled { OnOk result ((fn : SourceFunction) → slice_get (functions_view scope.entry) place ≡ Some fn → Requires (env_of scope.entry.names.now) types.new (all_handles (written_types fn)) required.old.items required.new.items) }
+    ensures extended { IsExtended types.old types.new }
+    ensures refused { IfErr result (λ e. (xs : List ScopeName) → IsScopeOf scope.entry xs → (fn : SourceFunction) → slice_get (functions_view scope.entry) place ≡ Some fn → Refused (IsWrongFunction (env_of scope.entry.names.now) types.new xs (functions_view scope.entry) place fn) e) }
 {
     let function = scope.functions[place];
-    let notes = notes_of(alloc, function.docs(), function.attributes())?;
+    let metadata = metadata_of(alloc, function.docs(), function.attributes())?;
     let signature = resolve_signature(alloc, scope, types, required, place, function)?;
     Ok(Function {
         name: function.name(alloc)?,
         kind: kind_of(scope.names, function),
         params: signature.params,
         result: signature.result,
-        docs: notes.docs,
-        stability: notes.stability,
+        docs: metadata.docs,
+        stability: metadata.stability,
         span: function.span(),
-        external_id: notes.external_id,
+        external_id: metadata.external_id,
     })
 }

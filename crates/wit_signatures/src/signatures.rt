@@ -12,37 +12,37 @@ ghost use Rattle.wit_syntax.specs.Broken.{Refused};
 ghost use Rattle.wit_syntax.specs.Signature.{IsEntered};
 ghost use Rattle.wit_arena.specs.Resolving.{Env, env_of, IsWrongType};
 ghost use Rattle.wit_entries.specs.Reading.{IsResolved};
-ghost use Rattle.wit_entries.specs.Requiring.{IsGrown, Requires};
-ghost use Rattle.wit_rules.specs.Held.{function_behind};
-ghost use Rattle.wit_rules.specs.Signatures.{functions_behind, IsFree, IsLostAt, IsWrongInSignature};
+ghost use Rattle.wit_entries.specs.Requiring.{IsExtended, Requires};
+ghost use Rattle.wit_rules.specs.Borrowed.{function_view};
+ghost use Rattle.wit_rules.specs.Signatures.{functions_view, IsFree, IsLostAt, IsWrongInSignature};
 
 use std::alloc::{AllocError, Global};
 use wit_entries::entries::Entries;
 use wit_entries::scope::Required;
 use wit_entries::types::resolve_type;
 use wit_refusals::refusal::refuse_in;
+use wit_rules::borrowed::BorrowedFunction;
 use wit_rules::function_scope::FunctionScope;
-use wit_rules::held::HeldFunction;
 use wit_tree::{ParseError, ParseErrorKind, ParseResult, Span, tree};
 use wit_types::{Stability, Type};
 
-/// The number of a name in a type that stands for nothing.
+/// The number of a name in a type that means nothing.
 const MISSING_TYPE: u8 = 15;
 
 /// Whether a function is one by itself, of this name.
-fn is_named(function: HeldFunction<'_, '_>, name: &str) -> bool
-    ensures { IsTrue result ↔ IsFree (function_behind function.entry).role name.now }
+fn is_named(function: BorrowedFunction<'_, '_>, name: &str) -> bool
+    ensures { IsTrue result ↔ IsFree (function_view function.entry).role name.now }
 {
     match function {
-        HeldFunction::Free(function) => function.name.name == name,
-        HeldFunction::Of(_, _) | HeldFunction::Across(_, _, _, _, _) => false,
+        BorrowedFunction::Free(function) => function.name.name == name,
+        BorrowedFunction::Of(_, _) | BorrowedFunction::Across(_, _, _, _, _) => false,
     }
 }
 
 /// Whether the function at a place, or one before it, is one by itself of this name.
-fn is_entered(functions: &[HeldFunction<'_, '_>], place: usize, name: &str) -> bool
+fn is_entered(functions: &[BorrowedFunction<'_, '_>], place: usize, name: &str) -> bool
     requires { place < length functions.now }
-    ensures { IsTrue result ↔ IsEntered (map function_behind functions.now) place name.now }
+    ensures { IsTrue result ↔ IsEntered (map function_view functions.now) place name.now }
 {
     for index in 0..=place {
         if is_named(functions[index], name) {
@@ -59,7 +59,7 @@ fn function_as_type(alloc: Global, name: &str) -> Result<String, AllocError>
     format!(in alloc; "cannot use function `{name}` as a type")
 }
 
-/// What is said of a name that stands for nothing.
+/// What is said of a name that means nothing.
 fn name_not_found(alloc: Global, span: Span, name: &str) -> Result<ParseErrorKind, AllocError>
     ensures kind { IfOk result (IsItemNotFound span name.now name_word) }
     ensures hint { IfOk result (λ kind. hint_of kind ≡ None) }
@@ -78,13 +78,13 @@ fn name_not_found(alloc: Global, span: Span, name: &str) -> Result<ParseErrorKin
 #[inline(never)]
 fn refuse_name(
     alloc: Global,
-    functions: &[HeldFunction<'_, '_>],
+    functions: &[BorrowedFunction<'_, '_>],
     place: usize,
     span: Span,
     name: &str,
 ) -> ParseError
     requires { place < length functions.now }
-    ensures { Refused (IsLostAt (map function_behind functions.now) place span name.now) result }
+    ensures { Refused (IsLostAt (map function_view functions.now) place span name.now) result }
 {
     if is_entered(functions, place, name) {
         return refuse_in(28, span, function_as_type(alloc, name));
@@ -101,12 +101,12 @@ fn refuse_name(
 #[inline(never)]
 fn in_signature(
     alloc: Global,
-    functions: &[HeldFunction<'_, '_>],
+    functions: &[BorrowedFunction<'_, '_>],
     place: usize,
     error: ParseError,
 ) -> ParseError
     requires { place < length functions.now }
-    ensures { (env : Env) (es : List TypeDef) (t : Written) → Refused (IsWrongType env es t) error → Refused (IsWrongInSignature env es (map function_behind functions.now) place t) result }
+    ensures { (env : Env) (es : List TypeDef) (t : Written) → Refused (IsWrongType env es t) error → Refused (IsWrongInSignature env es (map function_view functions.now) place t) result }
 {
     if error.rule() != MISSING_TYPE {
         return error;
@@ -119,10 +119,10 @@ fn in_signature(
     }
 }
 
-/// The type that a written one in the signature of the function at a place stands for. It stands in
+/// The type that a written one in the signature of the function at a place means. It is in
 /// no definition, so that no stability is given it.
 ///
-/// A refusal is E22, E26, E27, E28 or E29 at a type in it, or want of memory.
+/// A refusal is E22, E26, E27, E28 or E29 at a type in it, or a failed allocation.
 pub(crate) fn resolve_in_signature(
     alloc: Global,
     scope: FunctionScope<'_, '_, '_>,
@@ -135,8 +135,8 @@ pub(crate) fn resolve_in_signature(
     ensures resolved { IfOk result (IsResolved types.old types.new (env_of scope.entry.names.now) Unknown (shape_of ty.now)) }
     ensures legal { OnOk result ((f : Fault) → IsBrokenType ty.now f → ⊥) }
     ensures handled { OnOk result (Requires (env_of scope.entry.names.now) types.new (handles ty.now) required.old.items required.new.items) }
-    ensures grown { IsGrown types.old types.new }
-    ensures refused { IfErr result (Refused (IsWrongInSignature (env_of scope.entry.names.now) types.new (functions_behind scope.entry) place ty.now)) }
+    ensures extended { IsExtended types.old types.new }
+    ensures refused { IfErr result (Refused (IsWrongInSignature (env_of scope.entry.names.now) types.new (functions_view scope.entry) place ty.now)) }
 {
     match resolve_type(alloc, types, scope.names, required, &Stability::Unknown, ty) {
         Ok(ty) => Ok(ty),

@@ -6,7 +6,7 @@ use Rattle.wit_values.specs.declared.release.Release.{Release}
 use Rattle.wit_package_names.specs.declared.package_name.PackageName.{PackageName}
 use Rattle.wit_tree.specs.declared.tree.WorldSide.{WorldSide}
 use Rattle.wit_tree.specs.declared.tree.WorldSide.TheVariants.{Imported, Exported}
-use Rattle.wit_syntax.specs.Crossing.{same_side}
+use Rattle.wit_syntax.specs.ExternPart.{same_side}
 use Rattle.wit_syntax.specs.Address.{Address, InterfaceNamed, WorldNamed, InlineAt, ForeignNamed, same_version, same_package, same_address}
 use Rattle.wit_syntax.proofs.Names.{name_itself, name_equal}
 

@@ -7,7 +7,7 @@ use Rattle.std.proofs.lemmas.List.{append-nil}
 use Rattle.std.proofs.lemmas.List.Elements.{filter-append}
 use Rattle.wit_syntax.specs.Repeats.{AllDiffer, firsts}
 use Rattle.wit_syntax.proofs.Repeated.{differ_none}
-use Rattle.wit_syntax.proofs.Kept.{behind_one, kept_at, kept_has, kept_differ, differ_cons}
+use Rattle.wit_syntax.proofs.Kept.{after_one, kept_at, kept_has, kept_differ, differ_cons}
 
 -- one of a list is the same as this one
 pub record IsListed {X : Type 0} (same : X → X → Bool) (xs : List X) (x : X) : Type 0 where
@@ -21,10 +21,10 @@ abbrev pub IsUnlisted : {X : Type 0} → (X → X → Bool) → List X → X →
 IsUnlisted {X} same xs x = (i : ℕ) (y : X) → slice_get xs i ≡ Some y → same y x ≡ false
 
 module _ {X : Type 0} (same : X → X → Bool) where
-  -- what is listed stands in the list
+  -- what is listed is in the list
   pub firsts_at : (xs : List X) (j : ℕ) (x : X) → slice_get (firsts same xs) j ≡ Some x → (i : ℕ) × (slice_get xs i ≡ Some x)
   firsts_at [] j x at = absurd (let f : ⊥ = cc in f)
-  firsts_at (y ∷ xs) j x at = elim (behind_one y (filter (λ z. not (same y z)) (firsts same xs)) j x at) [
+  firsts_at (y ∷ xs) j x at = elim (after_one y (filter (λ z. not (same y z)) (firsts same xs)) j x at) [
     | inl here ↦ (0, ap Some here)
     | inr rest ↦ (
         let k = kept_at (λ z. not (same y z)) (firsts same xs) rest.0 x rest.1 in

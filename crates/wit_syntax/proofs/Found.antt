@@ -14,7 +14,7 @@ pub some_of : (o : Option ℕ) → IsSome o → (b : ℕ) × (o ≡ Some b)
 some_of None h = absurd (let f : ⊥ = cc in f)
 some_of (Some b) h = (b, refl)
 
--- what is found stands in the list
+-- what is found is in the list
 pub find_at : {X : Type 0} (p : X → Bool) (xs : List X) (x : X) → find p xs ≡ Some x → (i : ℕ) × (slice_get xs i ≡ Some x)
 find_at p [] x h = absurd (let f : ⊥ = cc in f)
 find_at p (y ∷ xs) x h = elim (cases_Bool (p y)) [

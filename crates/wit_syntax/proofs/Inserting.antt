@@ -10,9 +10,9 @@ use Rattle.std.proofs.lemmas.Option.{slice_get-map, slice_get_within}
 use Rattle.indexmap.specs.IndexMap.{insert_entry}
 use Rattle.indexmap.specs.IndexSet.{insert_key}
 use Rattle.wit_syntax.specs.Repeats.{AllDiffer}
-use Rattle.wit_syntax.proofs.Lists.{at_front, at_back, at_split, map_at}
+use Rattle.wit_syntax.proofs.Lists.{at_prefix, at_back, at_split, map_at}
 
--- what is put at a key that is not there stands last
+-- what is put at a key that is not there comes last
 pub insert_entry-new : {K V : Type 0} (eq : K → K → Bool) (es : List (K × V)) (k : K) (v : V) → ((i : ℕ) (e : K × V) → slice_get es i ≡ Some e → eq k e.0 ≡ false) → insert_entry eq es k v ≡ es ++ (k, v) ∷ []
 insert_entry-new eq [] k v other = refl
 insert_entry-new eq (e ∷ es) k v other = rw (other 0 e refl) (ap (λ l. e ∷ l) (insert_entry-new eq es k v (λ i d at. other (suc i) d at)))
@@ -33,7 +33,7 @@ module _ {X K V : Type 0} (eq : K → K → Bool) (key : X → K) (value : X →
   abbrev entry : X → K × V
   entry x = (key x, value x)
 
-  -- no entry in front of one has its key, where keys differ
+  -- no entry before one has its key, where keys differ
   key_before : (es : List (K × V)) (xs rest : List X) (x : X) → AllDiffer (map (λ e. e.0) es ++ map key (xs ++ x ∷ rest)) → (i : ℕ) (e : K × V) → slice_get (es ++ map entry xs) i ≡ Some e → key x ≡ e.0 → ⊥
   key_before es xs rest x differ i e there same =
       let old = map (λ (d : K × V). d.0) es in
@@ -42,15 +42,15 @@ module _ {X K V : Type 0} (eq : K → K → Bool) (key : X → K) (value : X →
       let here : slice_get (old ++ map key all) (length old + (length xs + 0)) ≡ Some (key x) = place (length xs + 0) x (at_back xs (x ∷ rest) 0 x refl) in
       elim (at_split es (map entry xs) i e there) [
         | inl early ↦ (
-            let front : slice_get old i ≡ Some e.0 = slice_get-map (λ (d : K × V). d.0) es i ∙ ap (option_map (λ (d : K × V). d.0)) early in
-            let one = differ.differ i (length old + (length xs + 0)) (key x) (at_front old (map key all) i (key x) (front ∙ ap Some (sym same))) here in
-            let lt : i < length old = slice_get_within old i e.0 front in
+            let prefix : slice_get old i ≡ Some e.0 = slice_get-map (λ (d : K × V). d.0) es i ∙ ap (option_map (λ (d : K × V). d.0)) early in
+            let one = differ.differ i (length old + (length xs + 0)) (key x) (at_prefix old (map key all) i (key x) (prefix ∙ ap Some (sym same))) here in
+            let lt : i < length old = slice_get_within old i e.0 prefix in
             let f : ⊥ = omega arith in
             f)
         | inr late ↦ (
             let y = map_at entry xs late.0 e late.2 in
             let other : key y.0 ≡ key x = ap (λ (d : K × V). d.0) y.2 ∙ sym same in
-            let before : slice_get (old ++ map key all) (length old + late.0) ≡ Some (key x) = place late.0 y.0 (at_front xs (x ∷ rest) late.0 y.0 y.1) ∙ ap Some other in
+            let before : slice_get (old ++ map key all) (length old + late.0) ≡ Some (key x) = place late.0 y.0 (at_prefix xs (x ∷ rest) late.0 y.0 y.1) ∙ ap Some other in
             let one = differ.differ (length old + late.0) (length old + (length xs + 0)) (key x) before here in
             let lt : late.0 < length xs = slice_get_within xs late.0 y.0 y.1 in
             let f : ⊥ = omega arith in

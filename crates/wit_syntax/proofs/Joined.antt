@@ -15,12 +15,12 @@ use Rattle.wit_syntax.proofs.JoinedTrees.{scopes_twins, scope_alike, tree_alike}
 use Rattle.wit_syntax.proofs.JoinedLegal.{legal_back}
 use Rattle.wit_syntax.specs.Address.{InterfaceNamed, WorldNamed}
 
--- the scopes that the paths of an item lead to are told by what it declares
-used_told : (i : Item) → AreThemselves i.top → used_scopes i ≡ used_scopes (bare i.declared)
-used_told i own = map_by (λ (path : UsePath). target_scope InterfaceNamed (leads i.top path)) (λ (path : UsePath). target_scope InterfaceNamed (leads [] path)) (used_same i.top [] own no_names) (use_paths i)
+-- the scopes that the paths of an item lead to are given by what it declares
+used_stated : (i : Item) → AreThemselves i.top → used_scopes i ≡ used_scopes (bare i.declared)
+used_stated i own = map_by (λ (path : UsePath). target_scope InterfaceNamed (leads i.top path)) (λ (path : UsePath). target_scope InterfaceNamed (leads [] path)) (used_same i.top [] own no_names) (use_paths i)
 
-included_told : (i : Item) → AreThemselves i.top → included_scopes i ≡ included_scopes (bare i.declared)
-included_told i own = map_by (λ (path : UsePath). target_scope WorldNamed (leads i.top path)) (λ (path : UsePath). target_scope WorldNamed (leads [] path)) (included_same i.top [] own no_names) (include_paths i)
+included_stated : (i : Item) → AreThemselves i.top → included_scopes i ≡ included_scopes (bare i.declared)
+included_stated i own = map_by (λ (path : UsePath). target_scope WorldNamed (leads i.top path)) (λ (path : UsePath). target_scope WorldNamed (leads [] path)) (included_same i.top [] own no_names) (include_paths i)
 
 pub alike_split : (files others : List PackageFile) → AreAlike files others → IsSplit files others
 alike_split files others a =
@@ -31,8 +31,8 @@ alike_split files others a =
       legal = (legal_back others files back, legal_back files others a);
       items = (items_twins files others a).same;
       scopes = scopes.same;
-      used = twins_make used_scopes used_told (all_scopes files) (all_scopes others) scopes;
-      included = twins_make included_scopes included_told (all_scopes files) (all_scopes others) scopes;
+      used = twins_make used_scopes used_stated (all_scopes files) (all_scopes others) scopes;
+      included = twins_make included_scopes included_stated (all_scopes files) (all_scopes others) scopes;
       names = scope_alike files others a;
       trees = tree_alike files others a;
       orders = λ places. (order_onward files others a places, order_onward others files back places);

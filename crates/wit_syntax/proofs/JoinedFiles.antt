@@ -18,7 +18,7 @@ use Rattle.wit_syntax.proofs.JoinedLists.{flat_map_by, map-flat_map, flat_map-fl
 use Rattle.wit_syntax.proofs.JoinedTargets.{AreThemselves}
 use Rattle.wit_syntax.proofs.JoinedItems.{ArePlain, AreTwins}
 
--- no `use` stands among declarations
+-- no `use` is among declarations
 abbrev pub HasNoUse : List AstItem → Type 0
 HasNoUse ds = (u : ToplevelUse) → Contains ds (ast.Use u) → ⊥
 
@@ -43,7 +43,7 @@ alike_back files others a = record { left = a.right; right = a.left; same = sym 
 pub no_use_in_file : (files : List PackageFile) → HasNoUse (declarations files) → (file : PackageFile) → Contains files file → HasNoUse (file_declarations file)
 no_use_in_file files none file is u among = none u (among_flat_map file_declarations files file (ast.Use u) is among)
 
--- a name at the top of such a file stands for itself
+-- a name at the top of such a file means itself
 name_itself : (a : AstItem) (t : TopName) → top_name a ≡ t → ((u : ToplevelUse) → a ≡ ast.Use u → ⊥) → t.target ≡ Local t.id
 name_itself (ast.Interface i) t is other = subst (λ (x : TopName). x.target ≡ Local x.id) is refl
 name_itself (ast.World w) t is other = subst (λ (x : TopName). x.target ≡ Local x.id) is refl
@@ -101,17 +101,17 @@ module _ (files others : List PackageFile) (a : AreAlike files others) where
   pub visits_same : foreign_visits files ≡ foreign_visits others
   visits_same = visits_declared files ∙ ap (flat_map declaration_visits) a.same ∙ sym (visits_declared others)
 
--- a header that is told stands in a file
-abbrev StandsInFile : List PackageFile → Header → Type 0
-StandsInFile files header = (k : ℕ) × (f : PackageFile) × (slice_get files k ≡ Some f) × (f.package_id ≡ Some header)
+-- a header that is stated is in a file
+abbrev OccursInFile : List PackageFile → Header → Type 0
+OccursInFile files header = (k : ℕ) × (f : PackageFile) × (slice_get files k ≡ Some f) × (f.package_id ≡ Some header)
 
-first_header : (f : PackageFile) (files : List PackageFile) (header : Header) (rest : List Header) (o : Option Header) → (headers files ≡ header ∷ rest → StandsInFile files header) → f.package_id ≡ o → cons_option o (headers files) ≡ header ∷ rest → StandsInFile (f ∷ files) header
+first_header : (f : PackageFile) (files : List PackageFile) (header : Header) (rest : List Header) (o : Option Header) → (headers files ≡ header ∷ rest → OccursInFile files header) → f.package_id ≡ o → cons_option o (headers files) ≡ header ∷ rest → OccursInFile (f ∷ files) header
 first_header f files header rest None later own is = (let it = later is in (suc it.0, it.1, it.2, it.3))
 first_header f files header rest (Some h) later own is =
     let same : h ≡ header = cc in
     (0, f, refl, own ∙ ap Some same)
 
-header_at : (files : List PackageFile) (header : Header) (rest : List Header) → headers files ≡ header ∷ rest → StandsInFile files header
+header_at : (files : List PackageFile) (header : Header) (rest : List Header) → headers files ≡ header ∷ rest → OccursInFile files header
 header_at [] header rest is = absurd (let f : ⊥ = cc in f)
 header_at (f ∷ files) header rest is = first_header f files header rest f.package_id (header_at files header rest) refl is
 

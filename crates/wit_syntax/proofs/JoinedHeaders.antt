@@ -20,19 +20,19 @@ abbrev last_of : List Header → Option Header
 last_of [] = None
 last_of (h ∷ hs) = option_or (last_of hs) (Some h)
 
-none_behind : (o : Option Header) → option_or o None ≡ o
-none_behind None = refl
-none_behind (Some h) = refl
+none_after : (o : Option Header) → option_or o None ≡ o
+none_after None = refl
+none_after (Some h) = refl
 
 one_more : (o : Option Header) (hs : List Header) (last : Option Header) → last ≡ last_of hs → option_or last o ≡ last_of (cons_option o hs)
-one_more None hs last same = none_behind last ∙ same
+one_more None hs last same = none_after last ∙ same
 one_more (Some h) hs last same = ap (λ (l : Option Header). option_or l (Some h)) same
 
-last_told : (files : List PackageFile) → last_header files ≡ last_of (headers files)
-last_told [] = refl
-last_told (f ∷ files) = one_more f.package_id (headers files) (last_header files) (last_told files)
+last_stated : (files : List PackageFile) → last_header files ≡ last_of (headers files)
+last_stated [] = refl
+last_stated (f ∷ files) = one_more f.package_id (headers files) (last_header files) (last_stated files)
 
 pub joined_headers : (files : List PackageFile) (one : PackageFile) → IsJoined files one → HaveSameHeaders files (one ∷ [])
 joined_headers files one j =
     let all : headers files ≡ headers (one ∷ []) = j.one_header ∙ sym (ap (λ (o : Option Header). cons_option o []) j.own_header) in
-    record { all = all; last = last_told files ∙ ap last_of all ∙ sym (last_told (one ∷ [])) }
+    record { all = all; last = last_stated files ∙ ap last_of all ∙ sym (last_stated (one ∷ [])) }

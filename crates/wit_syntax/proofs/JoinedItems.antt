@@ -1,4 +1,4 @@
--- Items that are the same but for the names at the top of their files, where each of these stands for itself.
+-- Items that are the same but for the names at the top of their files, where each of these means itself.
 use Rattle.std.proofs.Common.{◌≡◌, ℕ, suc, List, [], ◌∷◌, ◌++◌, length, Some, refl, sym, ap, ◌∙◌, subst}
 use Rattle.std.specs.Prelude.{slice_get, map, Contains, if◌then◌else◌}
 use Rattle.std.specs.List.{flat_map, filter}
@@ -7,9 +7,9 @@ use Rattle.wit_tree.specs.declared.tree.WorldSide.TheVariants.{Imported, Exporte
 use Rattle.wit_tree.specs.declared.tree.Use.{Use}
 use Rattle.wit_graph.proofs.Tables.{matched}
 use Rattle.wit_syntax.specs.Address.{Address, is_foreign}
-use Rattle.wit_syntax.specs.Crossing.{same_side, inline_uses}
-use Rattle.wit_syntax.specs.Source.{TopName, Declared, TheInline, Part, Defining, Using, Including, Doing, Crossing, Item, item_name, parts, Used, part_names, scope_names, Taking, taking, use_takings, part_takings, at_side, walk}
-use Rattle.wit_syntax.specs.Sides.{SideItem, SideFunction, SideLink, SideInline, side_items, inline_behind, inline_items, with_inline}
+use Rattle.wit_syntax.specs.ExternPart.{same_side, inline_uses}
+use Rattle.wit_syntax.specs.Source.{TopName, Declared, TheInline, Part, DefinitionPart, UsePart, IncludePart, FunctionPart, ExternPart, Item, item_name, parts, Used, part_names, scope_names, ForeignUse, use_of_foreign, use_foreign_uses, part_foreign_uses, at_side, walk}
+use Rattle.wit_syntax.specs.Sides.{SideItem, SideFunction, SideLink, SideInline, side_items, inline_after, inline_items, with_inline}
 use Rattle.wit_syntax.specs.Splitting.{declared_of}
 use Rattle.wit_syntax.proofs.Lists.{flat_map_at}
 use Rattle.wit_syntax.proofs.Found.{contains_at, at_contains}
@@ -29,7 +29,7 @@ bare d = record { top = []; declared = d }
 pub no_names : AreThemselves []
 no_names k t at = absurd (let f : ⊥ = cc in f)
 
--- items in whose files each name at the top stands for itself
+-- items in whose files each name at the top means itself
 abbrev pub ArePlain : List Item → Type 0
 ArePlain is = (k : ℕ) (i : Item) → slice_get is k ≡ Some i → AreThemselves i.top
 
@@ -42,7 +42,7 @@ pub record AreTwins (is js : List Item) : Type 0 where
 pub twins_back : (is js : List Item) → AreTwins is js → AreTwins js is
 twins_back is js t = record { left = t.right; right = t.left; same = sym t.same }
 
--- what stands at a place of the one stands there in the other, but for these names
+-- what is at a place of the one is there in the other, but for these names
 pub twin_at : (is js : List Item) → AreTwins is js → (k : ℕ) (i : Item) → slice_get is k ≡ Some i → (top : List TopName) × AreThemselves top × (slice_get js k ≡ Some (retop top i))
 twin_at is js t k i at =
     let j = matched declared_of declared_of js is (sym t.same) k i at in
@@ -64,67 +64,67 @@ twin_among is js t i is_i =
 -- the names of parts, and what is taken from other packages in them, are the same in two such files
 module _ (a b : List TopName) (own : AreThemselves a) (other : AreThemselves b) where
   part_names_same : (p : Part) → part_names a p ≡ part_names b p
-  part_names_same (Defining d) = refl
-  part_names_same (Using u) = ap (λ (s : Address). map (Used s u.attributes.items) u.names.items) (used_same a b own other u.from)
-  part_names_same (Including i) = refl
-  part_names_same (Doing f) = refl
-  part_names_same (Crossing x) = refl
+  part_names_same (DefinitionPart d) = refl
+  part_names_same (UsePart u) = ap (λ (s : Address). map (Used s u.attributes.items) u.names.items) (used_same a b own other u.from)
+  part_names_same (IncludePart i) = refl
+  part_names_same (FunctionPart f) = refl
+  part_names_same (ExternPart x) = refl
 
   pub names_same : (ps : List Part) → flat_map (part_names a) ps ≡ flat_map (part_names b) ps
   names_same ps = flat_map_by (part_names a) (part_names b) part_names_same ps
 
-  use_takings_same : (u : Use) → use_takings a u ≡ use_takings b u
-  use_takings_same u = ap (λ (s : Address). map (taking s u.attributes.items) u.names.items) (used_same a b own other u.from)
+  use_foreign_uses_same : (u : Use) → use_foreign_uses a u ≡ use_foreign_uses b u
+  use_foreign_uses_same u = ap (λ (s : Address). map (use_of_foreign s u.attributes.items) u.names.items) (used_same a b own other u.from)
 
-  part_takings_same : (p : Part) → part_takings a p ≡ part_takings b p
-  part_takings_same (Defining d) = refl
-  part_takings_same (Using u) = use_takings_same u
-  part_takings_same (Including i) = refl
-  part_takings_same (Doing f) = refl
-  part_takings_same (Crossing x) = refl
+  part_foreign_uses_same : (p : Part) → part_foreign_uses a p ≡ part_foreign_uses b p
+  part_foreign_uses_same (DefinitionPart d) = refl
+  part_foreign_uses_same (UsePart u) = use_foreign_uses_same u
+  part_foreign_uses_same (IncludePart i) = refl
+  part_foreign_uses_same (FunctionPart f) = refl
+  part_foreign_uses_same (ExternPart x) = refl
 
-  side_takings_same : (side : WorldSide) (p : Part) → at_side (λ (x : Extern). flat_map (use_takings a) (inline_uses x.kind)) side p ≡ at_side (λ (x : Extern). flat_map (use_takings b) (inline_uses x.kind)) side p
-  side_takings_same side (Defining d) = refl
-  side_takings_same side (Using u) = refl
-  side_takings_same side (Including i) = refl
-  side_takings_same side (Doing f) = refl
-  side_takings_same side (Crossing x) = ap (λ (l : List Taking). if same_side side x.side then l else []) (flat_map_by (use_takings a) (use_takings b) use_takings_same (inline_uses x.kind))
+  side_foreign_uses_same : (side : WorldSide) (p : Part) → at_side (λ (x : Extern). flat_map (use_foreign_uses a) (inline_uses x.kind)) side p ≡ at_side (λ (x : Extern). flat_map (use_foreign_uses b) (inline_uses x.kind)) side p
+  side_foreign_uses_same side (DefinitionPart d) = refl
+  side_foreign_uses_same side (UsePart u) = refl
+  side_foreign_uses_same side (IncludePart i) = refl
+  side_foreign_uses_same side (FunctionPart f) = refl
+  side_foreign_uses_same side (ExternPart x) = ap (λ (l : List ForeignUse). if same_side side x.side then l else []) (flat_map_by (use_foreign_uses a) (use_foreign_uses b) use_foreign_uses_same (inline_uses x.kind))
 
-  pub takings_same : (ps : List Part) → walk (part_takings a) (λ (x : Extern). flat_map (use_takings a) (inline_uses x.kind)) ps ≡ walk (part_takings b) (λ (x : Extern). flat_map (use_takings b) (inline_uses x.kind)) ps
-  takings_same ps =
-      let first = flat_map_by (part_takings a) (part_takings b) part_takings_same ps in
-      let second = flat_map_by (at_side (λ (x : Extern). flat_map (use_takings a) (inline_uses x.kind)) Imported) (at_side (λ (x : Extern). flat_map (use_takings b) (inline_uses x.kind)) Imported) (side_takings_same Imported) ps in
-      let third = flat_map_by (at_side (λ (x : Extern). flat_map (use_takings a) (inline_uses x.kind)) Exported) (at_side (λ (x : Extern). flat_map (use_takings b) (inline_uses x.kind)) Exported) (side_takings_same Exported) ps in
-      ap (λ (l : List Taking). l ++ (flat_map (at_side (λ (x : Extern). flat_map (use_takings a) (inline_uses x.kind)) Imported) ps ++ flat_map (at_side (λ (x : Extern). flat_map (use_takings a) (inline_uses x.kind)) Exported) ps)) first ∙ ap (λ (l : List Taking). flat_map (part_takings b) ps ++ (l ++ flat_map (at_side (λ (x : Extern). flat_map (use_takings a) (inline_uses x.kind)) Exported) ps)) second ∙ ap (λ (l : List Taking). flat_map (part_takings b) ps ++ (flat_map (at_side (λ (x : Extern). flat_map (use_takings b) (inline_uses x.kind)) Imported) ps ++ l)) third
+  pub foreign_uses_same : (ps : List Part) → walk (part_foreign_uses a) (λ (x : Extern). flat_map (use_foreign_uses a) (inline_uses x.kind)) ps ≡ walk (part_foreign_uses b) (λ (x : Extern). flat_map (use_foreign_uses b) (inline_uses x.kind)) ps
+  foreign_uses_same ps =
+      let first = flat_map_by (part_foreign_uses a) (part_foreign_uses b) part_foreign_uses_same ps in
+      let second = flat_map_by (at_side (λ (x : Extern). flat_map (use_foreign_uses a) (inline_uses x.kind)) Imported) (at_side (λ (x : Extern). flat_map (use_foreign_uses b) (inline_uses x.kind)) Imported) (side_foreign_uses_same Imported) ps in
+      let third = flat_map_by (at_side (λ (x : Extern). flat_map (use_foreign_uses a) (inline_uses x.kind)) Exported) (at_side (λ (x : Extern). flat_map (use_foreign_uses b) (inline_uses x.kind)) Exported) (side_foreign_uses_same Exported) ps in
+      ap (λ (l : List ForeignUse). l ++ (flat_map (at_side (λ (x : Extern). flat_map (use_foreign_uses a) (inline_uses x.kind)) Imported) ps ++ flat_map (at_side (λ (x : Extern). flat_map (use_foreign_uses a) (inline_uses x.kind)) Exported) ps)) first ∙ ap (λ (l : List ForeignUse). flat_map (part_foreign_uses b) ps ++ (l ++ flat_map (at_side (λ (x : Extern). flat_map (use_foreign_uses a) (inline_uses x.kind)) Exported) ps)) second ∙ ap (λ (l : List ForeignUse). flat_map (part_foreign_uses b) ps ++ (flat_map (at_side (λ (x : Extern). flat_map (use_foreign_uses b) (inline_uses x.kind)) Imported) ps ++ l)) third
 
 -- so the names of an item, and what it takes from other packages, are those of what it declares
 pub names_of_bare : (i : Item) → AreThemselves i.top → scope_names i ≡ scope_names (bare i.declared)
 names_of_bare i own = names_same i.top [] own no_names (parts i)
 
 -- what an item takes
-abbrev pub item_takings : Item → List Taking
-item_takings i = filter (λ (t : Taking). is_foreign t.from) (walk (part_takings i.top) (λ (x : Extern). flat_map (use_takings i.top) (inline_uses x.kind)) (parts i))
+abbrev pub item_foreign_uses : Item → List ForeignUse
+item_foreign_uses i = filter (λ (t : ForeignUse). is_foreign t.from) (walk (part_foreign_uses i.top) (λ (x : Extern). flat_map (use_foreign_uses i.top) (inline_uses x.kind)) (parts i))
 
-pub takings_of_bare : (i : Item) → AreThemselves i.top → item_takings i ≡ item_takings (bare i.declared)
-takings_of_bare i own = ap (filter (λ (t : Taking). is_foreign t.from)) (takings_same i.top [] own no_names (parts i))
+pub foreign_uses_of_bare : (i : Item) → AreThemselves i.top → item_foreign_uses i ≡ item_foreign_uses (bare i.declared)
+foreign_uses_of_bare i own = ap (filter (λ (t : ForeignUse). is_foreign t.from)) (foreign_uses_same i.top [] own no_names (parts i))
 
--- what twins become is the same where what each becomes is told by what it declares
+-- what twins become is the same where what each becomes is given by what it declares
 pub twins_become : {Y : Type 0} (f : Item → List Y) → ((i : Item) → AreThemselves i.top → f i ≡ f (bare i.declared)) → (is js : List Item) → AreTwins is js → flat_map f is ≡ flat_map f js
-twins_become {Y} f told is js t = by_declared is t.left ∙ ap (flat_map (λ d. f (bare d))) t.same ∙ sym (by_declared js t.right)
+twins_become {Y} f as_stated is js t = by_declared is t.left ∙ ap (flat_map (λ d. f (bare d))) t.same ∙ sym (by_declared js t.right)
   where
     by_declared : (is : List Item) → ArePlain is → flat_map f is ≡ flat_map (λ d. f (bare d)) (map declared_of is)
     by_declared [] plain = refl
-    by_declared (i ∷ is) plain = ap (λ (l : List Y). l ++ flat_map f is) (told i (plain 0 i refl)) ∙ ap (λ (l : List Y). f (bare i.declared) ++ l) (by_declared is (λ k. plain (suc k)))
+    by_declared (i ∷ is) plain = ap (λ (l : List Y). l ++ flat_map f is) (as_stated i (plain 0 i refl)) ∙ ap (λ (l : List Y). f (bare i.declared) ++ l) (by_declared is (λ k. plain (suc k)))
 
 pub twins_make : {Y : Type 0} (f : Item → Y) → ((i : Item) → AreThemselves i.top → f i ≡ f (bare i.declared)) → (is js : List Item) → AreTwins is js → map f is ≡ map f js
-twins_make {Y} f told is js t = by_declared is t.left ∙ ap (map (λ d. f (bare d))) t.same ∙ sym (by_declared js t.right)
+twins_make {Y} f as_stated is js t = by_declared is t.left ∙ ap (map (λ d. f (bare d))) t.same ∙ sym (by_declared js t.right)
   where
     by_declared : (is : List Item) → ArePlain is → map f is ≡ map (λ d. f (bare d)) (map declared_of is)
     by_declared [] plain = refl
-    by_declared (i ∷ is) plain = ap (λ (y : Y). y ∷ map f is) (told i (plain 0 i refl)) ∙ ap (λ (l : List Y). f (bare i.declared) ∷ l) (by_declared is (λ k. plain (suc k)))
+    by_declared (i ∷ is) plain = ap (λ (y : Y). y ∷ map f is) (as_stated i (plain 0 i refl)) ∙ ap (λ (l : List Y). f (bare i.declared) ∷ l) (by_declared is (λ k. plain (suc k)))
 
 -- the interfaces that are written in an item, by what they declare
-inline_retop : (i : Item) (top : List TopName) (before xs : List SideItem) → map declared_of (inline_behind i before xs) ≡ map declared_of (inline_behind (retop top i) before xs)
+inline_retop : (i : Item) (top : List TopName) (before xs : List SideItem) → map declared_of (inline_after i before xs) ≡ map declared_of (inline_after (retop top i) before xs)
 inline_retop i top before [] = refl
 inline_retop i top before (SideFunction fn ∷ xs) = inline_retop i top (before ++ SideFunction fn ∷ []) xs
 inline_retop i top before (SideLink link ∷ xs) = inline_retop i top (before ++ SideLink link ∷ []) xs
@@ -140,8 +140,8 @@ inline_twins i j own other same = record {
 abbrev inline_declared : Item → List Declared
 inline_declared i = map declared_of (with_inline i)
 
-inline_told : (i : Item) → AreThemselves i.top → inline_declared i ≡ inline_declared (bare i.declared)
-inline_told i own = ap (λ (l : List Declared). i.declared ∷ l) (inline_retop i [] [] (side_items i))
+inline_stated : (i : Item) → AreThemselves i.top → inline_declared i ≡ inline_declared (bare i.declared)
+inline_stated i own = ap (λ (l : List Declared). i.declared ∷ l) (inline_retop i [] [] (side_items i))
 
 all_plain : (is : List Item) → ArePlain is → ArePlain (flat_map with_inline is)
 all_plain is plain k i at =
@@ -153,5 +153,5 @@ pub twins_inside : (is js : List Item) → AreTwins is js → AreTwins (flat_map
 twins_inside is js t = record {
   left = all_plain is t.left;
   right = all_plain js t.right;
-  same = map-flat_map declared_of with_inline is ∙ twins_become inline_declared inline_told is js t ∙ sym (map-flat_map declared_of with_inline js);
+  same = map-flat_map declared_of with_inline is ∙ twins_become inline_declared inline_stated is js t ∙ sym (map-flat_map declared_of with_inline js);
 }

@@ -12,8 +12,8 @@ use Rattle.wit_syntax.specs.Function.{functions, all_types, item_types}
 use Rattle.wit_syntax.specs.Form.{Form, AliasForm}
 use Rattle.wit_syntax.specs.Shape.{Shape, Shapes, Word, More}
 use Rattle.wit_syntax.specs.Source.{TopName, Item, address, all_items, ScopeName, scope_names, parts, local_name, meaning, about_name, Used}
-use Rattle.wit_syntax.specs.Trees.{scope}
-use Rattle.wit_syntax.specs.Sides.{side_items, IsFoldedTwice, IsCrossedTwice, IsBrokenSides, FoldedTwice, CrossedTwice, all_scopes, InterfaceNotes}
+use Rattle.wit_syntax.specs.ScopesOfTrees.{scope}
+use Rattle.wit_syntax.specs.Sides.{side_items, IsFoldedTwice, IsCrossedTwice, IsBrokenSides, FoldedTwice, CrossedTwice, all_scopes, InterfaceMetadata}
 use Rattle.wit_syntax.specs.Broken
 use Rattle.wit_syntax.specs.Broken.{last_header, IsBrokenScope, IsBrokenItems, IsBrokenNames, IsLinkedTwice, IsBroken, IsLegal}
 use Rattle.wit_syntax.proofs.Headers.{no_header}
@@ -23,7 +23,7 @@ use Rattle.wit_syntax.proofs.JoinedFiles.{AreAlike, no_use_in_file, items_twins,
 use Rattle.wit_syntax.proofs.JoinedOrders.{missing_edge_onward, cyclic_edge_onward}
 use Rattle.wit_syntax.proofs.JoinedTrees.{scopes_twins, scope_alike}
 use Rattle.wit_syntax.proofs.JoinedNames.{top_repeated, repeated_onward}
-use Rattle.wit_syntax.proofs.JoinedUses.{world_led, use_onward, lacking_onward}
+use Rattle.wit_syntax.proofs.JoinedUses.{world_resolved, use_onward, lacking_onward}
 use Rattle.wit_syntax.proofs.Ends.{meant_end}
 
 -- what is wrong on the sides of an item is wrong on those of its twin
@@ -34,7 +34,7 @@ module _ (i : Item) (top : List TopName) (own : AreThemselves i.top) (other : Ar
   sides_onward : (f : Fault) → IsBrokenSides i f → IsBrokenSides (retop top i) f
   sides_onward f (FoldedTwice h) = FoldedTwice (subst (λ (xs : List ScopeName). IsFoldedTwice xs (side_items i) f) twin_names h)
   sides_onward f (CrossedTwice h) = CrossedTwice (subst (λ (xs : List ScopeName). IsCrossedTwice xs (side_items i) f) twin_names h)
-  sides_onward f (InterfaceNotes x among broken) = InterfaceNotes x among broken
+  sides_onward f (InterfaceMetadata x among broken) = InterfaceMetadata x among broken
 
   scope_onward : (f : Fault) → IsBrokenScope (scope_names i) (functions i) f → IsBrokenScope (scope_names (retop top i)) (functions (retop top i)) f
   scope_onward f h = subst (λ (xs : List ScopeName). IsBrokenScope xs (functions i) f) twin_names h
@@ -64,7 +64,7 @@ module _ (files others : List PackageFile) (a : AreAlike files others) where
   handle_onward i top own other f h = subst (λ (xs : List ScopeName). IsNoResource others (address i) (all_types xs (functions i)) f) (twin_names i top own other) (no_resource_onward (address i) (all_types (scope_names i) (functions i)) f h)
 
   linked_onward : (i : Item) (top : List TopName) → AreThemselves i.top → AreThemselves top → (f : Fault) → IsLinkedTwice files i f → IsLinkedTwice others (retop top i) f
-  linked_onward i top own other f h = (h.0, h.1, h.2, h.3, h.4, h.5, h.6, h.7, sym (used_same i.top top own other h.2.path) ∙ h.8 ∙ used_same i.top top own other h.3.path, sym (world_led files others a i top own other h.3.path) ∙ h.9, h.10)
+  linked_onward i top own other f h = (h.0, h.1, h.2, h.3, h.4, h.5, h.6, h.7, sym (used_same i.top top own other h.2.path) ∙ h.8 ∙ used_same i.top top own other h.3.path, sym (world_resolved files others a i top own other h.3.path) ∙ h.9, h.10)
 
   items_onward : (f : Fault) → IsBrokenItems files f → (g : Fault) × IsBrokenItems others g
   items_onward f (Broken.DuplicateItem h) = (f, Broken.DuplicateItem (repeated_onward (all_items files) (all_items others) f (items_twins files others a) h))
@@ -77,8 +77,8 @@ module _ (files others : List PackageFile) (a : AreAlike files others) where
   names_onward : (f : Fault) → IsBrokenNames files f → (g : Fault) × IsBrokenNames others g
   names_onward f (Broken.Items h) = (let it = items_onward f h in (it.0, Broken.Items it.1))
   names_onward f (Broken.ForeignStability v among h) = (f, Broken.ForeignStability v (subst (λ (vs : List ForeignVisit). Contains vs v) (visits_same files others a) among) h)
-  names_onward f (Broken.TopUse file among (Broken.AttributedUse u used attributed told)) = absurd (no_use_in_file files a.left.no_use file among u used)
-  names_onward f (Broken.TopUse file among (Broken.LostUse u used id local missing told)) = absurd (no_use_in_file files a.left.no_use file among u used)
+  names_onward f (Broken.TopUse file among (Broken.AttributedUse u used attributed as_stated)) = absurd (no_use_in_file files a.left.no_use file among u used)
+  names_onward f (Broken.TopUse file among (Broken.LostUse u used id local missing as_stated)) = absurd (no_use_in_file files a.left.no_use file among u used)
 
   headerless : last_header files ≡ None → ⊥
   headerless h = (let none : None ≡ Some a.left.header = sym (no_header files h a.left.place a.left.file a.left.at) ∙ a.left.headed in let wrong : ⊥ = cc in wrong)
@@ -89,9 +89,9 @@ module _ (files others : List PackageFile) (a : AreAlike files others) where
   broken_onward f (Broken.ItemStability i is h) =
       let t = twin_among (all_items files) (all_items others) (items_twins files others a) i is in
       (f, Broken.ItemStability (retop t.top i) t.among h)
-  broken_onward f (Broken.UseNotes i is u among h) =
+  broken_onward f (Broken.UseMetadata i is u among h) =
       let t = twin_among (all_items files) (all_items others) (items_twins files others a) i is in
-      (f, Broken.UseNotes (retop t.top i) t.among u among h)
+      (f, Broken.UseMetadata (retop t.top i) t.among u among h)
   broken_onward f (Broken.IncludeStability i is n among h) =
       let t = twin_among (all_items files) (all_items others) (items_twins files others a) i is in
       (f, Broken.IncludeStability (retop t.top i) t.among n among h)
@@ -99,14 +99,14 @@ module _ (files others : List PackageFile) (a : AreAlike files others) where
       let t = twin_among (all_items files) (all_items others) (items_twins files others a) i is in
       let it = use_onward files others a i t.top t.own t.other f h in
       (it.0, Broken.Use (retop t.top i) t.among it.1)
-  broken_onward f (Broken.InterfaceIncluded i is path among other told) =
+  broken_onward f (Broken.InterfaceIncluded i is path among other as_stated) =
       let t = twin_among (all_items files) (all_items others) (items_twins files others a) i is in
-      (f, Broken.InterfaceIncluded (retop t.top i) t.among path among (sym (world_led files others a i t.top t.own t.other path) ∙ other) told)
-  broken_onward f (Broken.MissingName i is from attributes n among target here declared missing told) =
+      (f, Broken.InterfaceIncluded (retop t.top i) t.among path among (sym (world_resolved files others a i t.top t.own t.other path) ∙ other) as_stated)
+  broken_onward f (Broken.MissingName i is from attributes n among target here declared missing as_stated) =
       let t = twin_among (all_scopes files) (all_scopes others) (scopes_twins files others a) i is in
       let used = subst (λ (xs : List ScopeName). Contains xs (Used from attributes n)) (twin_names i t.top t.own t.other) among in
       let it = lacking_onward files others a target n.name.name.now declared missing in
-      (f, Broken.MissingName (retop t.top i) t.among from attributes n used (retop it.0 target) here it.1 it.2 told)
+      (f, Broken.MissingName (retop t.top i) t.among from attributes n used (retop it.0 target) here it.1 it.2 as_stated)
   broken_onward f (Broken.Scope i is h) =
       let t = twin_among (all_scopes files) (all_scopes others) (scopes_twins files others a) i is in
       (f, Broken.Scope (retop t.top i) t.among (scope_onward i t.top t.own t.other f h))

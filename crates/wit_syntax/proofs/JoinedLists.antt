@@ -5,7 +5,7 @@ use Rattle.std.specs.List.{flat_map, filter}
 use Rattle.std.specs.Option.{option_map}
 use Rattle.std.proofs.lemmas.List.{map-append}
 use Rattle.std.proofs.lemmas.Grind.{flat_map-append}
-use Rattle.wit_syntax.proofs.Lists.{at_front, at_back, flat_map_has}
+use Rattle.wit_syntax.proofs.Lists.{at_prefix, at_back, flat_map_has}
 use Rattle.wit_syntax.proofs.Found.{contains_at, at_contains}
 
 -- where two functions are the same on all elements, so is what lists become
@@ -49,15 +49,15 @@ pub filter-map : {X Y : Type 0} (test : Y → Bool) (f : X → Y) (xs : List X) 
 filter-map test f [] = refl
 filter-map test f (x ∷ xs) = kept_either f (test (f x)) x (filter (λ y. test (f y)) xs) (filter test (map f xs)) (filter-map test f xs)
 
--- what is there for an element of a list stands behind one another where they do
+-- what is there for an element of a list comes after one another where they do
 pub flat_map_from : {X Y : Type 0} (f : X → List Y) (xs : List X) (k : ℕ) (x : X) → slice_get xs k ≡ Some x → (n : ℕ) × ((j : ℕ) (y : Y) → slice_get (f x) j ≡ Some y → slice_get (flat_map f xs) (n + j) ≡ Some y)
 flat_map_from f [] k x at = absurd (let wrong : ⊥ = cc in wrong)
-flat_map_from f (z ∷ xs) zero x at = (0, λ j y there. rw zero-add (at_front (f z) (flat_map f xs) j y (ap (λ w. slice_get (f w) j) (let same : z ≡ x = cc in same) ∙ there)))
+flat_map_from f (z ∷ xs) zero x at = (0, λ j y there. rw zero-add (at_prefix (f z) (flat_map f xs) j y (ap (λ w. slice_get (f w) j) (let same : z ≡ x = cc in same) ∙ there)))
 flat_map_from f (z ∷ xs) (suc k) x at =
     let it = flat_map_from f xs k x at in
     (length (f z) + it.0, λ j y there. ap (λ m. slice_get (f z ++ flat_map f xs) m) (add_assoc (length (f z)) it.0 j) ∙ at_back (f z) (flat_map f xs) (it.0 + j) y (it.1 j y there))
 
--- what stands in a list stands in what it becomes
+-- what is in a list is in what it becomes
 pub among_flat_map : {X Y : Type 0} (f : X → List Y) (xs : List X) (x : X) (y : Y) → Contains xs x → Contains (f x) y → Contains (flat_map f xs) y
 among_flat_map f xs x y is there =
     let i = at_contains xs x is in

@@ -1,4 +1,4 @@
--- A name that stands twice at the top of a file without a `use` there is that of two items.
+-- A name that occurs twice at the top of a file without a `use` there is that of two items.
 use Rattle.std.proofs.Common.{◌≡◌, suc, ◌+◌, List, [], ◌∷◌, refl, sym, ap, ◌∙◌, arith}
 use Rattle.std.specs.Prelude.{map, Contains}
 use Rattle.std.specs.List.{flat_map}
@@ -17,8 +17,8 @@ use Rattle.wit_syntax.proofs.JoinedTargets.{id_text}
 use Rattle.wit_syntax.proofs.JoinedItems.{retop, AreTwins, twin_at}
 use Rattle.wit_syntax.proofs.JoinedFiles.{HasNoUse, no_use_in_file}
 
-no_use_behind : (a : AstItem) (ds : List AstItem) → HasNoUse (a ∷ ds) → HasNoUse ds
-no_use_behind a ds none u among = (let it = at_contains ds (ast.Use u) among in none u (contains_at (a ∷ ds) (suc it.0) (ast.Use u) it.1))
+no_use_after : (a : AstItem) (ds : List AstItem) → HasNoUse (a ∷ ds) → HasNoUse ds
+no_use_after a ds none u among = (let it = at_contains ds (ast.Use u) among in none u (contains_at (a ∷ ds) (suc it.0) (ast.Use u) it.1))
 
 -- the names at the top of such a file are those of its items
 abbrev top_id : TopName → Id
@@ -26,8 +26,8 @@ top_id t = t.id
 
 tops_of_items : (top : List TopName) (ds : List AstItem) → HasNoUse ds → map top_id (map top_name ds) ≡ map (λ (i : Item). (about i.declared).id) (flat_map (declared_items top) ds)
 tops_of_items top [] none = refl
-tops_of_items top (ast.Interface i ∷ ds) none = ap (λ (l : List Id). i.name ∷ l) (tops_of_items top ds (no_use_behind (ast.Interface i) ds none))
-tops_of_items top (ast.World w ∷ ds) none = ap (λ (l : List Id). w.name ∷ l) (tops_of_items top ds (no_use_behind (ast.World w) ds none))
+tops_of_items top (ast.Interface i ∷ ds) none = ap (λ (l : List Id). i.name ∷ l) (tops_of_items top ds (no_use_after (ast.Interface i) ds none))
+tops_of_items top (ast.World w ∷ ds) none = ap (λ (l : List Id). w.name ∷ l) (tops_of_items top ds (no_use_after (ast.World w) ds none))
 tops_of_items top (ast.Use u ∷ ds) none = absurd (none u (contains_at (ast.Use u ∷ ds) 0 (ast.Use u) refl))
 
 pub top_repeated : (files : List PackageFile) (file : PackageFile) (f : Fault) → HasNoUse (declarations files) → Contains files file → IsSecond top_text (λ (n : TopName). fault 6 n.id.span) (top_names file) f → (g : Fault) × IsSecond item_name (λ (i : Item). fault 5 (about i.declared).id.span) (all_items files) g
@@ -55,7 +55,7 @@ top_repeated files file f none is h =
       ),
     )
 
--- an item whose name stands twice among items is one whose name does among their twins
+-- an item whose name occurs twice among items is one whose name does among their twins
 pub repeated_onward : (is js : List Item) (f : Fault) → AreTwins is js → IsSecond item_name (λ (i : Item). fault 5 (about i.declared).id.span) is f → IsSecond item_name (λ (i : Item). fault 5 (about i.declared).id.span) js f
 repeated_onward is js f t h =
     let r = h.1 in

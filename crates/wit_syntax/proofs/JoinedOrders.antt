@@ -74,10 +74,10 @@ module _ (files others : List PackageFile) (a : AreAlike files others) where
       ]
 
   -- an edge that is missing in the one is missing in the other
-  pub missing_edge_onward : (told : Id → Fault) (f : Fault) → IsMissingEdge told (item_rows files) f → (g : Fault) × IsMissingEdge told (item_rows others) g
-  missing_edge_onward told f h =
+  pub missing_edge_onward : (as_stated : Id → Fault) (f : Fault) → IsMissingEdge as_stated (item_rows files) f → (g : Fault) × IsMissingEdge as_stated (item_rows others) g
+  missing_edge_onward as_stated f h =
       let it = missing_onward (item_rows files) (item_rows others) names_alike onward_alike (h.0, h.1, h.2, h.3, h.4) in
-      (told it.2, (it.0, it.1, it.2, it.3, it.4, refl))
+      (as_stated it.2, (it.0, it.1, it.2, it.3, it.4, refl))
 
   -- and so is one that is on a cycle
   pub cyclic_edge_onward : (number : ℕ) (sort : List ℕ) (f : Fault) → IsCyclicEdge number sort (item_rows files) f → (g : Fault) × IsCyclicEdge number sort (item_rows others) g

@@ -1,4 +1,4 @@
--- Where paths lead in files in which each name at the top stands for itself: where they say.
+-- Where paths lead in files in which each name at the top means itself: where they say.
 use Rattle.std.proofs.Common.{◌≡◌, ℕ, List, [], ◌∷◌, Option, Some, None, refl, sym, ap, ◌∙◌, subst}
 use Rattle.std.specs.Prelude.{slice_get, map, find}
 use Rattle.std.specs.Option.{option_map_or}
@@ -12,7 +12,7 @@ use Rattle.wit_syntax.specs.Scope.{local_target}
 use Rattle.wit_syntax.proofs.Names.{name_equal}
 use Rattle.wit_syntax.proofs.Found.{find_at, find_passes}
 
--- names at the top of a file that stand for themselves
+-- names at the top of a file that mean themselves
 abbrev pub AreThemselves : List TopName → Type 0
 AreThemselves top = (k : ℕ) (t : TopName) → slice_get top k ≡ Some t → t.target ≡ Local t.id
 

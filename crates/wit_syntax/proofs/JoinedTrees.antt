@@ -9,13 +9,13 @@ use Rattle.wit_syntax.specs.Address.{Address, InterfaceNamed, WorldNamed, Inline
 use Rattle.wit_syntax.specs.Node.{Node, Leaf, Named, Unnamed, Nothing, node_map, unfolded}
 use Rattle.wit_syntax.specs.Repeats.{firsts}
 use Rattle.wit_syntax.specs.Shape.{Prim, Word, Of}
-use Rattle.wit_syntax.specs.Source.{Declared, Item, address, all_items, item_named, item_at, ScopeName, scope_names, Taking, takings, taken_names, same_taking, meaning, Place, named_node, about, Taken}
+use Rattle.wit_syntax.specs.Source.{Declared, Item, address, all_items, item_named, item_at, ScopeName, scope_names, ForeignUse, foreign_uses, used_names, same_foreign_use, meaning, Place, named_node, about, ForeignName}
 use Rattle.wit_syntax.specs.Sides.{all_scopes}
 use Rattle.wit_syntax.specs.Splitting.{declared_of}
-use Rattle.wit_syntax.specs.Trees.{scope, source_node, source_tree}
+use Rattle.wit_syntax.specs.ScopesOfTrees.{scope, source_node, source_tree}
 use Rattle.wit_syntax.proofs.Found.{find_at}
 use Rattle.wit_syntax.proofs.JoinedLists.{map_by, find-map}
-use Rattle.wit_syntax.proofs.JoinedItems.{bare, ArePlain, AreTwins, twins_inside, names_of_bare, takings_of_bare, twins_become, item_takings}
+use Rattle.wit_syntax.proofs.JoinedItems.{bare, ArePlain, AreTwins, twins_inside, names_of_bare, foreign_uses_of_bare, twins_become, item_foreign_uses}
 use Rattle.wit_syntax.proofs.JoinedFiles.{AreAlike, items_twins}
 
 -- what is found among twins by what is declared declares the same
@@ -58,17 +58,17 @@ module _ (files others : List PackageFile) (a : AreAlike files others) where
   pub scopes_twins : AreTwins (all_scopes files) (all_scopes others)
   scopes_twins = twins_inside (all_items files) (all_items others) (items_twins files others a)
 
-  pub takings_alike : takings files ≡ takings others
-  takings_alike = twins_become item_takings takings_of_bare (all_items files) (all_items others) (items_twins files others a)
+  pub foreign_uses_alike : foreign_uses files ≡ foreign_uses others
+  foreign_uses_alike = twins_become item_foreign_uses foreign_uses_of_bare (all_items files) (all_items others) (items_twins files others a)
 
-  taken_alike : (s : Address) → taken_names files s ≡ taken_names others s
-  taken_alike s = ap (λ (ts : List Taking). map (λ (t : Taking). Taken t.attributes t.id) (filter (λ (t : Taking). same_address t.from s) (firsts same_taking ts))) takings_alike
+  used_alike : (s : Address) → used_names files s ≡ used_names others s
+  used_alike s = ap (λ (ts : List ForeignUse). map (λ (t : ForeignUse). ForeignName t.attributes t.id) (filter (λ (t : ForeignUse). same_address t.from s) (firsts same_foreign_use ts))) foreign_uses_alike
 
   pub scope_alike : (s : Address) → scope files s ≡ scope others s
   scope_alike (InterfaceNamed name) = names_at (all_scopes files) (all_scopes others) scopes_twins (InterfaceNamed name)
   scope_alike (WorldNamed name) = names_at (all_scopes files) (all_scopes others) scopes_twins (WorldNamed name)
   scope_alike (InlineAt world side place) = names_at (all_scopes files) (all_scopes others) scopes_twins (InlineAt world side place)
-  scope_alike (ForeignNamed p name) = taken_alike (ForeignNamed p name)
+  scope_alike (ForeignNamed p name) = used_alike (ForeignNamed p name)
 
   node_alike : (place : Place) → source_node files place ≡ source_node others place
   node_alike (s, Prim p) = refl

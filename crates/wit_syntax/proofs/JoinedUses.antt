@@ -52,7 +52,7 @@ abbrev foreign_world : List ForeignVisit → PackageName → List ℕ → Option
 foreign_world vs p name = option_map (λ (v : ForeignVisit). v.wants_world) (find (λ (v : ForeignVisit). same_address (visited v) (ForeignNamed p name)) (firsts same_item vs))
 
 module _ (files others : List PackageFile) (a : AreAlike files others) where
-  -- what stands where paths lead is a world in both or in neither
+  -- what is where paths lead is a world in both or in neither
   world_at_alike : (t u : Target) → IsSameTarget t u → is_world_at files t ≡ is_world_at others u
   world_at_alike (Local x) (Local y) same = ap (λ (name : List ℕ). option_map is_world (item_named (all_items files) name)) same ∙ world_onward (all_items files) (all_items others) (items_twins files others a) y.name.now
   world_at_alike (Foreign p x) (Foreign q y) same = ap (λ (vs : List ForeignVisit). foreign_world vs p x.name.now) (visits_same files others a) ∙ ap (λ (r : PackageName). foreign_world (foreign_visits others) r x.name.now) same.0 ∙ ap (λ (z : Id). foreign_world (foreign_visits others) q z.name.now) same.1
@@ -61,15 +61,15 @@ module _ (files others : List PackageFile) (a : AreAlike files others) where
 
   -- of an item and its twin
   module _ (i : Item) (top : List TopName) (own : AreThemselves i.top) (other : AreThemselves top) where
-    pub world_led : (from : UsePath) → is_world_at files (leads i.top from) ≡ is_world_at others (leads top from)
-    world_led from = world_at_alike (leads i.top from) (leads top from) (leads_same i.top top own other from)
+    pub world_resolved : (from : UsePath) → is_world_at files (leads i.top from) ≡ is_world_at others (leads top from)
+    world_resolved from = world_at_alike (leads i.top from) (leads top from) (leads_same i.top top own other from)
 
     pub use_onward : (f : Fault) → IsBrokenUse files i f → (g : Fault) × IsBrokenUse others (retop top i) g
     use_onward f (MissingUse path id among local missing is) =
         let to = local_from (leads i.top path) (leads top path) id (leads_same i.top top own other path) local in
         let here : item_named (all_items files) to.0.name.now ≡ None = ap (item_named (all_items files)) to.2 ∙ missing in
         (missing_at 7 item_word to.0, MissingUse path to.0 among to.1 (unnamed_onward (all_items files) (all_items others) (items_twins files others a) to.0.name.now here) refl)
-    use_onward f (WorldUsed path among world is) = (f, WorldUsed path among (sym (world_led path) ∙ world) is)
+    use_onward f (WorldUsed path among world is) = (f, WorldUsed path among (sym (world_resolved path) ∙ world) is)
 
   -- the interface from which a name is used, and that lacks it
   pub lacking_onward : (target : Item) (name : List ℕ) → item_named (all_items files) (item_name target) ≡ Some target → meaning (scope_names target) name ≡ None → (top : List TopName) × (item_named (all_items others) (item_name target) ≡ Some (retop top target)) × (meaning (scope_names (retop top target)) name ≡ None)

@@ -8,20 +8,20 @@ use Rattle.std.proofs.lemmas.List.Elements.{filter-append}
 use Rattle.wit_graph.proofs.Tables.{slice_get-take}
 use Rattle.wit_syntax.specs.Scope.{in_order}
 use Rattle.wit_syntax.specs.Repeats.{AllDiffer}
-use Rattle.wit_syntax.proofs.Lists.{at_front}
+use Rattle.wit_syntax.proofs.Lists.{at_prefix}
 use Rattle.wit_syntax.proofs.Orders.{in_order-append, in_order-more, in_order_has}
 use Rattle.wit_syntax.proofs.Repeated.{differ_none, differ_at, differ_by}
 
--- what stands behind one more is that one, or stands in the list
-pub behind_one : {X : Type 0} (y : X) (zs : List X) (i : ℕ) (x : X) → slice_get (y ∷ zs) i ≡ Some x → (y ≡ x) ⊎ ((j : ℕ) × (slice_get zs j ≡ Some x))
-behind_one y zs zero x at = inl cc
-behind_one y zs (suc i) x at = inr (i, at)
+-- what comes after one more is that one, or is in the list
+pub after_one : {X : Type 0} (y : X) (zs : List X) (i : ℕ) (x : X) → slice_get (y ∷ zs) i ≡ Some x → (y ≡ x) ⊎ ((j : ℕ) × (slice_get zs j ≡ Some x))
+after_one y zs zero x at = inl cc
+after_one y zs (suc i) x at = inr (i, at)
 
--- what is kept stands in the list, and passes the test
+-- what is kept is in the list, and passes the test
 pub kept_at : {X : Type 0} (test : X → Bool) (xs : List X) (i : ℕ) (x : X) → slice_get (filter test xs) i ≡ Some x → (p : ℕ) × (slice_get xs p ≡ Some x) × (test x ≡ true)
 kept_at test [] i x at = absurd (let f : ⊥ = cc in f)
 kept_at test (y ∷ ys) i x at = elim (cases_Bool (test y)) [
-  | inl hit ↦ elim (behind_one y (filter test ys) i x (sym (ap (λ zs. slice_get zs i) (cond-true (test y) (y ∷ filter test ys) (filter test ys) hit)) ∙ at)) [
+  | inl hit ↦ elim (after_one y (filter test ys) i x (sym (ap (λ zs. slice_get zs i) (cond-true (test y) (y ∷ filter test ys) (filter test ys) hit)) ∙ at)) [
     | inl here ↦ (0, ap Some here, ap test (sym here) ∙ hit)
     | inr rest ↦ (let it = kept_at test ys rest.0 x rest.1 in (suc it.0, it.1, it.2))
   ]
@@ -79,13 +79,13 @@ module _ {X K : Type 0} (key : X → K) where
         | inr miss ↦ subst (λ (l : List X). AllDiffer (map key l)) (sym (cond-false (test x) (x ∷ filter test xs) (filter test xs) miss)) rest
       ]
 
--- what a test keeps of those at the first places stands in the front of what it keeps of all
-pub kept_front : {X : Type 0} (test : X → Bool) (xs : List X) (places : List ℕ) (n i : ℕ) (x : X) → slice_get (filter test (in_order xs (take n places))) i ≡ Some x → slice_get (filter test (in_order xs places)) i ≡ Some x
-kept_front test xs places n i x at =
-    let front = in_order xs (take n places) in
+-- what a test keeps of those at the first places is in the prefix of what it keeps of all
+pub kept_prefix : {X : Type 0} (test : X → Bool) (xs : List X) (places : List ℕ) (n i : ℕ) (x : X) → slice_get (filter test (in_order xs (take n places))) i ≡ Some x → slice_get (filter test (in_order xs places)) i ≡ Some x
+kept_prefix test xs places n i x at =
+    let prefix = in_order xs (take n places) in
     let back = in_order xs (drop n places) in
-    let whole : filter test (in_order xs places) ≡ filter test front ++ filter test back = ap (λ ps. filter test (in_order xs ps)) (sym (take-append-drop n places)) ∙ ap (filter test) (in_order-append xs (take n places) (drop n places)) ∙ filter-append test front back in
-    ap (λ l. slice_get l i) whole ∙ at_front (filter test front) (filter test back) i x at
+    let whole : filter test (in_order xs places) ≡ filter test prefix ++ filter test back = ap (λ ps. filter test (in_order xs ps)) (sym (take-append-drop n places)) ∙ ap (filter test) (in_order-append xs (take n places) (drop n places)) ∙ filter-append test prefix back in
+    ap (λ l. slice_get l i) whole ∙ at_prefix (filter test prefix) (filter test back) i x at
 
 -- and one of those at the first places that passes it is kept
 pub kept_early : {X : Type 0} (test : X → Bool) (xs : List X) (places : List ℕ) (n t q : ℕ) (x : X) → t < n → slice_get places t ≡ Some q → slice_get xs q ≡ Some x → test x ≡ true → (i : ℕ) × (slice_get (filter test (in_order xs (take n places))) i ≡ Some x)
@@ -93,14 +93,14 @@ kept_early test xs places n t q x lt at there passes =
     let it = in_order_has xs (take n places) t q x (slice_get-take places n t lt ∙ at) there in
     kept_has test (in_order xs (take n places)) it.0 x passes it.1
 
--- one place more, where the test keeps what stands at it
+-- one place more, where the test keeps what is at it
 pub kept_next : {X : Type 0} (test : X → Bool) (xs : List X) (places : List ℕ) (n p : ℕ) (x : X) → slice_get places n ≡ Some p → slice_get xs p ≡ Some x → test x ≡ true → filter test (in_order xs (take (n + 1) places)) ≡ filter test (in_order xs (take n places)) ++ x ∷ []
 kept_next test xs places n p x at there passes =
-    let front = in_order xs (take n places) in
-    ap (filter test) (in_order-more xs places n p x at there) ∙ filter-append test front (x ∷ []) ∙ ap (λ l. filter test front ++ l) (cond-true (test x) (x ∷ []) [] passes)
+    let prefix = in_order xs (take n places) in
+    ap (filter test) (in_order-more xs places n p x at there) ∙ filter-append test prefix (x ∷ []) ∙ ap (λ l. filter test prefix ++ l) (cond-true (test x) (x ∷ []) [] passes)
 
 -- and where it does not
 pub kept_past : {X : Type 0} (test : X → Bool) (xs : List X) (places : List ℕ) (n p : ℕ) (x : X) → slice_get places n ≡ Some p → slice_get xs p ≡ Some x → test x ≡ false → filter test (in_order xs (take (n + 1) places)) ≡ filter test (in_order xs (take n places))
 kept_past test xs places n p x at there fails =
-    let front = in_order xs (take n places) in
-    ap (filter test) (in_order-more xs places n p x at there) ∙ filter-append test front (x ∷ []) ∙ ap (λ l. filter test front ++ l) (cond-false (test x) (x ∷ []) [] fails) ∙ append-nil (filter test front)
+    let prefix = in_order xs (take n places) in
+    ap (filter test) (in_order-more xs places n p x at there) ∙ filter-append test prefix (x ∷ []) ∙ ap (λ l. filter test prefix ++ l) (cond-false (test x) (x ∷ []) [] fails) ∙ append-nil (filter test prefix)

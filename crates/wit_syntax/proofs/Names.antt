@@ -41,7 +41,7 @@ lookup-insert_entry (e ∷ es) k q v = elim (name_cases k e.0) [
       | inr other ↦ other
     ]
 
--- a new name stands last
+-- a new name comes last
 pub names-insert_entry : (es : List (List ℕ × ℕ)) (k : List ℕ) (v : ℕ) → lookup (pointwise nat_eq k) es ≡ None → map (λ p. p.0) (insert_entry (pointwise nat_eq) es k v) ≡ map (λ p. p.0) es ++ k ∷ []
 names-insert_entry [] k v none = refl
 names-insert_entry (e ∷ es) k v none = elim (name_cases k e.0) [
@@ -49,7 +49,7 @@ names-insert_entry (e ∷ es) k v none = elim (name_cases k e.0) [
   | inr miss ↦ (let rest = rw miss at none in rw miss (ap (λ ns. e.0 ∷ ns) (names-insert_entry es k v rest)))
 ]
 
--- the value that a name finds where no name stands twice
+-- the value that a name finds where no name occurs twice
 pub lookup-at : (es : List (List ℕ × ℕ)) (k : ℕ) (name : List ℕ) (id : ℕ) → ((i j : ℕ) (n : List ℕ) → slice_get (map (λ p. p.0) es) i ≡ Some n → slice_get (map (λ p. p.0) es) j ≡ Some n → i ≡ j) → slice_get es k ≡ Some (name, id) → lookup (pointwise nat_eq name) es ≡ Some id
 lookup-at [] k name id once at = absurd (let f : ⊥ = cc in f)
 lookup-at (e ∷ es) zero name id once at =
@@ -65,7 +65,7 @@ lookup-at (e ∷ es) (suc k) name id once at = elim (name_cases name e.0) [
   | inr other ↦ rw other (lookup-at es k name id (λ i j n ati atj. (let both = once (suc i) (suc j) n ati atj in omega arith)) at)
 ]
 
--- where a name that finds a value stands
+-- where a name that finds a value is
 pub lookup-place : (es : List (List ℕ × ℕ)) (name : List ℕ) (id : ℕ) → lookup (pointwise nat_eq name) es ≡ Some id → (k : ℕ) × (slice_get es k ≡ Some (name, id))
 lookup-place [] name id h = absurd (let f : ⊥ = cc in f)
 lookup-place (e ∷ es) name id h = elim (name_cases name e.0) [

@@ -16,21 +16,21 @@ take_next xs i x at = take_more xs i x (slice_get_within xs i x at) ∙ ap (λ y
 pub in_order-append : {X : Type 0} (xs : List X) (ks ls : List ℕ) → in_order xs (ks ++ ls) ≡ in_order xs ks ++ in_order xs ls
 in_order-append xs ks ls = filter_map-append (slice_get xs) ks ls
 
--- what stands at places, one place more
+-- what is at places, one place more
 pub in_order-more : {X : Type 0} (xs : List X) (places : List ℕ) (i p : ℕ) (x : X) → slice_get places i ≡ Some p → slice_get xs p ≡ Some x → in_order xs (take (i + 1) places) ≡ in_order xs (take i places) ++ x ∷ []
 in_order-more xs places i p x at there = ap (in_order xs) (take_next places i p at) ∙ in_order-append xs (take i places) (p ∷ []) ∙ ap (λ o. in_order xs (take i places) ++ cons_option o []) there
 
--- what stands at a place that is among them
+-- what is at a place that is among them
 pub in_order_has : {X : Type 0} (xs : List X) (places : List ℕ) (m p : ℕ) (x : X) → slice_get places m ≡ Some p → slice_get xs p ≡ Some x → (i : ℕ) × (slice_get (in_order xs places) i ≡ Some x)
 in_order_has xs [] m p x at there = absurd (let f : ⊥ = cc in f)
 in_order_has xs (k ∷ ks) zero p x at there =
     let same : k ≡ p = cc in
     (0, ap (λ o. slice_get (cons_option o (in_order xs ks)) 0) (ap (slice_get xs) same ∙ there))
-in_order_has {X} xs (k ∷ ks) (suc m) p x at there = behind (slice_get xs k) (in_order_has xs ks m p x at there)
+in_order_has {X} xs (k ∷ ks) (suc m) p x at there = rest_after (slice_get xs k) (in_order_has xs ks m p x at there)
   where
-    behind : (o : Option X) → (i : ℕ) × (slice_get (in_order xs ks) i ≡ Some x) → (i : ℕ) × (slice_get (cons_option o (in_order xs ks)) i ≡ Some x)
-    behind None h = h
-    behind (Some y) h = (suc h.0, h.1)
+    rest_after : (o : Option X) → (i : ℕ) × (slice_get (in_order xs ks) i ≡ Some x) → (i : ℕ) × (slice_get (cons_option o (in_order xs ks)) i ≡ Some x)
+    rest_after None h = h
+    rest_after (Some y) h = (suc h.0, h.1)
 
 pub order_within : (rs : List Row) (places : List ℕ) → IsOrder rs places → (j p : ℕ) → slice_get places j ≡ Some p → p < length rs
 order_within rs places order j p h =
@@ -39,16 +39,16 @@ order_within rs places order j p h =
     let here : slice_index places j ≡ p = get_or_from_slice_get places j p 0 h in
     subst (λ (k : ℕ). k < length rs) here (order.sorted.within j (omega arith))
 
-one_behind : {X : Type 0} (xs : List X) (k : ℕ) (ks : List ℕ) (y x : X) (i : ℕ) → slice_get xs k ≡ Some y → ((j : ℕ) → slice_get (in_order xs ks) j ≡ Some x → (p : ℕ) × (slice_get ks j ≡ Some p) × (slice_get xs p ≡ Some x)) → slice_get (y ∷ in_order xs ks) i ≡ Some x → (p : ℕ) × (slice_get (k ∷ ks) i ≡ Some p) × (slice_get xs p ≡ Some x)
-one_behind xs k ks y x zero is rest at = (k, refl, is ∙ at)
-one_behind xs k ks y x (suc i) is rest at = rest i at
+one_after : {X : Type 0} (xs : List X) (k : ℕ) (ks : List ℕ) (y x : X) (i : ℕ) → slice_get xs k ≡ Some y → ((j : ℕ) → slice_get (in_order xs ks) j ≡ Some x → (p : ℕ) × (slice_get ks j ≡ Some p) × (slice_get xs p ≡ Some x)) → slice_get (y ∷ in_order xs ks) i ≡ Some x → (p : ℕ) × (slice_get (k ∷ ks) i ≡ Some p) × (slice_get xs p ≡ Some x)
+one_after xs k ks y x zero is rest at = (k, refl, is ∙ at)
+one_after xs k ks y x (suc i) is rest at = rest i at
 
--- where an element of the ordered ones stands
+-- where an element of the ordered ones is
 pub in_order_at : {X : Type 0} (xs : List X) (places : List ℕ) (i : ℕ) (x : X) → ((j p : ℕ) → slice_get places j ≡ Some p → p < length xs) → slice_get (in_order xs places) i ≡ Some x → (p : ℕ) × (slice_get places i ≡ Some p) × (slice_get xs p ≡ Some x)
 in_order_at xs [] i x within at = absurd (let f : ⊥ = cc in f)
 in_order_at xs (k ∷ ks) i x within at =
     let y = at_within xs k (within 0 k refl) in
-    one_behind xs k ks y.0 x i y.1 (λ j h. in_order_at xs ks j x (λ l p there. within (suc l) p there) h) (sym (ap (λ o. slice_get (cons_option o (in_order xs ks)) i) y.1) ∙ at)
+    one_after xs k ks y.0 x i y.1 (λ j h. in_order_at xs ks j x (λ l p there. within (suc l) p there) h) (sym (ap (λ o. slice_get (cons_option o (in_order xs ks)) i) y.1) ∙ at)
 
 pub length-in_order : {X : Type 0} (xs : List X) (places : List ℕ) → ((j p : ℕ) → slice_get places j ≡ Some p → p < length xs) → length (in_order xs places) ≡ length places
 length-in_order xs [] within = refl
@@ -56,7 +56,7 @@ length-in_order xs (k ∷ ks) within =
     let y = at_within xs k (within 0 k refl) in
     ap (λ o. length (cons_option o (in_order xs ks))) y.1 ∙ ap suc (length-in_order xs ks (λ j p h. within (suc j) p h))
 
--- what stands at the place that stands at an index of the order
+-- what is at the place that is at an index of the order
 pub in_order_read : {X : Type 0} (xs : List X) (places : List ℕ) (i p : ℕ) (x : X) → ((j p : ℕ) → slice_get places j ≡ Some p → p < length xs) → slice_get places i ≡ Some p → slice_get xs p ≡ Some x → slice_get (in_order xs places) i ≡ Some x
 in_order_read xs places i p x within at there =
     let lt = slice_get_within places i p at in
@@ -73,7 +73,7 @@ index_of rs places p order lt =
     let long = order.sorted.long in
     (it.index, slice_get-get_or places it.index 0 (omega arith) ∙ ap Some it.is)
 
--- one place does not stand at two indices
+-- one place is not at two indices
 apart : (rs : List Row) (places : List ℕ) (first second p q : ℕ) → IsOrder rs places → first < second → slice_get places first ≡ Some p → slice_get places second ≡ Some q → p ≡ q → ⊥
 apart rs places first second p q order before at_p at_q same =
     let within = slice_get_within places second q at_q in
@@ -85,7 +85,7 @@ apart rs places first second p q order before at_p at_q same =
 three_ways : (m n : ℕ) → (m < n) ⊎ ((m ≡ n) ⊎ (n < m))
 three_ways m n = grind arith
 
--- each place stands once in an order
+-- each place is once in an order
 pub index_once : (rs : List Row) (places : List ℕ) (i j p q : ℕ) → IsOrder rs places → slice_get places i ≡ Some p → slice_get places j ≡ Some q → p ≡ q → i ≡ j
 index_once rs places i j p q order at_p at_q same = elim (three_ways i j) [
   | inl lt ↦ absurd (apart rs places i j p q order lt at_p at_q same)

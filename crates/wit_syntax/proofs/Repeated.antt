@@ -10,7 +10,7 @@ use Rattle.wit_syntax.specs.Function.{SourceFunction}
 use Rattle.wit_names.specs.Folded.{folded_key}
 use Rattle.wit_syntax.proofs.Lists.{at_either, at_split, map_at}
 
--- a function by its name, and the key by which names of a scope are told apart
+-- a function by its name, and the key by which names of a scope are distinguished
 abbrev pub function_called : SourceFunction → Called
 function_called fn = record { name = fn.name; span = fn.span }
 
@@ -20,7 +20,7 @@ called_key c = folded_key c.name
 pub key_at : {X : Type 0} (key : X → List ℕ) (xs : List X) (i : ℕ) (x : X) → slice_get xs i ≡ Some x → slice_get (map key xs) i ≡ Some (key x)
 key_at key xs i x h = slice_get-map key xs i ∙ ap (option_map key) h
 
--- a key that stands twice is that of an item behind another
+-- a key that occurs twice is that of an item after another
 pub repeated_key : {X : Type 0} (key : X → List ℕ) (xs : List X) (first second : ℕ) (later : X) → IsRepeatAt (map key xs) first second → slice_get xs second ≡ Some later → IsRepeated key xs later
 repeated_key key xs first second later r at =
     let one = map_at key xs first r.x r.at_first in
@@ -64,16 +64,16 @@ differ_more xs x d new = record {
   ];
 }
 
--- two lists, where nothing of the one stands in the other
+-- two lists, where nothing of the one is in the other
 pub differ_join : {X : Type 0} (xs ys : List X) → AllDiffer xs → AllDiffer ys → ((i j : ℕ) (x : X) → slice_get xs i ≡ Some x → slice_get ys j ≡ Some x → ⊥) → AllDiffer (xs ++ ys)
 differ_join xs ys a b apart = record {
   differ = λ i j x at_i at_j. elim (at_split xs ys i x at_i) [
-    | inl front_i ↦ elim (at_split xs ys j x at_j) [
-      | inl front_j ↦ a.differ i j x front_i front_j
-      | inr back_j ↦ absurd (apart i back_j.0 x front_i back_j.2)
+    | inl prefix_i ↦ elim (at_split xs ys j x at_j) [
+      | inl prefix_j ↦ a.differ i j x prefix_i prefix_j
+      | inr back_j ↦ absurd (apart i back_j.0 x prefix_i back_j.2)
     ]
     | inr back_i ↦ elim (at_split xs ys j x at_j) [
-      | inl front_j ↦ absurd (apart j back_i.0 x front_j back_i.2)
+      | inl prefix_j ↦ absurd (apart j back_i.0 x prefix_j back_i.2)
       | inr back_j ↦ back_i.1 ∙ ap (λ n. length xs + n) (b.differ back_i.0 back_j.0 x back_i.2 back_j.2) ∙ sym back_j.1
     ]
   ];

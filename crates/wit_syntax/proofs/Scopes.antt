@@ -1,4 +1,4 @@
--- Where items stand among all scopes: those that files declare, each with those that are written in it.
+-- Where items are among all scopes: those that files declare, each with those that are written in it.
 use Rattle.std.proofs.Common.{◌≡◌, ℕ, zero, suc, Bool, true, false, List, [], ◌∷◌, ◌++◌, Some, ◌⊎◌, inl, inr, refl, sym, ap, ◌∙◌, subst}
 use Rattle.std.specs.Prelude.{slice_get, map, Contains, find}
 use Rattle.std.specs.List.{flat_map}
@@ -15,7 +15,7 @@ use Rattle.wit_syntax.specs.Sides.{inline_items, with_inline, all_scopes}
 use Rattle.wit_syntax.proofs.Lists.{map_at, flat_map_at, flat_map_has}
 use Rattle.wit_syntax.proofs.Names.{name_itself}
 use Rattle.wit_syntax.proofs.Addresses.{same_address-itself, same_address-equal}
-use Rattle.wit_syntax.proofs.Kept.{behind_one, differ_cons, differ_head, differ_tail}
+use Rattle.wit_syntax.proofs.Kept.{after_one, differ_cons, differ_head, differ_tail}
 use Rattle.wit_syntax.proofs.Repeated.{differ_at, differ_by, differ_none, differ_join}
 use Rattle.wit_syntax.proofs.Found.{contains_at, at_contains, find_at, find_passes, find_some}
 use Rattle.wit_syntax.proofs.Inline.{outer_name, is_inside, inline_items_differ, inline_inside, inline_outer}
@@ -78,7 +78,7 @@ addresses_differ ws own d = differ_by address ws (λ i j v w at_i at_j same. dif
 pub inside_one : (ws : List Item) (k : ℕ) (i : Item) → slice_get (flat_map inline_items ws) k ≡ Some i → is_inside (address i) ≡ true
 inside_one ws k i at = (let it = flat_map_at inline_items ws k i at in inline_inside it.1 it.3.0 i it.3.1)
 
--- where no two have one address, each stands at its own
+-- where no two have one address, each is at its own
 pub item_at_its : (is : List Item) (t : ℕ) (i : Item) → AllDiffer (map address is) → slice_get is t ≡ Some i → item_at is (address i) ≡ Some i
 item_at_its is t i d at =
     let test = λ (v : Item). same_address (address v) (address i) in
@@ -87,17 +87,17 @@ item_at_its is t i d at =
     let place : there.0 ≡ t = differ_at address is d there.0 t it.0 i there.1 at (same_address-equal (address it.0) (address i) (find_passes test is it.0 it.1)) in
     it.1 ∙ sym there.1 ∙ ap (slice_get is) place ∙ at
 
--- where the names of items differ, the first of a name stands at its address
+-- where the names of items differ, the first of a name is at its address
 pub first_named : (ws : List Item) (w : Item) → AreDeclared ws → AllDiffer (map item_name ws) → item_named ws (item_name w) ≡ Some w → item_at ws (address w) ≡ Some w
 first_named ws w own d found =
     let p = find_at (λ (i : Item). bytes_eq (item_name i) (item_name w)) ws w found in
     item_at_its ws p.0 w (addresses_differ ws own d) p.1
 
-find_front : {X : Type 0} (test : X → Bool) (xs ys : List X) (x : X) → find test xs ≡ Some x → find test (xs ++ ys) ≡ Some x
-find_front test [] ys x h = absurd (let f : ⊥ = cc in f)
-find_front test (y ∷ xs) ys x h = elim (cases_Bool (test y)) [
+find_prefix : {X : Type 0} (test : X → Bool) (xs ys : List X) (x : X) → find test xs ≡ Some x → find test (xs ++ ys) ≡ Some x
+find_prefix test [] ys x h = absurd (let f : ⊥ = cc in f)
+find_prefix test (y ∷ xs) ys x h = elim (cases_Bool (test y)) [
   | inl hit ↦ (let here : Some y ≡ Some x = rw hit at h in rw hit here)
-  | inr miss ↦ (let rest = find_front test xs ys x (rw miss at h) in rw miss rest)
+  | inr miss ↦ (let rest = find_prefix test xs ys x (rw miss at h) in rw miss rest)
 ]
 
 find_past : {X : Type 0} (test : X → Bool) (xs ys : List X) → ((i : ℕ) (x : X) → slice_get xs i ≡ Some x → test x ≡ true → ⊥) → find test (xs ++ ys) ≡ find test ys
@@ -107,7 +107,7 @@ find_past test (y ∷ xs) ys none = elim (cases_Bool (test y)) [
   | inr miss ↦ (let rest = find_past test xs ys (λ i. none (suc i)) in rw miss rest)
 ]
 
--- the first item of a name stands at its address among all scopes, and each that is written in it at its own
+-- the first item of a name is at its address among all scopes, and each that is written in it at its own
 pub scope_item_at : (ws : List Item) (w : Item) (j : ℕ) (i : Item) → AreDeclared ws → item_named ws (item_name w) ≡ Some w → slice_get (with_inline w) j ≡ Some i → item_at (flat_map with_inline ws) (address i) ≡ Some i
 scope_item_at [] w j i own found at = absurd (let f : ⊥ = cc in f)
 scope_item_at (v ∷ ws) w j i own found at =
@@ -117,7 +117,7 @@ scope_item_at (v ∷ ws) w j i own found at =
           let here : Some v ≡ Some w = rw hit at found in
           let same : v ≡ w = cc in
           let there : slice_get (with_inline v) j ≡ Some i = ap (λ u. slice_get (with_inline u) j) same ∙ at in
-          find_front test (with_inline v) (flat_map with_inline ws) i (item_at_its (with_inline v) j i (with_inline_differ v (own 0 v refl)) there))
+          find_prefix test (with_inline v) (flat_map with_inline ws) i (item_at_its (with_inline v) j i (with_inline_differ v (own 0 v refl)) there))
       | inr miss ↦ (
           let rest : item_named ws (item_name w) ≡ Some w = rw miss at found in
           let its = find_at (λ (u : Item). bytes_eq (item_name u) (item_name w)) ws w rest in
@@ -129,7 +129,7 @@ scope_item_at (v ∷ ws) w j i own found at =
           f)) ∙ scope_item_at ws w j i (λ t. own (suc t)) rest at)
     ]
 
--- what stands first at an address among declared items does so among all scopes
+-- what is first at an address among declared items does so among all scopes
 first_at : (ws : List Item) (s : Address) (w : Item) → AreDeclared ws → is_inside s ≡ false → item_at ws s ≡ Some w → item_at (flat_map with_inline ws) s ≡ Some w
 first_at [] s w own outside found = absurd (let f : ⊥ = cc in f)
 first_at (v ∷ ws) s w own outside found =
@@ -172,7 +172,7 @@ module _ (files : List PackageFile) where
   scopes_either i is =
       let k = at_contains (all_scopes files) i is in
       let it = flat_map_at with_inline (all_items files) k.0 i k.1 in
-      elim (behind_one it.1 (inline_items it.1) it.3.0 i it.3.1) [
+      elim (after_one it.1 (inline_items it.1) it.3.0 i it.3.1) [
         | inl own ↦ inl (subst (λ (w : Item). Contains (all_items files) w) own (contains_at (all_items files) it.0 it.1 it.2))
         | inr inside ↦ inr (it.1, contains_at (all_items files) it.0 it.1 it.2, contains_at (inline_items it.1) inside.0 i inside.1)
       ]

@@ -1,4 +1,4 @@
--- Setters of an interface: all its functions stand on one side, and it includes nothing.
+-- Setters of an interface: all its functions are on one side, and it includes nothing.
 use Rattle.std.proofs.Common.{◌≡◌, false, List, [], ◌∷◌, map, Contains, refl, sym, ap, subst}
 use Rattle.std.specs.List.{flat_map}
 use Rattle.wit_tree.specs.declared.tree.InterfaceItem.{InterfaceItem}
@@ -6,7 +6,7 @@ use Rattle.wit_tree.specs.declared.tree.InterfaceItem.TheVariants as interface_i
 use Rattle.wit_tree.specs.declared.tree.WorldSide.{WorldSide}
 use Rattle.wit_tree.specs.declared.tree.WorldSide.TheVariants.{Imported, Exported}
 use Rattle.wit_syntax.specs.Broken.{IsSetterAlone}
-use Rattle.wit_syntax.specs.Crossing.{same_side}
+use Rattle.wit_syntax.specs.ExternPart.{same_side}
 use Rattle.wit_syntax.specs.Fault.{Fault}
 use Rattle.wit_syntax.specs.Function.{SourceFunction, functions}
 use Rattle.wit_syntax.specs.Scope.{part_includes, includes}

@@ -1,4 +1,4 @@
--- The functions that stand on a side.
+-- The functions that are on a side.
 use Rattle.std.proofs.Common.{◌≡◌, ℕ, zero, suc, Bool, true, false, List, [], ◌∷◌, ◌++◌, Some, inl, inr, refl, sym, ap, ◌∙◌, subst}
 use Rattle.std.specs.Prelude.{slice_get, map}
 use Rattle.std.specs.List.{filter, flat_map}
@@ -15,7 +15,7 @@ use Rattle.wit_tree.specs.declared.tree.WorldSide.{WorldSide}
 use Rattle.wit_tree.specs.declared.tree.WorldSide.TheVariants.{Imported}
 use Rattle.wit_syntax.specs.Source.{Declared, TheInterface, TheWorld, TheInline, interface_part, Item, is_world, about}
 use Rattle.wit_syntax.specs.Function.{SourceFunction, free_function, resource_function, definition_functions, part_functions, functions}
-use Rattle.wit_syntax.specs.Crossing.{same_side}
+use Rattle.wit_syntax.specs.ExternPart.{same_side}
 use Rattle.wit_syntax.specs.Signature.{Called}
 use Rattle.wit_syntax.specs.Sides.{role_side, on_side, SideItem, SideFunction, part_items, side_items, item_link, links, items_on, item_called}
 use Rattle.wit_syntax.proofs.Lists.{flat_map_at, map_at}
@@ -78,7 +78,7 @@ called_functions side (fn ∷ fns) = elim (cases_Bool (same_side side (role_side
   | inr miss ↦ ap (flat_map item_called) (cond-false (same_side side (role_side fn.role)) (SideFunction fn ∷ items_on side (map SideFunction fns)) (items_on side (map SideFunction fns)) miss) ∙ called_functions side fns ∙ sym (ap (map function_called) (cond-false (same_side side (role_side fn.role)) (fn ∷ on_side side fns) (on_side side fns) miss))
 ]
 
--- of an interface nothing stands there but functions
+-- of an interface nothing is there but functions
 interface_functions : (items : List InterfaceItem) → flat_map part_items (map interface_part items) ≡ map SideFunction (flat_map part_functions (map interface_part items))
 interface_functions [] = refl
 interface_functions (i ∷ items) =

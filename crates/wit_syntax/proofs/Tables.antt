@@ -1,4 +1,4 @@
--- Where names stand in a table of rows.
+-- Where names are in a table of rows.
 use Rattle.std.proofs.Common.{◌≡◌, ℕ, List, [], Option, Some, None, refl, get_or}
 use Rattle.std.specs.Prelude.{slice_get}
 use Rattle.std.specs.Str.{bytes_eq}

@@ -9,16 +9,16 @@ use Rattle.wit_type_tree.specs.declared.types.TypeDef.{TypeDef as Definition}
 use Rattle.wit_type_tree.specs.declared.leaves.Id.{Id}
 use Rattle.wit_graph.specs.Table.{IsOrder}
 use Rattle.wit_syntax.specs.Address.{Address}
-use Rattle.wit_syntax.specs.Source.{ScopeName, Used, Defined, Taken, local_name}
+use Rattle.wit_syntax.specs.Source.{ScopeName, Used, Defined, ForeignName, local_name}
 use Rattle.wit_syntax.specs.Scope.{rows_of, in_order, is_defined, used, defined, in_turn, AreDistinct}
 use Rattle.wit_syntax.specs.Repeats.{AllDiffer}
-use Rattle.wit_syntax.proofs.Lists.{at_front, at_back}
+use Rattle.wit_syntax.proofs.Lists.{at_prefix, at_back}
 use Rattle.wit_syntax.proofs.Repeated.{differ_none, differ_at, differ_by}
 use Rattle.wit_syntax.proofs.Kept.{kept_at, kept_has, differ_cons, differ_head, differ_tail, kept_differ}
 use Rattle.wit_syntax.proofs.Orders.{order_within, in_order_at, in_order_has, index_of, index_once}
 use Rattle.wit_syntax.proofs.Rows.{row_of}
 
--- what stands in two lists, one behind the other, stands in one of them
+-- what is in two lists, one after the other, is in one of them
 pub at_part : {X : Type 0} (xs ys : List X) (i : ℕ) (x : X) → slice_get (xs ++ ys) i ≡ Some x → ((j : ℕ) × (slice_get xs j ≡ Some x)) ⊎ ((j : ℕ) × (slice_get ys j ≡ Some x))
 at_part [] ys i x at = inr (i, at)
 at_part (z ∷ xs) ys zero x at = inl (0, at)
@@ -39,20 +39,20 @@ defined_at xs i x at = let it = kept_at is_defined xs i x at in (it.0, it.1)
 pub used_has : (xs : List ScopeName) (p : ℕ) (from : Address) (attributes : List Attribute) (n : UseName) → slice_get xs p ≡ Some (Used from attributes n) → (i : ℕ) × (slice_get (used xs) i ≡ Some (Used from attributes n))
 used_has xs p from attributes n at = kept_has is_used xs p (Used from attributes n) refl at
 
-taken_has : (xs : List ScopeName) (p : ℕ) (attributes : List Attribute) (id : Id) → slice_get xs p ≡ Some (Taken attributes id) → (i : ℕ) × (slice_get (used xs) i ≡ Some (Taken attributes id))
-taken_has xs p attributes id at = kept_has is_used xs p (Taken attributes id) refl at
+in_use_has : (xs : List ScopeName) (p : ℕ) (attributes : List Attribute) (id : Id) → slice_get xs p ≡ Some (ForeignName attributes id) → (i : ℕ) × (slice_get (used xs) i ≡ Some (ForeignName attributes id))
+in_use_has xs p attributes id at = kept_has is_used xs p (ForeignName attributes id) refl at
 
 pub defined_has : (xs : List ScopeName) (p : ℕ) (d : Definition) → slice_get xs p ≡ Some (Defined d) → (i : ℕ) × (slice_get (defined xs) i ≡ Some (Defined d))
 defined_has xs p d at = kept_has is_defined xs p (Defined d) refl at
 
 -- none of these is taken from another package
 abbrev pub AreOwn : List ScopeName → Type 0
-AreOwn xs = (i : ℕ) (attributes : List Attribute) (id : Id) → slice_get xs i ≡ Some (Taken attributes id) → ⊥
+AreOwn xs = (i : ℕ) (attributes : List Attribute) (id : Id) → slice_get xs i ≡ Some (ForeignName attributes id) → ⊥
 
-is_used-true : (x : ScopeName) → is_used x ≡ true → ((attributes : List Attribute) (id : Id) → x ≡ Taken attributes id → ⊥) → (from : Address) × (attributes : List Attribute) × (n : UseName) × (x ≡ Used from attributes n)
+is_used-true : (x : ScopeName) → is_used x ≡ true → ((attributes : List Attribute) (id : Id) → x ≡ ForeignName attributes id → ⊥) → (from : Address) × (attributes : List Attribute) × (n : UseName) × (x ≡ Used from attributes n)
 is_used-true (Used from attributes n) h own = (from, attributes, n, refl)
 is_used-true (Defined d) h own = absurd (let f : ⊥ = cc in f)
-is_used-true (Taken attributes id) h own = absurd (own attributes id refl)
+is_used-true (ForeignName attributes id) h own = absurd (own attributes id refl)
 
 -- a used name is one that is used, where none is taken
 pub used_is : (xs : List ScopeName) → AreOwn xs → (i : ℕ) (x : ScopeName) → slice_get (used xs) i ≡ Some x → (from : Address) × (attributes : List Attribute) × (n : UseName) × (x ≡ Used from attributes n)
@@ -64,7 +64,7 @@ used_is xs own i x at =
 pub either_at : (xs : List ScopeName) (p : ℕ) (x : ScopeName) → slice_get xs p ≡ Some x → ((i : ℕ) × (slice_get (used xs) i ≡ Some x)) ⊎ ((i : ℕ) × (slice_get (defined xs) i ≡ Some x))
 either_at xs p (Used from attributes n) at = inl (used_has xs p from attributes n at)
 either_at xs p (Defined d) at = inr (defined_has xs p d at)
-either_at xs p (Taken attributes id) at = inl (taken_has xs p attributes id at)
+either_at xs p (ForeignName attributes id) at = inl (in_use_has xs p attributes id at)
 
 -- none of these goes by the name
 abbrev pub IsFresh : List ℕ → List ScopeName → Type 0
@@ -98,7 +98,7 @@ distinct_join [] ys a b apart = b
 distinct_join (x ∷ xs) ys a b apart = distinct_cons x (xs ++ ys) (fresh_join (local_name x) xs ys (distinct_head x xs a) (apart 0 x refl)) (distinct_join xs ys (distinct_tail x xs a) b (λ i y at. apart (suc i) y at))
 
 pub distinct_left : (xs ys : List ScopeName) → AreDistinct (xs ++ ys) → AreDistinct xs
-distinct_left xs ys d = differ_by local_name xs (λ i j x y at_i at_j same. differ_at local_name (xs ++ ys) d i j x y (at_front xs ys i x at_i) (at_front xs ys j y at_j) same)
+distinct_left xs ys d = differ_by local_name xs (λ i j x y at_i at_j same. differ_at local_name (xs ++ ys) d i j x y (at_prefix xs ys i x at_i) (at_prefix xs ys j y at_j) same)
 
 pub distinct_right : (xs ys : List ScopeName) → AreDistinct (xs ++ ys) → AreDistinct ys
 distinct_right [] ys d = d
@@ -106,7 +106,7 @@ distinct_right (x ∷ xs) ys d = distinct_right xs ys (distinct_tail x (xs ++ ys
 
 pub distinct_apart : (xs ys : List ScopeName) → AreDistinct (xs ++ ys) → AreApart xs ys
 distinct_apart xs ys d i x at j y there same =
-    let both = differ_at local_name (xs ++ ys) d i (length xs + j) x y (at_front xs ys i x at) (at_back xs ys j y there) (sym same) in
+    let both = differ_at local_name (xs ++ ys) d i (length xs + j) x y (at_prefix xs ys i x at) (at_back xs ys j y there) (sym same) in
     let lt = slice_get_within xs i x at in
     omega arith
 
@@ -120,8 +120,8 @@ parts_distinct (Used from attributes n ∷ xs) a b apart =
       | inr h ↦ apart 0 x refl h.0 y h.1 same
     ] in
     distinct_cons x xs fresh (parts_distinct xs (distinct_tail x (used xs) a) b (λ i y at. apart (suc i) y at))
-parts_distinct (Taken attributes id ∷ xs) a b apart =
-    let x = Taken attributes id in
+parts_distinct (ForeignName attributes id ∷ xs) a b apart =
+    let x = ForeignName attributes id in
     let fresh : IsFresh (local_name x) xs = λ i y at same. elim (either_at xs i y at) [
       | inl h ↦ distinct_head x (used xs) a h.0 y h.1 same
       | inr h ↦ apart 0 x refl h.0 y h.1 same
@@ -176,10 +176,10 @@ in_turn_among xs order least i x at = elim (at_part (used xs) (defined (in_order
 pub in_turn_has : (xs : List ScopeName) (order : List ℕ) → IsOrder (rows_of xs) order → (p : ℕ) (x : ScopeName) → slice_get xs p ≡ Some x → (i : ℕ) × (slice_get (in_turn xs order) i ≡ Some x)
 in_turn_has xs order least p (Used from attributes n) at =
     let it = used_has xs p from attributes n at in
-    (it.0, at_front (used xs) (defined (in_order xs order)) it.0 (Used from attributes n) it.1)
-in_turn_has xs order least p (Taken attributes id) at =
-    let it = taken_has xs p attributes id at in
-    (it.0, at_front (used xs) (defined (in_order xs order)) it.0 (Taken attributes id) it.1)
+    (it.0, at_prefix (used xs) (defined (in_order xs order)) it.0 (Used from attributes n) it.1)
+in_turn_has xs order least p (ForeignName attributes id) at =
+    let it = in_use_has xs p attributes id at in
+    (it.0, at_prefix (used xs) (defined (in_order xs order)) it.0 (ForeignName attributes id) it.1)
 in_turn_has xs order least p (Defined d) at =
     let there = in_order_all xs order least p (Defined d) at in
     let it = defined_has (in_order xs order) there.0 d there.1 in

@@ -8,7 +8,7 @@ use Rattle.wit_values.specs.declared.release.Release.{Release}
 use Rattle.wit_tree.specs.declared.tree.PackageName.{PackageName as Written}
 use Rattle.wit_tree.specs.declared.tree.WorldSide.{WorldSide}
 use Rattle.wit_package_names.specs.declared.package_name.PackageName.{PackageName}
-use Rattle.wit_syntax.specs.Crossing.{same_side}
+use Rattle.wit_syntax.specs.ExternPart.{same_side}
 
 -- a scope: the declared interface, or the declared world, of a name; the interface that is written in a world, at a place on a side of it; or
 -- the item of a name in another package

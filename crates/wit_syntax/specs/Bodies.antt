@@ -17,7 +17,7 @@ use Rattle.wit_type_tree.specs.declared.types.TypeBody.TheVariants.{Record, Flag
 use Rattle.wit_type_tree.specs.Parts.{part_types, row_types, body_types}
 use Rattle.wit_syntax.specs.Fault.{Fault, fault}
 
--- the key by which labels are told apart: the label in lower case
+-- the key by which labels are distinguished: the label in lower case
 abbrev pub folded : List ℕ → List ℕ
 folded name = map to_ascii_lowercase name
 
@@ -25,11 +25,11 @@ folded name = map to_ascii_lowercase name
 abbrev pub IsRepeated : {X : Type 0} → (X → List ℕ) → List X → X → Type 0
 IsRepeated {X} key xs later = (first second : ℕ) × (first < second) × (earlier : X) × (slice_get xs first ≡ Some earlier) × (slice_get xs second ≡ Some later) × (key earlier ≡ key later)
 
--- an earlier item of a list has the key of a later one, of which a fault is told
+-- an earlier item of a list has the key of a later one, of which a fault is stated
 abbrev pub IsSecond : {X : Type 0} → (X → List ℕ) → (X → Fault) → List X → Fault → Type 0
-IsSecond {X} key told xs f = (later : X) × IsRepeated key xs later × (f ≡ told later)
+IsSecond {X} key as_stated xs f = (later : X) × IsRepeated key xs later × (f ≡ as_stated later)
 
--- a list has nothing in it, and the fault of this number tells of it
+-- a list has nothing in it, and the fault of this number says of it
 abbrev pub IsEmpty : {X : Type 0} → ℕ → List X → Span → Fault → Type 0
 IsEmpty number xs span f = (xs ≡ []) × (f ≡ fault number span)
 
@@ -72,7 +72,7 @@ pub data IsBrokenType : Written → Fault → Type 0 where
 abbrev pub IsBrokenPart : List Written → Fault → Type 0
 IsBrokenPart types f = (t : Written) × Contains types t × IsBrokenType t f
 
--- what is wrong with fields, flags or cases: there is none, and the fault of this number tells of it, or a name repeats
+-- what is wrong with fields, flags or cases: there is none, and the fault of this number says of it, or a name repeats
 abbrev pub AreBroken : {X : Type 0} → ℕ → (X → Id) → List X → Span → Fault → Type 0
 AreBroken number name xs span f = IsEmpty number xs span f ⊎ IsDuplicateName (map name xs) f
 

@@ -4,7 +4,7 @@ use Rattle.std.specs.List.{filter_map, flat_map}
 use Rattle.std.specs.Option.{option_map, option_or}
 use Rattle.semver.specs.Identifiers.{parts_of}
 use Rattle.wit_type_tree.specs.declared.error.ParseError.{ParseError}
-use Rattle.wit_type_tree.specs.Refusal.{IsWantOfMemory}
+use Rattle.wit_type_tree.specs.Refusal.{IsAllocationFailure}
 use Rattle.wit_type_tree.specs.declared.leaves.Id.{Id}
 use Rattle.wit_type_tree.specs.declared.leaves.Attribute.{Attribute}
 use Rattle.wit_tree.specs.declared.tree.WorldSide.{WorldSide}
@@ -20,7 +20,7 @@ use Rattle.wit_tree.specs.declared.tree.PackageName.{PackageName as Header}
 use Rattle.wit_tree.specs.declared.tree.PackageFile.{PackageFile}
 use Rattle.wit_graph.specs.Order.{ReachesCycle}
 use Rattle.wit_graph.specs.Table.{Row, IsEdge, Leads, target}
-use Rattle.wit_syntax.specs.Notes.{IsBrokenStability, IsBrokenNotes}
+use Rattle.wit_syntax.specs.Metadata.{IsBrokenStability, IsBrokenMetadata}
 use Rattle.wit_syntax.specs.Bodies.{IsSecond, IsBrokenBody}
 use Rattle.wit_syntax.specs.Fault.{Fault, fault_of, fault, missing_at, missing_type_at, cyclic_at, item_word, type_word, name_word}
 use Rattle.wit_syntax.specs.Address.{Address, ForeignNamed}
@@ -30,7 +30,7 @@ use Rattle.wit_syntax.specs.Function.{SourceFunction, functions, item_types, rol
 use Rattle.wit_syntax.specs.Sides.{on_side, all_scopes, Link, SideLink, side_items, items_on, IsBrokenSides}
 use Rattle.wit_syntax.specs.Signature.{IsNoType, IsBrokenFunction, IsUnpairedSetter}
 use Rattle.wit_syntax.specs.Ends.{IsNoResource}
-use Rattle.wit_syntax.specs.Trees.{scope}
+use Rattle.wit_syntax.specs.ScopesOfTrees.{scope}
 use Rattle.wit_syntax.specs.Scope.{use_paths, include_paths, uses, includes, item_rows, rows_of, used, defined}
 
 -- the header of the last file that has one
@@ -61,7 +61,7 @@ pub record IsMismatch (previous current : Option Header) (f : Fault) : Type 0 wh
   pub other : IsSamePackage before own → ⊥
   pub is : f ≡ fault 1 own.span
 
--- a header that has docs comes behind one that has docs
+-- a header that has docs comes after one that has docs
 pub record IsSecondDocs (earlier : List Header) (current : Option Header) (f : Fault) : Type 0 where
   pub own : Header
   pub now : current ≡ Some own
@@ -81,13 +81,13 @@ IsOtherPackage files file f = IsMismatch (last_header files) file.package_id f
 
 -- an edge of a table leads to no row
 abbrev pub IsMissingEdge : (Id → Fault) → List Row → Fault → Type 0
-IsMissingEdge told rs f = (place index : ℕ) × (id : Id) × IsEdge rs place index id × (target rs id ≡ None) × (f ≡ told id)
+IsMissingEdge as_stated rs f = (place index : ℕ) × (id : Id) × IsEdge rs place index id × (target rs id ≡ None) × (f ≡ as_stated id)
 
 -- both ends of an edge of a table reach a cycle
 abbrev pub IsCyclicEdge : ℕ → List ℕ → List Row → Fault → Type 0
 IsCyclicEdge number sort rs f = (from index to : ℕ) × (id : Id) × IsEdge rs from index id × (target rs id ≡ Some to) × ReachesCycle (Leads rs) from × ReachesCycle (Leads rs) to × (f ≡ cyclic_at number sort id)
 
--- whether what stands where a path leads is a world, if something stands there
+-- whether what is where a path leads is a world, if something is there
 abbrev pub is_world_at : List PackageFile → Target → Option Bool
 is_world_at files (Local id) = option_map is_world (item_named (all_items files) id.name.now)
 is_world_at files (Foreign p id) = option_map (λ (v : ForeignVisit). v.wants_world) (foreign_at files (ForeignNamed p id.name.now))
@@ -97,7 +97,7 @@ pub data IsBrokenScope (xs : List ScopeName) (fns : List SourceFunction) (f : Fa
   DefinedTwice : IsSecond local_name (λ (x : ScopeName). fault 14 (local_id x).span) (used xs ++ defined xs) f → IsBrokenScope xs fns f
   MissingType : IsMissingEdge missing_type_at (rows_of xs) f → IsBrokenScope xs fns f
   CyclicType : IsCyclicEdge 16 type_word (rows_of xs) f → IsBrokenScope xs fns f
-  Notes : (d : TypeDef) → Contains xs (Defined d) → IsBrokenNotes d.attributes.items f → IsBrokenScope xs fns f
+  Metadata : (d : TypeDef) → Contains xs (Defined d) → IsBrokenMetadata d.attributes.items f → IsBrokenScope xs fns f
   Body : (d : TypeDef) → Contains xs (Defined d) → IsBrokenBody d.body f → IsBrokenScope xs fns f
   Function : (k : ℕ) (fn : SourceFunction) → slice_get fns k ≡ Some fn → IsBrokenFunction xs fns k fn f → IsBrokenScope xs fns f
 
@@ -115,7 +115,7 @@ pub data IsWrongTop (items : List Item) (declarations : List AstItem) (f : Fault
   -- its path is the name of no item
   LostUse : (u : ToplevelUse) → Contains declarations (ToplevelItem u) → (id : Id) → leads [] u.item ≡ Local id → item_named items id.name.now ≡ None → f ≡ missing_at 7 item_word id → IsWrongTop items declarations f
 
--- what is wrong with those, with attributes in front of paths to other packages, or with a `use` at the top of a file
+-- what is wrong with those, with attributes before paths to other packages, or with a `use` at the top of a file
 pub data IsBrokenNames (files : List PackageFile) (f : Fault) : Type 0 where
   Items : IsBrokenItems files f → IsBrokenNames files f
   ForeignStability : (v : ForeignVisit) → Contains (foreign_visits files) v → IsBrokenStability v.attributes f → IsBrokenNames files f
@@ -143,13 +143,13 @@ pub data IsBroken (files : List PackageFile) (f : Fault) : Type 0 where
   Headerless : last_header files ≡ None → f ≡ fault 4 (record { start = 0; end = 0 }) → IsBroken files f
   Names : IsBrokenNames files f → IsBroken files f
   ItemStability : (i : Item) → Contains (all_items files) i → IsBrokenStability (about i.declared).attributes f → IsBroken files f
-  UseNotes : (i : Item) → Contains (all_items files) i → (u : WrittenUse) → Contains (uses i) u → IsBrokenNotes u.attributes.items f → IsBroken files f
+  UseMetadata : (i : Item) → Contains (all_items files) i → (u : WrittenUse) → Contains (uses i) u → IsBrokenMetadata u.attributes.items f → IsBroken files f
   IncludeStability : (i : Item) → Contains (all_items files) i → (n : Include) → Contains (includes i) n → IsBrokenStability n.attributes.items f → IsBroken files f
   Use : (i : Item) → Contains (all_items files) i → IsBrokenUse files i f → IsBroken files f
   -- the path of an include leads to an interface
   InterfaceIncluded : (i : Item) → Contains (all_items files) i → (path : UsePath) → Contains (include_paths i) path → is_world_at files (leads i.top path) ≡ Some false → f ≡ fault 11 (path_id path).span → IsBroken files f
   -- a used name is none of the interface that it comes from, which is the first item of its name
-  MissingName : (i : Item) → Contains (all_scopes files) i → (from : Address) (notes : List Attribute) (n : UseName) → Contains (scope_names i) (Used from notes n) → (target : Item) → from ≡ address target → item_named (all_items files) (item_name target) ≡ Some target
+  MissingName : (i : Item) → Contains (all_scopes files) i → (from : Address) (metadata : List Attribute) (n : UseName) → Contains (scope_names i) (Used from metadata n) → (target : Item) → from ≡ address target → item_named (all_items files) (item_name target) ≡ Some target
       → meaning (scope_names target) n.name.name.now ≡ None → IsNoType (Contains (flat_map (λ fn. role_names fn.role) (functions target)) n.name.name.now) (fault 13 n.name.span) (missing_at 12 name_word n.name) f → IsBroken files f
   Scope : (i : Item) → Contains (all_scopes files) i → IsBrokenScope (scope_names i) (functions i) f → IsBroken files f
   Sides : (i : Item) → Contains (all_scopes files) i → IsBrokenSides i f → IsBroken files f
@@ -162,6 +162,6 @@ pub data IsBroken (files : List PackageFile) (f : Fault) : Type 0 where
 abbrev pub IsLegal : List PackageFile → Type 0
 IsLegal files = (f : Fault) → IsBroken files f → ⊥
 
--- a refusal is for want of memory, or tells a fault of this kind
+-- a refusal is because an allocation failed, or says a fault of this kind
 abbrev pub Refused : (Fault → Type 0) → ParseError → Type 0
-Refused P e = IsWantOfMemory e ⊎ P (fault_of e)
+Refused P e = IsAllocationFailure e ⊎ P (fault_of e)

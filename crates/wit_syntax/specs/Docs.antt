@@ -6,21 +6,21 @@ use Rattle.std.specs.Cmp.Lexicographic.{pointwise}
 use Rattle.std.specs.List.{ends_with, flat_map, reduce, take_while}
 use Rattle.std.specs.Str.{trim_end}
 use Rattle.std.specs.Str.Lines.{lines}
-use Rattle.wit_names.specs.Front.{behind}
+use Rattle.wit_names.specs.Prefix.{rest_after}
 
 -- the text without the end, where it has that end
 abbrev pub without_end : List ℕ → List ℕ → List ℕ
 without_end end text = if ends_with nat_eq text end then take (length text - length end) text else text
 
--- the text behind the slashes that it begins with
-abbrev pub behind_slashes : List ℕ → List ℕ
-behind_slashes [] = []
-behind_slashes (b ∷ text) = if b == 47 then behind_slashes text else b ∷ text
+-- the text after the slashes that it begins with
+abbrev pub after_slashes : List ℕ → List ℕ
+after_slashes [] = []
+after_slashes (b ∷ text) = if b == 47 then after_slashes text else b ∷ text
 
--- a comment without its marks: behind a front `/**` the text without a `*/` at its end, without that front behind all slashes; `/**/` is
+-- a comment without its marks: after a prefix `/**` the text without a `*/` at its end, without that prefix after all slashes; `/**/` is
 -- empty
 abbrev pub unmarked : List ℕ → List ℕ
-unmarked comment = if pointwise nat_eq comment (codes "/**/") then [] else option_map_or (without_end (codes "*/")) (behind (codes "/**") comment) (behind_slashes comment)
+unmarked comment = if pointwise nat_eq comment (codes "/**/") then [] else option_map_or (without_end (codes "*/")) (rest_after (codes "/**") comment) (after_slashes comment)
 
 -- what a comment says: neither its marks nor the white space at its end
 abbrev pub said : List ℕ → List ℕ
@@ -38,17 +38,17 @@ is_written text = not (length text == 0)
 abbrev pub common_indent : List (List ℕ) → ℕ
 common_indent texts = unwrap_or (reduce min (map indent (filter is_written texts))) 0
 
--- the text behind its first n bytes, where these are spaces
-abbrev pub behind_spaces : ℕ → List ℕ → Option (List ℕ)
-behind_spaces zero text = Some text
-behind_spaces (suc n) [] = None
-behind_spaces (suc n) (b ∷ text) = if b == 32 then behind_spaces n text else None
+-- the text after its first n bytes, where these are spaces
+abbrev pub after_spaces : ℕ → List ℕ → Option (List ℕ)
+after_spaces zero text = Some text
+after_spaces (suc n) [] = None
+after_spaces (suc n) (b ∷ text) = if b == 32 then after_spaces n text else None
 
 -- the text without n spaces in front, where it begins with them
 abbrev pub without_spaces : ℕ → List ℕ → List ℕ
-without_spaces n text = unwrap_or (behind_spaces n text) text
+without_spaces n text = unwrap_or (after_spaces n text) text
 
--- the lines of a text, where a CR in front of an LF belongs to the end of the line; an empty text is one empty line
+-- the lines of a text, where a CR before an LF belongs to the end of the line; an empty text is one empty line
 abbrev pub text_lines : List ℕ → List (List ℕ)
 text_lines text = if length text == 0 then [] ∷ [] else lines text
 

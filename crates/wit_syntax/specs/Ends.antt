@@ -9,7 +9,7 @@ use Rattle.wit_syntax.specs.Address.{Address}
 use Rattle.wit_syntax.specs.Shape.{Shape, Shapes, Word, More, all_handles}
 use Rattle.wit_syntax.specs.Source.{ScopeName, local_name, meaning, about_name}
 use Rattle.wit_syntax.specs.Fault.{Fault, fault}
-use Rattle.wit_syntax.specs.Trees.{scope}
+use Rattle.wit_syntax.specs.ScopesOfTrees.{scope}
 use Rattle.std.specs.Option.{unwrap_or}
 
 -- a resource, a name of another package, or anything else
@@ -17,7 +17,7 @@ pub data End : Type 0 where
   AtResource Elsewhere : End
   AtForeign : (scope : Address) (name : List ℕ) → End
 
--- where a name of a scope ends, by its form and its parts, where `ends` tells where these do: another word for a type where that ends; of
+-- where a name of a scope ends, by its form and its parts, where `ends` says where these do: another word for a type where that ends; of
 -- a name of another package nothing is known but whose it is
 abbrev pub named_end : (Shape → Option End) → Address → List ℕ → Form → Shapes → Option End
 named_end ends s name AliasForm (More x xs) = ends x

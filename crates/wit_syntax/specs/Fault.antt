@@ -1,4 +1,4 @@
--- Faults: what a refusal tells, without its words.
+-- Faults: what a refusal says, without its words.
 use Rattle.std.specs.Prelude.{ℕ, List, Option, Some, None, string_bytes, codes}
 use Rattle.std.specs.Option.{option_map}
 use Rattle.wit_values.specs.declared.span.Span.{Span}
@@ -25,21 +25,21 @@ fault number span = record { rule = number; span = span; name = None; sort = Sai
 abbrev pub fault_about : ℕ → Span → List ℕ → Sort → Option (List ℕ) → Fault
 fault_about number span name sort hint = record { rule = number; span = span; name = Some name; sort = sort; hint = hint }
 
--- what a refusal of a number tells, by its kind; want of memory has no place
-abbrev pub told : ℕ → ParseErrorKind → Fault
-told number (Syntax span message) = fault number span
-told number (ItemNotFound span name sort hint) = fault_about number span (string_bytes name) (Missing (string_bytes sort)) (option_map string_bytes hint)
-told number (TypeCycle span name sort) = fault_about number span (string_bytes name) (Cyclic (string_bytes sort)) None
-told number OutOfMemory = record { rule = number; span = record { start = 0; end = 0 }; name = None; sort = Wanting; hint = None }
+-- what a refusal of a number says, by its kind; a failed allocation has no place
+abbrev pub as_stated : ℕ → ParseErrorKind → Fault
+as_stated number (Syntax span message) = fault number span
+as_stated number (ItemNotFound span name sort hint) = fault_about number span (string_bytes name) (Missing (string_bytes sort)) (option_map string_bytes hint)
+as_stated number (TypeCycle span name sort) = fault_about number span (string_bytes name) (Cyclic (string_bytes sort)) None
+as_stated number OutOfMemory = record { rule = number; span = record { start = 0; end = 0 }; name = None; sort = Wanting; hint = None }
 
 abbrev pub fault_of : ParseError → Fault
-fault_of e = told e.rule e.kind
+fault_of e = as_stated e.rule e.kind
 
--- a name stands for nothing of a sort, where it is written
+-- a name means nothing of a sort, where it is written
 abbrev pub missing_at : ℕ → List ℕ → Id → Fault
 missing_at number sort id = fault_about number id.span id.name.now (Missing sort) None
 
--- a name stands for something of a sort that depends on itself, where it is written
+-- a name means something of a sort that depends on itself, where it is written
 abbrev pub cyclic_at : ℕ → List ℕ → Id → Fault
 cyclic_at number sort id = fault_about number id.span id.name.now (Cyclic sort) None
 
@@ -51,7 +51,7 @@ item_word = codes "interface or world"
 abbrev pub type_word : List ℕ
 type_word = codes "type"
 
--- a name stands for no type, where it is written; one that types had once gets a hint
+-- a name means no type, where it is written; one that types had once gets a hint
 abbrev pub missing_type_at : Id → Fault
 missing_type_at id = fault_about 15 id.span id.name.now (Missing type_word) (type_hint id.name.now)
 

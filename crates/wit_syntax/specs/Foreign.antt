@@ -10,12 +10,12 @@ use Rattle.wit_tree.specs.declared.tree.UsePath.TheVariants as path
 use Rattle.wit_tree.specs.declared.tree.AstItem.{AstItem}
 use Rattle.wit_tree.specs.declared.tree.AstItem.TheVariants as ast
 use Rattle.wit_tree.specs.declared.tree.PackageFile.{PackageFile}
-use Rattle.wit_syntax.specs.Crossing.{extern_paths, inline_uses}
+use Rattle.wit_syntax.specs.ExternPart.{extern_paths, inline_uses}
 use Rattle.wit_syntax.specs.Address.{Address, ForeignNamed, package_of, same_package, same_address}
 use Rattle.wit_syntax.specs.Repeats.{firsts}
-use Rattle.wit_syntax.specs.Source.{TheInterface, TheWorld, Part, Using, Including, about, walk}
+use Rattle.wit_syntax.specs.Source.{TheInterface, TheWorld, Part, UsePart, IncludePart, about, walk}
 
--- a path with a package, the attributes in front of it, and whether it wants a world
+-- a path with a package, the attributes before it, and whether it wants a world
 pub record ForeignVisit : Type 0 where
   pub attributes : List Attribute
   pub of : Written
@@ -32,8 +32,8 @@ path_visits attributes world (path.Package p id) = record { attributes = attribu
 
 -- an include wants a world, a `use` does not
 abbrev pub part_visits : Part → List ForeignVisit
-part_visits (Using u) = path_visits u.attributes.items false u.from
-part_visits (Including i) = path_visits i.attributes.items true i.from
+part_visits (UsePart u) = path_visits u.attributes.items false u.from
+part_visits (IncludePart i) = path_visits i.attributes.items true i.from
 part_visits _ = []
 
 -- what is imported or exported by a path wants an interface, as each `use` does that is written there

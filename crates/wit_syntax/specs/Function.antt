@@ -23,7 +23,7 @@ use Rattle.wit_type_tree.specs.declared.types.ResourceFunc.TheVariants as resour
 use Rattle.wit_type_tree.specs.Parts.{body_types}
 use Rattle.wit_syntax.specs.Form.{BorrowForm}
 use Rattle.wit_syntax.specs.Shape.{Shape, Word, Of, one, shape_of}
-use Rattle.wit_syntax.specs.Source.{Item, Part, Defining, Using, Including, Doing, Crossing, parts, ScopeName, Used, Defined, Taken, scope_names}
+use Rattle.wit_syntax.specs.Source.{Item, Part, DefinitionPart, UsePart, IncludePart, FunctionPart, ExternPart, parts, ScopeName, Used, Defined, ForeignName, scope_names}
 
 -- what a function is: by itself in an interface, of a resource, or by itself on a side of a world
 pub data Role : Type 0 where
@@ -38,7 +38,7 @@ pub record SourceParam : Type 0 where
   pub span : Span
   pub shape : Shape
 
--- A function: its mangled name, what it is, the place of its written name, what it is first given, the signature that is written behind
+-- A function: its mangled name, what it is, the place of its written name, what it is first given, the signature that is written after
 -- its name, its result, and its docs and attributes.
 pub record SourceFunction : Type 0 where
   pub name : List ℕ
@@ -72,12 +72,12 @@ accessor _ = []
 abbrev pub dotted : Id → Id → List ℕ
 dotted r f = r.name.now ++ codes "." ++ f.name.now
 
--- a method is first given its resource, lent, where the function stands
+-- a method is first given its resource, lent, where the function is
 abbrev pub self_param : Id → Span → SourceParam
 self_param r span = record { name = codes "self"; span = span; shape = Of span BorrowForm (one (Word r)) }
 
 -- a function whose mangled name, role and first parameters are these, and these the docs and the attributes, its written name and the
--- signature behind that
+-- signature after that
 abbrev pub function_of : List ℕ → Role → List SourceParam → Docs → List Attribute → Id → Func → SourceFunction
 function_of name role given docs attributes id f = record { name = name; role = role; span = id.span; given = given; func = f; result = option_map shape_of f.result; docs = docs; attributes = attributes }
 
@@ -112,9 +112,9 @@ definition_functions r _ = []
 
 -- the functions of a part of an item
 abbrev pub part_functions : Part → List SourceFunction
-part_functions (Defining d) = definition_functions d.name d.body
-part_functions (Doing f) = free_function f ∷ []
-part_functions (Crossing x) = extern_functions x x.kind
+part_functions (DefinitionPart d) = definition_functions d.name d.body
+part_functions (FunctionPart f) = free_function f ∷ []
+part_functions (ExternPart x) = extern_functions x x.kind
 part_functions _ = []
 
 -- the functions of an item, in source order

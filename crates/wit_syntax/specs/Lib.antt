@@ -1,10 +1,10 @@
 pub mod Repeats
-pub mod Crossing
+pub mod ExternPart
 pub mod Address
 pub mod Docs
 pub mod Hint
 pub mod Fault
-pub mod Notes
+pub mod Metadata
 pub mod Form
 pub mod Node
 pub mod Shape
@@ -15,7 +15,7 @@ pub mod Bodies
 pub mod Function
 pub mod Signature
 pub mod Sides
-pub mod Trees
+pub mod ScopesOfTrees
 pub mod Ends
 pub mod Broken
 pub mod Splitting

@@ -1,4 +1,4 @@
--- One level of a type over what stands for its parts, and types unfolded to any depth.
+-- One level of a type over what means its parts, and types unfolded to any depth.
 use Rattle.std.specs.Prelude.{ℕ, zero, suc, List, Option, map}
 use Rattle.wit_values.specs.declared.span.Span.{Span}
 use Rattle.wit_type_tree.specs.declared.types.Primitive.{Primitive}
@@ -27,7 +27,7 @@ primitive_type primitive.Char = type.Char
 primitive_type primitive.String = type.String
 primitive_type primitive.ErrorContext = type.ErrorContext
 
--- a named type without its body; its owner, if it has one, is a scope, told by names alone
+-- a named type without its body; its owner, if it has one, is a scope, given by names alone
 pub record Head : Type 0 where
   pub owner : Option Address
   pub name : List ℕ
@@ -41,7 +41,7 @@ pub data Node (X : Type 0) : Type 0 where
   Leaf : (primitive : Ty) → Node X
   Named : (head : Head) (form : Form) (parts : List X) → Node X
   Unnamed : (form : Form) (parts : List X) → Node X
-  -- a name or a place with nothing behind it
+  -- a name or a place with nothing after it
   Nothing : Node X
 
 abbrev pub node_map : {X Y : Type 0} → (X → Y) → Node X → Node Y

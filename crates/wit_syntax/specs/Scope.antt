@@ -7,9 +7,9 @@ use Rattle.wit_tree.specs.declared.tree.Use.{Use}
 use Rattle.wit_tree.specs.declared.tree.UsePath.{UsePath}
 use Rattle.wit_tree.specs.declared.tree.PackageFile.{PackageFile}
 use Rattle.wit_graph.specs.Table.{Row}
-use Rattle.wit_syntax.specs.Crossing.{extern_paths, inline_uses}
+use Rattle.wit_syntax.specs.ExternPart.{extern_paths, inline_uses}
 use Rattle.wit_syntax.specs.Shape.{all_words, body_of}
-use Rattle.wit_syntax.specs.Source.{Target, Local, Foreign, leads, ScopeName, Used, Defined, Taken, local_name, Part, Defining, Using, Including, Doing, Crossing, Item, item_name, is_world, parts, all_items}
+use Rattle.wit_syntax.specs.Source.{Target, Local, Foreign, leads, ScopeName, Used, Defined, ForeignName, local_name, Part, DefinitionPart, UsePart, IncludePart, FunctionPart, ExternPart, Item, item_name, is_world, parts, all_items}
 use Rattle.wit_syntax.specs.Repeats.{AllDiffer}
 
 -- the names that a name of a scope needs: those in a definition's body; a used name needs none of its own scope
@@ -43,12 +43,12 @@ in_turn xs order = used xs ++ defined (in_order xs order)
 
 -- the paths of a part to interfaces: that of a `use`, that by which a world imports or exports one, and those of uses that are written there
 abbrev pub use_path : Part → List UsePath
-use_path (Using u) = u.from ∷ []
-use_path (Crossing x) = map (λ u. u.from) (inline_uses x.kind) ++ extern_paths x.kind
+use_path (UsePart u) = u.from ∷ []
+use_path (ExternPart x) = map (λ u. u.from) (inline_uses x.kind) ++ extern_paths x.kind
 use_path _ = []
 
 abbrev pub part_includes : Part → List Include
-part_includes (Including i) = i ∷ []
+part_includes (IncludePart i) = i ∷ []
 part_includes _ = []
 
 -- the paths of includes in a part
@@ -89,8 +89,8 @@ abbrev pub worlds_of : List Item → List Item
 worlds_of is = filter is_world is
 
 abbrev pub part_uses : Part → List Use
-part_uses (Using u) = u ∷ []
-part_uses (Crossing x) = inline_uses x.kind
+part_uses (UsePart u) = u ∷ []
+part_uses (ExternPart x) = inline_uses x.kind
 part_uses _ = []
 
 -- the uses of an item, and of interfaces that are written in it, in source order

@@ -14,7 +14,7 @@ use Rattle.wit_type_tree.specs.declared.types.TypeBody.{TypeBody}
 use Rattle.wit_type_tree.specs.declared.types.TypeBody.TheVariants.{Record, Flags, Variant, Enum, Resource, Plain}
 use Rattle.wit_type_tree.specs.Parts.{ok_type, err_type, field_types, case_types}
 use Rattle.wit_type_tree.specs.declared.leaves.Docs.{Docs as Comments}
-use Rattle.wit_syntax.specs.Notes.{docs_of}
+use Rattle.wit_syntax.specs.Metadata.{docs_of}
 use Rattle.wit_syntax.specs.Form.{Member, Form, RecordForm, FlagsForm, VariantForm, EnumForm, OptionForm, ResultForm, TupleForm, ListForm, MapForm, FixedLengthListForm, FutureForm, StreamForm, AliasForm, OwnForm, BorrowForm, ResourceForm}
 
 -- a type is a primitive, a name, or an unnamed type: a form over parts, with its span
@@ -31,7 +31,7 @@ mutual
 abbrev pub one : Shape → Shapes
 one x = More x End
 
--- the shape of a written type; a part that is left out is told by the form
+-- the shape of a written type; a part that is left out is given by the form
 abbrev mutual
   pub shape_of : Written → Shape
   shape_of (written.Primitive span p) = Prim p
@@ -67,12 +67,12 @@ abbrev pub all_shapes : List Written → Shapes
 all_shapes [] = End
 all_shapes (t ∷ ts) = More (shape_of t) (all_shapes ts)
 
--- what stands under a name: a form over parts
+-- what is under a name: a form over parts
 pub record Body : Type 0 where
   pub form : Form
   pub parts : Shapes
 
--- an unnamed type stands under a name with its own form and parts; a name or a primitive gets another word
+-- an unnamed type is under a name with its own form and parts; a name or a primitive gets another word
 abbrev pub head : Shape → Body
 head (Of span form parts) = record { form = form; parts = parts }
 head x = record { form = AliasForm; parts = one x }

@@ -1,4 +1,4 @@
--- What stands on a side of a world, and what must not stand there twice. The names of an interface stand as those that a world imports.
+-- What is on a side of a world, and what must not be there twice. The names of an interface are as those that a world imports.
 use Rattle.std.specs.Prelude.{◌≡◌, ℕ, Bool, true, false, List, [], ◌∷◌, ◌++◌, length, Option, Some, None, ⊤, map, take, Contains, slice_get}
 use Rattle.std.specs.List.{filter, flat_map}
 use Rattle.std.specs.Option.{option_map_or}
@@ -15,17 +15,17 @@ use Rattle.wit_tree.specs.declared.tree.UsePath.{UsePath}
 use Rattle.wit_tree.specs.declared.tree.WorldSide.{WorldSide}
 use Rattle.wit_tree.specs.declared.tree.WorldSide.TheVariants.{Imported, Exported}
 use Rattle.wit_graph.specs.Table.{IsOrder}
-use Rattle.wit_syntax.specs.Crossing.{same_side}
+use Rattle.wit_syntax.specs.ExternPart.{same_side}
 use Rattle.wit_syntax.specs.Fault.{Fault, fault}
-use Rattle.wit_syntax.specs.Notes.{IsBrokenNotes}
+use Rattle.wit_syntax.specs.Metadata.{IsBrokenMetadata}
 use Rattle.wit_syntax.specs.Bodies.{IsSecond}
-use Rattle.wit_syntax.specs.Source.{TheInline, Part, Defining, Doing, Crossing, Item, item_name, parts, all_items, ScopeName, scope_names}
+use Rattle.wit_syntax.specs.Source.{TheInline, Part, DefinitionPart, FunctionPart, ExternPart, Item, item_name, parts, all_items, ScopeName, scope_names}
 use Rattle.wit_syntax.specs.Scope.{rows_of, in_turn}
 use Rattle.wit_syntax.specs.Function.{Role, OnSide, SourceFunction, definition_functions, free_function, side_function}
 use Rattle.wit_syntax.specs.Signature.{Called, name_called}
 use Rattle.wit_names.specs.Folded.{folded_key}
 
--- the side that a function of a role stands on
+-- the side that a function of a role is on
 abbrev pub role_side : Role → WorldSide
 role_side (OnSide side id form) = side
 role_side _ = Imported
@@ -41,7 +41,7 @@ function_key fn = (role_side fn.role, fn.name)
 abbrev pub on_side : WorldSide → List SourceFunction → List SourceFunction
 on_side side fns = filter (λ fn. same_side side (role_side fn.role)) fns
 
--- An interface that a world imports or exports by its path: the side, the name of its own that it has there, if one, and what stands in front of it.
+-- An interface that a world imports or exports by its path: the side, the name of its own that it has there, if one, and what comes before it.
 pub record Link : Type 0 where
   pub side : WorldSide
   pub name : Option Id
@@ -49,7 +49,7 @@ pub record Link : Type 0 where
   pub docs : Docs
   pub attributes : List Attribute
 
--- what stands on a side behind the names of types: a function, an interface by its path, or one that is written there, under a name
+-- what is on a side after the names of types: a function, an interface by its path, or one that is written there, under a name
 pub data SideItem : Type 0 where
   SideFunction : (fn : SourceFunction) → SideItem
   SideLink : (link : Link) → SideItem
@@ -66,12 +66,12 @@ extern_items x (extern.Func name f) = SideFunction (side_function x.side x.docs 
 extern_items x (extern.NamedPath name path) = SideLink (extern_link x (Some name) path) ∷ []
 
 abbrev pub part_items : Part → List SideItem
-part_items (Defining d) = map SideFunction (definition_functions d.name d.body)
-part_items (Doing f) = SideFunction (free_function f) ∷ []
-part_items (Crossing x) = extern_items x x.kind
+part_items (DefinitionPart d) = map SideFunction (definition_functions d.name d.body)
+part_items (FunctionPart f) = SideFunction (free_function f) ∷ []
+part_items (ExternPart x) = extern_items x x.kind
 part_items _ = []
 
--- what stands on the sides of an item behind its names of types, in source order
+-- what is on the sides of an item after its names of types, in source order
 abbrev pub side_items : Item → List SideItem
 side_items i = flat_map part_items (parts i)
 
@@ -99,7 +99,7 @@ abbrev pub item_inline : SideItem → List Extern
 item_inline (SideInline x name items) = x ∷ []
 item_inline _ = []
 
--- what stands on a side, in source order
+-- what is on a side, in source order
 abbrev pub items_on : WorldSide → List SideItem → List SideItem
 items_on side items = filter (λ x. same_side side (item_side x)) items
 
@@ -113,14 +113,14 @@ abbrev pub inline_item : Item → ℕ → SideItem → List Item
 inline_item i place (SideInline x name items) = record { top = i.top; declared = TheInline (item_name i) place x name items } ∷ []
 inline_item i place _ = []
 
--- the items that are interfaces which are written in an item, behind these: the place of each is how many interfaces stand before it on its side
-abbrev pub inline_behind : Item → List SideItem → List SideItem → List Item
-inline_behind i before [] = []
-inline_behind i before (x ∷ xs) = inline_item i (length (filter is_interface (items_on (item_side x) before))) x ++ inline_behind i (before ++ x ∷ []) xs
+-- the items that are interfaces which are written in an item, after these: the place of each is how many interfaces come before it on its side
+abbrev pub inline_after : Item → List SideItem → List SideItem → List Item
+inline_after i before [] = []
+inline_after i before (x ∷ xs) = inline_item i (length (filter is_interface (items_on (item_side x) before))) x ++ inline_after i (before ++ x ∷ []) xs
 
 -- the interfaces that are written in an item, in source order
 abbrev pub inline_items : Item → List Item
-inline_items i = inline_behind i [] (side_items i)
+inline_items i = inline_after i [] (side_items i)
 
 -- an item, and those that are written in it
 abbrev pub with_inline : Item → List Item
@@ -141,7 +141,7 @@ abbrev pub names_on : {X : Type 0} → WorldSide → List X → List X
 names_on Imported xs = xs
 names_on Exported xs = []
 
--- the names on a side as they are resolved: those of types in an order of their table, and then those of what stands there behind them
+-- the names on a side as they are resolved: those of types in an order of their table, and then those of what is there after them
 abbrev pub side_called : WorldSide → List ScopeName → List SideItem → List ℕ → List Called
 side_called side xs there order = map name_called (names_on side (in_turn xs order)) ++ flat_map item_called there
 
@@ -150,23 +150,23 @@ abbrev pub IsFoldedTwice : List ScopeName → List SideItem → Fault → Type 0
 IsFoldedTwice xs items f = (side : WorldSide) × (order : List ℕ) × IsOrder (rows_of xs) order × IsSecond (λ (c : Called). folded_key c.name) (λ (c : Called). fault 17 c.span) (side_called side xs (items_on side items) order) f
 
 -- what a world imports or exports under a name
-abbrev pub IsCrossing : SideItem → Type 0
-IsCrossing (SideFunction fn) = (side : WorldSide) × (id : Id) × (form : FuncForm) × (fn.role ≡ OnSide side id form)
-IsCrossing _ = ⊤
+abbrev pub IsExternPart : SideItem → Type 0
+IsExternPart (SideFunction fn) = (side : WorldSide) × (id : Id) × (form : FuncForm) × (fn.role ≡ OnSide side id form)
+IsExternPart _ = ⊤
 
 -- an earlier name on a side is that of an import or an export
 abbrev pub IsCrossedTwice : List ScopeName → List SideItem → Fault → Type 0
-IsCrossedTwice xs items f = (side : WorldSide) × (order : List ℕ) × IsOrder (rows_of xs) order × (place : ℕ) × (later : SideItem) × (slice_get (items_on side items) place ≡ Some later) × IsCrossing later × (called : Called)
+IsCrossedTwice xs items f = (side : WorldSide) × (order : List ℕ) × IsOrder (rows_of xs) order × (place : ℕ) × (later : SideItem) × (slice_get (items_on side items) place ≡ Some later) × IsExternPart later × (called : Called)
     × (item_called later ≡ called ∷ []) × (earlier : Called) × Contains (side_called side xs (take place (items_on side items)) order) earlier × (earlier.name ≡ called.name) × (f ≡ fault 44 called.span)
 
--- the attributes in front of an interface, by its path or written there; those of a function are told with it
+-- the attributes before an interface, by its path or written there; those of a function are stated with it
 abbrev pub interface_attributes : SideItem → List Attribute
 interface_attributes (SideFunction fn) = []
 interface_attributes (SideLink link) = link.attributes
 interface_attributes (SideInline x name items) = x.attributes.items
 
--- what is wrong with what stands on the sides of an item
+-- what is wrong with what is on the sides of an item
 pub data IsBrokenSides (i : Item) (f : Fault) : Type 0 where
   FoldedTwice : IsFoldedTwice (scope_names i) (side_items i) f → IsBrokenSides i f
   CrossedTwice : IsCrossedTwice (scope_names i) (side_items i) f → IsBrokenSides i f
-  InterfaceNotes : (x : SideItem) → Contains (side_items i) x → IsBrokenNotes (interface_attributes x) f → IsBrokenSides i f
+  InterfaceMetadata : (x : SideItem) → Contains (side_items i) x → IsBrokenMetadata (interface_attributes x) f → IsBrokenSides i f

@@ -17,10 +17,10 @@ use Rattle.wit_syntax.specs.Fault.{Fault, fault, missing_at, name_word}
 use Rattle.wit_syntax.specs.Shape.{Word, shape_of, words}
 use Rattle.wit_syntax.specs.Source.{ScopeName, Defined, local_id, local_name, meaning}
 use Rattle.wit_syntax.specs.Function.{Freestanding, Constructor, SourceParam, SourceFunction, all_params, written_types, signature}
-use Rattle.wit_syntax.specs.Notes.{IsBrokenNotes}
+use Rattle.wit_syntax.specs.Metadata.{IsBrokenMetadata}
 use Rattle.wit_syntax.specs.Bodies.{folded, IsSecond, IsBrokenPart}
 
--- a name of a scope, and where it stands: no two of them may clash
+-- a name of a scope, and where it is: no two of them may clash
 pub record Called : Type 0 where
   pub name : List ℕ
   pub span : Span
@@ -28,7 +28,7 @@ pub record Called : Type 0 where
 abbrev pub name_called : ScopeName → Called
 name_called x = record { name = local_name x; span = (local_id x).span }
 
--- where a written type stands
+-- where a written type is
 abbrev pub type_span : Written → Span
 type_span (written.Primitive span p) = span
 type_span (written.Name id) = id.span
@@ -69,7 +69,7 @@ IsWrittenAs id t = (word : Id) × (shape_of t ≡ Word word) × (word.name.now �
 abbrev pub IsEntered : List SourceFunction → ℕ → List ℕ → Type 0
 IsEntered fs k name = (place : ℕ) × (place ≤ k) × (fn : SourceFunction) × (slice_get fs place ≡ Some fn) × (id : Id) × (form : FuncForm) × (fn.role ≡ Freestanding id form) × (id.name.now ≡ name)
 
--- a name that stands for no type is that of a function, or of nothing: a fault tells of the one, another of the other
+-- a name that means no type is that of a function, or of nothing: a fault says of the one, another of the other
 pub data IsNoType (IsFunction : Type 0) (of_function of_nothing f : Fault) : Type 0 where
   OfFunction : IsFunction → f ≡ of_function → IsNoType IsFunction of_function of_nothing f
   OfNothing : (IsFunction → ⊥) → f ≡ of_nothing → IsNoType IsFunction of_function of_nothing f
@@ -110,7 +110,7 @@ IsConstructorOfOther xs fn f = (of : Id) × (fn.role ≡ Constructor of) × (t :
 
 -- what is wrong with a function at a place among those of a scope
 pub data IsBrokenFunction (xs : List ScopeName) (fs : List SourceFunction) (k : ℕ) (fn : SourceFunction) (f : Fault) : Type 0 where
-  BrokenNotes : IsBrokenNotes fn.attributes f → IsBrokenFunction xs fs k fn f
+  BrokenMetadata : IsBrokenMetadata fn.attributes f → IsBrokenFunction xs fs k fn f
   BrokenTypes : IsBrokenPart (written_types fn) f → IsBrokenFunction xs fs k fn f
   -- a name in its signature is none of the scope
   MissingInSignature : (id : Id) → Contains (flat_map words (signature fn)) id → meaning xs id.name.now ≡ None → IsNoType (IsEntered fs k id.name.now) (fault 28 id.span) (missing_at 29 name_word id) f → IsBrokenFunction xs fs k fn f

@@ -1,4 +1,4 @@
--- The items of files, the names of their scopes, and what a name stands for.
+-- The items of files, the names of their scopes, and what a name means.
 use Rattle.std.specs.Prelude.{if◌then◌else◌, ℕ, Bool, true, false, ◌&&◌, List, [], ◌∷◌, ◌++◌, Option, Some, None, map, find}
 use Rattle.std.specs.List.{flat_map, filter}
 use Rattle.std.specs.Option.{option_map_or, unwrap_or}
@@ -29,11 +29,11 @@ use Rattle.wit_syntax.specs.Form.{AliasForm, UnknownForm}
 use Rattle.wit_tree.specs.declared.tree.WorldSide.{WorldSide}
 use Rattle.wit_tree.specs.declared.tree.WorldSide.TheVariants.{Imported, Exported}
 use Rattle.wit_syntax.specs.Address.{Address, InterfaceNamed, WorldNamed, InlineAt, ForeignNamed, package_of, same_address, is_foreign}
-use Rattle.wit_syntax.specs.Crossing.{same_side, inline_uses}
+use Rattle.wit_syntax.specs.ExternPart.{same_side, inline_uses}
 use Rattle.wit_syntax.specs.Repeats.{firsts}
 use Rattle.wit_syntax.specs.Node.{Head, Node, Named, Nothing}
 use Rattle.wit_syntax.specs.Shape.{Shape, Word, Shapes, End, More, one, Body, body_of}
-use Rattle.wit_syntax.specs.Notes.{Notes, notes, docs_of, no_docs}
+use Rattle.wit_syntax.specs.Metadata.{Metadata, metadata, docs_of, no_docs}
 
 -- the name that a path ends in
 abbrev pub path_id : UsePath → Id
@@ -54,24 +54,24 @@ pub data Declared : Type 0 where
 
 -- a part of an item
 pub data Part : Type 0 where
-  Defining : (d : TypeDef) → Part
-  Using : (u : Use) → Part
-  Including : (i : Include) → Part
-  Doing : (f : NamedFunc) → Part
-  Crossing : (x : Extern) → Part
+  DefinitionPart : (d : TypeDef) → Part
+  UsePart : (u : Use) → Part
+  IncludePart : (i : Include) → Part
+  FunctionPart : (f : NamedFunc) → Part
+  ExternPart : (x : Extern) → Part
 
 abbrev pub interface_part : InterfaceItem → Part
-interface_part (interface_item.TypeDef d) = Defining d
-interface_part (interface_item.Use u) = Using u
-interface_part (interface_item.Func f) = Doing f
+interface_part (interface_item.TypeDef d) = DefinitionPart d
+interface_part (interface_item.Use u) = UsePart u
+interface_part (interface_item.Func f) = FunctionPart f
 
 abbrev pub world_part : WorldItem → Part
-world_part (world_item.TypeDef d) = Defining d
-world_part (world_item.Use u) = Using u
-world_part (world_item.Include i) = Including i
-world_part (world_item.Extern x) = Crossing x
+world_part (world_item.TypeDef d) = DefinitionPart d
+world_part (world_item.Use u) = UsePart u
+world_part (world_item.Include i) = IncludePart i
+world_part (world_item.Extern x) = ExternPart x
 
--- what is told of an item: its name where it is written, and the name that it goes by, which an interface that is written in a world has not; its
+-- what is stated of an item: its name where it is written, and the name that it goes by, which an interface that is written in a world has not; its
 -- docs and attributes; its scope; whether it is a world; and its parts, in source order
 pub record About : Type 0 where
   pub id : Id
@@ -87,19 +87,19 @@ about (TheInterface i) = record { id = i.name; called = Some i.name.name.now; do
 about (TheWorld w) = record { id = w.name; called = Some w.name.name.now; docs = w.docs; attributes = w.attributes.items; address = WorldNamed w.name.name.now; is_world = true; parts = map world_part w.items.items }
 about (TheInline world place x name items) = record { id = name; called = None; docs = x.docs; attributes = x.attributes.items; address = InlineAt world x.side place; is_world = false; parts = map interface_part items }
 
-abbrev pub declared_notes : Declared → Notes
-declared_notes d = notes (docs_of (about d).docs) (about d).attributes
+abbrev pub declared_metadata : Declared → Metadata
+declared_metadata d = metadata (docs_of (about d).docs) (about d).attributes
 
 -- what is brought by a part that is imported, or exported, on a side
 abbrev pub at_side : {X : Type 0} → (Extern → List X) → WorldSide → Part → List X
-at_side of side (Crossing x) = if same_side side x.side then of x else []
+at_side of side (ExternPart x) = if same_side side x.side then of x else []
 at_side of side _ = []
 
 -- what parts bring: first what each does by itself, then what imports do, and then what exports do
 abbrev pub walk : {X : Type 0} → (Part → List X) → (Extern → List X) → List Part → List X
 walk own of ps = flat_map own ps ++ (flat_map (at_side of Imported) ps ++ flat_map (at_side of Exported) ps)
 
--- a name at the top of a file, and what it stands for
+-- a name at the top of a file, and what it means
 pub record TopName : Type 0 where
   pub id : Id
   pub target : Target
@@ -107,7 +107,7 @@ pub record TopName : Type 0 where
 abbrev pub top_text : TopName → List ℕ
 top_text t = t.id.name.now
 
--- where a path leads in a file: a name leads to what the first at its top that goes by it stands for, every other path where it says
+-- where a path leads in a file: a name leads to what the first at its top that goes by it means, every other path where it says
 abbrev pub leads : List TopName → UsePath → Target
 leads top (path.Id id) = option_map_or (λ (t : TopName). t.target) (find (λ t. bytes_eq (top_text t) id.name.now) top) (Local id)
 leads top (path.Package p id) = Foreign (package_of p) id
@@ -115,7 +115,7 @@ leads top (path.Package p id) = Foreign (package_of p) id
 abbrev pub itself : Id → TopName
 itself id = record { id = id; target = Local id }
 
--- a declared item stands for itself, a `use` for what its path says where no name at the top is known
+-- a declared item means itself, a `use` for what its path says where no name at the top is known
 abbrev pub top_name : AstItem → TopName
 top_name (ast.Interface i) = itself i.name
 top_name (ast.World w) = itself w.name
@@ -177,23 +177,23 @@ path_scope top from = target_scope InterfaceNamed (leads top from)
 pub data ScopeName : Type 0 where
   Used : (from : Address) (attributes : List Attribute) (name : UseName) → ScopeName
   Defined : (d : TypeDef) → ScopeName
-  Taken : (attributes : List Attribute) (id : Id) → ScopeName
+  ForeignName : (attributes : List Attribute) (id : Id) → ScopeName
 
--- what is told of a name: what it goes by; where it stands; the scope that what it stands for is read in, if that is another; what it stands for;
--- and its notes
+-- what is stated of a name: what it goes by; where it is; the scope that what it means is read in, if that is another; what it means;
+-- and its metadata
 pub record AboutName : Type 0 where
   pub id : Id
   pub span : Span
   pub from : Option Address
   pub body : Body
-  pub notes : Notes
+  pub metadata : Metadata
 
--- a used name goes by the name that `as` gives it, or by its own; it stands where its original is written, and is another word for that; what a
--- name of another package stands for is not known; both have the attributes of a `use`
+-- a used name goes by the name that `as` gives it, or by its own; it is where its original is written, and is another word for that; what a
+-- name of another package means is not known; both have the attributes of a `use`
 abbrev pub about_name : ScopeName → AboutName
-about_name (Used from attributes n) = record { id = unwrap_or n.as_ n.name; span = n.name.span; from = Some from; body = record { form = AliasForm; parts = one (Word n.name) }; notes = notes no_docs attributes }
-about_name (Defined d) = record { id = d.name; span = d.name.span; from = None; body = body_of d.body; notes = notes (docs_of d.docs) d.attributes.items }
-about_name (Taken attributes id) = record { id = id; span = id.span; from = None; body = record { form = UnknownForm; parts = End }; notes = notes no_docs attributes }
+about_name (Used from attributes n) = record { id = unwrap_or n.as_ n.name; span = n.name.span; from = Some from; body = record { form = AliasForm; parts = one (Word n.name) }; metadata = metadata no_docs attributes }
+about_name (Defined d) = record { id = d.name; span = d.name.span; from = None; body = body_of d.body; metadata = metadata (docs_of d.docs) d.attributes.items }
+about_name (ForeignName attributes id) = record { id = id; span = id.span; from = None; body = record { form = UnknownForm; parts = End }; metadata = metadata no_docs attributes }
 
 abbrev pub local_id : ScopeName → Id
 local_id x = (about_name x).id
@@ -203,8 +203,8 @@ local_name x = (local_id x).name.now
 
 -- the names that a part of an item brings
 abbrev pub part_names : List TopName → Part → List ScopeName
-part_names top (Defining d) = Defined d ∷ []
-part_names top (Using u) = map (Used (path_scope top u.from) u.attributes.items) u.names.items
+part_names top (DefinitionPart d) = Defined d ∷ []
+part_names top (UsePart u) = map (Used (path_scope top u.from) u.attributes.items) u.names.items
 part_names top _ = []
 
 -- the names of an item, in source order
@@ -212,38 +212,38 @@ abbrev pub scope_names : Item → List ScopeName
 scope_names i = flat_map (part_names i.top) (parts i)
 
 -- a name that is used from a scope, with the attributes of the `use`
-pub record Taking : Type 0 where
+pub record ForeignUse : Type 0 where
   pub from : Address
   pub attributes : List Attribute
   pub id : Id
 
-abbrev pub taking : Address → List Attribute → UseName → Taking
-taking s attributes n = record { from = s; attributes = attributes; id = n.name }
+abbrev pub use_of_foreign : Address → List Attribute → UseName → ForeignUse
+use_of_foreign s attributes n = record { from = s; attributes = attributes; id = n.name }
 
-abbrev pub use_takings : List TopName → Use → List Taking
-use_takings top u = map (taking (path_scope top u.from) u.attributes.items) u.names.items
+abbrev pub use_foreign_uses : List TopName → Use → List ForeignUse
+use_foreign_uses top u = map (use_of_foreign (path_scope top u.from) u.attributes.items) u.names.items
 
-abbrev pub part_takings : List TopName → Part → List Taking
-part_takings top (Using u) = use_takings top u
-part_takings top _ = []
+abbrev pub part_foreign_uses : List TopName → Part → List ForeignUse
+part_foreign_uses top (UsePart u) = use_foreign_uses top u
+part_foreign_uses top _ = []
 
 -- the names that all items use from items of other packages: of each item, those last that are used in interfaces that are written in it
-abbrev pub takings : List PackageFile → List Taking
-takings files = flat_map (λ (i : Item). filter (λ t. is_foreign t.from) (walk (part_takings i.top) (λ (x : Extern). flat_map (use_takings i.top) (inline_uses x.kind)) (parts i))) (all_items files)
+abbrev pub foreign_uses : List PackageFile → List ForeignUse
+foreign_uses files = flat_map (λ (i : Item). filter (λ t. is_foreign t.from) (walk (part_foreign_uses i.top) (λ (x : Extern). flat_map (use_foreign_uses i.top) (inline_uses x.kind)) (parts i))) (all_items files)
 
 -- whether two of them are one name of one scope
-abbrev pub same_taking : Taking → Taking → Bool
-same_taking a b = same_address a.from b.from && bytes_eq a.id.name.now b.id.name.now
+abbrev pub same_foreign_use : ForeignUse → ForeignUse → Bool
+same_foreign_use a b = same_address a.from b.from && bytes_eq a.id.name.now b.id.name.now
 
 -- each name of another package where it is first used
-abbrev pub first_takings : List PackageFile → List Taking
-first_takings files = firsts same_taking (takings files)
+abbrev pub first_foreign_uses : List PackageFile → List ForeignUse
+first_foreign_uses files = firsts same_foreign_use (foreign_uses files)
 
 -- the names that are taken from an item of another package
-abbrev pub taken_names : List PackageFile → Address → List ScopeName
-taken_names files s = map (λ (t : Taking). Taken t.attributes t.id) (filter (λ t. same_address t.from s) (first_takings files))
+abbrev pub used_names : List PackageFile → Address → List ScopeName
+used_names files s = map (λ (t : ForeignUse). ForeignName t.attributes t.id) (filter (λ t. same_address t.from s) (first_foreign_uses files))
 
--- what a name stands for: the first that goes by it
+-- what a name means: the first that goes by it
 abbrev pub meaning : List ScopeName → List ℕ → Option ScopeName
 meaning xs name = find (λ x. bytes_eq (local_name x) name) xs
 
@@ -255,9 +255,9 @@ abbrev pub placed : Address → Shapes → List Place
 placed s End = []
 placed s (More x xs) = (s, x) ∷ placed s xs
 
--- a name of a scope, without what it stands for
+-- a name of a scope, without what it means
 abbrev pub head : Address → ScopeName → Head
-head s x = record { owner = Some s; name = local_name x; span = (about_name x).span; docs = (about_name x).notes.docs; stability = (about_name x).notes.stability; external_id = (about_name x).notes.external_id }
+head s x = record { owner = Some s; name = local_name x; span = (about_name x).span; docs = (about_name x).metadata.docs; stability = (about_name x).metadata.stability; external_id = (about_name x).metadata.external_id }
 
 abbrev pub named_node : Address → Option ScopeName → Node Place
 named_node s None = Nothing

@@ -12,7 +12,7 @@ use Rattle.wit_syntax.specs.Source.{leads, Declared, Item, all_items, Place, tar
 use Rattle.wit_syntax.specs.Scope.{use_paths, include_paths, item_rows}
 use Rattle.wit_syntax.specs.Sides.{all_scopes}
 use Rattle.wit_syntax.specs.Foreign.{foreign_visits}
-use Rattle.wit_syntax.specs.Trees.{scope, source_tree}
+use Rattle.wit_syntax.specs.ScopesOfTrees.{scope, source_tree}
 use Rattle.wit_syntax.specs.Broken.{headers, IsLegal}
 
 -- the declarations of a file

@@ -8,10 +8,10 @@ use Rattle.wit_lex.specs.declared.kind.Kind.TheVariants as kind
 use Rattle.wit_lex.specs.declared.word.Word.TheVariants as word
 use Rattle.wit_lex.specs.Lexis.{Stops, lexeme}
 use Rattle.wit_grammar.specs.Kinds.{same_kind}
-use Rattle.wit_grammar.specs.Trees.{Attribute, Documents, Front, Name, Path, InterfaceItem, WorldItem, Declaration, Item, PackageId, Release, declares, of_interface, of_world, of_use}
+use Rattle.wit_grammar.specs.Trees.{Attribute, Documents, Prefix, Name, Path, InterfaceItem, WorldItem, Declaration, Item, PackageId, Release, declares, of_interface, of_world, of_use}
 use Rattle.wit_grammar.specs.Leaves.{Read, Spot, docs_at, ◌>>=◌}
 use Rattle.wit_grammar.specs.Grammar.{Gram, act, both, docs, either, fits, of_kind, run, starts}
-use Rattle.wit_grammar.specs.Rules.{attributes, front, top_used, top_use_of}
+use Rattle.wit_grammar.specs.Rules.{attributes, prefix, top_used, top_use_of}
 use Rattle.wit_grammar.specs.ItemRules.{declaration, interface_of, interface_rule, item_of, item_to, nest, package_names, package_to, two_names, world_of, world_rule}
 use Rattle.wit_grammar.proofs.LeafReads.{docs_same, same_fits}
 use Rattle.wit_reader.specs.declared.reader.Reader.{Reader}
@@ -27,19 +27,19 @@ world_starts : (r : Reader) (b : Bool) → same_kind r.token.kind (kind.Word wor
 unfolding world_rule
 world_starts r b h = starts_with world_rule (of_kind (kind.Word word.World)) r b refl h
 
-abbrev pub use_way : Span × Path × Option Name → Front → Declaration
+abbrev pub use_way : Span × Path × Option Name → Prefix → Declaration
 use_way x f = of_use (top_use_of f.attributes x)
 
-abbrev pub world_way : Name × List WorldItem → Front → Declaration
+abbrev pub world_way : Name × List WorldItem → Prefix → Declaration
 world_way x f = of_world (world_of f x)
 
-abbrev pub interface_way : Name × List InterfaceItem → Front → Declaration
+abbrev pub interface_way : Name × List InterfaceItem → Prefix → Declaration
 interface_way x f = of_interface (interface_of f x)
 
-abbrev world_or_interface : Gram (Front → Declaration)
+abbrev world_or_interface : Gram (Prefix → Declaration)
 world_or_interface = either (act world_way world_rule) (act interface_way interface_rule)
 
-abbrev pub any_declaration : Gram (Front → Declaration)
+abbrev pub any_declaration : Gram (Prefix → Declaration)
 any_declaration = either (act use_way top_used) world_or_interface
 
 pub at_use : {A : Type 0} {a r : Reader} {course : Read A} {v : A} → ParsesOn a course v r → same_kind r.token.kind (kind.Word word.Use) ≡ true → run any_declaration (spot r) ≡ run (act use_way top_used) (spot r)
@@ -54,16 +54,16 @@ at_interface {A} {a} {r} p h k =
     second_way (act use_way top_used) world_or_interface (spot r) (use_starts r false h) ∙ second_way (act world_way world_rule) (act interface_way interface_rule) (spot r) (world_starts r false k)
 
 -- ---- docs, and attributes after them
-pub front_parsed : {a b c : Reader} {d : Documents} {xs : List Attribute} → ParsesOn a (docs_at (spot a)) d b → ParsesOn b (run attributes (spot b)) xs c →
-    ParsesOn a (run front (spot a)) (record { docs = d; attributes = xs }) c
-unfolding front
-front_parsed {a} {b} {c} p q =
+pub prefix_parsed : {a b c : Reader} {d : Documents} {xs : List Attribute} → ParsesOn a (docs_at (spot a)) d b → ParsesOn b (run attributes (spot b)) xs c →
+    ParsesOn a (run prefix (spot a)) (record { docs = d; attributes = xs }) c
+unfolding prefix
+prefix_parsed {a} {b} {c} p q =
     let one = p.onward in
     let two = q.onward in
     record { source = q.source ∙ p.source; offset = q.offset ∙ p.offset; onward = omega arith; parses = rw (p.parses, q.parses) refl }
 
 pub declaration_stops : {a b : Reader} {d : Documents} (e : ReadError) → ParsesOn a (docs_at (spot a)) d b → Stops (run attributes (spot b)) e → Stops (run declaration (spot a)) e
-unfolding declaration front
+unfolding declaration prefix
 declaration_stops {a} {b} (Fault f start end) p k = rw (p.parses, k) refl
 declaration_stops OutOfMemory p k = tt
 
@@ -80,10 +80,10 @@ pub or_none : (b : Bool) → (b || false) ≡ b
 or_none true = refl
 or_none false = refl
 
--- the token after docs tells a package from a declaration
+-- the token after docs says a package from a declaration
 pub package_starts : {a b : Reader} {d : Documents} (n : ℕ) (is : Bool) → ParsesOn a (docs_at (spot a)) d b → same_kind b.token.kind (kind.Word word.Package) ≡ is → starts (any_package n) (spot a) ≡ is
 package_starts {a} {b} {d} n is p h =
-    let front = a.front in
+    let prefix = a.prefix in
     let order = a.within.order in
     let within = a.within.within in
     let here : fits (of_kind (kind.Word word.Package)) (spot b) ≡ is = rw b.next h in
@@ -118,6 +118,6 @@ either_stops true x y e h k = h
 either_stops false x y e h k = k
 
 pub docs_stop_item : (n : ℕ) (s : Spot) (e : ReadError) → Stops (docs_at s) e → Stops (run (item_to n) s) e
-unfolding item_to declaration front
+unfolding item_to declaration prefix
 docs_stop_item n s (Fault f start end) h = either_stops (starts (any_package n) s) (run (any_package n) s) (run (act declares declaration) s) (Fault f start end) (rw h refl) (rw h refl)
 docs_stop_item n s OutOfMemory h = tt

@@ -20,7 +20,7 @@ use Rattle.wit_grammar.specs.Trees.{File, Item}
 use Rattle.wit_grammar.specs.Seen.{see_declaration, see_nested, see_package_id}
 use Rattle.wit_grammar.specs.Leaves.{Read, Spot, docs_at, docs_of, lexed, mark_at, moved, nothing_at, ◌>>=◌}
 use Rattle.wit_grammar.specs.Grammar.{Gram, Terminal, act, among, closes, either, first, fits, matches, matches_first, of_kind, run, seq, starts, until_at}
-use Rattle.wit_grammar.specs.Rules.{attribute, attributes, front, top_used}
+use Rattle.wit_grammar.specs.Rules.{attribute, attributes, prefix, top_used}
 use Rattle.wit_grammar.specs.ItemRules.{Beginning, beginning, declaration, declaration_in, file, file_from, file_of, first_item, header, interface_rule, items_to_end, nested_in, package_first, package_names, two_names, world_rule}
 use Rattle.wit_grammar.proofs.Spelled.{sound}
 use Rattle.wit_reader.specs.declared.reader.Reader.{Reader}
@@ -29,7 +29,7 @@ use Rattle.wit_reader.proofs.Documented.{token_stays}
 use Rattle.wit_reader.proofs.Courses.{second_way}
 use Rattle.wit_reader.proofs.KindCodes.{same}
 use Rattle.wit_text.specs.Files.{AreAdded, file_with, header_first, item_first}
-use Rattle.wit_text.proofs.Begun.{added_more, first_starts, item_way}
+use Rattle.wit_text.proofs.FileBeginning.{added_more, first_starts, item_way}
 use Rattle.wit_text.proofs.Declared.{interface_way, or_none, use_way, world_way}
 
 -- ---- what a file can begin with
@@ -41,7 +41,7 @@ begins_with k =
     same_kind k (kind.Word word.Package) || (same_kind k kind.At || (same_kind k (kind.Word word.Use) || (same_kind k (kind.Word word.World) || (same_kind k (kind.Word word.Interface) || false))))
 
 content_starts : (r : Reader) → starts content (spot r) ≡ begins_with r.token.kind
-unfolding beginning package_first package_names two_names declaration front attributes attribute top_used world_rule interface_rule
+unfolding beginning package_first package_names two_names declaration prefix attributes attribute top_used world_rule interface_rule
 content_starts r = rw r.next refl
 
 neither : (a b : Bool) → (a || b) ≡ false → (a ≡ false) × (b ≡ false)
@@ -75,18 +75,18 @@ docs_here : (r : Reader) → docs_at (spot r) ≡ Ok (docs_of (spot r), here r)
 unfolding docs_at
 docs_here r = rw r.next refl
 
-no_front : (r : Reader) → same_kind r.token.kind kind.At ≡ false → run front (spot r) ≡ Ok (record { docs = docs_of (spot r); attributes = [] }, here r)
-unfolding front attributes
-no_front r h = rw (docs_here r, attribute_here r h) refl
+no_prefix : (r : Reader) → same_kind r.token.kind kind.At ≡ false → run prefix (spot r) ≡ Ok (record { docs = docs_of (spot r); attributes = [] }, here r)
+unfolding prefix attributes
+no_prefix r h = rw (docs_here r, attribute_here r h) refl
 
--- where none of these stands, the token is refused
+-- where none of these is, the token is refused
 undeclared : (r : Reader) → same_kind r.token.kind kind.At ≡ false → same_kind r.token.kind (kind.Word word.Use) ≡ false → same_kind r.token.kind (kind.Word word.World) ≡ false →
     same_kind r.token.kind (kind.Word word.Interface) ≡ false → run declaration (spot r) ≡ Err (Fault fault.Token r.token.start r.token.end)
 unfolding declaration
 undeclared r b c d e =
     let one = second_way (act use_way top_used) (either (act world_way world_rule) (act interface_way interface_rule)) (here r) (use_here r c) in
     let two = second_way (act world_way world_rule) (act interface_way interface_rule) (here r) (world_here r d) in
-    rw (no_front r b, one ∙ two ∙ no_interface r e) refl
+    rw (no_prefix r b, one ∙ two ∙ no_interface r e) refl
 
 unbegun : (r : Reader) → begins_with r.token.kind ≡ false → run beginning (spot r) ≡ Err (Fault fault.Token r.token.start r.token.end)
 unfolding beginning

@@ -119,7 +119,7 @@ zero_deep r = rw r.next (ap (λ b. Err (Fault (cond b fault.Nesting fault.Token)
 pub inner_deeper : (r : Reader) (left : ℕ) → left ≡ 0 → Stops (run (package_to left) (spot r)) (level_fault r.token)
 inner_deeper r left e = rw e (zero_deep r)
 
--- ---- items whose values are let go
+-- ---- items whose values are dropped
 abbrev pub IsPassed : ℕ → Reader → Reader → Type 0
 IsPassed left old cur = (xs : List Item) × IsInBraces itself (item_to left) old xs cur
 

@@ -2,7 +2,7 @@
 use Rattle.std.proofs.Common.{◌≡◌, ℕ, List, ◌∙◌, sym, arith}
 use Rattle.std.specs.Prelude.{Ok, Err}
 use Rattle.wit_type_tree.specs.declared.error.ParseError.{ParseError}
-use Rattle.wit_type_tree.specs.Refusal.{IsWantOfMemory}
+use Rattle.wit_type_tree.specs.Refusal.{IsAllocationFailure}
 use Rattle.wit_lex.specs.declared.fault.ReadError.{ReadError}
 use Rattle.wit_lex.specs.declared.fault.ReadError.TheVariants.{Fault, OutOfMemory}
 use Rattle.wit_lex.specs.Faults.{IsRefusalOf, IsWithin}
@@ -20,15 +20,15 @@ pub no_other : (source : List ℕ) (offset : ℕ) (one other : File) → IsReadA
 no_other source offset one other h k = one_tree source offset one other (read_is_spelled source offset one h) k
 
 -- none is spelled where reading stops, unless memory ran out
-pub none_spelled : (source : List ℕ) (offset : ℕ) (e : ReadError) (r : ParseError) → Stops (run file (start source offset)) e → IsRefusalOf e offset r → (tree : File) → IsSpelled source offset tree → IsWantOfMemory r
-none_spelled source offset (Fault f from to) r h told tree k =
+pub none_spelled : (source : List ℕ) (offset : ℕ) (e : ReadError) (r : ParseError) → Stops (run file (start source offset)) e → IsRefusalOf e offset r → (tree : File) → IsSpelled source offset tree → IsAllocationFailure r
+none_spelled source offset (Fault f from to) r h as_stated tree k =
     let read = spelled_is_read source offset tree k in
     absurd (let both = sym read.1 ∙ h in cc)
-none_spelled source offset OutOfMemory r h told tree k = told
+none_spelled source offset OutOfMemory r h as_stated tree k = as_stated
 
 pub stops_within : (source : List ℕ) (offset : ℕ) (e : ReadError) → Stops (run file (start source offset)) e → IsWithin source e
 stops_within source offset e h = fault_within file (start source offset) e (omega arith) h
 
 pub fault_of : (source : List ℕ) (offset : ℕ) (e : ReadError) (r : ParseError) → Stops (run file (start source offset)) e → IsRefusalOf e offset r → IsFaultOf source offset r
-fault_of source offset (Fault f from to) r h told = At (Fault f from to) h (stops_within source offset (Fault f from to) h) told
-fault_of source offset OutOfMemory r h told = Wanted told
+fault_of source offset (Fault f from to) r h as_stated = At (Fault f from to) h (stops_within source offset (Fault f from to) h) as_stated
+fault_of source offset OutOfMemory r h as_stated = Wanted as_stated

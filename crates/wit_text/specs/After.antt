@@ -9,14 +9,14 @@ use Rattle.wit_type_tree.specs.declared.leaves.Docs.{Docs}
 use Rattle.wit_type_tree.specs.declared.leaves.Id.{Id}
 use Rattle.wit_tree.specs.declared.tree.PackageName.{PackageName}
 use Rattle.wit_lex.specs.declared.kind.Kind.TheVariants.{OpenBrace, CloseBrace}
-use Rattle.wit_reader.specs.Headers.{see_found}
-use Rattle.wit_reader.specs.declared.front.Front.{Front as WrittenFront}
+use Rattle.wit_reader.specs.FoundVersions.{see_found}
+use Rattle.wit_reader.specs.declared.prefix.Prefix.{Prefix as WrittenPrefix}
 use Rattle.wit_grammar.specs.Trees.{Name, Release, RenamedName, Interface, World, Extern, ExternKind, Include, Nested, PackageId, WorldItem, crosses, world_uses, world_defines, includes, inline_interface, by_func}
 use Rattle.wit_grammar.specs.Seen.{see_attribute, see_docs, see_name, see_package_id}
 use Rattle.wit_grammar.specs.Grammar.{Gram, act, listed}
 use Rattle.wit_grammar.specs.Rules.{used, use_of}
 use Rattle.wit_grammar.specs.ItemRules.{after_colon, after_second, braced, definition, definition_of, extern, extern_of, get_or_set, include, include_of, inline_items, interface_of, interface_rule, item_to, nested_of, package_names, package_of, package_to, renamed, world_of, world_rule, worded_function}
-use Rattle.wit_interface_reader.specs.After.{front_of}
+use Rattle.wit_interface_reader.specs.After.{prefix_of}
 
 -- ---- after a name
 abbrev pub inline_after : Id → Gram ExternKind
@@ -35,14 +35,14 @@ abbrev pub kind_after : Id → Gram ExternKind
 kind_after id = act (λ x. x (see_name id)) after_colon
 
 -- ---- after docs and attributes
-abbrev pub interface_after : WrittenFront → Gram Interface
-interface_after f = act (interface_of (front_of f)) interface_rule
+abbrev pub interface_after : WrittenPrefix → Gram Interface
+interface_after f = act (interface_of (prefix_of f)) interface_rule
 
-abbrev pub world_after : WrittenFront → Gram World
-world_after f = act (world_of (front_of f)) world_rule
+abbrev pub world_after : WrittenPrefix → Gram World
+world_after f = act (world_of (prefix_of f)) world_rule
 
-abbrev pub extern_after : WrittenFront → Gram Extern
-extern_after f = act (extern_of (front_of f)) extern
+abbrev pub extern_after : WrittenPrefix → Gram Extern
+extern_after f = act (extern_of (prefix_of f)) extern
 
 abbrev pub include_after : Vec Attribute Global → Gram Include
 include_after attributes = act (include_of (map see_attribute attributes.items)) include
@@ -51,11 +51,11 @@ include_after attributes = act (include_of (map see_attribute attributes.items))
 abbrev pub renamed_names : Gram (List RenamedName)
 renamed_names = listed OpenBrace CloseBrace renamed
 
-abbrev pub crossing_after : WrittenFront → Gram WorldItem
-crossing_after f = act (λ x. crosses (extern_of (front_of f) x)) extern
+abbrev pub extern_part_after : WrittenPrefix → Gram WorldItem
+extern_part_after f = act (λ x. crosses (extern_of (prefix_of f) x)) extern
 
-abbrev pub definition_after : WrittenFront → Gram WorldItem
-definition_after f = act (λ x. world_defines (definition_of (front_of f) x)) definition
+abbrev pub definition_after : WrittenPrefix → Gram WorldItem
+definition_after f = act (λ x. world_defines (definition_of (prefix_of f) x)) definition
 
 abbrev pub uses_after : Vec Attribute Global → Gram WorldItem
 uses_after attributes = act (λ x. world_uses (use_of (map see_attribute attributes.items) x)) used

@@ -1,4 +1,4 @@
 pub mod After
 pub mod Files
 pub mod Packages
-pub mod Worlds
+pub mod WorldItems

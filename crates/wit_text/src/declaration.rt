@@ -10,7 +10,7 @@ use crate::world::read_world;
 use wit_interface_reader::definition::read_interface_items;
 use wit_lex::fault::ReadResult;
 use wit_lex::word::Word;
-use wit_reader::front::Front;
+use wit_reader::prefix::Prefix;
 use wit_reader::reader::Reader;
 use wit_tree::tree::{AstItem, Docs, Interface};
 
@@ -24,16 +24,16 @@ pub enum PackageItem<'a> {
 
 /// Reads `interface name { .. }`.
 #[tactic(auto, unfolding(wit_grammar::specs::ItemRules::interface_rule))]
-fn read_interface<'a>(reader: &mut Reader<'a>, front: Front<'a>) -> ReadResult<Interface<'a>>
-    ensures reads { IfOk result (λ it. Reads (interface_after front.entry) reader.old (see_interface it) reader.new) }
+fn read_interface<'a>(reader: &mut Reader<'a>, prefix: Prefix<'a>) -> ReadResult<Interface<'a>>
+    ensures reads { IfOk result (λ it. Reads (interface_after prefix.entry) reader.old (see_interface it) reader.new) }
     ensures stops { IfErr result (Refuses interface_rule reader.old) }
 {
     reader.expect_word(Word::Interface)?;
     let name = reader.read_id()?;
     let items = read_interface_items(reader)?;
     Ok(Interface {
-        docs: front.docs,
-        attributes: front.attributes,
+        docs: prefix.docs,
+        attributes: prefix.attributes,
         name,
         items,
     })
@@ -50,15 +50,15 @@ pub fn read_package_item<'a>(reader: &mut Reader<'a>) -> ReadResult<PackageItem<
         return Ok(PackageItem::Package(docs));
     }
     let attributes = reader.read_attributes()?;
-    let front = Front { docs, attributes };
+    let prefix = Prefix { docs, attributes };
     if reader.at_word(Word::Use) {
-        let used = reader.read_toplevel_use(front.attributes)?;
+        let used = reader.read_toplevel_use(prefix.attributes)?;
         return Ok(PackageItem::Declaration(AstItem::Use(used)));
     }
     if reader.at_word(Word::World) {
-        let world = read_world(reader, front)?;
+        let world = read_world(reader, prefix)?;
         return Ok(PackageItem::Declaration(AstItem::World(world)));
     }
-    let interface = read_interface(reader, front)?;
+    let interface = read_interface(reader, prefix)?;
     Ok(PackageItem::Declaration(AstItem::Interface(interface)))
 }

@@ -12,7 +12,7 @@ use wit_interface_reader::function::read_closed_signature;
 use wit_lex::fault::ReadResult;
 use wit_lex::kind::Kind;
 use wit_lex::word::Word;
-use wit_reader::front::Front;
+use wit_reader::prefix::Prefix;
 use wit_reader::reader::Reader;
 use wit_tree::tree::{Extern, ExternKind, Func, Id, UsePath, WorldSide};
 
@@ -156,16 +156,16 @@ fn read_direction(reader: &mut Reader<'_>) -> ReadResult<WorldSide>
 }
 
 /// Reads `import` or `export`, and what is imported or exported.
-pub fn read_side<'a>(reader: &mut Reader<'a>, front: Front<'a>) -> ReadResult<Extern<'a>>
-    ensures reads { IfOk result (λ it. Reads (extern_after front.entry) reader.old (see_extern it) reader.new) }
+pub fn read_side<'a>(reader: &mut Reader<'a>, prefix: Prefix<'a>) -> ReadResult<Extern<'a>>
+    ensures reads { IfOk result (λ it. Reads (extern_after prefix.entry) reader.old (see_extern it) reader.new) }
     ensures stops { IfErr result (Refuses extern reader.old) }
 {
     let side = read_direction(reader)?;
     let kind = read_extern(reader)?;
     Ok(Extern {
         side,
-        docs: front.docs,
-        attributes: front.attributes,
+        docs: prefix.docs,
+        attributes: prefix.attributes,
         kind,
     })
 }

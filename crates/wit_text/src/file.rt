@@ -19,7 +19,7 @@ use wit_lex::word::Word;
 use wit_reader::reader::Reader;
 use wit_tree::ParseResult;
 use wit_tree::tree::{AstItem, DeclList, NestedPackage, PackageFile, PackageName, SourceFile};
-use wit_values::{fitted, push};
+use wit_values::{push, shrunk};
 
 /// Reads an item, and adds it to the declarations of the file or to the packages in it.
 fn add_item<'a>(
@@ -106,7 +106,7 @@ fn source_file<'a>(
         file: PackageFile {
             package_id: header,
             decl_list: DeclList {
-                items: fitted(declarations),
+                items: shrunk(declarations),
             },
         },
         nested,
@@ -149,7 +149,7 @@ fn read_source<'a>(alloc: Global, source: &'a str, offset: u32) -> ReadResult<So
 /// The tree of a file whose first byte has the place `offset`.
 ///
 /// Its docs, names and words are slices of the source at their spans, which rise in the order of the
-/// tree's fields; a `%` in front of a name belongs to its span alone. The version in a path is
+/// tree's fields; a `%` before a name belongs to its span alone. The version in a path is
 /// after the item's name, and in no span. Docs are the comments between two tokens that begin
 /// with `///` or `/**`; their span goes from the first to the end of the last, and is (0, 0) where
 /// there is none. That of an attribute goes from its `@` to the end of its `)`. Spans are shifted by

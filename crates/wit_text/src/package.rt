@@ -16,7 +16,7 @@ use wit_reader::room::add;
 use wit_reader::types::MOST_NESTED;
 use wit_tree::Span;
 use wit_tree::tree::{DeclList, Docs, Id, NestedPackage, PackageName};
-use wit_values::{beside, push};
+use wit_values::{pair_with, push};
 
 /// The name that these make, with the version that was found.
 fn package_name<'a>(
@@ -56,7 +56,7 @@ fn read_names_of_package<'a>(reader: &mut Reader<'a>) -> ReadResult<(Id<'a>, Id<
     Ok((namespace, name))
 }
 
-/// Reads `package name:name`, perhaps with a version after the name: what is in front of the
+/// Reads `package name:name`, perhaps with a version after the name: what is before the
 /// `;` of a header, or of the `{` of a nested package.
 #[tactic(auto, unfolding(wit_grammar::specs::ItemRules::package_names))]
 pub fn read_package_name<'a>(reader: &mut Reader<'a>, docs: Docs<'a>) -> ReadResult<PackageName<'a>>
@@ -122,7 +122,7 @@ fn read_inner<'a>(reader: &mut Reader<'a>, docs: Docs<'a>, left: u8) -> ReadResu
         return Err(refuse_level(reader));
     }
     let header = read_package_name(reader, docs)?;
-    let (name, _) = beside(header, pass_items(reader, left - 1))?;
+    let (name, _) = pair_with(header, pass_items(reader, left - 1))?;
     Ok(name)
 }
 
@@ -161,7 +161,7 @@ pub fn read_nested<'a>(
     ensures reads { IfOk result (λ it. Reads (nested_after name.entry) reader.old (see_nested it) reader.new) }
     ensures stops { IfErr result (Refuses (braced (item_to 99)) reader.old) }
 {
-    let (header, items) = beside(name, read_nested_items(reader))?;
+    let (header, items) = pair_with(name, read_nested_items(reader))?;
     Ok(NestedPackage {
         name: header,
         decl_list: items.0,

@@ -5,19 +5,19 @@ ghost use Rattle.wit_grammar.specs.Seen.{see_renamed, see_include, see_world_ite
 ghost use Rattle.wit_grammar.specs.Rules.{used};
 ghost use Rattle.wit_grammar.specs.ItemRules.{definition, extern, maybe_semicolon, renamed, renames, include, world_item, world_items, world_rule};
 ghost use Rattle.wit_reader.specs.Reading.{Reads, ReadsOn, Refuses};
-ghost use Rattle.wit_text.specs.After.{crossing_after, definition_after, include_after, includes_after, renamed_names, uses_after, world_after};
-ghost use Rattle.wit_text.specs.Worlds.{Adds};
+ghost use Rattle.wit_text.specs.After.{extern_part_after, definition_after, include_after, includes_after, renamed_names, uses_after, world_after};
+ghost use Rattle.wit_text.specs.WorldItems.{Adds};
 
 use crate::extern_kind::{at_side, read_side};
 use wit_interface_reader::definition::read_definition;
 use wit_lex::fault::ReadResult;
 use wit_lex::kind::Kind;
 use wit_lex::word::Word;
-use wit_reader::front::Front;
+use wit_reader::prefix::Prefix;
 use wit_reader::reader::Reader;
 use wit_reader::room::add;
 use wit_tree::tree::{Attribute, Include, IncludeName, World, WorldItem};
-use wit_values::{beside, fitted};
+use wit_values::{pair_with, shrunk};
 
 /// Reads `name as name`.
 #[tactic(auto, unfolding(wit_grammar::specs::ItemRules::renamed))]
@@ -46,7 +46,7 @@ fn read_renamed_names<'a>(reader: &mut Reader<'a>) -> ReadResult<Vec<IncludeName
     Ok(names)
 }
 
-/// Goes past a `;`, where there is one, and tells whether there is.
+/// Goes past a `;`, where there is one, and says whether there is.
 #[tactic(auto, unfolding(wit_grammar::specs::ItemRules::maybe_semicolon, wit_grammar::specs::Leaves::mark_at))]
 fn skip_semicolon(reader: &mut Reader<'_>) -> ReadResult<bool>
     ensures reads { IfOk result (λ it. ReadsOn maybe_semicolon reader.old it reader.new) }
@@ -86,7 +86,7 @@ fn read_include<'a>(
 {
     reader.expect_word(Word::Include)?;
     let path = reader.read_path()?;
-    let (from, names) = beside(path, read_renames(reader))?;
+    let (from, names) = pair_with(path, read_renames(reader))?;
     Ok(Include {
         attributes,
         from,
@@ -98,13 +98,13 @@ fn read_include<'a>(
 #[inline(never)]
 fn add_side<'a>(
     reader: &mut Reader<'a>,
-    front: Front<'a>,
+    prefix: Prefix<'a>,
     items: &mut Vec<WorldItem<'a>>,
 ) -> ReadResult<()>
-    ensures reads { OnOk result (Adds (crossing_after front.entry) reader.old items.old items.new reader.new) }
+    ensures reads { OnOk result (Adds (extern_part_after prefix.entry) reader.old items.old items.new reader.new) }
     ensures stops { IfErr result (Refuses extern reader.old) }
 {
-    let side = read_side(reader, front)?;
+    let side = read_side(reader, prefix)?;
     add(items, WorldItem::Extern(side), reader.at(Kind::CloseBrace))?;
     Ok(())
 }
@@ -147,13 +147,13 @@ fn add_include<'a>(
 #[inline(never)]
 fn add_definition<'a>(
     reader: &mut Reader<'a>,
-    front: Front<'a>,
+    prefix: Prefix<'a>,
     items: &mut Vec<WorldItem<'a>>,
 ) -> ReadResult<()>
-    ensures reads { OnOk result (Adds (definition_after front.entry) reader.old items.old items.new reader.new) }
+    ensures reads { OnOk result (Adds (definition_after prefix.entry) reader.old items.old items.new reader.new) }
     ensures stops { IfErr result (Refuses definition reader.old) }
 {
-    let definition = read_definition(reader, front)?;
+    let definition = read_definition(reader, prefix)?;
     add(
         items,
         WorldItem::TypeDef(definition),
@@ -170,20 +170,20 @@ fn add_world_item<'a>(reader: &mut Reader<'a>, items: &mut Vec<WorldItem<'a>>) -
     ensures reads { OnOk result (Adds world_item reader.old items.old items.new reader.new) }
     ensures stops { IfErr result (Refuses world_item reader.old) }
 {
-    let front = reader.read_front()?;
+    let prefix = reader.read_prefix()?;
     if reader.at_word(Word::Use) {
-        add_use(reader, front.attributes, items)?;
+        add_use(reader, prefix.attributes, items)?;
         return Ok(());
     }
     if reader.at_word(Word::Include) {
-        add_include(reader, front.attributes, items)?;
+        add_include(reader, prefix.attributes, items)?;
         return Ok(());
     }
     if at_side(reader) {
-        add_side(reader, front, items)?;
+        add_side(reader, prefix, items)?;
         return Ok(());
     }
-    add_definition(reader, front, items)?;
+    add_definition(reader, prefix, items)?;
     Ok(())
 }
 
@@ -199,21 +199,21 @@ fn read_world_items<'a>(reader: &mut Reader<'a>) -> ReadResult<Vec<WorldItem<'a>
         add_world_item(reader, &mut items)?;
     }
     reader.bump()?;
-    Ok(fitted(items))
+    Ok(shrunk(items))
 }
 
 /// Reads `world name { .. }`.
 #[tactic(auto, unfolding(wit_grammar::specs::ItemRules::world_rule))]
-pub fn read_world<'a>(reader: &mut Reader<'a>, front: Front<'a>) -> ReadResult<World<'a>>
-    ensures reads { IfOk result (λ it. Reads (world_after front.entry) reader.old (see_world it) reader.new) }
+pub fn read_world<'a>(reader: &mut Reader<'a>, prefix: Prefix<'a>) -> ReadResult<World<'a>>
+    ensures reads { IfOk result (λ it. Reads (world_after prefix.entry) reader.old (see_world it) reader.new) }
     ensures stops { IfErr result (Refuses world_rule reader.old) }
 {
     reader.expect_word(Word::World)?;
     let name = reader.read_id()?;
     let items = read_world_items(reader)?;
     Ok(World {
-        docs: front.docs,
-        attributes: front.attributes,
+        docs: prefix.docs,
+        attributes: prefix.attributes,
         name,
         items,
     })

@@ -24,7 +24,7 @@ pub record IsTooMuch (text : List ℕ) (old new : Option (List ℕ)) (result : R
   pub large : 4294967295 < room (sources_of text)
   pub e : ParseError
   pub rule : e.rule ≡ 52
-  pub tells : IsTooLarge (room (sources_of text)) e
+  pub gives : IsTooLarge (room (sources_of text)) e
   pub written : IsWrittenAs None (IsErrorLine [] e) old new result
 
 -- memory was wanted before there was a package, and nothing was written

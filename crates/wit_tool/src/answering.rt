@@ -12,8 +12,8 @@ use wit_listing::{RunFault, error_line};
 /// Writes the listing of the package that the sources of a text make, and of those that are nested in
 /// it, or the line of the refusal, and answers the group that was listed, if one was.
 ///
-/// A line that begins with `=== ` starts a source, whose path is the rest of that line. What stands in
-/// front of the first such line is the source `stdin.wit`, if it is not empty. Where the sources are too
+/// A line that begins with `=== ` starts a source, whose path is the rest of that line. What is in
+/// prefix of the first such line is the source `stdin.wit`, if it is not empty. Where the sources are too
 /// large, the refusal has the number 52.
 ///
 /// # Errors

@@ -11,7 +11,7 @@ use wit_lex::SourceMap;
 use wit_listing::{RunFault, error_line};
 use wit_type_tree::ParseError;
 
-/// Writes the listing of a group: of its main package, and behind it, in the same way, of its nested
+/// Writes the listing of a group: of its main package, and after it, in the same way, of its nested
 /// ones: of each its name, its types, its interfaces, its worlds, and what it names of other packages, a
 /// line for each and for what it holds.
 ///

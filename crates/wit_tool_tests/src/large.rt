@@ -7,7 +7,7 @@ use std::test::Fail;
 use wit_tool::{bundle, run};
 
 /// Texts and what is written of their sources, a line `=>` in each case, and an empty line between two.
-/// `|N*PIECE|` stands for N times the piece. `$` in a piece is the number of the time, from 0 on, `^`
+/// `|N*PIECE|` means N times the piece. `$` in a piece is the number of the time, from 0 on, `^`
 /// the next number, `~` how many times come after it, and `&` how many come from it on.
 const LARGE: &str = r#"package foo:foo; interface i { type t = |99*list<|u8|99*>|; }
 =>
@@ -93,7 +93,7 @@ interfaces 30
 |worlds 0
 foreign 0"#;
 
-/// Puts a piece of a table behind a text, so many times.
+/// Puts a piece of a table after a text, so many times.
 fn push_times(text: &mut String, times: u32, piece: &str) -> Result<(), AllocError> {
     for number in 0..times {
         for letter in piece.chars() {
@@ -109,7 +109,7 @@ fn push_times(text: &mut String, times: u32, piece: &str) -> Result<(), AllocErr
     Ok(())
 }
 
-/// A table with each piece as often as it stands there.
+/// A table with each piece as often as it is there.
 fn unfold(alloc: Global, table: &str) -> Result<String, Fail> {
     let mut text = String::new(alloc);
     for part in table.split('|') {

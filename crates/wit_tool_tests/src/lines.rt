@@ -43,21 +43,21 @@ fn check_line(
 }
 
 #[test]
-fn tells_where_refusals_are(rt: HostRuntime) -> Result<(), Fail> {
+fn says_where_refusals_are(rt: HostRuntime) -> Result<(), Fail> {
     let alloc = rt.alloc();
     let cut = Span { start: 55, end: 68 };
     check_line(&rt, alloc, 47, cut, "error E47 b.wit \"nonexistent;\": m\n")?;
     let across = Span { start: 31, end: 32 };
     check_line(&rt, alloc, 47, across, "error E47 - \"\": m\n")?;
-    let front = Span { start: 0, end: 0 };
-    check_line(&rt, alloc, 45, front, "error E45 - \"\": m\n")?;
-    check_line(&rt, alloc, 52, front, "error E52 - \"\": m\n")
+    let prefix = Span { start: 0, end: 0 };
+    check_line(&rt, alloc, 45, prefix, "error E45 - \"\": m\n")?;
+    check_line(&rt, alloc, 52, prefix, "error E52 - \"\": m\n")
 }
 
 /// A writer that takes `room` bytes one by one, and then fails.
 #[derive(Drop)]
 struct Narrow {
-    taken: Vec<u8>,
+    in_use: Vec<u8>,
     room: usize,
 }
 
@@ -69,7 +69,7 @@ impl Write for Narrow {
         if self.room == 0 {
             return Err(io::Error::from(io::ErrorKind::Other));
         }
-        match self.taken.push(buf[0]) {
+        match self.in_use.push(buf[0]) {
             Ok(()) => {
                 self.room -= 1;
                 Ok(1)
@@ -133,13 +133,13 @@ fn check_room(
 ) -> Result<(), Fail> {
     let mut map = SourceMap::new(alloc);
     map.push(alloc, "stdin.wit", FILE)?;
-    let taken = Vec::new(alloc);
-    let mut out = Narrow { taken, room };
+    let in_use = Vec::new(alloc);
+    let mut out = Narrow { in_use, room };
     let listed = run(alloc, map, &mut out).map(|group| group.is_some());
     assert_eq!(rt; listed, answered, "room {room}");
     assert!(rt; room <= LISTING.len());
     assert_eq!(rt;
-        out.taken.as_slice(),
+        out.in_use.as_slice(),
         &LISTING.as_bytes()[..room],
         "room {room}"
     );

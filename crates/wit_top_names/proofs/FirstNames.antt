@@ -1,4 +1,4 @@
--- Tables of names with what they stand for, one name more, and what is found in them.
+-- Tables of names with what they mean, one name more, and what is found in them.
 use Rattle.std.proofs.Common.{◌≡◌, ℕ, zero, suc, Bool, true, false, cond, List, [], ◌∷◌, ◌++◌, map, Option, Some, None, inl, inr, refl, sym, ap, ◌∙◌, subst, Vec, Global, Bor}
 use Rattle.std.specs.Prelude.{slice_get, find}
 use Rattle.std.specs.Map.{lookup}
@@ -21,22 +21,22 @@ use Rattle.wit_syntax.proofs.Repeated.{differ_more}
 use Rattle.wit_syntax.proofs.Found.{find_passes, find_at}
 use Rattle.wit_graph.specs.Table.{Row, entry_row}
 use Rattle.wit_syntax.specs.Scope.{item_row}
-use Rattle.wit_top_names.specs.declared.top_name.Target.{Target as Held}
+use Rattle.wit_top_names.specs.declared.top_name.Target.{Target as Borrowed}
 use Rattle.wit_first.specs.Files.{lost_fault, unless_named, unnamed_fault}
-use Rattle.wit_top_names.specs.Tops.{target_behind, item_top, Named}
+use Rattle.wit_top_names.specs.Tops.{target_view, item_top, Named}
 
-abbrev pub found : List ℕ → Named → Option Held
+abbrev pub found : List ℕ → Named → Option Borrowed
 found name es = lookup (λ key. bytes_eq name key.now) es
 
--- each name finds what the first of these that goes by it stands for
+-- each name finds what the first of these that goes by it means
 abbrev pub Finds : List TopName → Named → Type 0
-Finds top es = (name : List ℕ) → option_map target_behind (found name es) ≡ option_map (λ (t : TopName). t.target) (find (λ (each : TopName). bytes_eq (top_text each) name) top)
+Finds top es = (name : List ℕ) → option_map target_view (found name es) ≡ option_map (λ (t : TopName). t.target) (find (λ (each : TopName). bytes_eq (top_text each) name) top)
 
 abbrev last_of : {V : Type 0} → Bool → V → Option V
 last_of b v = cond b (Some v) None
 
 -- a name more, which was not there
-found_more : (es : Named) (k : Bor (List ℕ)) (v : Held) (q : List ℕ) → found k.now es ≡ None → found q (insert_entry key_eq es k v) ≡ option_or (found q es) (last_of (bytes_eq q k.now) v)
+found_more : (es : Named) (k : Bor (List ℕ)) (v : Borrowed) (q : List ℕ) → found k.now es ≡ None → found q (insert_entry key_eq es k v) ≡ option_or (found q es) (last_of (bytes_eq q k.now) v)
 found_more [] k v q none = refl
 found_more (e ∷ es) k v q none = elim (cases_Bool (bytes_eq k.now e.0.now)) [
   | inl hit ↦ absurd (none-some e.1 (sym none ∙ cond-true (bytes_eq k.now e.0.now) (Some e.1) (found k.now es) hit))
@@ -70,21 +70,21 @@ named_more top t name =
     ap (option_map (λ (t : TopName). t.target)) (find-append (λ (x : TopName). bytes_eq (top_text x) name) top (t ∷ [])) ∙ map_or (λ (t : TopName). t.target) (find (λ (each : TopName). bytes_eq (top_text each) name) top) (cond (bytes_eq (top_text t) name) (Some t) None) ∙ ap (option_or (option_map (λ (t : TopName). t.target) (find (λ (each : TopName). bytes_eq (top_text each) name) top))) (map_last (λ (t : TopName). t.target) (bytes_eq (top_text t) name) t)
 
 -- a name more, put into the table that had it not
-pub finds_more : (top : List TopName) (es new : Named) (t : TopName) (k : Bor (List ℕ)) (v : Held) → Finds top es → k.now ≡ top_text t → target_behind v ≡ t.target → found k.now es ≡ None → new ≡ insert_entry key_eq es k v → Finds (top ++ t ∷ []) new
+pub finds_more : (top : List TopName) (es new : Named) (t : TopName) (k : Bor (List ℕ)) (v : Borrowed) → Finds top es → k.now ≡ top_text t → target_view v ≡ t.target → found k.now es ≡ None → new ≡ insert_entry key_eq es k v → Finds (top ++ t ∷ []) new
 finds_more top es new t k v old key value none inserted name =
     let own : bytes_eq name k.now ≡ bytes_eq (top_text t) name = turned name k.now ∙ ap (λ x. bytes_eq x name) key in
-    ap (λ es. option_map target_behind (found name es)) inserted
-    ∙ ap (option_map target_behind) (found_more es k v name none)
-    ∙ map_or target_behind (found name es) (last_of (bytes_eq name k.now) v)
-    ∙ ap (λ o. option_or o (option_map target_behind (last_of (bytes_eq name k.now) v))) (old name)
-    ∙ ap (option_or (option_map (λ (t : TopName). t.target) (find (λ (each : TopName). bytes_eq (top_text each) name) top))) (map_last target_behind (bytes_eq name k.now) v ∙ ap (last_of (bytes_eq name k.now)) value ∙ ap (λ b. last_of b (t.target)) own)
+    ap (λ es. option_map target_view (found name es)) inserted
+    ∙ ap (option_map target_view) (found_more es k v name none)
+    ∙ map_or target_view (found name es) (last_of (bytes_eq name k.now) v)
+    ∙ ap (λ o. option_or o (option_map target_view (last_of (bytes_eq name k.now) v))) (old name)
+    ∙ ap (option_or (option_map (λ (t : TopName). t.target) (find (λ (each : TopName). bytes_eq (top_text each) name) top))) (map_last target_view (bytes_eq name k.now) v ∙ ap (last_of (bytes_eq name k.now)) value ∙ ap (λ b. last_of b (t.target)) own)
     ∙ sym (named_more top t name)
 
-pub copied_none : (o : Option (Bor Held)) → is_some o ≡ false → option_copied o ≡ None
+pub copied_none : (o : Option (Bor Borrowed)) → is_some o ≡ false → option_copied o ≡ None
 copied_none None h = refl
 copied_none (Some v) h = absurd (let f : ⊥ = cc in f)
 
-pub copied_some : (o : Option (Bor Held)) → is_some o ≡ true → (v : Held) × (option_copied o ≡ Some v)
+pub copied_some : (o : Option (Bor Borrowed)) → is_some o ≡ true → (v : Borrowed) × (option_copied o ≡ Some v)
 copied_some None h = absurd (let f : ⊥ = cc in f)
 copied_some (Some v) h = (v.now, refl)
 
@@ -119,13 +119,13 @@ unmapped_some f (Some x) y h = (x, refl)
 pub absent : (top : List TopName) (es : Named) (name : List ℕ) → Finds top es → found name es ≡ None → (i : ℕ) → slice_get (map top_text top) i ≡ Some name → ⊥
 absent top es name finds none i at =
     let t = map_at top_text top i name at in
-    find_none (λ (x : TopName). bytes_eq (top_text x) name) top (unmapped_none (λ (t : TopName). t.target) (find (λ (each : TopName). bytes_eq (top_text each) name) top) (sym (finds name) ∙ ap (option_map target_behind) none)) i t.0 t.1 (ap (λ n. bytes_eq n name) t.2 ∙ name_itself name)
+    find_none (λ (x : TopName). bytes_eq (top_text x) name) top (unmapped_none (λ (t : TopName). t.target) (find (λ (each : TopName). bytes_eq (top_text each) name) top) (sym (finds name) ∙ ap (option_map target_view) none)) i t.0 t.1 (ap (λ n. bytes_eq n name) t.2 ∙ name_itself name)
 
 -- and one that is found is one of them
-pub present : (top : List TopName) (es : Named) (name : List ℕ) (v : Held) → Finds top es → found name es ≡ Some v → (i : ℕ) × (t : TopName) × (slice_get top i ≡ Some t) × (top_text t ≡ name)
+pub present : (top : List TopName) (es : Named) (name : List ℕ) (v : Borrowed) → Finds top es → found name es ≡ Some v → (i : ℕ) × (t : TopName) × (slice_get top i ≡ Some t) × (top_text t ≡ name)
 present top es name v finds some =
     let test : TopName → Bool = λ x. bytes_eq (top_text x) name in
-    let t = unmapped_some (λ (t : TopName). t.target) (find (λ (each : TopName). bytes_eq (top_text each) name) top) (target_behind v) (sym (finds name) ∙ ap (option_map target_behind) some) in
+    let t = unmapped_some (λ (t : TopName). t.target) (find (λ (each : TopName). bytes_eq (top_text each) name) top) (target_view v) (sym (finds name) ∙ ap (option_map target_view) some) in
     let at = find_at test top t.0 t.1 in
     (at.0, t.0, at.1, name_equal (top_text t.0) name (find_passes test top t.0 t.1))
 
@@ -135,29 +135,29 @@ differ_top top es t name finds differ key none =
     subst AllDiffer (sym (map-append top_text top (t ∷ []))) (differ_more (map top_text top) (top_text t) differ (absent top es (top_text t) finds (ap (λ n. found n es) (sym key) ∙ none)))
 
 -- so a path that is a name leads to what is found
-pub leads_some : (top : List TopName) (es : Named) (id : Id) (v : Held) → Finds top es → found id.name.now es ≡ Some v → target_behind v ≡ leads top (path.Id id)
-leads_some top es id v finds some = go (find (λ (each : TopName). bytes_eq (top_text each) id.name.now) top) (sym (finds id.name.now) ∙ ap (option_map target_behind) some)
+pub leads_some : (top : List TopName) (es : Named) (id : Id) (v : Borrowed) → Finds top es → found id.name.now es ≡ Some v → target_view v ≡ leads top (path.Id id)
+leads_some top es id v finds some = go (find (λ (each : TopName). bytes_eq (top_text each) id.name.now) top) (sym (finds id.name.now) ∙ ap (option_map target_view) some)
   where
-    go : (o : Option TopName) → option_map (λ (t : TopName). t.target) o ≡ Some (target_behind v) → target_behind v ≡ option_map_or (λ (t : TopName). t.target) o (Local id)
-    go None h = absurd (none-some (target_behind v) h)
-    go (Some t) h = (let same : t.target ≡ target_behind v = cc in sym same)
+    go : (o : Option TopName) → option_map (λ (t : TopName). t.target) o ≡ Some (target_view v) → target_view v ≡ option_map_or (λ (t : TopName). t.target) o (Local id)
+    go None h = absurd (none-some (target_view v) h)
+    go (Some t) h = (let same : t.target ≡ target_view v = cc in sym same)
 
 pub leads_none : (top : List TopName) (es : Named) (id : Id) → Finds top es → found id.name.now es ≡ None → Local id ≡ leads top (path.Id id)
-leads_none top es id finds none = go (find (λ (each : TopName). bytes_eq (top_text each) id.name.now) top) (sym (finds id.name.now) ∙ ap (option_map target_behind) none)
+leads_none top es id finds none = go (find (λ (each : TopName). bytes_eq (top_text each) id.name.now) top) (sym (finds id.name.now) ∙ ap (option_map target_view) none)
   where
     go : (o : Option TopName) → option_map (λ (t : TopName). t.target) o ≡ None → Local id ≡ option_map_or (λ (t : TopName). t.target) o (Local id)
     go None h = refl
     go (Some t) h = absurd (none-some (t.target) (sym h))
 
 -- a path that is a name is looked at later where it is found, and else where it says
-pub named_later : (is : List Item) (top : List TopName) (es : Named) (id : Id) (v : Held) → Finds top es → found id.name.now es ≡ Some v → unnamed_fault is top (path.Id id) ≡ None
+pub named_later : (is : List Item) (top : List TopName) (es : Named) (id : Id) (v : Borrowed) → Finds top es → found id.name.now es ≡ Some v → unnamed_fault is top (path.Id id) ≡ None
 named_later is top es id v finds some =
-    let t = unmapped_some (λ (t : TopName). t.target) (find (λ (each : TopName). bytes_eq (top_text each) id.name.now) top) (target_behind v) (sym (finds id.name.now) ∙ ap (option_map target_behind) some) in
+    let t = unmapped_some (λ (t : TopName). t.target) (find (λ (each : TopName). bytes_eq (top_text each) id.name.now) top) (target_view v) (sym (finds id.name.now) ∙ ap (option_map target_view) some) in
     ap (λ (o : Option TopName). unless_named o (lost_fault is (Local id))) t.1
 
 pub named_nowhere : (is : List Item) (top : List TopName) (es : Named) (id : Id) → Finds top es → found id.name.now es ≡ None → unnamed_fault is top (path.Id id) ≡ lost_fault is (Local id)
 named_nowhere is top es id finds none =
-    let missing = unmapped_none (λ (t : TopName). t.target) (find (λ (each : TopName). bytes_eq (top_text each) id.name.now) top) (sym (finds id.name.now) ∙ ap (option_map target_behind) none) in
+    let missing = unmapped_none (λ (t : TopName). t.target) (find (λ (each : TopName). bytes_eq (top_text each) id.name.now) top) (sym (finds id.name.now) ∙ ap (option_map target_view) none) in
     ap (λ (o : Option TopName). unless_named o (lost_fault is (Local id))) missing
 
 mapped_some : {X Y : Type 0} (f : X → Y) (o : Option X) → is_some (option_map f o) ≡ is_some o
@@ -171,7 +171,7 @@ named_as is name =
 
 -- a table of names finds the items among these names
 pub named_items : (is : List Item) (es : Named) (name : List ℕ) → Finds (map item_top is) es → is_some (found name es) ≡ is_some (item_named is name)
-named_items is es name finds = sym (mapped_some target_behind (found name es)) ∙ ap is_some (finds name) ∙ named_as is name
+named_items is es name finds = sym (mapped_some target_view (found name es)) ∙ ap is_some (finds name) ∙ named_as is name
 
 found-any : {V : Type 0} (name : List ℕ) (es : List (Bor (List ℕ) × V)) → is_some (lookup (λ key. bytes_eq name key.now) es) ≡ list_any (bytes_eq name) (map (λ e. e.0.now) es)
 found-any name [] = refl

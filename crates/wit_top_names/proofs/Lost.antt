@@ -13,7 +13,7 @@ use Rattle.wit_syntax.specs.Source.{TopName, Target, leads, Item, file_items, al
 use Rattle.wit_syntax.specs.Scope.{local_target, item_row, needed_paths}
 use Rattle.wit_syntax.specs.Fault.{Fault}
 use Rattle.wit_syntax.specs.Broken.{IsBrokenItems, DuplicateTopName, MissingItem}
-use Rattle.wit_syntax.proofs.Lists.{at_front, at_back, map_at}
+use Rattle.wit_syntax.proofs.Lists.{at_prefix, at_back, map_at}
 use Rattle.wit_syntax.proofs.Names.{name_itself}
 use Rattle.wit_syntax.proofs.Tables.{place_of-Some, none_if}
 use Rattle.wit_syntax.proofs.Found.{contains_at}
@@ -26,12 +26,12 @@ use Rattle.wit_first.proofs.Files.{IsLost, unnamed_broken}
 use Rattle.wit_top_names.specs.Checks.{edges_of}
 use Rattle.wit_top_names.proofs.FirstNames.{find_none}
 
--- what stands in a part stands in the whole
+-- what is in a part is in the whole
 pub at_flat : {X A : Type 0} (f : X → List A) (xs : List X) (i k : ℕ) (x : X) (a : A) → slice_get xs i ≡ Some x → slice_get (f x) k ≡ Some a → (p : ℕ) × (slice_get (flat_map f xs) p ≡ Some a)
 at_flat f [] i k x a at here = absurd (let g : ⊥ = cc in g)
 at_flat f (y ∷ xs) zero k x a at here =
     let same : y ≡ x = cc in
-    (k, at_front (f y) (flat_map f xs) k a (ap (λ z. slice_get (f z) k) same ∙ here))
+    (k, at_prefix (f y) (flat_map f xs) k a (ap (λ z. slice_get (f z) k) same ∙ here))
 at_flat f (y ∷ xs) (suc i) k x a at here =
     let rest = at_flat f xs i k x a at here in
     (length (f y) + rest.0, at_back (f y) (flat_map f xs) rest.0 a rest.1)

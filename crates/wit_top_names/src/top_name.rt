@@ -6,15 +6,15 @@ ghost use Rattle.wit_syntax.specs.Fault.{fault};
 ghost use Rattle.wit_first.specs.Files.{file_tops_fault, lost_fault, top_use_fault, unnamed_fault};
 ghost use Rattle.wit_first.specs.First.{Finds, first_repeat};
 ghost use Rattle.wit_first.specs.Names.{item_names_fault, top_names_fault};
-ghost use Rattle.wit_top_names.specs.Tops.{target_behind, top_behind, item_top, AreNamed, AreDeclared};
+ghost use Rattle.wit_top_names.specs.Tops.{target_view, top_view, item_top, AreNamed, AreDeclared};
 
 use crate::declaration::declarations;
 use std::alloc::{AllocError, Global};
+use wit_maps::Table;
 use wit_notes::path_id;
 use wit_refusals::refusal::{refuse, refuse_in, refuse_missing};
 use wit_tree::ParseResult;
 use wit_tree::tree::{AstItem, Id, PackageFile, PackageName, ToplevelUse, UsePath};
-use wit_maps::Table;
 
 /// Where a path leads.
 #[derive(Clone, Copy, Debug)]
@@ -28,14 +28,14 @@ pub enum Target<'f, 'a> {
     },
 }
 
-/// A name at the top of a file, and what it stands for.
+/// A name at the top of a file, and what it means.
 #[derive(Clone, Copy)]
 pub struct TopName<'f, 'a> {
     pub id: Id<'a>,
     pub target: Target<'f, 'a>,
 }
 
-/// The names at the top of a file, and the declared items, each with what it stands for.
+/// The names at the top of a file, and the declared items, each with what it means.
 #[derive(Clone, Copy)]
 pub struct Paths<'n, 'f, 'a> {
     pub top: &'n Table<&'a str, Target<'f, 'a>>,
@@ -44,7 +44,7 @@ pub struct Paths<'n, 'f, 'a> {
 
 /// What a path says by itself.
 fn path_target<'f, 'a>(path: &'f UsePath<'a>) -> Target<'f, 'a>
-    ensures { target_behind result ≡ the_leads [] path.now }
+    ensures { target_view result ≡ the_leads [] path.now }
 {
     match path {
         UsePath::Id(id) => Target::Local(*id),
@@ -55,9 +55,9 @@ fn path_target<'f, 'a>(path: &'f UsePath<'a>) -> Target<'f, 'a>
     }
 }
 
-/// The name of a declared item, which stands for itself.
+/// The name of a declared item, which means itself.
 fn itself<'f, 'a>(id: Id<'a>) -> TopName<'f, 'a>
-    ensures { top_behind result ≡ the_itself id.entry }
+    ensures { top_view result ≡ the_itself id.entry }
 {
     TopName {
         id,
@@ -67,7 +67,7 @@ fn itself<'f, 'a>(id: Id<'a>) -> TopName<'f, 'a>
 
 /// The name at the top of a file that a declaration makes.
 fn top_name<'f, 'a>(item: &'f AstItem<'a>) -> TopName<'f, 'a>
-    ensures { top_behind result ≡ the_name item.now }
+    ensures { top_view result ≡ the_name item.now }
 {
     match item {
         AstItem::Interface(interface) => itself(interface.name),
@@ -84,7 +84,7 @@ fn top_names<'f, 'a>(
     alloc: Global,
     items: &'f [AstItem<'a>],
 ) -> Result<Vec<TopName<'f, 'a>>, AllocError>
-    ensures { IfOk result (λ names. map top_behind names.items ≡ map the_name items.now) }
+    ensures { IfOk result (λ names. map top_view names.items ≡ map the_name items.now) }
 {
     let mut names = Vec::with_capacity(alloc, items.len())?;
     for item in items {
@@ -98,7 +98,7 @@ fn add_declared<'f, 'a>(
     file: &'f PackageFile<'a>,
     names: &mut Vec<TopName<'f, 'a>>,
 ) -> Result<(), AllocError>
-    ensures { OnOk result (map top_behind names.new.items ≡ map top_behind names.old.items ++ map item_top (file_items file.now)) }
+    ensures { OnOk result (map top_view names.new.items ≡ map top_view names.old.items ++ map item_top (file_items file.now)) }
 {
     for item in declarations(file) {
         match item {
@@ -114,7 +114,7 @@ fn declared_names<'f, 'a>(
     alloc: Global,
     files: &'f [PackageFile<'a>],
 ) -> Result<Vec<TopName<'f, 'a>>, AllocError>
-    ensures { IfOk result (λ names. map top_behind names.items ≡ map item_top (all_items files.now)) }
+    ensures { IfOk result (λ names. map top_view names.items ≡ map item_top (all_items files.now)) }
 {
     let mut names = Vec::new(alloc);
     for file in files {
@@ -123,30 +123,30 @@ fn declared_names<'f, 'a>(
     Ok(names)
 }
 
-/// The words for a name that stands twice.
-fn repeated(alloc: Global, front: &str, name: &str, back: &str) -> Result<String, AllocError>
-    ensures { IfOk result (λ words. string_bytes words ≡ front.now ++ (codes "`" ++ (name.now ++ (codes "`" ++ back.now)))) }
+/// The words for a name that occurs twice.
+fn repeated(alloc: Global, prefix: &str, name: &str, back: &str) -> Result<String, AllocError>
+    ensures { IfOk result (λ words. string_bytes words ≡ prefix.now ++ (codes "`" ++ (name.now ++ (codes "`" ++ back.now)))) }
 {
-    format!(in alloc; "{front}`{name}`{back}")
+    format!(in alloc; "{prefix}`{name}`{back}")
 }
 
-/// Names with what they stand for; refuses one that stands twice, in words around it.
+/// Names with what they mean; refuses one that occurs twice, in words around it.
 fn unique_names<'f, 'a>(
     alloc: Global,
     rule: u8,
-    front: &str,
+    prefix: &str,
     back: &str,
     names: &[TopName<'f, 'a>],
 ) -> ParseResult<Table<&'a str, Target<'f, 'a>>>
-    ensures named { IfOk result (AreNamed (map top_behind names.now)) }
-    ensures first { Finds (first_repeat top_text (λ n. fault rule n.id.span) (map top_behind names.now)) result }
+    ensures named { IfOk result (AreNamed (map top_view names.now)) }
+    ensures first { Finds (first_repeat top_text (λ n. fault rule n.id.span) (map top_view names.now)) result }
 {
     let mut found = Table::with_capacity(alloc, names.len())?;
     for name in names {
         let id = name.id;
         if found.get_by(id.name).is_some() {
             drop(found);
-            let words = repeated(alloc, front, id.name, back);
+            let words = repeated(alloc, prefix, id.name, back);
             return Err(refuse_in(rule, id.span, words));
         }
         found.put(id.name, name.target)?;
@@ -154,7 +154,7 @@ fn unique_names<'f, 'a>(
     Ok(found)
 }
 
-/// The names at the top of a file; refuses one that stands twice.
+/// The names at the top of a file; refuses one that occurs twice.
 pub fn file_names<'f, 'a>(
     alloc: Global,
     file: &'f PackageFile<'a>,
@@ -166,7 +166,7 @@ pub fn file_names<'f, 'a>(
     Ok(unique_names(alloc, 6, "duplicate name ", " in this file", &names)?)
 }
 
-/// The names of all declared items; refuses one that stands twice.
+/// The names of all declared items; refuses one that occurs twice.
 pub fn item_names<'f, 'a>(
     alloc: Global,
     files: &'f [PackageFile<'a>],
@@ -189,9 +189,9 @@ fn check_declared<V>(alloc: Global, declared: &Table<&str, V>, id: Id<'_>) -> Pa
 }
 
 /// Where a path leads in a file with these names at its top: a name at the top leads where that
-/// stands for, every other path where it says.
+/// means, every other path where it says.
 pub fn leads<'f, 'a>(top: &Table<&'a str, Target<'f, 'a>>, path: &'f UsePath<'a>) -> Target<'f, 'a>
-    ensures { (names : List Top) → AreNamed names top.now → target_behind result ≡ the_leads names path.now }
+    ensures { (names : List Top) → AreNamed names top.now → target_view result ≡ the_leads names path.now }
 {
     match path {
         UsePath::Id(id) => match top.get_by(id.name) {
@@ -204,7 +204,7 @@ pub fn leads<'f, 'a>(top: &Table<&'a str, Target<'f, 'a>>, path: &'f UsePath<'a>
 
 /// Adds the name of the item of the package that something leads to, as an edge.
 fn add_local<'a>(edges: &mut Vec<Id<'a>>, target: Target<'_, 'a>) -> Result<(), AllocError>
-    ensures { OnOk result (edges.new.items ≡ edges.old.items ++ local_target (target_behind target.entry)) }
+    ensures { OnOk result (edges.new.items ≡ edges.old.items ++ local_target (target_view target.entry)) }
 {
     match target {
         Target::Local(id) => edges.push(id)?,

@@ -31,7 +31,7 @@ impl Drop for PackageFile<'_> {
 pub struct SourceFile<'a> {
     /// The header, and the declarations that are the file's own.
     pub file: PackageFile<'a>,
-    /// In source order, wherever they stand among the declarations.
+    /// In source order, wherever they are among the declarations.
     pub nested: Vec<NestedPackage<'a>>,
 }
 
@@ -60,7 +60,7 @@ impl<'a> fmt::Debug for SourceFile<'a> {
     }
 }
 
-/// A package that is nested in a file: its declarations stand in braces behind its name.
+/// A package that is nested in a file: its declarations are in braces after its name.
 #[derive(Debug, Drop)]
 pub struct NestedPackage<'a> {
     /// Written as in a header.
@@ -77,7 +77,7 @@ pub struct PackageName<'a> {
     /// Those of a header or a nested package; a package in a path has none.
     pub docs: Docs<'a>,
     /// In a header or a nested package from the namespace to the end of the version, or of the name
-    /// where there is none; in a path to the end of the name, since the version stands behind the
+    /// where there is none; in a path to the end of the name, since the version comes after the
     /// item's.
     pub span: Span,
     pub namespace: Id<'a>,
@@ -121,7 +121,7 @@ impl Drop for AstItem<'_> {
     }
 }
 
-/// Another name for an item of the package, which holds in one file. Docs in front of it are no part
+/// Another name for an item of the package, which holds in one file. Docs before it are no part
 /// of it.
 #[derive(Debug, Drop)]
 pub struct ToplevelUse<'a> {
@@ -129,7 +129,7 @@ pub struct ToplevelUse<'a> {
     pub span: Span,
     pub attributes: Vec<Attribute<'a>>,
     pub item: UsePath<'a>,
-    /// The name behind `as`; where there is none, it is the path's.
+    /// The name after `as`; where there is none, it is the path's.
     pub as_: Option<Id<'a>>,
 }
 

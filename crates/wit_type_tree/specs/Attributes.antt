@@ -1,4 +1,4 @@
--- What the attributes of an item tell, one by one.
+-- What the attributes of an item say, one by one.
 use Rattle.std.specs.Prelude.{◌≡◌, ℕ, Bool, true, false, List, Option, Some, None, slice_get}
 use Rattle.std.specs.List.{find}
 use Rattle.std.specs.Option.{option_and_then}
@@ -31,13 +31,13 @@ attribute_span (attribute.Unstable span feature) = span
 attribute_span (attribute.Deprecated span version) = span
 attribute_span (attribute.ExternalId span id) = span
 
--- the version that an attribute tells
+-- the version that an attribute says
 abbrev pub attribute_version : Attribute → Option Version
 attribute_version (attribute.Since span version) = Some version
 attribute_version (attribute.Deprecated span version) = Some version
 attribute_version _ = None
 
--- the text that an attribute tells: a feature's name, or an id
+-- the text that an attribute says: a feature's name, or an id
 abbrev pub attribute_text : Attribute → Option (List ℕ)
 attribute_text (attribute.Unstable span feature) = Some feature.name.now
 attribute_text (attribute.ExternalId span id) = Some id.now
@@ -47,15 +47,15 @@ attribute_text _ = None
 abbrev pub first_of : AttributeKind → List Attribute → Option Attribute
 first_of kind xs = find (is_of kind) xs
 
--- the version that the first attribute of a kind tells
-abbrev pub told_version : AttributeKind → List Attribute → Option Version
-told_version kind xs = option_and_then attribute_version (first_of kind xs)
+-- the version that the first attribute of a kind says
+abbrev pub stated_version : AttributeKind → List Attribute → Option Version
+stated_version kind xs = option_and_then attribute_version (first_of kind xs)
 
--- the text that the first attribute of a kind tells
-abbrev pub told_text : AttributeKind → List Attribute → Option (List ℕ)
-told_text kind xs = option_and_then attribute_text (first_of kind xs)
+-- the text that the first attribute of a kind says
+abbrev pub stated_text : AttributeKind → List Attribute → Option (List ℕ)
+stated_text kind xs = option_and_then attribute_text (first_of kind xs)
 
--- an attribute of a kind stands at a place
-pub record StandsAt (kind : AttributeKind) (xs : List Attribute) (place : ℕ) (a : Attribute) : Type 0 where
+-- an attribute of a kind is at a place
+pub record OccursAt (kind : AttributeKind) (xs : List Attribute) (place : ℕ) (a : Attribute) : Type 0 where
   pub at : slice_get xs place ≡ Some a
   pub of : is_of kind a ≡ true

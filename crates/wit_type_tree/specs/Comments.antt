@@ -6,7 +6,7 @@ use Rattle.wit_type_tree.specs.declared.leaves.Docs.{Docs}
 abbrev pub is_blank : ℕ → Bool
 is_blank c = c == 32 || c == 10 || c == 9 || c == 13
 
--- these two bytes stand at the place
+-- these two bytes are at the place
 pub record IsPair (source : List ℕ) (at one two : ℕ) : Type 0 where
   pub within : at + 2 ≤ length source
   pub first : slice_index source at ≡ one
@@ -14,7 +14,7 @@ pub record IsPair (source : List ℕ) (at one two : ℕ) : Type 0 where
 
 -- a comment from `//` to the end of its line, without the LF, or to the end of the source
 pub record IsLine (source : List ℕ) (at end : ℕ) : Type 0 where
-  pub front : IsPair source at 47 47
+  pub prefix : IsPair source at 47 47
   pub order : at + 2 ≤ end
   pub within : end ≤ length source
   pub inside : (i : ℕ) → at + 2 ≤ i → i < end → slice_index source i ≡ 10 → ⊥

@@ -27,9 +27,9 @@ abbrev pub result_types : ResultTypes → List Written
 result_types of = option_to_list (ok_type of) ++ option_to_list (err_type of)
 
 -- a type, where there is one
-abbrev pub held_types : Held-Type-Future-1 → List Written
-held_types None' = []
-held_types (Some' p t) = t ∷ []
+abbrev pub borrowed_types : Held-Type-Future-1 → List Written
+borrowed_types None' = []
+borrowed_types (Some' p t) = t ∷ []
 
 abbrev pub boxed_types : Option (Box Written Global) → List Written
 boxed_types None = []
@@ -48,8 +48,8 @@ part_types (Map' span p key q value) = key ∷ value ∷ []
 part_types (Option' span p t) = t ∷ []
 part_types (Result span of) = result_types of
 part_types (Tuple' span shape ts) = row_types ts
-part_types (Future' span t) = held_types t
-part_types (Stream' span t) = held_types t
+part_types (Future' span t) = borrowed_types t
+part_types (Stream' span t) = borrowed_types t
 part_types _ = []
 
 abbrev pub field_types : List Field → List Written

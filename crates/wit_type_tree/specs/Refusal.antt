@@ -1,4 +1,4 @@
--- What a refusal tells: where, of which name, and in which words.
+-- What a refusal says: where, of which name, and in which words.
 use Rattle.std.specs.Prelude.{◌≡◌, ℕ, List, [], ◌++◌, Option, Some, None, String, string_bytes, codes}
 use Rattle.std.specs.declared.alloc.Global.{Global}
 use Rattle.wit_values.specs.declared.span.Span.{Span}
@@ -13,16 +13,16 @@ span_of (ItemNotFound span name kind hint) = span
 span_of (TypeCycle span name kind) = span
 span_of OutOfMemory = record { start = 0; end = 0 }
 
--- which kind of refusal it is: a broken rule in words, a name that stands for nothing of a sort, or a thing of a sort that depends on itself
+-- which kind of refusal it is: a broken rule in words, a name that means nothing of a sort, or a thing of a sort that depends on itself
 pub data Sort : Type 0 where
   Said : Sort
   Missing : (sort : List ℕ) → Sort
   Cyclic : (sort : List ℕ) → Sort
-  -- want of memory
+  -- a failed allocation
   Wanting : Sort
 
 -- memory was wanted
-pub record IsWantOfMemory (e : ParseError) : Type 0 where
+pub record IsAllocationFailure (e : ParseError) : Type 0 where
   pub kind : e.kind ≡ OutOfMemory
   pub rule : e.rule ≡ 45
 
@@ -31,7 +31,7 @@ abbrev pub IsItemNotFound : Span → List ℕ → List ℕ → ParseErrorKind �
 IsItemNotFound at name sort (ItemNotFound s n k h) = (s ≡ at) × (string_bytes n ≡ name) × (string_bytes k ≡ sort)
 IsItemNotFound at name sort _ = ⊥
 
--- what the name written at the span stands for depends on itself
+-- what the name written at the span means depends on itself
 abbrev pub IsTypeCycle : Span → List ℕ → List ℕ → ParseErrorKind → Type 0
 IsTypeCycle at name sort (TypeCycle s n k) = (s ≡ at) × (string_bytes n ≡ name) × (string_bytes k ≡ sort)
 IsTypeCycle at name sort _ = ⊥

@@ -1,6 +1,6 @@
 //! Refusals.
 ghost use Rattle.std.specs.Prelude.{◌≡◌, Some};
-ghost use Rattle.wit_type_tree.specs.Refusal.{IsWantOfMemory, kind_text, span_of};
+ghost use Rattle.wit_type_tree.specs.Refusal.{IsAllocationFailure, kind_text, span_of};
 
 use std::alloc::{AllocError, AllocFailed};
 use std::error::Error;
@@ -10,7 +10,7 @@ use wit_values::Span;
 /// What a refusal says.
 #[derive(Debug, Drop)]
 pub enum ParseErrorKind {
-    /// A text or a rule of the language is broken at `span`; `message` tells how.
+    /// A text or a rule of the language is broken at `span`; `message` says how.
     Syntax {
         span: Span,
         message: String,
@@ -22,7 +22,7 @@ pub enum ParseErrorKind {
         kind: String,
         hint: Option<String>,
     },
-    /// What `name`, written at `span`, stands for depends on itself. It is of the sort `kind`.
+    /// What `name`, written at `span`, means depends on itself. It is of the sort `kind`.
     TypeCycle {
         span: Span,
         name: String,
@@ -48,7 +48,7 @@ impl Drop for ParseError {
 /// A value, or why there is none.
 pub type ParseResult<T> = Result<T, ParseError>;
 
-/// The number of a refusal for want of memory.
+/// The number of a refusal because an allocation failed.
 pub const OUT_OF_MEMORY: u8 = 45;
 
 impl ParseError {
@@ -106,7 +106,7 @@ impl ParseError {
         &mut self.kind
     }
 
-    /// Where it is; (0, 0) for want of memory.
+    /// Where it is; (0, 0) because an allocation failed.
     pub fn span(&self) -> Span
         ensures { result ≡ span_of self.now.kind }
     {
@@ -149,7 +149,7 @@ impl fmt::Display for ParseError {
 impl Error for ParseError {}
 
 impl From<AllocError> for ParseError {
-    ghost from_gives = { λ _ e. IsWantOfMemory e };
+    ghost from_gives = { λ _ e. IsAllocationFailure e };
 
     fn from(_e: AllocError) -> ParseError {
         ParseError::of(ParseErrorKind::OutOfMemory, OUT_OF_MEMORY)
@@ -157,7 +157,7 @@ impl From<AllocError> for ParseError {
 }
 
 impl<T: Drop> From<AllocFailed<T>> for ParseError {
-    ghost from_gives = { λ _ e. IsWantOfMemory e };
+    ghost from_gives = { λ _ e. IsAllocationFailure e };
 
     fn from(_e: AllocFailed<T>) -> ParseError {
         ParseError::of(ParseErrorKind::OutOfMemory, OUT_OF_MEMORY)

@@ -10,9 +10,9 @@ use wit_values::Span;
 /// A label, and where it is written.
 #[derive(Clone, Copy, Debug)]
 pub struct Id<'a> {
-    /// The label, without a `%` in front of it.
+    /// The label, without a `%` before it.
     pub name: &'a str,
-    /// Where it is written, a `%` in front of it included.
+    /// Where it is written, a `%` before it included.
     pub span: Span,
     pub ghost label: { IsTrue (is_label name.now) },
 }
@@ -54,13 +54,13 @@ impl<'a> Docs<'a> {
     }
 }
 
-/// What is written in front of an item and tells since when it is there, or how it is named
+/// What is written before an item and says since when it is there, or how it is named
 /// elsewhere. The span goes from the `@` to the `)`.
 #[derive(Debug)]
 pub enum Attribute<'a> {
     /// There since a version.
     Since { span: Span, version: Version },
-    /// There behind a feature alone.
+    /// There after a feature alone.
     Unstable { span: Span, feature: Id<'a> },
     /// Deprecated from a version on.
     Deprecated { span: Span, version: Version },

@@ -1,4 +1,4 @@
--- Steps of loops that go over the values of a list from the front, and what fits of all their spans.
+-- Steps of loops that go over the values of a list from the prefix, and what fits of all their spans.
 use Rattle.std.proofs.Common.{◌≡◌, ℕ, zero, suc, ◌+◌, ◌<◌, ◌≤◌, ◌++◌, ◌∙◌, List, [], ◌∷◌, Some, drop, length, map, slice_get, slice_set, take, refl, ap, sym, subst, arith, inl, inr, add-one}
 use Rattle.std.proofs.lemmas.Bool.Decides.{leb_tells}
 use Rattle.std.specs.List.{flat_map}
@@ -68,7 +68,7 @@ module _ {X : Type 0} (f : X → X) where
   length-turned (x ∷ xs) zero = refl
   length-turned (x ∷ xs) (suc i) = ap suc (length-turned xs i)
 
-  -- what stands at the place is still the value of the list
+  -- what is at the place is still the value of the list
   pub seen : (xs : List X) (i : ℕ) → slice_get (turned f i xs) i ≡ slice_get xs i
   seen [] zero = refl
   seen [] (suc i) = refl

@@ -11,7 +11,7 @@ use Rattle.wit_types.specs.declared.stability.Stability.TheVariants as stability
 use Rattle.wit_types.specs.declared.types.«Type».{«Type» as Ty}
 use Rattle.wit_types.specs.declared.types.«Type».TheVariants as ty
 
--- where a type stands in the list of all: the primitives, and then the entries of an arena
+-- where a type is in the list of all: the primitives, and then the entries of an arena
 abbrev pub listed : Ty → ℕ
 listed ty.Bool = 0
 listed ty.U8 = 1
@@ -33,11 +33,11 @@ listed (ty.Id i) = 14 + i
 abbrev pub type_cmp : Ty → Ty → Ordering
 type_cmp a b = nat_cmp (listed a) (listed b)
 
--- texts byte by byte, and where one is the other's front the shorter first
+-- texts byte by byte, and where one is the other's prefix the shorter first
 abbrev pub text_cmp : List ℕ → List ℕ → Ordering
 text_cmp = slice_cmp nat_cmp
 
--- what no attribute tells, then what is unstable, then what is stable; each by its fields
+-- what no attribute says, then what is unstable, then what is stable; each by its fields
 abbrev pub stability_cmp : Stability → Stability → Ordering
 stability_cmp stability.Unknown stability.Unknown = ordering.Equal
 stability_cmp stability.Unknown (stability.Unstable g e) = ordering.Less

@@ -1,11 +1,11 @@
--- The integers that tell cases and hold flags.
+-- The integers that say cases and hold flags.
 use Rattle.std.specs.Prelude.{ℕ, ◌+◌, ◌/◌, ◌==◌, nat_le, if◌then◌else◌}
 use Rattle.wit_types.specs.declared.int.Int.{Int}
 use Rattle.wit_types.specs.declared.int.Int.TheVariants as int
 use Rattle.wit_types.specs.declared.int.FlagsRepr.{FlagsRepr}
 use Rattle.wit_types.specs.declared.int.FlagsRepr.TheVariants as flags
 
--- the least integer that tells n cases apart
+-- the least integer that distinguishes n cases
 abbrev pub int_of_cases : ℕ → Int
 int_of_cases n = if nat_le n 256 then int.U8 else (if nat_le n 65536 then int.U16 else int.U32)
 

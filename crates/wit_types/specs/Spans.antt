@@ -95,7 +95,7 @@ type_spans t = t.span ∷ kind_spans t.kind
 abbrev pub shifted_type : ℕ → TypeDef → TypeDef
 shifted_type offset t = record t { span = shifted offset t.span; kind = shifted_kind offset t.kind }
 
--- that of its name; the type is told by its place
+-- that of its name; the type is given by its place
 abbrev pub required_spans : ℕ × Span → List Span
 required_spans r = r.1 ∷ []
 

@@ -1,9 +1,9 @@
--- What a stability tells.
+-- What a stability says.
 use Rattle.std.specs.Prelude.{Bool, true, false}
 use Rattle.wit_types.specs.declared.stability.Stability.{Stability}
 use Rattle.wit_types.specs.declared.stability.Stability.TheVariants as stability
 
--- no attribute tells
+-- no attribute says
 abbrev pub is_unknown : Stability → Bool
 is_unknown stability.Unknown = true
 is_unknown (stability.Unstable feature deprecated) = false

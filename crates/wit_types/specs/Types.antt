@@ -1,4 +1,4 @@
--- The types that a type is made of, and where they stand.
+-- The types that a type is made of, and where they are.
 use Rattle.std.specs.Prelude.{◌≡◌, ℕ, ◌+◌, ◌≤◌, All, List, [], ◌∷◌, Option, Some, None, map, slice_get}
 use Rattle.wit_types.specs.declared.types.TypeDef.{TypeDef}
 use Rattle.wit_types.specs.declared.types.TypeDefKind.{TypeDefKind}
@@ -27,7 +27,7 @@ places_to (Some i) = i + 1
 abbrev pub rank : Option Ty → ℕ
 rank slot = places_to (place_of_slot slot)
 
--- the slots of a kind where a type can stand, in written order; a handle's resource is no slot
+-- the slots of a kind where a type can be, in written order; a handle's resource is no slot
 abbrev pub slots : TypeDefKind → List (Option Ty)
 slots (kind.Record r) = map (λ f. Some f.ty) r.fields
 slots (kind.Tuple t) = map (λ p. Some p) t.types

@@ -11,7 +11,7 @@ ghost use Rattle.std.specs.Iterator.Adapters.{IterYieldsInOrder};
 use std::alloc::{AllocError, AllocFailed, Global};
 use std::marker::{Model, PhantomData};
 use std::{fmt, slice};
-use wit_values::fitted;
+use wit_values::shrunk;
 
 /// The place of a value in an arena, counted from 0. `T` says which arena.
 ///
@@ -116,8 +116,8 @@ impl<T, M> Arena<T, M> {
         }
     }
 
-    /// The id of a value that stands so many places behind the last one; none exactly where no place is so far.
-    pub fn id_behind(&self, places: usize) -> Option<Id<M>>
+    /// The id of a value that is so many places after the last one; none exactly where no place is so far.
+    pub fn id_after(&self, places: usize) -> Option<Id<M>>
         ensures { SomeIff result (length self.now + places < 2 ^ 64) (length self.now + places) }
     {
         let place = self.items.len().checked_add(places)?;
@@ -127,7 +127,7 @@ impl<T, M> Arena<T, M> {
         })
     }
 
-    /// Puts a value behind the others, and answers its id.
+    /// Puts a value after the others, and answers its id.
     ///
     /// If a growth is refused, the arena stays as it was and the value comes back.
     pub fn alloc(&mut self, value: T) -> Result<Id<M>, AllocFailed<T>>
@@ -144,9 +144,9 @@ impl<T, M> Arena<T, M> {
         })
     }
 
-    /// Puts a value behind the others, and answers its id.
+    /// Puts a value after the others, and answers its id.
     ///
-    /// If a growth is refused, the arena stays as it was and the value is let go: so no refusal has to carry
+    /// If a growth is refused, the arena stays as it was and the value is dropped: so no refusal has to carry
     /// it.
     pub fn add(&mut self, value: T) -> Result<Id<M>, AllocError>
     where
@@ -168,25 +168,25 @@ impl<T, M> Arena<T, M> {
         self.items.reserve_exact(more)
     }
 
-    /// Puts the values of another arena behind these, and leaves none there.
+    /// Puts the values of another arena after these, and leaves none there.
     ///
     /// If a growth is refused, both stay as they were.
-    pub fn append(&mut self, behind: &mut Arena<T, M>) -> Result<(), AllocError>
-        ensures ok { OnOk result (self.new ≡ self.old ++ behind.old) }
-        ensures left { OnOk result (behind.new ≡ []) }
-        ensures unchanged { OnErr result ((self.new ≡ self.old) × (behind.new ≡ behind.old)) }
+    pub fn append(&mut self, rest_after: &mut Arena<T, M>) -> Result<(), AllocError>
+        ensures ok { OnOk result (self.new ≡ self.old ++ rest_after.old) }
+        ensures left { OnOk result (rest_after.new ≡ []) }
+        ensures unchanged { OnErr result ((self.new ≡ self.old) × (rest_after.new ≡ rest_after.old)) }
     {
-        self.items.append(&mut behind.items)?;
+        self.items.append(&mut rest_after.items)?;
         Ok(())
     }
 
     /// The arena with no more room than it takes.
-    pub fn fitted(self) -> Arena<T, M>
+    pub fn shrunk(self) -> Arena<T, M>
         ensures { result ≡ self }
     {
         let Arena { items, of: _ } = self;
         Arena {
-            items: fitted(items),
+            items: shrunk(items),
             of: PhantomData,
         }
     }

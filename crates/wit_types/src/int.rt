@@ -1,10 +1,10 @@
-//! The integers that tell cases and hold flags.
+//! The integers that say cases and hold flags.
 ghost use Rattle.std.specs.Prelude.{◌≡◌, ◌≤◌, ◌^◌, length};
 ghost use Rattle.wit_types.specs.Sizes.{count_of, int_of_cases, repr_of_flags};
 
 use crate::types::{Enum, Flags, Variant};
 
-/// An integer that tells a case.
+/// An integer that says a case.
 #[derive(Debug, Clone, Copy, PartialEq, Eq)]
 pub enum Int {
     U8,
@@ -22,7 +22,7 @@ pub enum FlagsRepr {
     U32(usize),
 }
 
-/// The least integer that tells `cases` cases apart: to 256 of 8 bits, to 65,536 of 16, to 2^32
+/// The least integer that distinguishes `cases` cases: to 256 of 8 bits, to 65,536 of 16, to 2^32
 /// of 32.
 pub fn discriminant_type(cases: usize) -> Int
     requires { cases ≤ 2 ^ 32 }
@@ -69,7 +69,7 @@ impl Flags {
 }
 
 impl Variant {
-    /// The integer that tells the cases, of which there are at most 2^32.
+    /// The integer that gives the cases, of which there are at most 2^32.
     pub fn tag(&self) -> Int
         requires { length self.now.cases ≤ 2 ^ 32 }
         ensures { result ≡ int_of_cases (length self.now.cases) }
@@ -79,7 +79,7 @@ impl Variant {
 }
 
 impl Enum {
-    /// The integer that tells the cases, of which there are at most 2^32.
+    /// The integer that gives the cases, of which there are at most 2^32.
     pub fn tag(&self) -> Int
         requires { length self.now.cases ≤ 2 ^ 32 }
         ensures { result ≡ int_of_cases (length self.now.cases) }

@@ -1,7 +1,7 @@
 //! The types of a resolved package: ids and arenas, types and what they are made of, docs,
 //! stabilities, and values that hold spans.
 //!
-//! Types, interfaces and worlds stand in arenas and refer to one another by ids. Spans are
+//! Types, interfaces and worlds are in arenas and refer to one another by ids. Spans are
 //! half-open ranges of bytes in the sources.
 #![tactic(auto)]
 

@@ -1,4 +1,4 @@
-//! The slots of a kind where a type can stand.
+//! The slots of a kind where a type can be.
 ghost use Rattle.std.specs.Prelude.{◌≡◌, ◌<◌, Some, length, slice_get};
 ghost use Rattle.wit_types.specs.Types.{place_of, place_of_slot, slots};
 

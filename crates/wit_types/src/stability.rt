@@ -6,13 +6,13 @@ use wit_values::{Rare, Release, Text};
 
 /// How stable an item is, by its attributes; the default is `Unknown`.
 ///
-/// The variants are ordered as they stand here, and then by their fields.
+/// The variants are ordered as they are here, and then by their fields.
 #[derive(Debug, Clone, PartialEq, Eq, PartialOrd, Ord, Default)]
 pub enum Stability {
-    /// No attribute tells.
+    /// No attribute says.
     #[default]
     Unknown,
-    /// There behind a feature, and from a version on deprecated.
+    /// There after a feature, and from a version on deprecated.
     Unstable {
         feature: Text,
         deprecated: Rare<Release>,
@@ -41,7 +41,7 @@ impl Drop for Stability {
 }
 
 impl Stability {
-    /// Whether no attribute tells.
+    /// Whether no attribute says.
     pub fn is_unknown(&self) -> bool
         ensures { result ≡ is_unknown self.now }
     {

@@ -8,7 +8,7 @@ use wit_values::{Rare, Row, Span, Text};
 
 /// A type as it is referred to: a primitive, or an entry of the arena of types.
 ///
-/// Types are ordered as the variants stand here, entries by their places.
+/// Types are ordered as the variants are here, entries by their places.
 #[derive(Debug, Clone, Copy, PartialEq, Eq, PartialOrd, Ord, Hash)]
 pub enum Type {
     Bool,
@@ -31,7 +31,7 @@ pub enum Type {
 /// An entry of the arena of types.
 #[derive(Debug, PartialEq, Eq)]
 pub struct TypeDef {
-    /// The name, unless the type stands inside another.
+    /// The name, unless the type is inside another.
     pub name: Option<Text>,
     pub kind: TypeDefKind,
     pub owner: TypeOwner,
@@ -107,7 +107,7 @@ impl Drop for TypeDefKind {
     }
 }
 
-/// Where a type's name stands.
+/// Where a type's name is.
 #[derive(Debug, Clone, Copy, PartialEq, Eq, Hash)]
 pub enum TypeOwner {
     World(WorldId),

@@ -1,7 +1,7 @@
 mod Calling
-mod Cells
+mod ResolvedScopes
 pub mod Telling
 pub mod Emitting
-pub mod Behind
+pub mod NameOrder
 pub mod Linked
 pub mod ItemSides

@@ -1,4 +1,4 @@
--- What is told of items, and that nothing is wrong with it.
+-- What is stated of items, and that nothing is wrong with it.
 use Rattle.std.proofs.Common.{◌≡◌, ◌∷◌, ◌++◌, ℕ, List, [], false, not, inl, inr, ap, ◌∙◌, subst, arith, Contains}
 use Rattle.std.specs.Prelude.{map}
 use Rattle.std.specs.List.{flat_map}
@@ -10,7 +10,7 @@ use Rattle.wit_tree.specs.declared.tree.InterfaceItem.{InterfaceItem}
 use Rattle.wit_tree.specs.declared.tree.InterfaceItem.TheVariants as interface_item
 use Rattle.wit_model.specs.declared.world.World.{World}
 use Rattle.wit_syntax.specs.Fault.{Fault}
-use Rattle.wit_syntax.specs.Notes.{Notes, IsBrokenStability}
+use Rattle.wit_syntax.specs.Metadata.{Metadata, IsBrokenStability}
 use Rattle.wit_syntax.specs.Source.{Declared, TheInterface, TheWorld, TheInline, interface_part, Item, is_world, about}
 use Rattle.wit_syntax.specs.Scope.{part_includes, interfaces_of, worlds_of}
 use Rattle.wit_syntax.specs.Sides.{IsBrokenSides}
@@ -18,12 +18,12 @@ use Rattle.wit_arena.specs.Package.{IsWorld}
 use Rattle.wit_arena.specs.Resolved.{IsBrokenItemStability, OwnStability, OfInclude, HaveLegalStability, AreLegalSides}
 use Rattle.wit_syntax.proofs.Kept.{kept_has}
 use Rattle.wit_syntax.proofs.Lists.{at_either}
-use Rattle.wit_items.specs.declared.notes.ItemNotes.{ItemNotes}
-use Rattle.wit_items.specs.Told.{notes_behind, AreOf}
+use Rattle.wit_items.specs.declared.metadata.ItemMetadata.{ItemMetadata}
+use Rattle.wit_items.specs.SourceItems.{metadata_view, AreOf}
 
--- an item is what is told of it
-pub world_told : (name : List ℕ) (span : Span) (n : Notes) (held : ItemNotes) (w : World) → AreOf n held → IsWorld name span (notes_behind held) w → IsWorld name span n w
-world_told name span n held w are says = (says.0, says.1, says.2 ∙ are.docs, says.3 ∙ are.stability, says.4)
+-- an item is what is stated of it
+pub world_stated : (name : List ℕ) (span : Span) (n : Metadata) (borrowed : ItemMetadata) (w : World) → AreOf n borrowed → IsWorld name span (metadata_view borrowed) w → IsWorld name span n w
+world_stated name span n borrowed w are says = (says.0, says.1, says.2 ∙ are.docs, says.3 ∙ are.stability, says.4)
 
 -- an interface includes nothing
 no_include : (xs : List InterfaceItem) (i : Include) → Contains (flat_map part_includes (map interface_part xs)) i → ⊥
@@ -50,7 +50,7 @@ stability_more ws w legal one = record {
   ];
 }
 
--- nor is anything with what stands on the sides, where it is not so with one more
+-- nor is anything with what is on the sides, where it is not so with one more
 pub sides_more : (ws : List Item) (w : Item) → AreLegalSides ws → ((f : Fault) → IsBrokenSides w f → ⊥) → AreLegalSides (ws ++ w ∷ [])
 sides_more ws w legal one = record {
   legal = λ i v f at broken. elim (at_either ws w i v at) [

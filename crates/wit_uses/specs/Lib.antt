@@ -1,2 +1,2 @@
-pub mod Between
-pub mod Behind
+pub mod NewRequirements
+pub mod NameOrder

@@ -2,7 +2,7 @@
 ghost use Rattle.std.specs.Prelude.{◌≡◌, ◌↔◌, [], ◌++◌, List, Contains, map, OnOk, IfOk, IfErr, IsTrue, codes, string_bytes};
 ghost use Rattle.std.specs.List.{flat_map};
 ghost use Rattle.std.specs.Option.{option_copied, option_to_list};
-ghost use Rattle.wit_type_tree.specs.Refusal.{IsWantOfMemory};
+ghost use Rattle.wit_type_tree.specs.Refusal.{IsAllocationFailure};
 ghost use Rattle.wit_type_tree.specs.declared.leaves.Id.{Id as TheId};
 ghost use Rattle.wit_syntax.specs.Address.{Address, InterfaceNamed};
 ghost use Rattle.wit_syntax.specs.Source.{ScopeName};
@@ -10,27 +10,27 @@ ghost use Rattle.wit_syntax.specs.Scope.{used, local_names};
 ghost use Rattle.wit_syntax.specs.Broken.{Refused};
 ghost use Rattle.wit_syntax.specs.Function.{SourceFunction};
 ghost use Rattle.wit_arena.specs.Functions.{freestanding_names};
-ghost use Rattle.wit_scopes.specs.Between.{IsUnstated};
-ghost use Rattle.wit_entries.specs.Requiring.{IsGrown};
-ghost use Rattle.wit_scopes.specs.Held.{source_behind, use_behind, IsPlaced, ArePlaced};
-ghost use Rattle.wit_item_names.specs.Interfaces.{front_of};
-ghost use Rattle.wit_items.specs.Interfaces.{cells_of};
-ghost use Rattle.wit_arena.specs.Resolving.{cell_at, env_of, free_functions, Defines, HasNames, IsFound, IsUnresolved, IsUsed, IsWrongUse, IsWrongScope, names_in};
+ghost use Rattle.wit_scopes.specs.DefinitionOrder.{IsUnstated};
+ghost use Rattle.wit_entries.specs.Requiring.{IsExtended};
+ghost use Rattle.wit_scopes.specs.Borrowed.{source_view, use_view, IsPlaced, ArePlaced};
+ghost use Rattle.wit_item_names.specs.Interfaces.{prefix_of};
+ghost use Rattle.wit_items.specs.Interfaces.{resolved_scopes_of};
+ghost use Rattle.wit_arena.specs.Resolving.{resolved_scope_at, env_of, free_functions, Defines, HasNames, IsFound, IsUnresolved, IsUsed, IsWrongUse, IsWrongScope, names_in};
 
 use std::alloc::{AllocError, Global};
 use wit_entries::entries::Entries;
 use wit_entries::scope::Scope;
 use wit_items::interfaces::Interfaces;
+use wit_maps::TextTable;
 use wit_model::{Function, FunctionKind, Interface};
-use wit_names::front::behind;
-use wit_notes::told_notes;
+use wit_names::prefix::rest_after;
+use wit_notes::stated_metadata;
 use wit_refusals::refusal::{refuse, refuse_in, refuse_missing};
 use wit_refusals::words::defined_twice;
 use wit_scopes::scope_name::{Source, UsedName, local_of};
 use wit_tree::tree::Id;
 use wit_tree::{ParseError, ParseResult};
 use wit_types::{Type, TypeDefKind};
-use wit_maps::TextTable;
 
 /// The interface that a name comes from.
 fn used_interface<'i>(
@@ -38,9 +38,9 @@ fn used_interface<'i>(
     from: &Source<'_, '_>,
     interfaces: &'i Interfaces<'_, '_, '_, '_>,
 ) -> ParseResult<&'i Interface>
-    requires placed { IsPlaced (front_of interfaces.now.files) from.now }
-    ensures found { IfOk result (λ i. IsFound (cells_of interfaces.now) (source_behind from.now) (cell_at (source_behind from.now) i.now)) }
-    ensures refused { IfErr result (Refused (λ f. (path : TheId) × (source_behind from.now ≡ InterfaceNamed path.name.now) × IsUnresolved interfaces.now.by_name path f)) }
+    requires placed { IsPlaced (prefix_of interfaces.now.files) from.now }
+    ensures found { IfOk result (λ i. IsFound (resolved_scopes_of interfaces.now) (source_view from.now) (resolved_scope_at (source_view from.now) i.now)) }
+    ensures refused { IfErr result (Refused (λ f. (path : TheId) × (source_view from.now ≡ InterfaceNamed path.name.now) × IsUnresolved interfaces.now.by_name path f)) }
 {
     match from {
         Source::Declared(path) => match interfaces.by_name.get(path.name) {
@@ -61,8 +61,8 @@ fn free_name(function: &Function) -> Option<&str>
     let called = function.name.as_str();
     match function.kind {
         FunctionKind::Freestanding | FunctionKind::AsyncFreestanding => Some(called),
-        FunctionKind::Getter => behind(called, "[get]"),
-        FunctionKind::Setter => behind(called, "[set]"),
+        FunctionKind::Getter => rest_after(called, "[get]"),
+        FunctionKind::Setter => rest_after(called, "[set]"),
         _ => None,
     }
 }
@@ -119,12 +119,12 @@ fn resolve_use<'f, 'a>(
     interfaces: &Interfaces<'_, '_, '_, '_>,
     scope: &mut Scope,
 ) -> ParseResult<()>
-    requires placed { IsPlaced (front_of interfaces.now.files) used.now.from }
-    ensures used { OnOk result (IsUsed types.old types.new (cells_of interfaces.now) scope.old.owner scope.old.names scope.new.names (source_behind used.now.from) used.now.attributes.now used.now.name.now) }
+    requires placed { IsPlaced (prefix_of interfaces.now.files) used.now.from }
+    ensures used { OnOk result (IsUsed types.old types.new (resolved_scopes_of interfaces.now) scope.old.owner scope.old.names scope.new.names (source_view used.now.from) used.now.attributes.now used.now.name.now) }
     ensures owner { OnOk result (scope.new.owner ≡ scope.old.owner) }
     ensures required { scope.new.required ≡ scope.old.required }
-    ensures grown { OnOk result (IsGrown types.old types.new) }
-    ensures refused { IfErr result (Refused (IsWrongUse (cells_of interfaces.now) interfaces.now.by_name scope.old.names (source_behind used.now.from) used.now.attributes.now used.now.name.now)) }
+    ensures extended { OnOk result (IsExtended types.old types.new) }
+    ensures refused { IfErr result (Refused (IsWrongUse (resolved_scopes_of interfaces.now) interfaces.now.by_name scope.old.names (source_view used.now.from) used.now.attributes.now used.now.name.now)) }
 {
     let name = used.name;
     let interface = used_interface(alloc, &used.from, interfaces)?;
@@ -137,9 +137,9 @@ fn resolve_use<'f, 'a>(
         let message = defined_twice(alloc, "name", local.name)?;
         return Err(refuse(alloc, 14, local.span, message.as_str()));
     }
-    let notes = told_notes(alloc, used.attributes)?;
+    let metadata = stated_metadata(alloc, used.attributes)?;
     let kind = TypeDefKind::Type_(Type::Id(original));
-    scope.declare(alloc, types, local.name, notes, name.name.span, kind)?;
+    scope.declare(alloc, types, local.name, metadata, name.name.span, kind)?;
     Ok(())
 }
 
@@ -151,15 +151,15 @@ pub fn resolve_uses<'f, 'a>(
     interfaces: &Interfaces<'_, '_, '_, '_>,
     scope: &mut Scope,
 ) -> ParseResult<()>
-    requires placed { ArePlaced (front_of interfaces.now.files) uses.now }
+    requires placed { ArePlaced (prefix_of interfaces.now.files) uses.now }
     requires empty { scope.old.names ≡ [] }
-    ensures defines { OnOk result ((s : Address) → Defines types.old types.new (cells_of interfaces.now) scope.old.owner s scope.old.names scope.new.names (map use_behind uses.now)) }
+    ensures defines { OnOk result ((s : Address) → Defines types.old types.new (resolved_scopes_of interfaces.now) scope.old.owner s scope.old.names scope.new.names (map use_view uses.now)) }
     ensures owner { OnOk result (scope.new.owner ≡ scope.old.owner) }
-    ensures listed { OnOk result (names_in scope.new.names ≡ local_names (map use_behind uses.now)) }
+    ensures listed { OnOk result (names_in scope.new.names ≡ local_names (map use_view uses.now)) }
     ensures required { scope.new.required ≡ scope.old.required }
-    ensures has { OnOk result (HasNames (env_of scope.new.names) (map use_behind uses.now)) }
-    ensures grown { OnOk result (IsGrown types.old types.new) }
-    ensures refused { IfErr result (λ e. (xs : List ScopeName) → map use_behind uses.now ≡ used xs → Refused (λ f. (fns : List SourceFunction) → IsWrongScope (cells_of interfaces.now) interfaces.now.by_name xs fns f) e) }
+    ensures has { OnOk result (HasNames (env_of scope.new.names) (map use_view uses.now)) }
+    ensures extended { OnOk result (IsExtended types.old types.new) }
+    ensures refused { IfErr result (λ e. (xs : List ScopeName) → map use_view uses.now ≡ used xs → Refused (λ f. (fns : List SourceFunction) → IsWrongScope (resolved_scopes_of interfaces.now) interfaces.now.by_name xs fns f) e) }
 {
     for name in uses {
         resolve_use(alloc, name, types, interfaces, scope)?;

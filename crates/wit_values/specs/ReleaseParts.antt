@@ -1,4 +1,4 @@
--- The rare parts of a version, which stand apart: none is the empty text.
+-- The rare parts of a version, which are apart: none is the empty text.
 use Rattle.std.specs.Prelude.{ℕ, List, [], Option, Some, None, Box}
 use Rattle.std.specs.declared.alloc.Global.{Global}
 use Rattle.semver.specs.declared.Prerelease.{Prerelease}

@@ -15,7 +15,7 @@ pub mod span;
 pub mod text;
 
 pub use accessor::AccessorKind;
-pub use holding::{beside, fitted, push};
+pub use holding::{pair_with, push, shrunk};
 pub use rare::Rare;
 pub use release::{BuildText, PreText, Release};
 pub use row::Row;

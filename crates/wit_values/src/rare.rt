@@ -8,7 +8,7 @@ use std::cmp::Ordering;
 use std::fmt;
 use std::marker::Model;
 
-/// A value or none, which contracts see as just that. It stands apart, so that what mostly has none is
+/// A value or none, which contracts see as just that. It is apart, so that what mostly has none is
 /// the smaller, however large a value is.
 ///
 /// None comes before every value.

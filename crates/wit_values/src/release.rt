@@ -25,9 +25,9 @@ pub struct Release {
     pub major: u64,
     pub minor: u64,
     pub patch: u64,
-    /// The text behind `-`, without it; empty where there is none.
+    /// The text after `-`, without it; empty where there is none.
     pub pre: PreText,
-    /// The text behind `+`, without it; empty where there is none.
+    /// The text after `+`, without it; empty where there is none.
     pub build: BuildText,
 }
 
@@ -78,7 +78,7 @@ impl Release {
     }
 }
 
-/// The text of a pre-release, which contracts see as its bytes. Few versions have one, so it stands apart.
+/// The text of a pre-release, which contracts see as its bytes. Few versions have one, so it is apart.
 pub struct PreText {
     /// None where the text is empty.
     part: Option<Box<Prerelease>>,
@@ -204,7 +204,7 @@ impl Ord for PreText {
     }
 }
 
-/// The pre-release, or the one that stands for none.
+/// The pre-release, or the one that means none.
 fn pre_or<'p>(part: &'p Option<Box<Prerelease>>, none: &'p Prerelease) -> &'p Prerelease
     requires { pre_text none.now ≡ [] }
     ensures { pre_text result.now ≡ pre_of part.now }
@@ -215,7 +215,7 @@ fn pre_or<'p>(part: &'p Option<Box<Prerelease>>, none: &'p Prerelease) -> &'p Pr
     }
 }
 
-/// The text of build metadata, which contracts see as its bytes. Few versions have one, so it stands apart.
+/// The text of build metadata, which contracts see as its bytes. Few versions have one, so it is apart.
 pub struct BuildText {
     /// None where the text is empty.
     part: Option<Box<BuildMetadata>>,
@@ -341,7 +341,7 @@ impl Ord for BuildText {
     }
 }
 
-/// The metadata, or the one that stands for none.
+/// The metadata, or the one that means none.
 fn build_or<'p>(part: &'p Option<Box<BuildMetadata>>, none: &'p BuildMetadata) -> &'p BuildMetadata
     requires { build_text none.now ≡ [] }
     ensures { build_text result.now ≡ build_of part.now }

@@ -22,7 +22,7 @@ use std::{fmt, slice};
 /// Values in order, which contracts see as a list.
 ///
 /// It is made from a `Vec` and gives it back. Rows are compared value by value, and where one is
-/// the other's front the shorter comes first.
+/// the other's prefix the shorter comes first.
 pub struct Row<T> {
     items: Vec<T>,
 }
@@ -132,7 +132,7 @@ impl<T> Row<T> {
         &mut self.items[place]
     }
 
-    /// Puts a value behind the others. The first has room for itself alone. If a growth is refused, the row
+    /// Puts a value after the others. The first has room for itself alone. If a growth is refused, the row
     /// stays as it was.
     pub fn push(&mut self, value: T) -> Result<(), AllocFailed<T>>
         ensures ok { OnOk result (self.new ≡ self.old ++ value ∷ []) }

@@ -4,14 +4,14 @@ ghost use Rattle.wit_values.specs.Spans.{span_cmp};
 
 use std::cmp::Ordering;
 
-/// A half-open range of bytes: from the first byte to the one behind the last.
+/// A half-open range of bytes: from the first byte to the one after the last.
 ///
-/// Places count over all sources of a map, one behind the other. The default is (0, 0).
+/// Places count over all sources of a map, one after the other. The default is (0, 0).
 #[derive(Clone, Copy, Debug, PartialEq, Eq, PartialOrd, Ord, Hash, Default)]
 pub struct Span {
     /// The place of the first byte.
     pub start: u32,
-    /// The place behind the last byte.
+    /// The place after the last byte.
     pub end: u32,
 }
 

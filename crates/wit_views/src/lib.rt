@@ -5,6 +5,6 @@ pub mod packages;
 pub mod reading;
 pub mod trees;
 
-pub use packages::{Found, behind, without_nested, write_packages};
+pub use packages::{Found, rest_after, without_nested, write_packages};
 pub use reading::read_view;
 pub use trees::tree_view;

@@ -26,14 +26,14 @@ pub fn without_nested(alloc: Global, found: ParseResult<UnresolvedPackage>) -> F
 }
 
 /// What sources come to that were pushed before: the refusal of a push, or else what was found.
-pub fn behind(pushed: ParseResult<()>, found: Found) -> Found {
+pub fn rest_after(pushed: ParseResult<()>, found: Found) -> Found {
     match pushed {
         Ok(()) => found,
         Err(fault) => Err(fault),
     }
 }
 
-/// Puts the docs of a package behind a text, where it and its parts are, and what handles require.
+/// Puts the docs of a package after a text, where it and its parts are, and what handles require.
 fn push_whole(
     text: &mut String,
     map: &SourceMap,
@@ -45,7 +45,7 @@ fn push_whole(
     push_required(text, map, package)
 }
 
-/// Puts what the view of this name writes of a package behind a text, or that there is no such view.
+/// Puts what the view of this name writes of a package after a text, or that there is no such view.
 fn push_view(
     alloc: Global,
     text: &mut String,

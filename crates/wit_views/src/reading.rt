@@ -5,17 +5,17 @@ use std::alloc::{AllocError, Global};
 use wit_text::{Source, SourceMap, read_file};
 use wit_tree::ParseError;
 
-/// Puts the number of a refusal behind a text, and the refused source in its three parts.
+/// Puts the number of a refusal after a text, and the refused source in its three parts.
 pub fn push_refused(text: &mut String, source: &str, fault: &ParseError) -> Result<(), AllocError> {
     let span = fault.span();
     let (start, end) = (span.start as usize, span.end as usize);
-    let front = source.get(..start).unwrap_or("?");
+    let prefix = source.get(..start).unwrap_or("?");
     let part = source.get(start..end).unwrap_or("?");
     let back = source.get(end..).unwrap_or("?");
-    write!(text, "{}|{front}|{part}|{back}\n", fault.rule())
+    write!(text, "{}|{prefix}|{part}|{back}\n", fault.rule())
 }
 
-/// Puts whether a source is read behind a text.
+/// Puts whether a source is read after a text.
 fn push_source(alloc: Global, text: &mut String, source: &Source) -> Result<(), AllocError> {
     let contents = source.contents.as_str();
     if contents.len() > 1_000_000 {

@@ -1,5 +1,5 @@
 //! The view `tree`: the debug text of the tree of each source, whose first byte is at 1000: of its file,
-//! and behind that of each package that is nested in it. Docs without comments, lists of no attribute and
+//! and after that of each package that is nested in it. Docs without comments, lists of no attribute and
 //! lists of no nested package are left out.
 
 use std::alloc::{AllocError, Global};
@@ -13,7 +13,7 @@ const NO_ATTRIBUTES: &str = "attributes: [], ";
 
 const NO_NESTED: &str = ", nested: []";
 
-/// A text without a part, wherever that stands in it.
+/// A text without a part, wherever that is in it.
 fn without(alloc: Global, text: &str, part: &str) -> Result<String, AllocError> {
     let mut rest = String::new(alloc);
     for piece in text.split(part) {
@@ -22,7 +22,7 @@ fn without(alloc: Global, text: &str, part: &str) -> Result<String, AllocError> 
     Ok(rest)
 }
 
-/// Puts the debug texts of packages behind a text.
+/// Puts the debug texts of packages after a text.
 fn push_nested(text: &mut String, packages: &[NestedPackage<'_>]) -> Result<(), AllocError> {
     for package in packages {
         write!(text, ", {package:?}")?;
@@ -30,7 +30,7 @@ fn push_nested(text: &mut String, packages: &[NestedPackage<'_>]) -> Result<(), 
     Ok(())
 }
 
-/// Puts the tree of a source behind a text.
+/// Puts the tree of a source after a text.
 fn push_tree(alloc: Global, text: &mut String, source: &Source) -> Result<(), AllocError> {
     let contents = source.contents.as_str();
     if contents.len() > 1_000_000 {

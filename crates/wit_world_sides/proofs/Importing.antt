@@ -16,7 +16,7 @@ use Rattle.wit_syntax.proofs.Lists.{at_take, map_map}
 use Rattle.wit_syntax.proofs.Names.{name_cases}
 use Rattle.wit_syntax.proofs.Repeated.{key_at}
 
--- one name more, where it stands for something
+-- one name more, where it means something
 imports_next : (xs : List ScopeName) (types : Names) (k : ℕ) (x : ScopeName) (t : List ℕ × ℕ) → slice_get xs k ≡ Some x → slice_get types k ≡ Some t → type_imports (take (suc k) xs) types ≡ type_imports (take k xs) types ++ (key.Name (local_name x), Type_ t.1 (local_id x).span) ∷ []
 imports_next [] types k x t at there = absurd (let f : ⊥ = cc in f)
 imports_next (y ∷ ys) [] k x t at there = absurd (let f : ⊥ = cc in f)
@@ -34,13 +34,13 @@ imports_ended (y ∷ ys) [] (suc k) none = refl
 imports_ended (y ∷ ys) (u ∷ us) zero none = absurd (let f : ⊥ = cc in f)
 imports_ended (y ∷ ys) (u ∷ us) (suc k) none = ap (λ l. (key.Name (local_name y), Type_ u.1 (local_id y).span) ∷ l) (imports_ended ys us k none)
 
--- where it stands for nothing, there is no import more
+-- where it means nothing, there is no import more
 pub imports_past : (xs : List ScopeName) (types : Names) (k : ℕ) → slice_get types k ≡ None → type_imports (take (k + 1) xs) types ≡ type_imports (take k xs) types
 imports_past xs types k none =
     let next : k + 1 ≡ suc k = omega arith in
     ap (λ n. type_imports (take n xs) types) next ∙ imports_ended xs types k none
 
--- an import at a name that none of these has stands last
+-- an import at a name that none of these has comes last
 import_last : (xs : List ScopeName) (types : Names) (name : List ℕ) (item : WorldItem) → ((i : ℕ) (y : ScopeName) → slice_get xs i ≡ Some y → pointwise nat_eq name (local_name y) ≡ false) → insert_entry key_test.it (type_imports xs types) (key.Name name) item ≡ type_imports xs types ++ (key.Name name, item) ∷ []
 import_last [] types name item other = refl
 import_last (y ∷ ys) [] name item other = refl
@@ -51,9 +51,9 @@ import_last (y ∷ ys) (u ∷ us) name item other =
 other_before : (xs : List ScopeName) (k : ℕ) (x : ScopeName) → AllDiffer (map local_name xs) → slice_get xs k ≡ Some x → (i : ℕ) (y : ScopeName) → slice_get (take k xs) i ≡ Some y → pointwise nat_eq (local_name x) (local_name y) ≡ false
 other_before xs k x differ at i y there = elim (name_cases (local_name x) (local_name y)) [
   | inl same ↦ absurd (
-      let front = at_take xs k i y there in
-      let one = differ.differ i k (local_name x) (key_at local_name xs i y front.0 ∙ ap Some (sym same)) (key_at local_name xs k x at) in
-      let lt : i < k = front.1 in
+      let prefix = at_take xs k i y there in
+      let one = differ.differ i k (local_name x) (key_at local_name xs i y prefix.0 ∙ ap Some (sym same)) (key_at local_name xs k x at) in
+      let lt : i < k = prefix.1 in
       let f : ⊥ = omega arith in
       f)
   | inr other ↦ other

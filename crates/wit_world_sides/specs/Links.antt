@@ -8,40 +8,40 @@ use Rattle.wit_syntax.specs.Source.{Local, leads, path_scope, TopName, item_name
 use Rattle.wit_syntax.specs.Broken.{is_world_at}
 use Rattle.wit_arena.specs.Whole.{place_at}
 use Rattle.wit_arena.specs.Resolving.{Names, env_of}
-use Rattle.wit_externs.specs.declared.held.Led.{Led}
-use Rattle.wit_externs.specs.declared.held.Led.TheVariants as led
-use Rattle.wit_externs.specs.declared.held.HeldLink.{HeldLink}
-use Rattle.wit_externs.specs.declared.held.HeldExtern.{HeldExtern}
-use Rattle.wit_externs.specs.declared.held.HeldExtern.TheVariants as held
-use Rattle.wit_scopes.specs.declared.scope_name.Source.{Source as HeldSource}
-use Rattle.wit_scopes.specs.declared.scope_name.Source.TheVariants as held_source
+use Rattle.wit_externs.specs.declared.borrowed.PathTarget.{PathTarget}
+use Rattle.wit_externs.specs.declared.borrowed.PathTarget.TheVariants as path_target
+use Rattle.wit_externs.specs.declared.borrowed.BorrowedLink.{BorrowedLink}
+use Rattle.wit_externs.specs.declared.borrowed.BorrowedExtern.{BorrowedExtern}
+use Rattle.wit_externs.specs.declared.borrowed.BorrowedExtern.TheVariants as borrowed
+use Rattle.wit_scopes.specs.declared.scope_name.Source.{Source as BorrowedSource}
+use Rattle.wit_scopes.specs.declared.scope_name.Source.TheVariants as borrowed_source
 
--- The place of the interface at an address: of a declared one that of its name, of another package's where it stands in front of the arena.
+-- The place of the interface at an address: of a declared one that of its name, of another package's where it comes before the arena.
 abbrev pub interface_place : List Address → Names → Address → Option ℕ
-interface_place front by_name (InterfaceNamed name) = env_of by_name name
-interface_place front by_name (WorldNamed name) = None
-interface_place front by_name (InlineAt world side place) = None
-interface_place front by_name (ForeignNamed p name) = place_at front (ForeignNamed p name)
+interface_place prefix by_name (InterfaceNamed name) = env_of by_name name
+interface_place prefix by_name (WorldNamed name) = None
+interface_place prefix by_name (InlineAt world side place) = None
+interface_place prefix by_name (ForeignNamed p name) = place_at prefix (ForeignNamed p name)
 
--- the place of the interface that is held, if it is resolved
-abbrev pub source_place : Names → HeldSource → Option ℕ
-source_place by_name (held_source.Declared id) = env_of by_name id.name.now
-source_place by_name (held_source.Foreign place of name) = Some place
+-- the place of the interface that is borrowed, if it is resolved
+abbrev pub source_place : Names → BorrowedSource → Option ℕ
+source_place by_name (borrowed_source.Declared id) = env_of by_name id.name.now
+source_place by_name (borrowed_source.Foreign place of name) = Some place
 
 -- a path leads to no item of this name, or to an interface of it that is not resolved
 abbrev pub IsLostAt : List PackageFile → Names → List TopName → UsePath → Id → Type 0
 IsLostAt files by_name top path id = (leads top path ≡ Local id) × ((item_named (all_items files) id.name.now ≡ None) ⊎ ((is_world_at files (Local id) ≡ Some false) × (env_of by_name id.name.now ≡ None)))
 
 -- what a path leads to
-abbrev pub IsLed : List PackageFile → List Address → Names → List TopName → UsePath → Led → Type 0
-IsLed files front by_name top path (led.Interface place) = (is_world_at files (leads top path) ≡ Some false) × (interface_place front by_name (path_scope top path) ≡ Some place)
-IsLed files front by_name top path led.World = is_world_at files (leads top path) ≡ Some true
-IsLed files front by_name top path (led.Nothing id) = IsLostAt files by_name top path id
+abbrev pub IsPathTarget : List PackageFile → List Address → Names → List TopName → UsePath → PathTarget → Type 0
+IsPathTarget files prefix by_name top path (path_target.Interface place) = (is_world_at files (leads top path) ≡ Some false) × (interface_place prefix by_name (path_scope top path) ≡ Some place)
+IsPathTarget files prefix by_name top path path_target.World = is_world_at files (leads top path) ≡ Some true
+IsPathTarget files prefix by_name top path (path_target.Nothing id) = IsLostAt files by_name top path id
 
 -- what the paths of these lead to
-pub record AreLed (files : List PackageFile) (front : List Address) (by_name : Names) (top : List TopName) (hs : List HeldExtern) : Type 0 where
-  pub each : (l : HeldLink) → Contains hs (held.Link l) → IsLed files front by_name top l.path.now l.led
+pub record ArePathTargets (files : List PackageFile) (prefix : List Address) (by_name : Names) (top : List TopName) (hs : List BorrowedExtern) : Type 0 where
+  pub each : (l : BorrowedLink) → Contains hs (borrowed.Link l) → IsPathTarget files prefix by_name top l.path.now l.path_target
 
 -- the interfaces that these lead to are some of so many
-pub record AreWithin (count : ℕ) (hs : List HeldExtern) : Type 0 where
-  pub each : (k : ℕ) (l : HeldLink) (place : ℕ) → slice_get hs k ≡ Some (held.Link l) → l.led ≡ led.Interface place → place < count
+pub record AreWithin (count : ℕ) (hs : List BorrowedExtern) : Type 0 where
+  pub each : (k : ℕ) (l : BorrowedLink) (place : ℕ) → slice_get hs k ≡ Some (borrowed.Link l) → l.path_target ≡ path_target.Interface place → place < count

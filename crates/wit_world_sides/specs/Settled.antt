@@ -1,4 +1,4 @@
--- Worlds that include nothing, and entries whose functions stand at their names.
+-- Worlds that include nothing, and entries whose functions are at their names.
 use Rattle.std.specs.Prelude.{◌≡◌, ℕ, Bool, true, false, List, [], ◌∷◌, Some, slice_get}
 use Rattle.wit_tree.specs.declared.tree.Include.{Include}
 use Rattle.wit_model.specs.Worlds.{function_of}
@@ -12,6 +12,6 @@ abbrev pub none_of : List Include → Bool
 none_of [] = true
 none_of (i ∷ is) = false
 
--- each function among these entries stands at its name
+-- each function among these entries is at its name
 abbrev pub AreCalled : List (WorldKey × WorldItem) → Type 0
 AreCalled xs = (k : ℕ) (e : WorldKey × WorldItem) (f : Function) → slice_get xs k ≡ Some e → function_of e.1 ≡ Some f → e.0 ≡ key.Name f.name

@@ -3,7 +3,7 @@
 ghost use Rattle.std.specs.Prelude.{◌≡◌, ◌<◌, ◌++◌, List, IfOk, OnOk, length, map};
 ghost use Rattle.std.specs.List.{flat_map};
 ghost use Rattle.indexmap.specs.IndexMap.{insert_entry};
-ghost use Rattle.wit_type_tree.specs.Attributes.{told_text};
+ghost use Rattle.wit_type_tree.specs.Attributes.{stated_text};
 ghost use Rattle.wit_type_tree.specs.declared.attribute_kind.AttributeKind.TheVariants.{ExternalId};
 ghost use Rattle.wit_tree.specs.declared.tree.Include.{Include};
 ghost use Rattle.wit_tree.specs.declared.tree.WorldSide.{WorldSide as TheSide};
@@ -11,16 +11,16 @@ ghost use Rattle.wit_tree.specs.declared.tree.WorldSide.TheVariants.{Imported, E
 ghost use Rattle.wit_model.specs.declared.world.WorldKey.TheVariants.{Name};
 ghost use Rattle.wit_model.specs.declared.world.WorldItem.TheVariants.{Interface as InterfaceItem, Type_ as TypeItem};
 ghost use Rattle.wit_model.specs.contracts.world.WorldKeyPartialEq.TheImpl.{eq-value as key_test};
-ghost use Rattle.wit_syntax.specs.Notes.{stability_of};
+ghost use Rattle.wit_syntax.specs.Metadata.{stability_of};
 ghost use Rattle.wit_syntax.specs.Repeats.{AllDiffer};
 ghost use Rattle.wit_syntax.specs.Sides.{item_function, item_inline};
 ghost use Rattle.wit_syntax.specs.Source.{ScopeName, local_id};
 ghost use Rattle.wit_arena.specs.Functions.{function_item};
 ghost use Rattle.wit_arena.specs.SideItems.{settled, inline_entry, link_item, link_key as the_link_key, link_span as the_link_span};
 ghost use Rattle.wit_arena.specs.Whole.{type_imports as the_imports};
-ghost use Rattle.wit_signatures.specs.Taken.{name_of_function, name_of_made};
+ghost use Rattle.wit_signatures.specs.ForeignName.{name_of_function, name_of_made};
 ghost use Rattle.wit_externs.specs.Clash.{DifferOnSides};
-ghost use Rattle.wit_externs.specs.Held.{externs_behind, held_on, link_behind};
+ghost use Rattle.wit_externs.specs.SideMembers.{externs_view, borrowed_on, link_view};
 ghost use Rattle.wit_externs.specs.Links.{AreRightLinks, bare_places};
 ghost use Rattle.wit_arena.specs.Resolving.{names_in};
 ghost use Rattle.wit_world_sides.specs.Links.{AreWithin};
@@ -29,14 +29,14 @@ ghost use Rattle.wit_world_sides.specs.Sides.{entries_of, entries_on, inserted_o
 
 use crate::setters::settle;
 use std::alloc::{AllocError, Global};
-use wit_externs::held::{HeldExtern, HeldInline, HeldLink, Led};
+use wit_externs::borrowed::{BorrowedExtern, BorrowedInline, BorrowedLink, PathTarget};
 use wit_items::interfaces::Interfaces;
+use wit_maps::{Table, TextTable};
 use wit_model::{Function, WorldItem, WorldKey};
-use wit_notes::{docs, path_id, told_notes};
+use wit_notes::{docs, path_id, stated_metadata};
 use wit_tree::Span;
 use wit_tree::tree::{Attribute, Id, UsePath, WorldSide};
 use wit_types::{Docs, InterfaceId, Stability, TypeId};
-use wit_maps::{Table, TextTable};
 use wit_values::{Rare, Text};
 
 /// Puts a type at a name of a world, as an import.
@@ -57,7 +57,7 @@ fn add_import(
     Ok(())
 }
 
-/// The names of a scope as imports of a world: each with the type that it stands for. Behind them is room
+/// The names of a scope as imports of a world: each with the type that it means. Behind them is room
 /// for so many more.
 fn type_imports(
     alloc: Global,
@@ -78,9 +78,9 @@ fn type_imports(
     Ok(imports)
 }
 
-/// What stands on the sides of a world, over its types.
+/// What is on the sides of a world, over its types.
 #[derive(Drop)]
-pub struct Standing {
+pub struct Members {
     /// The functions, in source order.
     pub functions: Vec<Function>,
     /// The interfaces that are written there, in source order.
@@ -139,7 +139,7 @@ fn link_key(alloc: Global, name: Option<Id<'_>>, id: InterfaceId) -> Result<Worl
     }
 }
 
-/// Where an interface stands: where the name of its own does, or else its path.
+/// Where an interface is: where the name of its own does, or else its path.
 fn link_span(name: Option<Id<'_>>, path: &UsePath<'_>) -> Span
     ensures { result ≡ the_link_span name.entry path.now }
 {
@@ -149,7 +149,7 @@ fn link_span(name: Option<Id<'_>>, path: &UsePath<'_>) -> Span
     }
 }
 
-/// An interface on a side, with these docs and what attributes tell of it there.
+/// An interface on a side, with these docs and what attributes say of it there.
 fn interface_item(
     alloc: Global,
     id: InterfaceId,
@@ -157,7 +157,7 @@ fn interface_item(
     docs: Docs,
     span: Span,
 ) -> Result<WorldItem, AllocError>
-    ensures { IfOk result (λ item. item ≡ InterfaceItem id (stability_of attributes.now) (told_text ExternalId attributes.now) docs span) }
+    ensures { IfOk result (λ item. item ≡ InterfaceItem id (stability_of attributes.now) (stated_text ExternalId attributes.now) docs span) }
 {
     if attributes.len() == 0 {
         return Ok(WorldItem::Interface {
@@ -168,26 +168,26 @@ fn interface_item(
             span,
         });
     }
-    let told = told_notes(alloc, attributes)?;
+    let as_stated = stated_metadata(alloc, attributes)?;
     Ok(WorldItem::Interface {
         id,
-        stability: told.stability,
-        external_id: told.external_id,
+        stability: as_stated.stability,
+        external_id: as_stated.external_id,
         docs,
         span,
     })
 }
 
-/// Puts an interface on its side, with what is told of it there. Its attributes were checked.
+/// Puts an interface on its side, with what is stated of it there. Its attributes were checked.
 fn add_link<'f, 'a>(
     alloc: Global,
-    link: &HeldLink<'f, 'a>,
+    link: &BorrowedLink<'f, 'a>,
     interfaces: &Interfaces<'_, '_, 'f, 'a>,
     sides: &mut WorldSides,
     place: usize,
 ) -> Result<(), AllocError>
     requires { place < length interfaces.now.arena }
-    ensures { OnOk result ((s : TheSide) → entries_of s sides.new ≡ inserted_on s link.now.side (link_item (link_behind link.now) place) (entries_of s sides.old)) }
+    ensures { OnOk result ((s : TheSide) → entries_of s sides.new ≡ inserted_on s link.now.side (link_item (link_view link.now) place) (entries_of s sides.old)) }
 {
     let id = interfaces.arena.id_at(place);
     let key = link_key(alloc, link.name, id)?;
@@ -198,11 +198,11 @@ fn add_link<'f, 'a>(
     Ok(())
 }
 
-/// Puts an interface that is written in a world on its side, under its name, with what is told of it
+/// Puts an interface that is written in a world on its side, under its name, with what is stated of it
 /// there. Its attributes were checked.
 fn add_inline(
     alloc: Global,
-    inline: &HeldInline<'_, '_>,
+    inline: &BorrowedInline<'_, '_>,
     sides: &mut WorldSides,
     id: InterfaceId,
 ) -> Result<(), AllocError>
@@ -216,34 +216,34 @@ fn add_inline(
 }
 
 /// Puts on the sides what is written, where its keys differ from one another and from those that are
-/// there; `standing` is what was made of it.
+/// there; `members` is what was made of it.
 fn add_externs<'f, 'a>(
     alloc: Global,
-    externs: &[HeldExtern<'f, 'a>],
+    externs: &[BorrowedExtern<'f, 'a>],
     interfaces: &Interfaces<'_, '_, 'f, 'a>,
     sides: &mut WorldSides,
-    standing: Standing,
+    members: Members,
 ) -> Result<(), AllocError>
     requires within { AreWithin (length interfaces.now.arena) externs.now }
-    requires differ { (s : TheSide) → AllDiffer (map (λ i. i.0) (entries_of s sides.old ++ entries_on s externs.now standing.functions.items standing.inside.items)) }
-    ensures { OnOk result ((s : TheSide) → entries_of s sides.new ≡ entries_of s sides.old ++ entries_on s externs.now standing.functions.items standing.inside.items) }
+    requires differ { (s : TheSide) → AllDiffer (map (λ i. i.0) (entries_of s sides.old ++ entries_on s externs.now members.functions.items members.inside.items)) }
+    ensures { OnOk result ((s : TheSide) → entries_of s sides.new ≡ entries_of s sides.old ++ entries_on s externs.now members.functions.items members.inside.items) }
 {
-    let Standing { functions, inside } = standing;
+    let Members { functions, inside } = members;
     let mut made = functions.into_iter();
     let mut ids = inside.into_iter();
-    for held in externs {
-        match held {
-            HeldExtern::Function(written) => {
+    for borrowed in externs {
+        match borrowed {
+            BorrowedExtern::Function(written) => {
                 if let Some(function) = made.next() {
                     add_function(sides, written.side(), function)?;
                 }
             }
-            HeldExtern::Link(link) => {
-                if let Led::Interface(place) = link.led {
+            BorrowedExtern::Link(link) => {
+                if let PathTarget::Interface(place) = link.path_target {
                     add_link(alloc, link, interfaces, sides, place)?;
                 }
             }
-            HeldExtern::Inline(inline) => {
+            BorrowedExtern::Inline(inline) => {
                 if let Some(id) = ids.next() {
                     add_inline(alloc, inline, sides, id)?;
                 }
@@ -254,10 +254,10 @@ fn add_externs<'f, 'a>(
 }
 
 /// How much of what is written is imported; the rest is exported.
-fn import_count(externs: &[HeldExtern<'_, '_>]) -> usize {
+fn import_count(externs: &[BorrowedExtern<'_, '_>]) -> usize {
     let mut count: usize = 0;
-    for held in externs {
-        match held.side() {
+    for borrowed in externs {
+        match borrowed.side() {
             WorldSide::Imported => count = count.saturating_add(1),
             WorldSide::Exported => {}
         }
@@ -266,33 +266,33 @@ fn import_count(externs: &[HeldExtern<'_, '_>]) -> usize {
 }
 
 /// What a world imports, the names of its scope and then what is written, and what it exports;
-/// `standing` is what was made of that. Of a world that includes nothing, which is `closed`, each setter
-/// stands behind its getter.
+/// `members` is what was made of that. Of a world that includes nothing, which is `closed`, each setter
+/// comes after its getter.
 pub fn world_sides<'f, 'a>(
     alloc: Global,
-    externs: &[HeldExtern<'f, 'a>],
+    externs: &[BorrowedExtern<'f, 'a>],
     turn: &[Id<'_>],
     types: &TextTable<TypeId>,
     interfaces: &Interfaces<'_, '_, 'f, 'a>,
-    standing: Standing,
+    members: Members,
     closed: bool,
 ) -> Result<WorldSides, AllocError>
     requires distinct { AllDiffer (map (λ id. id.name.now) turn.now) }
     requires listed { names_in types.now ≡ map (λ id. id.name.now) turn.now }
-    requires named { map name_of_made standing.functions.items ≡ map name_of_function (flat_map item_function (externs_behind externs.now)) }
-    requires counted { length standing.inside.items ≡ length (flat_map item_inline (externs_behind externs.now)) }
-    requires differ { DifferOnSides turn.now (externs_behind externs.now) }
+    requires named { map name_of_made members.functions.items ≡ map name_of_function (flat_map item_function (externs_view externs.now)) }
+    requires counted { length members.inside.items ≡ length (flat_map item_inline (externs_view externs.now)) }
+    requires differ { DifferOnSides turn.now (externs_view externs.now) }
     requires right { AreRightLinks externs.now }
     requires within { AreWithin (length interfaces.now.arena) externs.now }
-    requires apart { (s : TheSide) → AllDiffer (bare_places (held_on s externs.now)) }
-    ensures imports { IfOk result (λ sides. (xs : List ScopeName) (is : List Include) → turn.now ≡ map local_id xs → closed ≡ none_of is → sides.imports ≡ settled is (the_imports xs types.now ++ entries_on Imported externs.now standing.functions.items standing.inside.items)) }
-    ensures exports { IfOk result (λ sides. (is : List Include) → closed ≡ none_of is → sides.exports ≡ settled is (entries_on Exported externs.now standing.functions.items standing.inside.items)) }
+    requires apart { (s : TheSide) → AllDiffer (bare_places (borrowed_on s externs.now)) }
+    ensures imports { IfOk result (λ sides. (xs : List ScopeName) (is : List Include) → turn.now ≡ map local_id xs → closed ≡ none_of is → sides.imports ≡ settled is (the_imports xs types.now ++ entries_on Imported externs.now members.functions.items members.inside.items)) }
+    ensures exports { IfOk result (λ sides. (is : List Include) → closed ≡ none_of is → sides.exports ≡ settled is (entries_on Exported externs.now members.functions.items members.inside.items)) }
 {
     let imported = import_count(externs);
     let imports = type_imports(alloc, turn, types, imported)?;
     let exported = externs.len().saturating_sub(imported);
     let exports = Table::with_capacity(alloc, exported)?;
     let mut sides = WorldSides { imports, exports };
-    add_externs(alloc, externs, interfaces, &mut sides, standing)?;
+    add_externs(alloc, externs, interfaces, &mut sides, members)?;
     settle(alloc, sides, closed)
 }

@@ -8,7 +8,7 @@ use Rattle.wit_bundle.proofs.parts.named.Goals as goal
 pub returns-in-Some-clause-parts : goal.returns-in-Some-clause-parts
 returns-in-Some-clause-parts c =
     let cut = rw c.in-Some.is at (split_parts 10 c.args.text.now c.split_once.result c.split_once.ensures.cases (omega arith)) in
-    ap (λ t. parts (mark ++ t)) cut.0 ∙ named_then c.in-Some.line.now c.in-Some.behind.now c.without_return.result.now cut.1 c.without_return.ensures
+    ap (λ t. parts (mark ++ t)) cut.0 ∙ named_then c.in-Some.line.now c.in-Some.rest_after.now c.without_return.result.now cut.1 c.without_return.ensures
 
 pub returns-in-None-clause-parts : goal.returns-in-None-clause-parts
 returns-in-None-clause-parts c =

@@ -6,24 +6,24 @@ use Rattle.wit_syntax.specs.Source.{all_items}
 use Rattle.wit_syntax.specs.Scope.{in_order, interfaces_of, worlds_of}
 use Rattle.wit_syntax.specs.Broken.{IsBroken}
 use Rattle.wit_syntax.specs.Sides.{with_inline}
-use Rattle.wit_arena.specs.Resolving.{Required, cells, IsIndex}
-use Rattle.wit_arena.specs.Resolved.{WorldArenas, front_worlds, AddsInterfaces, AddsWorlds, AreLegalSides, AreSoundScopes, AreUsableLinks, HaveLegalStability, IsWrongNow, IsWrongWorldNow}
+use Rattle.wit_arena.specs.Resolving.{Required, resolved_scopes, IsIndex}
+use Rattle.wit_arena.specs.Resolved.{WorldArenas, prefix_worlds, AddsInterfaces, AddsWorlds, AreLegalSides, AreSoundScopes, AreUsableLinks, HaveLegalStability, IsWrongNow, IsWrongWorldNow}
 use Rattle.wit_syntax.proofs.Refusing.{refused_weaker}
 use Rattle.wit_arena.proofs.LegalScopes.{distinct_items}
-use Rattle.wit_arena.proofs.Finished.{broken_now, broken_world_now}
-use Rattle.wit_items.specs.Items.{item_behind, others_of}
+use Rattle.wit_arena.proofs.LegalIfDone.{broken_now, broken_world_now}
+use Rattle.wit_items.specs.Items.{item_view, others_of}
 use Rattle.wit_items.proofs.Usable.{uses_broken, uses_sound}
 use Rattle.wit_items.proofs.Found.{found_none}
 use Rattle.wit_items.proofs.Gathered.{items_of}
-use Rattle.wit_item_names.specs.Interfaces.{front_of}
-use Rattle.wit_front.specs.Front.{IsFront}
-use Rattle.wit_uses.specs.Between.{Emits}
+use Rattle.wit_item_names.specs.Interfaces.{prefix_of}
+use Rattle.wit_front.specs.ForeignPrefix.{IsPrefix}
+use Rattle.wit_uses.specs.NewRequirements.{Appends}
 use Rattle.wit_contents.specs.Outer.{AreOuter}
 use Rattle.wit_contents.proofs.Outer.{all_outer}
 use Rattle.wit_contents.specs.BetweenWorlds.{arenas}
 use Rattle.wit_uses.proofs.Telling.{stability_both}
-use Rattle.wit_contents.proofs.Files.{sided_both, sound_both, uses_usable, held_within}
-use Rattle.wit_contents.proofs.Fronting.{front_started, front_taken, lent_enough, lent_index, worlds_enough, worlds_index}
+use Rattle.wit_contents.proofs.Files.{sided_both, sound_both, uses_usable, borrowed_within}
+use Rattle.wit_contents.proofs.Fronting.{prefix_started, prefix_used, lent_enough, lent_index, worlds_enough, worlds_index}
 use Rattle.wit_contents.proofs.contents.resolve_files.Goals as goal
 
 pub returns-in_err-items-clause-refused : goal.returns-in_err-items-clause-refused
@@ -35,13 +35,13 @@ returns-in_err-items-clause-refused c =
 pub take_all-requires : goal.take_all-requires
 take_all-requires c =
     let files = c.args.names.now in
-    front_started files c.foreign.result.now c.args.types.now c.in_ok-front.front c.in_ok-items.items.items c.deref_mut-lent.result.now c.foreign.ensures c.requires.empty c.in_ok-front.ensures.bare c.deref_mut-lent.ensures.value c.in_ok-items.ensures.placed
+    prefix_started files c.foreign.result.now c.args.types.now c.in_ok-prefix.prefix c.in_ok-items.items.items c.deref_mut-lent.result.now c.foreign.ensures c.requires.empty c.in_ok-prefix.ensures.bare c.deref_mut-lent.ensures.value c.in_ok-items.ensures.placed
 
 pub resolve_interfaces-requires-clause-within : goal.resolve_interfaces-requires-clause-within
-resolve_interfaces-requires-clause-within c = held_within c.args.names.now c.item_order-order.result.now c.deref_mut-lent.result.now c.item_order-order.ensures (ap (map item_behind) c.deref_mut-lent.ensures.value ∙ c.in_ok-items.ensures.items)
+resolve_interfaces-requires-clause-within c = borrowed_within c.args.names.now c.item_order-order.result.now c.deref_mut-lent.result.now c.item_order-order.ensures (ap (map item_view) c.deref_mut-lent.ensures.value ∙ c.in_ok-items.ensures.items)
 
 pub resolve_interfaces-requires-clause-outer : goal.resolve_interfaces-requires-clause-outer
-resolve_interfaces-requires-clause-outer c = subst AreOuter (sym (ap (map item_behind) c.deref_mut-lent.ensures.value ∙ c.in_ok-items.ensures.items)) (all_outer c.args.names.now)
+resolve_interfaces-requires-clause-outer c = subst AreOuter (sym (ap (map item_view) c.deref_mut-lent.ensures.value ∙ c.in_ok-items.ensures.items)) (all_outer c.args.names.now)
 
 pub resolve_interfaces-requires-clause-items : goal.resolve_interfaces-requires-clause-items
 resolve_interfaces-requires-clause-items c =
@@ -55,10 +55,10 @@ invariant_of-interfaces c =
     let e = c.in_ok-items.ensures in
     let types = c.take_all.new.types in
     let a = c.take_all.new.self in
-    let front : IsFront files types a = front_taken files c.foreign.result.now c.args.types.now c.in_ok-front.front c.in_ok-items.items.items c.deref_mut-lent.result.now c.foreign.ensures c.requires.empty c.in_ok-front.ensures.bare c.deref_mut-lent.ensures.value e.placed types a e.names e.inside c.in_ok-take_all.ensures.taken in
+    let prefix : IsPrefix files types a = prefix_used files c.foreign.result.now c.args.types.now c.in_ok-prefix.prefix c.in_ok-items.items.items c.deref_mut-lent.result.now c.foreign.ensures c.requires.empty c.in_ok-prefix.ensures.bare c.deref_mut-lent.ensures.value e.placed types a e.names e.inside c.in_ok-take_all.ensures.in_use in
     record {
-      front = rw c.of-named.ensures (lent_enough files types a front);
-      found = found_none (length (front_of c.of-named.result)) a.interfaces c.new.result c.new.ensures;
+      prefix = rw c.of-named.ensures (lent_enough files types a prefix);
+      found = found_none (length (prefix_of c.of-named.result)) a.interfaces c.new.result c.new.ensures;
     }
 
 pub resolve_interfaces-requires-clause-index : goal.resolve_interfaces-requires-clause-index
@@ -67,11 +67,11 @@ resolve_interfaces-requires-clause-index c =
     let e = c.in_ok-items.ensures in
     let types = c.take_all.new.types in
     let a = c.take_all.new.self in
-    let front : IsFront files types a = front_taken files c.foreign.result.now c.args.types.now c.in_ok-front.front c.in_ok-items.items.items c.deref_mut-lent.result.now c.foreign.ensures c.requires.empty c.in_ok-front.ensures.bare c.deref_mut-lent.ensures.value e.placed types a e.names e.inside c.in_ok-take_all.ensures.taken in
-    rw c.of-named.ensures (lent_index files types a front c.new.result c.new.ensures)
+    let prefix : IsPrefix files types a = prefix_used files c.foreign.result.now c.args.types.now c.in_ok-prefix.prefix c.in_ok-items.items.items c.deref_mut-lent.result.now c.foreign.ensures c.requires.empty c.in_ok-prefix.ensures.bare c.deref_mut-lent.ensures.value e.placed types a e.names e.inside c.in_ok-take_all.ensures.in_use in
+    rw c.of-named.ensures (lent_index files types a prefix c.new.result c.new.ensures)
 
 pub resolve_worlds-requires-clause-within : goal.resolve_worlds-requires-clause-within
-resolve_worlds-requires-clause-within c = held_within c.args.names.now c.item_order-order.result.now c.deref_mut-lent.result.now c.item_order-order.ensures (ap (map item_behind) c.deref_mut-lent.ensures.value ∙ c.in_ok-items.ensures.items)
+resolve_worlds-requires-clause-within c = borrowed_within c.args.names.now c.item_order-order.result.now c.deref_mut-lent.result.now c.item_order-order.ensures (ap (map item_view) c.deref_mut-lent.ensures.value ∙ c.in_ok-items.ensures.items)
 
 pub resolve_worlds-requires-clause-items : goal.resolve_worlds-requires-clause-items
 resolve_worlds-requires-clause-items c =
@@ -80,15 +80,15 @@ resolve_worlds-requires-clause-items c =
     let kept : c.resolve_interfaces.new.interfaces.files ≡ files = c.in_ok-resolve_interfaces.ensures.files ∙ c.of-named.ensures in
     rw (kept, c.deref_mut-lent.ensures.value) (items_of files c.in_ok-items.items.items e.items e.names e.inside e.filed e.placed)
 
-pub resolve_worlds-requires-clause-front : goal.resolve_worlds-requires-clause-front
-resolve_worlds-requires-clause-front c =
+pub resolve_worlds-requires-clause-prefix : goal.resolve_worlds-requires-clause-prefix
+resolve_worlds-requires-clause-prefix c =
     let files = c.args.names.now in
     let e = c.in_ok-items.ensures in
     let types = c.take_all.new.types in
     let a = c.take_all.new.self in
-    let front : IsFront files types a = front_taken files c.foreign.result.now c.args.types.now c.in_ok-front.front c.in_ok-items.items.items c.deref_mut-lent.result.now c.foreign.ensures c.requires.empty c.in_ok-front.ensures.bare c.deref_mut-lent.ensures.value e.placed types a e.names e.inside c.in_ok-take_all.ensures.taken in
+    let prefix : IsPrefix files types a = prefix_used files c.foreign.result.now c.args.types.now c.in_ok-prefix.prefix c.in_ok-items.items.items c.deref_mut-lent.result.now c.foreign.ensures c.requires.empty c.in_ok-prefix.ensures.bare c.deref_mut-lent.ensures.value e.placed types a e.names e.inside c.in_ok-take_all.ensures.in_use in
     let kept : c.resolve_interfaces.new.interfaces.files ≡ c.args.names.now = c.in_ok-resolve_interfaces.ensures.files ∙ c.of-named.ensures in
-    rw kept (worlds_enough files types a front)
+    rw kept (worlds_enough files types a prefix)
 
 pub resolve_worlds-requires-clause-index : goal.resolve_worlds-requires-clause-index
 resolve_worlds-requires-clause-index c =
@@ -96,9 +96,9 @@ resolve_worlds-requires-clause-index c =
     let e = c.in_ok-items.ensures in
     let types = c.take_all.new.types in
     let a = c.take_all.new.self in
-    let front : IsFront files types a = front_taken files c.foreign.result.now c.args.types.now c.in_ok-front.front c.in_ok-items.items.items c.deref_mut-lent.result.now c.foreign.ensures c.requires.empty c.in_ok-front.ensures.bare c.deref_mut-lent.ensures.value e.placed types a e.names e.inside c.in_ok-take_all.ensures.taken in
+    let prefix : IsPrefix files types a = prefix_used files c.foreign.result.now c.args.types.now c.in_ok-prefix.prefix c.in_ok-items.items.items c.deref_mut-lent.result.now c.foreign.ensures c.requires.empty c.in_ok-prefix.ensures.bare c.deref_mut-lent.ensures.value e.placed types a e.names e.inside c.in_ok-take_all.ensures.in_use in
     let kept : c.resolve_interfaces.new.interfaces.files ≡ c.args.names.now = c.in_ok-resolve_interfaces.ensures.files ∙ c.of-named.ensures in
-    rw kept (worlds_index files types a front [] refl)
+    rw kept (worlds_index files types a prefix [] refl)
 
 pub returns-in_err-resolve_interfaces-clause-refused : goal.returns-in_err-resolve_interfaces-clause-refused
 returns-in_err-resolve_interfaces-clause-refused c =
@@ -107,13 +107,13 @@ returns-in_err-resolve_interfaces-clause-refused c =
     let e = c.in_ok-items.ensures in
     let types = c.take_all.new.types in
     let a = c.take_all.new.self in
-    let front : IsFront files types a = front_taken files c.foreign.result.now c.args.types.now c.in_ok-front.front c.in_ok-items.items.items c.deref_mut-lent.result.now c.foreign.ensures c.requires.empty c.in_ok-front.ensures.bare c.deref_mut-lent.ensures.value e.placed types a e.names e.inside c.in_ok-take_all.ensures.taken in
+    let prefix : IsPrefix files types a = prefix_used files c.foreign.result.now c.args.types.now c.in_ok-prefix.prefix c.in_ok-items.items.items c.deref_mut-lent.result.now c.foreign.ensures c.requires.empty c.in_ok-prefix.ensures.bare c.deref_mut-lent.ensures.value e.placed types a e.names e.inside c.in_ok-take_all.ensures.in_use in
     let items = c.deref_mut-lent.result.now in
     let places = c.item_order-order.result.now in
-    let all : map item_behind items ≡ all_items files = ap (map item_behind) c.deref_mut-lent.ensures.value ∙ e.items in
+    let all : map item_view items ≡ all_items files = ap (map item_view) c.deref_mut-lent.ensures.value ∙ e.items in
     let order = c.item_order-order.ensures in
     let differ = distinct_items files c.requires.legal in
-    rw (p.1, p.2) (refused_weaker (IsWrongNow (front_of files) types a.interfaces (all_items files) places) (IsBroken files) _ (λ f h. broken_now files places order differ (uses_usable files (uses_sound files e.first)) types a.interfaces a.worlds front.adds f h) (rw (c.of-named.ensures, all) at c.in_err-resolve_interfaces.ensures.refused))
+    rw (p.1, p.2) (refused_weaker (IsWrongNow (prefix_of files) types a.interfaces (all_items files) places) (IsBroken files) _ (λ f h. broken_now files places order differ (uses_usable files (uses_sound files e.first)) types a.interfaces a.worlds prefix.adds f h) (rw (c.of-named.ensures, all) at c.in_err-resolve_interfaces.ensures.refused))
 
 pub returns-in_err-made-clause-refused : goal.returns-in_err-made-clause-refused
 returns-in_err-made-clause-refused c =
@@ -122,17 +122,17 @@ returns-in_err-made-clause-refused c =
     let e = c.in_ok-items.ensures in
     let types = c.take_all.new.types in
     let a = c.take_all.new.self in
-    let front : IsFront files types a = front_taken files c.foreign.result.now c.args.types.now c.in_ok-front.front c.in_ok-items.items.items c.deref_mut-lent.result.now c.foreign.ensures c.requires.empty c.in_ok-front.ensures.bare c.deref_mut-lent.ensures.value e.placed types a e.names e.inside c.in_ok-take_all.ensures.taken in
+    let prefix : IsPrefix files types a = prefix_used files c.foreign.result.now c.args.types.now c.in_ok-prefix.prefix c.in_ok-items.items.items c.deref_mut-lent.result.now c.foreign.ensures c.requires.empty c.in_ok-prefix.ensures.bare c.deref_mut-lent.ensures.value e.placed types a e.names e.inside c.in_ok-take_all.ensures.in_use in
     let kept : c.resolve_interfaces.new.interfaces.files ≡ c.args.names.now = c.in_ok-resolve_interfaces.ensures.files ∙ c.of-named.ensures in
     let places = c.item_order-order.result.now in
     let now = c.resolve_interfaces.new.interfaces in
     let middle = c.resolve_interfaces.new.types in
-    let all : map item_behind c.deref_mut-lent.result.now ≡ all_items files = ap (map item_behind) c.deref_mut-lent.ensures.value ∙ e.items in
+    let all : map item_view c.deref_mut-lent.result.now ≡ all_items files = ap (map item_view) c.deref_mut-lent.ensures.value ∙ e.items in
     let irs = c.resolve_interfaces.new.required.items in
-    let from : Emits c.new-required.result.items irs (λ rs. AddsInterfaces (front_of files) types middle a.interfaces now.arena rs (interfaces_of (in_order (all_items files) places))) = rw (c.of-named.ensures, all) at c.in_ok-resolve_interfaces.ensures.added in
-    let index : IsIndex (cells (front_of files) now.arena) now.by_name = rw kept at c.in_ok-resolve_interfaces.ensures.index in
+    let from : Appends c.new-required.result.items irs (λ rs. AddsInterfaces (prefix_of files) types middle a.interfaces now.arena rs (interfaces_of (in_order (all_items files) places))) = rw (c.of-named.ensures, all) at c.in_ok-resolve_interfaces.ensures.added in
+    let index : IsIndex (resolved_scopes (prefix_of files) now.arena) now.by_name = rw kept at c.in_ok-resolve_interfaces.ensures.index in
     let differ = distinct_items files c.requires.legal in
-    rw (p.1, p.2) (refused_weaker (IsWrongWorldNow files (front_of files) (others_of files) middle now.arena now.by_name a.worlds (all_items files) places) (IsBroken files) _ (λ f h. broken_world_now files places c.item_order-order.ensures differ (uses_usable files (uses_sound files e.first)) types a.interfaces a.worlds front.adds middle now.arena from.own from.holds now.by_name index f h) (rw (kept, all) at c.in_err-made.ensures.refused))
+    rw (p.1, p.2) (refused_weaker (IsWrongWorldNow files (prefix_of files) (others_of files) middle now.arena now.by_name a.worlds (all_items files) places) (IsBroken files) _ (λ f h. broken_world_now files places c.item_order-order.ensures differ (uses_usable files (uses_sound files e.first)) types a.interfaces a.worlds prefix.adds middle now.arena from.own from.holds now.by_name index f h) (rw (kept, all) at c.in_err-made.ensures.refused))
 
 pub returns-clause-added : goal.returns-clause-added
 returns-clause-added c =
@@ -140,14 +140,14 @@ returns-clause-added c =
     let e = c.in_ok-items.ensures in
     let types = c.take_all.new.types in
     let a = c.take_all.new.self in
-    let front : IsFront files types a = front_taken files c.foreign.result.now c.args.types.now c.in_ok-front.front c.in_ok-items.items.items c.deref_mut-lent.result.now c.foreign.ensures c.requires.empty c.in_ok-front.ensures.bare c.deref_mut-lent.ensures.value e.placed types a e.names e.inside c.in_ok-take_all.ensures.taken in
+    let prefix : IsPrefix files types a = prefix_used files c.foreign.result.now c.args.types.now c.in_ok-prefix.prefix c.in_ok-items.items.items c.deref_mut-lent.result.now c.foreign.ensures c.requires.empty c.in_ok-prefix.ensures.bare c.deref_mut-lent.ensures.value e.placed types a e.names e.inside c.in_ok-take_all.ensures.in_use in
     let kept : c.resolve_interfaces.new.interfaces.files ≡ c.args.names.now = c.in_ok-resolve_interfaces.ensures.files ∙ c.of-named.ensures in
     let places = c.item_order-order.result.now in
     let now = c.resolve_interfaces.new.interfaces in
     let middle = c.resolve_interfaces.new.types in
-    let all : map item_behind c.deref_mut-lent.result.now ≡ all_items files = ap (map item_behind) c.deref_mut-lent.ensures.value ∙ e.items in
+    let all : map item_view c.deref_mut-lent.result.now ≡ all_items files = ap (map item_view) c.deref_mut-lent.ensures.value ∙ e.items in
     let irs = c.resolve_interfaces.new.required.items in
-    let from : Emits c.new-required.result.items irs (λ rs. AddsInterfaces (front_of files) types middle a.interfaces now.arena rs (interfaces_of (in_order (all_items files) places))) = rw (c.of-named.ensures, all) at c.in_ok-resolve_interfaces.ensures.added in
+    let from : Appends c.new-required.result.items irs (λ rs. AddsInterfaces (prefix_of files) types middle a.interfaces now.arena rs (interfaces_of (in_order (all_items files) places))) = rw (c.of-named.ensures, all) at c.in_ok-resolve_interfaces.ensures.added in
     let ws = c.in_ok-made.ensures in
     let new = c.resolve_worlds.new in
     let made = c.in_ok-made.made in
@@ -158,8 +158,8 @@ returns-clause-added c =
     let linked : AreUsableLinks files (worlds_of (in_order (all_items files) places)) = rw (kept, all) at ws.linked in
     let stable : HaveLegalStability (interfaces_of (in_order (all_items files) places)) = rw all at c.in_ok-resolve_interfaces.ensures.stable in
     let stable' : HaveLegalStability (worlds_of (in_order (all_items files) places)) = rw all at ws.stable in
-    let said : Emits irs new.required.items (λ rs. (ss : List Address) × AddsWorlds (front_of files) (others_of files) now.arena middle new.types (front_worlds a.worlds) (arenas made.0 made.1 ss) rs (worlds_of (in_order (all_items files) places))) = rw (kept, all) at ws.added in
-    let behind : WorldArenas = arenas made.0 made.1 said.holds.0 in
+    let said : Appends irs new.required.items (λ rs. (ss : List Address) × AddsWorlds (prefix_of files) (others_of files) now.arena middle new.types (prefix_worlds a.worlds) (arenas made.0 made.1 ss) rs (worlds_of (in_order (all_items files) places))) = rw (kept, all) at ws.added in
+    let rest_after : WorldArenas = arenas made.0 made.1 said.holds.0 in
     record {
       places = places;
       order = c.item_order-order.ensures;
@@ -167,12 +167,12 @@ returns-clause-added c =
       uses = uses_usable files (uses_sound files e.first);
       noted = λ i among u used. (((uses_sound files e.first).each i among).each u used).noted;
       first = types;
-      front = a.interfaces;
-      worlds_front = a.worlds;
-      foreign = front.adds;
+      prefix = a.interfaces;
+      worlds_prefix = a.worlds;
+      foreign = prefix.adds;
       middle = middle;
       is = now.arena;
-      arenas = behind;
+      arenas = rest_after;
       interface_arena = c.in_ok-append.ensures.ok;
       world_arena = refl;
       irs = from.own;

@@ -1,20 +1,20 @@
 use Rattle.std.proofs.Common.{[], ◌∷◌, length}
 use Rattle.wit_arena.proofs.Indexing.{index_interface}
-use Rattle.wit_item_names.specs.Interfaces.{front_of}
-use Rattle.wit_items.proofs.Found.{found_put, found_wider, front_wider}
+use Rattle.wit_item_names.specs.Interfaces.{prefix_of}
+use Rattle.wit_items.proofs.Found.{found_put, found_wider, prefix_wider}
 use Rattle.wit_contents.proofs.declared.add_interface.Goals as goal
 
 pub invariant_of-interfaces : goal.invariant_of-interfaces
 invariant_of-interfaces c =
     let is = c.args.interfaces.now in
-    rw c.in_err-place.ensures.err (record { front = is.front; found = is.found })
+    rw c.in_err-place.ensures.err (record { prefix = is.prefix; found = is.found })
 
 pub invariant_of-interfaces-in-Break-branch-2 : goal.invariant_of-interfaces-in-Break-branch-2
 invariant_of-interfaces-in-Break-branch-2 c =
     let is = c.args.interfaces.now in
     rw c.in_ok-place.ensures.ok (record {
-      front = front_wider (length (front_of is.files)) is.arena (c.args.interface ∷ []) is.front;
-      found = found_wider (length (front_of is.files)) is.arena (c.args.interface ∷ []) is.by_name is.found;
+      prefix = prefix_wider (length (prefix_of is.files)) is.arena (c.args.interface ∷ []) is.prefix;
+      found = found_wider (length (prefix_of is.files)) is.arena (c.args.interface ∷ []) is.by_name is.found;
     })
 
 pub invariant_of-interfaces-2 : goal.invariant_of-interfaces-2
@@ -22,11 +22,11 @@ invariant_of-interfaces-2 c =
     let is = c.args.interfaces.now in
     let put = rw (c.in_ok-name.ensures.ok, c.in_ok-place.ensures.id) at c.put.ensures.ok in
     rw c.in_ok-place.ensures.ok (record {
-      front = front_wider (length (front_of is.files)) is.arena (c.args.interface ∷ []) is.front;
-      found = found_put c.put.result (length (front_of is.files)) is.arena is.by_name _ c.args.interface c.args.name.now is.front is.found c.requires.named put c.put.ensures.err;
+      prefix = prefix_wider (length (prefix_of is.files)) is.arena (c.args.interface ∷ []) is.prefix;
+      found = found_put c.put.result (length (prefix_of is.files)) is.arena is.by_name _ c.args.interface c.args.name.now is.prefix is.found c.requires.named put c.put.ensures.err;
     })
 
 pub returns-clause-index : goal.returns-clause-index
 returns-clause-index c =
     let is = c.args.interfaces.now in
-    rw (c.in_ok-place.ensures.ok, c.in_ok-put.ensures.ok, c.in_ok-name.ensures.ok, c.in_ok-place.ensures.id) (index_interface (front_of is.files) is.arena is.by_name c.args.interface c.args.name.now is.front c.requires.index c.requires.named)
+    rw (c.in_ok-place.ensures.ok, c.in_ok-put.ensures.ok, c.in_ok-name.ensures.ok, c.in_ok-place.ensures.id) (index_interface (prefix_of is.files) is.arena is.by_name c.args.interface c.args.name.now is.prefix c.requires.index c.requires.named)

@@ -4,13 +4,13 @@ use Rattle.wit_type_tree.specs.declared.leaves.Id.{Id}
 use Rattle.wit_syntax.specs.Broken.{IsBrokenScope}
 use Rattle.wit_syntax.specs.Fault.{Fault}
 use Rattle.wit_syntax.specs.Function.{functions}
-use Rattle.wit_syntax.specs.Notes.{IsBrokenStability}
+use Rattle.wit_syntax.specs.Metadata.{IsBrokenStability}
 use Rattle.wit_syntax.specs.Sides.{IsBrokenSides}
 use Rattle.wit_syntax.specs.Source.{Item, is_world, scope_names, about}
 use Rattle.wit_arena.specs.Resolved.{AddsInterface, IsNameless}
-use Rattle.wit_items.specs.Items.{item_behind}
-use Rattle.wit_items.specs.Interfaces.{cells_of}
-use Rattle.wit_uses.specs.Between.{Emits}
+use Rattle.wit_items.specs.Items.{item_view}
+use Rattle.wit_items.specs.Interfaces.{resolved_scopes_of}
+use Rattle.wit_uses.specs.NewRequirements.{Appends}
 use Rattle.wit_contents.proofs.declared.resolve_interface.Goals as goal
 
 pub interface_of-requires-clause-sort : goal.interface_of-requires-clause-sort
@@ -19,14 +19,14 @@ interface_of-requires-clause-sort c = ap is_world c.scope-scope.ensures.item ∙
 pub interface_of-requires-clause-called : goal.interface_of-requires-clause-called
 interface_of-requires-clause-called c = ap Some c.in_ok-from_str.ensures ∙ c.requires.id.1 ∙ ap (λ (i : Item). (about i.declared).called) (sym c.scope-scope.ensures.item)
 
-pub interface_of-requires-clause-stands : goal.interface_of-requires-clause-stands
-interface_of-requires-clause-stands c = ap (λ (i : Id). i.span) c.requires.id.0 ∙ ap (λ (i : Item). (about i.declared).id.span) (sym c.scope-scope.ensures.item)
+pub interface_of-requires-clause-present : goal.interface_of-requires-clause-present
+interface_of-requires-clause-present c = ap (λ (i : Id). i.span) c.requires.id.0 ∙ ap (λ (i : Item). (about i.declared).id.span) (sym c.scope-scope.ensures.item)
 
 pub interface_of-requires-clause-named : goal.interface_of-requires-clause-named
 interface_of-requires-clause-named c = c.scope-scope.ensures.names ∙ c.requires.item.named ∙ ap scope_names (sym c.scope-scope.ensures.item)
 
 pub interface_of-requires-clause-placed : goal.interface_of-requires-clause-placed
-interface_of-requires-clause-placed c = rw c.scope-scope.ensures.held (c.requires.item.placed.each 0 c.args.item.now refl)
+interface_of-requires-clause-placed c = rw c.scope-scope.ensures.borrowed (c.requires.item.placed.each 0 c.args.item.now refl)
 
 pub returns-in_err-interface-clause-refused : goal.returns-in_err-interface-clause-refused
 returns-in_err-interface-clause-refused c =
@@ -41,8 +41,8 @@ returns-in_err-add_interface-clause-refused c =
 pub returns-clause-added : goal.returns-clause-added
 returns-clause-added c =
     let is = c.args.interfaces.now in
-    let item = item_behind c.args.item.now in
-    let one : Emits c.args.required.now.items c.interface_of.new.required.items (λ rs. AddsInterface (cells_of is) (length is.arena) c.args.types.now c.interface_of.new.types c.in_ok-interface.interface rs item) = rw (c.next_id-place.ensures, c.scope-scope.ensures.item) at c.in_ok-interface.ensures.adds in
+    let item = item_view c.args.item.now in
+    let one : Appends c.args.required.now.items c.interface_of.new.required.items (λ rs. AddsInterface (resolved_scopes_of is) (length is.arena) c.args.types.now c.interface_of.new.types c.in_ok-interface.interface rs item) = rw (c.next_id-place.ensures, c.scope-scope.ensures.item) at c.in_ok-interface.ensures.adds in
     record {
       own = one.own;
       list = one.list;

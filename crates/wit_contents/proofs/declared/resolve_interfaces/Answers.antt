@@ -4,28 +4,28 @@ use Rattle.std.proofs.lemmas.Option.{slice_get-get_or}
 use Rattle.std.proofs.lemmas.Result.{err_from_is_err_and}
 use Rattle.wit_syntax.specs.Source.{is_world, about}
 use Rattle.wit_syntax.specs.Scope.{in_order, interfaces_of}
-use Rattle.wit_arena.specs.Resolving.{cells}
+use Rattle.wit_arena.specs.Resolving.{resolved_scopes}
 use Rattle.wit_arena.specs.Resolved.{AddsDeclared, IsWrongInterface, IsWrongNow}
 use Rattle.wit_types.specs.declared.types.TypeOwner.TheVariants.{Interface as OfInterface}
-use Rattle.wit_item_names.specs.Interfaces.{front_of}
-use Rattle.wit_uses.specs.Between.{Emits}
-use Rattle.wit_items.specs.declared.items.Item.{Item as HeldItem}
+use Rattle.wit_item_names.specs.Interfaces.{prefix_of}
+use Rattle.wit_uses.specs.NewRequirements.{Appends}
+use Rattle.wit_items.specs.declared.items.Item.{Item as BorrowedItem}
 use Rattle.wit_syntax.proofs.Lists.{read_map}
 use Rattle.wit_syntax.proofs.Kept.{kept_next, kept_past}
 use Rattle.wit_syntax.proofs.Refusing.{refused_weaker}
 use Rattle.wit_arena.proofs.Adding.{sounds_more}
-use Rattle.wit_uses.proofs.Emitting.{emits_more}
+use Rattle.wit_uses.proofs.Emitting.{appends_more}
 use Rattle.wit_uses.proofs.Telling.{interface_stable, sides_more, stability_more}
-use Rattle.wit_items.specs.declared.items.Declared.{Declared as HeldDeclared}
-use Rattle.wit_items.specs.Items.{declared_behind, item_behind}
+use Rattle.wit_items.specs.declared.items.Declared.{Declared as BorrowedDeclared}
+use Rattle.wit_items.specs.Items.{declared_view, item_view}
 use Rattle.wit_contents.proofs.declared.resolve_interfaces.Goals.{in-Interface+in_ok-resolve_interface-in-Interface, in-World, in-Inline}
 use Rattle.wit_contents.proofs.declared.resolve_interfaces.Goals as goal
 
-item_at : (items : List HeldItem) (places : List ℕ) (k : ℕ) (x : HeldItem) → All (λ (place : ℕ). place < length items) places → k < length places → x ≡ get_or items (get_or places k 0) x → slice_get items (get_or places k 0) ≡ Some x
+item_at : (items : List BorrowedItem) (places : List ℕ) (k : ℕ) (x : BorrowedItem) → All (λ (place : ℕ). place < length items) places → k < length places → x ≡ get_or items (get_or places k 0) x → slice_get items (get_or places k 0) ≡ Some x
 item_at items places k x within lt is = slice_get-get_or items (get_or places k 0) x (within k 0 lt) ∙ ap Some (sym is)
 
 pub resolve_interface-requires-clause-sort : goal.resolve_interface-requires-clause-sort
-resolve_interface-requires-clause-sort c = ap (λ (d : HeldDeclared). (about (declared_behind d)).is_world) c.in-Interface.is
+resolve_interface-requires-clause-sort c = ap (λ (d : BorrowedDeclared). (about (declared_view d)).is_world) c.in-Interface.is
 
 pub resolve_interface-requires-clause-item : goal.resolve_interface-requires-clause-item
 resolve_interface-requires-clause-item c =
@@ -41,19 +41,19 @@ returns-clause-index c = rw c.loop-place.invariant.files c.loop-place.invariant.
 pub returns-in_err-resolve_interface-in-Interface-clause-refused : goal.returns-in_err-resolve_interface-in-Interface-clause-refused
 returns-in_err-resolve_interface-in-Interface-clause-refused c =
     let q = err_from_is_err_and c.from_residual.result c.from_residual.ensures.1 in
-    let ws = map item_behind c.args.items.now in
+    let ws = map item_view c.args.items.now in
     let places = c.args.places.now in
     let i = c.loop-place.place-index in
     let p = get_or places i 0 in
     let x = c.index-items-place.result in
-    let w = item_behind x in
+    let w = item_view x in
     let now = c.loop-place.interfaces in
     let at : slice_get places i ≡ Some p = slice_get-get_or places i 0 c.loop-place-test.true in
     let within : p < length c.args.items.now = c.requires.within i 0 c.loop-place-test.true in
-    let there : slice_get ws p ≡ Some w = read_map item_behind c.args.items.now p x within c.index-items-place.is in
-    let sort : is_world w ≡ false = ap (λ (d : HeldDeclared). (about (declared_behind d)).is_world) c.in-Interface.is in
-    let foreign = front_of c.args.interfaces.now.files in
-    rw (q.1, q.2) (refused_weaker (IsWrongInterface c.loop-place.types (cells foreign now.arena) now.by_name (OfInterface (length now.arena)) w) (IsWrongNow foreign c.args.types.now c.args.interfaces.now.arena ws places) _ (λ f h. record {
+    let there : slice_get ws p ≡ Some w = read_map item_view c.args.items.now p x within c.index-items-place.is in
+    let sort : is_world w ≡ false = ap (λ (d : BorrowedDeclared). (about (declared_view d)).is_world) c.in-Interface.is in
+    let foreign = prefix_of c.args.interfaces.now.files in
+    rw (q.1, q.2) (refused_weaker (IsWrongInterface c.loop-place.types (resolved_scopes foreign now.arena) now.by_name (OfInterface (length now.arena)) w) (IsWrongNow foreign c.args.types.now c.args.interfaces.now.arena ws places) _ (λ f h. record {
       count = i;
       item = w;
       next = record { place = p; next = at; at = there };
@@ -69,41 +69,41 @@ returns-in_err-resolve_interface-in-Interface-clause-refused c =
 
 pub loop-place-preserved : goal.loop-place-preserved
 loop-place-preserved c =
-    let ws = map item_behind c.args.items.now in
+    let ws = map item_view c.args.items.now in
     let places = c.args.places.now in
     let i = c.loop-place.place-index in
     let p = get_or places i 0 in
     let x = c.index-items-place.result in
-    let w = item_behind x in
-    let front = interfaces_of (in_order ws (take i places)) in
+    let w = item_view x in
+    let prefix = interfaces_of (in_order ws (take i places)) in
     let was = c.loop-place.invariant in
     let at : slice_get places i ≡ Some p = slice_get-get_or places i 0 c.loop-place-test.true in
     let within : p < length c.args.items.now = c.requires.within i 0 c.loop-place-test.true in
-    let there : slice_get ws p ≡ Some w = read_map item_behind c.args.items.now p x within c.index-items-place.is in
+    let there : slice_get ws p ≡ Some w = read_map item_view c.args.items.now p x within c.index-items-place.is in
     let before = c.loop-place.interfaces.arena in
     elim c.match-item.branch [
       | in-Interface+in_ok-resolve_interface-in-Interface b ↦ (
-          let sort : not (is_world w) ≡ true = ap (λ (d : HeldDeclared). not (about (declared_behind d)).is_world) b.in-Interface.is in
-          let more : interfaces_of (in_order ws (take (i + 1) places)) ≡ front ++ w ∷ [] = kept_next (λ v. not (is_world v)) ws places i p w at there sort in
-          let own : is_world w ≡ false = ap (λ (d : HeldDeclared). (about (declared_behind d)).is_world) b.in-Interface.is in
+          let sort : not (is_world w) ≡ true = ap (λ (d : BorrowedDeclared). not (about (declared_view d)).is_world) b.in-Interface.is in
+          let more : interfaces_of (in_order ws (take (i + 1) places)) ≡ prefix ++ w ∷ [] = kept_next (λ v. not (is_world v)) ws places i p w at there sort in
+          let own : is_world w ≡ false = ap (λ (d : BorrowedDeclared). (about (declared_view d)).is_world) b.in-Interface.is in
           let e = b.in_ok-resolve_interface-in-Interface.ensures in
           let new = b.resolve_interface.new.interfaces.arena in
           let types = b.resolve_interface.new.types in
-          let foreign = front_of c.args.interfaces.now.files in
+          let foreign = prefix_of c.args.interfaces.now.files in
           let required = b.resolve_interface.new.required.items in
-          let one : Emits c.loop-place.required.items required (λ rs. AddsDeclared foreign c.loop-place.types types before new rs w) = rw was.files at e.added in
+          let one : Appends c.loop-place.required.items required (λ rs. AddsDeclared foreign c.loop-place.types types before new rs w) = rw was.files at e.added in
           let same = e.files ∙ was.files in
           rw (b.interfaces-is, b.types-is, b.required-is) (record {
             files = same;
-            added = rw more (emits_more (AddsDeclared foreign) c.args.types.now c.loop-place.types types c.args.interfaces.now.arena before new c.args.required.now.items c.loop-place.required.items required front w was.added one);
+            added = rw more (appends_more (AddsDeclared foreign) c.args.types.now c.loop-place.types types c.args.interfaces.now.arena before new c.args.required.now.items c.loop-place.required.items required prefix w was.added one);
             index = rw same at e.index;
-            sound = rw more (sounds_more front w was.sound e.sound);
-            stable = rw more (stability_more front w was.stable (interface_stable w own e.stable));
-            sided = rw more (sides_more front w was.sided e.sided);
+            sound = rw more (sounds_more prefix w was.sound e.sound);
+            stable = rw more (stability_more prefix w was.stable (interface_stable w own e.stable));
+            sided = rw more (sides_more prefix w was.sided e.sided);
           }))
       | in-World b ↦ (
-          let sort : not (is_world w) ≡ false = ap (λ (d : HeldDeclared). not (about (declared_behind d)).is_world) b.in-World.is in
-          let past : interfaces_of (in_order ws (take (i + 1) places)) ≡ front = kept_past (λ v. not (is_world v)) ws places i p w at there sort in
+          let sort : not (is_world w) ≡ false = ap (λ (d : BorrowedDeclared). not (about (declared_view d)).is_world) b.in-World.is in
+          let past : interfaces_of (in_order ws (take (i + 1) places)) ≡ prefix = kept_past (λ v. not (is_world v)) ws places i p w at there sort in
           rw (b.interfaces-is, b.types-is, b.required-is) (record { files = was.files; added = rw past was.added; index = was.index; sound = rw past was.sound; stable = rw past was.stable; sided = rw past was.sided }))
-      | in-Inline b ↦ absurd (c.requires.outer.outer p w _ _ _ _ _ there (ap declared_behind b.in-Inline.is))
+      | in-Inline b ↦ absurd (c.requires.outer.outer p w _ _ _ _ _ there (ap declared_view b.in-Inline.is))
     ]

@@ -8,12 +8,12 @@ use Rattle.wit_syntax.specs.Signature.{IsUnpairedSetter}
 use Rattle.wit_syntax.proofs.Refusing.{refused_weaker}
 use Rattle.wit_syntax.proofs.Sides.{side_items_functions}
 use Rattle.wit_arena.specs.Resolved.{IsWrongInterface, Unpaired}
-use Rattle.wit_rules.specs.Held.{function_behind}
-use Rattle.wit_signatures.specs.Taken.{name_of_id, name_of_function}
+use Rattle.wit_rules.specs.Borrowed.{function_view}
+use Rattle.wit_signatures.specs.ForeignName.{name_of_id, name_of_function}
 use Rattle.wit_externs.specs.Clash.{all_on}
-use Rattle.wit_items.specs.Items.{scope_item, declared_behind}
-use Rattle.wit_uses.specs.Behind.{IsTurn}
-use Rattle.wit_item_entries.specs.Body.{IsHeldBy, IsWrongBody}
+use Rattle.wit_items.specs.Items.{scope_item, declared_view}
+use Rattle.wit_uses.specs.NameOrder.{IsTurn}
+use Rattle.wit_item_entries.specs.Body.{HasNames, IsWrongBody}
 use Rattle.wit_item_entries.proofs.InterfaceSides.{all_imported, names_imported}
 use Rattle.wit_item_entries.proofs.WrongNames.{wrong_interface}
 use Rattle.wit_item_entries.proofs.ScopeFunctions.{turn_added, made_differ}
@@ -31,7 +31,7 @@ pub returns-in_err-own-clause-refused : goal.returns-in_err-own-clause-refused
 returns-in_err-own-clause-refused c =
     let p = err_from_is_err_and c.from_residual.result c.from_residual.ensures.1 in
     let item = scope_item c.args.item.now in
-    let own : IsHeldBy item (declared_behind c.args.item.now.declared) c.args.item.now.names.now = record { declared = refl; names = sym c.requires.named } in
+    let own : HasNames item (declared_view c.args.item.now.declared) c.args.item.now.names.now = record { declared = refl; names = sym c.requires.named } in
     rw (p.1, p.2) (λ old cs by_name o added. refused_weaker (IsWrongBody old cs by_name o item) (IsWrongInterface old cs by_name o item) _ (wrong_interface old cs by_name o item) (c.in_err-own.ensures.refused item own old cs by_name o added))
 
 pub check_pairs-requires : goal.check_pairs-requires
@@ -40,15 +40,15 @@ check_pairs-requires c = λ some.
     let ids = c.args.names.now.turn.items in
     let e = c.in_ok-own.ensures in
     let turned : c.deref-2.result.now ≡ ids = c.deref-2.ensures.value ∙ ap (λ t. t.items) e.turn in
-    let fns : map function_behind c.deref.result.now ≡ functions item = ap (map function_behind) c.deref.ensures.value ∙ e.written in
-    let taken : c.in_ok-own.own.taken.imports ≡ map name_of_id ids ++ map name_of_function (functions item) = e.taken (rw c.deref.ensures.value at some) Imported ∙ ap (λ (fns : List SourceFunction). all_on Imported ids (map SideFunction fns)) e.written ∙ names_imported item c.requires.sort ids in
-    rw (turned, fns) taken
+    let fns : map function_view c.deref.result.now ≡ functions item = ap (map function_view) c.deref.ensures.value ∙ e.written in
+    let in_use : c.in_ok-own.own.in_use.imports ≡ map name_of_id ids ++ map name_of_function (functions item) = e.in_use (rw c.deref.ensures.value at some) Imported ∙ ap (λ (fns : List SourceFunction). all_on Imported ids (map SideFunction fns)) e.written ∙ names_imported item c.requires.sort ids in
+    rw (turned, fns) in_use
 
 pub returns-in_err-check_pairs-clause-refused : goal.returns-in_err-check_pairs-clause-refused
 returns-in_err-check_pairs-clause-refused c =
     let p = err_from_is_err_and c.from_residual-in_err-check_pairs.result c.from_residual-in_err-check_pairs.ensures.1 in
     let item = scope_item c.args.item.now in
-    let fns : map function_behind c.deref.result.now ≡ functions item = ap (map function_behind) c.deref.ensures.value ∙ c.in_ok-own.ensures.written in
+    let fns : map function_view c.deref.result.now ≡ functions item = ap (map function_view) c.deref.ensures.value ∙ c.in_ok-own.ensures.written in
     rw (p.1, p.2) (λ old cs by_name o added. refused_weaker (IsUnpairedSetter (functions item)) (IsWrongInterface old cs by_name o item) _ (λ f h. Unpaired h) (rw fns at c.in_err-check_pairs.ensures.refused))
 
 pub returns-in_err-functions-clause-refused : goal.returns-in_err-functions-clause-refused
@@ -59,25 +59,25 @@ returns-in_err-functions-clause-refused c =
 pub function_table-requires : goal.function_table-requires
 function_table-requires c =
     let item = scope_item c.args.item.now in
-    let own : IsHeldBy item (declared_behind c.args.item.now.declared) c.args.item.now.names.now = record { declared = refl; names = sym c.requires.named } in
+    let own : HasNames item (declared_view c.args.item.now.declared) c.args.item.now.names.now = record { declared = refl; names = sym c.requires.named } in
     made_differ _ _ _ _ item _ _ _ _ (all_imported item c.requires.sort) (side_items_functions item c.requires.sort) (c.in_ok-own.ensures.adds item own _ _ _ c.requires.added.3)
 
 pub returns-clause-adds : goal.returns-clause-adds
 returns-clause-adds c =
     let item = scope_item c.args.item.now in
-    let own : IsHeldBy item (declared_behind c.args.item.now.declared) c.args.item.now.names.now = record { declared = refl; names = sym c.requires.named } in
+    let own : HasNames item (declared_view c.args.item.now.declared) c.args.item.now.names.now = record { declared = refl; names = sym c.requires.named } in
     λ old cs o added. (c.in_ok-own.own.functions.items, c.in_ok-own.ensures.adds item own old cs o added, c.in_ok-functions.ensures)
 
 pub returns-clause-paired : goal.returns-clause-paired
 returns-clause-paired c =
     let item = scope_item c.args.item.now in
-    let fns : map function_behind c.deref.result.now ≡ functions item = ap (map function_behind) c.deref.ensures.value ∙ c.in_ok-own.ensures.written in
+    let fns : map function_view c.deref.result.now ≡ functions item = ap (map function_view) c.deref.ensures.value ∙ c.in_ok-own.ensures.written in
     rw fns at c.in_ok-check_pairs.ensures.paired
 
 pub returns-clause-sound : goal.returns-clause-sound
 returns-clause-sound c =
     let item = scope_item c.args.item.now in
-    let own : IsHeldBy item (declared_behind c.args.item.now.declared) c.args.item.now.names.now = record { declared = refl; names = sym c.requires.named } in
+    let own : HasNames item (declared_view c.args.item.now.declared) c.args.item.now.names.now = record { declared = refl; names = sym c.requires.named } in
     c.in_ok-own.ensures.sound item own
 
 pub returns-clause-sided : goal.returns-clause-sided

@@ -1,14 +1,14 @@
 use Rattle.std.proofs.Common.{◌≡◌, List, ◌++◌, inl, refl, sym, ap, ◌∙◌, subst}
 use Rattle.std.proofs.lemmas.Result.{err_from_is_err_and}
 use Rattle.wit_types.specs.declared.types.TypeOwner.TheVariants.{Interface as OfInterface}
-use Rattle.wit_syntax.specs.Source.{about, declared_notes}
+use Rattle.wit_syntax.specs.Source.{about, declared_metadata}
 use Rattle.wit_syntax.specs.Function.{functions}
 use Rattle.wit_syntax.proofs.Refusing.{refused_weaker}
 use Rattle.wit_arena.specs.Resolving.{Names, Required}
 use Rattle.wit_arena.specs.Resolved.{IsWrongInterface}
-use Rattle.wit_entries.proofs.Requiring.{grown_then}
+use Rattle.wit_entries.proofs.Requiring.{extended_then}
 use Rattle.wit_items.specs.Items.{scope_item}
-use Rattle.wit_items.specs.Interfaces.{cells_of}
+use Rattle.wit_items.specs.Interfaces.{resolved_scopes_of}
 use Rattle.wit_item_entries.specs.Body.{AddsBody, IsWrongBody}
 use Rattle.wit_item_entries.proofs.WrongNames.{wrong_interface}
 use Rattle.wit_contents.proofs.interface.interface_of.Goals as goal
@@ -16,19 +16,19 @@ use Rattle.wit_contents.proofs.interface.interface_of.Goals as goal
 pub returns-in_err-head-clause-refused : goal.returns-in_err-head-clause-refused
 returns-in_err-head-clause-refused c =
     let p = err_from_is_err_and c.from_residual.result c.from_residual.ensures.1 in
-    let cs = cells_of c.args.interfaces.now in
+    let cs = resolved_scopes_of c.args.interfaces.now in
     let by_name = c.args.interfaces.now.by_name in
     let o = OfInterface c.args.place in
     let item = scope_item c.args.item.now in
     rw (p.1, p.2) (refused_weaker (IsWrongBody c.args.types.now cs by_name o item) (IsWrongInterface c.args.types.now cs by_name o item) _ (wrong_interface c.args.types.now cs by_name o item) c.in_err-head.ensures.refused)
 
 pub functions_of-requires-clause-added : goal.functions_of-requires-clause-added
-functions_of-requires-clause-added c = (c.args.types.now, cells_of c.args.interfaces.now, OfInterface c.args.place, c.in_ok-head.ensures.adds)
+functions_of-requires-clause-added c = (c.args.types.now, resolved_scopes_of c.args.interfaces.now, OfInterface c.args.place, c.in_ok-head.ensures.adds)
 
 pub returns-in_err-functions-clause-refused : goal.returns-in_err-functions-clause-refused
 returns-in_err-functions-clause-refused c =
     let p = err_from_is_err_and c.from_residual-in_err-functions.result c.from_residual-in_err-functions.ensures.1 in
-    rw (p.1, p.2) (c.in_err-functions.ensures.refused c.args.types.now (cells_of c.args.interfaces.now) c.args.interfaces.now.by_name (OfInterface c.args.place) c.in_ok-head.ensures.adds)
+    rw (p.1, p.2) (c.in_err-functions.ensures.refused c.args.types.now (resolved_scopes_of c.args.interfaces.now) c.args.interfaces.now.by_name (OfInterface c.args.place) c.in_ok-head.ensures.adds)
 
 pub returns-in_err-add_required-clause-refused : goal.returns-in_err-add_required-clause-refused
 returns-in_err-add_required-clause-refused c =
@@ -38,13 +38,13 @@ returns-in_err-add_required-clause-refused c =
 pub returns-clause-sound : goal.returns-clause-sound
 returns-clause-sound c = c.in_ok-functions.ensures.sound (c.in_ok-head.ensures.legal (functions (scope_item c.args.item.now)))
 
-pub returns-clause-grown : goal.returns-clause-grown
-returns-clause-grown c = grown_then c.args.types.now c.resolve_head.new.types c.functions_of.new.types c.in_ok-head.ensures.grown c.in_ok-functions.ensures.grown
+pub returns-clause-extended : goal.returns-clause-extended
+returns-clause-extended c = extended_then c.args.types.now c.resolve_head.new.types c.functions_of.new.types c.in_ok-head.ensures.extended c.in_ok-functions.ensures.extended
 
 pub returns-clause-adds : goal.returns-clause-adds
 returns-clause-adds c =
     let old = c.args.types.now in
-    let cs = cells_of c.args.interfaces.now in
+    let cs = resolved_scopes_of c.args.interfaces.now in
     let o = OfInterface c.args.place in
     let item = scope_item c.args.item.now in
     let ids = c.in_ok-head.head.names.turn.items in
@@ -57,12 +57,12 @@ returns-clause-adds c =
       own = all;
       list = c.in_ok-add_required.ensures ∙ ap (λ (l : List Required). c.args.required.now.items ++ l) c.deref.ensures.value;
       holds = record {
-        says = (c.requires.called, c.requires.stands, c.in_ok-head.ensures.told.docs, c.in_ok-head.ensures.told.stability, refl, refl);
+        says = (c.requires.called, c.requires.present, c.in_ok-head.ensures.as_stated.docs, c.in_ok-head.ensures.as_stated.stability, refl, refl);
         middle = b.middle;
         adds = b.adds;
         functions = made.0;
-        behind = b.behind;
-        stand = made.2;
+        rest_after = b.rest_after;
+        are_present = made.2;
         paired = e.paired;
       };
     }

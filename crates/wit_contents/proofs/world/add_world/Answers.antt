@@ -3,19 +3,19 @@ use Rattle.wit_arena.proofs.Indexing.{index_world}
 use Rattle.wit_arena.specs.Resolving.{Required}
 use Rattle.wit_contents.specs.declared.world.WorldParts.{WorldParts}
 use Rattle.wit_items.specs.Items.{others_of}
-use Rattle.wit_links.proofs.WorldsFound.{found_put, found_wider, front_wider}
+use Rattle.wit_links.proofs.WorldsFound.{found_put, found_wider, prefix_wider}
 use Rattle.wit_contents.proofs.world.add_world.Goals as goal
 
 pub invariant_of-worlds : goal.invariant_of-worlds
 invariant_of-worlds c =
     let ws = c.args.worlds.now in
-    rw c.in_err-place.ensures.err (record { front = ws.front; found = ws.found })
+    rw c.in_err-place.ensures.err (record { prefix = ws.prefix; found = ws.found })
 
 pub invariant_of-worlds-in-Break-branch-3 : goal.invariant_of-worlds-in-Break-branch-3
 invariant_of-worlds-in-Break-branch-3 c =
     let ws = c.args.worlds.now in
     rw c.in_ok-place.ensures.ok (record {
-      front = front_wider (length (others_of ws.interfaces.now.files)) ws.arena (_ ∷ []) ws.front;
+      prefix = prefix_wider (length (others_of ws.interfaces.now.files)) ws.arena (_ ∷ []) ws.prefix;
       found = found_wider (length (others_of ws.interfaces.now.files)) ws.arena (_ ∷ []) ws.by_name ws.found;
     })
 
@@ -25,8 +25,8 @@ invariant_of-worlds-2 c =
     let name = rw c.in_ok-parts.ensures.both.1 at c.from_str-name.ensures in
     let put = rw (c.in_ok-from_str.ensures.ok, c.in_ok-place.ensures.id) at c.put.ensures.ok in
     rw c.in_ok-place.ensures.ok (record {
-      front = front_wider (length (others_of ws.interfaces.now.files)) ws.arena (_ ∷ []) ws.front;
-      found = found_put c.put.result (length (others_of ws.interfaces.now.files)) ws.arena ws.by_name _ _ c.args.id.name.now ws.front ws.found name put c.put.ensures.err;
+      prefix = prefix_wider (length (others_of ws.interfaces.now.files)) ws.arena (_ ∷ []) ws.prefix;
+      found = found_put c.put.result (length (others_of ws.interfaces.now.files)) ws.arena ws.by_name _ _ c.args.id.name.now ws.prefix ws.found name put c.put.ensures.err;
     })
 
 pub returns-clause-required : goal.returns-clause-required
@@ -39,9 +39,9 @@ returns-clause-added c =
     record {
       added = _;
       last = c.in_ok-place.ensures.ok;
-      says = (name, refl, ap (λ (p : WorldParts). p.notes.docs) parts, ap (λ (p : WorldParts). p.notes.stability) parts, refl);
-      imports = c.fitted.ensures ∙ ap (λ (p : WorldParts). p.sides.imports) parts;
-      exports = c.fitted-2.ensures ∙ ap (λ (p : WorldParts). p.sides.exports) parts;
+      says = (name, refl, ap (λ (p : WorldParts). p.metadata.docs) parts, ap (λ (p : WorldParts). p.metadata.stability) parts, refl);
+      imports = c.shrunk.ensures ∙ ap (λ (p : WorldParts). p.sides.imports) parts;
+      exports = c.shrunk-2.ensures ∙ ap (λ (p : WorldParts). p.sides.exports) parts;
       includes = ap (λ (p : WorldParts). p.includes) parts;
     }
 

@@ -4,9 +4,9 @@ use Rattle.std.specs.List.{flat_map}
 use Rattle.std.proofs.lemmas.List.{take_all}
 use Rattle.std.proofs.lemmas.Option.{slice_get-get_or}
 use Rattle.std.proofs.lemmas.Result.{err_from_is_err_and}
-use Rattle.wit_items.specs.declared.items.Item.{Item as HeldItem}
-use Rattle.wit_item_names.specs.Interfaces.{front_of}
-use Rattle.wit_items.specs.Interfaces.{cells_of}
+use Rattle.wit_items.specs.declared.items.Item.{Item as BorrowedItem}
+use Rattle.wit_item_names.specs.Interfaces.{prefix_of}
+use Rattle.wit_items.specs.Interfaces.{resolved_scopes_of}
 use Rattle.wit_syntax.specs.Source.{is_world, about}
 use Rattle.wit_syntax.specs.Scope.{in_order, worlds_of}
 use Rattle.wit_syntax.specs.Sides.{with_inline}
@@ -16,8 +16,8 @@ use Rattle.wit_syntax.proofs.Lists.{read_map}
 use Rattle.wit_syntax.proofs.Kept.{kept_next, kept_past}
 use Rattle.wit_syntax.proofs.Refusing.{refused_weaker}
 use Rattle.wit_uses.proofs.Telling.{stability_more}
-use Rattle.wit_items.specs.declared.items.Declared.{Declared as HeldDeclared}
-use Rattle.wit_items.specs.Items.{declared_behind, item_behind, others_of}
+use Rattle.wit_items.specs.declared.items.Declared.{Declared as BorrowedDeclared}
+use Rattle.wit_items.specs.Items.{declared_view, item_view, others_of}
 use Rattle.wit_links.proofs.WorldsFound.{found_none}
 use Rattle.wit_contents.specs.BetweenWorlds.{arenas}
 use Rattle.wit_contents.proofs.Linking.{links_more}
@@ -26,12 +26,12 @@ use Rattle.wit_contents.proofs.world.resolve_worlds.Goals.{in-World+in_ok-resolv
 use Rattle.wit_contents.proofs.world.resolve_worlds.Goals as goal
 
 -- the item at hand
-item_at : (items : List HeldItem) (places : List ℕ) (k : ℕ) (x : HeldItem) → All (λ (place : ℕ). place < length items) places → k < length places → x ≡ get_or items (get_or places k 0) x → slice_get items (get_or places k 0) ≡ Some x
+item_at : (items : List BorrowedItem) (places : List ℕ) (k : ℕ) (x : BorrowedItem) → All (λ (place : ℕ). place < length items) places → k < length places → x ≡ get_or items (get_or places k 0) x → slice_get items (get_or places k 0) ≡ Some x
 item_at items places k x within lt is = slice_get-get_or items (get_or places k 0) x (within k 0 lt) ∙ ap Some (sym is)
 
 pub loop-place-init : goal.loop-place-init
 loop-place-init c = rw (c.make_room.ensures.inside, c.make_room.ensures.worlds) (record {
-  added = worlds_none (front_of c.args.interfaces.now.files) (others_of c.args.interfaces.now.files) c.args.interfaces.now.arena c.args.types.now c.args.front c.new-inside.result c.args.required.now.items c.new-inside.ensures;
+  added = worlds_none (prefix_of c.args.interfaces.now.files) (others_of c.args.interfaces.now.files) c.args.interfaces.now.arena c.args.types.now c.args.prefix c.new-inside.result c.args.required.now.items c.new-inside.ensures;
   interfaces = refl;
   index = rw c.new.ensures c.requires.index;
   sound = record { sound = λ k u f at broken. absurd (let wrong : ⊥ = cc in wrong) };
@@ -42,12 +42,12 @@ loop-place-init c = rw (c.make_room.ensures.inside, c.make_room.ensures.worlds) 
 
 pub invariant_of-worlds : goal.invariant_of-worlds
 invariant_of-worlds c = record {
-  front = rw c.make_room.ensures.worlds c.requires.front;
+  prefix = rw c.make_room.ensures.worlds c.requires.prefix;
   found = found_none (length (others_of c.args.interfaces.now.files)) c.make_room.new.worlds c.new.result c.new.ensures;
 }
 
 pub resolve_world-requires-clause-sort : goal.resolve_world-requires-clause-sort
-resolve_world-requires-clause-sort c = ap (λ (d : HeldDeclared). (about (declared_behind d)).is_world) c.in-World.is
+resolve_world-requires-clause-sort c = ap (λ (d : BorrowedDeclared). (about (declared_view d)).is_world) c.in-World.is
 
 pub resolve_world-requires-clause-item : goal.resolve_world-requires-clause-item
 resolve_world-requires-clause-item c =
@@ -60,31 +60,31 @@ resolve_world-requires-clause-worlds_index c = rw c.loop-place.invariant.interfa
 pub returns-in_err-resolve_world-in-World-clause-refused : goal.returns-in_err-resolve_world-in-World-clause-refused
 returns-in_err-resolve_world-in-World-clause-refused c =
     let q = err_from_is_err_and c.from_residual-in_err-resolve_world-in-World.result c.from_residual-in_err-resolve_world-in-World.ensures.1 in
-    let cs = cells_of c.args.interfaces.now in
+    let cs = resolved_scopes_of c.args.interfaces.now in
     let by_name = c.args.interfaces.now.by_name in
-    let ws = map item_behind c.args.items.now in
+    let ws = map item_view c.args.items.now in
     let places = c.args.places.now in
     let i = c.loop-place.place-index in
     let p = get_or places i 0 in
     let x = c.index-items-place.result in
-    let w = item_behind x in
+    let w = item_view x in
     let now = c.loop-place.worlds in
     let at : slice_get places i ≡ Some p = slice_get-get_or places i 0 c.loop-place-test.true in
     let within : p < length c.args.items.now = c.requires.within i 0 c.loop-place-test.true in
-    let there : slice_get ws p ≡ Some w = read_map item_behind c.args.items.now p x within c.index-items-place.is in
-    let sort : is_world w ≡ true = ap (λ (d : HeldDeclared). (about (declared_behind d)).is_world) c.in-World.is in
-    let foreign = front_of c.args.interfaces.now.files in
+    let there : slice_get ws p ≡ Some w = read_map item_view c.args.items.now p x within c.index-items-place.is in
+    let sort : is_world w ≡ true = ap (λ (d : BorrowedDeclared). (about (declared_view d)).is_world) c.in-World.is in
+    let foreign = prefix_of c.args.interfaces.now.files in
     let files = c.args.interfaces.now.files in
     let others = others_of files in
-    rw (q.1, q.2) (refused_weaker (IsWrongWorld files c.loop-place.types cs (length c.args.interfaces.now.arena) c.loop-place.inside by_name now.by_name (OfWorld (length now.arena)) w) (IsWrongWorldNow files foreign others c.args.types.now c.args.interfaces.now.arena by_name c.args.front ws places) _ (λ f h. record {
+    rw (q.1, q.2) (refused_weaker (IsWrongWorld files c.loop-place.types cs (length c.args.interfaces.now.arena) c.loop-place.inside by_name now.by_name (OfWorld (length now.arena)) w) (IsWrongWorldNow files foreign others c.args.types.now c.args.interfaces.now.arena by_name c.args.prefix ws places) _ (λ f h. record {
       count = i;
       item = w;
       next = record { place = p; next = at; at = there };
       sort = sort;
       mid = c.loop-place.types;
       before = arenas now.arena c.loop-place.inside (addresses_in (worlds_of (in_order ws (take i places))));
-      rs = c.loop-place.invariant.added.emits.own;
-      added = c.loop-place.invariant.added.emits.holds;
+      rs = c.loop-place.invariant.added.appends.own;
+      added = c.loop-place.invariant.added.appends.holds;
       worlds_by_name = now.by_name;
       worlds_index = c.loop-place.invariant.index;
       wrong = h;
@@ -93,53 +93,53 @@ returns-in_err-resolve_world-in-World-clause-refused c =
 pub loop-place-preserved : goal.loop-place-preserved
 loop-place-preserved c =
     let is = c.args.interfaces.now.arena in
-    let ws = map item_behind c.args.items.now in
+    let ws = map item_view c.args.items.now in
     let places = c.args.places.now in
     let i = c.loop-place.place-index in
     let p = get_or places i 0 in
     let x = c.index-items-place.result in
-    let w = item_behind x in
-    let front = worlds_of (in_order ws (take i places)) in
+    let w = item_view x in
+    let prefix = worlds_of (in_order ws (take i places)) in
     let was = c.loop-place.invariant in
     let at : slice_get places i ≡ Some p = slice_get-get_or places i 0 c.loop-place-test.true in
     let within : p < length c.args.items.now = c.requires.within i 0 c.loop-place-test.true in
-    let there : slice_get ws p ≡ Some w = read_map item_behind c.args.items.now p x within c.index-items-place.is in
+    let there : slice_get ws p ≡ Some w = read_map item_view c.args.items.now p x within c.index-items-place.is in
     let before = c.loop-place.worlds.arena in
     elim c.match-item.branch [
       | in-World+in_ok-resolve_world-in-World b ↦ (
-          let sort : is_world w ≡ true = ap (λ (d : HeldDeclared). (about (declared_behind d)).is_world) b.in-World.is in
-          let more : worlds_of (in_order ws (take (i + 1) places)) ≡ front ++ w ∷ [] = kept_next is_world ws places i p w at there sort in
+          let sort : is_world w ≡ true = ap (λ (d : BorrowedDeclared). (about (declared_view d)).is_world) b.in-World.is in
+          let more : worlds_of (in_order ws (take (i + 1) places)) ≡ prefix ++ w ∷ [] = kept_next is_world ws places i p w at there sort in
           let e = b.in_ok-resolve_world-in-World.ensures in
           let new = b.resolve_world.new.worlds.arena in
           let types = b.resolve_world.new.types in
           let required = b.resolve_world.new.required.items in
-          let foreign = front_of c.args.interfaces.now.files in
+          let foreign = prefix_of c.args.interfaces.now.files in
           let others = others_of c.args.interfaces.now.files in
-          let all : flat_map with_inline (worlds_of (in_order ws (take (i + 1) places))) ≡ flat_map with_inline front ++ with_inline w = ap (flat_map with_inline) more ∙ with_more front w in
+          let all : flat_map with_inline (worlds_of (in_order ws (take (i + 1) places))) ≡ flat_map with_inline prefix ++ with_inline w = ap (flat_map with_inline) more ∙ with_more prefix w in
           rw (b.worlds-is, b.types-is, b.required-is, b.inside-is) (record {
             interfaces = ap (λ r. r.now) e.interfaces ∙ was.interfaces;
-            added = rw more (worlds_more foreign others is c.args.types.now c.loop-place.types types c.args.front before new c.loop-place.inside b.resolve_world.new.inside c.args.required.now.items c.loop-place.required.items required front w was.added (rw was.interfaces at e.added) e.grown);
+            added = rw more (worlds_more foreign others is c.args.types.now c.loop-place.types types c.args.prefix before new c.loop-place.inside b.resolve_world.new.inside c.args.required.now.items c.loop-place.required.items required prefix w was.added (rw was.interfaces at e.added) e.extended);
             index = rw was.interfaces at e.index;
-            sound = rw all (sounds_both (flat_map with_inline front) (with_inline w) was.sound e.sound);
-            stable = rw more (stability_more front w was.stable e.stable);
-            sided = rw all (sides_both (flat_map with_inline front) (with_inline w) was.sided e.sided);
-            linked = rw more (links_more c.args.interfaces.now.files front w was.linked (rw was.interfaces at e.linked));
+            sound = rw all (sounds_both (flat_map with_inline prefix) (with_inline w) was.sound e.sound);
+            stable = rw more (stability_more prefix w was.stable e.stable);
+            sided = rw all (sides_both (flat_map with_inline prefix) (with_inline w) was.sided e.sided);
+            linked = rw more (links_more c.args.interfaces.now.files prefix w was.linked (rw was.interfaces at e.linked));
           }))
       | in-Interface b ↦ (
-          let sort : is_world w ≡ false = ap (λ (d : HeldDeclared). (about (declared_behind d)).is_world) b.in-Interface.is in
-          let past : worlds_of (in_order ws (take (i + 1) places)) ≡ front = kept_past is_world ws places i p w at there sort in
+          let sort : is_world w ≡ false = ap (λ (d : BorrowedDeclared). (about (declared_view d)).is_world) b.in-Interface.is in
+          let past : worlds_of (in_order ws (take (i + 1) places)) ≡ prefix = kept_past is_world ws places i p w at there sort in
           rw (b.worlds-is, b.types-is, b.required-is, b.inside-is) (record { interfaces = was.interfaces; added = rw past was.added; index = was.index; sound = rw past was.sound; stable = rw past was.stable; sided = rw past was.sided; linked = rw past was.linked }))
       | in-Inline b ↦ (
-          let sort : is_world w ≡ false = ap (λ (d : HeldDeclared). (about (declared_behind d)).is_world) b.in-Inline.is in
-          let past : worlds_of (in_order ws (take (i + 1) places)) ≡ front = kept_past is_world ws places i p w at there sort in
+          let sort : is_world w ≡ false = ap (λ (d : BorrowedDeclared). (about (declared_view d)).is_world) b.in-Inline.is in
+          let past : worlds_of (in_order ws (take (i + 1) places)) ≡ prefix = kept_past is_world ws places i p w at there sort in
           rw (b.worlds-is, b.types-is, b.required-is, b.inside-is) (record { interfaces = was.interfaces; added = rw past was.added; index = was.index; sound = rw past was.sound; stable = rw past was.stable; sided = rw past was.sided; linked = rw past was.linked }))
     ]
 
 pub returns-clause-added : goal.returns-clause-added
 returns-clause-added c =
-    let ws = map item_behind c.args.items.now in
+    let ws = map item_view c.args.items.now in
     let places = c.args.places.now in
     let i = c.loop-place.place-index in
     let now = c.loop-place.worlds in
-    let p = subst (λ (l : List ℕ). AreWorldsTo (front_of c.args.interfaces.now.files) (others_of c.args.interfaces.now.files) c.args.interfaces.now.arena c.args.types.now c.loop-place.types c.args.front now.arena c.loop-place.inside c.args.required.now.items c.loop-place.required.items (worlds_of (in_order ws l))) (take_all i places c.loop-place-test.false) c.loop-place.invariant.added in
-    record { own = p.emits.own; list = p.emits.list; holds = (addresses_in (worlds_of (in_order ws places)), p.emits.holds) }
+    let p = subst (λ (l : List ℕ). AreWorldsTo (prefix_of c.args.interfaces.now.files) (others_of c.args.interfaces.now.files) c.args.interfaces.now.arena c.args.types.now c.loop-place.types c.args.prefix now.arena c.loop-place.inside c.args.required.now.items c.loop-place.required.items (worlds_of (in_order ws l))) (take_all i places c.loop-place-test.false) c.loop-place.invariant.added in
+    record { own = p.appends.own; list = p.appends.list; holds = (addresses_in (worlds_of (in_order ws places)), p.appends.holds) }

@@ -4,18 +4,18 @@ use Rattle.wit_syntax.specs.Scope.{in_order, worlds_of}
 use Rattle.wit_syntax.specs.Sides.{with_inline}
 use Rattle.wit_arena.specs.Resolving.{IsWorldIndex}
 use Rattle.wit_arena.specs.Resolved.{worlds_at, AreLegalSides, AreSoundScopes, AreUsableLinks, HaveLegalStability}
-use Rattle.wit_item_names.specs.Interfaces.{front_of}
-use Rattle.wit_items.specs.Items.{item_behind, others_of}
+use Rattle.wit_item_names.specs.Interfaces.{prefix_of}
+use Rattle.wit_items.specs.Items.{item_view, others_of}
 use Rattle.wit_contents.proofs.WorldsMore.{AreWorldsTo}
 use Rattle.wit_contents.proofs.world.resolve_worlds.Given as goal
 
 abbrev pub invariant-loop-place : goal.invariant-loop-place
 invariant-loop-place l = record {
-  added : AreWorldsTo (front_of l.interfaces.files) (others_of l.interfaces.files) l.interfaces.arena l.fn.types l.types l.fn.front l.worlds.arena l.inside l.fn.required.items l.required.items (worlds_of (in_order (map item_behind l.items) (take l.place-index l.places)));
+  added : AreWorldsTo (prefix_of l.interfaces.files) (others_of l.interfaces.files) l.interfaces.arena l.fn.types l.types l.fn.prefix l.worlds.arena l.inside l.fn.required.items l.required.items (worlds_of (in_order (map item_view l.items) (take l.place-index l.places)));
   interfaces : l.worlds.interfaces.now ≡ l.interfaces;
   index : IsWorldIndex (worlds_at (others_of l.interfaces.files) l.worlds.arena) l.worlds.by_name;
-  sound : AreSoundScopes (flat_map with_inline (worlds_of (in_order (map item_behind l.items) (take l.place-index l.places))));
-  stable : HaveLegalStability (worlds_of (in_order (map item_behind l.items) (take l.place-index l.places)));
-  sided : AreLegalSides (flat_map with_inline (worlds_of (in_order (map item_behind l.items) (take l.place-index l.places))));
-  linked : AreUsableLinks l.interfaces.files (worlds_of (in_order (map item_behind l.items) (take l.place-index l.places)));
+  sound : AreSoundScopes (flat_map with_inline (worlds_of (in_order (map item_view l.items) (take l.place-index l.places))));
+  stable : HaveLegalStability (worlds_of (in_order (map item_view l.items) (take l.place-index l.places)));
+  sided : AreLegalSides (flat_map with_inline (worlds_of (in_order (map item_view l.items) (take l.place-index l.places))));
+  linked : AreUsableLinks l.interfaces.files (worlds_of (in_order (map item_view l.items) (take l.place-index l.places)));
 }

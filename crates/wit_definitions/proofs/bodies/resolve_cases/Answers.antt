@@ -15,7 +15,7 @@ use Rattle.wit_syntax.proofs.Refusing.{refused_weaker}
 use Rattle.wit_arena.proofs.Written.{AreLegal, legal_more}
 use Rattle.wit_entries.proofs.Reading.{types_then}
 use Rattle.wit_definitions.proofs.Payloads.{wrong_case}
-use Rattle.wit_entries.proofs.Requiring.{grown_then, requires_types}
+use Rattle.wit_entries.proofs.Requiring.{extended_then, requires_types}
 use Rattle.wit_definitions.proofs.bodies.resolve_cases.Goals as goal
 
 pub loop-written-preserved : goal.loop-written-preserved
@@ -25,15 +25,15 @@ loop-written-preserved c =
     let case = c.written-item.result in
     let made = c.in_ok-case.case in
     let out = c.loop-written.resolved.items in
-    let taken : take (i + 1) cs ≡ take i cs ++ case ∷ [] = take_more cs i case c.loop-written-test.true ∙ ap (λ x. take i cs ++ x ∷ []) (sym c.written-item.is) in
-    let written : case_types (take (i + 1) cs) ≡ case_types (take i cs) ++ option_to_list case.ty = ap case_types taken ∙ filter_map_more (λ (x : WrittenCase). x.ty) (take i cs) case in
+    let in_use : take (i + 1) cs ≡ take i cs ++ case ∷ [] = take_more cs i case c.loop-written-test.true ∙ ap (λ x. take i cs ++ x ∷ []) (sym c.written-item.is) in
+    let written : case_types (take (i + 1) cs) ≡ case_types (take i cs) ++ option_to_list case.ty = ap case_types in_use ∙ filter_map_more (λ (x : WrittenCase). x.ty) (take i cs) case in
     let types : payloads c.push.new.self.items ≡ payloads out ++ option_to_list made.ty = ap payloads c.in_ok-push.ensures.items ∙ filter_map_more (λ (x : Case). x.ty) out made in
     record {
       types = rw (written, types) (types_then c.args.given.now (case_types (take i cs)) (option_to_list case.ty) c.loop-written.invariant.types c.in_ok-case.ensures.types);
-      members = ap (map case_member) c.in_ok-push.ensures.items ∙ map-append case_member out (made ∷ []) ∙ ap (λ ms. ms ++ case_member made ∷ []) c.loop-written.invariant.members ∙ ap (λ m. map (λ (c : WrittenCase). (member c.docs c.name, is_some c.ty)) (take i cs) ++ m ∷ []) c.in_ok-case.ensures.member ∙ sym (map-append (λ (c : WrittenCase). (member c.docs c.name, is_some c.ty)) (take i cs) (case ∷ [])) ∙ ap (map (λ (c : WrittenCase). (member c.docs c.name, is_some c.ty))) (sym taken);
+      members = ap (map case_member) c.in_ok-push.ensures.items ∙ map-append case_member out (made ∷ []) ∙ ap (λ ms. ms ++ case_member made ∷ []) c.loop-written.invariant.members ∙ ap (λ m. map (λ (c : WrittenCase). (member c.docs c.name, is_some c.ty)) (take i cs) ++ m ∷ []) c.in_ok-case.ensures.member ∙ sym (map-append (λ (c : WrittenCase). (member c.docs c.name, is_some c.ty)) (take i cs) (case ∷ [])) ∙ ap (map (λ (c : WrittenCase). (member c.docs c.name, is_some c.ty))) (sym in_use);
       legal = subst AreLegal (sym written) (legal_more (case_types (take i cs)) (option_to_list case.ty) c.loop-written.invariant.legal c.in_ok-case.ensures.legal);
-      handled = rw written (requires_types (env_of c.args.names.now) _ _ (case_types (take i cs)) (option_to_list case.ty) _ _ _ c.in_ok-case.ensures.grown c.loop-written.invariant.handled c.in_ok-case.ensures.handled);
-      grown = grown_then _ _ _ c.loop-written.invariant.grown c.in_ok-case.ensures.grown;
+      handled = rw written (requires_types (env_of c.args.names.now) _ _ (case_types (take i cs)) (option_to_list case.ty) _ _ _ c.in_ok-case.ensures.extended c.loop-written.invariant.handled c.in_ok-case.ensures.handled);
+      extended = extended_then _ _ _ c.loop-written.invariant.extended c.in_ok-case.ensures.extended;
     }
 
 pub returns-clause-types : goal.returns-clause-types

@@ -13,7 +13,7 @@ use Rattle.wit_arena.specs.Resolving.{env_of, IsWrongType, AreWrongTypes}
 use Rattle.wit_syntax.proofs.Refusing.{refused_weaker}
 use Rattle.wit_arena.proofs.Written.{AreLegal, legal_one, legal_more, wrong_at}
 use Rattle.wit_entries.proofs.Reading.{types_one, types_then}
-use Rattle.wit_entries.proofs.Requiring.{grown_then, requires_types, requires_one}
+use Rattle.wit_entries.proofs.Requiring.{extended_then, requires_types, requires_one}
 use Rattle.wit_definitions.proofs.bodies.resolve_fields.Goals as goal
 
 pub loop-written-preserved : goal.loop-written-preserved
@@ -23,15 +23,15 @@ loop-written-preserved c =
     let f = c.written-item.result in
     let made = c.in_ok-field.field-0 in
     let out = c.loop-written.resolved.items in
-    let taken : take (i + 1) fs ≡ take i fs ++ f ∷ [] = take_more fs i f c.loop-written-test.true ∙ ap (λ x. take i fs ++ x ∷ []) (sym c.written-item.is) in
-    let written : field_types (take (i + 1) fs) ≡ field_types (take i fs) ++ f.ty ∷ [] = ap field_types taken ∙ map-append (λ (x : WrittenField). x.ty) (take i fs) (f ∷ []) in
+    let in_use : take (i + 1) fs ≡ take i fs ++ f ∷ [] = take_more fs i f c.loop-written-test.true ∙ ap (λ x. take i fs ++ x ∷ []) (sym c.written-item.is) in
+    let written : field_types (take (i + 1) fs) ≡ field_types (take i fs) ++ f.ty ∷ [] = ap field_types in_use ∙ map-append (λ (x : WrittenField). x.ty) (take i fs) (f ∷ []) in
     let types : map (λ (x : Field). x.ty) c.push.new.self.items ≡ map (λ (x : Field). x.ty) out ++ c.in_ok-ty.ty ∷ [] = ap (map (λ (x : Field). x.ty)) c.in_ok-push.ensures.items ∙ map-append (λ (x : Field). x.ty) out (made ∷ []) ∙ ap (λ t. map (λ (x : Field). x.ty) out ++ t ∷ []) c.in_ok-field.ensures.ty in
     record {
       types = rw (written, types) (types_then c.args.given.now (field_types (take i fs)) (f.ty ∷ []) c.loop-written.invariant.types (types_one c.args.given.now f.ty c.in_ok-ty.ensures.resolved));
-      members = ap (map field_member) c.in_ok-push.ensures.items ∙ map-append field_member out (made ∷ []) ∙ ap (λ ms. ms ++ field_member made ∷ []) c.loop-written.invariant.members ∙ ap (λ m. map (λ (x : WrittenField). member x.docs x.name) (take i fs) ++ m ∷ []) c.in_ok-field.ensures.member ∙ sym (map-append (λ (x : WrittenField). member x.docs x.name) (take i fs) (f ∷ [])) ∙ ap (map (λ (x : WrittenField). member x.docs x.name)) (sym taken);
+      members = ap (map field_member) c.in_ok-push.ensures.items ∙ map-append field_member out (made ∷ []) ∙ ap (λ ms. ms ++ field_member made ∷ []) c.loop-written.invariant.members ∙ ap (λ m. map (λ (x : WrittenField). member x.docs x.name) (take i fs) ++ m ∷ []) c.in_ok-field.ensures.member ∙ sym (map-append (λ (x : WrittenField). member x.docs x.name) (take i fs) (f ∷ [])) ∙ ap (map (λ (x : WrittenField). member x.docs x.name)) (sym in_use);
       legal = subst AreLegal (sym written) (legal_more (field_types (take i fs)) (f.ty ∷ []) c.loop-written.invariant.legal (legal_one f.ty c.in_ok-ty.ensures.legal));
-      handled = rw written (requires_types (env_of c.args.names.now) _ _ (field_types (take i fs)) (f.ty ∷ []) _ _ _ c.in_ok-ty.ensures.grown c.loop-written.invariant.handled (requires_one (env_of c.args.names.now) _ f.ty _ _ c.in_ok-ty.ensures.handled));
-      grown = grown_then _ _ _ c.loop-written.invariant.grown c.in_ok-ty.ensures.grown;
+      handled = rw written (requires_types (env_of c.args.names.now) _ _ (field_types (take i fs)) (f.ty ∷ []) _ _ _ c.in_ok-ty.ensures.extended c.loop-written.invariant.handled (requires_one (env_of c.args.names.now) _ f.ty _ _ c.in_ok-ty.ensures.handled));
+      extended = extended_then _ _ _ c.loop-written.invariant.extended c.in_ok-ty.ensures.extended;
     }
 
 pub returns-clause-types : goal.returns-clause-types

@@ -6,7 +6,7 @@ use Rattle.wit_syntax.specs.Shape.{member, all_handles}
 use Rattle.wit_arena.specs.Resolving.{env_of}
 use Rattle.wit_arena.proofs.Written.{AreLegal}
 use Rattle.wit_entries.specs.Reading.{AreTypes}
-use Rattle.wit_entries.specs.Requiring.{IsGrown, Requires}
+use Rattle.wit_entries.specs.Requiring.{IsExtended, Requires}
 use Rattle.wit_definitions.proofs.bodies.resolve_fields.Given as goal
 
 abbrev pub invariant-loop-written : goal.invariant-loop-written
@@ -15,5 +15,5 @@ invariant-loop-written l = record {
   members : map field_member l.resolved.items ≡ map (λ (x : WrittenField). member x.docs x.name) (take l.written-index l.fields);
   legal : AreLegal (field_types (take l.written-index l.fields));
   handled : Requires (env_of l.names) l.types (all_handles (field_types (take l.written-index l.fields))) l.fn.required.items l.required.items;
-  grown : IsGrown l.fn.types l.types;
+  extended : IsExtended l.fn.types l.types;
 }

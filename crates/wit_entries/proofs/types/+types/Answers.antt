@@ -5,7 +5,7 @@ use Rattle.std.proofs.lemmas.Result.{err_from_is_err_and}
 use Rattle.wit_type_tree.specs.declared.leaves.Id.{Id}
 use Rattle.wit_type_tree.specs.declared.types.«Type».TheVariants as written
 use Rattle.wit_type_tree.specs.Parts.{result_types, boxed_types}
-use Rattle.wit_type_tree.proofs.Rows.{tuple_types, types_of_held}
+use Rattle.wit_type_tree.proofs.Rows.{tuple_types, types_of_borrowed}
 use Rattle.wit_syntax.specs.Fault.{Fault}
 use Rattle.wit_syntax.specs.Bodies.{IsInvalidKey, IsEmpty, IsBrokenType}
 use Rattle.wit_arena.specs.Resolving.{env_of, IsWrongType, AreWrongTypes}
@@ -14,8 +14,8 @@ use Rattle.wit_syntax.proofs.Refusing.{refused_weaker}
 use Rattle.wit_first.proofs.Bridge.{empty_agrees, key_agrees, refused_by}
 use Rattle.wit_arena.proofs.Written.{AreLegal, legal_one, legal_more, wrong_at}
 use Rattle.wit_entries.specs.Requiring.{Requires}
-use Rattle.wit_entries.proofs.Reading.{resolved_word, read_stands, types_one, types_then}
-use Rattle.wit_entries.proofs.Requiring.{grown_then, requires_none, requires_grown, requires_types, requires_one, requires_boxed, requires_parts, requires_only}
+use Rattle.wit_entries.proofs.Reading.{resolved_word, read_present, types_one, types_then}
+use Rattle.wit_entries.proofs.Requiring.{extended_then, requires_none, requires_extended, requires_types, requires_one, requires_boxed, requires_parts, requires_only}
 use Rattle.wit_entries.proofs.FormKinds.{types_two, map_form, tuple_form, result_form, future_form, stream_form, refused_part, refused_parts, refused_form, refused_boxed, refused_among, legal_parts, legal_only, legal_primitive}
 use Rattle.wit_entries.proofs.types.+types.Goals as goal
 
@@ -79,12 +79,12 @@ read_form-returns-in_err-types-in-Tuple-clause-refused t c =
 pub read_form-returns-in_err-value-in-Future-clause-refused : goal.read_form-returns-in_err-value-in-Future-clause-refused
 read_form-returns-in_err-value-in-Future-clause-refused t c =
     let p = err_from_is_err_and c.from_residual-in_err-value-in-Future.result c.from_residual-in_err-value-in-Future.ensures.1 in
-    rw (c.in-Future.is, p.1, p.2) (refused_parts (env_of c.args.names.now) _ (written.Future c.in-Future.span c.in-Future.value) (boxed_types c.in-Future.value) _ (λ es f wrong. subst (λ ts. AreWrongTypes (env_of c.args.names.now) es ts f) (sym (types_of_held c.in-Future.value)) wrong) c.in_err-value-in-Future.ensures.refused)
+    rw (c.in-Future.is, p.1, p.2) (refused_parts (env_of c.args.names.now) _ (written.Future c.in-Future.span c.in-Future.value) (boxed_types c.in-Future.value) _ (λ es f wrong. subst (λ ts. AreWrongTypes (env_of c.args.names.now) es ts f) (sym (types_of_borrowed c.in-Future.value)) wrong) c.in_err-value-in-Future.ensures.refused)
 
 pub read_form-returns-in_err-item-in-Stream-clause-refused : goal.read_form-returns-in_err-item-in-Stream-clause-refused
 read_form-returns-in_err-item-in-Stream-clause-refused t c =
     let p = err_from_is_err_and c.from_residual-in_err-item-in-Stream.result c.from_residual-in_err-item-in-Stream.ensures.1 in
-    rw (c.in-Stream.is, p.1, p.2) (refused_parts (env_of c.args.names.now) _ (written.Stream c.in-Stream.span c.in-Stream.item) (boxed_types c.in-Stream.item) _ (λ es f wrong. subst (λ ts. AreWrongTypes (env_of c.args.names.now) es ts f) (sym (types_of_held c.in-Stream.item)) wrong) c.in_err-item-in-Stream.ensures.refused)
+    rw (c.in-Stream.is, p.1, p.2) (refused_parts (env_of c.args.names.now) _ (written.Stream c.in-Stream.span c.in-Stream.item) (boxed_types c.in-Stream.item) _ (λ es f wrong. subst (λ ts. AreWrongTypes (env_of c.args.names.now) es ts f) (sym (types_of_borrowed c.in-Stream.item)) wrong) c.in_err-item-in-Stream.ensures.refused)
 
 pub read_form-returns-in_ok-item-in-FixedLengthList-clause-legal : goal.read_form-returns-in_ok-item-in-FixedLengthList-clause-legal
 read_form-returns-in_ok-item-in-FixedLengthList-clause-legal t c = rw c.in-FixedLengthList.is (legal_only (written.FixedLengthList c.in-FixedLengthList.span c.in-FixedLengthList.item c.in-FixedLengthList.size) c.deref.result.now (λ f own. own) (ap (λ t. t ∷ []) (sym c.deref.ensures)) c.in_ok-item-in-FixedLengthList.ensures.legal)
@@ -122,19 +122,19 @@ pub read_form-returns-in_ok-value-in-Future-clause-read : goal.read_form-returns
 read_form-returns-in_ok-value-in-Future-clause-read t c = rw c.in-Future.is (future_form c.args.types.now c.resolve_optional.new.types (env_of c.args.names.now) c.args.given.now c.in-Future.span c.in-Future.value c.in_ok-value-in-Future.value c.in_ok-value-in-Future.ensures.is_some c.in_ok-value-in-Future.ensures.resolved)
 
 pub read_form-returns-in_ok-value-in-Future-clause-legal : goal.read_form-returns-in_ok-value-in-Future-clause-legal
-read_form-returns-in_ok-value-in-Future-clause-legal t c = rw c.in-Future.is (legal_parts (written.Future c.in-Future.span c.in-Future.value) (boxed_types c.in-Future.value) (λ f own. own) (types_of_held c.in-Future.value) c.in_ok-value-in-Future.ensures.legal)
+read_form-returns-in_ok-value-in-Future-clause-legal t c = rw c.in-Future.is (legal_parts (written.Future c.in-Future.span c.in-Future.value) (boxed_types c.in-Future.value) (λ f own. own) (types_of_borrowed c.in-Future.value) c.in_ok-value-in-Future.ensures.legal)
 
 pub read_form-returns-in_ok-item-in-Stream-clause-read : goal.read_form-returns-in_ok-item-in-Stream-clause-read
 read_form-returns-in_ok-item-in-Stream-clause-read t c = rw c.in-Stream.is (stream_form c.args.types.now c.resolve_optional-in-Stream.new.types (env_of c.args.names.now) c.args.given.now c.in-Stream.span c.in-Stream.item c.in_ok-item-in-Stream.item c.in_ok-item-in-Stream.ensures.is_some c.in_ok-item-in-Stream.ensures.resolved)
 
 pub read_form-returns-in_ok-item-in-Stream-clause-legal : goal.read_form-returns-in_ok-item-in-Stream-clause-legal
-read_form-returns-in_ok-item-in-Stream-clause-legal t c = rw c.in-Stream.is (legal_parts (written.Stream c.in-Stream.span c.in-Stream.item) (boxed_types c.in-Stream.item) (λ f own. own) (types_of_held c.in-Stream.item) c.in_ok-item-in-Stream.ensures.legal)
+read_form-returns-in_ok-item-in-Stream-clause-legal t c = rw c.in-Stream.is (legal_parts (written.Stream c.in-Stream.span c.in-Stream.item) (boxed_types c.in-Stream.item) (λ f own. own) (types_of_borrowed c.in-Stream.item) c.in_ok-item-in-Stream.ensures.legal)
 
 pub resolve_optional-returns-in_ok-found-in-Some-clause-legal : goal.resolve_optional-returns-in_ok-found-in-Some-clause-legal
 resolve_optional-returns-in_ok-found-in-Some-clause-legal t c = rw c.in-Some.is (legal_one c.in-Some.ty.value (subst (λ ty. (f : Fault) → IsBrokenType ty f → ⊥) c.deref.ensures c.in_ok-found-in-Some.ensures.legal))
 
 pub resolve_type-returns-clause-resolved : goal.resolve_type-returns-clause-resolved
-resolve_type-returns-clause-resolved t c = read_stands c.args.types.now c.read.new.types c.type_of.new.types (env_of c.args.names.now) c.args.given.now (shape_of c.args.ty.now) c.in_ok-reading.reading c.in_ok-ty.ty c.in_ok-reading.ensures.read c.in_ok-ty.ensures.stands
+resolve_type-returns-clause-resolved t c = read_present c.args.types.now c.read.new.types c.type_of.new.types (env_of c.args.names.now) c.args.given.now (shape_of c.args.ty.now) c.in_ok-reading.reading c.in_ok-ty.ty c.in_ok-reading.ensures.read c.in_ok-ty.ensures.present
 
 pub resolve_types-returns-in_err-ty-clause-refused : goal.resolve_types-returns-in_err-ty-clause-refused
 resolve_types-returns-in_err-ty-clause-refused t c =
@@ -150,12 +150,12 @@ resolve_types-loop-part-preserved t c =
     let parts = c.args.parts.now in
     let i = c.loop-part.part-index in
     let part = c.part-item.result in
-    let taken : take (i + 1) parts ≡ take i parts ++ part ∷ [] = take_more parts i part c.loop-part-test.true ∙ ap (λ x. take i parts ++ x ∷ []) (sym c.part-item.is) in
+    let in_use : take (i + 1) parts ≡ take i parts ++ part ∷ [] = take_more parts i part c.loop-part-test.true ∙ ap (λ x. take i parts ++ x ∷ []) (sym c.part-item.is) in
     record {
-      types = rw (taken, c.in_ok-push.ensures.items) (types_then c.args.given.now (take i parts) (part ∷ []) c.loop-part.invariant.types (types_one c.args.given.now part c.in_ok-ty.ensures.resolved));
-      legal = subst AreLegal (sym taken) (legal_more (take i parts) (part ∷ []) c.loop-part.invariant.legal (legal_one part c.in_ok-ty.ensures.legal));
-      handled = rw taken (requires_types (env_of c.args.names.now) _ _ (take i parts) (part ∷ []) _ _ _ c.in_ok-ty.ensures.grown c.loop-part.invariant.handled (requires_one (env_of c.args.names.now) _ part _ _ c.in_ok-ty.ensures.handled));
-      grown = grown_then _ _ _ c.loop-part.invariant.grown c.in_ok-ty.ensures.grown;
+      types = rw (in_use, c.in_ok-push.ensures.items) (types_then c.args.given.now (take i parts) (part ∷ []) c.loop-part.invariant.types (types_one c.args.given.now part c.in_ok-ty.ensures.resolved));
+      legal = subst AreLegal (sym in_use) (legal_more (take i parts) (part ∷ []) c.loop-part.invariant.legal (legal_one part c.in_ok-ty.ensures.legal));
+      handled = rw in_use (requires_types (env_of c.args.names.now) _ _ (take i parts) (part ∷ []) _ _ _ c.in_ok-ty.ensures.extended c.loop-part.invariant.handled (requires_one (env_of c.args.names.now) _ part _ _ c.in_ok-ty.ensures.handled));
+      extended = extended_then _ _ _ c.loop-part.invariant.extended c.in_ok-ty.ensures.extended;
     }
 
 pub resolve_types-returns-clause-resolved : goal.resolve_types-returns-clause-resolved
@@ -183,7 +183,7 @@ read_form-returns-in_ok-item-in-FixedLengthList-clause-handled t c = rw c.in-Fix
 pub read_form-returns-in_ok-check_key-in-Map-clause-handled : goal.read_form-returns-in_ok-check_key-in-Map-clause-handled
 read_form-returns-in_ok-check_key-in-Map-clause-handled t c = rw c.in-Map.is (requires_parts (env_of c.args.names.now) _ (written.Map c.in-Map.span c.in-Map.key c.in-Map.value) (c.deref-in-Map.result.now ∷ c.deref-in-Map-2.result.now ∷ []) _ _ tt
     (ap (λ t. t ∷ c.in-Map.value.value ∷ []) (sym c.deref-in-Map.ensures) ∙ ap (λ t. c.deref-in-Map.result.now ∷ t ∷ []) (sym c.deref-in-Map-2.ensures))
-    (requires_types (env_of c.args.names.now) _ _ (c.deref-in-Map.result.now ∷ []) (c.deref-in-Map-2.result.now ∷ []) _ _ _ c.in_ok-value_type-in-Map.ensures.grown
+    (requires_types (env_of c.args.names.now) _ _ (c.deref-in-Map.result.now ∷ []) (c.deref-in-Map-2.result.now ∷ []) _ _ _ c.in_ok-value_type-in-Map.ensures.extended
     (requires_one (env_of c.args.names.now) _ c.deref-in-Map.result.now _ _ c.in_ok-key_type-in-Map.ensures.handled)
     (requires_one (env_of c.args.names.now) _ c.deref-in-Map-2.result.now _ _ c.in_ok-value_type-in-Map.ensures.handled)))
 
@@ -197,16 +197,16 @@ pub read_form-returns-in_ok-types-in-Tuple-clause-handled : goal.read_form-retur
 read_form-returns-in_ok-types-in-Tuple-clause-handled t c = rw c.in-Tuple.is (requires_parts (env_of c.args.names.now) _ (written.Tuple c.in-Tuple.span c.in-Tuple.parts) c.deref-in-Tuple-2.result.now _ _ tt (tuple_types c.in-Tuple.span c.in-Tuple.parts ∙ sym c.deref-in-Tuple-2.ensures.value) c.in_ok-types-in-Tuple.ensures.handled)
 
 pub read_form-returns-in_ok-value-in-Future-clause-handled : goal.read_form-returns-in_ok-value-in-Future-clause-handled
-read_form-returns-in_ok-value-in-Future-clause-handled t c = rw c.in-Future.is (requires_parts (env_of c.args.names.now) _ (written.Future c.in-Future.span c.in-Future.value) (boxed_types c.in-Future.value) _ _ tt (types_of_held c.in-Future.value) c.in_ok-value-in-Future.ensures.handled)
+read_form-returns-in_ok-value-in-Future-clause-handled t c = rw c.in-Future.is (requires_parts (env_of c.args.names.now) _ (written.Future c.in-Future.span c.in-Future.value) (boxed_types c.in-Future.value) _ _ tt (types_of_borrowed c.in-Future.value) c.in_ok-value-in-Future.ensures.handled)
 
 pub read_form-returns-in_ok-item-in-Stream-clause-handled : goal.read_form-returns-in_ok-item-in-Stream-clause-handled
-read_form-returns-in_ok-item-in-Stream-clause-handled t c = rw c.in-Stream.is (requires_parts (env_of c.args.names.now) _ (written.Stream c.in-Stream.span c.in-Stream.item) (boxed_types c.in-Stream.item) _ _ tt (types_of_held c.in-Stream.item) c.in_ok-item-in-Stream.ensures.handled)
+read_form-returns-in_ok-item-in-Stream-clause-handled t c = rw c.in-Stream.is (requires_parts (env_of c.args.names.now) _ (written.Stream c.in-Stream.span c.in-Stream.item) (boxed_types c.in-Stream.item) _ _ tt (types_of_borrowed c.in-Stream.item) c.in_ok-item-in-Stream.ensures.handled)
 
 pub resolve_optional-returns-in_ok-found-in-Some-clause-handled : goal.resolve_optional-returns-in_ok-found-in-Some-clause-handled
 resolve_optional-returns-in_ok-found-in-Some-clause-handled t c = rw c.in-Some.is (requires_boxed (env_of c.args.names.now) _ c.deref.result.now c.in-Some.ty.value _ _ c.deref.ensures c.in_ok-found-in-Some.ensures.handled)
 
 pub resolve_type-returns-clause-handled : goal.resolve_type-returns-clause-handled
-resolve_type-returns-clause-handled t c = requires_grown (env_of c.args.names.now) _ _ (handles c.args.ty.now) _ _ c.in_ok-ty.ensures.grown c.in_ok-reading.ensures.handled
+resolve_type-returns-clause-handled t c = requires_extended (env_of c.args.names.now) _ _ (handles c.args.ty.now) _ _ c.in_ok-ty.ensures.extended c.in_ok-reading.ensures.handled
 
 pub resolve_optional-returns-in_err-found-in-Some-clause-refused : goal.resolve_optional-returns-in_err-found-in-Some-clause-refused
 resolve_optional-returns-in_err-found-in-Some-clause-refused t c =
@@ -256,6 +256,6 @@ resolve_result-returns-in_ok-err-in-Both-clause-legal t c = rw c.in-Both.is (leg
     (legal_one c.in-Both.err.value (subst (λ ty. (f : Fault) → IsBrokenType ty f → ⊥) c.deref-in-Both-2.ensures c.in_ok-err-in-Both.ensures.legal)))
 
 pub resolve_result-returns-in_ok-err-in-Both-clause-handled : goal.resolve_result-returns-in_ok-err-in-Both-clause-handled
-resolve_result-returns-in_ok-err-in-Both-clause-handled t c = rw c.in-Both.is (requires_types (env_of c.args.names.now) _ _ (c.in-Both.ok.value ∷ []) (c.in-Both.err.value ∷ []) _ _ _ c.in_ok-err-in-Both.ensures.grown
+resolve_result-returns-in_ok-err-in-Both-clause-handled t c = rw c.in-Both.is (requires_types (env_of c.args.names.now) _ _ (c.in-Both.ok.value ∷ []) (c.in-Both.err.value ∷ []) _ _ _ c.in_ok-err-in-Both.ensures.extended
     (requires_boxed (env_of c.args.names.now) _ c.deref-in-Both.result.now c.in-Both.ok.value _ _ c.deref-in-Both.ensures c.in_ok-ok-in-Both.ensures.handled)
     (requires_boxed (env_of c.args.names.now) _ c.deref-in-Both-2.result.now c.in-Both.err.value _ _ c.deref-in-Both-2.ensures c.in_ok-err-in-Both.ensures.handled))

@@ -3,7 +3,7 @@ use Rattle.wit_arena.specs.Resolving.{env_of}
 use Rattle.wit_syntax.specs.Shape.{all_handles}
 use Rattle.wit_arena.proofs.Written.{AreLegal}
 use Rattle.wit_entries.specs.Reading.{AreTypes}
-use Rattle.wit_entries.specs.Requiring.{IsGrown, Requires}
+use Rattle.wit_entries.specs.Requiring.{IsExtended, Requires}
 use Rattle.wit_entries.proofs.types.+types.Given as goal
 
 abbrev pub invariant-resolve_types-loop-part : goal.invariant-resolve_types-loop-part
@@ -11,5 +11,5 @@ invariant-resolve_types-loop-part l = record {
   types : AreTypes l.fn.types l.types (env_of l.names) l.given (take l.part-index l.parts) l.resolved.items;
   legal : AreLegal (take l.part-index l.parts);
   handled : Requires (env_of l.names) l.types (all_handles (take l.part-index l.parts)) l.fn.required.items l.required.items;
-  grown : IsGrown l.fn.types l.types;
+  extended : IsExtended l.fn.types l.types;
 }

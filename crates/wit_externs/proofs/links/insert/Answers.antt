@@ -7,8 +7,8 @@ use Rattle.wit_syntax.proofs.Inserting.{keys-insert_entry}
 use Rattle.wit_externs.proofs.Linked.{inserted, turned}
 use Rattle.wit_externs.proofs.links.insert.Goals as goal
 
-pub returns-clause-told : goal.returns-clause-told
-returns-clause-told c =
+pub returns-clause-as_stated : goal.returns-clause-as_stated
+returns-clause-as_stated c =
     let old = c.args.links.now in
     let k = c.args.interface in
     inserted (λ a b. a == b) eqb-true (λ a. eq-eqb a a refl) (keys_of old) (keys_of c.insert.new.self) k c.is_none.result

@@ -11,125 +11,125 @@ use Rattle.wit_syntax.specs.Signature.{IsBrokenFunction}
 use Rattle.wit_arena.specs.Resolved.{IsNameless}
 use Rattle.wit_arena.specs.Resolving.{env_of}
 use Rattle.wit_syntax.proofs.Refusing.{refused_weaker}
-use Rattle.wit_sides.specs.Sides.{taken_on}
-use Rattle.wit_rules.specs.Held.{function_behind}
-use Rattle.wit_rules.specs.Signatures.{functions_behind, IsWrongFunctionAmong}
-use Rattle.wit_entries.proofs.Requiring.{grown_then}
+use Rattle.wit_sides.specs.Sides.{defined_on}
+use Rattle.wit_rules.specs.Borrowed.{function_view}
+use Rattle.wit_rules.specs.Signatures.{functions_view, IsWrongFunctionAmong}
+use Rattle.wit_entries.proofs.Requiring.{extended_then}
 use Rattle.wit_externs.specs.Clash.{IsClash, names_of_items}
 use Rattle.wit_externs.proofs.Clashing.{clash_whole, sides_more}
-use Rattle.wit_externs.proofs.Done.{scope_next, item_next, made_to, place_within, done_more, done_all, refused_among, same_name}
-use Rattle.wit_externs.proofs.Steps.{taken_next}
+use Rattle.wit_externs.proofs.DoneFunctions.{scope_next, item_next, made_to, place_within, done_more, done_all, refused_among, same_name}
+use Rattle.wit_externs.proofs.Steps.{used_next}
 use Rattle.wit_externs.proofs.scope_functions.resolve_functions.Goals as goal
 
 pub resolve_function-requires-clause-place : goal.resolve_function-requires-clause-place
 resolve_function-requires-clause-place c =
-    let i = c.loop-held.held-index in
-    let h = c.held-item.result in
-    let fn = function_behind h in
-    let fns = functions_behind c.args.scope in
-    let at : slice_get c.args.scope.functions.now i ≡ Some h = slice_get_read c.args.scope.functions.now _ i h refl c.loop-held-test.true c.held-item.is in
+    let i = c.loop-borrowed.borrowed-index in
+    let h = c.borrowed-item.result in
+    let fn = function_view h in
+    let fns = functions_view c.args.scope in
+    let at : slice_get c.args.scope.functions.now i ≡ Some h = slice_get_read c.args.scope.functions.now _ i h refl c.loop-borrowed-test.true c.borrowed-item.is in
     let here : slice_get fns i ≡ Some fn = scope_next c.args.scope i h at in
-    let made = made_to fns i fn c.loop-held.functions.items here c.loop-held.invariant.done.named in
-    let count : c.len.result ≡ i = omega (arith, c.len.ensures, c.loop-held.functions.ok, made) in
+    let made = made_to fns i fn c.loop-borrowed.functions.items here c.loop-borrowed.invariant.done.named in
+    let count : c.len.result ≡ i = omega (arith, c.len.ensures, c.loop-borrowed.functions.ok, made) in
     let there : slice_get fns c.len.result ≡ Some fn = ap (slice_get fns) count ∙ here in
     place_within c.args.scope c.len.result fn there
 
-pub returns-in_err-function-clause-grown : goal.returns-in_err-function-clause-grown
-returns-in_err-function-clause-grown c = grown_then c.args.types.now c.loop-held.types c.resolve_function.new.types c.loop-held.invariant.done.grown c.in_err-function.ensures.grown
+pub returns-in_err-function-clause-extended : goal.returns-in_err-function-clause-extended
+returns-in_err-function-clause-extended c = extended_then c.args.types.now c.loop-borrowed.types c.resolve_function.new.types c.loop-borrowed.invariant.done.extended c.in_err-function.ensures.extended
 
 pub returns-in_err-function-clause-refused : goal.returns-in_err-function-clause-refused
 returns-in_err-function-clause-refused c =
     let p = err_from_is_err_and c.from_residual-in_err-function.result c.from_residual-in_err-function.ensures.1 in
-    let i = c.loop-held.held-index in
-    let h = c.held-item.result in
-    let fn = function_behind h in
-    let fns = functions_behind c.args.scope in
-    let at : slice_get c.args.scope.functions.now i ≡ Some h = slice_get_read c.args.scope.functions.now _ i h refl c.loop-held-test.true c.held-item.is in
+    let i = c.loop-borrowed.borrowed-index in
+    let h = c.borrowed-item.result in
+    let fn = function_view h in
+    let fns = functions_view c.args.scope in
+    let at : slice_get c.args.scope.functions.now i ≡ Some h = slice_get_read c.args.scope.functions.now _ i h refl c.loop-borrowed-test.true c.borrowed-item.is in
     let here : slice_get fns i ≡ Some fn = scope_next c.args.scope i h at in
-    let made = made_to fns i fn c.loop-held.functions.items here c.loop-held.invariant.done.named in
-    let count : c.len.result ≡ i = omega (arith, c.len.ensures, c.loop-held.functions.ok, made) in
+    let made = made_to fns i fn c.loop-borrowed.functions.items here c.loop-borrowed.invariant.done.named in
+    let count : c.len.result ≡ i = omega (arith, c.len.ensures, c.loop-borrowed.functions.ok, made) in
     let there : slice_get fns c.len.result ≡ Some fn = ap (slice_get fns) count ∙ here in
     let env = env_of c.args.scope.names.now in
     let new = c.resolve_function.new.types in
-    let old : WorldSide → List Name = λ s. taken_on s c.args.taken.now in
+    let old : WorldSide → List Name = λ s. defined_on s c.args.in_use.now in
     rw (p.1, p.2) (λ xs scope. refused_weaker (IsWrongFunctionAmong env new xs fns) (λ (f : Fault). IsWrongFunctionAmong env new xs fns f ⊎ IsClash old (map SideFunction fns) f) _ (λ f wrong. inl wrong) (refused_among env new xs fns c.len.result fn _ there (c.in_err-function.ensures.refused xs scope fn there)))
 
-pub define_alone-requires-clause-held : goal.define_alone-requires-clause-held
-define_alone-requires-clause-held c =
-    let i = c.loop-held.held-index in
-    let h = c.held-item.result in
-    let fn = function_behind h in
-    let fns = functions_behind c.args.scope in
-    let at : slice_get c.args.scope.functions.now i ≡ Some h = slice_get_read c.args.scope.functions.now _ i h refl c.loop-held-test.true c.held-item.is in
+pub define_alone-requires-clause-borrowed : goal.define_alone-requires-clause-borrowed
+define_alone-requires-clause-borrowed c =
+    let i = c.loop-borrowed.borrowed-index in
+    let h = c.borrowed-item.result in
+    let fn = function_view h in
+    let fns = functions_view c.args.scope in
+    let at : slice_get c.args.scope.functions.now i ≡ Some h = slice_get_read c.args.scope.functions.now _ i h refl c.loop-borrowed-test.true c.borrowed-item.is in
     let here : slice_get fns i ≡ Some fn = scope_next c.args.scope i h at in
-    let made = made_to fns i fn c.loop-held.functions.items here c.loop-held.invariant.done.named in
-    let count : c.len.result ≡ i = omega (arith, c.len.ensures, c.loop-held.functions.ok, made) in
+    let made = made_to fns i fn c.loop-borrowed.functions.items here c.loop-borrowed.invariant.done.named in
+    let count : c.len.result ≡ i = omega (arith, c.len.ensures, c.loop-borrowed.functions.ok, made) in
     let there : slice_get fns c.len.result ≡ Some fn = ap (slice_get fns) count ∙ here in
     same_name c.in_ok-function.function fn (c.in_ok-function.ensures.named fn there)
 
-pub returns-in_err-define_alone-clause-grown : goal.returns-in_err-define_alone-clause-grown
-returns-in_err-define_alone-clause-grown c = grown_then c.args.types.now c.loop-held.types c.resolve_function.new.types c.loop-held.invariant.done.grown c.in_ok-function.ensures.grown
+pub returns-in_err-define_alone-clause-extended : goal.returns-in_err-define_alone-clause-extended
+returns-in_err-define_alone-clause-extended c = extended_then c.args.types.now c.loop-borrowed.types c.resolve_function.new.types c.loop-borrowed.invariant.done.extended c.in_ok-function.ensures.extended
 
 pub returns-in_err-define_alone-clause-refused : goal.returns-in_err-define_alone-clause-refused
 returns-in_err-define_alone-clause-refused c =
     let p = err_from_is_err_and c.from_residual-in_err-define_alone.result c.from_residual-in_err-define_alone.ensures.1 in
-    let i = c.loop-held.held-index in
-    let h = c.held-item.result in
-    let fn = function_behind h in
-    let fns = functions_behind c.args.scope in
-    let at : slice_get c.args.scope.functions.now i ≡ Some h = slice_get_read c.args.scope.functions.now _ i h refl c.loop-held-test.true c.held-item.is in
+    let i = c.loop-borrowed.borrowed-index in
+    let h = c.borrowed-item.result in
+    let fn = function_view h in
+    let fns = functions_view c.args.scope in
+    let at : slice_get c.args.scope.functions.now i ≡ Some h = slice_get_read c.args.scope.functions.now _ i h refl c.loop-borrowed-test.true c.borrowed-item.is in
     let item = item_next fns i fn (scope_next c.args.scope i h at) in
     let env = env_of c.args.scope.names.now in
     let new = c.resolve_function.new.types in
-    let old : WorldSide → List Name = λ s. taken_on s c.args.taken.now in
-    let mid : WorldSide → List Name = λ s. taken_on s c.loop-held.taken in
-    rw (p.1, p.2) (λ xs scope. refused_weaker (IsClash mid (SideFunction fn ∷ [])) (λ (f : Fault). IsWrongFunctionAmong env new xs fns f ⊎ IsClash old (map SideFunction fns) f) _ (λ f clash. inr (clash_whole old mid (map SideFunction fns) i (SideFunction fn) f item c.loop-held.invariant.defined clash)) c.in_err-define_alone.ensures.refused)
+    let old : WorldSide → List Name = λ s. defined_on s c.args.in_use.now in
+    let mid : WorldSide → List Name = λ s. defined_on s c.loop-borrowed.in_use in
+    rw (p.1, p.2) (λ xs scope. refused_weaker (IsClash mid (SideFunction fn ∷ [])) (λ (f : Fault). IsWrongFunctionAmong env new xs fns f ⊎ IsClash old (map SideFunction fns) f) _ (λ f clash. inr (clash_whole old mid (map SideFunction fns) i (SideFunction fn) f item c.loop-borrowed.invariant.defined clash)) c.in_err-define_alone.ensures.refused)
 
-pub returns-in_err-reserve-clause-grown : goal.returns-in_err-reserve-clause-grown
-returns-in_err-reserve-clause-grown c = grown_then c.args.types.now c.loop-held.types c.resolve_function.new.types c.loop-held.invariant.done.grown c.in_ok-function.ensures.grown
+pub returns-in_err-reserve-clause-extended : goal.returns-in_err-reserve-clause-extended
+returns-in_err-reserve-clause-extended c = extended_then c.args.types.now c.loop-borrowed.types c.resolve_function.new.types c.loop-borrowed.invariant.done.extended c.in_ok-function.ensures.extended
 
 pub returns-in_err-reserve-clause-refused : goal.returns-in_err-reserve-clause-refused
 returns-in_err-reserve-clause-refused c =
     let p = err_from_is_err_and c.from_residual-in_err-reserve.result c.from_residual-in_err-reserve.ensures.1 in
     rw p.1 (λ xs scope. inl p.2)
 
-pub loop-held-preserved : goal.loop-held-preserved
-loop-held-preserved c =
-    let i = c.loop-held.held-index in
-    let h = c.held-item.result in
-    let fn = function_behind h in
-    let fns = functions_behind c.args.scope in
-    let at : slice_get c.args.scope.functions.now i ≡ Some h = slice_get_read c.args.scope.functions.now _ i h refl c.loop-held-test.true c.held-item.is in
+pub loop-borrowed-preserved : goal.loop-borrowed-preserved
+loop-borrowed-preserved c =
+    let i = c.loop-borrowed.borrowed-index in
+    let h = c.borrowed-item.result in
+    let fn = function_view h in
+    let fns = functions_view c.args.scope in
+    let at : slice_get c.args.scope.functions.now i ≡ Some h = slice_get_read c.args.scope.functions.now _ i h refl c.loop-borrowed-test.true c.borrowed-item.is in
     let here : slice_get fns i ≡ Some fn = scope_next c.args.scope i h at in
-    let made = made_to fns i fn c.loop-held.functions.items here c.loop-held.invariant.done.named in
-    let count : c.len.result ≡ i = omega (arith, c.len.ensures, c.loop-held.functions.ok, made) in
+    let made = made_to fns i fn c.loop-borrowed.functions.items here c.loop-borrowed.invariant.done.named in
+    let count : c.len.result ≡ i = omega (arith, c.len.ensures, c.loop-borrowed.functions.ok, made) in
     let there : slice_get fns c.len.result ≡ Some fn = ap (slice_get fns) count ∙ here in
     let item = item_next fns i fn here in
     let xs = map SideFunction fns in
-    let was = c.loop-held.invariant in
+    let was = c.loop-borrowed.invariant in
     let says = c.in_ok-function.ensures in
     let made_one = c.in_ok-function.function in
     record {
-      done = done_more c.args.types.now c.loop-held.types c.resolve_function.new.types c.args.scope (take i fns) (take (i + 1) fns) fn c.loop-held.functions.items c.push_reserved.new.self.items made_one c.args.required.now.items c.loop-held.required.items c.resolve_function.new.required.items (taken_next fns i fn here) (rw c.reserve.ensures.items at c.push_reserved.ensures.items) (says.adds fn there) (says.named fn there) says.mangled (λ zs scope. subst (λ (n : ℕ). (e : Fault) → IsBrokenFunction zs fns n fn e → IsNameless zs fns) (count ∙ sym made) (says.legal zs scope fn there)) (says.handled fn there) says.grown was.done;
-      defined = λ s. sides_more s (taken_on s c.args.taken.now) (taken_on s c.loop-held.taken) (taken_on s c.define_alone.new.taken) xs i (SideFunction fn) item (was.defined s) (c.in_ok-define_alone.ensures.defined s);
+      done = done_more c.args.types.now c.loop-borrowed.types c.resolve_function.new.types c.args.scope (take i fns) (take (i + 1) fns) fn c.loop-borrowed.functions.items c.push_reserved.new.self.items made_one c.args.required.now.items c.loop-borrowed.required.items c.resolve_function.new.required.items (used_next fns i fn here) (rw c.reserve.ensures.items at c.push_reserved.ensures.items) (says.adds fn there) (says.named fn there) says.mangled (λ zs scope. subst (λ (n : ℕ). (e : Fault) → IsBrokenFunction zs fns n fn e → IsNameless zs fns) (count ∙ sym made) (says.legal zs scope fn there)) (says.handled fn there) says.extended was.done;
+      defined = λ s. sides_more s (defined_on s c.args.in_use.now) (defined_on s c.loop-borrowed.in_use) (defined_on s c.define_alone.new.in_use) xs i (SideFunction fn) item (was.defined s) (c.in_ok-define_alone.ensures.defined s);
       differ = λ s before. c.in_ok-define_alone.ensures.differ s (was.differ s before);
     }
 
 pub returns-clause-adds : goal.returns-clause-adds
-returns-clause-adds c = (done_all c.args.types.now c.loop-held.types c.args.scope c.loop-held.held-index c.loop-held.functions.items c.args.required.now.items c.loop-held.required.items (omega arith) c.loop-held.invariant.done).adds
+returns-clause-adds c = (done_all c.args.types.now c.loop-borrowed.types c.args.scope c.loop-borrowed.borrowed-index c.loop-borrowed.functions.items c.args.required.now.items c.loop-borrowed.required.items (omega arith) c.loop-borrowed.invariant.done).adds
 
 pub returns-clause-named : goal.returns-clause-named
-returns-clause-named c = (done_all c.args.types.now c.loop-held.types c.args.scope c.loop-held.held-index c.loop-held.functions.items c.args.required.now.items c.loop-held.required.items (omega arith) c.loop-held.invariant.done).named
+returns-clause-named c = (done_all c.args.types.now c.loop-borrowed.types c.args.scope c.loop-borrowed.borrowed-index c.loop-borrowed.functions.items c.args.required.now.items c.loop-borrowed.required.items (omega arith) c.loop-borrowed.invariant.done).named
 
 pub returns-clause-legal : goal.returns-clause-legal
-returns-clause-legal c = (done_all c.args.types.now c.loop-held.types c.args.scope c.loop-held.held-index c.loop-held.functions.items c.args.required.now.items c.loop-held.required.items (omega arith) c.loop-held.invariant.done).legal
+returns-clause-legal c = (done_all c.args.types.now c.loop-borrowed.types c.args.scope c.loop-borrowed.borrowed-index c.loop-borrowed.functions.items c.args.required.now.items c.loop-borrowed.required.items (omega arith) c.loop-borrowed.invariant.done).legal
 
 pub returns-clause-handled : goal.returns-clause-handled
-returns-clause-handled c = (done_all c.args.types.now c.loop-held.types c.args.scope c.loop-held.held-index c.loop-held.functions.items c.args.required.now.items c.loop-held.required.items (omega arith) c.loop-held.invariant.done).handled
+returns-clause-handled c = (done_all c.args.types.now c.loop-borrowed.types c.args.scope c.loop-borrowed.borrowed-index c.loop-borrowed.functions.items c.args.required.now.items c.loop-borrowed.required.items (omega arith) c.loop-borrowed.invariant.done).handled
 
 pub returns-clause-defined : goal.returns-clause-defined
 returns-clause-defined c = λ s.
-    let fns = functions_behind c.args.scope in
-    let count = length-map c.args.scope.functions.now function_behind in
+    let fns = functions_view c.args.scope in
+    let count = length-map c.args.scope.functions.now function_view in
     let items = length-map fns SideFunction in
-    c.loop-held.invariant.defined s ∙ ap (λ (l : List SideItem). taken_on s c.args.taken.now ++ names_of_items (items_on s l)) (take_all c.loop-held.held-index (map SideFunction fns) (omega (arith, count, items)))
+    c.loop-borrowed.invariant.defined s ∙ ap (λ (l : List SideItem). defined_on s c.args.in_use.now ++ names_of_items (items_on s l)) (take_all c.loop-borrowed.borrowed-index (map SideFunction fns) (omega (arith, count, items)))

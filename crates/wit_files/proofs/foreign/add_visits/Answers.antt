@@ -1,13 +1,13 @@
 use Rattle.std.proofs.Common.{◌++◌, map, ap, ◌∙◌}
 use Rattle.std.specs.List.{flat_map}
 use Rattle.std.proofs.lemmas.List.{take_all}
-use Rattle.wit_files.specs.Visits.{visit_behind}
-use Rattle.wit_files.specs.Foreign.{foreign_behind}
+use Rattle.wit_files.specs.Visits.{visit_view}
+use Rattle.wit_files.specs.Foreign.{foreign_view}
 use Rattle.wit_files.proofs.Others.{foreign_of, of_file}
 use Rattle.wit_files.proofs.foreign.add_visits.Goals as goal
 
 pub returns : goal.returns
 returns c =
-    let old = map foreign_behind c.args.foreign.now.items in
+    let old = map foreign_view c.args.foreign.now.items in
     let xs = c.deref-visit-items.result.now in
-    c.loop-visit.invariant ∙ ap (λ l. old ++ flat_map foreign_of (map visit_behind l)) (take_all c.loop-visit.visit-index xs c.loop-visit-test.false ∙ c.deref-visit-items.ensures.value) ∙ ap (λ l. old ++ flat_map foreign_of l) c.in_ok-visits.ensures ∙ ap (λ l. old ++ l) (of_file c.args.file.now)
+    c.loop-visit.invariant ∙ ap (λ l. old ++ flat_map foreign_of (map visit_view l)) (take_all c.loop-visit.visit-index xs c.loop-visit-test.false ∙ c.deref-visit-items.ensures.value) ∙ ap (λ l. old ++ flat_map foreign_of l) c.in_ok-visits.ensures ∙ ap (λ l. old ++ l) (of_file c.args.file.now)

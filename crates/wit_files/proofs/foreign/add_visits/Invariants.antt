@@ -1,9 +1,9 @@
 use Rattle.std.proofs.Common.{◌≡◌, ◌++◌, map, take}
 use Rattle.std.specs.List.{flat_map}
-use Rattle.wit_files.specs.Visits.{visit_behind}
-use Rattle.wit_files.specs.Foreign.{foreign_behind}
+use Rattle.wit_files.specs.Visits.{visit_view}
+use Rattle.wit_files.specs.Foreign.{foreign_view}
 use Rattle.wit_files.proofs.Others.{foreign_of}
 use Rattle.wit_files.proofs.foreign.add_visits.Given as goal
 
 abbrev pub invariant-loop-visit : goal.invariant-loop-visit
-invariant-loop-visit l = map foreign_behind l.foreign.items ≡ map foreign_behind l.fn.foreign.items ++ flat_map foreign_of (map visit_behind (take l.visit-index l.visit-items))
+invariant-loop-visit l = map foreign_view l.foreign.items ≡ map foreign_view l.fn.foreign.items ++ flat_map foreign_of (map visit_view (take l.visit-index l.visit-items))

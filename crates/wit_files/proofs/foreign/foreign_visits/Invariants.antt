@@ -1,7 +1,7 @@
 use Rattle.std.proofs.Common.{◌≡◌, map, take}
 use Rattle.wit_syntax.specs.Foreign.{foreign_visits}
-use Rattle.wit_files.specs.Foreign.{foreign_behind}
+use Rattle.wit_files.specs.Foreign.{foreign_view}
 use Rattle.wit_files.proofs.foreign.foreign_visits.Given as goal
 
 abbrev pub invariant-loop-file : goal.invariant-loop-file
-invariant-loop-file l = map foreign_behind l.foreign.items ≡ foreign_visits (take l.file-index l.files)
+invariant-loop-file l = map foreign_view l.foreign.items ≡ foreign_visits (take l.file-index l.files)

@@ -1,7 +1,7 @@
 use Rattle.std.proofs.Common.{◌≡◌, ◌++◌, Some, map, take}
 use Rattle.std.specs.List.{flat_map}
-use Rattle.wit_files.specs.Visits.{visit_behind, part_visits}
+use Rattle.wit_files.specs.Visits.{visit_view, part_visits}
 use Rattle.wit_files.proofs.visit.add_interface_visits.Given as goal
 
 abbrev pub invariant-loop-item : goal.invariant-loop-item
-invariant-loop-item l = map visit_behind l.visits.items ≡ map visit_behind l.fn.visits.items ++ flat_map (part_visits (Some l.interface.name)) (take l.item-index l.item-items)
+invariant-loop-item l = map visit_view l.visits.items ≡ map visit_view l.fn.visits.items ++ flat_map (part_visits (Some l.interface.name)) (take l.item-index l.item-items)

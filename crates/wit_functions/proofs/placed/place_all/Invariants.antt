@@ -5,4 +5,4 @@ use Rattle.wit_functions.specs.Parted.{served}
 use Rattle.wit_functions.proofs.placed.place_all.Given as goal
 
 abbrev pub invariant-loop-item : goal.invariant-loop-item
-invariant-loop-item g l = l.placed.items ++ served g.T.Told.tells (get_by_text l.waiting) (into_iter_items l.item-iterator) ≡ served g.T.Told.tells (get_by_text l.fn.waiting) (reverse l.fn.others.items)
+invariant-loop-item g l = l.placed.items ++ served g.T.MaybeFunction.function_at (get_by_text l.waiting) (into_iter_items l.item-iterator) ≡ served g.T.MaybeFunction.function_at (get_by_text l.fn.waiting) (reverse l.fn.others.items)

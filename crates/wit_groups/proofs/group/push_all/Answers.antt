@@ -1,9 +1,9 @@
 use Rattle.std.proofs.lemmas.Result.{err_from_is_err_and}
-use Rattle.wit_groups.proofs.Outcome.{taken_more, taken_none, unfit, unread}
+use Rattle.wit_groups.proofs.Outcome.{used_more, used_none, unfit, unread}
 use Rattle.wit_groups.proofs.group.push_all.Goals as goal
 
 pub loop-source-init : goal.loop-source-init
-loop-source-init c = taken_none c.args.turn.now c.new-resolver.result.main.files.items c.new-resolver.result.nested.items c.new-resolver.ensures.files c.new-resolver.ensures.nested
+loop-source-init c = used_none c.args.turn.now c.new-resolver.result.main.files.items c.new-resolver.result.nested.items c.new-resolver.ensures.files c.new-resolver.ensures.nested
 
 pub returns-in_err-file-clause-refused : goal.returns-in_err-file-clause-refused
 returns-in_err-file-clause-refused c =
@@ -24,8 +24,8 @@ returns-in_err-push-clause-refused c =
 pub loop-source-preserved : goal.loop-source-preserved
 loop-source-preserved c =
     let l = c.loop-source in
-    let grown = c.push.new.self in
-    taken_more c.args.turn.now l.source-index c.source-item.result l.resolver.main.files.items grown.main.files.items l.resolver.nested.items grown.nested.items c.in_ok-file.file c.loop-source-test.true c.source-item.is
+    let extended = c.push.new.self in
+    used_more c.args.turn.now l.source-index c.source-item.result l.resolver.main.files.items extended.main.files.items l.resolver.nested.items extended.nested.items c.in_ok-file.file c.loop-source-test.true c.source-item.is
     l.invariant
     c.in_ok-file.ensures.tree
     c.in_ok-push.ensures.accepted

@@ -12,4 +12,4 @@ returns-in_err-resolver-clause-refused c =
 pub returns-clause-refused : goal.returns-clause-refused
 returns-clause-refused c =
     let made = c.in_ok-resolver.resolver in
-    not_joined c.args.sources.now (map now_of c.in_ok-turn.turn.items) made.main.files.items made.nested.items c.resolve.result c.in_ok-turn.ensures (rw c.deref.ensures.value at c.in_ok-resolver.ensures.taken) c.resolve.ensures.refused
+    not_joined c.args.sources.now (map now_of c.in_ok-turn.turn.items) made.main.files.items made.nested.items c.resolve.result c.in_ok-turn.ensures (rw c.deref.ensures.value at c.in_ok-resolver.ensures.in_use) c.resolve.ensures.refused

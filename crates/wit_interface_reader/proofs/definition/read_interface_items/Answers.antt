@@ -14,7 +14,7 @@ items-preserved c =
 
 pub returns-clause-reads : goal.returns-clause-reads
 unfolding interface_items
-returns-clause-reads c = rw c.fitted.ensures (braces_closed interface_item c.items.invariant (search rules) c.in_ok-bump.ensures.reads)
+returns-clause-reads c = rw c.shrunk.ensures (braces_closed interface_item c.items.invariant (search rules) c.in_ok-bump.ensures.reads)
 
 pub returns-in_err-item-clause-stops : goal.returns-in_err-item-clause-stops
 unfolding interface_items

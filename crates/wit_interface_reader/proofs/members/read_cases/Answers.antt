@@ -15,7 +15,7 @@ cases-preserved c =
     listing_more c.add.new.items.items c.in_ok-case.case c.in_ok-more-2.more (rw c.cases-test.true at c.cases.invariant) c.in_ok-case.ensures.reads c.in_ok-add.ensures c.in_ok-more-2.ensures.reads
 
 pub returns-clause-reads : goal.returns-clause-reads
-returns-clause-reads c = rw c.fitted.ensures (listing_closed (rw c.cases-test.false at c.cases.invariant))
+returns-clause-reads c = rw c.shrunk.ensures (listing_closed (rw c.cases-test.false at c.cases.invariant))
 
 pub returns-in_err-case-clause-stops : goal.returns-in_err-case-clause-stops
 returns-in_err-case-clause-stops c =

@@ -15,7 +15,7 @@ fields-preserved c =
     listing_more c.add.new.items.items c.in_ok-field.field c.in_ok-more-2.more (rw c.fields-test.true at c.fields.invariant) c.in_ok-field.ensures.reads c.in_ok-add.ensures c.in_ok-more-2.ensures.reads
 
 pub returns-clause-reads : goal.returns-clause-reads
-returns-clause-reads c = rw c.fitted.ensures (listing_closed (rw c.fields-test.false at c.fields.invariant))
+returns-clause-reads c = rw c.shrunk.ensures (listing_closed (rw c.fields-test.false at c.fields.invariant))
 
 pub returns-in_err-field-clause-stops : goal.returns-in_err-field-clause-stops
 returns-in_err-field-clause-stops c =

@@ -15,7 +15,7 @@ flags-preserved c =
     listing_more c.add.new.items.items c.in_ok-flag.flag c.in_ok-more-2.more (rw c.flags-test.true at c.flags.invariant) c.in_ok-flag.ensures.reads c.in_ok-add.ensures c.in_ok-more-2.ensures.reads
 
 pub returns-clause-reads : goal.returns-clause-reads
-returns-clause-reads c = rw c.fitted.ensures (listing_closed (rw c.flags-test.false at c.flags.invariant))
+returns-clause-reads c = rw c.shrunk.ensures (listing_closed (rw c.flags-test.false at c.flags.invariant))
 
 pub returns-in_err-flag-clause-stops : goal.returns-in_err-flag-clause-stops
 returns-in_err-flag-clause-stops c =

@@ -14,7 +14,7 @@ funcs-preserved c =
 
 pub returns-clause-reads : goal.returns-clause-reads
 unfolding braced_functions
-returns-clause-reads c = rw c.fitted.ensures (braces_closed resource_function c.funcs.invariant (search rules) c.in_ok-bump.ensures.reads)
+returns-clause-reads c = rw c.shrunk.ensures (braces_closed resource_function c.funcs.invariant (search rules) c.in_ok-bump.ensures.reads)
 
 pub returns-in_err-func-clause-stops : goal.returns-in_err-func-clause-stops
 unfolding braced_functions

@@ -1,29 +1,29 @@
 use Rattle.std.proofs.lemmas.Result.{err_from_is_err_and}
-use Rattle.wit_syntax.specs.Notes.{IsBrokenStability}
+use Rattle.wit_syntax.specs.Metadata.{IsBrokenStability}
 use Rattle.wit_syntax.specs.Source.{scope_names, about}
 use Rattle.wit_syntax.proofs.Refusing.{refused_weaker}
 use Rattle.wit_first.proofs.Bridge.{refused_by, stability_agrees}
 use Rattle.wit_items.specs.Items.{scope_item}
-use Rattle.wit_item_entries.specs.Between.{IsWrongNames}
-use Rattle.wit_item_entries.specs.Body.{IsWrongBody, WrongNotes}
-use Rattle.wit_items.specs.Interfaces.{cells_of}
+use Rattle.wit_item_entries.specs.AddedNames.{IsWrongNames}
+use Rattle.wit_item_entries.specs.Body.{IsWrongBody, WrongMetadata}
+use Rattle.wit_items.specs.Interfaces.{resolved_scopes_of}
 use Rattle.wit_item_entries.proofs.WrongNames.{wrong_names}
 use Rattle.wit_item_entries.proofs.body.resolve_head.Goals as goal
 
-pub returns-in_err-notes-clause-refused : goal.returns-in_err-notes-clause-refused
-returns-in_err-notes-clause-refused c =
+pub returns-in_err-metadata-clause-refused : goal.returns-in_err-metadata-clause-refused
+returns-in_err-metadata-clause-refused c =
     let p = err_from_is_err_and c.from_residual.result c.from_residual.ensures.1 in
     let is = c.args.interfaces.now in
     let item = scope_item c.args.item.now in
-    rw (p.1, p.2) (refused_weaker (IsBrokenStability (about item.declared).attributes) (IsWrongBody c.args.types.now (cells_of is) is.by_name c.args.owner item) _ (λ f h. WrongNotes h) (refused_by (stability_agrees (about item.declared).attributes) c.in_err-notes.ensures.first))
+    rw (p.1, p.2) (refused_weaker (IsBrokenStability (about item.declared).attributes) (IsWrongBody c.args.types.now (resolved_scopes_of is) is.by_name c.args.owner item) _ (λ f h. WrongMetadata h) (refused_by (stability_agrees (about item.declared).attributes) c.in_err-metadata.ensures.first))
 
 pub returns-clause-stable : goal.returns-clause-stable
-returns-clause-stable c = (stability_agrees (about (scope_item c.args.item.now).declared).attributes).unbroken c.in_ok-notes.ensures.first
+returns-clause-stable c = (stability_agrees (about (scope_item c.args.item.now).declared).attributes).unbroken c.in_ok-metadata.ensures.first
 
 pub returns-in_err-names-clause-refused : goal.returns-in_err-names-clause-refused
 returns-in_err-names-clause-refused c =
     let p = err_from_is_err_and c.from_residual-in_err-names.result c.from_residual-in_err-names.ensures.1 in
-    let cs = cells_of c.args.interfaces.now in
+    let cs = resolved_scopes_of c.args.interfaces.now in
     let by_name = c.args.interfaces.now.by_name in
     let item = scope_item c.args.item.now in
     rw (p.1, p.2) (refused_weaker (IsWrongNames c.args.types.now cs by_name c.args.owner (scope_names item)) (IsWrongBody c.args.types.now cs by_name c.args.owner item) _ (wrong_names c.args.types.now cs by_name c.args.owner item) (rw c.requires.named at c.in_err-names.ensures.refused))

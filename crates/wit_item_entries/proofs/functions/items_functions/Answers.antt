@@ -4,7 +4,7 @@ use Rattle.std.proofs.lemmas.List.{map-append, take_more, append-nil}
 use Rattle.wit_tree.specs.declared.tree.InterfaceItem.{InterfaceItem}
 use Rattle.wit_syntax.specs.Source.{interface_part}
 use Rattle.wit_syntax.specs.Function.{SourceFunction, definition_functions, free_function, part_functions}
-use Rattle.wit_rules.specs.Held.{function_behind}
+use Rattle.wit_rules.specs.Borrowed.{function_view}
 use Rattle.wit_item_names.proofs.Usable.{parts_more}
 use Rattle.wit_item_entries.proofs.functions.items_functions.Goals.{in-TypeDef+in_ok-add_definition-in-TypeDef, in-Func+in_ok-push-in-Func, in-Use}
 use Rattle.wit_item_entries.proofs.functions.items_functions.Goals as goal
@@ -15,13 +15,13 @@ loop-part-preserved c =
     let i = c.loop-part.part-index in
     let x = c.part-item.result in
     let was = c.loop-part.invariant in
-    let front = flat_map part_functions (map interface_part (take i xs)) in
+    let prefix = flat_map part_functions (map interface_part (take i xs)) in
     let more : take (i + 1) xs ≡ take i xs ++ x ∷ [] = take_more xs i x c.loop-part-test.true ∙ ap (λ (y : InterfaceItem). take i xs ++ y ∷ []) (sym c.part-item.is) in
-    let grown : flat_map part_functions (map interface_part (take (i + 1) xs)) ≡ front ++ part_functions (interface_part x) = parts_more part_functions interface_part (take i xs) (take (i + 1) xs) x (interface_part x) more refl in
+    let extended : flat_map part_functions (map interface_part (take (i + 1) xs)) ≡ prefix ++ part_functions (interface_part x) = parts_more part_functions interface_part (take i xs) (take (i + 1) xs) x (interface_part x) more refl in
     elim c.match-part.branch [
       | in-TypeDef+in_ok-add_definition-in-TypeDef b ↦ (
           let d = b.in-TypeDef.definition in
-          rw b.functions-is (b.in_ok-add_definition-in-TypeDef.ensures ∙ ap (λ (l : List SourceFunction). l ++ definition_functions d.name d.body) was ∙ sym (grown ∙ ap (λ (y : InterfaceItem). front ++ part_functions (interface_part y)) b.in-TypeDef.is)))
-      | in-Func+in_ok-push-in-Func b ↦ rw b.functions-is (ap (map function_behind) b.in_ok-push-in-Func.ensures ∙ map-append function_behind c.loop-part.functions.items (_ ∷ []) ∙ ap (λ (l : List SourceFunction). l ++ free_function b.in-Func.function ∷ []) was ∙ sym (grown ∙ ap (λ (y : InterfaceItem). front ++ part_functions (interface_part y)) b.in-Func.is))
-      | in-Use b ↦ rw b.functions-is (was ∙ sym (grown ∙ ap (λ (y : InterfaceItem). front ++ part_functions (interface_part y)) b.in-Use.is ∙ append-nil front))
+          rw b.functions-is (b.in_ok-add_definition-in-TypeDef.ensures ∙ ap (λ (l : List SourceFunction). l ++ definition_functions d.name d.body) was ∙ sym (extended ∙ ap (λ (y : InterfaceItem). prefix ++ part_functions (interface_part y)) b.in-TypeDef.is)))
+      | in-Func+in_ok-push-in-Func b ↦ rw b.functions-is (ap (map function_view) b.in_ok-push-in-Func.ensures ∙ map-append function_view c.loop-part.functions.items (_ ∷ []) ∙ ap (λ (l : List SourceFunction). l ++ free_function b.in-Func.function ∷ []) was ∙ sym (extended ∙ ap (λ (y : InterfaceItem). prefix ++ part_functions (interface_part y)) b.in-Func.is))
+      | in-Use b ↦ rw b.functions-is (was ∙ sym (extended ∙ ap (λ (y : InterfaceItem). prefix ++ part_functions (interface_part y)) b.in-Use.is ∙ append-nil prefix))
     ]

@@ -13,22 +13,22 @@ use Rattle.wit_item_entries.proofs.functions.placed_table.Goals as goal
 pub loop-function-preserved : goal.loop-function-preserved
 loop-function-preserved c =
     let f = c.in-Some.function in
-    let front = c.loop-function.yielded in
+    let prefix = c.loop-function.yielded in
     let rest = into_iter_items c.next.new.self in
     let was = c.loop-function.invariant in
-    let all : front ++ f ∷ rest ≡ setters_placed is_getter_of c.args.functions.items = ap (λ l. front ++ l) (sym c.in-Some.ensures.steps.0) ∙ was.all in
-    let differ : AllDiffer (map made_name (front ++ f ∷ rest)) = rw all (placed_differ c.args.functions.items c.requires) in
+    let all : prefix ++ f ∷ rest ≡ setters_placed is_getter_of c.args.functions.items = ap (λ l. prefix ++ l) (sym c.in-Some.ensures.steps.0) ∙ was.all in
+    let differ : AllDiffer (map made_name (prefix ++ f ∷ rest)) = rw all (placed_differ c.args.functions.items c.requires) in
     record {
-      all = append_assoc front (f ∷ []) rest ∙ all;
-      entries = rw (c.in_ok-add_function.ensures, was.entries) (function_next front rest f differ);
+      all = append_assoc prefix (f ∷ []) rest ∙ all;
+      entries = rw (c.in_ok-add_function.ensures, was.entries) (function_next prefix rest f differ);
     }
 
 pub returns : goal.returns
 returns c =
-    let front = c.loop-function.yielded in
+    let prefix = c.loop-function.yielded in
     let left = into_iter_items c.loop-function.function-iterator in
     let was = c.loop-function.invariant in
     let over = c.in-None.ensures.steps in
     let none : left ≡ [] = nil_from_length left (search rules) in
-    let all : front ≡ setters_placed is_getter_of c.args.functions.items = sym (append-nil front) ∙ ap (λ l. front ++ l) (sym none) ∙ was.all in
+    let all : prefix ≡ setters_placed is_getter_of c.args.functions.items = sym (append-nil prefix) ∙ ap (λ l. prefix ++ l) (sym none) ∙ was.all in
     was.entries ∙ ap (map by_name) all ∙ table_placed c.args.functions.items

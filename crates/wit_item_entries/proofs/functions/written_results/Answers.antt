@@ -6,8 +6,8 @@ use Rattle.std.proofs.lemmas.Option.{slice_get_read, slice_get-map}
 use Rattle.wit_syntax.specs.Source.{Defined, local_name, meaning}
 use Rattle.wit_syntax.proofs.Orders.{take_next}
 use Rattle.wit_syntax.specs.Signature.{body_ok, meant_ok}
-use Rattle.wit_rules.specs.Signatures.{told_ok}
-use Rattle.wit_scopes.specs.Held.{name_behind}
+use Rattle.wit_rules.specs.Signatures.{stated_ok}
+use Rattle.wit_scopes.specs.Borrowed.{name_view}
 use Rattle.wit_item_entries.proofs.Results.{unmeant_before, results_same, results_more}
 use Rattle.wit_item_entries.proofs.functions.written_results.Goals.{in-Defined+in-Some+in_ok-from_str+in_ok-put, in-Defined+in_default-written_result, in_default}
 use Rattle.wit_item_entries.proofs.functions.written_results.Goals as goal
@@ -17,24 +17,24 @@ loop-name-preserved c =
     let names = c.args.names.now in
     let i = c.loop-name.name-index in
     let x = c.name-item.result in
-    let front = map name_behind (take i names) in
+    let prefix = map name_view (take i names) in
     let at : slice_get names i ≡ Some x = slice_get_read names _ i x refl c.loop-name-test.true c.name-item.is in
-    let more : map name_behind (take (i + 1) names) ≡ front ++ name_behind x ∷ [] = ap (map name_behind) (take_next names i x at) ∙ map-append name_behind (take i names) (x ∷ []) in
+    let more : map name_view (take (i + 1) names) ≡ prefix ++ name_view x ∷ [] = ap (map name_view) (take_next names i x at) ∙ map-append name_view (take i names) (x ∷ []) in
     let was = c.loop-name.invariant in
-    let all = map name_behind names in
+    let all = map name_view names in
     elim c.match-name.branch [
       | in-Defined+in-Some+in_ok-from_str+in_ok-put w ↦ (
           let d = w.in-Defined.defined.definition.now in
           let t = w.in-Some.ty in
-          let own : name_behind x ≡ Defined d = ap name_behind w.in-Defined.is in
-          let gives : told_ok (Some t) ≡ body_ok d.body = ap told_ok (sym w.in-Some.is) ∙ w.written_result.ensures in
-          let there : slice_get all i ≡ Some (Defined d) = slice_get-map name_behind names i ∙ ap (option_map name_behind) at ∙ ap Some own in
-          let free : meaning front (local_name (Defined d)) ≡ None = ap (λ l. meaning l (local_name (Defined d))) (sym (take-map name_behind i names)) ∙ unmeant_before all i (Defined d) c.requires there in
-          let next = results_more c.loop-name.results front d t gives free was in
+          let own : name_view x ≡ Defined d = ap name_view w.in-Defined.is in
+          let gives : stated_ok (Some t) ≡ body_ok d.body = ap stated_ok (sym w.in-Some.is) ∙ w.written_result.ensures in
+          let there : slice_get all i ≡ Some (Defined d) = slice_get-map name_view names i ∙ ap (option_map name_view) at ∙ ap Some own in
+          let free : meaning prefix (local_name (Defined d)) ≡ None = ap (λ l. meaning l (local_name (Defined d))) (sym (take-map name_view i names)) ∙ unmeant_before all i (Defined d) c.requires there in
+          let next = results_more c.loop-name.results prefix d t gives free was in
           rw (w.results-is, w.in_ok-put.ensures.ok, w.in_ok-from_str.ensures.ok, more, own) next)
       | in-Defined+in_default-written_result w ↦ (
-          let own = ap name_behind w.in-Defined.is in
-          let none : meant_ok (Some (Defined w.in-Defined.defined.definition.now)) ≡ None = sym (ap told_ok (sym w.in_default-written_result.is) ∙ w.written_result.ensures) in
-          rw (w.results-is, more, own) (results_same c.loop-name.results front _ none was))
-      | in_default w ↦ rw (w.results-is, more, ap name_behind w.in_default.is) (results_same c.loop-name.results front _ refl was)
+          let own = ap name_view w.in-Defined.is in
+          let none : meant_ok (Some (Defined w.in-Defined.defined.definition.now)) ≡ None = sym (ap stated_ok (sym w.in_default-written_result.is) ∙ w.written_result.ensures) in
+          rw (w.results-is, more, own) (results_same c.loop-name.results prefix _ none was))
+      | in_default w ↦ rw (w.results-is, more, ap name_view w.in_default.is) (results_same c.loop-name.results prefix _ refl was)
     ]

@@ -11,34 +11,34 @@ use Rattle.wit_syntax.specs.Function.{SourceFunction, name_types}
 use Rattle.wit_syntax.specs.Broken.{IsBrokenScope}
 use Rattle.wit_arena.specs.Resolving.{Required, env_of, Defines, IsWrongScope, WrongItself, names_in}
 use Rattle.wit_syntax.proofs.Refusing.{refused_weaker}
-use Rattle.wit_arena.proofs.Defining.{defines_more}
+use Rattle.wit_arena.proofs.DefinitionPart.{defines_more}
 use Rattle.wit_entries.specs.Requiring.{Requires}
-use Rattle.wit_entries.proofs.Requiring.{grown_then}
-use Rattle.wit_scopes.specs.Held.{name_behind, use_behind}
-use Rattle.wit_items.specs.Interfaces.{cells_of}
-use Rattle.wit_item_entries.specs.Between.{DefinesTurn, IsWrongHandleTurn, IsWrongNames, WrongScopeNames, WrongHandleNames}
-use Rattle.wit_item_entries.proofs.Behind.{turn_texts}
+use Rattle.wit_entries.proofs.Requiring.{extended_then}
+use Rattle.wit_scopes.specs.Borrowed.{name_view, use_view}
+use Rattle.wit_items.specs.Interfaces.{resolved_scopes_of}
+use Rattle.wit_item_entries.specs.AddedNames.{DefinesTurn, IsWrongHandleTurn, IsWrongNames, WrongScopeNames, WrongHandleNames}
+use Rattle.wit_item_entries.proofs.FunctionFaults.{turn_texts}
 use Rattle.wit_item_entries.proofs.Handled.{types-in_turn, wrong_handle_turn}
 use Rattle.wit_item_entries.proofs.names.resolve_names.Goals as goal
 
 pub returns-in_err-resolve_uses-clause-refused : goal.returns-in_err-resolve_uses-clause-refused
 returns-in_err-resolve_uses-clause-refused c =
     let p = err_from_is_err_and c.from_residual-in_err-resolve_uses.result c.from_residual-in_err-resolve_uses.ensures.1 in
-    let cs = cells_of c.args.interfaces.now in
+    let cs = resolved_scopes_of c.args.interfaces.now in
     let by_name = c.args.interfaces.now.by_name in
-    let xs = map name_behind c.args.names.now in
-    let uses : map use_behind c.deref.result.now ≡ used xs = ap (map use_behind) c.deref.ensures.value ∙ c.in_ok-uses.ensures.uses in
+    let xs = map name_view c.args.names.now in
+    let uses : map use_view c.deref.result.now ≡ used xs = ap (map use_view) c.deref.ensures.value ∙ c.in_ok-uses.ensures.uses in
     rw (p.1, p.2) (refused_weaker (λ f. (fns : List SourceFunction) → IsWrongScope cs by_name xs fns f) (IsWrongNames c.args.types.now cs by_name c.args.owner xs) _ (λ f h. WrongScopeNames h) (c.in_err-resolve_uses.ensures.refused xs uses))
 
 pub returns-in_err-turn-clause-refused : goal.returns-in_err-turn-clause-refused
 returns-in_err-turn-clause-refused c =
     let p = err_from_is_err_and c.from_residual-in_err-turn.result c.from_residual-in_err-turn.ensures.1 in
-    let cs = cells_of c.args.interfaces.now in
+    let cs = resolved_scopes_of c.args.interfaces.now in
     let by_name = c.args.interfaces.now.by_name in
     let o = c.args.owner in
     let old = c.args.types.now in
-    let xs = map name_behind c.args.names.now in
-    let names : map use_behind c.deref.result.now ≡ used xs = ap (map use_behind) c.deref.ensures.value ∙ c.in_ok-uses.ensures.uses in
+    let xs = map name_view c.args.names.now in
+    let names : map use_view c.deref.result.now ≡ used xs = ap (map use_view) c.deref.ensures.value ∙ c.in_ok-uses.ensures.uses in
     let first = c.resolve_uses.new.types in
     let scope = c.resolve_uses.new.scope in
     let uses : (s : Address) → Defines old first cs o s [] scope.names (used xs) = rw (names, c.in_ok-with_capacity.ensures) at c.in_ok-resolve_uses.ensures.defines in
@@ -49,10 +49,10 @@ returns-in_err-turn-clause-refused c =
 
 pub returns-clause-adds : goal.returns-clause-adds
 returns-clause-adds c =
-    let cs = cells_of c.args.interfaces.now in
+    let cs = resolved_scopes_of c.args.interfaces.now in
     let o = c.args.owner in
-    let xs = map name_behind c.args.names.now in
-    let names : map use_behind c.deref.result.now ≡ used xs = ap (map use_behind) c.deref.ensures.value ∙ c.in_ok-uses.ensures.uses in
+    let xs = map name_view c.args.names.now in
+    let names : map use_view c.deref.result.now ≡ used xs = ap (map use_view) c.deref.ensures.value ∙ c.in_ok-uses.ensures.uses in
     let scope = c.resolve_uses.new.scope in
     let after = c.resolve_types.new.scope in
     let now = after.names in
@@ -75,13 +75,13 @@ returns-clause-adds c =
       handled = subst (λ (before : List Required). Requires (env_of now) new (all_handles (flat_map name_types (used xs ++ ds))) before after.required.items) none (subst (λ (ts : List Written). Requires (env_of now) new (all_handles ts) scope.required.items after.required.items) (sym (types-in_turn xs all.order)) turn.handled);
     }
 
-pub returns-clause-grown : goal.returns-clause-grown
-returns-clause-grown c = grown_then c.args.types.now c.resolve_uses.new.types c.resolve_types.new.types c.in_ok-resolve_uses.ensures.grown c.in_ok-turn.ensures.grown
+pub returns-clause-extended : goal.returns-clause-extended
+returns-clause-extended c = extended_then c.args.types.now c.resolve_uses.new.types c.resolve_types.new.types c.in_ok-resolve_uses.ensures.extended c.in_ok-turn.ensures.extended
 
 pub invariant_of-result : goal.invariant_of-result
 invariant_of-result c =
-    let xs = map name_behind c.args.names.now in
-    let names : map use_behind c.deref.result.now ≡ used xs = ap (map use_behind) c.deref.ensures.value ∙ c.in_ok-uses.ensures.uses in
+    let xs = map name_view c.args.names.now in
+    let names : map use_view c.deref.result.now ≡ used xs = ap (map use_view) c.deref.ensures.value ∙ c.in_ok-uses.ensures.uses in
     let scope = c.resolve_uses.new.scope in
     let after = c.resolve_types.new.scope in
     let turn : DefinesTurn c.resolve_uses.new.types c.resolve_types.new.types scope.owner scope.names after.names xs c.in_ok-turn.turn.items scope.required.items after.required.items = c.in_ok-turn.ensures.defines in

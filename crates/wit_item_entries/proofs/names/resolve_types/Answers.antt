@@ -6,28 +6,28 @@ use Rattle.wit_syntax.specs.Scope.{rows_of, used, defined, AreDistinct}
 use Rattle.wit_syntax.specs.Function.{SourceFunction}
 use Rattle.wit_syntax.specs.Broken.{IsBrokenScope, MissingType, CyclicType}
 use Rattle.wit_syntax.specs.Fault.{missing_type_at, type_word}
-use Rattle.wit_arena.specs.Resolving.{env_of, AreLegalBodies, AreLegalNotes, names_in}
+use Rattle.wit_arena.specs.Resolving.{env_of, AreLegalBodies, AreLegalMetadata, names_in}
 use Rattle.wit_syntax.proofs.Refusing.{refused_weaker}
 use Rattle.wit_syntax.proofs.Turns.{distinct_names}
 use Rattle.wit_first.proofs.Bridge.{local_names_agree, local_names_differ, refused_by}
 use Rattle.wit_first.proofs.Orders.{order_broken}
-use Rattle.wit_scopes.specs.Held.{name_behind, definition_behind}
-use Rattle.wit_scopes.specs.Between.{AreOrdered, IsBrokenAmong, IsRepeatedId}
-use Rattle.wit_item_entries.specs.Between.{IsWrongHandleIn, IsWrongHandleTurn}
-use Rattle.wit_scopes.proofs.Turning.{in_their_turn, own_held, broken_twice, broken_definition, differ_names, turn_differs, legal_unfolded}
+use Rattle.wit_scopes.specs.Borrowed.{name_view, definition_view}
+use Rattle.wit_scopes.specs.DefinitionOrder.{AreOrdered, IsBrokenAmong, IsRepeatedId}
+use Rattle.wit_item_entries.specs.AddedNames.{IsWrongHandleIn, IsWrongHandleTurn}
+use Rattle.wit_scopes.proofs.Turning.{in_their_turn, own_borrowed, broken_twice, broken_definition, differ_names, turn_differs, legal_unfolded}
 use Rattle.wit_item_entries.proofs.names.resolve_types.Goals as goal
 
 pub returns-in_err-check_unique_names-clause-refused : goal.returns-in_err-check_unique_names-clause-refused
 returns-in_err-check_unique_names-clause-refused c =
     let p = err_from_is_err_and c.from_residual-in_err-check_unique_names.result c.from_residual-in_err-check_unique_names.ensures.1 in
-    let xs = map name_behind c.args.names.now in
+    let xs = map name_view c.args.names.now in
     let ids : List Id = c.deref.result.now in
     let are : ids ≡ map local_id (used xs ++ defined xs) = c.deref.ensures.value ∙ c.in_ok-written.ensures.names in
     rw (p.1, p.2) (refused_weaker (IsRepeatedId 14 (λ id. id.name.now) ids) (λ f. ((fns : List SourceFunction) → IsBrokenScope xs fns f) ⊎ IsWrongHandleTurn c.args.types.now c.args.scope.now.owner c.args.scope.now.names xs f) _ (λ f h. inl (broken_twice xs ids f are h)) (refused_by (local_names_agree ids) c.in_err-check_unique_names.ensures))
 
 pub ordered_turn-requires-clause-distinct : goal.ordered_turn-requires-clause-distinct
 ordered_turn-requires-clause-distinct c =
-    let xs = map name_behind c.args.names.now in
+    let xs = map name_view c.args.names.now in
     let ids : List Id = c.deref.result.now in
     let are : ids ≡ map local_id (used xs ++ defined xs) = c.deref.ensures.value ∙ c.in_ok-written.ensures.names in
     distinct_names xs (differ_names xs ids are (local_names_differ ids c.in_ok-check_unique_names.ensures))
@@ -35,7 +35,7 @@ ordered_turn-requires-clause-distinct c =
 pub returns-in_err-turn-clause-refused : goal.returns-in_err-turn-clause-refused
 returns-in_err-turn-clause-refused c =
     let p = err_from_is_err_and c.from_residual-in_err-turn.result c.from_residual-in_err-turn.ensures.1 in
-    let xs = map name_behind c.args.names.now in
+    let xs = map name_view c.args.names.now in
     rw (p.1, p.2) (elim c.in_err-turn.ensures.first [
       | inl memory ↦ inl memory
       | inr wrong ↦ inr (inl (λ fns. elim (order_broken missing_type_at 16 type_word (rows_of xs) _ wrong) [
@@ -46,26 +46,26 @@ returns-in_err-turn-clause-refused c =
 
 pub define_all-requires : goal.define_all-requires
 define_all-requires c =
-    let xs = map name_behind c.args.names.now in
-    let ds = map definition_behind c.deref-2.result.now in
-    let o : AreOrdered xs ds = subst (λ l. AreOrdered xs (map definition_behind l)) (sym c.deref-2.ensures.value) c.in_ok-turn.ensures.turn.ordered in
+    let xs = map name_view c.args.names.now in
+    let ds = map definition_view c.deref-2.result.now in
+    let o : AreOrdered xs ds = subst (λ l. AreOrdered xs (map definition_view l)) (sym c.deref-2.ensures.value) c.in_ok-turn.ensures.turn.ordered in
     let ids : List Id = c.deref.result.now in
     let are : ids ≡ map local_id (used xs ++ defined xs) = c.deref.ensures.value ∙ c.in_ok-written.ensures.names in
     let distinct : AreDistinct xs = distinct_names xs (differ_names xs ids are (local_names_differ ids c.in_ok-check_unique_names.ensures)) in
     record {
-      turn = in_their_turn xs ds (env_of c.args.scope.now.names) (own_held c.args.names.now) o c.requires.has;
+      turn = in_their_turn xs ds (env_of c.args.scope.now.names) (own_borrowed c.args.names.now) o c.requires.has;
       differ = turn_differs xs ds (names_in c.args.scope.now.names) o c.requires.listed distinct;
     }
 
 pub returns-in_err-define_all-clause-refused : goal.returns-in_err-define_all-clause-refused
 returns-in_err-define_all-clause-refused c =
     let p = err_from_is_err_and c.from_residual-in_err-define_all.result c.from_residual-in_err-define_all.ensures.1 in
-    let xs = map name_behind c.args.names.now in
-    let ds = map definition_behind c.deref-2.result.now in
+    let xs = map name_view c.args.names.now in
+    let ds = map definition_view c.deref-2.result.now in
     let old = c.args.types.now in
     let owner = c.args.scope.now.owner in
     let names = c.args.scope.now.names in
-    let o : AreOrdered xs ds = subst (λ l. AreOrdered xs (map definition_behind l)) (sym c.deref-2.ensures.value) c.in_ok-turn.ensures.turn.ordered in
+    let o : AreOrdered xs ds = subst (λ l. AreOrdered xs (map definition_view l)) (sym c.deref-2.ensures.value) c.in_ok-turn.ensures.turn.ordered in
     let ids : List Id = c.deref.result.now in
     let are : ids ≡ map local_id (used xs ++ defined xs) = c.deref.ensures.value ∙ c.in_ok-written.ensures.names in
     let distinct : AreDistinct xs = distinct_names xs (differ_names xs ids are (local_names_differ ids c.in_ok-check_unique_names.ensures)) in
@@ -76,17 +76,17 @@ returns-in_err-define_all-clause-refused c =
 
 pub returns-clause-legal : goal.returns-clause-legal
 returns-clause-legal c =
-    let xs = map name_behind c.args.names.now in
-    let ds = map definition_behind c.in_ok-turn.turn.definitions.items in
+    let xs = map name_view c.args.names.now in
+    let ds = map definition_view c.in_ok-turn.turn.definitions.items in
     let ids : List Id = c.deref.result.now in
     let are : ids ≡ map local_id (used xs ++ defined xs) = c.deref.ensures.value ∙ c.in_ok-written.ensures.names in
-    let notes : AreLegalNotes ds = rw c.deref-2.ensures.value at c.in_ok-define_all.ensures.noted in
+    let metadata : AreLegalMetadata ds = rw c.deref-2.ensures.value at c.in_ok-define_all.ensures.noted in
     let bodies : AreLegalBodies ds = rw c.deref-2.ensures.value at c.in_ok-define_all.ensures.legal in
-    legal_unfolded xs ds ids c.in_ok-turn.ensures.turn.ordered are (local_names_differ ids c.in_ok-check_unique_names.ensures) notes bodies
+    legal_unfolded xs ds ids c.in_ok-turn.ensures.turn.ordered are (local_names_differ ids c.in_ok-check_unique_names.ensures) metadata bodies
 
 pub returns-clause-defines : goal.returns-clause-defines
 returns-clause-defines c =
-    let xs = map name_behind c.args.names.now in
+    let xs = map name_view c.args.names.now in
     let turn = c.in_ok-turn.ensures.turn in
     let o = turn.ordered in
     let ids : List Id = c.deref.result.now in

@@ -7,17 +7,17 @@ use Rattle.wit_tree.specs.declared.tree.WorldSide.TheVariants.{Imported}
 use Rattle.wit_syntax.specs.Repeats.{AllDiffer}
 use Rattle.wit_syntax.specs.Sides.{SideFunction, items_on, names_on}
 use Rattle.wit_syntax.proofs.Repeated.{differ_none}
-use Rattle.wit_sides.specs.Sides.{taken_on}
+use Rattle.wit_sides.specs.Sides.{defined_on}
 use Rattle.wit_arena.specs.Resolving.{env_of}
 use Rattle.wit_syntax.proofs.Refusing.{refused_weaker}
 use Rattle.wit_refusals.specs.Names.{Name}
-use Rattle.wit_rules.specs.Held.{function_behind}
+use Rattle.wit_rules.specs.Borrowed.{function_view}
 use Rattle.wit_rules.specs.Signatures.{IsWrongFunctionAmong}
-use Rattle.wit_signatures.specs.Taken.{name_key, name_of_id, IsTwiceAmong}
+use Rattle.wit_signatures.specs.ForeignName.{name_key, name_of_id, IsTwiceAmong}
 use Rattle.wit_externs.specs.Clash.{IsClash, all_on, names_of_items}
-use Rattle.wit_item_entries.specs.Behind.{IsWrongFunctions, BrokenNames}
-use Rattle.wit_scopes.specs.Held.{name_behind}
-use Rattle.wit_item_entries.proofs.Behind.{all_names, front_folded, taken_before, wrong_clash, wrong_functions}
+use Rattle.wit_item_entries.specs.FunctionFaults.{IsWrongFunctions, BrokenNames}
+use Rattle.wit_scopes.specs.Borrowed.{name_view}
+use Rattle.wit_item_entries.proofs.FunctionFaults.{all_names, prefix_folded, used_before, wrong_clash, wrong_functions}
 use Rattle.wit_item_entries.proofs.NoFunctions.{names_alone}
 use Rattle.wit_item_entries.proofs.signatures.resolve_signatures.Goals as goal
 
@@ -25,37 +25,37 @@ pub returns-then-not-have_upper_case-clause-differ : goal.returns-then-not-have_
 returns-then-not-have_upper_case-clause-differ c = λ side.
     let ids = c.args.names.now.turn.items in
     let lower : list_any (λ (id : Id). list_any is_ascii_uppercase id.name.now) ids ≡ false = ap (list_any (λ (id : Id). list_any is_ascii_uppercase id.name.now)) (sym c.deref.ensures.value) ∙ sym c.have_upper_case.ensures ∙ c.if-not-have_upper_case.true in
-    names_alone side (map name_behind c.args.held.now) ids c.args.written.now (omega (arith, c.if-written-eq0.true)) c.requires.turn lower
+    names_alone side (map name_view c.args.borrowed.now) ids c.args.written.now (omega (arith, c.if-written-eq0.true)) c.requires.turn lower
 
 pub returns-in_err-define_names-clause-refused : goal.returns-in_err-define_names-clause-refused
 returns-in_err-define_names-clause-refused c =
     let p = err_from_is_err_and c.from_residual-in_err-define_names.result c.from_residual-in_err-define_names.ensures.1 in
-    let xs = map name_behind c.args.held.now in
-    let fns = map function_behind c.args.written.now in
+    let xs = map name_view c.args.borrowed.now in
+    let fns = map function_view c.args.written.now in
     let ids = c.args.names.now.turn.items in
     let env = env_of c.args.names.now.types in
-    let before = c.args.taken.now.imports in
+    let before = c.args.in_use.now.imports in
     let same : before ++ map name_of_id c.deref-2.result.now ≡ map name_of_id ids = ap (λ (l : List Name). l ++ map name_of_id c.deref-2.result.now) (c.requires.nothing Imported) ∙ ap (map name_of_id) c.deref-2.ensures.value in
-    rw (p.1, p.2) (refused_weaker (IsTwiceAmong (before ++ map name_of_id c.deref-2.result.now)) (IsWrongFunctions env c.args.types.now xs fns) _ (λ f h. BrokenNames (front_folded xs (map SideFunction fns) ids f c.requires.turn (subst (λ (l : List Name). IsTwiceAmong l f) same h))) c.in_err-define_names.ensures.refused)
+    rw (p.1, p.2) (refused_weaker (IsTwiceAmong (before ++ map name_of_id c.deref-2.result.now)) (IsWrongFunctions env c.args.types.now xs fns) _ (λ f h. BrokenNames (prefix_folded xs (map SideFunction fns) ids f c.requires.turn (subst (λ (l : List Name). IsTwiceAmong l f) same h))) c.in_err-define_names.ensures.refused)
 
-pub returns-clause-taken : goal.returns-clause-taken
-returns-clause-taken c = λ some side.
-    let items = map SideFunction (map function_behind c.args.written.now) in
-    let before : taken_on side c.define_names.new.taken ≡ names_on side (map name_of_id c.args.names.now.turn.items) = taken_before side c.args.taken.now c.define_names.new.taken c.deref-2.result.now c.args.names.now.turn.items c.requires.nothing c.in_ok-define_names.ensures.defined c.deref-2.ensures.value in
+pub returns-clause-in_use : goal.returns-clause-in_use
+returns-clause-in_use c = λ some side.
+    let items = map SideFunction (map function_view c.args.written.now) in
+    let before : defined_on side c.define_names.new.in_use ≡ names_on side (map name_of_id c.args.names.now.turn.items) = used_before side c.args.in_use.now c.define_names.new.in_use c.deref-2.result.now c.args.names.now.turn.items c.requires.nothing c.in_ok-define_names.ensures.defined c.deref-2.ensures.value in
     c.in_ok-functions.ensures.defined side ∙ ap (λ (l : List Name). l ++ names_of_items (items_on side items)) before
 
 pub returns-clause-differ : goal.returns-clause-differ
 returns-clause-differ c = λ side.
     let ids = c.args.names.now.turn.items in
-    let items = map SideFunction (map function_behind c.args.written.now) in
-    let none : AllDiffer (map name_key (taken_on side c.args.taken.now)) = subst (λ (l : List Name). AllDiffer (map name_key l)) (sym (c.requires.nothing side)) differ_none in
-    let before : taken_on side c.define_names.new.taken ≡ names_on side (map name_of_id ids) = taken_before side c.args.taken.now c.define_names.new.taken c.deref-2.result.now ids c.requires.nothing c.in_ok-define_names.ensures.defined c.deref-2.ensures.value in
-    let all : taken_on side c.resolve_functions.new.taken ≡ all_on side ids items = c.in_ok-functions.ensures.defined side ∙ ap (λ (l : List Name). l ++ names_of_items (items_on side items)) before in
+    let items = map SideFunction (map function_view c.args.written.now) in
+    let none : AllDiffer (map name_key (defined_on side c.args.in_use.now)) = subst (λ (l : List Name). AllDiffer (map name_key l)) (sym (c.requires.nothing side)) differ_none in
+    let before : defined_on side c.define_names.new.in_use ≡ names_on side (map name_of_id ids) = used_before side c.args.in_use.now c.define_names.new.in_use c.deref-2.result.now ids c.requires.nothing c.in_ok-define_names.ensures.defined c.deref-2.ensures.value in
+    let all : defined_on side c.resolve_functions.new.in_use ≡ all_on side ids items = c.in_ok-functions.ensures.defined side ∙ ap (λ (l : List Name). l ++ names_of_items (items_on side items)) before in
     subst (λ (l : List Name). AllDiffer (map name_key l)) all (c.in_ok-functions.ensures.differ side (c.in_ok-define_names.ensures.differ side none))
 
 pub returns-clause-sound : goal.returns-clause-sound
 returns-clause-sound c =
-    let xs = map name_behind c.args.held.now in
+    let xs = map name_view c.args.borrowed.now in
     let ids = c.args.names.now.turn.items in
     let are = all_names xs ids c.args.names.now.types c.requires.turn c.args.names.now.listed in
     c.in_ok-functions.ensures.legal xs (record { names = are; results = c.in_ok-results.ensures })
@@ -63,14 +63,14 @@ returns-clause-sound c =
 pub returns-in_err-functions-clause-refused : goal.returns-in_err-functions-clause-refused
 returns-in_err-functions-clause-refused c =
     let p = err_from_is_err_and c.from_residual-in_err-functions.result c.from_residual-in_err-functions.ensures.1 in
-    let xs = map name_behind c.args.held.now in
-    let fns = map function_behind c.args.written.now in
+    let xs = map name_view c.args.borrowed.now in
+    let fns = map function_view c.args.written.now in
     let ids = c.args.names.now.turn.items in
     let env = env_of c.args.names.now.types in
     let es = c.resolve_functions.new.types in
     let are = all_names xs ids c.args.names.now.types c.requires.turn c.args.names.now.listed in
-    let taken = c.define_names.new.taken in
-    rw (p.1, p.2) (refused_weaker (λ f. IsWrongFunctionAmong env es xs fns f ⊎ IsClash (λ s. taken_on s taken) (map SideFunction fns) f) (IsWrongFunctions env es xs fns) _ (λ f h. elim h [
+    let in_use = c.define_names.new.in_use in
+    rw (p.1, p.2) (refused_weaker (λ f. IsWrongFunctionAmong env es xs fns f ⊎ IsClash (λ s. defined_on s in_use) (map SideFunction fns) f) (IsWrongFunctions env es xs fns) _ (λ f h. elim h [
       | inl wrong ↦ wrong_functions env es xs fns f wrong
-      | inr clash ↦ wrong_clash env es xs fns ids (λ s. taken_on s taken) f c.requires.turn (λ s. taken_before s c.args.taken.now taken c.deref-2.result.now ids c.requires.nothing c.in_ok-define_names.ensures.defined c.deref-2.ensures.value) clash
+      | inr clash ↦ wrong_clash env es xs fns ids (λ s. defined_on s in_use) f c.requires.turn (λ s. used_before s c.args.in_use.now in_use c.deref-2.result.now ids c.requires.nothing c.in_ok-define_names.ensures.defined c.deref-2.ensures.value) clash
     ]) (c.in_err-functions.ensures.refused xs (record { names = are; results = c.in_ok-results.ensures })))

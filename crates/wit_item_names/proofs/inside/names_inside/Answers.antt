@@ -15,10 +15,10 @@ use Rattle.wit_syntax.specs.Scope.{part_uses}
 use Rattle.wit_syntax.specs.Source.{TopName, TheWorld, world_part}
 use Rattle.wit_first.specs.Uses.{use_fault, uses_fault}
 use Rattle.wit_first.proofs.First.{in-all, in-following, in-parts, reports-in, reports_same}
-use Rattle.wit_scopes.specs.Held.{name_behind}
-use Rattle.wit_scopes.specs.Front.{AreNamesPlaced}
+use Rattle.wit_scopes.specs.Borrowed.{name_view}
+use Rattle.wit_scopes.specs.PlacedNames.{AreNamesPlaced}
 use Rattle.wit_scopes.proofs.Declaring.{one_more}
-use Rattle.wit_item_names.specs.Inside.{written_items, side_uses}
+use Rattle.wit_item_names.specs.InlineNames.{written_items, side_uses}
 use Rattle.wit_item_names.proofs.Placed.{all_more}
 use Rattle.wit_item_names.proofs.Usable.{among_flat, parts_more, use_has_path}
 use Rattle.wit_item_names.proofs.Written.{items_names, side_among, written_uses, unwritten_uses, names_written_in}
@@ -72,23 +72,23 @@ loop-part-preserved c =
     let more : take (i + 1) xs ≡ take i xs ++ x ∷ [] = take_more xs i x c.loop-part-test.true ∙ ap (λ y. take i xs ++ y ∷ []) (sym c.part-item.is) in
     let before = flat_map (written_items side) (map world_part (take i xs)) in
     let after = flat_map (written_items side) (map world_part (take (i + 1) xs)) in
-    let grown : after ≡ before ++ written_items side p = parts_more (written_items side) world_part (take i xs) (take (i + 1) xs) x p more refl in
+    let extended : after ≡ before ++ written_items side p = parts_more (written_items side) world_part (take i xs) (take (i + 1) xs) x p more refl in
     let at : slice_get xs i ≡ Some x = slice_get_read xs _ i x refl c.loop-part-test.true c.part-item.is in
     elim c.match-written_on.branch [
       | in-Some+in_ok-interface_names+in_ok-push w ↦ (
           let items = w.in-Some.items.now in
           let written = sym (ap lent w.in-Some.is) ∙ c.written_on.ensures in
-          let one : after ≡ before ++ items ∷ [] = grown ∙ ap (λ (l : List (List InterfaceItem)). before ++ l) (sym written) in
+          let one : after ≡ before ++ items ∷ [] = extended ∙ ap (λ (l : List (List InterfaceItem)). before ++ l) (sym written) in
           let e = w.in_ok-interface_names.ensures in
           let new = w.in_ok-push.ensures.items in
           rw w.inside-is (record {
-            names = one_more (λ ns. map name_behind ns.items) [] out _ _ (map (items_names top) before) (map (items_names top) after) (items_names top items) new was.names e.names (ap (map (items_names top)) one ∙ map-append (items_names top) before (items ∷ []));
+            names = one_more (λ ns. map name_view ns.items) [] out _ _ (map (items_names top) before) (map (items_names top) after) (items_names top items) new was.names e.names (ap (map (items_names top)) one ∙ map-append (items_names top) before (items ∷ []));
             placed = all_more (λ ns. AreNamesPlaced (map visited (foreign_interfaces files)) ns.items) out _ _ new was.placed e.placed;
             none = in-following (wrong files top side) xs i x at was.none (rw (written_uses side p items written) at e.first);
           }))
       | in_default w ↦ (
           let unwritten = sym (ap lent w.in_default.is) ∙ c.written_on.ensures in
-          let same : after ≡ before = grown ∙ ap (λ (l : List (List InterfaceItem)). before ++ l) (sym unwritten) ∙ append-nil before in
+          let same : after ≡ before = extended ∙ ap (λ (l : List (List InterfaceItem)). before ++ l) (sym unwritten) ∙ append-nil before in
           rw w.inside-is (record {
             names = rw same was.names;
             placed = was.placed;

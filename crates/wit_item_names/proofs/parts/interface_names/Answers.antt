@@ -6,13 +6,13 @@ use Rattle.std.proofs.lemmas.Option.{slice_get_read}
 use Rattle.std.proofs.lemmas.Result.{err_from_is_err_and}
 use Rattle.wit_tree.specs.declared.tree.InterfaceItem.{InterfaceItem}
 use Rattle.wit_tree.specs.declared.tree.PackageFile.{PackageFile}
-use Rattle.wit_syntax.specs.Crossing.{item_uses}
+use Rattle.wit_syntax.specs.ExternPart.{item_uses}
 use Rattle.wit_syntax.specs.Fault.{Fault}
 use Rattle.wit_syntax.specs.Source.{TopName, interface_part, part_names}
 use Rattle.wit_syntax.specs.Foreign.{visited, foreign_interfaces}
 use Rattle.wit_first.specs.Uses.{own_uses, use_fault, uses_fault}
 use Rattle.wit_first.proofs.First.{in-all, in-flat, in-following, reports-in, reports_same}
-use Rattle.wit_item_names.specs.Items.{part_behind}
+use Rattle.wit_item_names.specs.Items.{part_view}
 use Rattle.wit_item_names.proofs.Written.{item_own}
 use Rattle.wit_item_names.proofs.Placed.{names_none}
 use Rattle.wit_item_names.proofs.Usable.{among_flat, parts_more}
@@ -59,7 +59,7 @@ loop-part-preserved c =
     let xs = c.args.items.now in
     let i = c.loop-part.part-index in
     let x = c.part-item.result in
-    let q = part_behind c.interface_part.result in
+    let q = part_view c.interface_part.result in
     let was = c.loop-part.invariant in
     let e = c.in_ok-add_part.ensures in
     let own = ap own_uses c.interface_part.ensures ∙ item_own x in

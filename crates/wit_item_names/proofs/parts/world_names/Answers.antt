@@ -12,7 +12,7 @@ use Rattle.wit_syntax.specs.Source.{TopName, TheWorld, world_part, part_names}
 use Rattle.wit_syntax.specs.Scope.{part_uses}
 use Rattle.wit_first.specs.Uses.{own_uses, use_fault, uses_fault}
 use Rattle.wit_first.proofs.First.{in-all, in-following, in-parts, reports-in, reports_same}
-use Rattle.wit_item_names.specs.Items.{part_behind}
+use Rattle.wit_item_names.specs.Items.{part_view}
 use Rattle.wit_syntax.specs.Foreign.{visited, foreign_interfaces}
 use Rattle.wit_item_names.proofs.Placed.{names_none}
 use Rattle.wit_item_names.proofs.Written.{own_among}
@@ -36,7 +36,7 @@ add_part-requires c = record {
   paths = λ u among. (
       let xs = c.world_items-written.result.now in
       let i = c.loop-part.part-index in
-      let q = part_behind c.world_part.result in
+      let q = part_view c.world_part.result in
       let at : slice_get (map world_part xs) i ≡ Some q = slice_get-map world_part xs i ∙ ap (option_map world_part) (slice_get_read xs _ i c.part-item.result refl c.loop-part-test.true c.part-item.is) ∙ ap Some (sym c.world_part.ensures) in
       use_has_path c.args.files.now c.args.place (TheWorld c.args.world.now) u c.requires.item (rw c.world_items-written.ensures at (among_flat part_uses (map world_part xs) i q u at (own_among q u among))));
 }
@@ -60,7 +60,7 @@ loop-part-preserved c =
     let xs = c.world_items-written.result.now in
     let i = c.loop-part.part-index in
     let x = c.part-item.result in
-    let q = part_behind c.world_part.result in
+    let q = part_view c.world_part.result in
     let was = c.loop-part.invariant in
     let e = c.in_ok-add_part.ensures in
     let more : take (i + 1) xs ≡ take i xs ++ x ∷ [] = take_more xs i x c.loop-part-test.true ∙ ap (λ y. take i xs ++ y ∷ []) (sym c.part-item.is) in

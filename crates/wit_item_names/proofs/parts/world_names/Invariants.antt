@@ -5,14 +5,14 @@ use Rattle.wit_syntax.specs.Source.{world_part, part_names}
 use Rattle.wit_syntax.specs.Foreign.{visited, foreign_interfaces}
 use Rattle.wit_first.specs.First.{first_in}
 use Rattle.wit_first.specs.Uses.{own_uses, uses_fault}
-use Rattle.wit_scopes.specs.Front.{AreNamesPlaced}
-use Rattle.wit_scopes.specs.Held.{name_behind}
+use Rattle.wit_scopes.specs.PlacedNames.{AreNamesPlaced}
+use Rattle.wit_scopes.specs.Borrowed.{name_view}
 use Rattle.wit_files.specs.FileNames.{top_at}
 use Rattle.wit_item_names.proofs.parts.world_names.Given as goal
 
 abbrev pub invariant-loop-part : goal.invariant-loop-part
 invariant-loop-part l = record {
-  names : map name_behind l.names.items ≡ flat_map (part_names (top_at l.files l.place)) (map world_part (take l.part-index l.written));
+  names : map name_view l.names.items ≡ flat_map (part_names (top_at l.files l.place)) (map world_part (take l.part-index l.written));
   placed : AreNamesPlaced (map visited (foreign_interfaces l.files)) l.names.items;
   none : first_in (λ (x : WorldItem). uses_fault l.files (top_at l.files l.place) (own_uses (world_part x))) (take l.part-index l.written) ≡ None;
 }

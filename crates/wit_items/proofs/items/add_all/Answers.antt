@@ -12,7 +12,7 @@ use Rattle.wit_first.proofs.First.{in-flat, in-following, reports-in, reports_sa
 use Rattle.wit_syntax.proofs.Orders.{take_next}
 use Rattle.wit_top_names.proofs.Lost.{flat_more}
 use Rattle.wit_syntax.specs.Foreign.{visited, foreign_interfaces}
-use Rattle.wit_items.specs.Inside.{names_written}
+use Rattle.wit_items.specs.InlineNames.{names_written}
 use Rattle.wit_items.proofs.Placed.{items_none}
 use Rattle.wit_items.proofs.Written.{inside_none}
 use Rattle.wit_items.proofs.Usable.{filed_none}
@@ -47,11 +47,11 @@ loop-place-preserved c =
     let was = c.loop-place.invariant in
     let e = c.in_ok-add_items.ensures in
     let more : take (i + 1) files ≡ take i files ++ file ∷ [] = take_next files i file at in
-    let grown : all_items (take (i + 1) files) ≡ before ++ own = flat_more file_items (take i files) (take (i + 1) files) file more in
+    let extended : all_items (take (i + 1) files) ≡ before ++ own = flat_more file_items (take i files) (take (i + 1) files) file more in
     record {
-      items = e.items ∙ ap (λ l. l ++ own) was.items ∙ sym grown;
-      names = e.names ∙ ap (λ l. l ++ map scope_names own) was.names ∙ sym (map-append scope_names before own) ∙ ap (map scope_names) (sym grown);
-      inside = λ side. e.inside side ∙ ap (λ l. l ++ map (names_written side) own) (was.inside side) ∙ sym (map-append (names_written side) before own) ∙ ap (map (names_written side)) (sym grown);
+      items = e.items ∙ ap (λ l. l ++ own) was.items ∙ sym extended;
+      names = e.names ∙ ap (λ l. l ++ map scope_names own) was.names ∙ sym (map-append scope_names before own) ∙ ap (map scope_names) (sym extended);
+      inside = λ side. e.inside side ∙ ap (λ l. l ++ map (names_written side) own) (was.inside side) ∙ sym (map-append (names_written side) before own) ∙ ap (map (names_written side)) (sym extended);
       filed = e.filed was.filed;
       placed = e.placed was.placed;
       none = in-following (wrong files) files i file at was.none e.first;
@@ -66,19 +66,19 @@ returns-in_err-add_items-clause-first c =
     rw (p.1, p.2) (reports_same (sym (in-flat (item_uses_fault files) file_items files)) (reports-in (wrong files) files c.loop-place.place file _ at c.loop-place.invariant.none c.in_err-add_items.ensures.first))
 
 -- the files up to the place at which the loop ends
-all_taken : (files lent : List PackageFile) (place : ℕ) → lent ≡ files → length lent ≤ place → take place files ≡ files
-all_taken files lent place same past = take_all place files (subst (λ (l : List PackageFile). length l ≤ place) same past)
+all_used : (files lent : List PackageFile) (place : ℕ) → lent ≡ files → length lent ≤ place → take place files ≡ files
+all_used files lent place same past = take_all place files (subst (λ (l : List PackageFile). length l ≤ place) same past)
 
 pub returns-clause-items : goal.returns-clause-items
-returns-clause-items c = c.loop-place.invariant.items ∙ ap all_items (all_taken c.args.names.now c.args.files.now c.loop-place.place (sym c.requires.files) c.loop-place-test.false)
+returns-clause-items c = c.loop-place.invariant.items ∙ ap all_items (all_used c.args.names.now c.args.files.now c.loop-place.place (sym c.requires.files) c.loop-place-test.false)
 
 pub returns-clause-names : goal.returns-clause-names
-returns-clause-names c = c.loop-place.invariant.names ∙ ap (λ l. map scope_names (all_items l)) (all_taken c.args.names.now c.args.files.now c.loop-place.place (sym c.requires.files) c.loop-place-test.false)
+returns-clause-names c = c.loop-place.invariant.names ∙ ap (λ l. map scope_names (all_items l)) (all_used c.args.names.now c.args.files.now c.loop-place.place (sym c.requires.files) c.loop-place-test.false)
 
 pub returns-clause-inside : goal.returns-clause-inside
-returns-clause-inside c = λ side. c.loop-place.invariant.inside side ∙ ap (λ l. map (names_written side) (all_items l)) (all_taken c.args.names.now c.args.files.now c.loop-place.place (sym c.requires.files) c.loop-place-test.false)
+returns-clause-inside c = λ side. c.loop-place.invariant.inside side ∙ ap (λ l. map (names_written side) (all_items l)) (all_used c.args.names.now c.args.files.now c.loop-place.place (sym c.requires.files) c.loop-place-test.false)
 
 pub returns-clause-first : goal.returns-clause-first
 returns-clause-first c =
     let files = c.args.names.now in
-    in-flat (item_uses_fault files) file_items files ∙ ap (first_in (wrong files)) (sym (all_taken files c.args.files.now c.loop-place.place (sym c.requires.files) c.loop-place-test.false)) ∙ c.loop-place.invariant.none
+    in-flat (item_uses_fault files) file_items files ∙ ap (first_in (wrong files)) (sym (all_used files c.args.files.now c.loop-place.place (sym c.requires.files) c.loop-place-test.false)) ∙ c.loop-place.invariant.none

@@ -5,16 +5,16 @@ use Rattle.wit_syntax.specs.Source.{file_items, all_items, scope_names}
 use Rattle.wit_syntax.specs.Foreign.{visited, foreign_interfaces}
 use Rattle.wit_first.specs.First.{first_in}
 use Rattle.wit_first.specs.Uses.{item_uses_fault}
-use Rattle.wit_items.specs.Front.{AreItemsPlaced}
-use Rattle.wit_items.specs.Items.{item_behind, names_behind, AreFiled}
-use Rattle.wit_items.specs.Inside.{inside_behind, names_written}
+use Rattle.wit_items.specs.PlacedItems.{AreItemsPlaced}
+use Rattle.wit_items.specs.Items.{item_view, names_view, AreFiled}
+use Rattle.wit_items.specs.InlineNames.{inside_view, names_written}
 use Rattle.wit_items.proofs.items.add_all.Given as goal
 
 abbrev pub invariant-loop-place : goal.invariant-loop-place
 invariant-loop-place l = record {
-  items : map item_behind l.items.items ≡ all_items (take l.place l.names);
-  names : map names_behind l.items.items ≡ map scope_names (all_items (take l.place l.names));
-  inside : (side : WorldSide) → map (inside_behind side) l.items.items ≡ map (names_written side) (all_items (take l.place l.names));
+  items : map item_view l.items.items ≡ all_items (take l.place l.names);
+  names : map names_view l.items.items ≡ map scope_names (all_items (take l.place l.names));
+  inside : (side : WorldSide) → map (inside_view side) l.items.items ≡ map (names_written side) (all_items (take l.place l.names));
   filed : AreFiled l.names l.items.items;
   placed : AreItemsPlaced (map visited (foreign_interfaces l.names)) l.items.items;
   none : first_in (λ (file : PackageFile). first_in (item_uses_fault l.names) (file_items file)) (take l.place l.names) ≡ None;

@@ -14,14 +14,14 @@ use Rattle.wit_syntax.specs.Source.{TopName, TheInterface, TheWorld, Item, parts
 use Rattle.wit_syntax.specs.Foreign.{visited, foreign_interfaces}
 use Rattle.wit_first.specs.First.{first_in}
 use Rattle.wit_first.specs.Uses.{item_uses_fault, uses_fault}
-use Rattle.wit_first.proofs.First.{in-all, in-flat, in-following, none_both, or_none, reports_back, reports_front, reports-in, reports_same}
+use Rattle.wit_first.proofs.First.{in-all, in-flat, in-following, none_both, or_none, reports_back, reports_prefix, reports-in, reports_same}
 use Rattle.wit_files.specs.FileNames.{names_at_top}
 use Rattle.wit_top_names.proofs.Lost.{flat_more}
-use Rattle.wit_scopes.specs.Front.{AreNamesPlaced}
+use Rattle.wit_scopes.specs.PlacedNames.{AreNamesPlaced}
 use Rattle.wit_scopes.proofs.Declaring.{one_more}
-use Rattle.wit_items.specs.Items.{item_behind, names_behind}
-use Rattle.wit_item_names.specs.Inside.{side_uses}
-use Rattle.wit_items.specs.Inside.{inside_behind, names_written}
+use Rattle.wit_items.specs.Items.{item_view, names_view}
+use Rattle.wit_item_names.specs.InlineNames.{side_uses}
+use Rattle.wit_items.specs.InlineNames.{inside_view, names_written}
 use Rattle.wit_items.proofs.Placed.{item_placed, none_all, items_more}
 use Rattle.wit_item_names.proofs.Usable.{use_has_path}
 use Rattle.wit_items.proofs.Usable.{declared_among, item_among, item_here, filed_more}
@@ -64,7 +64,7 @@ returns-in_err-world_names-in-World-clause-first c =
     let at : slice_get xs i ≡ Some (ast.World c.in-World.world) = slice_get_read xs _ i c.item-item.result refl c.loop-item-test.true c.item-item.is ∙ ap Some c.in-World.is in
     let imported = uses_fault files top (flat_map (side_uses Imported) ps) in
     let exported = uses_fault files top (flat_map (side_uses Exported) ps) in
-    rw (p.1, p.2) (reports_same (whole files top xs file.decl_list.items.items c.declarations-declared.ensures) (reports-in (wrong files top) xs i (ast.World c.in-World.world) _ at c.loop-item.invariant.none (reports_same (sym (or_none (item_uses_fault files w) ∙ world_uses files top ps)) (reports_front (option_or imported exported) (rw top_is at c.in_err-world_names-in-World.ensures.first)))))
+    rw (p.1, p.2) (reports_same (whole files top xs file.decl_list.items.items c.declarations-declared.ensures) (reports-in (wrong files top) xs i (ast.World c.in-World.world) _ at c.loop-item.invariant.none (reports_same (sym (or_none (item_uses_fault files w) ∙ world_uses files top ps)) (reports_prefix (option_or imported exported) (rw top_is at c.in_err-world_names-in-World.ensures.first)))))
 
 pub returns-in_err-names_inside-in-World-clause-first : goal.returns-in_err-names_inside-in-World-clause-first
 returns-in_err-names_inside-in-World-clause-first c =
@@ -80,7 +80,7 @@ returns-in_err-names_inside-in-World-clause-first c =
     let at : slice_get xs i ≡ Some (ast.World c.in-World.world) = slice_get_read xs _ i c.item-item.result refl c.loop-item-test.true c.item-item.is ∙ ap Some c.in-World.is in
     let imported = uses_fault files top (flat_map (side_uses Imported) ps) in
     let exported = uses_fault files top (flat_map (side_uses Exported) ps) in
-    rw (p.1, p.2) (reports_same (whole files top xs file.decl_list.items.items c.declarations-declared.ensures) (reports-in (wrong files top) xs i (ast.World c.in-World.world) _ at c.loop-item.invariant.none (reports_same (sym (or_none (item_uses_fault files w) ∙ world_uses files top ps)) (reports_back (rw top_is at c.in_ok-world_names-in-World.ensures.first) (reports_front exported (rw top_is at c.in_err-names_inside-in-World.ensures.first))))))
+    rw (p.1, p.2) (reports_same (whole files top xs file.decl_list.items.items c.declarations-declared.ensures) (reports-in (wrong files top) xs i (ast.World c.in-World.world) _ at c.loop-item.invariant.none (reports_same (sym (or_none (item_uses_fault files w) ∙ world_uses files top ps)) (reports_back (rw top_is at c.in_ok-world_names-in-World.ensures.first) (reports_prefix exported (rw top_is at c.in_err-names_inside-in-World.ensures.first))))))
 
 pub returns-in_err-names_inside-in-World-2-clause-first : goal.returns-in_err-names_inside-in-World-2-clause-first
 returns-in_err-names_inside-in-World-2-clause-first c =
@@ -151,29 +151,29 @@ loop-item-preserved c =
     let was = c.loop-item.invariant in
     let files = c.args.files.now in
     let top_is = ap names_at_top c.requires.file in
-    let front = map visited (foreign_interfaces files) in
+    let prefix = map visited (foreign_interfaces files) in
     let more : take (i + 1) xs ≡ take i xs ++ x ∷ [] = take_more xs i x c.loop-item-test.true ∙ ap (λ y. take i xs ++ y ∷ []) (sym c.item-item.is) in
     let here : slice_get xs i ≡ Some x = slice_get_read xs _ i x refl c.loop-item-test.true c.item-item.is in
-    let grown : all ≡ before ++ declared_items top x = flat_more (declared_items top) (take i xs) (take (i + 1) xs) x more in
+    let extended : all ≡ before ++ declared_items top x = flat_more (declared_items top) (take i xs) (take (i + 1) xs) x more in
     elim c.match-item.branch [
       | in-Interface+in_ok-interface_names-in-Interface+in_ok-push-in-Interface b ↦ (
           let w : Item = record { top = top; declared = TheInterface b.in-Interface.interface } in
-          let one : all ≡ before ++ w ∷ [] = grown ∙ ap (λ (d : AstItem). before ++ declared_items top d) b.in-Interface.is in
+          let one : all ≡ before ++ w ∷ [] = extended ∙ ap (λ (d : AstItem). before ++ declared_items top d) b.in-Interface.is in
           let at : slice_get xs i ≡ Some (ast.Interface b.in-Interface.interface) = slice_get_read xs _ i x refl c.loop-item-test.true c.item-item.is ∙ ap Some b.in-Interface.is in
           let among : Contains (file_items file) w = rw c.declarations-declared.ensures at (declared_among (declared_items top) xs i _ w at refl) in
           let new = b.in_ok-push-in-Interface.ensures in
           let e = rw (b.deref.ensures.value, top_is) at b.in_ok-interface_names-in-Interface.ensures in
           rw b.items-is (record {
-            items = one_more item_behind (map item_behind old) out _ _ before all w new was.items refl one;
-            names = one_more names_behind (map names_behind old) out _ _ (map scope_names before) (map scope_names all) (scope_names w) new was.names e.names (ap (map scope_names) one ∙ map-append scope_names before (w ∷ []));
-            inside = λ side. one_more (inside_behind side) (map (inside_behind side) old) out _ _ (map (names_written side) before) (map (names_written side) all) (names_written side w) new (was.inside side) (inside_is _ w (ap (map _) b.new.ensures.items ∙ sym (interface_inside Imported top b.in-Interface.interface)) (ap (map _) b.new-in-Interface.ensures.items ∙ sym (interface_inside Exported top b.in-Interface.interface)) side) (ap (map (names_written side)) one ∙ map-append (names_written side) before (w ∷ []));
+            items = one_more item_view (map item_view old) out _ _ before all w new was.items refl one;
+            names = one_more names_view (map names_view old) out _ _ (map scope_names before) (map scope_names all) (scope_names w) new was.names e.names (ap (map scope_names) one ∙ map-append scope_names before (w ∷ []));
+            inside = λ side. one_more (inside_view side) (map (inside_view side) old) out _ _ (map (names_written side) before) (map (names_written side) all) (names_written side w) new (was.inside side) (inside_is _ w (ap (map _) b.new.ensures.items ∙ sym (interface_inside Imported top b.in-Interface.interface)) (ap (map _) b.new-in-Interface.ensures.items ∙ sym (interface_inside Exported top b.in-Interface.interface)) side) (ap (map (names_written side)) one ∙ map-append (names_written side) before (w ∷ []));
             filed = λ before. filed_more files out _ _ new (was.filed before) (record { file = c.requires.file; among = item_among files c.args.place file w c.requires.file among });
-            placed = λ before. items_more front out _ _ new (was.placed before) (item_placed front _ e.placed (none_all (λ ns. AreNamesPlaced front ns.items) _ b.new.ensures.items) (none_all (λ ns. AreNamesPlaced front ns.items) _ b.new-in-Interface.ensures.items));
+            placed = λ before. items_more prefix out _ _ new (was.placed before) (item_placed prefix _ e.placed (none_all (λ ns. AreNamesPlaced prefix ns.items) _ b.new.ensures.items) (none_all (λ ns. AreNamesPlaced prefix ns.items) _ b.new-in-Interface.ensures.items));
             none = in-following (wrong files top) xs i x here was.none (ap (wrong files top) b.in-Interface.is ∙ or_none (item_uses_fault files w) ∙ interface_uses files top b.in-Interface.interface ∙ e.first);
           }))
       | in-World+in_ok-world_names-in-World+in_ok-names_inside-in-World+in_ok-names_inside-in-World-2+in_ok-push-in-World b ↦ (
           let w : Item = record { top = top; declared = TheWorld b.in-World.world } in
-          let one : all ≡ before ++ w ∷ [] = grown ∙ ap (λ (d : AstItem). before ++ declared_items top d) b.in-World.is in
+          let one : all ≡ before ++ w ∷ [] = extended ∙ ap (λ (d : AstItem). before ++ declared_items top d) b.in-World.is in
           let at : slice_get xs i ≡ Some (ast.World b.in-World.world) = slice_get_read xs _ i x refl c.loop-item-test.true c.item-item.is ∙ ap Some b.in-World.is in
           let among : Contains (file_items file) w = rw c.declarations-declared.ensures at (declared_among (declared_items top) xs i _ w at refl) in
           let new = b.in_ok-push-in-World.ensures in
@@ -181,15 +181,15 @@ loop-item-preserved c =
           let imported = rw top_is at b.in_ok-names_inside-in-World.ensures in
           let exported = rw top_is at b.in_ok-names_inside-in-World-2.ensures in
           rw b.items-is (record {
-            items = one_more item_behind (map item_behind old) out _ _ before all w new was.items refl one;
-            names = one_more names_behind (map names_behind old) out _ _ (map scope_names before) (map scope_names all) (scope_names w) new was.names e.names (ap (map scope_names) one ∙ map-append scope_names before (w ∷ []));
-            inside = λ side. one_more (inside_behind side) (map (inside_behind side) old) out _ _ (map (names_written side) before) (map (names_written side) all) (names_written side w) new (was.inside side) (inside_is _ w imported.names exported.names side) (ap (map (names_written side)) one ∙ map-append (names_written side) before (w ∷ []));
+            items = one_more item_view (map item_view old) out _ _ before all w new was.items refl one;
+            names = one_more names_view (map names_view old) out _ _ (map scope_names before) (map scope_names all) (scope_names w) new was.names e.names (ap (map scope_names) one ∙ map-append scope_names before (w ∷ []));
+            inside = λ side. one_more (inside_view side) (map (inside_view side) old) out _ _ (map (names_written side) before) (map (names_written side) all) (names_written side w) new (was.inside side) (inside_is _ w imported.names exported.names side) (ap (map (names_written side)) one ∙ map-append (names_written side) before (w ∷ []));
             filed = λ before. filed_more files out _ _ new (was.filed before) (record { file = c.requires.file; among = item_among files c.args.place file w c.requires.file among });
-            placed = λ before. items_more front out _ _ new (was.placed before) (item_placed front _ e.placed imported.placed exported.placed);
+            placed = λ before. items_more prefix out _ _ new (was.placed before) (item_placed prefix _ e.placed imported.placed exported.placed);
             none = in-following (wrong files top) xs i x here was.none (ap (wrong files top) b.in-World.is ∙ or_none (item_uses_fault files w) ∙ world_uses files top (parts w) ∙ none_both e.first (none_both imported.first exported.first));
           }))
       | in-Use b ↦ (
-          let skipped : all ≡ before = grown ∙ ap (λ (d : AstItem). before ++ declared_items top d) b.in-Use.is ∙ append-nil before in
+          let skipped : all ≡ before = extended ∙ ap (λ (d : AstItem). before ++ declared_items top d) b.in-Use.is ∙ append-nil before in
           rw b.items-is (record {
             items = rw skipped was.items;
             names = rw skipped was.names;

@@ -6,16 +6,16 @@ use Rattle.wit_syntax.specs.Source.{top_names, declared_items, scope_names}
 use Rattle.wit_syntax.specs.Foreign.{visited, foreign_interfaces}
 use Rattle.wit_first.specs.First.{first_in}
 use Rattle.wit_first.specs.Uses.{item_uses_fault}
-use Rattle.wit_items.specs.Front.{AreItemsPlaced}
-use Rattle.wit_items.specs.Items.{item_behind, names_behind, AreFiled}
-use Rattle.wit_items.specs.Inside.{inside_behind, names_written}
+use Rattle.wit_items.specs.PlacedItems.{AreItemsPlaced}
+use Rattle.wit_items.specs.Items.{item_view, names_view, AreFiled}
+use Rattle.wit_items.specs.InlineNames.{inside_view, names_written}
 use Rattle.wit_items.proofs.items.add_items.Given as goal
 
 abbrev pub invariant-loop-item : goal.invariant-loop-item
 invariant-loop-item l = record {
-  items : map item_behind l.items.items ≡ map item_behind l.fn.items.items ++ flat_map (declared_items (top_names l.file)) (take l.item-index l.declared);
-  names : map names_behind l.items.items ≡ map names_behind l.fn.items.items ++ map scope_names (flat_map (declared_items (top_names l.file)) (take l.item-index l.declared));
-  inside : (side : WorldSide) → map (inside_behind side) l.items.items ≡ map (inside_behind side) l.fn.items.items ++ map (names_written side) (flat_map (declared_items (top_names l.file)) (take l.item-index l.declared));
+  items : map item_view l.items.items ≡ map item_view l.fn.items.items ++ flat_map (declared_items (top_names l.file)) (take l.item-index l.declared);
+  names : map names_view l.items.items ≡ map names_view l.fn.items.items ++ map scope_names (flat_map (declared_items (top_names l.file)) (take l.item-index l.declared));
+  inside : (side : WorldSide) → map (inside_view side) l.items.items ≡ map (inside_view side) l.fn.items.items ++ map (names_written side) (flat_map (declared_items (top_names l.file)) (take l.item-index l.declared));
   filed : AreFiled l.files l.fn.items.items → AreFiled l.files l.items.items;
   placed : AreItemsPlaced (map visited (foreign_interfaces l.files)) l.fn.items.items → AreItemsPlaced (map visited (foreign_interfaces l.files)) l.items.items;
   none : first_in (λ (d : AstItem). first_in (item_uses_fault l.files) (declared_items (top_names l.file) d)) (take l.item-index l.declared) ≡ None;

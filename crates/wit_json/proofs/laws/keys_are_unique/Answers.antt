@@ -1,4 +1,4 @@
-use Rattle.wit_json.proofs.Keys.{group_keys}
+use Rattle.wit_json.proofs.DistinctKeys.{group_keys}
 use Rattle.wit_json.proofs.laws.keys_are_unique.Goals as goal
 
 pub returns : goal.returns

@@ -1,4 +1,4 @@
-use Rattle.wit_json.proofs.Keys.{group_keys}
+use Rattle.wit_json.proofs.DistinctKeys.{group_keys}
 use Rattle.wit_json_laws.specs.Laws.{group_of}
 use Rattle.wit_json_laws.proofs.Owned.{own_maps}
 use Rattle.wit_json_laws.proofs.laws.keys_are_unique.Goals as goal

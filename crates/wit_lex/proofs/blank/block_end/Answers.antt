@@ -82,7 +82,7 @@ pub returns-clause-endless : goal.returns-clause-endless
 returns-clause-endless c =
     let i = c.loop-slash.invariant in
     record {
-      front = c.requires;
+      prefix = c.requires;
       depth = c.loop-slash.depth;
       place = _;
       nested = nested_last c.args.bytes.now c.args.from c.loop-slash.depth c.loop-slash.at i.4 i.2 i.1 c.in_default.ensures.none;

@@ -5,5 +5,5 @@ use Rattle.wit_links.proofs.externs.declared_externs.Goals as goal
 pub world_externs-requires : goal.world_externs-requires
 world_externs-requires c = record { item = subst (HasItem c.args.interfaces.now.files c.args.place) c.declared_world-world.ensures c.requires.item }
 
-pub returns-clause-behind : goal.returns-clause-behind
-returns-clause-behind c = rw c.declared_world-world.ensures c.world_externs.ensures.behind
+pub returns-clause-rest_after : goal.returns-clause-rest_after
+returns-clause-rest_after c = rw c.declared_world-world.ensures c.world_externs.ensures.rest_after

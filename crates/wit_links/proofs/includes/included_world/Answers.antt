@@ -1,7 +1,7 @@
 use Rattle.std.proofs.Common.{◌≡◌, sym, ap, ◌∙◌}
 use Rattle.wit_syntax.specs.Address.{package_of}
 use Rattle.wit_syntax.specs.Source.{Foreign, leads}
-use Rattle.wit_top_names.specs.Tops.{target_behind}
+use Rattle.wit_top_names.specs.Tops.{target_view}
 use Rattle.wit_item_names.specs.Items.{entry_at, world_entry, world_at}
 use Rattle.wit_files.specs.FileNames.{top_at}
 use Rattle.wit_links.proofs.includes.included_world.Goals as goal
@@ -12,5 +12,5 @@ returns-in-Foreign c =
     let top = top_at files c.args.place in
     let p = package_of c.in-Foreign.«package».now in
     let id = c.in-Foreign.name in
-    let lead : leads top c.args.path.now ≡ Foreign p id = sym c.target.ensures ∙ ap target_behind c.in-Foreign.is in
+    let lead : leads top c.args.path.now ≡ Foreign p id = sym c.target.ensures ∙ ap target_view c.in-Foreign.is in
     c.world_of.ensures ∙ ap world_entry (c.entry_of.ensures ∙ ap (entry_at files) lead) ∙ ap (world_at files c.args.worlds.now.by_name) (sym lead)

@@ -1,9 +1,9 @@
 use Rattle.std.proofs.Common.{◌⊎◌, true, map, inl, inr, refl, sym, ap, ◌∙◌}
 use Rattle.std.proofs.lemmas.Result.{err_from_is_err_and}
 use Rattle.wit_type_tree.specs.declared.leaves.Id.{Id}
-use Rattle.wit_syntax.specs.Source.{Target, Including, leads}
+use Rattle.wit_syntax.specs.Source.{Target, IncludePart, leads}
 use Rattle.wit_syntax.specs.Fault.{fault}
-use Rattle.wit_syntax.specs.Notes.{IsBrokenStability}
+use Rattle.wit_syntax.specs.Metadata.{IsBrokenStability}
 use Rattle.wit_arena.specs.Whole.{renamed}
 use Rattle.wit_syntax.proofs.Refusing.{refused_weaker}
 use Rattle.wit_first.proofs.Bridge.{refused_by, stability_agrees}
@@ -19,7 +19,7 @@ returns-in-None-clause-refused c =
     let top = top_at files c.args.place in
     let i = c.args.include.now in
     let to : Target = leads top i.from in
-    let visited = part_visited files c.args.place (Including i) i.attributes.items true i.from c.requires.part refl in
+    let visited = part_visited files c.args.place (IncludePart i) i.attributes.items true i.from c.requires.part refl in
     elim c.refuse.ensures [
       | inl memory ↦ inl memory
       | inr says ↦ inr (inr (record {
@@ -36,7 +36,7 @@ returns-clause-is c =
     let to : Target = leads (top_at c.args.worlds.now.interfaces.now.files c.args.place) i.from in
     let found = sym c.included_world.ensures ∙ c.in-Some.is in (
       rw c.deref-3.ensures.value at c.in_ok-stability.ensures,
-      world_found c.args.worlds.now.interfaces.now.files by_name ws to c.in-Some.id (worlds_found c.args.worlds.now.interfaces.now.files ws by_name c.args.worlds.now.found) c.args.worlds.now.front found,
+      world_found c.args.worlds.now.interfaces.now.files by_name ws to c.in-Some.id (worlds_found c.args.worlds.now.interfaces.now.files ws by_name c.args.worlds.now.found) c.args.worlds.now.prefix found,
       c.in_ok-names.ensures ∙ ap (map renamed) c.deref-2.ensures.value,
       ap (λ (id : Id). id.span) c.path_id-path.ensures,
     )

@@ -6,15 +6,15 @@ use Rattle.std.proofs.lemmas.Option.{slice_get-get_or, slice_get-map}
 use Rattle.std.proofs.lemmas.Result.{err_from_is_err_and}
 use Rattle.wit_tree.specs.declared.tree.WorldItem.{WorldItem}
 use Rattle.wit_tree.specs.declared.tree.WorldItem.TheVariants as world_item
-use Rattle.wit_syntax.specs.Notes.{IsBrokenStability}
-use Rattle.wit_syntax.specs.Source.{Item, TheWorld, Including, world_part}
+use Rattle.wit_syntax.specs.Metadata.{IsBrokenStability}
+use Rattle.wit_syntax.specs.Source.{Item, TheWorld, IncludePart, world_part}
 use Rattle.wit_arena.specs.Resolving.{IsLostInclude}
 use Rattle.wit_arena.specs.Resolved.{worlds_at, IsBrokenItemStability, OfInclude}
 use Rattle.wit_syntax.proofs.Refusing.{refused_weaker}
 use Rattle.wit_syntax.proofs.Found.{contains_at}
 use Rattle.wit_items.specs.Items.{others_of}
 use Rattle.wit_links.specs.Includes.{IsLost, AreStable}
-use Rattle.wit_links.proofs.Including.{included, AreIncluded, included_none, included_next, no_include, included_past, included_more, includes_are, included_among, lost_among, stable_none, stable_more}
+use Rattle.wit_links.proofs.IncludePart.{included, AreIncluded, included_none, included_next, no_include, included_past, included_more, includes_are, included_among, lost_among, stable_none, stable_more}
 use Rattle.wit_links.proofs.includes.resolve_includes.Goals.{in-Include+in_ok-include+in_ok-push, in_default}
 use Rattle.wit_files.specs.FileNames.{top_at}
 use Rattle.wit_links.proofs.includes.resolve_includes.Goals as goal
@@ -36,7 +36,7 @@ resolve_include-requires c =
     let i = c.in-Include.include in
     let at = part_at w.items.items c.world_items-part-items.result.now k c.part-item.result (world_item.Include i) c.world_items-part-items.ensures c.loop-part-test.true c.part-item.is c.in-Include.is in
     let there = slice_get-map world_part w.items.items k ∙ ap (option_map world_part) at in
-    record { part = record { declared = TheWorld w; item = c.requires.item; among = contains_at (map world_part w.items.items) k (Including i) there } }
+    record { part = record { declared = TheWorld w; item = c.requires.item; among = contains_at (map world_part w.items.items) k (IncludePart i) there } }
 
 pub returns-in_err-include-clause-refused : goal.returns-in_err-include-clause-refused
 returns-in_err-include-clause-refused c =

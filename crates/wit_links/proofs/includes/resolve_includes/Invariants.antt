@@ -2,7 +2,7 @@ use Rattle.std.proofs.Common.{take}
 use Rattle.wit_arena.specs.Resolved.{worlds_at}
 use Rattle.wit_items.specs.Items.{others_of}
 use Rattle.wit_links.specs.Includes.{AreStable}
-use Rattle.wit_links.proofs.Including.{included, AreIncluded}
+use Rattle.wit_links.proofs.IncludePart.{included, AreIncluded}
 use Rattle.wit_files.specs.FileNames.{top_at}
 use Rattle.wit_links.proofs.includes.resolve_includes.Given as goal
 

@@ -2,8 +2,8 @@ use Rattle.std.proofs.Common.{◌≡◌, ◌∙◌, ℕ, List, ap, not, true, fa
 use denote.Ref.{Bor}
 use Rattle.memchr.specs.Find.{IsFirstByte, is_byte}
 use Rattle.wit_syntax.specs.Docs.{said}
-use Rattle.wit_notes.specs.Plain.{all_lines}
-use Rattle.wit_notes.proofs.Plain.{first-common, no_return-found}
+use Rattle.wit_notes.specs.PlainComments.{all_lines}
+use Rattle.wit_notes.proofs.PlainComments.{first-common, no_return-found}
 use Rattle.wit_notes.proofs.comments.common_lines.Goals as goal
 
 pub returns-then-is_none : goal.returns-then-is_none

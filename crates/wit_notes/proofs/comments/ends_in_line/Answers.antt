@@ -1,6 +1,6 @@
 use Rattle.std.proofs.Common.{◌≡◌, ◌<◌, ◌-◌, ◌==◌, length, slice_index, arith}
-use Rattle.wit_notes.specs.Plain.{ends_in_line}
-use Rattle.wit_notes.proofs.Plain.{last-line}
+use Rattle.wit_notes.specs.PlainComments.{ends_in_line}
+use Rattle.wit_notes.proofs.PlainComments.{last-line}
 use Rattle.wit_notes.proofs.comments.ends_in_line.Goals as goal
 
 pub returns : goal.returns

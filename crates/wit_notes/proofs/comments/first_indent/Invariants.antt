@@ -1,6 +1,6 @@
 use Rattle.std.proofs.Common.{◌≡◌, map, drop}
 use Rattle.wit_syntax.specs.Docs.{said}
-use Rattle.wit_notes.specs.Plain.{first_indent}
+use Rattle.wit_notes.specs.PlainComments.{first_indent}
 use Rattle.wit_notes.proofs.comments.first_indent.Given as goal
 
 abbrev pub invariant-loop-comment : goal.invariant-loop-comment

@@ -1,6 +1,6 @@
 use Rattle.std.proofs.Common.{rules, ◌≡◌, ◌∙◌, sym, false}
-use Rattle.wit_notes.specs.Plain.{ends_in_line}
-use Rattle.wit_notes.proofs.Plain.{pushed-lines, pushed-plain}
+use Rattle.wit_notes.specs.PlainComments.{ends_in_line}
+use Rattle.wit_notes.proofs.PlainComments.{pushed-lines, pushed-plain}
 use Rattle.wit_notes.proofs.comments.push_plain.Goals as goal
 
 pub returns-then-ends_in_line : goal.returns-then-ends_in_line

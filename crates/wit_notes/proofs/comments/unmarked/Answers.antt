@@ -1,11 +1,11 @@
 use Rattle.std.proofs.Common.{◌≡◌, List, ◌∙◌, ap, sym, Option, Some}
 use Rattle.std.specs.Prelude.{ℕ, codes}
 use Rattle.std.specs.Option.{option_copied}
-use Rattle.wit_names.specs.Front.{behind}
+use Rattle.wit_names.specs.Prefix.{rest_after}
 use Rattle.wit_notes.proofs.Texts.{unmarked-slashes}
 use Rattle.wit_notes.proofs.comments.unmarked.Goals as goal
 
 pub returns-in-Some : goal.returns-in-Some
 returns-in-Some c =
-    let found : behind (codes "///") c.args.comment.now ≡ Some c.in-Some.rest.now = sym c.behind.ensures ∙ ap option_copied c.in-Some.is in
-    c.behind_slashes.ensures ∙ unmarked-slashes c.args.comment.now c.in-Some.rest.now found
+    let found : rest_after (codes "///") c.args.comment.now ≡ Some c.in-Some.rest.now = sym c.rest_after.ensures ∙ ap option_copied c.in-Some.is in
+    c.after_slashes.ensures ∙ unmarked-slashes c.args.comment.now c.in-Some.rest.now found

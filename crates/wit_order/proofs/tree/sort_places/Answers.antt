@@ -6,7 +6,7 @@ use Rattle.wit_order.specs.Heap.{times}
 use Rattle.wit_order.specs.Released.{times_in}
 use Rattle.wit_order.proofs.Counts.{one_same}
 use Rattle.wit_graph.proofs.Sorting.{state_done, state_stuck}
-use Rattle.wit_order.proofs.HeapState.{heap_start, held, blocked_all}
+use Rattle.wit_order.proofs.HeapState.{heap_start, borrowed, blocked_all}
 use Rattle.wit_order.proofs.TreeState.{may_release, tree_pop, all_closed}
 use Rattle.wit_order.proofs.tree.sort_places.Goals as goal
 
@@ -25,13 +25,13 @@ loop-turn-init c =
 pub index_mut-requires : goal.index_mut-requires
 index_mut-requires c =
     let p = c.in-Some.p in
-    let f = held c.requires c.loop-turn.invariant.state p (omega (arith, c.in-Some.ensures.some p, one_same p p refl)) in
+    let f = borrowed c.requires c.loop-turn.invariant.state p (omega (arith, c.in-Some.ensures.some p, one_same p p refl)) in
     omega (arith, f.0, c.loop-turn.invariant.state.state.long, c.loop-turn.done.ok)
 
 pub row-requires : goal.row-requires
 row-requires c =
     let p = c.in-Some.p in
-    let f = held c.requires c.loop-turn.invariant.state p (omega (arith, c.in-Some.ensures.some p, one_same p p refl)) in
+    let f = borrowed c.requires c.loop-turn.invariant.state p (omega (arith, c.in-Some.ensures.some p, one_same p p refl)) in
     omega (arith, f.0, c.in_ok-users.ensures.long)
 
 pub release-requires : goal.release-requires

@@ -15,9 +15,9 @@ loop-p-init c =
     let starts = c.in_ok-starts.starts.items in
     let at = rw c.deref.ensures.value at c.in_ok-starts.ensures in
     let s = spread_from g c.in_ok-counts_to.field-0.items starts c.in_ok-counts_to.ensures.long c.in_ok-counts_to.ensures.counts at.long at.starts in
-    let same = same_from_all_zip _ starts c.in_ok-fronts.fronts.items c.in_ok-fronts.ensures.cases.0 (λ x y e. e) in
+    let same = same_from_all_zip _ starts c.in_ok-prefixes.prefixes.items c.in_ok-prefixes.ensures.cases.0 (λ x y e. e) in
     let n = c.index.ensures ∙ get_or_default starts c.len-len.result c.index.result.now 0 (omega (arith, c.len-len.ensures.long, s.long)) ∙ ap (λ k. get_or starts k 0) c.len-len.ensures.long in
-    record { filling = fill_begin g starts c.in_ok-targets.targets.items c.in_ok-fronts.fronts.items c.index.result.now s (c.in_ok-targets.ensures.items_if_clones_equal (λ y e. e)) n same; long = ap length same }
+    record { filling = fill_begin g starts c.in_ok-targets.targets.items c.in_ok-prefixes.prefixes.items c.index.result.now s (c.in_ok-targets.ensures.items_if_clones_equal (λ y e. e)) n same; long = ap length same }
 
 pub add_user-requires-clause-room : goal.add_user-requires-clause-room
 add_user-requires-clause-room c =
@@ -46,12 +46,12 @@ loop-p-preserved c =
     let at = rw c.deref.ensures.value at c.in_ok-starts.ensures in
     let s = spread_from g c.in_ok-counts_to.field-0.items starts c.in_ok-counts_to.ensures.long c.in_ok-counts_to.ensures.counts at.long at.starts in
     let wide : length c.add_user.new.users ≡ c.loop-p.targets.len = omega (arith, c.add_user.ensures.wide, c.deref_mut.ensures.len) in
-    let long : length c.add_user.new.fronts ≡ c.loop-p.fronts.len = omega (arith, c.add_user.ensures.long, c.deref_mut-in-loop-p.ensures.len) in
+    let long : length c.add_user.new.prefixes ≡ c.loop-p.prefixes.len = omega (arith, c.add_user.ensures.long, c.deref_mut-in-loop-p.ensures.len) in
     let filling = rw (c.deref_mut.ensures.value, c.deref_mut-in-loop-p.ensures.value) at c.add_user.ensures.filling in
-    rw (with_items_is c.loop-p.targets c.add_user.new.users wide, with_items_is c.loop-p.fronts c.add_user.new.fronts long) (record {
-      filling = fill_next g starts s c.loop-p.p c.row.result.now c.add_user.new.users c.add_user.new.fronts c.row.ensures
+    rw (with_items_is c.loop-p.targets c.add_user.new.users wide, with_items_is c.loop-p.prefixes c.add_user.new.prefixes long) (record {
+      filling = fill_next g starts s c.loop-p.p c.row.result.now c.add_user.new.users c.add_user.new.prefixes c.row.ensures
           (filling starts _ _ c.loop-p.invariant.filling (row_has_room g starts s c.loop-p.p c.row.result.now c.row.ensures));
-      long = omega (arith, long, c.loop-p.fronts.ok, c.loop-p.invariant.long);
+      long = omega (arith, long, c.loop-p.prefixes.ok, c.loop-p.invariant.long);
     })
 
 pub returns : goal.returns
@@ -60,7 +60,7 @@ returns c =
     let starts = c.in_ok-starts.starts.items in
     let at = rw c.deref.ensures.value at c.in_ok-starts.ensures in
     let s = spread_from g c.in_ok-counts_to.field-0.items starts c.in_ok-counts_to.ensures.long c.in_ok-counts_to.ensures.counts at.long at.starts in
-    filled g starts s c.loop-p.p c.loop-p.targets.items c.loop-p.fronts.items c.loop-p.invariant.filling c.requires (omega (arith, c.loop-p-test.false, c.len-len.ensures.long))
+    filled g starts s c.loop-p.p c.loop-p.targets.items c.loop-p.prefixes.items c.loop-p.invariant.filling c.requires (omega (arith, c.loop-p-test.false, c.len-len.ensures.long))
 
 pub invariant_of-result : goal.invariant_of-result
 invariant_of-result c =
@@ -68,4 +68,4 @@ invariant_of-result c =
     let starts = c.in_ok-starts.starts.items in
     let at = rw c.deref.ensures.value at c.in_ok-starts.ensures in
     let s = spread_from g c.in_ok-counts_to.field-0.items starts c.in_ok-counts_to.ensures.long c.in_ok-counts_to.ensures.counts at.long at.starts in
-    filled_cut g starts s c.loop-p.p c.loop-p.targets.items c.loop-p.fronts.items c.loop-p.invariant.filling
+    filled_cut g starts s c.loop-p.p c.loop-p.targets.items c.loop-p.prefixes.items c.loop-p.invariant.filling

@@ -5,6 +5,6 @@ use Rattle.wit_order.proofs.turned.turned.Given as goal
 
 abbrev pub invariant-loop-p : goal.invariant-loop-p
 invariant-loop-p l = record {
-  filling : IsFilling l.starts.items (λ w. edges_to w (take l.p l.graph)) (λ w q. cond (nat_lt q l.p) (times w (row_at l.graph q)) 0) l.targets.items l.fronts.items;
-  long : length l.fronts.items ≡ length l.starts.items;
+  filling : IsFilling l.starts.items (λ w. edges_to w (take l.p l.graph)) (λ w q. cond (nat_lt q l.p) (times w (row_at l.graph q)) 0) l.targets.items l.prefixes.items;
+  long : length l.prefixes.items ≡ length l.starts.items;
 }

@@ -5,7 +5,7 @@ use Rattle.wit_files.specs.Visits.{item_visits, visits}
 use Rattle.wit_syntax.specs.Splitting.{file_declarations}
 use Rattle.wit_syntax.proofs.JoinedLists.{flat_map-flat_map}
 use Rattle.wit_syntax.proofs.Joined.{joined_split}
-use Rattle.wit_arena.proofs.JoinedMeetings.{joined_meetings}
+use Rattle.wit_arena.proofs.JoinedOccurrences.{joined_occurrences}
 use Rattle.wit_arena.proofs.JoinedPackage.{joined_packages}
 use Rattle.wit_arena.proofs.OneMade.{one_package}
 use Rattle.wit_parser.proofs.laws.splitting.Goals as goal
@@ -17,8 +17,8 @@ returns-clause-visits c files one joined =
 pub returns-clause-same : goal.returns-clause-same
 returns-clause-same c = joined_split
 
-pub returns-clause-meetings : goal.returns-clause-meetings
-returns-clause-meetings c = joined_meetings
+pub returns-clause-occurrences : goal.returns-clause-occurrences
+returns-clause-occurrences c = joined_occurrences
 
 pub returns-clause-packages : goal.returns-clause-packages
 returns-clause-packages c = joined_packages

@@ -4,7 +4,7 @@ use Rattle.std.proofs.lemmas.Result.{err_from_is_err_and}
 use Rattle.wit_values.specs.ReleaseText.{release_parts}
 use Rattle.wit_package_names.specs.declared.package_name.PackageName.{PackageName}
 use Rattle.wit_arena.specs.Whole.{NamesOthers}
-use Rattle.wit_contents.specs.Between.{MakeContents}
+use Rattle.wit_contents.specs.AddedFiles.{MakeContents}
 use Rattle.wit_contents.proofs.Files.{files_legal, files_package}
 use Rattle.wit_parser.proofs.resolver.resolve_named.Goals as goal
 

@@ -13,9 +13,9 @@ returns-in-Some c =
     let key = c.in_ok-key.key in
     let d = c.in-Some.found.now in
     let found : lookup (pointwise nat_eq key) es ≡ Some d = sym (rw c.in-Some.is at c.get.ensures) in
-    let told : c.eq.result ≡ pointwise nat_eq (spelled key d) name = search rules in (
-      λ t. has-found es name key d c.requires.keyed c.in_ok-key.ensures found (name_equal (spelled key d) name (sym told ∙ t)),
-      λ has. told ∙ ap (λ n. pointwise nat_eq n name) (found-has es name key d c.requires.keyed c.in_ok-key.ensures found has) ∙ name_itself name,
+    let as_stated : c.eq.result ≡ pointwise nat_eq (spelled key d) name = search rules in (
+      λ t. has-found es name key d c.requires.keyed c.in_ok-key.ensures found (name_equal (spelled key d) name (sym as_stated ∙ t)),
+      λ has. as_stated ∙ ap (λ n. pointwise nat_eq n name) (found-has es name key d c.requires.keyed c.in_ok-key.ensures found has) ∙ name_itself name,
     )
 
 pub returns : goal.returns

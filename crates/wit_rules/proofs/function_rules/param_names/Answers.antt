@@ -2,13 +2,13 @@ use Rattle.std.proofs.Common.{List, ◌++◌, map, ap, sym, ◌∙◌, arith}
 use Rattle.std.proofs.lemmas.List.{take_all}
 use Rattle.wit_type_tree.specs.declared.types.Param.{Param}
 use Rattle.wit_syntax.specs.Function.{written_param}
-use Rattle.wit_rules.specs.Held.{function_behind}
+use Rattle.wit_rules.specs.Borrowed.{function_view}
 use Rattle.wit_rules.proofs.FunctionRules.{names-append}
 use Rattle.wit_rules.proofs.function_rules.param_names.Goals as goal
 
 pub returns : goal.returns
 returns c =
-    let fn = function_behind c.args.function in
+    let fn = function_view c.args.function in
     let params = c.params-params.result.now in
     c.loop-param.invariant
     ∙ ap (λ (ps : List Param). map (λ p. p.name) fn.given ++ map (λ p. p.name.name.now) ps) (take_all c.loop-param.param-index params (omega arith))

@@ -7,8 +7,8 @@ pub collect_all_deps-loop-ty-preserved : goal.collect_all_deps-loop-ty-preserved
 collect_all_deps-loop-ty-preserved t c =
     let ts = c.args.types.now in
     let i = c.loop-ty.ty-index in
-    let taken : take (i + 1) ts ≡ take i ts ++ c.ty-item.result ∷ [] = take_more ts i c.ty-item.result c.loop-ty-test.true ∙ ap (λ x. take i ts ++ x ∷ []) (sym c.ty-item.is) in
-    words_more c.args.deps.now.items _ _ (take i ts) (take (i + 1) ts) c.ty-item.result taken c.loop-ty.invariant c.in_ok-collect_deps.ensures
+    let in_use : take (i + 1) ts ≡ take i ts ++ c.ty-item.result ∷ [] = take_more ts i c.ty-item.result c.loop-ty-test.true ∙ ap (λ x. take i ts ++ x ∷ []) (sym c.ty-item.is) in
+    words_more c.args.deps.now.items _ _ (take i ts) (take (i + 1) ts) c.ty-item.result in_use c.loop-ty.invariant c.in_ok-collect_deps.ensures
 
 pub collect_deps-returns-in_ok-collect_all_deps-in-Tuple : goal.collect_deps-returns-in_ok-collect_all_deps-in-Tuple
 collect_deps-returns-in_ok-collect_all_deps-in-Tuple t c =

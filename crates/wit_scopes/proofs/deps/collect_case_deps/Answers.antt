@@ -10,8 +10,8 @@ loop-case-preserved c =
     let cs = c.args.cases.now in
     let i = c.loop-case.case-index in
     let old = c.args.deps.now.items in
-    let taken : take (i + 1) cs ≡ take i cs ++ c.case-item.result ∷ [] = take_more cs i c.case-item.result c.loop-case-test.true ∙ ap (λ x. take i cs ++ x ∷ []) (sym c.case-item.is) in
+    let in_use : take (i + 1) cs ≡ take i cs ++ c.case-item.result ∷ [] = take_more cs i c.case-item.result c.loop-case-test.true ∙ ap (λ x. take i cs ++ x ∷ []) (sym c.case-item.is) in
     elim c.match-case.branch [
-      | in-Some+in_ok-collect_deps w ↦ rw w.deps-is (words_more old _ _ (case_types (take i cs)) (case_types (take (i + 1) cs)) _ (ap case_types taken ∙ cases_more (take i cs) c.case-item.result _ w.in-Some.is) c.loop-case.invariant w.in_ok-collect_deps.ensures)
-      | in_default w ↦ rw w.deps-is (c.loop-case.invariant ∙ ap (λ ts. old ++ type_words ts) (sym (ap case_types taken ∙ cases_same (take i cs) c.case-item.result w.in_default.is)))
+      | in-Some+in_ok-collect_deps w ↦ rw w.deps-is (words_more old _ _ (case_types (take i cs)) (case_types (take (i + 1) cs)) _ (ap case_types in_use ∙ cases_more (take i cs) c.case-item.result _ w.in-Some.is) c.loop-case.invariant w.in_ok-collect_deps.ensures)
+      | in_default w ↦ rw w.deps-is (c.loop-case.invariant ∙ ap (λ ts. old ++ type_words ts) (sym (ap case_types in_use ∙ cases_same (take i cs) c.case-item.result w.in_default.is)))
     ]

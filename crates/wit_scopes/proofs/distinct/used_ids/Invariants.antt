@@ -1,7 +1,7 @@
 use Rattle.std.proofs.Common.{◌≡◌, map, take}
 use Rattle.wit_syntax.specs.Source.{local_id}
-use Rattle.wit_scopes.specs.Held.{use_behind}
+use Rattle.wit_scopes.specs.Borrowed.{use_view}
 use Rattle.wit_scopes.proofs.distinct.used_ids.Given as goal
 
 abbrev pub invariant-loop-used : goal.invariant-loop-used
-invariant-loop-used l = l.ids.items ≡ map local_id (map use_behind (take l.used-index l.uses))
+invariant-loop-used l = l.ids.items ≡ map local_id (map use_view (take l.used-index l.uses))

@@ -5,17 +5,17 @@ use Rattle.std.proofs.lemmas.Result.{err_from_is_err_and}
 use Rattle.wit_graph.specs.Table.{IsOrder}
 use Rattle.wit_syntax.specs.Scope.{rows_of, in_order, defined}
 use Rattle.wit_syntax.proofs.Turns.{names_within}
-use Rattle.wit_scopes.specs.Held.{name_behind}
+use Rattle.wit_scopes.specs.Borrowed.{name_view}
 use Rattle.wit_scopes.proofs.Turning.{map-in_order}
 use Rattle.wit_scopes.proofs.scope.sorted_definitions.Goals as goal
 
 pub in_order-requires : goal.in_order-requires
 in_order-requires c = λ i d lt.
     let names = c.args.names.now in
-    let xs = map name_behind names in
+    let xs = map name_view names in
     let places = c.deref.result.now in
     let order : IsOrder (rows_of xs) places = subst (IsOrder (rows_of xs)) (sym c.deref.ensures.value) c.in_ok-places.ensures.order in
-    (let h = names_within xs places order i (get_or places i d) (slice_get-get_or places i d lt) in omega (arith, length-map names name_behind))
+    (let h = names_within xs places order i (get_or places i d) (slice_get-get_or places i d lt) in omega (arith, length-map names name_view))
 
 pub returns-clause-ordered : goal.returns-clause-ordered
 returns-clause-ordered c =
@@ -26,7 +26,7 @@ returns-clause-ordered c =
     record {
       order = places;
       least = c.in_ok-places.ensures.order;
-      are = c.in_ok-definitions.ensures ∙ ap (λ l. defined (map name_behind l)) (c.deref-2.ensures.value ∙ are) ∙ ap defined (map-in_order name_behind names places);
+      are = c.in_ok-definitions.ensures ∙ ap (λ l. defined (map name_view l)) (c.deref-2.ensures.value ∙ are) ∙ ap defined (map-in_order name_view names places);
     }
 
 pub returns-in_err-places-clause-first : goal.returns-in_err-places-clause-first

@@ -3,7 +3,7 @@ use Rattle.std.proofs.lemmas.List.{map-append}
 use Rattle.std.proofs.lemmas.Option.{slice_get_read}
 use Rattle.wit_syntax.specs.Source.{Used}
 use Rattle.wit_syntax.proofs.Orders.{take_next}
-use Rattle.wit_scopes.specs.Held.{source_behind, name_behind}
+use Rattle.wit_scopes.specs.Borrowed.{source_view, name_view}
 use Rattle.wit_scopes.proofs.Declaring.{one_more}
 use Rattle.wit_scopes.proofs.Placed.{names_more}
 use Rattle.wit_scopes.proofs.scope_name.add_used_names.Goals as goal
@@ -14,12 +14,12 @@ loop-name-preserved c =
     let xs = c.args.used.now in
     let n = c.name-item.result in
     let from = c.args.from.now in
-    let make = Used (source_behind from) c.args.attributes.now in
+    let make = Used (source_view from) c.args.attributes.now in
     let was = c.loop-name.invariant in
     let new = c.in_ok-push.ensures.items in
     let at = slice_get_read xs _ i n refl c.loop-name-test.true c.name-item.is in
     let more = ap (map make) (take_next xs i n at) ∙ map-append make (take i xs) (n ∷ []) in
     record {
-      names = one_more name_behind (map name_behind c.args.names.now.items) c.loop-name.names.items _ _ (map make (take i xs)) (map make (take (i + 1) xs)) (make n) new was.names refl more;
-      placed = λ front one before. names_more front c.loop-name.names.items _ _ new (was.placed front one before) one;
+      names = one_more name_view (map name_view c.args.names.now.items) c.loop-name.names.items _ _ (map make (take i xs)) (map make (take (i + 1) xs)) (make n) new was.names refl more;
+      placed = λ prefix one before. names_more prefix c.loop-name.names.items _ _ new (was.placed prefix one before) one;
     }

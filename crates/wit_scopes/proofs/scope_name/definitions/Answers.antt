@@ -4,7 +4,7 @@ use Rattle.std.proofs.lemmas.List.{map-append, append-nil}
 use Rattle.std.proofs.lemmas.Option.{slice_get_read}
 use Rattle.wit_syntax.specs.Source.{ScopeName}
 use Rattle.wit_syntax.specs.Scope.{defined}
-use Rattle.wit_scopes.specs.Held.{Held, name_behind, definition_behind}
+use Rattle.wit_scopes.specs.Borrowed.{Borrowed, name_view, definition_view}
 use Rattle.wit_scopes.proofs.UsedNames.{defined_more}
 use Rattle.wit_scopes.proofs.scope_name.definitions.Goals.{in-Defined+in_ok-push, in_default}
 use Rattle.wit_scopes.proofs.scope_name.definitions.Goals as goal
@@ -14,14 +14,14 @@ loop-name-preserved c =
     let i = c.loop-name.name-index in
     let xs = c.args.names.now in
     let x = c.name-item.result in
-    let front = defined (map name_behind (take i xs)) in
+    let prefix = defined (map name_view (take i xs)) in
     let at : slice_get xs i ≡ Some x = slice_get_read xs _ i x refl c.loop-name-test.true c.name-item.is in
     let more = defined_more xs i x at in
     elim c.match-name.branch [
       | in-Defined+in_ok-push w ↦ (
-          let one = more ∙ ap (λ (y : Held). front ++ defined (name_behind y ∷ [])) w.in-Defined.is in
-          rw w.definitions-is (ap (map definition_behind) w.in_ok-push.ensures.items ∙ map-append definition_behind c.loop-name.definitions.items (w.in-Defined.name ∷ []) ∙ ap (λ (l : List ScopeName). l ++ definition_behind w.in-Defined.name ∷ []) c.loop-name.invariant ∙ sym one))
+          let one = more ∙ ap (λ (y : Borrowed). prefix ++ defined (name_view y ∷ [])) w.in-Defined.is in
+          rw w.definitions-is (ap (map definition_view) w.in_ok-push.ensures.items ∙ map-append definition_view c.loop-name.definitions.items (w.in-Defined.name ∷ []) ∙ ap (λ (l : List ScopeName). l ++ definition_view w.in-Defined.name ∷ []) c.loop-name.invariant ∙ sym one))
       | in_default w ↦ (
-          let none = more ∙ ap (λ (y : Held). front ++ defined (name_behind y ∷ [])) w.in_default.is ∙ append-nil front in
+          let none = more ∙ ap (λ (y : Borrowed). prefix ++ defined (name_view y ∷ [])) w.in_default.is ∙ append-nil prefix in
           rw (w.definitions-is, none) c.loop-name.invariant)
     ]

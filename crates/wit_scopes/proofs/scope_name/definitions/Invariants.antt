@@ -1,7 +1,7 @@
 use Rattle.std.proofs.Common.{◌≡◌, map, take}
 use Rattle.wit_syntax.specs.Scope.{defined}
-use Rattle.wit_scopes.specs.Held.{name_behind, definition_behind}
+use Rattle.wit_scopes.specs.Borrowed.{name_view, definition_view}
 use Rattle.wit_scopes.proofs.scope_name.definitions.Given as goal
 
 abbrev pub invariant-loop-name : goal.invariant-loop-name
-invariant-loop-name l = map definition_behind l.definitions.items ≡ defined (map name_behind (take l.name-index l.names))
+invariant-loop-name l = map definition_view l.definitions.items ≡ defined (map name_view (take l.name-index l.names))

@@ -4,15 +4,15 @@ use Rattle.std.proofs.lemmas.List.{map-append, append-nil}
 use Rattle.std.proofs.lemmas.Option.{slice_get_read}
 use Rattle.wit_syntax.specs.Source.{ScopeName}
 use Rattle.wit_syntax.specs.Scope.{used}
-use Rattle.wit_scopes.specs.Held.{Held, name_behind, use_behind}
-use Rattle.wit_scopes.specs.Front.{IsNamePlaced}
+use Rattle.wit_scopes.specs.Borrowed.{Borrowed, name_view, use_view}
+use Rattle.wit_scopes.specs.PlacedNames.{IsNamePlaced}
 use Rattle.wit_scopes.proofs.Placed.{uses_none, uses_more}
 use Rattle.wit_scopes.proofs.UsedNames.{used_more}
 use Rattle.wit_scopes.proofs.scope_name.used_names.Goals.{in-Used+in_ok-push, in_default}
 use Rattle.wit_scopes.proofs.scope_name.used_names.Goals as goal
 
 pub loop-name-init : goal.loop-name-init
-loop-name-init c = rw c.new-uses.ensures.items (record { uses = refl; placed = λ front names. uses_none front })
+loop-name-init c = rw c.new-uses.ensures.items (record { uses = refl; placed = λ prefix names. uses_none prefix })
 
 pub loop-name-preserved : goal.loop-name-preserved
 loop-name-preserved c =
@@ -25,12 +25,12 @@ loop-name-preserved c =
     elim c.match-name.branch [
       | in-Used+in_ok-push w ↦ (
           let new = w.in_ok-push.ensures.items in
-          let one = more ∙ ap (λ (y : Held). used (map name_behind (take i xs)) ++ used (name_behind y ∷ [])) w.in-Used.is in
+          let one = more ∙ ap (λ (y : Borrowed). used (map name_view (take i xs)) ++ used (name_view y ∷ [])) w.in-Used.is in
           rw w.uses-is (record {
-            uses = ap (map use_behind) new ∙ map-append use_behind c.loop-name.uses.items (w.in-Used.name ∷ []) ∙ ap (λ (l : List ScopeName). l ++ use_behind w.in-Used.name ∷ []) was.uses ∙ sym one;
-            placed = λ front placed. uses_more front c.loop-name.uses.items _ _ new (was.placed front placed) (subst (IsNamePlaced front) w.in-Used.is (placed.each i x at));
+            uses = ap (map use_view) new ∙ map-append use_view c.loop-name.uses.items (w.in-Used.name ∷ []) ∙ ap (λ (l : List ScopeName). l ++ use_view w.in-Used.name ∷ []) was.uses ∙ sym one;
+            placed = λ prefix placed. uses_more prefix c.loop-name.uses.items _ _ new (was.placed prefix placed) (subst (IsNamePlaced prefix) w.in-Used.is (placed.each i x at));
           }))
       | in_default w ↦ (
-          let none = more ∙ ap (λ (y : Held). used (map name_behind (take i xs)) ++ used (name_behind y ∷ [])) w.in_default.is ∙ append-nil (used (map name_behind (take i xs))) in
+          let none = more ∙ ap (λ (y : Borrowed). used (map name_view (take i xs)) ++ used (name_view y ∷ [])) w.in_default.is ∙ append-nil (used (map name_view (take i xs))) in
           rw (w.uses-is, none) was)
     ]

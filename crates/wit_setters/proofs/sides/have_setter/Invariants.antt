@@ -1,7 +1,7 @@
 use Rattle.wit_model.specs.declared.world.WorldItem.{WorldItem}
 use Rattle.wit_model.specs.declared.world.WorldKey.{WorldKey}
 use Rattle.wit_model.specs.Worlds.{function_of}
-use Rattle.wit_functions.specs.Told.{is_setter}
+use Rattle.wit_functions.specs.MaybeFunction.{is_setter}
 use Rattle.wit_setters.proofs.Sought.{NoneBefore}
 use Rattle.wit_setters.proofs.sides.have_setter.Given as goal
 

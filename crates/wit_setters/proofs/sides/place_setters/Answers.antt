@@ -3,7 +3,7 @@ use Rattle.std.specs.Prelude.{map}
 use Rattle.wit_functions.specs.Setters.{placed}
 use Rattle.wit_model.specs.Worlds.{function_of}
 use Rattle.wit_syntax.specs.Repeats.{AllDiffer}
-use Rattle.wit_functions.specs.Told.{HaveOwnNames}
+use Rattle.wit_functions.specs.MaybeFunction.{HaveOwnNames}
 use Rattle.wit_setters.proofs.NoSetters.{no_setters}
 use Rattle.wit_setters.proofs.OneSide.{Entry, apart_keys, item_function, key_of, own_on_side, placed_differ}
 use Rattle.wit_setters.proofs.sides.place_setters.Goals as goal

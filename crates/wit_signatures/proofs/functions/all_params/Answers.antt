@@ -8,8 +8,8 @@ use Rattle.wit_syntax.specs.Function.{SourceParam, written_param}
 use Rattle.wit_arena.specs.Resolving.{env_of}
 use Rattle.wit_arena.proofs.Written.{AreLegal}
 use Rattle.wit_entries.specs.Requiring.{Requires}
-use Rattle.wit_rules.specs.Held.{function_behind}
-use Rattle.wit_rules.specs.Signatures.{functions_behind, AreParamsOver}
+use Rattle.wit_rules.specs.Borrowed.{function_view}
+use Rattle.wit_rules.specs.Signatures.{functions_view, AreParamsOver}
 use Rattle.wit_signatures.proofs.FunctionParts.{given_few}
 use Rattle.wit_signatures.proofs.FunctionFaults.{refused_written, no_duplicate}
 use Rattle.wit_signatures.proofs.functions.all_params.Goals as goal
@@ -18,18 +18,18 @@ pub returns-in_err-resolve_params-clause-refused : goal.returns-in_err-resolve_p
 returns-in_err-resolve_params-clause-refused c =
     let p = err_from_is_err_and c.from_residual-in_err-resolve_params.result c.from_residual-in_err-resolve_params.ensures.1 in
     let ws = c.params-written.result.now in
-    rw (p.1, p.2) (refused_written (env_of c.args.scope.names.now) c.resolve_params.new.types (functions_behind c.args.scope) c.args.place (function_behind c.args.function) c.in_ok-repeated.repeated (length c.in_ok-params.params.items) (map written_param ws) (map (λ (w : Param). w.ty) ws) _ c.in_ok-params.ensures.params.count (ap (map written_param) c.params-written.ensures) (ap (map (λ (w : Param). w.ty)) c.params-written.ensures) c.in_ok-repeated.ensures.some c.in_err-resolve_params.ensures.refused)
+    rw (p.1, p.2) (refused_written (env_of c.args.scope.names.now) c.resolve_params.new.types (functions_view c.args.scope) c.args.place (function_view c.args.function) c.in_ok-repeated.repeated (length c.in_ok-params.params.items) (map written_param ws) (map (λ (w : Param). w.ty) ws) _ c.in_ok-params.ensures.params.count (ap (map written_param) c.params-written.ensures) (ap (map (λ (w : Param). w.ty)) c.params-written.ensures) c.in_ok-repeated.ensures.some c.in_err-resolve_params.ensures.refused)
 
 pub returns-clause-params : goal.returns-clause-params
 returns-clause-params c =
-    let given = (function_behind c.args.function).given in
+    let given = (function_view c.args.function).given in
     subst (λ (l : List SourceParam). AreParamsOver c.args.types.now c.resolve_params.new.types (env_of c.args.scope.names.now) (given ++ l) c.resolve_params.new.params.items) (ap (map written_param) c.params-written.ensures) (c.in_ok-resolve_params.ensures.params given c.args.types.now c.in_ok-params.ensures.params)
 
 pub returns-clause-distinct : goal.returns-clause-distinct
 returns-clause-distinct c =
     let ws = c.params-written.result.now in
     let count = sym (length-map ws written_param) ∙ ap (λ (l : List Param). length (map written_param l)) c.params-written.ensures in
-    no_duplicate (function_behind c.args.function) c.in_ok-repeated.repeated (length c.in_ok-params.params.items) (length ws) (given_few c.args.function) c.in_ok-params.ensures.params.count count c.in_ok-repeated.ensures.some c.in_ok-repeated.ensures.none c.in_ok-resolve_params.ensures.distinct
+    no_duplicate (function_view c.args.function) c.in_ok-repeated.repeated (length c.in_ok-params.params.items) (length ws) (given_few c.args.function) c.in_ok-params.ensures.params.count count c.in_ok-repeated.ensures.some c.in_ok-repeated.ensures.none c.in_ok-resolve_params.ensures.distinct
 
 pub returns-clause-legal : goal.returns-clause-legal
 returns-clause-legal c = subst AreLegal (ap (map (λ (w : Param). w.ty)) c.params-written.ensures) c.in_ok-resolve_params.ensures.legal

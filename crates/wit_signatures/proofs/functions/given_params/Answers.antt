@@ -13,8 +13,8 @@ returns-clause-params c = elim c.match-given.branch [
   | in_default w ↦ rw (w.types-is, w.params-is) (given_none c.args.types.now (env_of c.args.names.now) c.args.function c.in_ok-params.params.items (sym c.given.ensures ∙ w.in_default.is) c.in_ok-params.ensures.items)
 ]
 
-pub returns-clause-grown : goal.returns-clause-grown
-returns-clause-grown c = elim c.match-given.branch [
-  | in-Some+in_ok-self_param+in_ok-push w ↦ rw w.types-is w.self_param.ensures.grown
+pub returns-clause-extended : goal.returns-clause-extended
+returns-clause-extended c = elim c.match-given.branch [
+  | in-Some+in_ok-self_param+in_ok-push w ↦ rw w.types-is w.self_param.ensures.extended
   | in_default w ↦ rw w.types-is (record { more = []; is = sym (append-nil c.args.types.now) })
 ]

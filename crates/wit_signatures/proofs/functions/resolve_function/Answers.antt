@@ -4,53 +4,53 @@ use Rattle.wit_names.specs.Mangled.{is_mangled}
 use Rattle.wit_syntax.specs.Function.{SourceFunction, written_types}
 use Rattle.wit_syntax.specs.Shape.{all_handles}
 use Rattle.wit_arena.specs.Resolving.{env_of}
-use Rattle.wit_first.proofs.Bridge.{notes_agree, refused_by}
-use Rattle.wit_rules.specs.Held.{function_behind}
-use Rattle.wit_rules.specs.Signatures.{functions_behind}
+use Rattle.wit_first.proofs.Bridge.{metadata_agree, refused_by}
+use Rattle.wit_rules.specs.Borrowed.{function_view}
+use Rattle.wit_rules.specs.Signatures.{functions_view}
 use Rattle.wit_entries.specs.Requiring.{Requires}
 use Rattle.wit_entries.proofs.Noted.{noted_as}
-use Rattle.wit_signatures.proofs.FunctionFaults.{refused_notes, refused_there, held_legal}
-use Rattle.wit_signatures.proofs.Mangling.{mangled_behind}
-use Rattle.wit_signatures.proofs.WholeFunctions.{held_here, held_at, held_adds}
+use Rattle.wit_signatures.proofs.FunctionFaults.{refused_metadata, refused_there, borrowed_legal}
+use Rattle.wit_signatures.proofs.Mangling.{mangled_view}
+use Rattle.wit_signatures.proofs.WholeFunctions.{borrowed_here, borrowed_at, borrowed_adds}
 use Rattle.wit_signatures.proofs.functions.resolve_function.Goals as goal
 
-pub returns-in_err-notes-clause-refused : goal.returns-in_err-notes-clause-refused
-returns-in_err-notes-clause-refused c =
+pub returns-in_err-metadata-clause-refused : goal.returns-in_err-metadata-clause-refused
+returns-in_err-metadata-clause-refused c =
     let p = err_from_is_err_and c.from_residual.result c.from_residual.ensures.1 in
-    rw (p.1, p.2) (λ xs scope fn at. refused_notes (env_of c.args.scope.names.now) c.args.types.now xs (functions_behind c.args.scope) c.args.place fn c.attributes.result.now _ (c.attributes.ensures ∙ ap (λ (g : SourceFunction). g.attributes) (held_at c.args.scope.functions.now c.args.place c.index-scope-place.result fn c.requires.place at)) (refused_by (notes_agree c.attributes.result.now) c.in_err-notes.ensures.first))
+    rw (p.1, p.2) (λ xs scope fn at. refused_metadata (env_of c.args.scope.names.now) c.args.types.now xs (functions_view c.args.scope) c.args.place fn c.attributes.result.now _ (c.attributes.ensures ∙ ap (λ (g : SourceFunction). g.attributes) (borrowed_at c.args.scope.functions.now c.args.place c.index-scope-place.result fn c.requires.place at)) (refused_by (metadata_agree c.attributes.result.now) c.in_err-metadata.ensures.first))
 
 pub resolve_signature-requires-clause-owner : goal.resolve_signature-requires-clause-owner
-resolve_signature-requires-clause-owner c = c.requires.owners.each c.args.place _ (held_here c.args.scope.functions.now c.args.place c.index-scope-place.result c.requires.place)
+resolve_signature-requires-clause-owner c = c.requires.owners.each c.args.place _ (borrowed_here c.args.scope.functions.now c.args.place c.index-scope-place.result c.requires.place)
 
 pub kind_of-requires : goal.kind_of-requires
-kind_of-requires c = c.requires.owners.each c.args.place _ (held_here c.args.scope.functions.now c.args.place c.index-scope-place.result c.requires.place)
+kind_of-requires c = c.requires.owners.each c.args.place _ (borrowed_here c.args.scope.functions.now c.args.place c.index-scope-place.result c.requires.place)
 
 pub returns-in_err-signature-clause-refused : goal.returns-in_err-signature-clause-refused
 returns-in_err-signature-clause-refused c =
     let p = err_from_is_err_and c.from_residual-in_err-signature.result c.from_residual-in_err-signature.ensures.1 in
-    rw (p.1, p.2) (λ xs scope fn at. refused_there (env_of c.args.scope.names.now) c.resolve_signature.new.types xs (functions_behind c.args.scope) c.args.place _ fn _ (held_at c.args.scope.functions.now c.args.place c.index-scope-place.result fn c.requires.place at) (c.in_err-signature.ensures.refused xs scope))
+    rw (p.1, p.2) (λ xs scope fn at. refused_there (env_of c.args.scope.names.now) c.resolve_signature.new.types xs (functions_view c.args.scope) c.args.place _ fn _ (borrowed_at c.args.scope.functions.now c.args.place c.index-scope-place.result fn c.requires.place at) (c.in_err-signature.ensures.refused xs scope))
 
 pub returns-clause-adds : goal.returns-clause-adds
 returns-clause-adds c = λ fn at s. (
     let hs = c.args.scope.functions.now in
     let d = c.index-scope-place.result in
-    let here = function_behind (get_or hs c.args.place d) in
-    let noted = noted_as here c.in_ok-notes.notes c.docs.result.now c.attributes.result.now c.in_ok-notes.ensures.told c.docs.ensures c.attributes.ensures in
-    held_adds c.args.types.now c.resolve_signature.new.types s c.args.scope.names.now here fn _ (held_at hs c.args.place d fn c.requires.place at) c.in_ok-signature.ensures.over c.in_ok-name.ensures c.kind_of.ensures c.span.ensures noted)
+    let here = function_view (get_or hs c.args.place d) in
+    let noted = noted_as here c.in_ok-metadata.metadata c.docs.result.now c.attributes.result.now c.in_ok-metadata.ensures.as_stated c.docs.ensures c.attributes.ensures in
+    borrowed_adds c.args.types.now c.resolve_signature.new.types s c.args.scope.names.now here fn _ (borrowed_at hs c.args.place d fn c.requires.place at) c.in_ok-signature.ensures.over c.in_ok-name.ensures c.kind_of.ensures c.span.ensures noted)
 
 pub returns-clause-named : goal.returns-clause-named
 returns-clause-named c = λ fn at. (
-    let same = held_at c.args.scope.functions.now c.args.place c.index-scope-place.result fn c.requires.place at in
+    let same = borrowed_at c.args.scope.functions.now c.args.place c.index-scope-place.result fn c.requires.place at in
     (c.in_ok-name.ensures ∙ ap (λ (g : SourceFunction). g.name) same, c.span.ensures ∙ ap (λ (g : SourceFunction). g.span) same))
 
 pub returns-clause-mangled : goal.returns-clause-mangled
-returns-clause-mangled c = subst (λ n. IsTrue (is_mangled n)) (sym c.in_ok-name.ensures) (mangled_behind (get_or c.args.scope.functions.now c.args.place c.index-scope-place.result))
+returns-clause-mangled c = subst (λ n. IsTrue (is_mangled n)) (sym c.in_ok-name.ensures) (mangled_view (get_or c.args.scope.functions.now c.args.place c.index-scope-place.result))
 
 pub returns-clause-legal : goal.returns-clause-legal
 returns-clause-legal c = λ xs scope fn at. (
     let hs = c.args.scope.functions.now in
     let d = c.index-scope-place.result in
-    held_legal xs (functions_behind c.args.scope) c.args.place fn (function_behind (get_or hs c.args.place d)) c.attributes.result.now (held_at hs c.args.place d fn c.requires.place at) at c.attributes.ensures ((notes_agree c.attributes.result.now).unbroken c.in_ok-notes.ensures.first) (c.in_ok-signature.ensures.legal xs scope))
+    borrowed_legal xs (functions_view c.args.scope) c.args.place fn (function_view (get_or hs c.args.place d)) c.attributes.result.now (borrowed_at hs c.args.place d fn c.requires.place at) at c.attributes.ensures ((metadata_agree c.attributes.result.now).unbroken c.in_ok-metadata.ensures.first) (c.in_ok-signature.ensures.legal xs scope))
 
 pub returns-clause-handled : goal.returns-clause-handled
-returns-clause-handled c = λ fn at. subst (λ (g : SourceFunction). Requires (env_of c.args.scope.names.now) c.resolve_signature.new.types (all_handles (written_types g)) c.args.required.now.items c.resolve_signature.new.required.items) (held_at c.args.scope.functions.now c.args.place c.index-scope-place.result fn c.requires.place at) c.in_ok-signature.ensures.handled
+returns-clause-handled c = λ fn at. subst (λ (g : SourceFunction). Requires (env_of c.args.scope.names.now) c.resolve_signature.new.types (all_handles (written_types g)) c.args.required.now.items c.resolve_signature.new.required.items) (borrowed_at c.args.scope.functions.now c.args.place c.index-scope-place.result fn c.requires.place at) c.in_ok-signature.ensures.handled

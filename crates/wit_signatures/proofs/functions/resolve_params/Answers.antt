@@ -14,8 +14,8 @@ use Rattle.wit_syntax.proofs.Refusing.{refused_weaker}
 use Rattle.wit_syntax.proofs.Found.{contains_at}
 use Rattle.wit_arena.proofs.Written.{AreLegal, legal_one, legal_more}
 use Rattle.wit_entries.specs.Requiring.{Requires}
-use Rattle.wit_rules.specs.Signatures.{functions_behind, IsRefusedParam, IsWrongInSignature, IsWrongInSignatures, AreParamsOver}
-use Rattle.wit_entries.proofs.Requiring.{grown_then, requires_types, requires_one}
+use Rattle.wit_rules.specs.Signatures.{functions_view, IsRefusedParam, IsWrongInSignature, IsWrongInSignatures, AreParamsOver}
+use Rattle.wit_entries.proofs.Requiring.{extended_then, requires_types, requires_one}
 use Rattle.wit_signatures.proofs.FunctionParts.{params_more}
 use Rattle.wit_signatures.proofs.functions.resolve_params.Goals as goal
 
@@ -46,7 +46,7 @@ returns-in_err-ty-clause-refused c =
     let types = map (λ (w : WrittenParam). w.ty) ws in
     let among : Contains types item.ty = contains_at types i item.ty (read_map (λ (w : WrittenParam). w.ty) ws i item c.loop-written-test.true c.written-item.is) in
     let env = env_of c.args.scope.names.now in
-    let fns = functions_behind c.args.scope in
+    let fns = functions_view c.args.scope in
     let new = c.resolve_in_signature.new.types in
     rw (p.1, p.2) (refused_weaker (IsWrongInSignature env new fns c.args.place item.ty) (λ (f : Fault). IsRefusedParam c.args.repeated (length c.args.params.now.items) (map written_param ws) f ⊎ IsWrongInSignatures env new fns c.args.place types f) _ (λ f wrong. inr (item.ty, among, wrong)) c.in_err-ty.ensures.refused)
 
@@ -61,20 +61,20 @@ loop-written-preserved c =
     let mid = c.loop-written.types in
     let new = c.resolve_in_signature.new.types in
     let type_of = λ (w : WrittenParam). w.ty in
-    let taken : take (i + 1) ws ≡ take i ws ++ item ∷ [] = take_more ws i item c.loop-written-test.true ∙ ap (λ (x : WrittenParam). take i ws ++ x ∷ []) (sym c.written-item.is) in
-    let types : map type_of (take (i + 1) ws) ≡ map type_of (take i ws) ++ item.ty ∷ [] = ap (map type_of) taken ∙ map-append type_of (take i ws) (item ∷ []) in
+    let in_use : take (i + 1) ws ≡ take i ws ++ item ∷ [] = take_more ws i item c.loop-written-test.true ∙ ap (λ (x : WrittenParam). take i ws ++ x ∷ []) (sym c.written-item.is) in
+    let types : map type_of (take (i + 1) ws) ≡ map type_of (take i ws) ++ item.ty ∷ [] = ap (map type_of) in_use ∙ map-append type_of (take i ws) (item ∷ []) in
     let differ : (c.args.repeated ≡ Some c.len.result → ⊥) = search rules in
     let long : c.len.result ≡ length c.args.params.now.items + i = omega (arith, c.len.ensures, c.loop-written.params.ok.0, c.loop-written.invariant.count) in
     record {
-      params = λ vs first given. params_more first mid new env vs (take i ws) (take (i + 1) ws) item out c.push.new.self.items made c.in_ok-ty.ty taken c.in_ok-push.ensures.items c.in_ok-param.ensures.name c.in_ok-param.ensures.span c.in_ok-param.ensures.ty c.in_ok-ty.ensures.resolved (c.loop-written.invariant.params vs first given);
+      params = λ vs first given. params_more first mid new env vs (take i ws) (take (i + 1) ws) item out c.push.new.self.items made c.in_ok-ty.ty in_use c.in_ok-push.ensures.items c.in_ok-param.ensures.name c.in_ok-param.ensures.span c.in_ok-param.ensures.ty c.in_ok-ty.ensures.resolved (c.loop-written.invariant.params vs first given);
       count = (let a = ap (λ (l : List Param). length l) c.in_ok-push.ensures.items in let b = length-append out (made ∷ []) in let d = c.loop-written.invariant.count in omega arith);
       distinct = λ k is le. elim (cases_lt (length c.args.params.now.items + i) k) [
         | inl lt ↦ omega arith
         | inr here ↦ (let at = c.loop-written.invariant.distinct k is le in let same : k ≡ c.len.result = omega arith in absurd (differ (is ∙ ap (λ (n : ℕ). Some n) same)))
       ];
       legal = subst AreLegal (sym types) (legal_more (map type_of (take i ws)) (item.ty ∷ []) c.loop-written.invariant.legal (legal_one item.ty c.in_ok-ty.ensures.legal));
-      handled = subst (λ (ts : List Written). Requires env new (all_handles ts) c.args.required.now.items c.resolve_in_signature.new.required.items) (sym types) (requires_types env mid new (map type_of (take i ws)) (item.ty ∷ []) _ _ _ c.in_ok-ty.ensures.grown c.loop-written.invariant.handled (requires_one env new item.ty _ _ c.in_ok-ty.ensures.handled));
-      grown = grown_then _ _ _ c.loop-written.invariant.grown c.in_ok-ty.ensures.grown;
+      handled = subst (λ (ts : List Written). Requires env new (all_handles ts) c.args.required.now.items c.resolve_in_signature.new.required.items) (sym types) (requires_types env mid new (map type_of (take i ws)) (item.ty ∷ []) _ _ _ c.in_ok-ty.ensures.extended c.loop-written.invariant.handled (requires_one env new item.ty _ _ c.in_ok-ty.ensures.handled));
+      extended = extended_then _ _ _ c.loop-written.invariant.extended c.in_ok-ty.ensures.extended;
     }
 
 pub returns-clause-params : goal.returns-clause-params

@@ -5,7 +5,7 @@ use Rattle.wit_syntax.specs.Shape.{all_handles}
 use Rattle.wit_syntax.specs.Function.{SourceParam, written_param}
 use Rattle.wit_arena.specs.Resolving.{env_of}
 use Rattle.wit_arena.proofs.Written.{AreLegal}
-use Rattle.wit_entries.specs.Requiring.{IsGrown, Requires}
+use Rattle.wit_entries.specs.Requiring.{IsExtended, Requires}
 use Rattle.wit_rules.specs.Signatures.{AreParamsOver}
 use Rattle.wit_signatures.proofs.functions.resolve_params.Given as goal
 
@@ -16,5 +16,5 @@ invariant-loop-written l = record {
   distinct : (k : ℕ) → l.repeated ≡ Some k → length l.fn.params.items ≤ k → length l.fn.params.items + l.written-index ≤ k;
   legal : AreLegal (map (λ (p : Written). p.ty) (take l.written-index l.written));
   handled : Requires (env_of l.scope.names.now) l.types (all_handles (map (λ (p : Written). p.ty) (take l.written-index l.written))) l.fn.required.items l.required.items;
-  grown : IsGrown l.fn.types l.types;
+  extended : IsExtended l.fn.types l.types;
 }

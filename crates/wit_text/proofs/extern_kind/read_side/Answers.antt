@@ -1,6 +1,6 @@
 use Rattle.std.proofs.Common.{map}
 use Rattle.std.proofs.lemmas.Result.{err_from_is_err_and}
-use Rattle.wit_grammar.specs.Seen.{see_front}
+use Rattle.wit_grammar.specs.Seen.{see_prefix}
 use Rattle.wit_grammar.specs.ItemRules.{extern, extern_kind, extern_of, side}
 use Rattle.wit_reader.specs.Reading.{spot}
 use Rattle.wit_text.proofs.Makings.{both_first, both_parsed, both_stops}
@@ -8,7 +8,7 @@ use Rattle.wit_text.proofs.extern_kind.read_side.Goals as goal
 
 pub returns-clause-reads : goal.returns-clause-reads
 unfolding extern
-returns-clause-reads c = both_parsed (extern_of (see_front c.args.front.docs c.args.front.attributes.items)) (λ a b. (a, b)) side extern_kind c.in_ok-side.ensures.reads c.in_ok-kind.ensures.reads
+returns-clause-reads c = both_parsed (extern_of (see_prefix c.args.prefix.docs c.args.prefix.attributes.items)) (λ a b. (a, b)) side extern_kind c.in_ok-side.ensures.reads c.in_ok-kind.ensures.reads
 
 pub returns-in_err-side-clause-stops : goal.returns-in_err-side-clause-stops
 unfolding extern

@@ -1,5 +1,5 @@
 use Rattle.std.proofs.lemmas.Result.{err_from_is_err_and}
-use Rattle.wit_text.proofs.Begun.{declaration_added, name_stops_item, nested_stops_item, package_added, whole_package}
+use Rattle.wit_text.proofs.FileBeginning.{declaration_added, name_stops_item, nested_stops_item, package_added, whole_package}
 use Rattle.wit_text.proofs.Kept.{declaration_read, package_begun}
 use Rattle.wit_text.proofs.file.add_item.Goals as goal
 

@@ -1,6 +1,6 @@
 use Rattle.std.proofs.Common.{rules}
 use Rattle.std.proofs.lemmas.Result.{err_from_is_err_and}
-use Rattle.wit_text.proofs.Begun.{items_closed, items_more, items_opened, items_stop}
+use Rattle.wit_text.proofs.FileBeginning.{items_closed, items_more, items_opened, items_stop}
 use Rattle.wit_text.proofs.file.add_items.Goals as goal
 
 pub items-init : goal.items-init

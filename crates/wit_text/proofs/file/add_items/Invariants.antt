@@ -1,5 +1,5 @@
 use Rattle.std.proofs.Common.{◌-◌, length}
-use Rattle.wit_text.proofs.Begun.{AreItems}
+use Rattle.wit_text.proofs.FileBeginning.{AreItems}
 use Rattle.wit_text.proofs.file.add_items.Given as goal
 
 abbrev pub invariant-items : goal.invariant-items

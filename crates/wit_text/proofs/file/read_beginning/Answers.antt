@@ -1,6 +1,6 @@
 use Rattle.std.proofs.Common.{rules, refl}
 use Rattle.std.proofs.lemmas.Result.{err_from_is_err_and}
-use Rattle.wit_text.proofs.Begun.{begun, begun_by_item, item_stops, package_stops}
+use Rattle.wit_text.proofs.FileBeginning.{begun, begun_by_item, item_stops, package_stops}
 use Rattle.wit_text.proofs.file.read_beginning.Goals as goal
 
 pub returns-then-at_word-clause-adds : goal.returns-then-at_word-clause-adds

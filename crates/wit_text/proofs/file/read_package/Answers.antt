@@ -1,7 +1,7 @@
 use Rattle.std.proofs.Common.{rules, refl, []}
 use Rattle.std.proofs.lemmas.Result.{err_from_is_err_and}
 use Rattle.wit_grammar.specs.Seen.{see_nested}
-use Rattle.wit_text.proofs.Begun.{docs_stop, header_parsed, header_stops, name_stops, nested_first, nested_stops, none_more, one_nested}
+use Rattle.wit_text.proofs.FileBeginning.{docs_stop, header_parsed, header_stops, name_stops, nested_first, nested_stops, none_more, one_nested}
 use Rattle.wit_text.proofs.file.read_package.Goals as goal
 
 pub returns-then-at-clause-adds : goal.returns-then-at-clause-adds

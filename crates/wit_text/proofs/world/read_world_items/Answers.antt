@@ -15,7 +15,7 @@ items-preserved c =
 
 pub returns-clause-reads : goal.returns-clause-reads
 unfolding world_items
-returns-clause-reads c = rw c.fitted.ensures (braces_closed world_item c.items.invariant (search rules) c.in_ok-bump.ensures.reads)
+returns-clause-reads c = rw c.shrunk.ensures (braces_closed world_item c.items.invariant (search rules) c.in_ok-bump.ensures.reads)
 
 pub returns-in_err-add_world_item-clause-stops : goal.returns-in_err-add_world_item-clause-stops
 unfolding world_items

@@ -1,8 +1,8 @@
 use Rattle.std.proofs.Common.{◌≡◌, ◌++◌, map, take}
 use Rattle.std.specs.List.{flat_map}
 use Rattle.wit_syntax.specs.Source.{declared_items, top_names}
-use Rattle.wit_top_names.specs.Tops.{top_behind, item_top}
+use Rattle.wit_top_names.specs.Tops.{top_view, item_top}
 use Rattle.wit_top_names.proofs.top_name.add_declared.Given as goal
 
 abbrev pub invariant-loop-item : goal.invariant-loop-item
-invariant-loop-item l = map top_behind l.names.items ≡ map top_behind l.fn.names.items ++ map item_top (flat_map (declared_items (top_names l.file)) (take l.item-index l.item-items))
+invariant-loop-item l = map top_view l.names.items ≡ map top_view l.fn.names.items ++ map item_top (flat_map (declared_items (top_names l.file)) (take l.item-index l.item-items))

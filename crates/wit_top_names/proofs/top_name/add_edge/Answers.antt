@@ -32,13 +32,13 @@ returns-clause-edges c = λ top named. (
     let old = c.args.edges.now.items in
     let es = c.args.paths.top.now in
     let items : Vec Id Global → List Id = λ v. v.items in
-    let behind : Target → List Id = λ t. old ++ local_target t in
+    let rest_after : Target → List Id = λ t. old ++ local_target t in
     elim c.match-path.branch [
       | in-Id+in-Some+in_ok-add_local-in-Some w ↦ (
           let found = leads_some top es w.in-Id.id w.in-Some.target.now named.finds (sym w.get_by.ensures ∙ ap option_copied w.in-Some.is) in
-          ap items w.edges-is ∙ w.in_ok-add_local-in-Some.ensures ∙ ap behind (found ∙ ap (leads top) (sym w.in-Id.is)))
+          ap items w.edges-is ∙ w.in_ok-add_local-in-Some.ensures ∙ ap rest_after (found ∙ ap (leads top) (sym w.in-Id.is)))
       | in-Id+in-None+in_ok-check_declared-in-None+in_ok-push-in-None w ↦ (
           let own = leads_none top es w.in-Id.id named.finds (sym w.get_by.ensures ∙ ap option_copied w.in-None.is) in
-          ap items w.edges-is ∙ w.in_ok-push-in-None.ensures.items ∙ ap behind (own ∙ ap (leads top) (sym w.in-Id.is)))
-      | in-Package w ↦ ap items w.edges-is ∙ sym (append-nil old) ∙ ap (λ path. behind (leads top path)) (sym w.in-Package.is)
+          ap items w.edges-is ∙ w.in_ok-push-in-None.ensures.items ∙ ap rest_after (own ∙ ap (leads top) (sym w.in-Id.is)))
+      | in-Package w ↦ ap items w.edges-is ∙ sym (append-nil old) ∙ ap (λ path. rest_after (leads top path)) (sym w.in-Package.is)
     ])

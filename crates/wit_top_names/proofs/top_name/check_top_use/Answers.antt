@@ -14,5 +14,5 @@ some_attributed (a ∷ xs) span o some = refl
 pub returns-then-not-is_empty : goal.returns-then-not-is_empty
 returns-then-not-is_empty g c = λ is named. elim c.refuse.ensures [
   | inl want ↦ inl want
-  | inr told ↦ inr (some_attributed c.args.used.now.attributes.items c.args.used.now.span (lost_fault is (leads [] c.args.used.now.item)) (λ none. (let wrong : ⊥ = search rules in wrong)) ∙ ap Some (sym told))
+  | inr as_stated ↦ inr (some_attributed c.args.used.now.attributes.items c.args.used.now.span (lost_fault is (leads [] c.args.used.now.item)) (λ none. (let wrong : ⊥ = search rules in wrong)) ∙ ap Some (sym as_stated))
 ]

@@ -1,7 +1,7 @@
 use Rattle.std.proofs.Common.{◌≡◌, map, take}
 use Rattle.wit_syntax.specs.Source.{top_name}
-use Rattle.wit_top_names.specs.Tops.{top_behind}
+use Rattle.wit_top_names.specs.Tops.{top_view}
 use Rattle.wit_top_names.proofs.top_name.top_names.Given as goal
 
 abbrev pub invariant-loop-item : goal.invariant-loop-item
-invariant-loop-item l = map top_behind l.names.items ≡ map top_name (take l.item-index l.items)
+invariant-loop-item l = map top_view l.names.items ≡ map top_name (take l.item-index l.items)

@@ -10,12 +10,12 @@ use Rattle.wit_arena.specs.Resolving.{Defines, IsWrongUse, IsWrongScope}
 use Rattle.wit_syntax.specs.Scope.{local_names}
 use Rattle.wit_syntax.proofs.Lists.{read_map}
 use Rattle.wit_syntax.proofs.Orders.{take_next}
-use Rattle.wit_arena.proofs.Defining.{defines_used, defines_more}
+use Rattle.wit_arena.proofs.DefinitionPart.{defines_used, defines_more}
 use Rattle.wit_syntax.proofs.Refusing.{refused_weaker}
-use Rattle.wit_arena.proofs.Using.{listed_has, listed_more}
-use Rattle.wit_entries.proofs.Requiring.{grown_then}
-use Rattle.wit_scopes.specs.Held.{source_behind, use_behind}
-use Rattle.wit_items.specs.Interfaces.{cells_of}
+use Rattle.wit_arena.proofs.UsePart.{listed_has, listed_more}
+use Rattle.wit_entries.proofs.Requiring.{extended_then}
+use Rattle.wit_scopes.specs.Borrowed.{source_view, use_view}
+use Rattle.wit_items.specs.Interfaces.{resolved_scopes_of}
 use Rattle.wit_scopes.proofs.UsedNames.{wrong_used}
 use Rattle.wit_uses.proofs.uses.resolve_uses.Goals as goal
 
@@ -29,27 +29,27 @@ resolve_use-requires c =
 pub returns-in_err-resolve_use-clause-refused : goal.returns-in_err-resolve_use-clause-refused
 returns-in_err-resolve_use-clause-refused c =
     let p = err_from_is_err_and c.from_residual.result c.from_residual.ensures.1 in
-    let us = map use_behind c.args.uses.now in
+    let us = map use_view c.args.uses.now in
     let i = c.loop-name.name-index in
-    let from = source_behind c.name-item.result.from in
+    let from = source_view c.name-item.result.from in
     let attributes = c.name-item.result.attributes.now in
     let n = c.name-item.result.name.now in
-    let cs = cells_of c.args.interfaces.now in
+    let cs = resolved_scopes_of c.args.interfaces.now in
     let by_name = c.args.interfaces.now.by_name in
     let names = c.loop-name.scope.names in
-    let at : slice_get us i ≡ Some (Used from attributes n) = read_map use_behind c.args.uses.now i c.name-item.result c.loop-name-test.true c.name-item.is in
+    let at : slice_get us i ≡ Some (Used from attributes n) = read_map use_view c.args.uses.now i c.name-item.result c.loop-name-test.true c.name-item.is in
     rw (p.1, p.2) (λ xs are. refused_weaker (IsWrongUse cs by_name names from attributes n) (λ f. (fns : List SourceFunction) → IsWrongScope cs by_name xs fns f) _ (wrong_used cs by_name names xs i from attributes n (ap (λ l. slice_get l i) (sym are) ∙ at) (c.loop-name.invariant.listed ∙ ap (λ l. local_names (take i l)) are)) c.in_err-resolve_use.ensures.refused)
 
 pub loop-name-preserved : goal.loop-name-preserved
 loop-name-preserved c =
-    let us = map use_behind c.args.uses.now in
+    let us = map use_view c.args.uses.now in
     let i = c.loop-name.name-index in
-    let from = source_behind c.name-item.result.from in
+    let from = source_view c.name-item.result.from in
     let attributes = c.name-item.result.attributes.now in
     let n = c.name-item.result.name.now in
-    let cs = cells_of c.args.interfaces.now in
+    let cs = resolved_scopes_of c.args.interfaces.now in
     let o = c.args.scope.now.owner in
-    let at : slice_get us i ≡ Some (Used from attributes n) = read_map use_behind c.args.uses.now i c.name-item.result c.loop-name-test.true c.name-item.is in
+    let at : slice_get us i ≡ Some (Used from attributes n) = read_map use_view c.args.uses.now i c.name-item.result c.loop-name-test.true c.name-item.is in
     let more : take (i + 1) us ≡ take i us ++ Used from attributes n ∷ [] = take_next us i (Used from attributes n) at in
     let old = c.loop-name.scope.names in
     let new = c.resolve_use.new.scope.names in
@@ -59,15 +59,15 @@ loop-name-preserved c =
       owner = e.owner ∙ c.loop-name.invariant.owner;
       required = e.required ∙ c.loop-name.invariant.required;
       listed = rw more (listed_more (take i us) from attributes n c.loop-name.invariant.listed e.used);
-      grown = grown_then c.args.types.now c.loop-name.types c.resolve_use.new.types c.loop-name.invariant.grown e.grown;
+      extended = extended_then c.args.types.now c.loop-name.types c.resolve_use.new.types c.loop-name.invariant.extended e.extended;
     }
 
 pub returns-clause-has : goal.returns-clause-has
 returns-clause-has c =
-    let us = map use_behind c.args.uses.now in
-    listed_has c.loop-name.scope.names us (c.loop-name.invariant.listed ∙ ap local_names (take_all c.loop-name.name-index us (omega (arith, length-map c.args.uses.now use_behind))))
+    let us = map use_view c.args.uses.now in
+    listed_has c.loop-name.scope.names us (c.loop-name.invariant.listed ∙ ap local_names (take_all c.loop-name.name-index us (omega (arith, length-map c.args.uses.now use_view))))
 
 pub returns-clause-listed : goal.returns-clause-listed
 returns-clause-listed c =
-    let us = map use_behind c.args.uses.now in
-    c.loop-name.invariant.listed ∙ ap local_names (take_all c.loop-name.name-index us (omega (arith, length-map c.args.uses.now use_behind)))
+    let us = map use_view c.args.uses.now in
+    c.loop-name.invariant.listed ∙ ap local_names (take_all c.loop-name.name-index us (omega (arith, length-map c.args.uses.now use_view)))

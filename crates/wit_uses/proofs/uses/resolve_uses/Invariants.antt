@@ -2,16 +2,16 @@ use Rattle.std.proofs.Common.{◌≡◌, map, take}
 use Rattle.wit_syntax.specs.Address.{Address}
 use Rattle.wit_arena.specs.Resolving.{Defines}
 use Rattle.wit_syntax.specs.Scope.{local_names}
-use Rattle.wit_entries.specs.Requiring.{IsGrown}
-use Rattle.wit_scopes.specs.Held.{use_behind}
-use Rattle.wit_items.specs.Interfaces.{cells_of}
+use Rattle.wit_entries.specs.Requiring.{IsExtended}
+use Rattle.wit_scopes.specs.Borrowed.{use_view}
+use Rattle.wit_items.specs.Interfaces.{resolved_scopes_of}
 use Rattle.wit_uses.proofs.uses.resolve_uses.Given as goal
 
 abbrev pub invariant-loop-name : goal.invariant-loop-name
 invariant-loop-name l = record {
-  defines : (s : Address) → Defines l.fn.types l.types (cells_of l.interfaces) l.fn.scope.owner s l.fn.scope.names l.scope.names (take l.name-index (map use_behind l.uses));
+  defines : (s : Address) → Defines l.fn.types l.types (resolved_scopes_of l.interfaces) l.fn.scope.owner s l.fn.scope.names l.scope.names (take l.name-index (map use_view l.uses));
   owner : l.scope.owner ≡ l.fn.scope.owner;
   required : l.scope.required ≡ l.fn.scope.required;
-  listed : map (λ p. p.0) l.scope.names ≡ local_names (take l.name-index (map use_behind l.uses));
-  grown : IsGrown l.fn.types l.types;
+  listed : map (λ p. p.0) l.scope.names ≡ local_names (take l.name-index (map use_view l.uses));
+  extended : IsExtended l.fn.types l.types;
 }

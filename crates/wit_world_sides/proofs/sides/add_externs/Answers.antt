@@ -7,12 +7,12 @@ use Rattle.wit_tree.specs.declared.tree.WorldSide.{WorldSide}
 use Rattle.wit_functions.specs.declared.function.Function.{Function}
 use Rattle.wit_syntax.specs.Repeats.{AllDiffer}
 use Rattle.wit_arena.specs.Functions.{function_item}
-use Rattle.wit_externs.specs.declared.held.Led.TheVariants as led
-use Rattle.wit_externs.specs.declared.held.HeldExtern.{HeldExtern}
-use Rattle.wit_externs.specs.declared.held.HeldExtern.TheVariants as held
+use Rattle.wit_externs.specs.declared.borrowed.PathTarget.TheVariants as path_target
+use Rattle.wit_externs.specs.declared.borrowed.BorrowedExtern.{BorrowedExtern}
+use Rattle.wit_externs.specs.declared.borrowed.BorrowedExtern.TheVariants as borrowed
 use Rattle.wit_world_sides.specs.Sides.{entries_of, entries_on, inserted_on}
 use Rattle.wit_world_sides.proofs.Entries.{key_of, function_put, inline_put, link_put, link_left}
-use Rattle.wit_world_sides.proofs.sides.add_externs.Goals.{in-Function+in-Some+in_ok-add_function-in-Function, in-Function+in_default, in-Link+in-Interface+in_ok-add_link-in-Link, in-Link+in_default-led, in-Inline+in-Some-next+in_ok-add_inline-in-Inline, in-Inline+in_default-next}
+use Rattle.wit_world_sides.proofs.sides.add_externs.Goals.{in-Function+in-Some+in_ok-add_function-in-Function, in-Function+in_default, in-Link+in-Interface+in_ok-add_link-in-Link, in-Link+in_default-path_target, in-Inline+in-Some-next+in_ok-add_inline-in-Inline, in-Inline+in_default-next}
 use Rattle.wit_world_sides.proofs.sides.add_externs.Goals as goal
 
 nothing_left : {X : Type 0} (l : List X) → length l ≡ 0 → l ≡ []
@@ -36,74 +36,74 @@ next_none n left xs rest o count all none less is =
 pub add_link-requires : goal.add_link-requires
 add_link-requires c =
     let hs = c.args.externs.now in
-    let k = c.loop-held.held-index in
-    let at : slice_get hs k ≡ Some (held.Link c.in-Link.link) = slice_get_read hs _ k c.held-item.result refl c.loop-held-test.true c.held-item.is ∙ ap Some c.in-Link.is in
+    let k = c.loop-borrowed.borrowed-index in
+    let at : slice_get hs k ≡ Some (borrowed.Link c.in-Link.link) = slice_get_read hs _ k c.borrowed-item.result refl c.loop-borrowed-test.true c.borrowed-item.is ∙ ap Some c.in-Link.is in
     c.requires.within.each k c.in-Link.link c.in-Interface.place at c.in-Interface.is
 
-pub loop-held-preserved : goal.loop-held-preserved
-loop-held-preserved c =
+pub loop-borrowed-preserved : goal.loop-borrowed-preserved
+loop-borrowed-preserved c =
     let hs = c.args.externs.now in
-    let k = c.loop-held.held-index in
-    let h = c.held-item.result in
-    let behind = drop (k + 1) hs in
-    let fs = into_iter_items c.loop-held.made in
-    let ids = into_iter_items c.loop-held.ids in
-    let was = c.loop-held.invariant in
-    let more : drop k hs ≡ h ∷ behind = drop_more hs k h c.loop-held-test.true ∙ ap (λ (y : HeldExtern). y ∷ behind) (sym c.held-item.is) in
-    let front = λ (s : WorldSide). entries_of s c.loop-held.sides in
-    let total = λ (s : WorldSide). entries_of s c.args.sides.now ++ entries_on s hs c.args.standing.functions.items c.args.standing.inside.items in
-    let now = λ (s : WorldSide). ap (λ (l : List HeldExtern). front s ++ entries_on s l fs ids) (sym more) ∙ was.total s in
-    elim c.match-held.branch [
+    let k = c.loop-borrowed.borrowed-index in
+    let h = c.borrowed-item.result in
+    let rest_after = drop (k + 1) hs in
+    let fs = into_iter_items c.loop-borrowed.made in
+    let ids = into_iter_items c.loop-borrowed.ids in
+    let was = c.loop-borrowed.invariant in
+    let more : drop k hs ≡ h ∷ rest_after = drop_more hs k h c.loop-borrowed-test.true ∙ ap (λ (y : BorrowedExtern). y ∷ rest_after) (sym c.borrowed-item.is) in
+    let prefix = λ (s : WorldSide). entries_of s c.loop-borrowed.sides in
+    let total = λ (s : WorldSide). entries_of s c.args.sides.now ++ entries_on s hs c.args.members.functions.items c.args.members.inside.items in
+    let now = λ (s : WorldSide). ap (λ (l : List BorrowedExtern). prefix s ++ entries_on s l fs ids) (sym more) ∙ was.total s in
+    elim c.match-borrowed.branch [
       | in-Function+in-Some+in_ok-add_function-in-Function w ↦ (
           let f = w.in-Function.written in
           let m = w.in-Some.function in
           let rest = into_iter_items w.next.new.self in
-          let next = next_some (into_iter_len c.loop-held.made) (into_iter_len w.next.new.self) fs rest w.next.result m was.left w.next.ensures.items w.next.ensures.len w.in-Some.is in
+          let next = next_some (into_iter_len c.loop-borrowed.made) (into_iter_len w.next.new.self) fs rest w.next.result m was.left w.next.ensures.items w.next.ensures.len w.in-Some.is in
           rw (w.sides-is, w.made-is, w.ids-is) (record {
             left = next.1;
             places = was.places;
-            total = λ s. function_put s (front s) (total s) (c.requires.differ s) _ f m behind rest ids (ap (λ (x : HeldExtern). front s ++ entries_on s (x ∷ behind) (m ∷ rest) ids) (sym w.in-Function.is) ∙ ap (λ (l : List Function). front s ++ entries_on s (h ∷ behind) l ids) (sym next.0) ∙ now s) (w.in_ok-add_function-in-Function.ensures s ∙ ap (λ (own : WorldSide). inserted_on s own (function_item m) (front s)) w.side.ensures);
+            total = λ s. function_put s (prefix s) (total s) (c.requires.differ s) _ f m rest_after rest ids (ap (λ (x : BorrowedExtern). prefix s ++ entries_on s (x ∷ rest_after) (m ∷ rest) ids) (sym w.in-Function.is) ∙ ap (λ (l : List Function). prefix s ++ entries_on s (h ∷ rest_after) l ids) (sym next.0) ∙ now s) (w.in_ok-add_function-in-Function.ensures s ∙ ap (λ (own : WorldSide). inserted_on s own (function_item m) (prefix s)) w.side.ensures);
           }))
       | in-Function+in_default w ↦ (
           let rest = into_iter_items w.next.new.self in
           let none = rw w.in_default.is at w.next.ensures.cases in
-          let next = next_none (into_iter_len c.loop-held.made) (into_iter_len w.next.new.self) fs rest w.next.result was.left w.next.ensures.items none.0 none.1 w.in_default.is in
+          let next = next_none (into_iter_len c.loop-borrowed.made) (into_iter_len w.next.new.self) fs rest w.next.result was.left w.next.ensures.items none.0 none.1 w.in_default.is in
           rw (w.sides-is, w.made-is, w.ids-is) (record {
             left = next.2;
             places = was.places;
-            total = λ s. ap (λ (l : List Function). front s ++ entries_on s behind l ids) next.1 ∙ ap (λ (x : HeldExtern). front s ++ entries_on s (x ∷ behind) [] ids) (sym w.in-Function.is) ∙ ap (λ (l : List Function). front s ++ entries_on s (h ∷ behind) l ids) (sym next.0) ∙ now s;
+            total = λ s. ap (λ (l : List Function). prefix s ++ entries_on s rest_after l ids) next.1 ∙ ap (λ (x : BorrowedExtern). prefix s ++ entries_on s (x ∷ rest_after) [] ids) (sym w.in-Function.is) ∙ ap (λ (l : List Function). prefix s ++ entries_on s (h ∷ rest_after) l ids) (sym next.0) ∙ now s;
           }))
       | in-Link+in-Interface+in_ok-add_link-in-Link w ↦ (
           let l = w.in-Link.link in
           rw (w.sides-is, w.made-is, w.ids-is) (record {
             left = was.left;
             places = was.places;
-            total = λ s. link_put s (front s) (total s) (c.requires.differ s) _ l w.in-Interface.place behind fs ids w.in-Interface.is (ap (λ (x : HeldExtern). front s ++ entries_on s (x ∷ behind) fs ids) (sym w.in-Link.is) ∙ now s) (w.in_ok-add_link-in-Link.ensures s);
+            total = λ s. link_put s (prefix s) (total s) (c.requires.differ s) _ l w.in-Interface.place rest_after fs ids w.in-Interface.is (ap (λ (x : BorrowedExtern). prefix s ++ entries_on s (x ∷ rest_after) fs ids) (sym w.in-Link.is) ∙ now s) (w.in_ok-add_link-in-Link.ensures s);
           }))
-      | in-Link+in_default-led w ↦ (
+      | in-Link+in_default-path_target w ↦ (
           let l = w.in-Link.link in
           rw (w.sides-is, w.made-is, w.ids-is) (record {
             left = was.left;
             places = was.places;
-            total = λ s. link_left s (front s) (total s) (c.requires.differ s) l behind fs ids w.in_default-led.not-Interface (ap (λ (x : HeldExtern). front s ++ entries_on s (x ∷ behind) fs ids) (sym w.in-Link.is) ∙ now s);
+            total = λ s. link_left s (prefix s) (total s) (c.requires.differ s) l rest_after fs ids w.in_default-path_target.not-Interface (ap (λ (x : BorrowedExtern). prefix s ++ entries_on s (x ∷ rest_after) fs ids) (sym w.in-Link.is) ∙ now s);
           }))
       | in-Inline+in-Some-next+in_ok-add_inline-in-Inline w ↦ (
           let i = w.in-Inline.inline in
           let id = w.in-Some-next.id in
           let rest = into_iter_items w.next-in-Inline.new.self in
-          let next = next_some (into_iter_len c.loop-held.ids) (into_iter_len w.next-in-Inline.new.self) ids rest w.next-in-Inline.result id was.places w.next-in-Inline.ensures.items w.next-in-Inline.ensures.len w.in-Some-next.is in
+          let next = next_some (into_iter_len c.loop-borrowed.ids) (into_iter_len w.next-in-Inline.new.self) ids rest w.next-in-Inline.result id was.places w.next-in-Inline.ensures.items w.next-in-Inline.ensures.len w.in-Some-next.is in
           rw (w.sides-is, w.made-is, w.ids-is) (record {
             left = was.left;
             places = next.1;
-            total = λ s. inline_put s (front s) (total s) (c.requires.differ s) _ i id behind fs rest (ap (λ (x : HeldExtern). front s ++ entries_on s (x ∷ behind) fs (id ∷ rest)) (sym w.in-Inline.is) ∙ ap (λ (l : List ℕ). front s ++ entries_on s (h ∷ behind) fs l) (sym next.0) ∙ now s) (w.in_ok-add_inline-in-Inline.ensures s);
+            total = λ s. inline_put s (prefix s) (total s) (c.requires.differ s) _ i id rest_after fs rest (ap (λ (x : BorrowedExtern). prefix s ++ entries_on s (x ∷ rest_after) fs (id ∷ rest)) (sym w.in-Inline.is) ∙ ap (λ (l : List ℕ). prefix s ++ entries_on s (h ∷ rest_after) fs l) (sym next.0) ∙ now s) (w.in_ok-add_inline-in-Inline.ensures s);
           }))
       | in-Inline+in_default-next w ↦ (
           let rest = into_iter_items w.next-in-Inline.new.self in
           let none = rw w.in_default-next.is at w.next-in-Inline.ensures.cases in
-          let next = next_none (into_iter_len c.loop-held.ids) (into_iter_len w.next-in-Inline.new.self) ids rest w.next-in-Inline.result was.places w.next-in-Inline.ensures.items none.0 none.1 w.in_default-next.is in
+          let next = next_none (into_iter_len c.loop-borrowed.ids) (into_iter_len w.next-in-Inline.new.self) ids rest w.next-in-Inline.result was.places w.next-in-Inline.ensures.items none.0 none.1 w.in_default-next.is in
           rw (w.sides-is, w.made-is, w.ids-is) (record {
             left = was.left;
             places = next.2;
-            total = λ s. ap (λ (l : List ℕ). front s ++ entries_on s behind fs l) next.1 ∙ ap (λ (x : HeldExtern). front s ++ entries_on s (x ∷ behind) fs []) (sym w.in-Inline.is) ∙ ap (λ (l : List ℕ). front s ++ entries_on s (h ∷ behind) fs l) (sym next.0) ∙ now s;
+            total = λ s. ap (λ (l : List ℕ). prefix s ++ entries_on s rest_after fs l) next.1 ∙ ap (λ (x : BorrowedExtern). prefix s ++ entries_on s (x ∷ rest_after) fs []) (sym w.in-Inline.is) ∙ ap (λ (l : List ℕ). prefix s ++ entries_on s (h ∷ rest_after) fs l) (sym next.0) ∙ now s;
           }))
     ]

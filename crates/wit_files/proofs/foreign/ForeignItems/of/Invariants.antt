@@ -1,6 +1,6 @@
 use Rattle.std.proofs.Common.{map, take}
-use Rattle.wit_files.specs.Foreign.{foreign_behind, AreItemsOf}
+use Rattle.wit_files.specs.Foreign.{foreign_view, AreItemsOf}
 use Rattle.wit_files.proofs.foreign.ForeignItems.of.Given as goal
 
 abbrev pub invariant-loop-visit : goal.invariant-loop-visit
-invariant-loop-visit l = AreItemsOf (map foreign_behind (take l.visit-index l.visits)) l.items
+invariant-loop-visit l = AreItemsOf (map foreign_view (take l.visit-index l.visits)) l.items

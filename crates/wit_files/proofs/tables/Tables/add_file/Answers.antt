@@ -2,13 +2,13 @@ use Rattle.std.proofs.lemmas.Result.{err_from_is_err_and}
 use Rattle.wit_syntax.specs.Source.{file_items}
 use Rattle.wit_first.specs.Files.{paths_fault}
 use Rattle.wit_first.specs.First.{first_in}
-use Rattle.wit_first.proofs.First.{none_both, reports_back, reports_front}
+use Rattle.wit_first.proofs.First.{none_both, reports_back, reports_prefix}
 use Rattle.wit_files.proofs.tables.Tables.add_file.Goals as goal
 
 pub returns-in_err-top-clause-first : goal.returns-in_err-top-clause-first
 returns-in_err-top-clause-first c =
     let p = err_from_is_err_and c.from_residual-in_err-top.result c.from_residual-in_err-top.ensures.1 in
-    rw (p.1, p.2) (λ is all. reports_front (first_in (paths_fault is) (file_items c.args.file.now)) c.in_err-top.ensures.first)
+    rw (p.1, p.2) (λ is all. reports_prefix (first_in (paths_fault is) (file_items c.args.file.now)) c.in_err-top.ensures.first)
 
 pub returns-in_err-add_items-clause-first : goal.returns-in_err-add_items-clause-first
 returns-in_err-add_items-clause-first c =

@@ -39,10 +39,10 @@ loop-file-preserved c =
     let was = c.loop-file.invariant in
     let e = c.in_ok-add_file.ensures in
     let more : take (i + 1) files ≡ take i files ++ file ∷ [] = take_more files i file c.loop-file-test.true ∙ ap (λ y. take i files ++ y ∷ []) (sym c.file-item.is) in
-    let grown : all_items (take (i + 1) files) ≡ before ++ own = flat_more file_items (take i files) (take (i + 1) files) file more in
+    let extended : all_items (take (i + 1) files) ≡ before ++ own = flat_more file_items (take i files) (take (i + 1) files) file more in
     record {
-      items = e.items ∙ ap (λ l. l ++ map item_row own) was.items ∙ sym (map-append item_row before own) ∙ ap (map item_row) (sym grown);
-      kinds = e.kinds ∙ ap (λ l. l ++ map is_world own) was.kinds ∙ sym (map-append is_world before own) ∙ ap (map is_world) (sym grown);
+      items = e.items ∙ ap (λ l. l ++ map item_row own) was.items ∙ sym (map-append item_row before own) ∙ ap (map item_row) (sym extended);
+      kinds = e.kinds ∙ ap (λ l. l ++ map is_world own) was.kinds ∙ sym (map-append is_world before own) ∙ ap (map is_world) (sym extended);
       tops = rw more (tops_added (take i files) file c.loop-file.names.tops.items c.add_file.new.names.tops.items was.tops e.tops);
       none = in-next (file_fault (all_items files)) files i file c.loop-file-test.true c.file-item.is was.none (e.first (all_items files) c.requires.declared);
       visits = e.visits ∙ was.visits;

@@ -1,7 +1,7 @@
 use Rattle.std.proofs.Common.{[], map, take}
-use Rattle.wit_files.specs.Foreign.{foreign_behind}
-use Rattle.wit_front.specs.Front.{IsTaken}
+use Rattle.wit_files.specs.Foreign.{foreign_view}
+use Rattle.wit_front.specs.ForeignPrefix.{AreAdded}
 use Rattle.wit_front.proofs.foreign.ForeignArenas.of_items.Given as goal
 
 abbrev pub invariant-loop-visit : goal.invariant-loop-visit
-invariant-loop-visit l = IsTaken (map foreign_behind (take l.visit-index l.items)) [] [] l.arenas
+invariant-loop-visit l = AreAdded (map foreign_view (take l.visit-index l.items)) [] [] l.arenas

@@ -6,21 +6,21 @@ use Rattle.indexmap.specs.IndexMap.{insert_entry}
 use Rattle.wit_types.specs.declared.types.TypeDefKind.TheVariants.{Unknown}
 use Rattle.wit_types.specs.declared.types.TypeOwner.TheVariants as owner
 use Rattle.wit_model.specs.declared.interface.Interface.{Interface}
-use Rattle.wit_syntax.specs.Notes.{Notes}
+use Rattle.wit_syntax.specs.Metadata.{Metadata}
 use Rattle.wit_arena.specs.Resolving.{named}
-use Rattle.wit_notes.specs.Notes.{notes_behind}
-use Rattle.wit_front.specs.Front.{with_types, addresses_among}
-use Rattle.wit_front.proofs.Taken.{taken-known, taken-fresh, is_some-copied, none_copied}
+use Rattle.wit_notes.specs.Metadata.{metadata_view}
+use Rattle.wit_front.specs.ForeignPrefix.{with_types, addresses_among}
+use Rattle.wit_front.proofs.ForeignName.{in_use-known, in_use-fresh, is_some-copied, none_copied}
 use Rattle.wit_front.proofs.foreign.ForeignArenas.take.Goals as goal
 
-pub returns-then-is_some-clause-taken : goal.returns-then-is_some-clause-taken
-returns-then-is_some-clause-taken c = λ vs ts s apart at_place before. (
+pub returns-then-is_some-clause-in_use : goal.returns-then-is_some-clause-in_use
+returns-then-is_some-clause-in_use c = λ vs ts s apart at_place before. (
     let place = subst (λ k. slice_get (addresses_among vs) k ≡ Some s) (sym c.id_at-id.ensures) at_place in
     let has = ap is_some (sym c.get-2.ensures) ∙ is_some-copied c.get-2.result ∙ sym c.is_some.ensures ∙ c.if-is_some.true in
-    taken-known vs ts s c.args.attributes.now c.args.name.now c.id_at-id.result c.get.result.now c.args.types.now c.args.self.now place c.get.ensures before has)
+    in_use-known vs ts s c.args.attributes.now c.args.name.now c.id_at-id.result c.get.result.now c.args.types.now c.args.self.now place c.get.ensures before has)
 
-pub returns-clause-taken : goal.returns-clause-taken
-returns-clause-taken c = λ vs ts s apart at_place before. (
+pub returns-clause-in_use : goal.returns-clause-in_use
+returns-clause-in_use c = λ vs ts s apart at_place before. (
     let place = subst (λ k. slice_get (addresses_among vs) k ≡ Some s) (sym c.id_at-id.ensures) at_place in
     let both : Some c.get.result.now ≡ Some c.get_mut.result.now = sym c.get.ensures ∙ c.get_mut.ensures.value in
     let same : c.get.result.now ≡ c.get_mut.result.now = cc in
@@ -28,6 +28,6 @@ returns-clause-taken c = λ vs ts s apart at_place before. (
     let q = c.args.name.now.name.name.now in
     let es = c.args.types.now in
     let none : lookup (pointwise nat_eq q) i.types ≡ None = ap (λ (x : Interface). lookup (pointwise nat_eq q) x.types) (sym same) ∙ sym c.get-2.ensures ∙ none_copied c.get-2.result (sym c.is_some.ensures ∙ c.if-is_some.false) in
-    let types = c.in_ok-ty.ensures.added ∙ ap (λ (x : List ℕ). es ++ named (owner.Interface c.id_at-id.result) x Unknown (notes_behind c.in_ok-notes.notes) c.args.name.now.name.span ∷ []) c.in_ok-text.ensures ∙ ap (λ (m : Notes). es ++ named (owner.Interface c.id_at-id.result) q Unknown m c.args.name.now.name.span ∷ []) c.in_ok-notes.ensures in
+    let types = c.in_ok-ty.ensures.added ∙ ap (λ (x : List ℕ). es ++ named (owner.Interface c.id_at-id.result) x Unknown (metadata_view c.in_ok-metadata.metadata) c.args.name.now.name.span ∷ []) c.in_ok-text.ensures ∙ ap (λ (m : Metadata). es ++ named (owner.Interface c.id_at-id.result) q Unknown m c.args.name.now.name.span ∷ []) c.in_ok-metadata.ensures in
     let interfaces = ap (slice_set c.args.self.now.interfaces c.id_at-id.result) (c.in_ok-add_type.ensures ∙ ap (λ (k : ℕ). with_types i (insert_entry (pointwise nat_eq) i.types q k)) c.in_ok-ty.ensures.id) in
-    taken-fresh vs ts s c.args.attributes.now c.args.name.now c.id_at-id.result i es c.args.self.now place c.get_mut.ensures.value before apart none c.add_named.new.self _ types interfaces refl refl c.in_ok-push.ensures.items)
+    in_use-fresh vs ts s c.args.attributes.now c.args.name.now c.id_at-id.result i es c.args.self.now place c.get_mut.ensures.value before apart none c.add_named.new.self _ types interfaces refl refl c.in_ok-push.ensures.items)

@@ -3,14 +3,14 @@ use Rattle.std.specs.Prelude.{slice_get}
 use Rattle.std.specs.List.{flat_map}
 use Rattle.std.proofs.lemmas.List.{take_more, take_all}
 use Rattle.std.proofs.lemmas.Option.{slice_get-get_or}
-use Rattle.wit_syntax.specs.Source.{Taking}
+use Rattle.wit_syntax.specs.Source.{ForeignUse}
 use Rattle.wit_syntax.specs.Foreign.{foreign_items}
 use Rattle.wit_arena.proofs.Visits.{interfaces_differ}
 use Rattle.wit_top_names.proofs.Lost.{flat_more}
 use Rattle.wit_items.specs.declared.items.Item.{Item}
-use Rattle.wit_front.specs.Front.{IsTaken, addresses_among, held_takings}
-use Rattle.wit_front.proofs.Takings.{all-takings, one_placed}
-use Rattle.wit_front.proofs.Taken.{front_taken}
+use Rattle.wit_front.specs.ForeignPrefix.{AreAdded, addresses_among, borrowed_foreign_uses}
+use Rattle.wit_front.proofs.ForeignUses.{all-foreign_uses, one_placed}
+use Rattle.wit_front.proofs.ForeignName.{prefix_used}
 use Rattle.wit_front.proofs.foreign.ForeignArenas.take_all.Goals as goal
 
 pub take_item-requires : goal.take_item-requires
@@ -20,7 +20,7 @@ take_item-requires c =
     let x = c.item-item.result in
     let had = c.requires in
     let at : slice_get xs i ≡ Some x = slice_get-get_or xs i x c.loop-item-test.true ∙ ap Some (sym c.item-item.is) in
-    record { vs = had.vs; ts = had.ts ++ flat_map held_takings (take i xs); apart = had.apart; taken = c.loop-item.invariant had.vs had.ts had.apart had.placed had.taken; placed = one_placed (addresses_among had.vs) xs i x at had.placed }
+    record { vs = had.vs; ts = had.ts ++ flat_map borrowed_foreign_uses (take i xs); apart = had.apart; in_use = c.loop-item.invariant had.vs had.ts had.apart had.placed had.in_use; placed = one_placed (addresses_among had.vs) xs i x at had.placed }
 
 pub loop-item-preserved : goal.loop-item-preserved
 loop-item-preserved c = λ vs ts apart placed before. (
@@ -29,16 +29,16 @@ loop-item-preserved c = λ vs ts apart placed before. (
     let x = c.item-item.result in
     let more : take (i + 1) xs ≡ take i xs ++ x ∷ [] = take_more xs i x c.loop-item-test.true ∙ ap (λ (y : Item). take i xs ++ y ∷ []) (sym c.item-item.is) in
     let at : slice_get xs i ≡ Some x = slice_get-get_or xs i x c.loop-item-test.true ∙ ap Some (sym c.item-item.is) in
-    let front = flat_map held_takings (take i xs) in
-    let next = c.in_ok-take_item.ensures.taken vs (ts ++ front) apart (one_placed (addresses_among vs) xs i x at placed) (c.loop-item.invariant vs ts apart placed before) in
-    let grown : ts ++ flat_map held_takings (take (i + 1) xs) ≡ (ts ++ front) ++ held_takings x = ap (λ (l : List Taking). ts ++ l) (flat_more held_takings (take i xs) (take (i + 1) xs) x more) ∙ sym (append_assoc ts front (held_takings x)) in
-    subst (λ (l : List Taking). IsTaken vs l c.take_item.new.types c.take_item.new.self) (sym grown) next)
+    let prefix = flat_map borrowed_foreign_uses (take i xs) in
+    let next = c.in_ok-take_item.ensures.in_use vs (ts ++ prefix) apart (one_placed (addresses_among vs) xs i x at placed) (c.loop-item.invariant vs ts apart placed before) in
+    let extended : ts ++ flat_map borrowed_foreign_uses (take (i + 1) xs) ≡ (ts ++ prefix) ++ borrowed_foreign_uses x = ap (λ (l : List ForeignUse). ts ++ l) (flat_more borrowed_foreign_uses (take i xs) (take (i + 1) xs) x more) ∙ sym (append_assoc ts prefix (borrowed_foreign_uses x)) in
+    subst (λ (l : List ForeignUse). AreAdded vs l c.take_item.new.types c.take_item.new.self) (sym extended) next)
 
-pub returns-clause-taken : goal.returns-clause-taken
-returns-clause-taken c = λ files before placed names inside. (
+pub returns-clause-in_use : goal.returns-clause-in_use
+returns-clause-in_use c = λ files before placed names inside. (
     let xs = c.args.items.now in
     let i = c.loop-item.item-index in
     let whole : take i xs ≡ xs = take_all i xs (omega arith) in
     let all = c.loop-item.invariant (foreign_items files) [] (interfaces_differ files) placed before in
-    let takings = ap (flat_map held_takings) whole ∙ all-takings files xs names inside in
-    front_taken files c.loop-item.types c.loop-item.self (subst (λ (l : List Taking). IsTaken (foreign_items files) l c.loop-item.types c.loop-item.self) takings all))
+    let foreign_uses = ap (flat_map borrowed_foreign_uses) whole ∙ all-foreign_uses files xs names inside in
+    prefix_used files c.loop-item.types c.loop-item.self (subst (λ (l : List ForeignUse). AreAdded (foreign_items files) l c.loop-item.types c.loop-item.self) foreign_uses all))

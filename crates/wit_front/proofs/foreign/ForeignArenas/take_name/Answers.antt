@@ -1,27 +1,27 @@
 use Rattle.std.proofs.Common.{◌≡◌, [], ◌∷◌, ap, ◌∙◌, subst}
 use Rattle.std.proofs.lemmas.List.{append-nil}
 use Rattle.wit_syntax.specs.Address.{ForeignNamed, package_of}
-use Rattle.wit_syntax.specs.Source.{Used, taking}
-use Rattle.wit_scopes.specs.Held.{Held as ScopeName, source_behind, name_behind, IsPlaced}
+use Rattle.wit_syntax.specs.Source.{Used, use_of_foreign}
+use Rattle.wit_scopes.specs.Borrowed.{Borrowed as ScopeName, source_view, name_view, IsPlaced}
 use Rattle.wit_scopes.specs.declared.scope_name.Source.{Source}
-use Rattle.wit_scopes.specs.Front.{IsNamePlaced}
-use Rattle.wit_front.specs.Front.{addresses_among, name_takings}
+use Rattle.wit_scopes.specs.PlacedNames.{IsNamePlaced}
+use Rattle.wit_front.specs.ForeignPrefix.{addresses_among, name_foreign_uses}
 use Rattle.wit_front.proofs.foreign.ForeignArenas.take_name.Goals.{in-Used+in-Foreign+in_ok-take, in-Used+in_default-from, in_default}
 use Rattle.wit_front.proofs.foreign.ForeignArenas.take_name.Goals as goal
 
-pub returns-clause-taken : goal.returns-clause-taken
-returns-clause-taken c = λ vs ts apart placed before. elim c.match-name.branch [
+pub returns-clause-in_use : goal.returns-clause-in_use
+returns-clause-in_use c = λ vs ts apart placed before. elim c.match-name.branch [
   | in-Used+in-Foreign+in_ok-take w ↦ (
       let u = w.in-Used.used in
       let s = ForeignNamed (package_of w.in-Foreign.«package».now) w.in-Foreign.name.name.now in
       let from : IsPlaced (addresses_among vs) u.from = subst (IsNamePlaced (addresses_among vs)) w.in-Used.is placed in
       let place = subst (IsPlaced (addresses_among vs)) w.in-Foreign.is from in
-      let names : name_takings (name_behind c.args.name.now) ≡ taking s u.attributes.now u.name.now ∷ [] = ap (λ (x : ScopeName). name_takings (name_behind x)) w.in-Used.is ∙ ap (λ (f : Source). name_takings (Used (source_behind f) u.attributes.now u.name.now)) w.in-Foreign.is in
-      rw (w.self-is, w.types-is, names) (w.in_ok-take.ensures.taken vs ts s apart place before))
+      let names : name_foreign_uses (name_view c.args.name.now) ≡ use_of_foreign s u.attributes.now u.name.now ∷ [] = ap (λ (x : ScopeName). name_foreign_uses (name_view x)) w.in-Used.is ∙ ap (λ (f : Source). name_foreign_uses (Used (source_view f) u.attributes.now u.name.now)) w.in-Foreign.is in
+      rw (w.self-is, w.types-is, names) (w.in_ok-take.ensures.in_use vs ts s apart place before))
   | in-Used+in_default-from w ↦ (
-      let names : name_takings (name_behind c.args.name.now) ≡ [] = ap (λ (x : ScopeName). name_takings (name_behind x)) w.in-Used.is ∙ ap (λ (f : Source). name_takings (Used (source_behind f) w.in-Used.used.attributes.now w.in-Used.used.name.now)) w.in_default-from.is in
+      let names : name_foreign_uses (name_view c.args.name.now) ≡ [] = ap (λ (x : ScopeName). name_foreign_uses (name_view x)) w.in-Used.is ∙ ap (λ (f : Source). name_foreign_uses (Used (source_view f) w.in-Used.used.attributes.now w.in-Used.used.name.now)) w.in_default-from.is in
       rw (w.self-is, w.types-is, names, append-nil ts) before)
   | in_default w ↦ (
-      let names : name_takings (name_behind c.args.name.now) ≡ [] = ap (λ (x : ScopeName). name_takings (name_behind x)) w.in_default.is in
+      let names : name_foreign_uses (name_view c.args.name.now) ≡ [] = ap (λ (x : ScopeName). name_foreign_uses (name_view x)) w.in_default.is in
       rw (w.self-is, w.types-is, names, append-nil ts) before)
 ]

@@ -2,10 +2,10 @@ use Rattle.std.proofs.Common.{◌≡◌, ◌+◌, ◌++◌, List, [], ◌∷◌,
 use Rattle.std.specs.Prelude.{slice_get}
 use Rattle.std.proofs.lemmas.List.{take_more}
 use Rattle.std.proofs.lemmas.Option.{slice_get-get_or}
-use Rattle.wit_syntax.specs.Source.{Taking}
-use Rattle.wit_scopes.specs.Held.{Held as ScopeName, name_behind}
-use Rattle.wit_front.specs.Front.{IsTaken, name_takings, names_takings}
-use Rattle.wit_front.proofs.Taken.{takings-next}
+use Rattle.wit_syntax.specs.Source.{ForeignUse}
+use Rattle.wit_scopes.specs.Borrowed.{Borrowed as ScopeName, name_view}
+use Rattle.wit_front.specs.ForeignPrefix.{AreAdded, name_foreign_uses, names_foreign_uses}
+use Rattle.wit_front.proofs.ForeignName.{foreign_uses-next}
 use Rattle.wit_front.proofs.foreign.ForeignArenas.take_names.Goals as goal
 
 pub loop-name-preserved : goal.loop-name-preserved
@@ -15,6 +15,6 @@ loop-name-preserved c = λ vs ts apart placed before. (
     let x = c.name-item.result in
     let more : take (i + 1) xs ≡ take i xs ++ x ∷ [] = take_more xs i x c.loop-name-test.true ∙ ap (λ (y : ScopeName). take i xs ++ y ∷ []) (sym c.name-item.is) in
     let at : slice_get xs i ≡ Some x = slice_get-get_or xs i x c.loop-name-test.true ∙ ap Some (sym c.name-item.is) in
-    let next = c.in_ok-take_name.ensures.taken vs (ts ++ names_takings (map name_behind (take i xs))) apart (placed.each i x at) (c.loop-name.invariant vs ts apart placed before) in
-    let grown : ts ++ names_takings (map name_behind (take (i + 1) xs)) ≡ (ts ++ names_takings (map name_behind (take i xs))) ++ name_takings (name_behind x) = ap (λ (l : List ScopeName). ts ++ names_takings (map name_behind l)) more ∙ takings-next name_takings name_behind ts (take i xs) x in
-    subst (λ (l : List Taking). IsTaken vs l c.take_name.new.types c.take_name.new.self) (sym grown) next)
+    let next = c.in_ok-take_name.ensures.in_use vs (ts ++ names_foreign_uses (map name_view (take i xs))) apart (placed.each i x at) (c.loop-name.invariant vs ts apart placed before) in
+    let extended : ts ++ names_foreign_uses (map name_view (take (i + 1) xs)) ≡ (ts ++ names_foreign_uses (map name_view (take i xs))) ++ name_foreign_uses (name_view x) = ap (λ (l : List ScopeName). ts ++ names_foreign_uses (map name_view l)) more ∙ foreign_uses-next name_foreign_uses name_view ts (take i xs) x in
+    subst (λ (l : List ForeignUse). AreAdded vs l c.take_name.new.types c.take_name.new.self) (sym extended) next)

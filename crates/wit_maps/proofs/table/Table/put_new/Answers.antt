@@ -1,8 +1,8 @@
-use Rattle.wit_maps.proofs.Putting.{told_nowhere, told_there}
+use Rattle.wit_maps.proofs.Putting.{stated_nowhere, stated_there}
 use Rattle.wit_maps.proofs.table.Table.put_new.Goals as goal
 
 pub returns-in-Some-clause-place : goal.returns-in-Some-clause-place
-returns-in-Some-clause-place g c = told_there g.K.PartialEq.eq g.K.Ord.cmp g.K.Hash.hash_input c.args.key _ _ _ _ c.reserve.ensures.items c.self.view_is c.deref.ensures.value _ _ c.in_ok-place.ensures.found (g.met.K.Eq.laws.congr c.args.key) c.self.inside.index c.self.invariant _ c.in-Some.is
+returns-in-Some-clause-place g c = stated_there g.K.PartialEq.eq g.K.Ord.cmp g.K.Hash.hash_input c.args.key _ _ _ _ c.reserve.ensures.items c.self.view_is c.deref.ensures.value _ _ c.in_ok-place.ensures.found (g.met.K.Eq.laws.congr c.args.key) c.self.inside.index c.self.invariant _ c.in-Some.is
 
 pub returns-in-None-clause-place : goal.returns-in-None-clause-place
-returns-in-None-clause-place g c = told_nowhere g.K.PartialEq.eq g.K.Ord.cmp g.K.Hash.hash_input c.args.key _ _ _ _ c.reserve.ensures.items c.self.view_is c.deref.ensures.value _ _ c.in_ok-place.ensures.found c.in-None.is
+returns-in-None-clause-place g c = stated_nowhere g.K.PartialEq.eq g.K.Ord.cmp g.K.Hash.hash_input c.args.key _ _ _ _ c.reserve.ensures.items c.self.view_is c.deref.ensures.value _ _ c.in_ok-place.ensures.found c.in-None.is

@@ -3,7 +3,7 @@ use Rattle.std.proofs.lemmas.Result.{err_from_is_err_and}
 use Rattle.wit_first.proofs.Bridge.{refused_by}
 use Rattle.wit_parser.proofs.Pushing.{push_agrees}
 use Rattle.wit_nested.proofs.Fitting.{not_unfit}
-use Rattle.wit_nested.proofs.Making.{among_unfit, nested_grown, rest_unfit}
+use Rattle.wit_nested.proofs.Making.{among_unfit, nested_extended, rest_unfit}
 use Rattle.wit_nested.proofs.resolver.GroupResolver.push.Goals as goal
 
 pub returns-in_err-made-clause-refused : goal.returns-in_err-made-clause-refused
@@ -16,7 +16,7 @@ returns-in-Ok-clause-files c = c.in-Ok.ensures.ok ∙ ap (λ file. c.args.self.n
 
 pub returns-in-Ok-clause-nested : goal.returns-in-Ok-clause-nested
 returns-in-Ok-clause-nested c =
-    nested_grown c.args.source.nested.items c.args.source.nested.items c.in_ok-made.made.items c.args.self.now.nested.items _ refl c.in_ok-made.ensures.made c.in_ok-append.ensures.items
+    nested_extended c.args.source.nested.items c.args.source.nested.items c.in_ok-made.made.items c.args.self.now.nested.items _ refl c.in_ok-made.ensures.made c.in_ok-append.ensures.items
 
 pub returns-in-Ok-clause-accepted : goal.returns-in-Ok-clause-accepted
 returns-in-Ok-clause-accepted c =

@@ -2,7 +2,7 @@ use Rattle.std.specs.Option.{option_or}
 use Rattle.std.proofs.lemmas.Result.{err_from_is_err_and}
 use Rattle.wit_syntax.specs.Broken.{headers}
 use Rattle.wit_first.specs.Headers.{nesting_fault, second_docs_fault}
-use Rattle.wit_first.proofs.First.{none_both, reports_back, reports_front}
+use Rattle.wit_first.proofs.First.{none_both, reports_back, reports_prefix}
 use Rattle.wit_parser.proofs.resolver.Resolver.push.Goals as goal
 
 pub returns-in_err-check_header-clause-first : goal.returns-in_err-check_header-clause-first
@@ -10,13 +10,13 @@ returns-in_err-check_header-clause-first c =
     let p = err_from_is_err_and c.from_residual.result c.from_residual.ensures.1 in
     let files = c.args.self.now.files.items in
     let source = c.args.source in
-    rw (p.1, p.2) (reports_front (option_or (second_docs_fault (headers files) source.file.package_id) (nesting_fault source.nested.items)) (rw c.last_header.ensures at c.in_err-check_header.ensures))
+    rw (p.1, p.2) (reports_prefix (option_or (second_docs_fault (headers files) source.file.package_id) (nesting_fault source.nested.items)) (rw c.last_header.ensures at c.in_err-check_header.ensures))
 
 pub returns-in_err-check_docs-clause-first : goal.returns-in_err-check_docs-clause-first
 returns-in_err-check_docs-clause-first c =
     let p = err_from_is_err_and c.from_residual-in_err-check_docs.result c.from_residual-in_err-check_docs.ensures.1 in
     let files = c.args.self.now.files.items in
-    rw (p.1, p.2) (reports_back (rw c.last_header.ensures at c.in_ok-check_header.ensures) (reports_front (nesting_fault c.args.source.nested.items) (c.in_err-check_docs.ensures (headers files) c.args.self.now.docs)))
+    rw (p.1, p.2) (reports_back (rw c.last_header.ensures at c.in_ok-check_header.ensures) (reports_prefix (nesting_fault c.args.source.nested.items) (c.in_err-check_docs.ensures (headers files) c.args.self.now.docs)))
 
 pub returns-in_err-check_nested-clause-first : goal.returns-in_err-check_nested-clause-first
 returns-in_err-check_nested-clause-first c =

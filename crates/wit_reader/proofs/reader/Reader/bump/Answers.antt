@@ -8,7 +8,7 @@ use Rattle.wit_reader.proofs.reader.Reader.bump.Goals as goal
 pub returns-clause-reads : goal.returns-clause-reads
 returns-clause-reads c =
     let order = c.args.self.now.within.order in
-    let front = c.args.self.now.front in
+    let prefix = c.args.self.now.prefix in
     record {
       source = refl;
       offset = refl;
@@ -29,7 +29,7 @@ invariant_of-self c =
     let self = c.args.self.now in
     let kept = c.in_err-advance.ensures.kept in
     record {
-      front = rw kept self.front;
+      prefix = rw kept self.prefix;
       fits = self.fits;
       within = rw kept self.within;
       found = rw kept self.found;

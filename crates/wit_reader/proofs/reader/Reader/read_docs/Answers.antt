@@ -9,7 +9,7 @@ pub invariant_of-self : goal.invariant_of-self
 invariant_of-self c =
     let self = c.args.self.now in
     record {
-      front = omega arith;
+      prefix = omega arith;
       fits = self.fits;
       within = self.within;
       found = self.found;

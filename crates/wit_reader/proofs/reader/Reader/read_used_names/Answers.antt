@@ -16,7 +16,7 @@ names-preserved c =
     listing_more c.add.new.items.items c.in_ok-used.used c.in_ok-more-2.more (rw c.names-test.true at c.names.invariant) c.in_ok-used.ensures.reads c.in_ok-add.ensures c.in_ok-more-2.ensures.reads
 
 pub returns-clause-reads : goal.returns-clause-reads
-returns-clause-reads c = rw c.fitted.ensures (listing_closed (rw c.names-test.false at c.names.invariant))
+returns-clause-reads c = rw c.shrunk.ensures (listing_closed (rw c.names-test.false at c.names.invariant))
 
 pub returns-in_err-used-clause-stops : goal.returns-in_err-used-clause-stops
 returns-in_err-used-clause-stops c =

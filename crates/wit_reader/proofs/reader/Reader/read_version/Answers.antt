@@ -5,7 +5,7 @@ invariant_of-self c =
     let self = c.args.self.now in
     let same = c.in_err-advance-in-Some.ensures.kept in
     record {
-      front = rw same self.front;
+      prefix = rw same self.prefix;
       fits = self.fits;
       within = rw same self.within;
       found = rw same self.found;

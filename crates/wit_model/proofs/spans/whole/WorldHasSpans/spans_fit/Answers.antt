@@ -1,4 +1,4 @@
-use Rattle.wit_model.proofs.WorldSpans.{PartsFit-from, PartsFit-whole, tells_whole}
+use Rattle.wit_model.proofs.WorldSpans.{PartsFit-from, PartsFit-whole, gives_whole}
 use Rattle.wit_model.proofs.spans.whole.WorldHasSpans.spans_fit.Goals as goal
 
 pub returns-then-not-spans_fit-2 : goal.returns-then-not-spans_fit-2
@@ -12,4 +12,4 @@ returns c =
     let o = c.args.offset in
     let w = c.args.self.now in
     let own = c.if-not-spans_fit.ensures.0 in
-    tells_whole c.spans_fit-4.result (λ fits. PartsFit-whole o w (record { own = own; imports = c.if-not-spans_fit-2.ensures; exports = c.if-not-spans_fit-3.ensures; includes = fits })) (λ h. (PartsFit-from o w h).includes) c.spans_fit-4.ensures
+    gives_whole c.spans_fit-4.result (λ fits. PartsFit-whole o w (record { own = own; imports = c.if-not-spans_fit-2.ensures; exports = c.if-not-spans_fit-3.ensures; includes = fits })) (λ h. (PartsFit-from o w h).includes) c.spans_fit-4.ensures

@@ -1,5 +1,5 @@
 use Rattle.wit_model.proofs.PackageSpans.{PackageFits-from, PackageFits-whole}
-use Rattle.wit_model.proofs.WorldSpans.{tells_whole}
+use Rattle.wit_model.proofs.WorldSpans.{gives_whole}
 use Rattle.wit_model.proofs.unresolved.spans.UnresolvedPackageHasSpans.spans_fit.Goals as goal
 
 pub returns-then-not-spans_fit-2 : goal.returns-then-not-spans_fit-2
@@ -21,4 +21,4 @@ pub returns : goal.returns
 returns c =
     let o = c.args.offset in
     let p = c.args.self.now in
-    tells_whole c.spans_fit-7.result (λ fits. PackageFits-whole o p (record { own = c.if-not-spans_fit.ensures.0; unknown = c.if-not-spans_fit-2.ensures; foreign = c.if-not-spans_fit-3.ensures; required = c.if-not-spans_fit-4.ensures; worlds = c.if-not-spans_fit-5.ensures; interfaces = c.if-not-spans_fit-6.ensures; types = fits })) (λ h. (PackageFits-from o p h).types) c.spans_fit-7.ensures
+    gives_whole c.spans_fit-7.result (λ fits. PackageFits-whole o p (record { own = c.if-not-spans_fit.ensures.0; unknown = c.if-not-spans_fit-2.ensures; foreign = c.if-not-spans_fit-3.ensures; required = c.if-not-spans_fit-4.ensures; worlds = c.if-not-spans_fit-5.ensures; interfaces = c.if-not-spans_fit-6.ensures; types = fits })) (λ h. (PackageFits-from o p h).types) c.spans_fit-7.ensures

@@ -1,0 +1,176 @@
+-- What occurs in the names of a scope, one after another.
+use Rattle.std.proofs.Common.{◌≡◌, ℕ, suc, ◌+◌, true, cond, List, [], ◌∷◌, ◌++◌, length, Option, Some, None, nat_eq, inl, inr, refl, sym, ap, ◌∙◌, subst, append_assoc, arith}
+use Rattle.std.specs.Prelude.{slice_get, map}
+use Rattle.std.specs.Cmp.Lexicographic.{pointwise}
+use Rattle.std.proofs.lemmas.List.{append-nil, map-append}
+use Rattle.std.proofs.lemmas.Option.{slice_get_within}
+use Rattle.indexmap.specs.IndexMap.{insert_entry}
+use Rattle.wit_type_tree.specs.declared.leaves.Attribute.{Attribute}
+use Rattle.wit_tree.specs.declared.tree.UseName.{UseName}
+use Rattle.wit_type_tree.specs.declared.types.TypeDef.{TypeDef as Definition}
+use Rattle.wit_types.specs.declared.types.TypeDef.{TypeDef}
+use Rattle.wit_types.specs.declared.types.TypeDefKind.{TypeDefKind}
+use Rattle.wit_types.specs.declared.types.TypeDefKind.TheVariants.{Type_}
+use Rattle.wit_types.specs.declared.types.TypeOwner.{TypeOwner}
+use Rattle.wit_types.specs.declared.types.«Type».TheVariants as type
+use Rattle.wit_arena.specs.Kind.{kind_of}
+use Rattle.wit_syntax.specs.Address.{Address}
+use Rattle.wit_syntax.specs.Source.{ScopeName, Used, Defined, local_name, about_name}
+use Rattle.wit_arena.specs.Expr.{Exprs, End, exprs_of, name_exprs}
+use Rattle.wit_arena.specs.Occurrences.{Key, Def, Occurrence, keys, IsSeen, Collects, Decls, IsOccurrence, shapes_occurrences, name_occurrences}
+use Rattle.wit_arena.specs.Resolving.{all_seen, Names, ResolvedScope, env_of, Env, AreNames, AreKnown, IsExtended, AreResolved, IsAdded, IsUsed, Defines, AreNew, named, AreOwned}
+use Rattle.wit_syntax.specs.Scope.{AreDistinct, local_names}
+use Rattle.wit_syntax.proofs.Repeated.{differ_at, differ_by}
+use Rattle.wit_syntax.proofs.Lists.{at_prefix, at_back, at_seam, at_either}
+use Rattle.wit_arena.proofs.Occurrence.{keys-append, collects_append, collects_from, collects_extended, names_kept, no_defs, occurrence_more, Has, has_either}
+use Rattle.wit_syntax.proofs.Names.{name_cases, name_itself, lookup-insert_entry, names-insert_entry}
+use Rattle.std.proofs.lemmas.Grind.{flat_map-append}
+use Rattle.wit_syntax.specs.Shape.{body_of}
+use Rattle.wit_arena.proofs.Keys.{keys-shapes}
+use Rattle.wit_arena.proofs.Places.{key_extended}
+use Rattle.std.specs.Option.{unwrap_or}
+use Rattle.wit_arena.proofs.Turns.{parts_occurrences, all_name_occurrences}
+
+-- a name that was not seen is free
+pub name_free : (ks : List Key) (s : Address) (env : Env) (name : List ℕ) → AreNames ks s env → (IsSeen ks (Def s name) → ⊥) → env name ≡ None
+name_free ks s env name names new = go (env name) refl
+  where
+    go : (o : Option ℕ) → env name ≡ o → env name ≡ None
+    go None e = e
+    go (Some i) e = absurd (new (i, names.present name i e))
+
+-- the names with one more
+names_added : (ks : List Key) (s : Address) (names : Names) (name : List ℕ) (place : ℕ) → AreNames ks s (env_of names) → (IsSeen ks (Def s name) → ⊥) → place ≡ length ks → AreNames (ks ++ Def s name ∷ []) s (env_of (insert_entry (pointwise nat_eq) names name place))
+names_added ks s names name place is fresh at_end = record {
+  present = λ n i h. elim (name_cases n name) [
+    | inl same ↦ (
+        let some : Some i ≡ Some place = sym h ∙ lookup-insert_entry names name n place ∙ ap (λ b. cond b (Some place) (env_of names n)) (ap (λ m. pointwise nat_eq m name) same ∙ name_itself name) in
+        let at : i ≡ length ks = (let e : i ≡ place = cc in e ∙ at_end) in
+        rw (at, same) (at_seam ks (Def s name)))
+    | inr other ↦ at_prefix ks (Def s name ∷ []) i (Def s n) (is.present n i (sym (lookup-insert_entry names name n place ∙ ap (λ b. cond b (Some place) (env_of names n)) other) ∙ h))
+  ];
+  has = λ j n at. elim (name_cases n name) [
+    | inl same ↦ (place, lookup-insert_entry names name n place ∙ ap (λ b. cond b (Some place) (env_of names n)) (ap (λ m. pointwise nat_eq m name) same ∙ name_itself name))
+    | inr other ↦ elim (at_either ks (Def s name) j (Def s n) at) [
+      | inl old ↦ (let was = is.has j n old in (was.0, lookup-insert_entry names name n place ∙ ap (λ b. cond b (Some place) (env_of names n)) other ∙ was.1))
+      | inr new ↦ absurd (let same : n ≡ name = (let k = new.1 in cc) in let wrong : pointwise nat_eq n name ≡ true = ap (λ m. pointwise nat_eq m name) same ∙ name_itself name in let f : ⊥ = cc in f)
+    ]
+  ];
+}
+
+-- a name over parts that were resolved
+defines_from : (old mid new : List TypeDef) (cs : List ResolvedScope) (o : TypeOwner) (s : Address) (names names' : Names) (x : ScopeName) (kind : TypeDefKind) (es : Exprs) → keys (parts_occurrences s x) ≡ all_seen es → ((decls : Decls) (ms : List Occurrence) → IsOccurrence decls ms old → AreNames (keys ms) s (env_of names) → AreKnown (keys ms) s cs → IsExtended decls ms mid (parts_occurrences s x) (name_exprs s x) (kind_of kind).parts) → (kind_of kind).form ≡ (about_name x).body.form → IsAdded mid new o names names' (local_name x) (about_name x).metadata (about_name x).span kind → Defines old new cs o s names names' (x ∷ [])
+defines_from old mid new cs o s names names' x kind es keys_of p form a = record {
+  from = λ decls ms among distinct anew known m are_present. (
+      let name = local_name x in
+      let more = parts_occurrences s x in
+      let it : Occurrence = record { key = Def s name; span = (about_name x).span; given = (about_name x).metadata.stability } in
+      let own = among 0 x refl in
+      let y = p decls ms m are_present known in
+      let kept = names_kept ms y.now more s (env_of names) es keys_of y.collects are_present in
+      let fresh : IsSeen (keys y.now) (Def s name) → ⊥ = λ was. elim (collects_from more ms y.now y.collects was.0 (Def s name) was.1) [
+        | inl before ↦ anew.new 0 x refl before
+        | inr inner ↦ no_defs es s name (subst (λ ks. Has ks (Def s name)) keys_of inner)
+      ] in
+      let keyed = y.occurrence.keyed in
+      let count : length mid ≡ length (keys y.now) = keyed.count in
+      let free = name_free (keys y.now) s (env_of names) name kept fresh in
+      record {
+        now = y.now ++ it ∷ [];
+        collects = subst (λ l. Collects ms l (y.now ++ it ∷ [])) (sym (append-nil (more ++ it ∷ []))) (collects_append more (it ∷ []) ms y.now (y.now ++ it ∷ []) y.collects (inr (fresh, refl)));
+        occurrence = subst (IsOccurrence decls (y.now ++ it ∷ [])) (sym a.last) (occurrence_more it (named o name kind (about_name x).metadata (about_name x).span) y.occurrence fresh (own.0, x, own.1, refl, refl, refl, sym own.2, form, y.at, record { docs = refl; stability = refl; external_id = refl }) refl tt);
+        are_present = rw (a.inserted, keys-append y.now (it ∷ [])) (names_added (keys y.now) s names name (length mid) kept fresh count);
+        listed = ap (map (λ p. p.0)) a.inserted ∙ names-insert_entry names name (length mid) free;
+      });
+}
+
+-- a definition over parts that were resolved
+pub defines_one : (old mid new : List TypeDef) (cs : List ResolvedScope) (o : TypeOwner) (s : Address) (names names' : Names) (d : Definition) (kind : TypeDefKind) → AreResolved old mid s (env_of names) (shapes_occurrences s (about_name (Defined d)).metadata.stability (body_of d.body).parts) (exprs_of s (body_of d.body).parts) (kind_of kind).parts → (kind_of kind).form ≡ (body_of d.body).form → IsAdded mid new o names names' d.name.name.now (about_name (Defined d)).metadata d.name.span kind → Defines old new cs o s names names' (Defined d ∷ [])
+defines_one old mid new cs o s names names' d kind p form a = defines_from old mid new cs o s names names' (Defined d) kind (exprs_of s (body_of d.body).parts) p.same (λ decls ms m are_present known. p.from decls ms m are_present) form a
+
+-- the names of a scope mean their places, however it is called
+key_at_scope : {ks : List Key} {s t : Address} {env : Env} → AreNames ks s env → s ≡ t → (name : List ℕ) (i : ℕ) → env name ≡ Some i → slice_get ks i ≡ Some (Def t name)
+key_at_scope {ks} {s} {t} {env} names same name i h = names.present name i h ∙ ap (λ (x : Address). Some (Def x name)) same
+
+-- a name that is used from a scope that was resolved
+pub defines_used : (old new : List TypeDef) (cs : List ResolvedScope) (o : TypeOwner) (s : Address) (names names' : Names) (from : Address) (attributes : List Attribute) (n : UseName) → IsUsed old new cs o names names' from attributes n → Defines old new cs o s names names' (Used from attributes n ∷ [])
+defines_used old new cs o s names names' from attributes n u =
+    let original = n.name.name.now in
+    defines_from old old new cs o s names names' (Used from attributes n) (Type_ (type.Id u.id)) End refl (λ decls ms m are_present known. record {
+      now = ms;
+      collects = refl;
+      occurrence = m;
+      at = ((u.id, refl, key_at_scope (known.names u.found.place u.target u.found.at) u.found.called original u.id u.present), tt);
+    }) refl u.added
+
+-- what occurs in the parts of a name of a scope are the unnamed expressions in them
+pub parts_keys : (s : Address) (x : ScopeName) → keys (parts_occurrences s x) ≡ all_seen (name_exprs s x)
+parts_keys s x = keys-shapes (unwrap_or (about_name x).from s) (about_name x).metadata.stability (about_name x).body.parts
+
+pub name_keys : (s : Address) (x : ScopeName) → keys (name_occurrences s x) ≡ keys (parts_occurrences s x) ++ Def s (local_name x) ∷ []
+name_keys s x = keys-append (parts_occurrences s x) (record { key = Def s (local_name x); span = (about_name x).span; given = (about_name x).metadata.stability } ∷ [])
+
+-- a name that occurs in names of a scope is one of them
+pub name_seen_in : (s : Address) (xs : List ScopeName) (t : Address) (name : List ℕ) → Has (keys (all_name_occurrences s xs)) (Def t name) → (t ≡ s) × ((i : ℕ) × (x : ScopeName) × (slice_get xs i ≡ Some x) × (local_name x ≡ name))
+name_seen_in s [] t name h = absurd h
+name_seen_in s (x ∷ xs) t name h =
+    let h' = subst (λ ks. Has ks (Def t name)) (keys-append (name_occurrences s x) (all_name_occurrences s xs) ∙ ap (λ ks. ks ++ keys (all_name_occurrences s xs)) (name_keys s x)) h in
+    elim (has_either (keys (parts_occurrences s x) ++ Def s (local_name x) ∷ []) (keys (all_name_occurrences s xs)) (Def t name) h') [
+      | inl first ↦ elim (has_either (keys (parts_occurrences s x)) (Def s (local_name x) ∷ []) (Def t name) first) [
+        | inl inner ↦ absurd (no_defs (name_exprs s x) t name (subst (λ ks. Has ks (Def t name)) (parts_keys s x) inner))
+        | inr last ↦ elim last [
+          | inl here ↦ (let a : t ≡ s = cc in let b : local_name x ≡ name = cc in (a, (0, x, refl, b)))
+          | inr none ↦ absurd none
+        ]
+      ]
+      | inr rest ↦ (let it = name_seen_in s xs t name rest in (it.0, (suc it.1.0, it.1.1, it.1.2, it.1.3)))
+    ]
+
+pub all_name_occurrences-append : (s : Address) (xs ys : List ScopeName) → all_name_occurrences s (xs ++ ys) ≡ all_name_occurrences s xs ++ all_name_occurrences s ys
+all_name_occurrences-append s xs ys = flat_map-append (name_occurrences s) xs ys
+
+-- names of scopes still are once names of another scope occurred
+pub known_kept : (a b : List Occurrence) (s : Address) (cs : List ResolvedScope) (xs : List ScopeName) → Collects a (all_name_occurrences s xs) b → AreKnown (keys a) s cs → AreKnown (keys b) s cs
+known_kept a b s cs xs h known = record {
+  names = λ t c at. record {
+    present = λ n id found. key_extended (collects_extended (all_name_occurrences s xs) a b h) id (Def c.address n) ((known.names t c at).present n id found);
+    has = λ j n jat. elim (collects_from (all_name_occurrences s xs) a b h j (Def c.address n) jat) [
+      | inl before ↦ (known.names t c at).has before.0 n before.1
+      | inr new ↦ absurd (known.others t c at (name_seen_in s xs c.address n new).0)
+    ];
+  };
+  others = known.others;
+}
+
+pub defines_none : (es : List TypeDef) (cs : List ResolvedScope) (o : TypeOwner) (s : Address) (names : Names) → Defines es es cs o s names names []
+defines_none es cs o s names = record { from = λ decls ms among distinct anew known m are_present. record { now = ms; collects = refl; occurrence = m; are_present = are_present; listed = sym (append-nil (map (λ p. p.0) names)) } }
+
+-- some names, and then others
+pub defines_more : (old mid new : List TypeDef) (cs : List ResolvedScope) (o : TypeOwner) (s : Address) (a b c : Names) (xs ys : List ScopeName) → Defines old mid cs o s a b xs → Defines mid new cs o s b c ys → Defines old new cs o s a c (xs ++ ys)
+defines_more old mid new cs o s a b c xs ys p q = record {
+  from = λ decls ms among distinct anew known m are_present. (
+      let left : AreOwned decls o s xs = λ i x at. among i x (at_prefix xs ys i x at) in
+      let right : AreOwned decls o s ys = λ i x at. among (length xs + i) x (at_back xs ys i x at) in
+      let distinct_left : AreDistinct xs = differ_by local_name xs (λ i j d e ati atj same. differ_at local_name (xs ++ ys) distinct i j d e (at_prefix xs ys i d ati) (at_prefix xs ys j e atj) same) in
+      let distinct_right : AreDistinct ys = differ_by local_name ys (λ i j d e ati atj same. (let both = differ_at local_name (xs ++ ys) distinct (length xs + i) (length xs + j) d e (at_back xs ys i d ati) (at_back xs ys j e atj) same in omega arith)) in
+      let new_left : AreNew (keys ms) s xs = record { new = λ i d at. anew.new i d (at_prefix xs ys i d at) } in
+      let x = p.from decls ms left distinct_left new_left known m are_present in
+      let new_right : AreNew (keys x.now) s ys = record {
+        new = λ i e at was. elim (collects_from (all_name_occurrences s xs) ms x.now x.collects was.0 (Def s (local_name e)) was.1) [
+          | inl before ↦ anew.new (length xs + i) e (at_back xs ys i e at) before
+          | inr inner ↦ (
+              let d = (name_seen_in s xs s (local_name e) inner).1 in
+              let both = differ_at local_name (xs ++ ys) distinct d.0 (length xs + i) d.1 e (at_prefix xs ys d.0 d.1 d.2) (at_back xs ys i e at) d.3 in
+              let within = slice_get_within xs d.0 d.1 d.2 in
+              omega arith)
+        ];
+      } in
+      let y = q.from decls x.now right distinct_right new_right (known_kept ms x.now s cs xs x.collects known) x.occurrence x.are_present in
+      record {
+        now = y.now;
+        collects = subst (λ l. Collects ms l y.now) (sym (all_name_occurrences-append s xs ys)) (collects_append (all_name_occurrences s xs) (all_name_occurrences s ys) ms x.now y.now x.collects y.collects);
+        occurrence = y.occurrence;
+        are_present = y.are_present;
+        listed = y.listed ∙ ap (λ ns. ns ++ local_names ys) x.listed ∙ append_assoc (map (λ p. p.0) a) (local_names xs) (local_names ys) ∙ ap (λ ns. map (λ p. p.0) a ++ ns) (sym (map-append local_name xs ys));
+      });
+}

@@ -1,0 +1,168 @@
+-- From scopes that are done to names and functions that are, one by one, and back.
+use Rattle.std.proofs.Common.{◌≡◌, ℕ, zero, suc, List, [], ◌∷◌, ◌++◌, length, map, Some, inl, inr, sym, ap, ◌∙◌, subst}
+use Rattle.std.specs.Prelude.{slice_get}
+use Rattle.std.specs.List.{flat_map}
+use Rattle.std.specs.Option.{option_map}
+use Rattle.std.proofs.lemmas.List.{map-append}
+use Rattle.std.proofs.lemmas.Option.{slice_get-map}
+use Rattle.wit_tree.specs.declared.tree.PackageFile.{PackageFile}
+use Rattle.wit_types.specs.declared.types.TypeDef.{TypeDef}
+use Rattle.wit_functions.specs.declared.function.Function.{Function}
+use Rattle.wit_syntax.specs.Address.{Address}
+use Rattle.wit_syntax.specs.Function.{SourceFunction}
+use Rattle.wit_syntax.specs.Repeats.{AllDiffer}
+use Rattle.wit_syntax.specs.Source.{local_name}
+use Rattle.wit_syntax.specs.ScopesOfTrees.{scope}
+use Rattle.wit_syntax.proofs.Lists.{at_prefix, at_seam, at_either, map_at, flat_map_at}
+use Rattle.wit_syntax.proofs.Repeated.{differ_more}
+use Rattle.wit_arena.specs.Functions.{IsFunction, AreFunctions}
+use Rattle.wit_arena.specs.Occurrences.{Def, Occurrence, keys, Decls}
+use Rattle.wit_arena.specs.Resolving.{ResolvedScope, env_of, AreNames, AreKnown, AreNew, IsDefined, Defines}
+use Rattle.wit_arena.proofs.DefinitionPart.{name_seen_in, known_kept}
+use Rattle.wit_arena.proofs.FunctionPart.{DoneFunction, done_functions, scope_functions, AreDoneNames, IsFunctionPart, AreWhole}
+use Rattle.wit_arena.proofs.Occurrence.{collects_append, collects_from, collects_extended}
+use Rattle.wit_arena.proofs.Signatures.{function_extended}
+use Rattle.wit_arena.proofs.Members.{DoneScope, done_address, resolved_scope_of, IsTurn, IsNameOf, IsDone}
+use Rattle.wit_arena.proofs.Turns.{all_name_occurrences}
+use Rattle.wit_arena.proofs.DoneScopes.{turned_owned}
+
+-- a function with the one that was made of it
+abbrev pub done_function : Address → SourceFunction → Function → DoneFunction
+done_function s fn f = record { address = s; fn = fn; made = f }
+
+done_function_at : (s : Address) (fns : List SourceFunction) (fs : List Function) (k : ℕ) (fn : SourceFunction) (f : Function) → slice_get fns k ≡ Some fn → slice_get fs k ≡ Some f → slice_get (done_functions s fns fs) k ≡ Some (done_function s fn f)
+done_function_at s [] fs k fn f at there = absurd (let wrong : ⊥ = cc in wrong)
+done_function_at s (x ∷ fns) [] k fn f at there = absurd (let wrong : ⊥ = cc in wrong)
+done_function_at s (x ∷ fns) (g ∷ fs) zero fn f at there =
+    let one : x ≡ fn = cc in
+    let two : g ≡ f = cc in
+    ap (λ (y : SourceFunction). Some (done_function s y g)) one ∙ ap (λ (y : Function). Some (done_function s fn y)) two
+done_function_at s (x ∷ fns) (g ∷ fs) (suc k) fn f at there = done_function_at s fns fs k fn f at there
+
+-- it is one of these
+pub record IsMadeOf (s : Address) (fns : List SourceFunction) (fs : List Function) (k : ℕ) (g : DoneFunction) : Type 0 where
+  pub whose : g.address ≡ s
+  pub written : slice_get fns k ≡ Some g.fn
+  pub made_at : slice_get fs k ≡ Some g.made
+
+pub done_function_from : (s : Address) (fns : List SourceFunction) (fs : List Function) (k : ℕ) (g : DoneFunction) → slice_get (done_functions s fns fs) k ≡ Some g → IsMadeOf s fns fs k g
+done_function_from s [] fs k g at = absurd (let wrong : ⊥ = cc in wrong)
+done_function_from s (x ∷ fns) [] k g at = absurd (let wrong : ⊥ = cc in wrong)
+done_function_from s (x ∷ fns) (f ∷ fs) zero g at =
+    let same : done_function s x f ≡ g = cc in
+    record { whose = ap (λ (y : DoneFunction). y.address) (sym same); written = ap (λ (y : DoneFunction). Some y.fn) same; made_at = ap (λ (y : DoneFunction). Some y.made) same }
+done_function_from s (x ∷ fns) (f ∷ fs) (suc k) g at =
+    let it = done_function_from s fns fs k g at in
+    record { whose = it.whose; written = it.written; made_at = it.made_at }
+
+module _ (files : List PackageFile) (decls : Decls) (written : List Occurrence) (cs : List DoneScope) (es : List TypeDef) (d : IsDone files decls written cs es) where
+  function_made : (k : ℕ) (g : DoneFunction) → slice_get (flat_map scope_functions cs) k ≡ Some g → IsFunction (keys d.seen) g.address g.fn g.made
+  function_made k g at =
+      let it = flat_map_at scope_functions cs k g at in
+      let one = done_function_from it.1.address it.1.functions it.1.made it.3.0 g it.3.1 in
+      subst (λ (s : Address). IsFunction (keys d.seen) s g.fn g.made) (sym one.whose) ((d.made it.0 it.1 it.2).each it.3.0 g.fn g.made one.written one.made_at)
+
+  -- what is done can go on
+  pub function_part_of : IsFunctionPart files decls written cs (flat_map scope_functions cs) es
+  function_part_of = record {
+    seen = d.seen;
+    collects = d.collects;
+    occurrence = d.occurrence;
+    each = λ t c at. record { turn = (d.each t c at).turn; listed = (d.each t c at).listed };
+    own = d.own;
+    are_present = d.are_present;
+    before = d.before;
+    unique = d.unique;
+    made = function_made;
+  }
+
+module _ (files : List PackageFile) (decls : Decls) (written : List Occurrence) (cs : List DoneScope) (gs : List DoneFunction) (es : List TypeDef) (d : IsFunctionPart files decls written cs gs es) (w : AreWhole files cs gs (keys d.seen)) where
+  functions_made : (t : ℕ) (c : DoneScope) → slice_get cs t ≡ Some c → AreFunctions (keys d.seen) c.address c.functions c.made
+  functions_made t c at = record {
+    count = w.count t c at;
+    each = λ k fn f written_at made_at. (
+        let j = w.made t k c (done_function c.address fn f) at (done_function_at c.address c.functions c.made k fn f written_at made_at) in
+        d.made j.0 (done_function c.address fn f) j.1);
+  }
+
+  -- what is whole is done
+  pub done_of : IsDone files decls written cs es
+  done_of = record {
+    seen = d.seen;
+    collects = d.collects;
+    occurrence = d.occurrence;
+    each = λ t c at. record { turn = (d.each t c at).turn; listed = (d.each t c at).listed; functions = w.functions t c at; stated = w.stated t c at };
+    own = d.own;
+    are_present = d.are_present;
+    before = d.before;
+    unique = d.unique;
+    made = functions_made;
+    required = w.required;
+  }
+
+module _ (files : List PackageFile) (decls : Decls) (written : List Occurrence) (cs : List DoneScope) (gs : List DoneFunction) (es es' : List TypeDef) (c : DoneScope) (d : IsFunctionPart files decls written cs gs es) (fresh : (t : ℕ) (b : DoneScope) → slice_get cs t ≡ Some b → b.address ≡ c.address → ⊥) (own : decls c.address ≡ (scope files c.address, c.owner)) (turn : IsTurn (scope files c.address) c.names) (defines : Defines es es' (map resolved_scope_of cs) c.owner c.address [] c.types c.names) where
+  abbrev s : Address
+  s = c.address
+
+  abbrev named : List Occurrence
+  named = all_name_occurrences s c.names
+
+  others : AreKnown (keys d.seen) s (map resolved_scope_of cs)
+  others = record {
+    names = λ t k at. (let b = map_at resolved_scope_of cs t k at in subst (λ (x : ResolvedScope). AreNames (keys d.seen) x.address (env_of x.types)) b.2 (d.are_present t b.0 b.1));
+    others = λ t k at same. (let b = map_at resolved_scope_of cs t k at in fresh t b.0 b.1 (ap (λ (x : ResolvedScope). x.address) b.2 ∙ same));
+  }
+
+  unmet : (j : ℕ) (name : List ℕ) → slice_get (keys d.seen) j ≡ Some (Def s name) → ⊥
+  unmet j name at = let it = d.before j s name at in fresh it.place it.resolved_scope it.at it.scope
+
+  anew : AreNew (keys d.seen) s c.names
+  anew = record { new = λ i x at was. unmet was.0 (local_name x) was.1 }
+
+  nothing : AreNames (keys d.seen) s (env_of [])
+  nothing = record {
+    present = λ name i h. absurd (let f : ⊥ = cc in f);
+    has = λ j name at. absurd (unmet j name at);
+  }
+
+  defined : IsDefined decls d.seen es' s [] c.types c.names
+  defined = defines.from decls d.seen (turned_owned decls c.owner s (scope files s) c.names own turn) turn.differ anew others d.occurrence nothing
+
+  kept : AreKnown (keys defined.now) s (map resolved_scope_of cs)
+  kept = known_kept d.seen defined.now s (map resolved_scope_of cs) c.names defined.collects others
+
+  abbrev all : List DoneScope
+  all = cs ++ c ∷ []
+
+  named_among : (j : ℕ) (t : Address) (name : List ℕ) → slice_get (keys defined.now) j ≡ Some (Def t name) → IsNameOf all t name
+  named_among j t name at = elim (collects_from named d.seen defined.now defined.collects j (Def t name) at) [
+    | inl was ↦ (
+        let it = d.before was.0 t name was.1 in
+        record { place = it.place; resolved_scope = it.resolved_scope; at = at_prefix cs (c ∷ []) it.place it.resolved_scope it.at; scope = it.scope; index = it.index; x = it.x; among = it.among; called = it.called })
+    | inr new ↦ (
+        let it = name_seen_in s c.names t name new in
+        record { place = length cs; resolved_scope = c; at = at_seam cs c; scope = sym it.0; index = it.1.0; x = it.1.1; among = it.1.2; called = it.1.3 })
+  ]
+
+  -- the names of one scope more
+  pub names_of_functions : IsFunctionPart files decls (written ++ named) all gs es'
+  names_of_functions = record {
+    seen = defined.now;
+    collects = collects_append written named [] d.seen defined.now d.collects defined.collects;
+    occurrence = defined.occurrence;
+    each = λ t b at. elim (at_either cs c t b at) [
+      | inl old ↦ d.each t b old
+      | inr new ↦ subst (λ (x : DoneScope). AreDoneNames files x) (sym new.1) (record { turn = turn; listed = defined.listed })
+    ];
+    own = λ t b at. elim (at_either cs c t b at) [
+      | inl old ↦ d.own t b old
+      | inr new ↦ subst (λ (x : DoneScope). decls x.address ≡ (scope files x.address, x.owner)) (sym new.1) own
+    ];
+    are_present = λ t b at. elim (at_either cs c t b at) [
+      | inl old ↦ kept.names t (resolved_scope_of b) (slice_get-map resolved_scope_of cs t ∙ ap (option_map resolved_scope_of) old)
+      | inr new ↦ subst (λ (x : DoneScope). AreNames (keys defined.now) x.address (env_of x.types)) (sym new.1) defined.are_present
+    ];
+    before = named_among;
+    unique = subst AllDiffer (sym (map-append done_address cs (c ∷ []))) (differ_more (map done_address cs) s d.unique (λ i at. (let b = map_at done_address cs i s at in fresh i b.0 b.1 b.2)));
+    made = λ k g at. function_extended (collects_extended named d.seen defined.now defined.collects) g.address g.fn g.made (d.made k g at);
+  }

@@ -1,0 +1,178 @@
+-- The scopes of a package are: all that occurs in files occurs in them, and each name of them means its place.
+use Rattle.std.proofs.Common.{◌≡◌, ℕ, suc, List, [], ◌∷◌, ◌++◌, Some, ◌⊎◌, inl, inr, refl, sym, ap, ◌∙◌, subst}
+use Rattle.std.specs.Prelude.{slice_get, map}
+use Rattle.std.specs.Option.{option_map}
+use Rattle.std.proofs.lemmas.Option.{slice_get-map}
+use Rattle.wit_tree.specs.declared.tree.PackageFile.{PackageFile}
+use Rattle.wit_model.specs.declared.unresolved.UnresolvedPackage.{UnresolvedPackage}
+use Rattle.wit_types.specs.declared.types.TypeOwner.{TypeOwner}
+use Rattle.wit_types.specs.declared.types.TypeOwner.TheVariants as owner
+use Rattle.wit_syntax.specs.Address.{Address}
+use Rattle.wit_syntax.specs.Broken.{IsLegal}
+use Rattle.wit_syntax.specs.Foreign.{visited, foreign_interfaces}
+use Rattle.wit_syntax.specs.Form.{Form}
+use Rattle.wit_syntax.specs.Source.{ScopeName, ForeignName, ForeignUse, local_name, same_foreign_use, foreign_uses}
+use Rattle.wit_syntax.specs.ScopesOfTrees.{scope}
+use Rattle.wit_syntax.proofs.Firsts.{firsts_has}
+use Rattle.wit_syntax.proofs.Found.{some_of}
+use Rattle.wit_syntax.proofs.Lists.{at_prefix}
+use Rattle.wit_syntax.proofs.Names.{lookup-place}
+use Rattle.wit_arena.specs.Expr.{Exprs, expr_of, name_exprs}
+use Rattle.wit_arena.specs.Occurrences.{Key, Def, Whole, Occurrence, keys, Collects, Decls}
+use Rattle.wit_arena.specs.Package.{names_of}
+use Rattle.wit_arena.specs.Resolving.{Names, AreNames, all_seen, env_of, seen}
+use Rattle.wit_arena.specs.Whole.{Ordered, OrderedWorld, Turned, addresses, all_inside, all_occurrences, all_turns, declarations, interface_addresses, owner_at, foreign_use_occurrence, turn_occurrences, world_addresses, IsPackage}
+use Rattle.wit_arena.proofs.DefinitionPart.{name_seen_in}
+use Rattle.wit_arena.proofs.DoneScopes.{seen_in_turn}
+use Rattle.wit_arena.proofs.KnownScopes.{IsKnown}
+use Rattle.wit_arena.proofs.KnownTurns.{scopes, known_at, interface_resolved_scope, turn_part}
+use Rattle.wit_arena.proofs.LegalScopes.{uses_lead}
+use Rattle.wit_arena.proofs.Occurrence.{Has, has_either, keys-append, collects_from}
+use Rattle.wit_arena.proofs.Members.{DoneScope, IsNameOf, IsInSignatureOf, IsWholeOf, IsPresent}
+use Rattle.wit_arena.proofs.ForeignUses.{foreign_use_key, use_of_foreign-from, use_of_foreign-equal, used_from, in_use_has}
+use Rattle.wit_arena.proofs.UsePart.{lookup-listed}
+use Rattle.wit_arena.proofs.Wholes.{whole_in_names, whole_in_turn}
+use Rattle.wit_arena.proofs.Turns.{occurrences}
+
+-- a name that occurs in what is taken is taken
+foreign_use_of : (ts : List ForeignUse) (s : Address) (name : List ℕ) → Has (keys (map foreign_use_occurrence ts)) (Def s name) → (j : ℕ) × (t : ForeignUse) × (slice_get ts j ≡ Some t) × (foreign_use_key t ≡ Def s name)
+foreign_use_of [] s name h = absurd h
+foreign_use_of (t ∷ ts) s name h = elim h [ inl here ↦ (0, t, refl, here) | inr rest ↦ (let it = foreign_use_of ts s name rest in (suc it.0, it.1, it.2, it.3)) ]
+
+-- nothing unnamed is taken
+no_whole_used : (ts : List ForeignUse) (form : Form) (parts : Exprs) → Has (keys (map foreign_use_occurrence ts)) (Whole form parts) → ⊥
+no_whole_used [] form parts h = h
+no_whole_used (t ∷ ts) form parts h = elim h [ inl here ↦ (let f : ⊥ = cc in f) | inr rest ↦ no_whole_used ts form parts rest ]
+
+-- what occurs in scopes occurs in one of them
+turn_of_occurrence : (ts : List Turned) (k : Key) → Has (keys (occurrences ts)) k → (i : ℕ) × (t : Turned) × (slice_get ts i ≡ Some t) × Has (keys (turn_occurrences t)) k
+turn_of_occurrence [] k h = absurd h
+turn_of_occurrence (t ∷ ts) k h = elim (has_either (keys (turn_occurrences t)) (keys (occurrences ts)) k (subst (λ (l : List Key). Has l k) (keys-append (turn_occurrences t) (occurrences ts)) h)) [
+  | inl here ↦ (0, t, refl, here)
+  | inr rest ↦ (let it = turn_of_occurrence ts k rest in (suc it.0, it.1, it.2, it.3))
+]
+
+module _ (files : List PackageFile) (legal : IsLegal files) (p : UnresolvedPackage) (h : IsPackage files p) where
+  abbrev os : List Ordered
+  os = h.first.interfaces
+
+  abbrev ws : List OrderedWorld
+  ws = h.first.worlds
+
+  abbrev ks : List Key
+  ks = keys h.seen
+
+  abbrev interfaces : List Address
+  interfaces = interface_addresses files (os ++ all_inside ws)
+
+  abbrev worlds : List Address
+  worlds = world_addresses files ws
+
+  abbrev pub decls : Decls
+  decls = declarations files interfaces worlds
+
+  abbrev cs : List DoneScope
+  cs = scopes files legal p h
+
+  abbrev pub written : List Occurrence
+  written = all_occurrences files (all_turns os ws)
+
+  abbrev Known : DoneScope → Type 0
+  Known c = IsKnown files p ks interfaces worlds c
+
+  pub known : (t : ℕ) (c : DoneScope) → slice_get cs t ≡ Some c → Known c
+  known = known_at files legal p h
+
+  pub collects : Collects [] written h.seen
+  collects = h.first.first
+
+  -- what is written is taken, or is in a scope
+  written_either : (k : Key) → Has (keys written) k → Has (keys (map foreign_use_occurrence (foreign_uses files))) k ⊎ Has (keys (occurrences (all_turns os ws))) k
+  written_either k has = has_either (keys (map foreign_use_occurrence (foreign_uses files))) (keys (occurrences (all_turns os ws))) k (subst (λ (l : List Key). Has l k) (keys-append (map foreign_use_occurrence (foreign_uses files)) (occurrences (all_turns os ws))) has)
+
+  -- a name that is taken is one of the scope that it is taken from
+  used_name : (s : Address) (name : List ℕ) → Has (keys (map foreign_use_occurrence (foreign_uses files))) (Def s name) → IsNameOf cs s name
+  used_name s name has =
+      let t = foreign_use_of (foreign_uses files) s name has in
+      let v = used_from files (uses_lead files legal) t.0 t.1 t.2 in
+      let from : t.1.from ≡ s = (let same = t.3 in cc) in
+      let u = firsts_has same_foreign_use foreign_use_key use_of_foreign-from use_of_foreign-equal (foreign_uses files) t.0 t.1 t.2 in
+      let key : foreign_use_key u.1 ≡ Def s name = u.3 ∙ t.3 in
+      let there : u.1.from ≡ s = cc in
+      let called : u.1.id.name.now ≡ name = cc in
+      let k = in_use_has files (visited v.1) u.0 u.1 u.2 (there ∙ sym from ∙ sym v.3) in
+      let c = interface_resolved_scope files legal p h v.0 (visited v.1) (at_prefix (map visited (foreign_interfaces files)) (addresses (os ++ all_inside ws)) v.0 (visited v.1) (slice_get-map visited (foreign_interfaces files) v.0 ∙ ap (option_map visited) v.2)) in
+      let x : ScopeName = ForeignName u.1.attributes u.1.id in
+      let q = (known c.place c.resolved_scope c.at).done.turn.has k.0 x (ap (λ (a : Address). slice_get (scope files a) k.0) c.scope ∙ k.1) in
+      record { place = c.place; resolved_scope = c.resolved_scope; at = c.at; scope = c.scope ∙ v.3 ∙ from; index = q.0; x = x; among = q.1; called = called }
+
+  -- a name that is in a scope is one of it
+  own_name : (s : Address) (name : List ℕ) → Has (keys (occurrences (all_turns os ws))) (Def s name) → IsNameOf cs s name
+  own_name s name has =
+      let t = turn_of_occurrence (all_turns os ws) (Def s name) has in
+      let it = name_seen_in t.1.address t.1.names s name (seen_in_turn t.1.address t.1.names t.1.functions s name t.3) in
+      let c = turn_part files legal p h t.0 t.1 t.2 in
+      let q = c.names it.1.0 it.1.1 it.1.2 in
+      record { place = c.place; resolved_scope = c.resolved_scope; at = c.at; scope = c.scope ∙ sym it.0; index = q.0; x = it.1.1; among = q.1; called = it.1.3 }
+
+  pub before : (j : ℕ) (s : Address) (name : List ℕ) → slice_get ks j ≡ Some (Def s name) → IsNameOf cs s name
+  before j s name at = elim (collects_from written [] h.seen collects j (Def s name) at) [
+    | inl none ↦ absurd (let wrong = none.1 in let f : ⊥ = cc in f)
+    | inr has ↦ elim (written_either (Def s name) has) [ inl in_use ↦ used_name s name in_use | inr own ↦ own_name s name own ]
+  ]
+
+  -- an unnamed type is written in a name of a scope, or in one of its functions
+  own_whole : (form : Form) (parts : Exprs) → Has (keys (occurrences (all_turns os ws))) (Whole form parts) → IsWholeOf cs form parts ⊎ IsInSignatureOf cs form parts
+  own_whole form parts has =
+      let t = turn_of_occurrence (all_turns os ws) (Whole form parts) has in
+      let c = turn_part files legal p h t.0 t.1 t.2 in
+      elim (whole_in_turn t.1.address t.1.names t.1.functions form parts t.3) [
+        | inl named ↦ (
+            let it = whole_in_names t.1.address t.1.names form parts named in
+            let q = c.names it.0 it.1 it.2 in
+            inl (record { place = c.place; resolved_scope = c.resolved_scope; at = c.at; index = q.0; x = it.1; among = q.1; has = subst (λ (a : Address). Has (all_seen (name_exprs a it.1)) (Whole form parts)) (sym c.scope) it.3 }))
+        | inr it ↦ (
+            let q = c.functions it.index it.fn it.among in
+            inr (record {
+              place = c.place;
+              resolved_scope = c.resolved_scope;
+              at = c.at;
+              inside = record { index = q.0; fn = it.fn; among = q.1; position = it.position; shape = it.shape; written = it.written; has = subst (λ (a : Address). Has (seen (expr_of a it.shape)) (Whole form parts)) (sym c.scope) it.has };
+            }))
+      ]
+
+  pub wholes : (form : Form) (parts : Exprs) → Has (keys written) (Whole form parts) → IsWholeOf cs form parts ⊎ IsInSignatureOf cs form parts
+  wholes form parts has = elim (written_either (Whole form parts) has) [
+    | inl in_use ↦ absurd (no_whole_used (foreign_uses files) form parts in_use)
+    | inr own ↦ own_whole form parts own
+  ]
+
+  -- two scopes at one address have the same types
+  same_types : (t j : ℕ) (c b : DoneScope) → slice_get cs t ≡ Some c → slice_get cs j ≡ Some b → b.address ≡ c.address → b.types ≡ c.types
+  same_types t j c b at there same =
+      let own = known t c at in
+      let other = known j b there in
+      let whose : b.owner ≡ c.owner = sym other.whose ∙ ap (owner_at interfaces worlds) same ∙ own.whose in
+      sym other.names ∙ ap (names_of p) whose ∙ own.names
+
+  pub are_present : (t : ℕ) (c : DoneScope) → slice_get cs t ≡ Some c → AreNames ks c.address (env_of c.types)
+  are_present t c at = record {
+    present = λ name id found. (let k = lookup-place c.types name id found in (known t c at).types.places k.0 name id k.1);
+    has = λ j name key. (
+        let n = before j c.address name key in
+        let same = same_types t n.place c n.resolved_scope at n.at n.scope in
+        let here : slice_get (map (λ (e : List ℕ × ℕ). e.0) c.types) n.index ≡ Some name = ap (λ (l : Names). slice_get (map (λ (e : List ℕ × ℕ). e.0) l) n.index) (sym same) ∙ ap (λ (l : List (List ℕ)). slice_get l n.index) (known n.place n.resolved_scope n.at).types.names ∙ slice_get-map local_name n.resolved_scope.names n.index ∙ ap (option_map local_name) n.among ∙ ap (λ (l : List ℕ). Some l) n.called in
+        some_of (env_of c.types name) (lookup-listed c.types n.index name here));
+  }
+
+  abbrev pub present : IsPresent files decls written cs p.types
+  present = record {
+    seen = h.seen;
+    collects = collects;
+    occurrence = h.occurrence;
+    each = λ t c at. (known t c at).done;
+    own = λ t c at. ap (λ (o : TypeOwner). (scope files c.address, o)) (known t c at).whose;
+    are_present = are_present;
+    before = before;
+    made = λ t c at. (known t c at).made;
+  }

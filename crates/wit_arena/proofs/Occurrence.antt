@@ -1,0 +1,221 @@
+-- The list of occurrences, as it grows.
+use Rattle.std.proofs.Common.{◌≡◌, ℕ, ◌+◌, List, [], ◌∷◌, ◌++◌, length, take, Some, None, ◌⊎◌, inl, inr, refl, sym, ap, ◌∙◌, subst, arith, length-append}
+use Rattle.std.specs.Prelude.{slice_get, map}
+use Rattle.std.proofs.lemmas.List.{map-append, length-map}
+use Rattle.std.proofs.lemmas.Option.{slice_get_within}
+use Rattle.wit_types.specs.declared.types.TypeDef.{TypeDef}
+use Rattle.wit_types.specs.declared.types.TypeDefKind.{TypeDefKind}
+use Rattle.wit_types.specs.declared.stability.Stability.{Stability}
+use Rattle.wit_values.specs.declared.span.Span.{Span}
+use Rattle.wit_arena.specs.Kind.{kind_of}
+use Rattle.wit_syntax.specs.Address.{Address}
+use Rattle.wit_arena.specs.Expr.{Expr, Prim, Use, Of, Exprs, End, More}
+use Rattle.wit_arena.specs.Occurrences.{Key, Def, Whole, Occurrence, keys, IsSeen, Collects, AreAt, Decls, IsEntry, IsKeyed, IsOccurrence, settled}
+use Rattle.wit_syntax.specs.Repeats.{AllDiffer}
+use Rattle.wit_arena.specs.Resolving.{seen, all_seen, Env, AreNames, IsInterned, unnamed}
+use Rattle.wit_syntax.proofs.Lists.{at_seam, at_either, take_prefix, take_seam, at_within}
+use Rattle.wit_arena.proofs.Places.{Extended, extended_refl, extended_trans, key_extended, all_at_untaken, all_at_injective, all_at_functional}
+
+pub keys-append : (ms ls : List Occurrence) → keys (ms ++ ls) ≡ keys ms ++ keys ls
+keys-append ms ls = map-append (λ (m : Occurrence). m.key) ms ls
+
+-- one occurrence after another
+pub collects_append : (ks ls : List Occurrence) (a b c : List Occurrence) → Collects a ks b → Collects b ls c → Collects a (ks ++ ls) c
+collects_append [] ls a b c h k = subst (λ x. Collects x ls c) h k
+collects_append (x ∷ ks) ls a b c h k = elim h [
+  | inl old ↦ inl (old.0, collects_append ks ls a b c old.1 k)
+  | inr fresh ↦ inr (fresh.0, collects_append ks ls (a ++ x ∷ []) b c fresh.1 k)
+]
+
+pub collects_extended : (ks : List Occurrence) (a b : List Occurrence) → Collects a ks b → Extended (keys a) (keys b)
+collects_extended [] a b h = subst (λ x. Extended (keys a) (keys x)) (sym h) (extended_refl (keys a))
+collects_extended (x ∷ ks) a b h = elim h [
+  | inl old ↦ collects_extended ks a b old.1
+  | inr fresh ↦ (let step : Extended (keys a) (keys (a ++ x ∷ [])) = record { more = x.key ∷ []; is = keys-append a (x ∷ []) } in extended_trans step (collects_extended ks (a ++ x ∷ []) b fresh.1))
+]
+
+abbrev pub Has : List Key → Key → Type 0
+Has [] k = ⊥
+Has (x ∷ xs) k = (x ≡ k) ⊎ Has xs k
+
+pub has_either : (xs ys : List Key) (k : Key) → Has (xs ++ ys) k → Has xs k ⊎ Has ys k
+has_either [] ys k h = inr h
+has_either (x ∷ xs) ys k h = elim h [ inl here ↦ inl (inl here) | inr rest ↦ elim (has_either xs ys k rest) [ inl a ↦ inl (inr a) | inr b ↦ inr b ] ]
+
+-- a key that is where one occurrence was added
+pub key_either : (a : List Occurrence) (x : Occurrence) (i : ℕ) (k : Key) → slice_get (keys (a ++ x ∷ [])) i ≡ Some k → (slice_get (keys a) i ≡ Some k) ⊎ ((i ≡ length (keys a)) × (k ≡ x.key))
+key_either a x i k h = at_either (keys a) x.key i k (sym (ap (λ l. slice_get l i) (keys-append a (x ∷ []))) ∙ h)
+
+-- what is in the end was there before or occurred
+pub collects_from : (ks : List Occurrence) (a b : List Occurrence) → Collects a ks b → (j : ℕ) (k : Key) → slice_get (keys b) j ≡ Some k → IsSeen (keys a) k ⊎ Has (keys ks) k
+collects_from [] a b h j k at = inl (j, subst (λ l. slice_get (keys l) j ≡ Some k) h at)
+collects_from (x ∷ ks) a b h j k at = elim h [
+  | inl old ↦ elim (collects_from ks a b old.1 j k at) [ inl p ↦ inl p | inr q ↦ inr (inr q) ]
+  | inr fresh ↦ elim (collects_from ks (a ++ x ∷ []) b fresh.1 j k at) [
+    | inl p ↦ elim (key_either a x p.0 k p.1) [ inl before ↦ inl (p.0, before) | inr new ↦ inr (inl (sym new.1)) ]
+    | inr q ↦ inr (inr q)
+  ]
+]
+
+-- no definition occurs in an expression
+mutual
+  pub no_def : (e : Expr) (s : Address) (name : List ℕ) → Has (seen e) (Def s name) → ⊥
+  no_def (Prim p) s name h = h
+  no_def (Use t other) s name h = h
+  no_def (Of form parts) s name h = elim (has_either (all_seen parts) (Whole form parts ∷ []) (Def s name) h) [
+    | inl inner ↦ no_defs parts s name inner
+    | inr last ↦ elim last [ inl here ↦ (let f : ⊥ = cc in f) | inr none ↦ none ]
+  ]
+
+  pub no_defs : (es : Exprs) (s : Address) (name : List ℕ) → Has (all_seen es) (Def s name) → ⊥
+  no_defs End s name h = h
+  no_defs (More e es) s name h = elim (has_either (seen e) (all_seen es) (Def s name) h) [ inl a ↦ no_def e s name a | inr b ↦ no_defs es s name b ]
+
+pub names_kept : (a b more : List Occurrence) (s : Address) (env : Env) (es : Exprs) → keys more ≡ all_seen es → Collects a more b → AreNames (keys a) s env → AreNames (keys b) s env
+names_kept a b more s env es same h names = record {
+  present = λ name i is. key_extended (collects_extended more a b h) i (Def s name) (names.present name i is);
+  has = λ j name at. elim (collects_from more a b h j (Def s name) at) [
+    | inl before ↦ names.has before.0 name before.1
+    | inr new ↦ absurd (no_defs es s name (subst (λ ks. Has ks (Def s name)) same new))
+  ];
+}
+
+-- one key more, with its entry
+pub keyed_more : {decls : Decls} {ks : List Key} {es : List TypeDef} (k : Key) (e : TypeDef) → IsKeyed decls ks es → (IsSeen ks k → ⊥) → IsEntry decls ks k e → IsKeyed decls (ks ++ k ∷ []) (es ++ e ∷ [])
+keyed_more {decls} {ks} {es} k e m new it = record {
+  count = length-append es (e ∷ []) ∙ ap (λ n. n + 1) m.count ∙ sym (length-append ks (k ∷ []));
+  once = record {
+    differ = λ i j x ati atj. elim (at_either ks k i x ati) [
+      | inl oldi ↦ elim (at_either ks k j x atj) [
+        | inl oldj ↦ m.once.differ i j x oldi oldj
+        | inr newj ↦ absurd (new (i, oldi ∙ ap Some newj.1))
+      ]
+      | inr newi ↦ elim (at_either ks k j x atj) [
+        | inl oldj ↦ absurd (new (j, oldj ∙ ap Some newi.1))
+        | inr newj ↦ newi.0 ∙ sym newj.0
+      ]
+    ];
+  };
+  each = λ i x f key entry. elim (at_either ks k i x key) [
+    | inl oldm ↦ (
+        let lt = slice_get_within ks i x oldm in
+        elim (at_either es e i f entry) [
+          | inl oldk ↦ subst (λ prefix. IsEntry decls prefix x f) (sym (take_prefix ks (k ∷ []) i (omega arith))) (m.each i x f oldm oldk)
+          | inr newk ↦ absurd (let count = m.count in let f : ⊥ = omega arith in f)
+        ])
+    | inr newm ↦ elim (at_either es e i f entry) [
+      | inl oldk ↦ absurd (let lt = slice_get_within es i f oldk in let count = m.count in let f : ⊥ = omega arith in f)
+      | inr newk ↦ rw (newm.0, newm.1, newk.1) (subst (λ prefix. IsEntry decls prefix k e) (sym (take_seam ks (k ∷ []))) it)
+    ]
+  ];
+}
+
+-- an unnamed type has the stability that it gets among these entries
+abbrev HasSettled : List TypeDef → Stability → TypeDef → Type 0
+HasSettled es given e = e.name ≡ None → e.stability ≡ settled es given e.kind
+
+-- so it is given by its key
+abbrev pub IsSettled : List TypeDef → Stability → Key → TypeDef → Type 0
+IsSettled es given (Def scope name) e = Unit {0}
+IsSettled es given (Whole form parts) e = e.stability ≡ settled es given e.kind
+
+settled_by : (decls : Decls) (ks : List Key) (es : List TypeDef) (given : Stability) (k : Key) (e : TypeDef) → IsEntry decls ks k e → IsSettled es given k e → HasSettled es given e
+settled_by decls ks es given (Def s name) e it is none = absurd (let named = it.4 in let f : ⊥ = cc in f)
+settled_by decls ks es given (Whole form parts) e it is none = is
+
+-- where each entry is settled, one more is among those before it
+settled_more : (ms : List Occurrence) (es : List TypeDef) (m : Occurrence) (e : TypeDef) → length es ≡ length ms → ((i : ℕ) (x : Occurrence) (f : TypeDef) → slice_get ms i ≡ Some x → slice_get es i ≡ Some f → HasSettled (take i es) x.given f) → HasSettled es m.given e → (i : ℕ) (x : Occurrence) (f : TypeDef) → slice_get (ms ++ m ∷ []) i ≡ Some x → slice_get (es ++ e ∷ []) i ≡ Some f → HasSettled (take i (es ++ e ∷ [])) x.given f
+settled_more ms es m e count each it i x f seen entry = elim (at_either ms m i x seen) [
+  | inl oldm ↦ (
+      let lt = slice_get_within ms i x oldm in
+      elim (at_either es e i f entry) [
+        | inl olde ↦ subst (λ prefix. HasSettled prefix x.given f) (sym (take_prefix es (e ∷ []) i (omega arith))) (each i x f oldm olde)
+        | inr newe ↦ absurd (let at = newe.0 in let f : ⊥ = omega arith in f)
+      ])
+  | inr newm ↦ elim (at_either es e i f entry) [
+    | inl olde ↦ absurd (let lt = slice_get_within es i f olde in let at = newm.0 in let f : ⊥ = omega arith in f)
+    | inr newe ↦ subst (λ (g : TypeDef). HasSettled (take i (es ++ e ∷ [])) x.given g) (sym newe.1) (subst (λ (y : Occurrence). HasSettled (take i (es ++ e ∷ [])) y.given e) (sym newm.1) (subst (λ (n : ℕ). HasSettled (take n (es ++ e ∷ [])) m.given e) (sym newe.0) (subst (λ prefix. HasSettled prefix m.given e) (sym (take_seam es (e ∷ []))) it)))
+  ]
+]
+
+-- one occurrence more, with its entry
+pub occurrence_more : {decls : Decls} {ms : List Occurrence} {es : List TypeDef} (m : Occurrence) (e : TypeDef) → IsOccurrence decls ms es → (IsSeen (keys ms) m.key → ⊥) → IsEntry decls (keys ms) m.key e → e.span ≡ m.span → IsSettled es m.given m.key e → IsOccurrence decls (ms ++ m ∷ []) (es ++ e ∷ [])
+occurrence_more {decls} {ms} {es} m e occurrence new it here settled = record {
+  keyed = subst (λ ks. IsKeyed decls ks (es ++ e ∷ [])) (sym (keys-append ms (m ∷ []))) (keyed_more m.key e occurrence.keyed new it);
+  spans = map-append (λ (e : TypeDef). e.span) es (e ∷ []) ∙ ap (λ ss. ss ++ e.span ∷ []) occurrence.spans ∙ ap (λ s. map (λ (m : Occurrence). m.span) ms ++ s ∷ []) here ∙ sym (map-append (λ (m : Occurrence). m.span) ms (m ∷ []));
+  settled = settled_more ms es m e (occurrence.keyed.count ∙ length-map ms (λ (m : Occurrence). m.key)) occurrence.settled (settled_by decls (keys ms) es m.given m.key e it settled);
+}
+
+-- the unnamed type of a form over parts
+pub record IsWhole (decls : Decls) (ms : List Occurrence) (new : List TypeDef) (m : Occurrence) (i : ℕ) : Type 0 where
+  pub now : List Occurrence
+  pub collects : Collects ms (m ∷ []) now
+  pub occurrence : IsOccurrence decls now new
+  pub at : slice_get (keys now) i ≡ Some m.key
+
+pub once_of : {decls : Decls} {ks : List Key} {es : List TypeDef} → IsKeyed decls ks es → AllDiffer ks
+once_of m = m.once
+
+found_key : (decls : Decls) (n : ℕ) (ks : List Key) (k : Key) (parts : Exprs) (e : TypeDef) → IsEntry decls (take n ks) k e → e.name ≡ None → AreAt ks parts (kind_of e.kind).parts → k ≡ Whole (kind_of e.kind).form parts
+found_key decls n ks (Def s name) parts e h none at = absurd (let wrong = h.4 in let f : ⊥ = cc in f)
+found_key decls n ks (Whole form parts') parts e h none at =
+    let same = all_at_injective ks parts' parts (kind_of e.kind).parts (all_at_untaken n ks parts' (kind_of e.kind).parts h.3) at in
+    ap (λ f. Whole f parts') (sym h.2) ∙ ap (Whole (kind_of e.kind).form) same
+
+-- this kind alone has its form and parts
+pub record IsOnly (what : TypeDefKind) : Type 0 where
+  pub same : (k : TypeDefKind) → (kind_of k).form ≡ (kind_of what).form → (kind_of k).parts ≡ (kind_of what).parts → k ≡ what
+
+-- an unnamed type occurs, whether it was there or was added
+pub occur_whole : (decls : Decls) (ms : List Occurrence) (old new : List TypeDef) (kind : TypeDefKind) (given : Stability) (span : Span) (parts : Exprs) (i : ℕ) → IsOnly kind → IsOccurrence decls ms old → AreAt (keys ms) parts (kind_of kind).parts → IsInterned old new kind given span i → IsWhole decls ms new (record { key = Whole (kind_of kind).form parts; span = span; given = given }) i
+occur_whole decls ms old new kind given span parts i only m at interned = elim interned.either [
+  | inl found ↦ (
+      let e = found.1.0 in
+      let is = found.1.2 in
+      let keyed = m.keyed in
+      let count = keyed.count in
+      let lt = slice_get_within old i e found.1.1.is in
+      let key = at_within (keys ms) i (omega arith) in
+      let at' = subst (λ (k : TypeDefKind). AreAt (keys ms) parts (kind_of k).parts) (sym is.kind) at in
+      let same = found_key decls i (keys ms) key.0 parts e (keyed.each i key.0 e key.1 found.1.1.is) is.name at' in
+      let there : slice_get (keys ms) i ≡ Some (Whole (kind_of kind).form parts) = key.1 ∙ ap Some same ∙ ap (λ (k : TypeDefKind). Some (Whole (kind_of k).form parts)) is.kind in
+      record { now = ms; collects = inl ((i, there), refl); occurrence = subst (IsOccurrence decls ms) (sym found.0) m; at = there })
+  | inr added ↦ (
+      let key = Whole (kind_of kind).form parts in
+      let keyed = m.keyed in
+      let fresh : IsSeen (keys ms) key → ⊥ = λ was. (
+      let count = keyed.count in
+      let lt = slice_get_within (keys ms) was.0 key was.1 in
+      let e = at_within old was.0 (omega arith) in
+      let it = keyed.each was.0 key e.0 was.1 e.1 in
+      let tys = all_at_functional (keys ms) (once_of keyed) parts (kind_of e.0.kind).parts (kind_of kind).parts (all_at_untaken was.0 (keys ms) parts (kind_of e.0.kind).parts it.3) at in
+      added.2 was.0 e.0 (record { is = e.1 }) (record { name = it.0; kind = only.same e.0.kind it.2 tys })) in
+      record {
+        now = ms ++ record { key = key; span = span; given = given } ∷ [];
+        collects = inr (fresh, refl);
+        occurrence = subst (IsOccurrence decls (ms ++ record { key = key; span = span; given = given } ∷ [])) (sym added.0) (occurrence_more (record { key = key; span = span; given = given }) (unnamed kind (settled old given kind) span) m fresh (refl, refl, refl, at, refl, refl) refl refl);
+        at = rw (added.1, keyed.count) (ap (λ l. slice_get l (length (keys ms))) (keys-append ms (record { key = key; span = span; given = given } ∷ [])) ∙ at_seam (keys ms) key);
+      })
+]
+
+-- what occurs first, and what occurs after it
+pub collects_split : (ks ls a c : List Occurrence) → Collects a (ks ++ ls) c → (b : List Occurrence) × Collects a ks b × Collects b ls c
+collects_split [] ls a c h = (a, refl, h)
+collects_split (x ∷ ks) ls a c h = elim h [
+  | inl old ↦ (let it = collects_split ks ls a c old.1 in (it.0, inl (old.0, it.1), it.2))
+  | inr fresh ↦ (let it = collects_split ks ls (a ++ x ∷ []) c fresh.1 in (it.0, inr (fresh.0, it.1), it.2))
+]
+
+-- it is one list
+pub collects_one : (ks a b c : List Occurrence) → Collects a ks b → Collects a ks c → b ≡ c
+collects_one [] a b c h k = h ∙ sym k
+collects_one (x ∷ ks) a b c h k = elim h [
+  | inl old ↦ elim k [ inl other ↦ collects_one ks a b c old.1 other.1 | inr fresh ↦ absurd (fresh.0 old.0) ]
+  | inr fresh ↦ elim k [ inl old ↦ absurd (fresh.0 old.0) | inr other ↦ collects_one ks (a ++ x ∷ []) b c fresh.1 other.1 ]
+]
+
+-- where more occurs, there is more
+pub collects_longer : (ks ls a b c : List Occurrence) → Collects a ks b → Collects a (ks ++ ls) c → Extended (keys b) (keys c)
+collects_longer ks ls a b c h k =
+    let it = collects_split ks ls a c k in
+    subst (λ (ms : List Occurrence). Extended (keys ms) (keys c)) (collects_one ks a it.0 b it.1 h) (collects_extended ls it.0 c it.2)

@@ -1,0 +1,335 @@
+-- What other packages put before the arenas, as scopes that are done.
+use Rattle.std.proofs.Common.{◌≡◌, ℕ, zero, suc, ◌+◌, false, List, [], ◌∷◌, ◌++◌, length, take, Option, Some, None, inl, inr, refl, sym, ap, ◌∙◌, subst, arith}
+use Rattle.std.specs.Prelude.{slice_get, map, IsSome}
+use Rattle.std.specs.Option.{option_map, option_map_or}
+use Rattle.std.specs.List.{flat_map, filter}
+use Rattle.std.proofs.lemmas.List.{map-append, length-map}
+use Rattle.std.proofs.lemmas.Option.{slice_get-map, slice_get_within}
+use Rattle.wit_tree.specs.declared.tree.PackageFile.{PackageFile}
+use Rattle.wit_types.specs.declared.types.TypeDef.{TypeDef}
+use Rattle.wit_types.specs.declared.types.TypeOwner.{TypeOwner}
+use Rattle.wit_types.specs.declared.types.TypeOwner.TheVariants as owner
+use Rattle.wit_model.specs.declared.interface.Interface.{Interface}
+use Rattle.wit_model.specs.declared.world.World.{World}
+use Rattle.wit_type_tree.specs.declared.types.«Type».{«Type» as Written}
+use Rattle.wit_package_names.specs.declared.package_name.PackageName.{PackageName}
+use Rattle.wit_syntax.specs.Shape.{all_handles}
+use Rattle.wit_syntax.specs.Function.{functions, name_types}
+use Rattle.wit_arena.specs.Functions.{AreFunctions}
+use Rattle.wit_syntax.specs.Address.{Address, ForeignNamed, same_address, package_of}
+use Rattle.wit_syntax.specs.Source.{Declared, TheInterface, TheWorld, TheInline, Item, all_items, item_at, ForeignName, local_name, ForeignUse, foreign_uses, same_foreign_use, first_foreign_uses, used_names, about, ScopeName}
+use Rattle.wit_syntax.specs.Sides.{all_scopes}
+use Rattle.wit_syntax.specs.ScopesOfTrees.{scope}
+use Rattle.wit_syntax.specs.Foreign.{ForeignVisit, visited, foreign_interfaces, foreign_worlds}
+use Rattle.wit_arena.specs.Occurrences.{Key, Def, Occurrence, keys, Decls, IsEntry, IsOccurrence}
+use Rattle.wit_syntax.specs.Repeats.{AllDiffer}
+use Rattle.wit_arena.specs.Whole.{owner_at, foreign_use_occurrence, functions_at, turn_handles, AreRequired, IsForeignInterface}
+use Rattle.wit_arena.specs.Resolving.{resolved_scope_at, resolved_scopes, env_of, AreNames}
+use Rattle.wit_arena.specs.Resolved.{foreign_type, AddsForeign, AreUsableUses}
+use Rattle.wit_syntax.proofs.Lists.{at_prefix, at_within, map_at, map_map}
+use Rattle.wit_syntax.proofs.Names.{lookup-place}
+use Rattle.wit_syntax.proofs.Repeated.{differ_none, differ_join}
+use Rattle.wit_syntax.proofs.Firsts.{firsts_at}
+use Rattle.wit_syntax.proofs.Found.{some_of}
+use Rattle.wit_arena.proofs.UsePart.{lookup-listed}
+use Rattle.wit_arena.proofs.FreeNames.{free_keyed, AreStated}
+use Rattle.wit_arena.specs.Package.{interface_functions}
+use Rattle.wit_tree.specs.declared.tree.WorldSide.TheVariants.{Imported}
+use Rattle.wit_syntax.proofs.Turns.{at_part}
+use Rattle.wit_arena.proofs.Required.{required_none}
+use Rattle.wit_arena.proofs.Members.{DoneScope, done_address, turn_of, resolved_scope_of, IsDoneScope, IsNameOf, IsDone}
+use Rattle.wit_arena.proofs.Interfaces.{interface_owner_at}
+use Rattle.wit_arena.proofs.Visits.{visited_addresses, interface_apart}
+use Rattle.wit_arena.proofs.ForeignUses.{foreign_use_key, keys-foreign_uses, foreign_uses_seen, foreign_uses_differ, used_from, in_use_has, used_name_at, used_distinct}
+
+-- the scope of an interface of another package at a place, with the types that it has in the arena
+abbrev pub interface_scope : List PackageFile → ℕ → ForeignVisit → Interface → DoneScope
+interface_scope files t v i = record { address = visited v; owner = owner.Interface t; names = scope files (visited v); types = i.types; functions = []; made = []; stated = interface_functions i; required = [] }
+
+-- the scope of a world of another package, from which nothing is taken
+abbrev pub world_scope : ℕ → ForeignVisit → DoneScope
+world_scope t v = record { address = visited v; owner = owner.World t; names = []; types = []; functions = []; made = []; stated = []; required = [] }
+
+-- the scopes of interfaces from a place on
+abbrev pub interface_scopes : List PackageFile → ℕ → List ForeignVisit → List Interface → List DoneScope
+interface_scopes files t [] is = []
+interface_scopes files t (v ∷ vs) [] = []
+interface_scopes files t (v ∷ vs) (i ∷ is) = interface_scope files t v i ∷ interface_scopes files (suc t) vs is
+
+-- and those of worlds
+abbrev pub world_scopes : ℕ → List ForeignVisit → List DoneScope
+world_scopes t [] = []
+world_scopes t (v ∷ vs) = world_scope t v ∷ world_scopes (suc t) vs
+
+-- all scopes in front, where these are the interfaces there
+abbrev pub prefix_scopes : List PackageFile → List Interface → List DoneScope
+prefix_scopes files prefix = interface_scopes files 0 (foreign_interfaces files) prefix ++ world_scopes 0 (foreign_worlds files)
+
+module _ (files : List PackageFile) where
+  -- the scope of an interface at a place, and the interface of a scope
+  interface_scope_from : (n : ℕ) (vs : List ForeignVisit) (is : List Interface) (t : ℕ) (v : ForeignVisit) (i : Interface) → slice_get vs t ≡ Some v → slice_get is t ≡ Some i → slice_get (interface_scopes files n vs is) t ≡ Some (interface_scope files (n + t) v i)
+  interface_scope_from n [] is t v i at there = absurd (let f : ⊥ = cc in f)
+  interface_scope_from n (u ∷ vs) [] t v i at there = absurd (let f : ⊥ = cc in f)
+  interface_scope_from n (u ∷ vs) (j ∷ is) zero v i at there =
+      let one : u ≡ v = cc in
+      let two : j ≡ i = cc in
+      ap (λ x. Some (interface_scope files n x j)) one ∙ ap (λ x. Some (interface_scope files n v x)) two ∙ ap (λ m. Some (interface_scope files m v i)) (let same : n ≡ n + 0 = omega arith in same)
+  interface_scope_from n (u ∷ vs) (j ∷ is) (suc t) v i at there = interface_scope_from (suc n) vs is t v i at there ∙ ap (λ m. Some (interface_scope files m v i)) (let same : suc n + t ≡ n + suc t = omega arith in same)
+
+  pub interface_scope_at : (vs : List ForeignVisit) (is : List Interface) (t : ℕ) (v : ForeignVisit) (i : Interface) → slice_get vs t ≡ Some v → slice_get is t ≡ Some i → slice_get (interface_scopes files 0 vs is) t ≡ Some (interface_scope files t v i)
+  interface_scope_at vs is t v i at there = interface_scope_from 0 vs is t v i at there ∙ ap (λ m. Some (interface_scope files m v i)) (let same : 0 + t ≡ t = omega arith in same)
+
+  -- of as many interfaces, the addresses and the scopes as they are used
+  pub map-interface_scopes : (n : ℕ) (vs : List ForeignVisit) (is : List Interface) → length is ≡ length vs → map done_address (interface_scopes files n vs is) ≡ map visited vs
+  map-interface_scopes n [] is count = refl
+  map-interface_scopes n (v ∷ vs) [] count = absurd (let f : ⊥ = omega arith in f)
+  map-interface_scopes n (v ∷ vs) (i ∷ is) count = ap (λ l. visited v ∷ l) (map-interface_scopes (suc n) vs is (omega arith))
+
+  pub resolved_scopes-interface_scopes : (n : ℕ) (vs : List ForeignVisit) (is : List Interface) → length is ≡ length vs → map resolved_scope_of (interface_scopes files n vs is) ≡ resolved_scopes (map visited vs) is
+  resolved_scopes-interface_scopes n [] [] count = refl
+  resolved_scopes-interface_scopes n [] (i ∷ is) count = absurd (let f : ⊥ = omega arith in f)
+  resolved_scopes-interface_scopes n (v ∷ vs) [] count = absurd (let f : ⊥ = omega arith in f)
+  resolved_scopes-interface_scopes n (v ∷ vs) (i ∷ is) count = ap (λ names. record { address = visited v; types = i.types; functions = names } ∷ map resolved_scope_of (interface_scopes files (suc n) vs is)) (free_keyed Imported i.functions) ∙ ap (λ l. resolved_scope_at (visited v) i ∷ l) (resolved_scopes-interface_scopes (suc n) vs is (omega arith))
+
+  length-interface_scopes : (n : ℕ) (vs : List ForeignVisit) (is : List Interface) → length is ≡ length vs → length (interface_scopes files n vs is) ≡ length vs
+  length-interface_scopes n [] is count = refl
+  length-interface_scopes n (v ∷ vs) [] count = absurd (let f : ⊥ = omega arith in f)
+  length-interface_scopes n (v ∷ vs) (i ∷ is) count = ap suc (length-interface_scopes (suc n) vs is (omega arith))
+
+world_scope_from : (n : ℕ) (vs : List ForeignVisit) (t : ℕ) (v : ForeignVisit) → slice_get vs t ≡ Some v → slice_get (world_scopes n vs) t ≡ Some (world_scope (n + t) v)
+world_scope_from n [] t v at = absurd (let f : ⊥ = cc in f)
+world_scope_from n (u ∷ vs) zero v at =
+    let one : u ≡ v = cc in
+    ap (λ x. Some (world_scope n x)) one ∙ ap (λ m. Some (world_scope m v)) (let same : n ≡ n + 0 = omega arith in same)
+world_scope_from n (u ∷ vs) (suc t) v at = world_scope_from (suc n) vs t v at ∙ ap (λ m. Some (world_scope m v)) (let same : suc n + t ≡ n + suc t = omega arith in same)
+
+world_scope_at : (vs : List ForeignVisit) (t : ℕ) (v : ForeignVisit) → slice_get vs t ≡ Some v → slice_get (world_scopes 0 vs) t ≡ Some (world_scope t v)
+world_scope_at vs t v at = world_scope_from 0 vs t v at ∙ ap (λ m. Some (world_scope m v)) (let same : 0 + t ≡ t = omega arith in same)
+
+pub map-world_scopes : (n : ℕ) (vs : List ForeignVisit) → map done_address (world_scopes n vs) ≡ map visited vs
+map-world_scopes n [] = refl
+map-world_scopes n (v ∷ vs) = ap (λ l. visited v ∷ l) (map-world_scopes (suc n) vs)
+
+length-world_scopes : (n : ℕ) (vs : List ForeignVisit) → length (world_scopes n vs) ≡ length vs
+length-world_scopes n [] = refl
+length-world_scopes n (v ∷ vs) = ap suc (length-world_scopes (suc n) vs)
+
+-- a scope in front is that of an interface or of a world
+pub data IsPrefix (files : List PackageFile) (prefix : List Interface) (t : ℕ) (c : DoneScope) : Type 0 where
+  PrefixInterface : (place : ℕ) (v : ForeignVisit) (i : Interface) → slice_get (foreign_interfaces files) place ≡ Some v → slice_get prefix place ≡ Some i → c ≡ interface_scope files place v i → IsPrefix files prefix t c
+  PrefixWorld : (place : ℕ) (v : ForeignVisit) → slice_get (foreign_worlds files) place ≡ Some v → c ≡ world_scope place v → IsPrefix files prefix t c
+
+pub prefix_at : (files : List PackageFile) (prefix : List Interface) → length prefix ≡ length (foreign_interfaces files) → (t : ℕ) (c : DoneScope) → slice_get (prefix_scopes files prefix) t ≡ Some c → IsPrefix files prefix t c
+prefix_at files prefix count t c at = elim (at_part (interface_scopes files 0 (foreign_interfaces files) prefix) (world_scopes 0 (foreign_worlds files)) t c at) [
+  | inl h ↦ (
+      let lt = slice_get_within (interface_scopes files 0 (foreign_interfaces files) prefix) h.0 c h.1 in
+      let long = length-interface_scopes files 0 (foreign_interfaces files) prefix count in
+      let v = at_within (foreign_interfaces files) h.0 (omega arith) in
+      let i = at_within prefix h.0 (omega arith) in
+      let both : Some c ≡ Some (interface_scope files h.0 v.0 i.0) = sym h.1 ∙ interface_scope_at files (foreign_interfaces files) prefix h.0 v.0 i.0 v.1 i.1 in
+      PrefixInterface h.0 v.0 i.0 v.1 i.1 (let same : c ≡ interface_scope files h.0 v.0 i.0 = cc in same))
+  | inr h ↦ (
+      let lt = slice_get_within (world_scopes 0 (foreign_worlds files)) h.0 c h.1 in
+      let long = length-world_scopes 0 (foreign_worlds files) in
+      let v = at_within (foreign_worlds files) h.0 (omega arith) in
+      let both : Some c ≡ Some (world_scope h.0 v.0) = sym h.1 ∙ world_scope_at (foreign_worlds files) h.0 v.0 v.1 in
+      PrefixWorld h.0 v.0 v.1 (let same : c ≡ world_scope h.0 v.0 = cc in same))
+]
+
+-- no declared item is of another package
+not_declared : (d : Declared) (p : PackageName) (name : List ℕ) → same_address (about d).address (ForeignNamed p name) ≡ false
+not_declared (TheInterface i) p name = refl
+not_declared (TheWorld w) p name = refl
+not_declared (TheInline world place x own items) p name = refl
+
+no_item : (is : List Item) (p : PackageName) (name : List ℕ) → item_at is (ForeignNamed p name) ≡ None
+no_item [] p name = refl
+no_item (i ∷ is) p name = rw (not_declared i.declared p name) (no_item is p name)
+
+-- so nothing is known of functions of another package's items
+pub no_functions_at : (files : List PackageFile) (p : PackageName) (name : List ℕ) → functions_at files (ForeignNamed p name) ≡ []
+no_functions_at files p name = ap (λ (o : Option Item). option_map_or functions o []) (no_item (all_scopes files) p name)
+
+pub nothing_stated : AreStated [] [] []
+nothing_stated = record { has = λ k fn f at. absurd (let f : ⊥ = cc in f); from = λ place key f at. absurd (let f : ⊥ = cc in f) }
+
+pub no_functions : (ks : List Key) (s : Address) → AreFunctions ks s [] []
+no_functions ks s = record { count = refl; each = λ k fn f at. absurd (let f : ⊥ = cc in f) }
+
+-- what is taken holds no type
+no_types_used : (ts : List ForeignUse) → flat_map name_types (map (λ (t : ForeignUse). ForeignName t.attributes t.id) ts) ≡ []
+no_types_used [] = refl
+no_types_used (t ∷ ts) = no_types_used ts
+
+nothing_required : (files : List PackageFile) (ks : List Key) (s : Address) (ts : List ForeignUse) → AreRequired files ks (turn_handles (record { address = s; names = map (λ (t : ForeignUse). ForeignName t.attributes t.id) ts; functions = [] })) []
+nothing_required files ks s ts = subst (λ (types : List Written). AreRequired files ks (map (λ id. (s, id)) (all_handles (types ++ []))) []) (sym (no_types_used ts)) (required_none files ks)
+
+-- what is taken is named
+used_named : (files : List PackageFile) (ts : List ForeignUse) (i : ℕ) (e : TypeDef) → slice_get (map (foreign_type files) ts) i ≡ Some e → e.name ≡ None → ⊥
+used_named files ts i e there none =
+    let t = map_at (foreign_type files) ts i e there in
+    let named : Some t.0.id.name.now ≡ None = ap (λ (x : TypeDef). x.name) t.2 ∙ none in
+    let f : ⊥ = cc in
+    f
+
+-- the scope of an interface in front has its names in turn
+pub prefix_interface_done : (files : List PackageFile) (ks : List Key) (i : ℕ) (v : ForeignVisit) (x : Interface) → IsForeignInterface files ks v x → IsDoneScope files (interface_scope files i v x)
+prefix_interface_done files ks i v x is = record {
+  turn = record { distinct = used_distinct files (visited v); differ = used_distinct files (visited v); among = λ k y yat. (k, yat); has = λ k y yat. (k, yat) };
+  listed = is.1.names;
+  functions = sym (no_functions_at files (package_of v.of) v.id.name.now);
+  stated = rw is.2 nothing_stated;
+}
+
+-- where uses lead to interfaces, nothing is taken from a world
+module _ (files : List PackageFile) (uses : AreUsableUses files (all_items files)) where
+  -- what is first taken is taken from an interface
+  first_from : (j : ℕ) (t : ForeignUse) → slice_get (first_foreign_uses files) j ≡ Some t → (i : ℕ) × (v : ForeignVisit) × (slice_get (foreign_interfaces files) i ≡ Some v) × (visited v ≡ t.from)
+  first_from j t at = let k = firsts_at same_foreign_use (foreign_uses files) j t at in used_from files uses k.0 t k.1
+
+  none_from_world : (i : ℕ) (w : ForeignVisit) → slice_get (foreign_worlds files) i ≡ Some w → (j : ℕ) (t : ForeignUse) → slice_get (first_foreign_uses files) j ≡ Some t → t.from ≡ visited w → ⊥
+  none_from_world i w at j t there same = let v = first_from j t there in interface_apart files v.0 i v.1 w v.2 at (v.3 ∙ same)
+
+  -- so the scope of a world in front has no name
+  pub prefix_world_done : (i : ℕ) (w : ForeignVisit) → slice_get (foreign_worlds files) i ≡ Some w → IsDoneScope files (world_scope i w)
+  prefix_world_done i w at = record {
+    turn = record {
+      distinct = used_distinct files (visited w);
+      differ = differ_none;
+      among = λ k y yat. absurd (let f : ⊥ = cc in f);
+      has = λ k y yat. (let t = used_name_at files (visited w) k y yat in absurd (none_from_world i w at t.0 t.1 t.2 t.3));
+    };
+    listed = refl;
+    functions = sym (no_functions_at files (package_of w.of) w.id.name.now);
+    stated = nothing_stated;
+  }
+
+-- What is taken occurs once, and its entries are those of the scopes that it is taken from; `decls` declares each of these scopes by the
+-- owner that the prefix alone gives it.
+module _ (files : List PackageFile) (uses : AreUsableUses files (all_items files)) (es : List TypeDef) (prefix : List Interface) (ws : List World) (adds : AddsForeign files es prefix ws) where
+  abbrev visits : List ForeignVisit
+  visits = foreign_interfaces files
+
+  abbrev ts : List ForeignUse
+  ts = first_foreign_uses files
+
+  abbrev seen : List Occurrence
+  seen = map foreign_use_occurrence ts
+
+  abbrev pub prefix_owner : Address → TypeOwner
+  prefix_owner s = owner_at (map visited visits) (map visited (foreign_worlds files)) s
+
+  key_at : (j : ℕ) (t : ForeignUse) → slice_get ts j ≡ Some t → slice_get (keys seen) j ≡ Some (foreign_use_key t)
+  key_at j t at = ap (λ l. slice_get l j) (keys-foreign_uses ts) ∙ slice_get-map foreign_use_key ts j ∙ ap (option_map foreign_use_key) at
+
+  foreign_use_of : (j : ℕ) (k : Key) → slice_get (keys seen) j ≡ Some k → (t : ForeignUse) × (slice_get ts j ≡ Some t) × (foreign_use_key t ≡ k)
+  foreign_use_of j k at = map_at foreign_use_key ts j k (ap (λ l. slice_get l j) (sym (keys-foreign_uses ts)) ∙ at)
+
+  -- a name that is taken from an interface is among its types
+  pub used_listed : (i : ℕ) (v : ForeignVisit) (x : Interface) → slice_get visits i ≡ Some v → slice_get prefix i ≡ Some x → (j : ℕ) (t : ForeignUse) → slice_get ts j ≡ Some t → t.from ≡ visited v → IsSome (env_of x.types t.id.name.now)
+  used_listed i v x at there j t in_use from =
+      let k = in_use_has files (visited v) j t in_use from in
+      lookup-listed x.types k.0 t.id.name.now (ap (λ l. slice_get l k.0) (adds.interfaces.each i v x at there).1.names ∙ slice_get-map local_name (used_names files (visited v)) k.0 ∙ ap (option_map local_name) k.1)
+
+  -- the names of an interface in front mean their places
+  interface_present : (i : ℕ) (v : ForeignVisit) (x : Interface) → slice_get visits i ≡ Some v → slice_get prefix i ≡ Some x → AreNames (keys seen) (visited v) (env_of x.types)
+  interface_present i v x at there = record {
+    present = λ name id found. (let k = lookup-place x.types name id found in (adds.interfaces.each i v x at there).1.places k.0 name id k.1);
+    has = λ j name key. (
+        let t = foreign_use_of j (Def (visited v) name) key in
+        let from : t.0.from ≡ visited v = (let same = t.2 in cc) in
+        let called : t.0.id.name.now ≡ name = (let same = t.2 in cc) in
+        some_of (env_of x.types name) (subst (λ n. IsSome (env_of x.types n)) called (used_listed i v x at there j t.0 t.1 from)));
+  }
+
+  world_present : (i : ℕ) (w : ForeignVisit) → slice_get (foreign_worlds files) i ≡ Some w → AreNames (keys seen) (visited w) (env_of [])
+  world_present i w at = record {
+    present = λ name id found. absurd (let f : ⊥ = cc in f);
+    has = λ j name key. (
+        let t = foreign_use_of j (Def (visited w) name) key in
+        let from : t.0.from ≡ visited w = (let same = t.2 in cc) in
+        absurd (none_from_world files uses i w at j t.0 t.1 from));
+  }
+
+  prefix_differ : AllDiffer (map done_address (prefix_scopes files prefix))
+  prefix_differ = subst AllDiffer (sym (map-append done_address (interface_scopes files 0 visits prefix) (world_scopes 0 (foreign_worlds files)) ∙ ap (λ l. l ++ map done_address (world_scopes 0 (foreign_worlds files))) (map-interface_scopes files 0 visits prefix adds.interfaces.count) ∙ ap (λ l. map visited visits ++ l) (map-world_scopes 0 (foreign_worlds files)))) (differ_join (map visited visits) (map visited (foreign_worlds files)) (visited_addresses files).interfaces (visited_addresses files).worlds (visited_addresses files).apart)
+
+  module _ (decls : Decls) (interfaces_own : (i : ℕ) (v : ForeignVisit) → slice_get visits i ≡ Some v → decls (visited v) ≡ (scope files (visited v), (owner.Interface i))) (worlds_own : (i : ℕ) (w : ForeignVisit) → slice_get (foreign_worlds files) i ≡ Some w → decls (visited w) ≡ (scope files (visited w), (owner.World i))) where
+    -- the entry of a name that is taken
+    used_entry : (ks : List Key) (j : ℕ) (t : ForeignUse) → slice_get ts j ≡ Some t → IsEntry decls ks (Def t.from t.id.name.now) (foreign_type files t)
+    used_entry ks j t at =
+        let s = t.from in
+        let v = first_from files uses j t at in
+        let o = owner.Interface v.0 in
+        let k = in_use_has files s j t at refl in
+        let names : scope files s ≡ used_names files s = ap (scope files) (sym v.3) ∙ ap (used_names files) v.3 in
+        let declared : decls s ≡ (scope files s, o) = subst (λ z. decls z ≡ (scope files z, o)) v.3 (interfaces_own v.0 v.1 v.2) in
+        let whose : prefix_owner s ≡ o = ap prefix_owner (sym v.3) ∙ interface_owner_at (map visited visits) (map visited (foreign_worlds files)) (visited_addresses files) v.0 (visited v.1) (slice_get-map visited visits v.0 ∙ ap (option_map visited) v.2) in
+        (k.0, ForeignName t.attributes t.id, ap (λ (d : List ScopeName × TypeOwner). slice_get d.0 k.0) declared ∙ ap (λ l. slice_get l k.0) names ∙ k.1, refl, refl, refl, whose ∙ sym (ap (λ (d : List ScopeName × TypeOwner). d.1) declared), refl, tt, record { docs = refl; stability = refl; external_id = refl })
+
+    used_occurrence : IsOccurrence decls seen es
+    used_occurrence = record {
+      keyed = record {
+        count = ap length adds.types ∙ length-map ts (foreign_type files) ∙ sym (length-map ts foreign_use_key) ∙ ap length (sym (keys-foreign_uses ts));
+        once = subst AllDiffer (sym (keys-foreign_uses ts)) (foreign_uses_differ files);
+        each = λ j k e key entry. (
+            let t = foreign_use_of j k key in
+            let u = map_at (foreign_type files) ts j e (ap (λ l. slice_get l j) (sym adds.types) ∙ entry) in
+            let both : Some t.0 ≡ Some u.0 = sym t.1 ∙ u.1 in
+            let one : t.0 ≡ u.0 = cc in
+            subst (λ x. IsEntry decls (take j (keys seen)) x e) t.2 (subst (λ x. IsEntry decls (take j (keys seen)) (Def t.0.from t.0.id.name.now) x) (ap (foreign_type files) one ∙ u.2) (used_entry (take j (keys seen)) j t.0 t.1)));
+      };
+      spans = ap (map (λ (e : TypeDef). e.span)) adds.types ∙ map_map (λ (e : TypeDef). e.span) (foreign_type files) ts ∙ sym (map_map (λ (m : Occurrence). m.span) foreign_use_occurrence ts);
+      settled = λ i m e at there none. absurd (used_named files ts i e (ap (λ l. slice_get l i) (sym adds.types) ∙ there) none);
+    }
+
+    -- a name that occurred is one of its scope
+    used_before : (j : ℕ) (s : Address) (name : List ℕ) → slice_get (keys seen) j ≡ Some (Def s name) → IsNameOf (prefix_scopes files prefix) s name
+    used_before j s name key =
+        let t = foreign_use_of j (Def s name) key in
+        let from : t.0.from ≡ s = (let same = t.2 in cc) in
+        let called : t.0.id.name.now ≡ name = (let same = t.2 in cc) in
+        let v = first_from files uses j t.0 t.1 in
+        let lt = slice_get_within visits v.0 v.1 v.2 in
+        let count = adds.interfaces.count in
+        let x = at_within prefix v.0 (omega arith) in
+        let k = in_use_has files (visited v.1) j t.0 t.1 (sym v.3) in
+        record {
+          place = v.0;
+          resolved_scope = interface_scope files v.0 v.1 x.0;
+          at = at_prefix (interface_scopes files 0 visits prefix) (world_scopes 0 (foreign_worlds files)) v.0 (interface_scope files v.0 v.1 x.0) (interface_scope_at files visits prefix v.0 v.1 x.0 v.2 x.1);
+          scope = v.3 ∙ from;
+          index = k.0;
+          x = ForeignName t.0.attributes t.0.id;
+          among = k.1;
+          called = called;
+        }
+
+    pub prefix_done : IsDone files decls (map foreign_use_occurrence (foreign_uses files)) (prefix_scopes files prefix) es
+    prefix_done = record {
+      seen = seen;
+      collects = foreign_uses_seen files;
+      occurrence = used_occurrence;
+      each = λ t c at. elim (prefix_at files prefix adds.interfaces.count t c at) [
+        | PrefixInterface i v x v_at x_at is ↦ subst (IsDoneScope files) (sym is) (prefix_interface_done files (keys seen) i v x (adds.interfaces.each i v x v_at x_at))
+        | PrefixWorld i w w_at is ↦ subst (IsDoneScope files) (sym is) (prefix_world_done files uses i w w_at)
+      ];
+      own = λ t c at. elim (prefix_at files prefix adds.interfaces.count t c at) [
+        | PrefixInterface i v x v_at x_at is ↦ subst (λ (b : DoneScope). decls b.address ≡ (scope files b.address, b.owner)) (sym is) (interfaces_own i v v_at)
+        | PrefixWorld i w w_at is ↦ subst (λ (b : DoneScope). decls b.address ≡ (scope files b.address, b.owner)) (sym is) (worlds_own i w w_at)
+      ];
+      are_present = λ t c at. elim (prefix_at files prefix adds.interfaces.count t c at) [
+        | PrefixInterface i v x v_at x_at is ↦ subst (λ (b : DoneScope). AreNames (keys seen) b.address (env_of b.types)) (sym is) (interface_present i v x v_at x_at)
+        | PrefixWorld i w w_at is ↦ subst (λ (b : DoneScope). AreNames (keys seen) b.address (env_of b.types)) (sym is) (world_present i w w_at)
+      ];
+      before = used_before;
+      unique = prefix_differ;
+      made = λ t c at. elim (prefix_at files prefix adds.interfaces.count t c at) [
+        | PrefixInterface i v x v_at x_at is ↦ subst (λ (b : DoneScope). AreFunctions (keys seen) b.address b.functions b.made) (sym is) (no_functions (keys seen) (visited v))
+        | PrefixWorld i w w_at is ↦ subst (λ (b : DoneScope). AreFunctions (keys seen) b.address b.functions b.made) (sym is) (no_functions (keys seen) (visited w))
+      ];
+      required = λ t c at. elim (prefix_at files prefix adds.interfaces.count t c at) [
+        | PrefixInterface i v x v_at x_at is ↦ subst (λ (b : DoneScope). AreRequired files (keys seen) (turn_handles (turn_of b)) b.required) (sym is) (nothing_required files (keys seen) (visited v) (filter (λ t. same_address t.from (visited v)) (first_foreign_uses files)))
+        | PrefixWorld i w w_at is ↦ subst (λ (b : DoneScope). AreRequired files (keys seen) (turn_handles (turn_of b)) b.required) (sym is) (required_none files (keys seen))
+      ];
+    }

@@ -1,0 +1,298 @@
+-- Interfaces, or worlds, that are done one after another, as scopes.
+use Rattle.std.proofs.Common.{◌≡◌, ℕ, suc, ◌+◌, List, [], ◌∷◌, ◌++◌, length, Some, inl, inr, refl, sym, ap, ◌∙◌, subst, append_assoc, arith, length-append, zero-add, add-zero}
+use Rattle.std.specs.Prelude.{slice_get, map}
+use Rattle.std.specs.Option.{option_map}
+use Rattle.std.proofs.lemmas.Grind.{flat_map-append}
+use Rattle.std.proofs.lemmas.List.{append-nil, map-append, length-map}
+use Rattle.std.proofs.lemmas.Option.{slice_get_within, slice_get-map}
+use Rattle.wit_tree.specs.declared.tree.PackageFile.{PackageFile}
+use Rattle.wit_types.specs.declared.types.TypeDef.{TypeDef}
+use Rattle.wit_types.specs.declared.types.TypeOwner.{TypeOwner}
+use Rattle.wit_graph.specs.Table.{IsOrder}
+use Rattle.wit_syntax.specs.Address.{Address}
+use Rattle.wit_syntax.specs.Source.{address, Item, ScopeName, foreign_uses, scope_names}
+use Rattle.wit_syntax.specs.ScopesOfTrees.{scope}
+use Rattle.wit_syntax.specs.Repeats.{AllDiffer}
+use Rattle.wit_syntax.specs.Scope.{rows_of, in_turn, local_names, AreDistinct}
+use Rattle.wit_arena.specs.Occurrences.{Key, Occurrence, Decls}
+use Rattle.wit_arena.specs.Whole.{Ordered, Turned, ordered_names, turned, turn_occurrences, addresses, foreign_use_occurrence, all_occurrences, turn_handles, AreRequired}
+use Rattle.wit_functions.specs.declared.function.Function.{Function}
+use Rattle.wit_syntax.specs.Function.{functions}
+use Rattle.wit_syntax.specs.Sides.{FunctionKey}
+use Rattle.std.specs.List.{flat_map}
+use Rattle.wit_arena.specs.Resolving.{Names, ResolvedScope, Required, Defines}
+use Rattle.wit_arena.specs.Resolved.{AddsAfter, AddsEach}
+use Rattle.wit_syntax.proofs.Lists.{at_either, at_seam, at_within, map_at, map_map}
+use Rattle.wit_syntax.proofs.Repeated.{differ_at}
+use Rattle.wit_syntax.proofs.Turns.{at_part, in_turn_among, in_turn_has, in_turn_distinct}
+use Rattle.wit_arena.proofs.Members.{DoneScope, turn_of, resolved_scope_of, IsTurn, IsDone}
+use Rattle.wit_arena.proofs.Required.{required_none, required_append}
+use Rattle.wit_arena.proofs.DoneScopes.{AddsDone, done_more}
+use Rattle.wit_arena.proofs.FreeNames.{free_of, AreStated}
+use Rattle.wit_arena.proofs.Interfaces.{AreScopes, scope_of, functions_of}
+use Rattle.wit_arena.proofs.Turns.{item_of, occurrences}
+
+-- The first of some items, in their orders, are these scopes, and these are their entries in an arena: `Owner` is whom the package
+-- knows by a place in it, `Says` is what holds of an entry, `entry_resolved_scope` is the scope that it is, and `Makes` is what it makes of the
+-- functions of a scope.
+pub record AreLaid {X : Type 0} (Owner : ℕ → TypeOwner) (Says : Ordered → X → Type 0) (entry_resolved_scope : X → ResolvedScope) (Makes : Ordered → DoneScope → X → Type 0) (ws : List Item) (os : List Ordered) (xs : List X) (cs : List DoneScope) : Type 0 where
+  pub count : length xs ≡ length os
+  pub prefix : (t : ℕ) (o : Ordered) → slice_get os t ≡ Some o → slice_get ws t ≡ Some o.item
+  pub least : (t : ℕ) (o : Ordered) → slice_get os t ≡ Some o → IsOrder (rows_of (scope_names o.item)) o.order
+  pub says : (t : ℕ) (o : Ordered) (x : X) → slice_get os t ≡ Some o → slice_get xs t ≡ Some x → Says o x
+  pub turns : map turn_of cs ≡ map turned os
+  pub types : map resolved_scope_of cs ≡ map entry_resolved_scope xs
+  pub whose : (t : ℕ) (c : DoneScope) → slice_get cs t ≡ Some c → c.owner ≡ Owner t
+  pub makes : (t : ℕ) (o : Ordered) (c : DoneScope) (x : X) → slice_get os t ≡ Some o → slice_get cs t ≡ Some c → slice_get xs t ≡ Some x → Makes o c x
+
+abbrev pub done_required : DoneScope → List Required
+done_required c = c.required
+
+-- the first of some items are done, in some orders of their names, after others that are, and these are required in them
+pub record AreDone {X : Type 0} (Owner : ℕ → TypeOwner) (Says : Ordered → X → Type 0) (entry_resolved_scope : X → ResolvedScope) (Makes : Ordered → DoneScope → X → Type 0) (files : List PackageFile) (decls : Decls) (first : List DoneScope) (ws us : List Item) (es : List TypeDef) (xs : List X) (rs : List Required) : Type 0 where
+  pub ordered : List Ordered
+  pub scopes : List DoneScope
+  pub all : map item_of ordered ≡ us
+  pub laid : AreLaid Owner Says entry_resolved_scope Makes ws ordered xs scopes
+  pub required : flat_map done_required scopes ≡ rs
+  pub done : IsDone files decls (all_occurrences files (map turned ordered)) (first ++ scopes) es
+
+-- the addresses of items in their orders
+pub ordered_addresses : (os : List Ordered) (ws : List Item) → map item_of os ≡ ws → map address ws ≡ addresses os
+ordered_addresses os ws all = ap (map address) (sym all) ∙ map_map address item_of os
+
+module _ {X : Type 0} {Owner : ℕ → TypeOwner} {Says : Ordered → X → Type 0} {entry_resolved_scope : X → ResolvedScope} {Makes : Ordered → DoneScope → X → Type 0} {ws : List Item} {os : List Ordered} {xs : List X} {cs : List DoneScope} (l : AreLaid Owner Says entry_resolved_scope Makes ws os xs cs) where
+  -- the scope of an item, and the item of a scope
+  pub scope_at : (t : ℕ) (o : Ordered) → slice_get os t ≡ Some o → (c : DoneScope) × (slice_get cs t ≡ Some c) × (turn_of c ≡ turned o)
+  scope_at t o at = map_at turn_of cs t (turned o) (ap (λ (x : List Turned). slice_get x t) l.turns ∙ slice_get-map turned os t ∙ ap (option_map turned) at)
+
+  pub ordered_at : (t : ℕ) (c : DoneScope) → slice_get cs t ≡ Some c → (o : Ordered) × (slice_get os t ≡ Some o) × (turned o ≡ turn_of c)
+  ordered_at t c at = map_at turned os t (turn_of c) (ap (λ (x : List Turned). slice_get x t) (sym l.turns) ∙ slice_get-map turn_of cs t ∙ ap (option_map turn_of) at)
+
+  -- the entry of a scope, and the scope of an entry
+  pub entry_of : (t : ℕ) (c : DoneScope) → slice_get cs t ≡ Some c → (x : X) × (slice_get xs t ≡ Some x) × (entry_resolved_scope x ≡ resolved_scope_of c)
+  entry_of t c at = map_at entry_resolved_scope xs t (resolved_scope_of c) (ap (λ (x : List ResolvedScope). slice_get x t) (sym l.types) ∙ slice_get-map resolved_scope_of cs t ∙ ap (option_map resolved_scope_of) at)
+
+  pub scope_of_entry : (t : ℕ) (x : X) → slice_get xs t ≡ Some x → (c : DoneScope) × (slice_get cs t ≡ Some c) × (resolved_scope_of c ≡ entry_resolved_scope x)
+  scope_of_entry t x at = map_at resolved_scope_of cs t (entry_resolved_scope x) (ap (λ (y : List ResolvedScope). slice_get y t) l.types ∙ slice_get-map entry_resolved_scope xs t ∙ ap (option_map entry_resolved_scope) at)
+
+  -- the entry of an item
+  pub entry_of_item : (t : ℕ) (o : Ordered) → slice_get os t ≡ Some o → (x : X) × (slice_get xs t ≡ Some x)
+  entry_of_item t o at =
+      let lt = slice_get_within os t o at in
+      let count = l.count in
+      at_within xs t (omega arith)
+
+  -- the addresses of entries are those of items
+  pub laid_addresses : map (λ (x : X). (entry_resolved_scope x).address) xs ≡ addresses os
+  laid_addresses = sym (map_map (λ (c : ResolvedScope). c.address) entry_resolved_scope xs) ∙ ap (map (λ (c : ResolvedScope). c.address)) (sym l.types) ∙ map_map (λ (c : ResolvedScope). c.address) resolved_scope_of cs ∙ sym (map_map (λ (x : Turned). x.address) turn_of cs) ∙ ap (map (λ (x : Turned). x.address)) l.turns ∙ map_map (λ (x : Turned). x.address) turned os
+
+  pub laid_place : (t : ℕ) (a : Address) → slice_get (map (λ (x : X). (entry_resolved_scope x).address) xs) t ≡ Some a → slice_get (map address ws) t ≡ Some a
+  laid_place t a at =
+      let o = map_at (λ (o : Ordered). address o.item) os t a (ap (λ (y : List Address). slice_get y t) (sym laid_addresses) ∙ at) in
+      slice_get-map address ws t ∙ ap (option_map address) (l.prefix t o.0 o.1) ∙ ap Some o.2
+
+  -- the scope of the next one is none of them
+  pub none_is_next : AllDiffer (map address ws) → (w : Item) → slice_get ws (length os) ≡ Some w → (t : ℕ) (c : DoneScope) → slice_get cs t ≡ Some c → c.address ≡ address w → ⊥
+  none_is_next differ w next t c at same =
+      let o = ordered_at t c at in
+      let here : address o.0.item ≡ address w = ap (λ (x : Turned). x.address) o.2 ∙ same in
+      let place = differ_at address ws differ t (length os) o.0.item w (l.prefix t o.0 o.1) next here in
+      let lt = slice_get_within os t o.0 o.1 in
+      omega arith
+
+-- the scope of an item at a place
+abbrev pub laid_scope : TypeOwner → Ordered → Names → List Function → List (FunctionKey × Function) → List Required → DoneScope
+laid_scope o i types made stated rs = record { address = address i.item; owner = o; names = ordered_names i; types = types; functions = functions i.item; made = made; stated = stated; required = rs }
+
+module _ {X : Type 0} (Owner : ℕ → TypeOwner) (Says : Ordered → X → Type 0) (entry_resolved_scope : X → ResolvedScope) (Makes : Ordered → DoneScope → X → Type 0) (ws : List Item) where
+  pub laid_none : AreLaid Owner Says entry_resolved_scope Makes ws [] [] []
+  laid_none = record {
+    count = refl;
+    prefix = λ t o at. absurd (let f : ⊥ = cc in f);
+    least = λ t o at. absurd (let f : ⊥ = cc in f);
+    says = λ t o i at. absurd (let f : ⊥ = cc in f);
+    turns = refl;
+    types = refl;
+    whose = λ t c at. absurd (let f : ⊥ = cc in f);
+    makes = λ t o c i at. absurd (let f : ⊥ = cc in f);
+  }
+
+  -- one more
+  pub laid_more : (os : List Ordered) (xs xs' : List X) (cs : List DoneScope) (o : Ordered) (c : DoneScope) (added : X) → AreLaid Owner Says entry_resolved_scope Makes ws os xs cs → slice_get ws (length os) ≡ Some o.item → IsOrder (rows_of (scope_names o.item)) o.order → xs' ≡ xs ++ added ∷ [] → Says o added → turn_of c ≡ turned o → resolved_scope_of c ≡ entry_resolved_scope added → c.owner ≡ Owner (length xs) → Makes o c added → AreLaid Owner Says entry_resolved_scope Makes ws (os ++ o ∷ []) xs' (cs ++ c ∷ [])
+  laid_more os xs xs' cs o c added l next least last says turn of whose makes =
+      let count = l.count in
+      let long = same_length cs xs l.types in
+      record {
+        count = ap length last ∙ length-append xs (added ∷ []) ∙ ap (λ m. m + 1) count ∙ sym (length-append os (o ∷ []));
+        prefix = λ t p at. elim (at_either os o t p at) [
+          | inl old ↦ l.prefix t p old
+          | inr new ↦ rw (new.1, new.0) next
+        ];
+        least = λ t p at. elim (at_either os o t p at) [
+          | inl old ↦ l.least t p old
+          | inr new ↦ rw new.1 least
+        ];
+        says = λ t p x at there. both os p o (λ q y. Says q y) count t x at (ap (λ (y : List X). slice_get y t) (sym last) ∙ there) (λ old_p old_x. l.says t p x old_p old_x) says;
+        turns = map-append turn_of cs (c ∷ []) ∙ ap (λ (x : List Turned). x ++ turn_of c ∷ []) l.turns ∙ ap (λ (x : Turned). map turned os ++ x ∷ []) turn ∙ sym (map-append turned os (o ∷ []));
+        types = map-append resolved_scope_of cs (c ∷ []) ∙ ap (λ (x : List ResolvedScope). x ++ resolved_scope_of c ∷ []) l.types ∙ ap (λ (x : ResolvedScope). map entry_resolved_scope xs ++ x ∷ []) of ∙ sym (map-append entry_resolved_scope xs (added ∷ [])) ∙ ap (map entry_resolved_scope) (sym last);
+        whose = λ t b at. elim (at_either cs c t b at) [
+          | inl old ↦ l.whose t b old
+          | inr new ↦ rw (new.1, new.0) (whose ∙ ap Owner (sym long))
+        ];
+        makes = λ t p b x at_o at_c there. made t p b x long count at_o at_c (ap (λ (y : List X). slice_get y t) (sym last) ∙ there);
+      }
+    where
+      made : (t : ℕ) (p : Ordered) (b : DoneScope) (x : X) → length cs ≡ length xs → length xs ≡ length os → slice_get (os ++ o ∷ []) t ≡ Some p → slice_get (cs ++ c ∷ []) t ≡ Some b → slice_get (xs ++ added ∷ []) t ≡ Some x → Makes p b x
+      made t p b x long count at_o at_c at_x = elim (at_either os o t p at_o) [
+        | inl old ↦ (
+            let lt = slice_get_within os t p old in
+            elim (at_either cs c t b at_c) [
+              | inl old_c ↦ elim (at_either xs added t x at_x) [
+                | inl old_x ↦ l.makes t p b x old old_c old_x
+                | inr new_x ↦ absurd (let is = new_x.0 in let f : ⊥ = omega arith in f)
+              ]
+              | inr new_c ↦ absurd (let is = new_c.0 in let f : ⊥ = omega arith in f)
+            ])
+        | inr new ↦ (
+            let here = new.0 in
+            elim (at_either cs c t b at_c) [
+              | inl old_c ↦ absurd (let lt = slice_get_within cs t b old_c in let f : ⊥ = omega arith in f)
+              | inr new_c ↦ elim (at_either xs added t x at_x) [
+                | inl old_x ↦ absurd (let lt = slice_get_within xs t x old_x in let f : ⊥ = omega arith in f)
+                | inr new_x ↦ rw (new.1, new_c.1, new_x.1) makes
+              ]
+            ])
+      ]
+
+      same_length : (cs : List DoneScope) (xs : List X) → map resolved_scope_of cs ≡ map entry_resolved_scope xs → length cs ≡ length xs
+      same_length cs xs same = sym (length-map cs resolved_scope_of) ∙ ap length same ∙ length-map xs entry_resolved_scope
+
+      both : {Y : Type 0} (ys : List Y) (y z : Y) (Holds : Y → X → Type 0) → length xs ≡ length ys → (t : ℕ) (x : X) → slice_get (ys ++ z ∷ []) t ≡ Some y → slice_get (xs ++ added ∷ []) t ≡ Some x → (slice_get ys t ≡ Some y → slice_get xs t ≡ Some x → Holds y x) → Holds z added → Holds y x
+      both {Y} ys y z Holds count t x at there old new = elim (at_either ys z t y at) [
+        | inl old_y ↦ elim (at_either xs added t x there) [
+          | inl old_x ↦ old old_y old_x
+          | inr new_x ↦ absurd (let lt = slice_get_within ys t y old_y in let same = new_x.0 in let f : ⊥ = omega arith in f)
+        ]
+        | inr new_y ↦ elim (at_either xs added t x there) [
+          | inl old_x ↦ absurd (let lt = slice_get_within xs t x old_x in let same = new_y.0 in let f : ⊥ = omega arith in f)
+          | inr new_x ↦ subst (λ (w : Y). Holds w x) (sym new_y.1) (subst (Holds z) (sym new_x.1) new)
+        ]
+      ]
+
+pub occurrences-append : (ts : List Turned) (t : Turned) → occurrences (ts ++ t ∷ []) ≡ occurrences ts ++ turn_occurrences t
+occurrences-append ts t =
+    flat_map-append turn_occurrences ts (t ∷ []) ∙ ap (λ ms. occurrences ts ++ ms) (append-nil (turn_occurrences t))
+
+-- the names in turn are those of the scope
+pub in_turn_is : (xs : List ScopeName) (order : List ℕ) → IsOrder (rows_of xs) order → AreDistinct xs → IsTurn xs (in_turn xs order)
+in_turn_is xs order least distinct = record {
+  distinct = distinct;
+  differ = in_turn_distinct xs order least distinct;
+  among = in_turn_among xs order least;
+  has = in_turn_has xs order least;
+}
+
+-- the occurrences of one item more
+more_occurrences : (files : List PackageFile) (os : List Ordered) (o : Ordered) → all_occurrences files (map turned (os ++ o ∷ [])) ≡ all_occurrences files (map turned os) ++ turn_occurrences (turned o)
+more_occurrences files os o =
+    let prefix : List Occurrence = map foreign_use_occurrence (foreign_uses files) in
+    let rest_after : occurrences (map turned (os ++ o ∷ [])) ≡ occurrences (map turned os) ++ turn_occurrences (turned o) = ap occurrences (map-append turned os (o ∷ [])) ∙ occurrences-append (map turned os) (turned o) in
+    ap (λ (ms : List Occurrence). prefix ++ ms) rest_after ∙ sym (append_assoc prefix (occurrences (map turned os)) (turn_occurrences (turned o)))
+
+-- what is required in one scope more
+more_required : (cs : List DoneScope) (c : DoneScope) (rs ss : List Required) → flat_map done_required cs ≡ rs → c.required ≡ ss → flat_map done_required (cs ++ c ∷ []) ≡ rs ++ ss
+more_required cs c rs ss before own = flat_map-append done_required cs (c ∷ []) ∙ ap (λ (x : List Required). x ++ (c.required ++ [])) before ∙ ap (λ (x : List Required). rs ++ x) (append-nil c.required ∙ own)
+
+module _ {X : Type 0} (Owner : ℕ → TypeOwner) (Says : Ordered → X → Type 0) (entry_resolved_scope : X → ResolvedScope) (Makes : Ordered → DoneScope → X → Type 0) (files : List PackageFile) (decls : Decls) (first : List DoneScope) (ws : List Item) where
+  abbrev pub DoneScopes : List Item → List TypeDef → List X → List Required → Type 0
+  DoneScopes us es xs rs = AreDone Owner Says entry_resolved_scope Makes files decls first ws us es xs rs
+
+  -- what the next item adds is done, and its entry says so
+  pub record IsNextDone (us : List Item) (es es' : List TypeDef) (xs xs' : List X) (qs rs : List Required) (w : Item) (d : DoneScopes us es xs qs) : Type 0 where
+    pub order : List ℕ
+    pub least : IsOrder (rows_of (scope_names w)) order
+    pub distinct : AreDistinct (scope_names w)
+    pub types : Names
+    pub middle : List TypeDef
+    pub defines : Defines es middle (map resolved_scope_of (first ++ d.scopes)) (Owner (length xs)) (address w) [] types (in_turn (scope_names w) order)
+    pub made : List Function
+    pub rest_after : AddsAfter middle es' w order types made rs
+    pub stated : List (FunctionKey × Function)
+    pub are_stated : AreStated (functions w) made stated
+    pub added : X
+    pub last : xs' ≡ xs ++ added ∷ []
+    pub says : map (λ p. p.0) types ≡ local_names (in_turn (scope_names w) order) → Says (record { item = w; order = order }) added
+    pub is_resolved_scope : map (λ p. p.0) types ≡ local_names (in_turn (scope_names w) order) → record { address = address w; types = types; functions = free_of stated } ≡ entry_resolved_scope added
+    pub makes : map (λ p. p.0) types ≡ local_names (in_turn (scope_names w) order) → Makes (record { item = w; order = order }) (laid_scope (Owner (length xs)) (record { item = w; order = order }) types made stated rs) added
+
+  module _ (items : AreScopes files ws) (own : (t : ℕ) (w : Item) → slice_get ws t ≡ Some w → decls (address w) ≡ (scope files (address w), (Owner t))) (apart : (t : ℕ) (w : Item) → slice_get ws t ≡ Some w → (k : ℕ) (c : DoneScope) → slice_get first k ≡ Some c → c.address ≡ address w → ⊥) where
+    -- one item more
+    pub one_done : (us : List Item) (es es' : List TypeDef) (xs xs' : List X) (qs rs : List Required) (w : Item) → slice_get ws (length us) ≡ Some w → (d : DoneScopes us es xs qs) → IsNextDone us es es' xs xs' qs rs w d → DoneScopes (us ++ w ∷ []) es' xs' (qs ++ rs)
+    one_done us es es' xs xs' qs rs w there d a =
+        let os = d.ordered in
+        let cs = d.scopes in
+        let l = d.laid in
+        let o : Ordered = record { item = w; order = a.order } in
+        let s = address w in
+        let names = scope_names w in
+        let place = length xs in
+        let c = laid_scope (Owner place) o a.types a.made a.stated rs in
+        let long : length us ≡ length os = sym (ap length d.all) ∙ length-map os item_of in
+        let next : slice_get ws (length os) ≡ Some w = subst (λ (n : ℕ). slice_get ws n ≡ Some w) long there in
+        let at_place : slice_get ws place ≡ Some w = subst (λ (n : ℕ). slice_get ws n ≡ Some w) (sym l.count) next in
+        let turn : IsTurn (scope files s) (in_turn names a.order) = subst (λ (x : List ScopeName). IsTurn x (in_turn names a.order)) (sym (scope_of files ws items place w at_place)) (in_turn_is names a.order a.least a.distinct) in
+        let fresh : (t : ℕ) (b : DoneScope) → slice_get (first ++ cs) t ≡ Some b → b.address ≡ s → ⊥ = λ t b at same. elim (at_part first cs t b at) [
+          | inl h ↦ apart place w at_place h.0 b h.1 same
+          | inr h ↦ none_is_next l items.unique w next h.0 b h.1 same
+        ] in
+        let adds : AddsDone files decls (first ++ cs) es es' c = record {
+          own = own place w at_place;
+          turn = turn;
+          functions = sym (functions_of files ws items place w at_place);
+          stated = a.are_stated;
+          middle = a.middle;
+          defines = a.defines;
+          adds = a.rest_after.adds;
+          ended = a.rest_after.ended;
+        } in
+        let done = done_more files decls (all_occurrences files (map turned os)) (first ++ cs) es es' c d.done fresh adds in
+        let listed = (done.each (length (first ++ cs)) c (at_seam (first ++ cs) c)).listed in
+        record {
+          ordered = os ++ o ∷ [];
+          scopes = cs ++ c ∷ [];
+          all = map-append item_of os (o ∷ []) ∙ ap (λ (x : List Item). x ++ w ∷ []) d.all;
+          laid = laid_more Owner Says entry_resolved_scope Makes ws os xs xs' cs o c a.added l next a.least a.last (a.says listed) refl (a.is_resolved_scope listed) refl (a.makes listed);
+          required = more_required cs c qs rs d.required refl;
+          done = subst (λ (ms : List Occurrence). IsDone files decls ms (first ++ (cs ++ c ∷ [])) es') (sym (more_occurrences files os o)) (subst (λ (x : List DoneScope). IsDone files decls (all_occurrences files (map turned os) ++ turn_occurrences (turned o)) x es') (append_assoc first cs (c ∷ [])) done);
+        }
+
+    -- all that is left, where what one of them adds is done
+    pub all_done : (Adds : List TypeDef → List TypeDef → List X → List X → List Required → Item → Type 0) → ((us : List Item) (es es' : List TypeDef) (xs xs' : List X) (qs rs : List Required) (w : Item) → slice_get ws (length us) ≡ Some w → (d : DoneScopes us es xs qs) → Adds es es' xs xs' rs w → IsNextDone us es es' xs xs' qs rs w d) → (us : List Item) (es new : List TypeDef) (xs xs' : List X) (qs rs : List Required) (vs : List Item) → ((k : ℕ) (w : Item) → slice_get vs k ≡ Some w → slice_get ws (length us + k) ≡ Some w) → DoneScopes us es xs qs → AddsEach Adds es new xs xs' rs vs → DoneScopes (us ++ vs) new xs' (qs ++ rs)
+    all_done Adds step us es new xs xs' qs rs [] there d a = rw (append-nil us, a.0, a.1, a.2, append-nil qs) d
+    all_done Adds step us es new xs xs' qs rs (w ∷ vs) there d a =
+        let at : slice_get ws (length us) ≡ Some w = subst (λ (m : ℕ). slice_get ws m ≡ Some w) (add-zero (length us)) (there 0 w refl) in
+        let longer : length (us ++ w ∷ []) ≡ length us + 1 = length-append us (w ∷ []) in
+        let rest = λ (k : ℕ) (v : Item) (h : slice_get vs k ≡ Some v). subst (λ (m : ℕ). slice_get ws m ≡ Some v) (let same : length us + suc k ≡ length (us ++ w ∷ []) + k = omega arith in same) (there (suc k) v h) in
+        let more : (qs ++ a.2) ++ a.3 ≡ qs ++ rs = append_assoc qs a.2 a.3 ∙ ap (λ (x : List Required). qs ++ x) (sym a.4) in
+        let whole = all_done Adds step (us ++ w ∷ []) a.0 new a.1 xs' (qs ++ a.2) a.3 vs rest (one_done us es a.0 xs a.1 qs a.2 w at d (step us es a.0 xs a.1 qs a.2 w at d a.5)) a.6 in
+        subst (λ (x : List Item). DoneScopes x new xs' (qs ++ rs)) (append_assoc us (w ∷ []) vs) (subst (λ (x : List Required). DoneScopes ((us ++ w ∷ []) ++ vs) new xs' x) more whole)
+
+    -- the first items, from what was done before
+    pub done_prefix : (Adds : List TypeDef → List TypeDef → List X → List X → List Required → Item → Type 0) → ((us : List Item) (es es' : List TypeDef) (xs xs' : List X) (qs rs : List Required) (w : Item) → slice_get ws (length us) ≡ Some w → (d : DoneScopes us es xs qs) → Adds es es' xs xs' rs w → IsNextDone us es es' xs xs' qs rs w d) → (es new : List TypeDef) (xs : List X) (rs : List Required) (vs : List Item) → ((k : ℕ) (w : Item) → slice_get vs k ≡ Some w → slice_get ws k ≡ Some w) → IsDone files decls (all_occurrences files []) first es → AddsEach Adds es new [] xs rs vs → DoneScopes vs new xs rs
+    done_prefix Adds step es new xs rs vs there d a = all_done Adds step [] es new [] xs [] rs vs (λ k w h. subst (λ (m : ℕ). slice_get ws m ≡ Some w) (sym (zero-add k)) (there k w h)) (record {
+      ordered = [];
+      scopes = [];
+      all = refl;
+      laid = laid_none Owner Says entry_resolved_scope Makes ws;
+      required = refl;
+      done = subst (λ (x : List DoneScope). IsDone files decls (all_occurrences files []) x es) (sym (append-nil first)) d;
+    }) a
+
+-- what is required in scopes that are those of items in their orders
+required_each : (files : List PackageFile) (ks : List Key) (cs : List DoneScope) → ((t : ℕ) (c : DoneScope) → slice_get cs t ≡ Some c → AreRequired files ks (turn_handles (turn_of c)) c.required) → AreRequired files ks (flat_map turn_handles (map turn_of cs)) (flat_map done_required cs)
+required_each files ks [] each = required_none files ks
+required_each files ks (c ∷ cs) each = required_append files ks (turn_handles (turn_of c)) (flat_map turn_handles (map turn_of cs)) c.required (flat_map done_required cs) (each 0 c refl) (required_each files ks cs (λ t b at. each (suc t) b at))
+
+pub required_in_turn : (files : List PackageFile) (ks : List Key) (cs : List DoneScope) (os : List Ordered) → map turn_of cs ≡ map turned os → ((t : ℕ) (c : DoneScope) → slice_get cs t ≡ Some c → AreRequired files ks (turn_handles (turn_of c)) c.required) → AreRequired files ks (flat_map turn_handles (map turned os)) (flat_map done_required cs)
+required_in_turn files ks cs os same each = subst (λ (l : List Turned). AreRequired files ks (flat_map turn_handles l) (flat_map done_required cs)) same (required_each files ks cs each)

@@ -1,0 +1,38 @@
+-- Used names, one after another.
+use Rattle.std.proofs.Common.{◌≡◌, ℕ, zero, suc, List, [], ◌∷◌, ◌++◌, length, Some, IsSome, true, inl, inr, nat_eq, refl, sym, ap, ◌∙◌}
+use Rattle.std.specs.Prelude.{slice_get, map}
+use Rattle.std.specs.Cmp.Lexicographic.{pointwise}
+use Rattle.std.specs.Map.{lookup}
+use Rattle.std.specs.Option.{option_map}
+use Rattle.std.proofs.lemmas.Option.{slice_get-map}
+use Rattle.std.proofs.lemmas.List.{map-append}
+use Rattle.wit_types.specs.declared.types.TypeDef.{TypeDef}
+use Rattle.wit_types.specs.declared.types.TypeOwner.{TypeOwner}
+use Rattle.wit_type_tree.specs.declared.leaves.Attribute.{Attribute}
+use Rattle.wit_tree.specs.declared.tree.UseName.{UseName}
+use Rattle.wit_syntax.specs.Address.{Address}
+use Rattle.wit_syntax.specs.Source.{ScopeName, Used, local_name}
+use Rattle.wit_arena.specs.Resolving.{Names, ResolvedScope, env_of, HasNames, IsUsed}
+use Rattle.wit_syntax.specs.Scope.{local_names}
+use Rattle.wit_syntax.proofs.Names.{name_cases, name_itself, names-insert_entry}
+
+-- a name that is listed finds a value
+pub lookup-listed : (es : Names) (k : ℕ) (name : List ℕ) → slice_get (map (λ p. p.0) es) k ≡ Some name → IsSome (lookup (pointwise nat_eq name) es)
+lookup-listed [] k name at = absurd (let f : ⊥ = cc in f)
+lookup-listed (e ∷ es) zero name at = (let same : e.0 ≡ name = cc in let hit : pointwise nat_eq name e.0 ≡ true = ap (λ n. pointwise nat_eq n e.0) (sym same) ∙ name_itself e.0 in rw hit refl)
+lookup-listed (e ∷ es) (suc k) name at = elim (name_cases name e.0) [
+  | inl same ↦ (let hit : pointwise nat_eq name e.0 ≡ true = ap (λ n. pointwise nat_eq n e.0) same ∙ name_itself e.0 in rw hit refl)
+  | inr other ↦ rw other (lookup-listed es k name at)
+]
+
+-- where the names of a table are those of names of a scope, it has each of them
+pub listed_has : (names : Names) (xs : List ScopeName) → map (λ p. p.0) names ≡ local_names xs → HasNames (env_of names) xs
+listed_has names xs listed = record {
+  has = λ i x at. lookup-listed names i (local_name x) (ap (λ (l : List (List ℕ)). slice_get l i) listed ∙ slice_get-map local_name xs i ∙ ap (option_map local_name) at);
+}
+
+-- a used name more
+pub listed_more : {old new : List TypeDef} {cs : List ResolvedScope} {o : TypeOwner} {names names' : Names} (xs : List ScopeName) (from : Address) (attributes : List Attribute) (n : UseName) → map (λ p. p.0) names ≡ local_names xs → IsUsed old new cs o names names' from attributes n → map (λ p. p.0) names' ≡ local_names (xs ++ Used from attributes n ∷ [])
+listed_more {old} {new} {cs} {o} {names} {names'} xs from attributes n listed u =
+    let x = Used from attributes n in
+    ap (map (λ (p : List ℕ × ℕ). p.0)) u.added.inserted ∙ names-insert_entry names (local_name x) (length old) u.free ∙ ap (λ ns. ns ++ local_name x ∷ []) listed ∙ sym (map-append local_name xs (x ∷ []))

@@ -1,0 +1,65 @@
+-- Arenas beside which it is stated where each entry ends, and one entry more.
+use Rattle.std.proofs.Common.{◌≡◌, ℕ, zero, suc, List, [], ◌∷◌, ◌++◌, length, Option, Some, None, inl, inr, refl, sym, ap, ◌∙◌, subst, length-append, arith}
+use Rattle.std.specs.Prelude.{slice_get}
+use Rattle.std.proofs.Math.Seq.{take-append_seam}
+use Rattle.std.proofs.lemmas.Option.{slice_get_within}
+use Rattle.wit_types.specs.declared.types.«Type».TheVariants as type
+use Rattle.wit_types.specs.declared.types.TypeDef.{TypeDef}
+use Rattle.wit_types.specs.declared.types.TypeDefKind.{TypeDefKind}
+use Rattle.wit_types.specs.declared.types.TypeDefKind.TheVariants as kind
+use Rattle.wit_types.specs.declared.types.Handle.TheVariants as handle
+use Rattle.wit_arena.specs.Kind.{kind_of}
+use Rattle.wit_arena.specs.EntryEnds.{EntryEnd, found_end, kind_end, entry_end}
+use Rattle.wit_syntax.proofs.Lists.{at_either}
+use Rattle.wit_arena.proofs.Ends.{entry_end-same}
+use Rattle.wit_entries.specs.declared.ends.End.{End}
+use Rattle.wit_entries.specs.declared.ends.End.TheVariants as end
+use Rattle.wit_entries.specs.EndsOfEntries.{end_means, EndsAt, EndsNext, AreAsStated}
+
+-- lists of one length have no item at the same places
+missing : {X Y : Type 0} (xs : List X) (ys : List Y) (i : ℕ) → length xs ≡ length ys → slice_get xs i ≡ None → slice_get ys i ≡ None
+missing xs [] i same none = refl
+missing [] (y ∷ ys) i same none = absurd (let f : ⊥ = omega arith in f)
+missing (x ∷ xs) (y ∷ ys) zero same none = absurd (let f : ⊥ = cc in f)
+missing (x ∷ xs) (y ∷ ys) (suc i) same none = missing xs ys i (omega arith) none
+
+at_last : {X : Type 0} (xs : List X) (x : X) → slice_get (xs ++ x ∷ []) (length xs) ≡ Some x
+at_last [] x = refl
+at_last (y ∷ xs) x = at_last xs x
+
+-- where the last entry ends
+last_end : (n : ℕ) (es : List TypeDef) (e : TypeDef) → entry_end (suc n) (es ++ e ∷ []) (length es) ≡ kind_end (entry_end n es) (length es) (kind_of e.kind).form (kind_of e.kind).parts
+last_end n es e = ap (λ (l : List TypeDef). found_end (entry_end n l) (length es) (slice_get (es ++ e ∷ []) (length es))) (take-append_seam es (e ∷ [])) ∙ ap (found_end (entry_end n es) (length es)) (at_last es e)
+
+abbrev pub ends_by : ℕ → List TypeDef → TypeDefKind → Option EntryEnd
+ends_by n es k = kind_end (entry_end n es) (length es) (kind_of k).form (kind_of k).parts
+
+ends_kind : (es : List TypeDef) (k : TypeDefKind) (x : End) → EndsNext es k x → (n : ℕ) × (ends_by n es k ≡ Some (end_means x))
+ends_kind es kind.Resource x h = (1, ap (λ (y : End). Some (end_means y)) (sym h))
+ends_kind es kind.Unknown x h = (1, ap (λ (y : End). Some (end_means y)) (sym h))
+ends_kind es (kind.Handle (handle.Own r)) x h = (1, ap (λ (y : End). Some (end_means y)) (sym h))
+ends_kind es (kind.Handle (handle.Borrow r)) x h = (1, ap (λ (y : End). Some (end_means y)) (sym h))
+ends_kind es (kind.Type_ (type.Id i)) x h = (h.steps, h.is)
+ends_kind es (kind.Type_ t) x h = (1, ap (λ (y : End). Some (end_means y)) (sym h))
+ends_kind es k x h = (1, ap (λ (y : End). Some (end_means y)) (sym h))
+
+pub ends_last : (es : List TypeDef) (e : TypeDef) (x : End) → EndsNext es e.kind x → EndsAt (es ++ e ∷ []) (length es) x
+ends_last es e x h =
+    let it = ends_kind es e.kind x h in
+    record { steps = suc it.0; is = last_end it.0 es e ∙ it.1 }
+
+-- one entry more
+pub stated_more : (ends : List End) (es : List TypeDef) (e : TypeDef) (x : End) → AreAsStated ends es → EndsAt (es ++ e ∷ []) (length es) x → AreAsStated (ends ++ x ∷ []) (es ++ e ∷ [])
+stated_more ends es e x as_stated last = record {
+  count = (let a = length-append ends (x ∷ []) in let b = length-append es (e ∷ []) in let c = as_stated.count in omega arith);
+  each = λ i y at. elim (at_either ends x i y at) [
+    | inl there ↦ (
+        let h = as_stated.each i y there in
+        let lt = slice_get_within ends i y there in
+        let count = as_stated.count in
+        record { steps = h.steps; is = entry_end-same h.steps es (e ∷ []) i (omega arith) ∙ h.is })
+    | inr here ↦ (
+        let place : length es ≡ i = sym (here.0 ∙ as_stated.count) in
+        subst (λ (j : ℕ). EndsAt (es ++ e ∷ []) j y) place (subst (EndsAt (es ++ e ∷ []) (length es)) (sym here.1) last))
+  ];
+}

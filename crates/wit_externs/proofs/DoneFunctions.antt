@@ -1,0 +1,122 @@
+-- The functions among what is on the sides of a scope, one after the other, over their types.
+use Rattle.std.proofs.Common.{◌≡◌, ◌<◌, ◌≤◌, ◌+◌, ℕ, List, [], ◌∷◌, ◌++◌, length, map, take, drop, Some, All, IsTrue, inl, inr, sym, ap, ◌∙◌, subst, arith}
+use Rattle.std.specs.Prelude.{slice_get}
+use Rattle.std.specs.List.{flat_map}
+use Rattle.std.specs.Option.{option_map}
+use Rattle.std.proofs.lemmas.Grind.{flat_map-append}
+use Rattle.std.proofs.lemmas.List.{map-append, append-nil, length-map, length-take-le, take_all}
+use Rattle.std.proofs.lemmas.List.Elements.{All-push, All-same}
+use Rattle.std.proofs.lemmas.Option.{slice_get_within, slice_get-map}
+use Rattle.wit_names.specs.Mangled.{is_mangled}
+use Rattle.wit_values.specs.declared.span.Span.{Span}
+use Rattle.wit_refusals.specs.Names.{Name}
+use Rattle.wit_types.specs.declared.types.TypeDef.{TypeDef}
+use Rattle.wit_functions.specs.declared.function.Function.{Function}
+use Rattle.wit_type_tree.specs.declared.error.ParseError.{ParseError}
+use Rattle.wit_type_tree.specs.declared.types.«Type».{«Type» as Written}
+use Rattle.wit_syntax.specs.Address.{Address}
+use Rattle.wit_syntax.specs.Shape.{all_handles}
+use Rattle.wit_syntax.specs.Source.{ScopeName}
+use Rattle.wit_syntax.specs.Fault.{Fault}
+use Rattle.wit_syntax.specs.Broken.{Refused}
+use Rattle.wit_syntax.specs.Function.{SourceFunction, written_types}
+use Rattle.wit_syntax.specs.Sides.{SideItem, SideFunction, item_function}
+use Rattle.wit_syntax.specs.Signature.{IsBrokenFunction}
+use Rattle.wit_arena.specs.Resolving.{Env, Required, env_of, AddsFunctions}
+use Rattle.wit_arena.specs.Resolved.{IsNameless}
+use Rattle.wit_arena.proofs.AddingFunctions.{functions_append}
+use Rattle.wit_syntax.proofs.Lists.{at_either}
+use Rattle.wit_syntax.proofs.Refusing.{refused_weaker}
+use Rattle.wit_rules.specs.declared.function_scope.FunctionScope.{FunctionScope}
+use Rattle.wit_rules.specs.declared.borrowed.BorrowedFunction.{BorrowedFunction}
+use Rattle.wit_rules.specs.Borrowed.{function_view}
+use Rattle.wit_entries.specs.Requiring.{IsExtended, Requires}
+use Rattle.wit_rules.specs.Signatures.{functions_view, IsScopeOf, IsWrongFunction, IsWrongFunctionAmong}
+use Rattle.wit_signatures.specs.ForeignName.{name_of_function, name_of_made}
+use Rattle.wit_entries.proofs.Requiring.{extended_then, requires_types}
+use Rattle.wit_externs.proofs.Steps.{at_middle, flat_split, flat_next}
+
+-- the first functions of a scope are resolved
+pub record AreDone (first now : List TypeDef) (scope : FunctionScope) (fns : List SourceFunction) (fs : List Function) (before after : List Required) : Type 0 where
+  pub adds : (s : Address) → AddsFunctions first now s scope.names.now fns fs
+  pub named : map name_of_made fs ≡ map name_of_function fns
+  pub mangled : All (λ f. IsTrue (is_mangled f.name)) fs
+  pub legal : (xs : List ScopeName) → IsScopeOf scope xs → (k : ℕ) (fn : SourceFunction) → slice_get fns k ≡ Some fn → (f : Fault) → IsBrokenFunction xs (functions_view scope) k fn f → IsNameless xs (functions_view scope)
+  pub handled : Requires (env_of scope.names.now) now (all_handles (flat_map written_types fns)) before after
+  pub extended : IsExtended first now
+
+pub same_name : (f : Function) (fn : SourceFunction) → (f.name ≡ fn.name) × (f.span ≡ fn.span) → name_of_made f ≡ name_of_function fn
+same_name f fn h = ap (λ (n : List ℕ). (n, f.span)) h.0 ∙ ap (λ (s : Span). (fn.name, s)) h.1
+
+types_more : (fns gns : List SourceFunction) (fn : SourceFunction) → gns ≡ fns ++ fn ∷ [] → flat_map written_types gns ≡ flat_map written_types fns ++ written_types fn
+types_more fns gns fn in_use = ap (flat_map written_types) in_use ∙ flat_map-append written_types fns (fn ∷ []) ∙ ap (λ (ts : List Written). flat_map written_types fns ++ ts) (append-nil (written_types fn))
+
+-- as many are made as are resolved
+made_count : (fns : List SourceFunction) (fs : List Function) → map name_of_made fs ≡ map name_of_function fns → length fs ≡ length fns
+made_count fns fs named = sym (length-map fs name_of_made) ∙ ap length named ∙ length-map fns name_of_function
+
+-- and one more
+pub done_more : (first mid new : List TypeDef) (scope : FunctionScope) (fns gns : List SourceFunction) (fn : SourceFunction) (fs gs : List Function) (f : Function) (a b c : List Required) → gns ≡ fns ++ fn ∷ [] → gs ≡ fs ++ f ∷ [] → ((s : Address) → AddsFunctions mid new s scope.names.now (fn ∷ []) (f ∷ [])) → (f.name ≡ fn.name) × (f.span ≡ fn.span) → IsTrue (is_mangled f.name) → ((xs : List ScopeName) → IsScopeOf scope xs → (e : Fault) → IsBrokenFunction xs (functions_view scope) (length fs) fn e → IsNameless xs (functions_view scope)) → Requires (env_of scope.names.now) new (all_handles (written_types fn)) b c → IsExtended mid new → AreDone first mid scope fns fs a b → AreDone first new scope gns gs a c
+done_more first mid new scope fns gns fn fs gs f a b c in_use pushed adds named mangled legal handled extended h = record {
+  adds = λ s. subst (λ (l : List SourceFunction). AddsFunctions first new s scope.names.now l gs) (sym in_use) (subst (AddsFunctions first new s scope.names.now (fns ++ fn ∷ [])) (sym pushed) (functions_append first mid new s scope.names.now fns (fn ∷ []) fs (f ∷ []) (h.adds s) (adds s)));
+  named = ap (map name_of_made) pushed ∙ map-append name_of_made fs (f ∷ []) ∙ ap (λ (l : List Name). l ++ name_of_made f ∷ []) h.named ∙ ap (λ (n : Name). map name_of_function fns ++ n ∷ []) (same_name f fn named) ∙ sym (map-append name_of_function fns (fn ∷ [])) ∙ ap (map name_of_function) (sym in_use);
+  mangled = All-same (λ (g : Function). IsTrue (is_mangled g.name)) gs (fs ++ f ∷ []) pushed (All-push (λ (g : Function). IsTrue (is_mangled g.name)) fs f h.mangled mangled);
+  legal = λ xs is k g at e broken. elim (at_either fns fn k g (ap (λ (l : List SourceFunction). slice_get l k) (sym in_use) ∙ at)) [
+    | inl before ↦ h.legal xs is k g before e broken
+    | inr here ↦ (
+        let place : k ≡ length fs = here.0 ∙ sym (made_count fns fs h.named) in
+        legal xs is e (subst (λ (n : ℕ). IsBrokenFunction xs (functions_view scope) n fn e) place (subst (λ (x : SourceFunction). IsBrokenFunction xs (functions_view scope) k x e) here.1 broken)))
+  ];
+  handled = subst (λ (ts : List Written). Requires (env_of scope.names.now) new (all_handles ts) a c) (sym (types_more fns gns fn in_use)) (requires_types (env_of scope.names.now) mid new (flat_map written_types fns) (written_types fn) a b c extended h.handled handled);
+  extended = extended_then first mid new h.extended extended;
+}
+
+-- the functions among the first items
+abbrev pub functions_to : ℕ → List SideItem → List SourceFunction
+functions_to i xs = flat_map item_function (take i xs)
+
+-- one more item of which one more function is made, or none
+pub functions_more : (xs : List SideItem) (i : ℕ) (x : SideItem) (fns : List SourceFunction) → slice_get xs i ≡ Some x → item_function x ≡ fns → functions_to (i + 1) xs ≡ functions_to i xs ++ fns
+functions_more xs i x fns at is = flat_next item_function xs i x at ∙ ap (λ (l : List SourceFunction). functions_to i xs ++ l) is
+
+pub functions_kept : (xs : List SideItem) (i : ℕ) (x : SideItem) → slice_get xs i ≡ Some x → item_function x ≡ [] → functions_to i xs ≡ functions_to (i + 1) xs
+functions_kept xs i x at is = sym (functions_more xs i x [] at is ∙ append-nil (functions_to i xs))
+
+-- where as many are made as come before it, the function that comes next is that of the item
+pub function_here : (xs : List SideItem) (i : ℕ) (x : SideItem) (fns : List SourceFunction) (fn : SourceFunction) (fs : List Function) → flat_map item_function xs ≡ fns → slice_get xs i ≡ Some x → item_function x ≡ fn ∷ [] → map name_of_made fs ≡ map name_of_function (functions_to i xs) → slice_get fns (length fs) ≡ Some fn
+function_here xs i x fns fn fs all at is named =
+    let rest_after = flat_map item_function (drop (i + 1) xs) in
+    let prefix = functions_to i xs in
+    let whole : prefix ++ (fn ∷ rest_after) ≡ fns = ap (λ (l : List SourceFunction). prefix ++ (l ++ rest_after)) (sym is) ∙ sym (flat_split item_function xs i x at) ∙ all in
+    ap (slice_get fns) (made_count prefix fs named) ∙ ap (λ (l : List SourceFunction). slice_get l (length prefix)) (sym whole) ∙ at_middle prefix fn rest_after
+
+-- it is one of the scope
+pub place_within : (scope : FunctionScope) (k : ℕ) (fn : SourceFunction) → slice_get (functions_view scope) k ≡ Some fn → k < length scope.functions.now
+place_within scope k fn at =
+    let within = slice_get_within (functions_view scope) k fn at in
+    let same = length-map scope.functions.now function_view in
+    omega (arith, within, same)
+
+-- where the functions of a scope are taken one after the other, the one that is read is the next of them
+pub scope_next : (scope : FunctionScope) (i : ℕ) (h : BorrowedFunction) → slice_get scope.functions.now i ≡ Some h → slice_get (functions_view scope) i ≡ Some (function_view h)
+scope_next scope i h at = slice_get-map function_view scope.functions.now i ∙ ap (option_map function_view) at
+
+-- and is at that place on the sides
+pub item_next : (fns : List SourceFunction) (i : ℕ) (fn : SourceFunction) → slice_get fns i ≡ Some fn → slice_get (map SideFunction fns) i ≡ Some (SideFunction fn)
+item_next fns i fn at = slice_get-map SideFunction fns i ∙ ap (option_map SideFunction) at
+
+-- as many as are taken are made
+pub made_to : (fns : List SourceFunction) (i : ℕ) (fn : SourceFunction) (fs : List Function) → slice_get fns i ≡ Some fn → map name_of_made fs ≡ map name_of_function (take i fns) → length fs ≡ i
+made_to fns i fn fs at named =
+    let within = slice_get_within fns i fn at in
+    made_count (take i fns) fs named ∙ length-take-le i fns (omega (arith, within))
+
+-- all of them
+pub done_all : (first now : List TypeDef) (scope : FunctionScope) (i : ℕ) (fs : List Function) (a b : List Required) → length scope.functions.now ≤ i → AreDone first now scope (take i (functions_view scope)) fs a b → AreDone first now scope (functions_view scope) fs a b
+done_all first now scope i fs a b le h =
+    let same = length-map scope.functions.now function_view in
+    subst (λ (fns : List SourceFunction). AreDone first now scope fns fs a b) (take_all i (functions_view scope) (omega (arith, le, same))) h
+
+-- a refusal of one of them
+pub refused_among : (env : Env) (es : List TypeDef) (xs : List ScopeName) (fns : List SourceFunction) (k : ℕ) (fn : SourceFunction) (e : ParseError) → slice_get fns k ≡ Some fn → Refused (IsWrongFunction env es xs fns k fn) e → Refused (IsWrongFunctionAmong env es xs fns) e
+refused_among env es xs fns k fn e at refused = refused_weaker (IsWrongFunction env es xs fns k fn) (IsWrongFunctionAmong env es xs fns) e (λ f wrong. record { place = k; fn = fn; at = at; wrong = wrong }) refused

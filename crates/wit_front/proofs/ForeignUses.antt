@@ -1,0 +1,135 @@
+-- The names that items use from other packages are those among their names, and among those of what is written in them.
+use Rattle.std.proofs.Common.{◌≡◌, ℕ, zero, suc, List, [], ◌∷◌, ◌++◌, Some, inl, inr, refl, sym, ap, ◌∙◌, subst}
+use Rattle.std.specs.Prelude.{All, slice_get, map}
+use Rattle.std.specs.List.{filter, flat_map}
+use Rattle.std.proofs.lemmas.Bool.{cases_Bool}
+use Rattle.std.proofs.lemmas.Grind.{flat_map-append}
+use Rattle.std.proofs.lemmas.List.Elements.{filter-append}
+use Rattle.wit_type_tree.specs.declared.leaves.Attribute.{Attribute}
+use Rattle.wit_tree.specs.declared.tree.InterfaceItem.{InterfaceItem}
+use Rattle.wit_tree.specs.declared.tree.InterfaceItem.TheVariants as interface_item
+use Rattle.wit_tree.specs.declared.tree.PackageFile.{PackageFile}
+use Rattle.wit_tree.specs.declared.tree.Use.{Use}
+use Rattle.wit_tree.specs.declared.tree.UseName.{UseName}
+use Rattle.wit_tree.specs.declared.tree.WorldSide.{WorldSide}
+use Rattle.wit_tree.specs.declared.tree.WorldSide.TheVariants.{Imported, Exported}
+use Rattle.wit_syntax.specs.Address.{Address, is_foreign}
+use Rattle.wit_syntax.specs.ExternPart.{same_side, item_uses, inline_uses}
+use Rattle.wit_syntax.specs.Source.{Item, TopName, path_scope, interface_part, Part, DefinitionPart, UsePart, IncludePart, FunctionPart, ExternPart, parts, part_names, scope_names, ScopeName, Used, ForeignUse, use_of_foreign, use_foreign_uses, part_foreign_uses, all_items, foreign_uses, at_side}
+use Rattle.wit_scopes.specs.PlacedNames.{AreNamesPlaced}
+use Rattle.wit_items.specs.declared.items.Item.{Item as BorrowedItem}
+use Rattle.wit_items.specs.PlacedItems.{AreItemsPlaced}
+use Rattle.wit_items.specs.Items.{names_view}
+use Rattle.wit_item_names.specs.InlineNames.{written_items, side_uses}
+use Rattle.wit_items.specs.InlineNames.{inside_view, names_written}
+use Rattle.wit_item_names.proofs.Written.{items_names, uses_written, names_written_in}
+use Rattle.wit_front.specs.ForeignPrefix.{name_foreign_uses, names_foreign_uses, borrowed_foreign_uses}
+use Rattle.wit_tree.specs.declared.tree.Extern.{Extern}
+use Rattle.wit_syntax.proofs.JoinedItems.{item_foreign_uses}
+
+-- those from other packages
+abbrev foreign : List ForeignUse → List ForeignUse
+foreign ts = filter (λ t. is_foreign t.from) ts
+
+foreign-append : (ts us : List ForeignUse) → foreign (ts ++ us) ≡ foreign ts ++ foreign us
+foreign-append ts us = filter-append (λ (t : ForeignUse). is_foreign t.from) ts us
+
+-- what a `use` takes from other packages
+used-foreign_uses : (s : Address) (attributes : List Attribute) (ns : List UseName) → flat_map name_foreign_uses (map (Used s attributes) ns) ≡ filter (λ t. is_foreign t.from) (map (use_of_foreign s attributes) ns)
+used-foreign_uses s attributes [] = refl
+used-foreign_uses s attributes (n ∷ ns) = ap (λ (l : List ForeignUse). name_foreign_uses (Used s attributes n) ++ l) (used-foreign_uses s attributes ns) ∙ sym (filter-append (λ (t : ForeignUse). is_foreign t.from) (use_of_foreign s attributes n ∷ []) (map (use_of_foreign s attributes) ns))
+
+-- those of a part
+part-foreign_uses : (top : List TopName) (p : Part) → names_foreign_uses (part_names top p) ≡ filter (λ t. is_foreign t.from) (part_foreign_uses top p)
+part-foreign_uses top (DefinitionPart d) = refl
+part-foreign_uses top (UsePart u) = used-foreign_uses (path_scope top u.from) u.attributes.items u.names.items
+part-foreign_uses top (IncludePart i) = refl
+part-foreign_uses top (FunctionPart f) = refl
+part-foreign_uses top (ExternPart x) = refl
+
+-- those of parts
+parts-foreign_uses : (top : List TopName) (ps : List Part) → names_foreign_uses (flat_map (part_names top) ps) ≡ filter (λ t. is_foreign t.from) (flat_map (part_foreign_uses top) ps)
+parts-foreign_uses top [] = refl
+parts-foreign_uses top (p ∷ ps) = flat_map-append name_foreign_uses (part_names top p) (flat_map (part_names top) ps) ∙ ap (λ (l : List ForeignUse). l ++ names_foreign_uses (flat_map (part_names top) ps)) (part-foreign_uses top p) ∙ ap (λ (l : List ForeignUse). filter (λ t. is_foreign t.from) (part_foreign_uses top p) ++ l) (parts-foreign_uses top ps) ∙ sym (filter-append (λ (t : ForeignUse). is_foreign t.from) (part_foreign_uses top p) (flat_map (part_foreign_uses top) ps))
+
+-- the names of an interface are used by its uses
+items_used : (top : List TopName) (xs : List InterfaceItem) → flat_map (part_foreign_uses top) (map interface_part xs) ≡ flat_map (use_foreign_uses top) (flat_map item_uses xs)
+items_used top [] = refl
+items_used top (interface_item.TypeDef d ∷ xs) = items_used top xs
+items_used top (interface_item.Use u ∷ xs) = ap (λ (l : List ForeignUse). use_foreign_uses top u ++ l) (items_used top xs)
+items_used top (interface_item.Func f ∷ xs) = items_used top xs
+
+interfaces_used : (top : List TopName) (ls : List (List InterfaceItem)) → flat_map names_foreign_uses (map (items_names top) ls) ≡ foreign (flat_map (use_foreign_uses top) (flat_map (flat_map item_uses) ls))
+interfaces_used top [] = refl
+interfaces_used top (xs ∷ ls) =
+    let own = flat_map item_uses xs in
+    let rest = flat_map (flat_map item_uses) ls in
+    let first = parts-foreign_uses top (map interface_part xs) ∙ ap foreign (items_used top xs) in
+    ap (λ (l : List ForeignUse). l ++ flat_map names_foreign_uses (map (items_names top) ls)) first ∙ ap (λ (l : List ForeignUse). foreign (flat_map (use_foreign_uses top) own) ++ l) (interfaces_used top ls) ∙ sym (foreign-append (flat_map (use_foreign_uses top) own) (flat_map (use_foreign_uses top) rest)) ∙ ap foreign (sym (flat_map-append (use_foreign_uses top) own rest))
+
+-- those of a side are those of the uses that are written there
+side_part : (top : List TopName) (side : WorldSide) (p : Part) → at_side (λ (x : Extern). flat_map (use_foreign_uses top) (inline_uses x.kind)) side p ≡ flat_map (use_foreign_uses top) (side_uses side p)
+side_part top side (DefinitionPart d) = refl
+side_part top side (UsePart u) = refl
+side_part top side (IncludePart i) = refl
+side_part top side (FunctionPart f) = refl
+side_part top side (ExternPart x) = elim (cases_Bool (same_side side x.side)) [
+  | inl here ↦ rw here refl
+  | inr there ↦ rw there refl
+]
+
+side_parts : (top : List TopName) (side : WorldSide) (ps : List Part) → flat_map (at_side (λ (x : Extern). flat_map (use_foreign_uses top) (inline_uses x.kind)) side) ps ≡ flat_map (use_foreign_uses top) (flat_map (flat_map item_uses) (flat_map (written_items side) ps))
+side_parts top side [] = refl
+side_parts top side (p ∷ ps) =
+    let all : List (List InterfaceItem) → List Use = flat_map (flat_map item_uses) in
+    let own = written_items side p in
+    let rest = flat_map (written_items side) ps in
+    let first = side_part top side p ∙ ap (flat_map (use_foreign_uses top)) (uses_written side p) in
+    ap (λ (l : List ForeignUse). l ++ flat_map (at_side (λ (x : Extern). flat_map (use_foreign_uses top) (inline_uses x.kind)) side) ps) first ∙ ap (λ (l : List ForeignUse). flat_map (use_foreign_uses top) (all own) ++ l) (side_parts top side ps) ∙ sym (flat_map-append (use_foreign_uses top) (all own) (all rest)) ∙ ap (flat_map (use_foreign_uses top)) (sym (flat_map-append (flat_map item_uses) own rest))
+
+written_foreign_uses : (w : Item) (side : WorldSide) → flat_map names_foreign_uses (names_written side w) ≡ foreign (flat_map (at_side (λ (x : Extern). flat_map (use_foreign_uses w.top) (inline_uses x.kind)) side) (parts w))
+written_foreign_uses w side = ap (flat_map names_foreign_uses) (names_written_in w.top side (parts w)) ∙ interfaces_used w.top (flat_map (written_items side) (parts w)) ∙ ap foreign (sym (side_parts w.top side (parts w)))
+
+-- those of an item
+item-foreign_uses : (w : Item) → names_foreign_uses (scope_names w) ++ (flat_map names_foreign_uses (names_written Imported w) ++ flat_map names_foreign_uses (names_written Exported w)) ≡ item_foreign_uses w
+item-foreign_uses w =
+    let own = flat_map (part_foreign_uses w.top) (parts w) in
+    let on : WorldSide → List ForeignUse = λ side. flat_map (at_side (λ (x : Extern). flat_map (use_foreign_uses w.top) (inline_uses x.kind)) side) (parts w) in
+    let exported = flat_map names_foreign_uses (names_written Exported w) in
+    let sides = ap (λ (l : List ForeignUse). l ++ exported) (written_foreign_uses w Imported) ∙ ap (λ (l : List ForeignUse). foreign (on Imported) ++ l) (written_foreign_uses w Exported) ∙ sym (foreign-append (on Imported) (on Exported)) in
+    ap (λ (l : List ForeignUse). l ++ (flat_map names_foreign_uses (names_written Imported w) ++ exported)) (parts-foreign_uses w.top (parts w)) ∙ ap (λ (l : List ForeignUse). foreign own ++ l) sides ∙ sym (foreign-append own (on Imported ++ on Exported))
+
+-- those of items that are borrowed with the right names
+items-foreign_uses : (xs : List BorrowedItem) (ws : List Item) → map names_view xs ≡ map scope_names ws → ((side : WorldSide) → map (inside_view side) xs ≡ map (names_written side) ws) → flat_map borrowed_foreign_uses xs ≡ flat_map item_foreign_uses ws
+items-foreign_uses [] [] names inside = refl
+items-foreign_uses [] (w ∷ ws) names inside = absurd (let f : ⊥ = cc in f)
+items-foreign_uses (x ∷ xs) [] names inside = absurd (let f : ⊥ = cc in f)
+items-foreign_uses (x ∷ xs) (w ∷ ws) names inside =
+    let own : names_view x ≡ scope_names w = cc in
+    let rest : map names_view xs ≡ map scope_names ws = cc in
+    let imported = heads (inside_view Imported x) (names_written Imported w) (map (inside_view Imported) xs) (map (names_written Imported) ws) (inside Imported) in
+    let exported = heads (inside_view Exported x) (names_written Exported w) (map (inside_view Exported) xs) (map (names_written Exported) ws) (inside Exported) in
+    let sides = ap (λ (l : List (List ScopeName)). flat_map names_foreign_uses l ++ flat_map names_foreign_uses (inside_view Exported x)) imported ∙ ap (λ (l : List (List ScopeName)). flat_map names_foreign_uses (names_written Imported w) ++ flat_map names_foreign_uses l) exported in
+    let one : borrowed_foreign_uses x ≡ item_foreign_uses w = ap (λ (l : List ScopeName). names_foreign_uses l ++ (flat_map names_foreign_uses (inside_view Imported x) ++ flat_map names_foreign_uses (inside_view Exported x))) own ∙ ap (λ (l : List ForeignUse). names_foreign_uses (scope_names w) ++ l) sides ∙ item-foreign_uses w in
+    ap (λ (l : List ForeignUse). l ++ flat_map borrowed_foreign_uses xs) one ∙ ap (λ (l : List ForeignUse). item_foreign_uses w ++ l) (items-foreign_uses xs ws rest (λ side. tails (inside_view side x) (names_written side w) (map (inside_view side) xs) (map (names_written side) ws) (inside side)))
+  where
+    heads : {X : Type 0} (a b : X) (prefix back : List X) → a ∷ prefix ≡ b ∷ back → a ≡ b
+    heads a b prefix back same = cc
+
+    tails : {X : Type 0} (a b : X) (prefix back : List X) → a ∷ prefix ≡ b ∷ back → prefix ≡ back
+    tails a b prefix back same = cc
+
+pub all-foreign_uses : (files : List PackageFile) (xs : List BorrowedItem) → map names_view xs ≡ map scope_names (all_items files) → ((side : WorldSide) → map (inside_view side) xs ≡ map (names_written side) (all_items files)) → flat_map borrowed_foreign_uses xs ≡ foreign_uses files
+all-foreign_uses files xs names inside = items-foreign_uses xs (all_items files) names inside
+
+-- items of which each is placed, one by one
+pub one_placed : (prefix : List Address) (xs : List BorrowedItem) (i : ℕ) (x : BorrowedItem) → slice_get xs i ≡ Some x → AreItemsPlaced prefix xs → AreItemsPlaced prefix (x ∷ [])
+one_placed prefix xs i x at placed = record {
+  each = λ k y here. subst (λ (z : BorrowedItem). AreNamesPlaced prefix z.names.items) (only k y here) (placed.each i x at);
+  imported = λ k y here. subst (λ (z : BorrowedItem). All (λ ns. AreNamesPlaced prefix ns.items) z.imported.items) (only k y here) (placed.imported i x at);
+  exported = λ k y here. subst (λ (z : BorrowedItem). All (λ ns. AreNamesPlaced prefix ns.items) z.exported.items) (only k y here) (placed.exported i x at);
+}
+  where
+    only : (k : ℕ) (y : BorrowedItem) → slice_get (x ∷ []) k ≡ Some y → x ≡ y
+    only zero y here = cc
+    only (suc k) y here = absurd (let f : ⊥ = cc in f)

@@ -1,0 +1,109 @@
+-- What comes before the arenas, while it is made.
+use Rattle.std.specs.Prelude.{◌≡◌, ℕ, suc, List, [], ◌∷◌, ◌++◌, not, None, map, if◌then◌else◌}
+use Rattle.std.specs.List.{filter, flat_map}
+use Rattle.wit_values.specs.declared.span.Span.{Span}
+use Rattle.wit_tree.specs.declared.tree.PackageFile.{PackageFile}
+use Rattle.wit_types.specs.declared.stability.Stability.TheVariants.{Unknown}
+use Rattle.wit_types.specs.declared.types.TypeDef.{TypeDef}
+use Rattle.wit_types.specs.declared.types.TypeDefKind.TheVariants as kind
+use Rattle.wit_model.specs.declared.ast_item.AstItem.{AstItem}
+use Rattle.wit_model.specs.declared.ast_item.AstItem.TheVariants as entry
+use Rattle.wit_model.specs.declared.interface.Interface.{Interface}
+use Rattle.wit_model.specs.declared.world.World.{World}
+use Rattle.wit_syntax.specs.Address.{Address, same_address, is_foreign}
+use Rattle.wit_syntax.specs.Source.{ScopeName, Used, Defined, ForeignName, ForeignUse, use_of_foreign, same_foreign_use, first_foreign_uses}
+use Rattle.wit_syntax.specs.Metadata.{metadata, no_docs}
+use Rattle.wit_syntax.specs.Repeats.{AllDiffer, firsts}
+use Rattle.wit_syntax.specs.Foreign.{ForeignVisit, visited, foreign_items}
+use Rattle.wit_arena.specs.Whole.{foreign_entry, owner_at}
+use Rattle.wit_arena.specs.Resolving.{Names, named}
+use Rattle.wit_arena.specs.Resolved.{AddsForeign}
+use Rattle.wit_tree.specs.declared.tree.WorldSide.TheVariants.{Imported, Exported}
+use Rattle.wit_items.specs.declared.items.Item.{Item as BorrowedItem}
+use Rattle.wit_items.specs.Items.{names_view}
+use Rattle.wit_items.specs.InlineNames.{inside_view}
+use Rattle.wit_front.specs.declared.foreign.ForeignArenas.{ForeignArenas}
+
+-- an interface of another package with these types
+abbrev pub interface_with : Span → Names → Interface
+interface_with span types = record { name = None; types = types; functions = []; docs = no_docs; stability = Unknown; «package» = None; span = span; clone_of = None }
+
+-- an interface with other types
+abbrev pub with_types : Interface → Names → Interface
+with_types i types = record { name = i.name; types = types; functions = i.functions; docs = i.docs; stability = i.stability; «package» = i.«package»; span = i.span; clone_of = i.clone_of }
+
+-- a world of another package
+abbrev pub bare_world : Span → World
+bare_world span = record { name = []; imports = []; exports = []; «package» = None; docs = no_docs; stability = Unknown; includes = []; span = span }
+
+-- the interfaces among items, and the worlds
+abbrev pub interfaces_among : List ForeignVisit → List ForeignVisit
+interfaces_among vs = filter (λ v. not v.wants_world) vs
+
+abbrev pub worlds_among : List ForeignVisit → List ForeignVisit
+worlds_among vs = filter (λ (v : ForeignVisit). v.wants_world) vs
+
+-- the addresses of the interfaces
+abbrev pub addresses_among : List ForeignVisit → List Address
+addresses_among vs = map visited (interfaces_among vs)
+
+-- the entry of an item, where so many interfaces and so many worlds come before it
+abbrev pub entry_after : ℕ → ℕ → ForeignVisit → AstItem
+entry_after i w v = if v.wants_world then entry.World w else entry.Interface i
+
+-- the entries of items
+abbrev pub entries_after : ℕ → ℕ → List ForeignVisit → List AstItem
+entries_after i w [] = []
+entries_after i w (v ∷ vs) = entry_after i w v ∷ entries_after (if v.wants_world then i else suc i) (if v.wants_world then suc w else w) vs
+
+-- the names of a scope among takings, each with its place, counted from n
+abbrev pub used_from : ℕ → Address → List ForeignUse → Names
+used_from n s [] = []
+used_from n s (t ∷ ts) = if same_address t.from s then (t.id.name.now, n) ∷ used_from (suc n) s ts else used_from (suc n) s ts
+
+-- the interface of a visit, with the types that are taken from it
+abbrev pub visited_interface : List ForeignUse → ForeignVisit → Interface
+visited_interface ts v = interface_with v.id.span (used_from 0 (visited v) ts)
+
+-- the type that is taken, where these are the items
+abbrev pub type_among : List ForeignVisit → ForeignUse → TypeDef
+type_among vs t = named (owner_at (addresses_among vs) (map visited (worlds_among vs)) t.from) t.id.name.now kind.Unknown (metadata no_docs t.attributes) t.id.span
+
+-- the arenas of these items, once these names were taken from them
+pub record AreAdded (vs : List ForeignVisit) (ts : List ForeignUse) (es : List TypeDef) (a : ForeignArenas) : Type 0 where
+  pub types : es ≡ map (type_among vs) (firsts same_foreign_use ts)
+  pub interfaces : a.interfaces ≡ map (visited_interface (firsts same_foreign_use ts)) (interfaces_among vs)
+  pub worlds : a.worlds ≡ map (λ v. bare_world v.id.span) (worlds_among vs)
+  pub entries : a.entries.items ≡ entries_after 0 0 vs
+  pub spans : a.spans.items ≡ map (λ t. t.id.span) (firsts same_foreign_use ts)
+
+-- no two of these interfaces are one
+abbrev pub AreApart : List ForeignVisit → Type 0
+AreApart vs = AllDiffer (addresses_among vs)
+
+-- the names among these that come from other packages
+abbrev pub name_foreign_uses : ScopeName → List ForeignUse
+name_foreign_uses (Used from attributes n) = filter (λ t. is_foreign t.from) (use_of_foreign from attributes n ∷ [])
+name_foreign_uses (Defined d) = []
+name_foreign_uses (ForeignName attributes id) = []
+
+abbrev pub names_foreign_uses : List ScopeName → List ForeignUse
+names_foreign_uses xs = flat_map name_foreign_uses xs
+
+-- those among the names of an item, and then among those of what is written in it, on the imported side and on the exported one
+abbrev pub borrowed_foreign_uses : BorrowedItem → List ForeignUse
+borrowed_foreign_uses i = names_foreign_uses (names_view i) ++ (flat_map names_foreign_uses (inside_view Imported i) ++ flat_map names_foreign_uses (inside_view Exported i))
+
+-- some names were taken from some items, at which what is at hand is placed
+pub record HasUsed (types : List TypeDef) (a : ForeignArenas) (Placed : List Address → Type 0) : Type 0 where
+  pub vs : List ForeignVisit
+  pub ts : List ForeignUse
+  pub apart : AreApart vs
+  pub in_use : AreAdded vs ts types a
+  pub placed : Placed (addresses_among vs)
+
+-- what files name of other packages comes before the arenas
+pub record IsPrefix (files : List PackageFile) (types : List TypeDef) (a : ForeignArenas) : Type 0 where
+  pub adds : AddsForeign files types a.interfaces a.worlds
+  pub entries : a.entries.items ≡ map (foreign_entry files) (foreign_items files)
+  pub spans : a.spans.items ≡ map (λ t. t.id.span) (first_foreign_uses files)

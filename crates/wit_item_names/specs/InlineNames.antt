@@ -1,0 +1,37 @@
+-- The names of interfaces that are written in worlds.
+use Rattle.std.specs.Prelude.{if◌then◌else◌, List, [], ◌∷◌, map}
+use Rattle.std.specs.List.{flat_map}
+use Rattle.wit_tree.specs.declared.tree.Extern.{Extern}
+use Rattle.wit_tree.specs.declared.tree.ExternKind.{ExternKind}
+use Rattle.wit_tree.specs.declared.tree.ExternKind.TheVariants as extern
+use Rattle.wit_tree.specs.declared.tree.InterfaceItem.{InterfaceItem}
+use Rattle.wit_tree.specs.declared.tree.Use.{Use}
+use Rattle.wit_tree.specs.declared.tree.WorldSide.{WorldSide}
+use Rattle.wit_syntax.specs.ExternPart.{same_side, inline_uses}
+use Rattle.wit_syntax.specs.Source.{TopName, at_side, interface_part, part_names, Part, DefinitionPart, UsePart, IncludePart, FunctionPart, ExternPart, ScopeName}
+use Rattle.wit_syntax.specs.Sides.{SideItem, SideFunction, SideLink, SideInline}
+
+-- the names of the interface that it is, if it is written there
+abbrev pub inline_names : List TopName → SideItem → List (List ScopeName)
+inline_names top (SideFunction fn) = []
+inline_names top (SideLink link) = []
+inline_names top (SideInline x name items) = flat_map (part_names top) (map interface_part items) ∷ []
+
+-- the items of the interface that it is, if it is written there
+abbrev pub kind_items : ExternKind → List (List InterfaceItem)
+kind_items (extern.Interface name items) = items.items ∷ []
+kind_items (extern.Path path) = []
+kind_items (extern.Func name f) = []
+kind_items (extern.NamedPath name path) = []
+
+-- those of a part, if it is on a side
+abbrev pub written_items : WorldSide → Part → List (List InterfaceItem)
+written_items side (DefinitionPart d) = []
+written_items side (UsePart u) = []
+written_items side (IncludePart i) = []
+written_items side (FunctionPart f) = []
+written_items side (ExternPart x) = if same_side side x.side then kind_items x.kind else []
+
+-- the uses of the interface that is written in a part, if it is on a side
+abbrev pub side_uses : WorldSide → Part → List Use
+side_uses side part = at_side (λ (x : Extern). inline_uses x.kind) side part

@@ -1,0 +1,104 @@
+-- Includes of a world, one more.
+use Rattle.std.proofs.Common.{◌≡◌, ℕ, ◌+◌, List, [], ◌∷◌, ◌++◌, length, take, Some, map, inl, inr, refl, sym, ap, ◌∙◌, subst, arith, Contains}
+use Rattle.std.specs.Prelude.{slice_get}
+use Rattle.std.specs.List.{flat_map}
+use Rattle.std.specs.Option.{option_map}
+use Rattle.std.proofs.lemmas.Grind.{flat_map-append}
+use Rattle.std.proofs.lemmas.List.{append-nil, map-append, length-append}
+use Rattle.std.proofs.lemmas.List.Elements.{Contains-append_cases}
+use Rattle.std.proofs.lemmas.Option.{slice_get-map, slice_get_within}
+use Rattle.wit_tree.specs.declared.tree.Include.{Include}
+use Rattle.wit_tree.specs.declared.tree.World.{World as Written}
+use Rattle.wit_tree.specs.declared.tree.WorldItem.{WorldItem}
+use Rattle.wit_tree.specs.declared.tree.WorldItem.TheVariants as world_item
+use Rattle.wit_tree.specs.declared.tree.PackageFile.{PackageFile}
+use Rattle.wit_model.specs.declared.world.WorldInclude.{WorldInclude}
+use Rattle.wit_syntax.specs.Address.{Address}
+use Rattle.wit_syntax.specs.Source.{TopName, TheWorld, IncludePart, world_part}
+use Rattle.wit_syntax.specs.Scope.{part_includes, include_path}
+use Rattle.wit_syntax.specs.Fault.{Fault}
+use Rattle.wit_syntax.specs.Metadata.{IsBrokenStability}
+use Rattle.wit_arena.specs.Whole.{IsInclude, AreIncludes}
+use Rattle.wit_arena.specs.Resolving.{Names, IsLostInclude}
+use Rattle.wit_syntax.proofs.Lists.{at_either}
+use Rattle.wit_syntax.proofs.Orders.{take_next}
+use Rattle.wit_syntax.proofs.Found.{contains_at}
+use Rattle.wit_top_names.proofs.Lost.{at_flat}
+use Rattle.wit_links.specs.Includes.{IsLost, AreStable}
+use Rattle.wit_item_names.proofs.Usable.{contains_one}
+
+-- the includes among parts of a world
+abbrev pub included : List WorldItem → List Include
+included items = flat_map part_includes (map world_part items)
+
+-- these are the includes that are written, where the worlds have these addresses
+pub record AreIncluded (worlds : List Address) (top : List TopName) (written : List Include) (is : List WorldInclude) : Type 0 where
+  pub count : length is ≡ length written
+  pub each : (k : ℕ) (w : Include) (i : WorldInclude) → slice_get written k ≡ Some w → slice_get is k ≡ Some i → IsInclude worlds top w i
+
+included-append : (items : List WorldItem) (x : WorldItem) → included (items ++ x ∷ []) ≡ included items ++ flat_map part_includes (world_part x ∷ [])
+included-append items x = ap (flat_map part_includes) (map-append world_part items (x ∷ [])) ∙ flat_map-append part_includes (map world_part items) (world_part x ∷ [])
+
+-- one part more, which is an include
+pub included_next : (items : List WorldItem) (k : ℕ) (i : Include) → slice_get items k ≡ Some (world_item.Include i) → included (take (k + 1) items) ≡ included (take k items) ++ i ∷ []
+included_next items k i at = ap included (take_next items k (world_item.Include i) at) ∙ included-append (take k items) (world_item.Include i)
+
+-- or which is none
+pub included_past : (items : List WorldItem) (k : ℕ) (x : WorldItem) → slice_get items k ≡ Some x → part_includes (world_part x) ≡ [] → included (take (k + 1) items) ≡ included (take k items)
+included_past items k x at none = ap included (take_next items k x at) ∙ included-append (take k items) x ∙ ap (λ is. included (take k items) ++ (is ++ [])) none ∙ append-nil (included (take k items))
+
+-- a part that is no include has none
+pub no_include : (x : WorldItem) → ((i : Include) → x ≡ world_item.Include i → ⊥) → part_includes (world_part x) ≡ []
+no_include (world_item.TypeDef d) other = refl
+no_include (world_item.Extern x) other = refl
+no_include (world_item.Use u) other = refl
+no_include (world_item.Include i) other = absurd (other i refl)
+
+pub included_none : (worlds : List Address) (top : List TopName) → AreIncluded worlds top [] []
+included_none worlds top = record { count = refl; each = λ k w i at there. absurd (let f : ⊥ = cc in f) }
+
+-- one include more
+pub included_more : (worlds : List Address) (top : List TopName) (ws : List Include) (is : List WorldInclude) (w : Include) (i : WorldInclude) → AreIncluded worlds top ws is → IsInclude worlds top w i → AreIncluded worlds top (ws ++ w ∷ []) (is ++ i ∷ [])
+included_more worlds top ws is w i are one = record {
+  count = length-append is (i ∷ []) ∙ ap (λ n. n + 1) are.count ∙ sym (length-append ws (w ∷ []));
+  each = λ k v j at there. elim (at_either ws w k v at) [
+    | inl old ↦ elim (at_either is i k j there) [
+      | inl before ↦ are.each k v j old before
+      | inr last ↦ absurd (let lt = slice_get_within ws k v old in let same = last.0 in let count = are.count in omega arith)
+    ]
+    | inr new ↦ elim (at_either is i k j there) [
+      | inl before ↦ absurd (let lt = slice_get_within is k j before in let same = new.0 in let count = are.count in omega arith)
+      | inr last ↦ subst (λ x. IsInclude worlds top x j) (sym new.1) (subst (IsInclude worlds top w) (sym last.1) one)
+    ]
+  ];
+}
+
+-- the includes of a world are those of its item
+pub includes_are : (worlds : List Address) (top : List TopName) (w : Written) (is : List WorldInclude) → AreIncluded worlds top (included w.items.items) is → AreIncludes worlds (record { top = top; declared = TheWorld w }) is
+includes_are worlds top w is are = record { count = are.count; each = are.each }
+
+-- no include, or one more, whose attributes break no rule
+pub stable_none : AreStable []
+stable_none = record { each = λ i among. absurd (let lt = among.1 in let f : ⊥ = omega arith in f) }
+
+pub stable_more : (is : List Include) (i : Include) → AreStable is → ((f : Fault) → IsBrokenStability i.attributes.items f → ⊥) → AreStable (is ++ i ∷ [])
+stable_more is i stable one = record {
+  each = λ j among. elim (Contains-append_cases is (i ∷ []) j among) [
+    | inl early ↦ stable.each j early
+    | inr last ↦ subst (λ (x : Include). (f : Fault) → IsBrokenStability x.attributes.items f → ⊥) (contains_one i j last) one
+  ];
+}
+
+-- an include among the parts of a world is one of its includes
+pub included_among : (w : Written) (k : ℕ) (i : Include) → slice_get w.items.items k ≡ Some (world_item.Include i) → Contains (included w.items.items) i
+included_among w k i at =
+    let ps = map world_part w.items.items in
+    let p = at_flat part_includes ps k 0 (IncludePart i) i (slice_get-map world_part w.items.items k ∙ ap (option_map world_part) at) refl in
+    contains_at (included w.items.items) p.0 i p.1
+
+-- an include of a world that leads to no world is one of its item
+pub lost_among : (files : List PackageFile) (by_name : Names) (top : List TopName) (w : Written) (k : ℕ) (i : Include) (f : Fault) → slice_get w.items.items k ≡ Some (world_item.Include i) → IsLost files by_name top i f → IsLostInclude files by_name (record { top = top; declared = TheWorld w }) f
+lost_among files by_name top w k i f at lost =
+    let ps = map world_part w.items.items in
+    let p = at_flat include_path ps k 0 (IncludePart i) i.from (slice_get-map world_part w.items.items k ∙ ap (option_map world_part) at) refl in
+    record { path = i.from; among = contains_at (flat_map include_path ps) p.0 i.from p.1; lost = lost.lost; is = lost.is }

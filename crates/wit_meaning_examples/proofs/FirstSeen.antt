@@ -1,0 +1,94 @@
+-- What occurs for the first time, given by marks, and the entries of it, one after the other.
+use Rattle.std.proofs.Common.{◌≡◌, ℕ, zero, suc, Bool, true, false, not, ◌&&◌, List, [], ◌∷◌, ◌++◌, Some, inr, refl, sym, ap, ◌∙◌, subst, append_assoc}
+use Rattle.std.specs.Prelude.{slice_get}
+use Rattle.std.specs.Str.{bytes_eq}
+use Rattle.std.proofs.lemmas.Bool.{and_parts}
+use Rattle.std.proofs.lemmas.List.{append-nil}
+use Rattle.wit_types.specs.declared.stability.Stability.{Stability}
+use Rattle.wit_types.specs.declared.types.TypeDef.{TypeDef}
+use Rattle.wit_types.specs.declared.types.TypeDefKind.{TypeDefKind}
+use Rattle.wit_values.specs.declared.span.Span.{Span}
+use Rattle.wit_syntax.specs.Address.{Address, InterfaceNamed, WorldNamed, InlineAt, ForeignNamed}
+use Rattle.wit_syntax.specs.Form.{Form, BorrowForm, ListForm, ResultForm}
+use Rattle.wit_syntax.proofs.Names.{name_itself}
+use Rattle.wit_syntax.proofs.Repeated.{differ_none}
+use Rattle.wit_arena.specs.Expr.{Exprs, name_exprs}
+use Rattle.wit_arena.specs.Kind.{kind_of}
+use Rattle.wit_arena.specs.Occurrences.{Key, Def, Whole, Occurrence, keys, IsSeen, Collects, AreAt, Decls, IsEntry, IsOccurrence, settled}
+use Rattle.wit_arena.specs.Resolving.{named, unnamed}
+use Rattle.wit_arena.proofs.Occurrence.{keys-append, occurrence_more, IsSettled}
+use Rattle.wit_syntax.specs.Source.{ScopeName, local_name, about_name}
+
+-- a mark of a scope, of a form, and of what occurs: it says some of it
+abbrev scope_mark : Address → List ℕ
+scope_mark (InterfaceNamed name) = 0 ∷ name
+scope_mark (WorldNamed name) = 1 ∷ name
+scope_mark (InlineAt world side place) = 2 ∷ place ∷ world
+scope_mark (ForeignNamed p name) = 3 ∷ name
+
+abbrev bit : Bool → ℕ
+bit true = 1
+bit false = 0
+
+abbrev form_mark : Form → List ℕ
+form_mark BorrowForm = 0 ∷ []
+form_mark ListForm = 1 ∷ []
+form_mark (ResultForm has_ok has_err) = 2 ∷ bit has_ok ∷ bit has_err ∷ []
+form_mark _ = 3 ∷ []
+
+abbrev pub key_mark : Key → List ℕ
+key_mark (Def s name) = 0 ∷ scope_mark s ++ 256 ∷ name
+key_mark (Whole form parts) = 1 ∷ form_mark form
+
+-- whether none of these has the mark
+abbrev pub is_new : List ℕ → List Key → Bool
+is_new mark [] = true
+is_new mark (k ∷ ks) = not (bytes_eq mark (key_mark k)) && is_new mark ks
+
+-- what has another mark than all that occurred is new
+pub fresh : (ks : List Key) (k : Key) → is_new (key_mark k) ks ≡ true → IsSeen ks k → ⊥
+fresh [] k new (i, at) = let f : ⊥ = cc in f
+fresh (x ∷ ks) k new (zero, at) =
+    let same : x ≡ k = cc in
+    let hit : bytes_eq (key_mark k) (key_mark x) ≡ true = ap (λ y. bytes_eq (key_mark k) (key_mark y)) same ∙ name_itself (key_mark k) in
+    let wrong : false ≡ true = sym (ap not hit) ∙ (and_parts (not (bytes_eq (key_mark k) (key_mark x))) (is_new (key_mark k) ks) new).0 in
+    let f : ⊥ = cc in
+    f
+fresh (x ∷ ks) k new (suc i, at) = fresh ks k (and_parts (not (bytes_eq (key_mark k) (key_mark x))) (is_new (key_mark k) ks) new).1 (i, at)
+
+-- whether none of what occurs next has the mark of what occurred before
+abbrev pub are_new : List Key → List Occurrence → Bool
+are_new ks [] = true
+are_new ks (m ∷ ms) = is_new (key_mark m.key) ks && are_new (ks ++ m.key ∷ []) ms
+
+-- so each of it is a first occurrence
+pub collects_each : (ms more : List Occurrence) → are_new (keys ms) more ≡ true → Collects ms more (ms ++ more)
+collects_each ms [] new = append-nil ms
+collects_each ms (m ∷ more) new =
+    let both = and_parts (is_new (key_mark m.key) (keys ms)) (are_new (keys ms ++ m.key ∷ []) more) new in
+    let next : are_new (keys (ms ++ m ∷ [])) more ≡ true = ap (λ ks. are_new ks more) (keys-append ms (m ∷ [])) ∙ both.1 in
+    inr (fresh (keys ms) m.key both.0, subst (Collects (ms ++ m ∷ []) more) (append_assoc ms (m ∷ []) more) (collects_each (ms ++ m ∷ []) more next))
+
+-- before anything occurs the arena is empty
+pub none_seen : (decls : Decls) → IsOccurrence decls [] []
+none_seen decls = record {
+  keyed = record { count = refl; once = differ_none; each = λ i k e at there. absurd (let f : ⊥ = cc in f) };
+  spans = refl;
+  settled = λ i m e at there. absurd (let f : ⊥ = cc in f);
+}
+
+-- what occurs next and is new has the next entry
+pub seen_more : {decls : Decls} {ms : List Occurrence} {es : List TypeDef} (m : Occurrence) (e : TypeDef) → IsOccurrence decls ms es → is_new (key_mark m.key) (keys ms) ≡ true → IsEntry decls (keys ms) m.key e → e.span ≡ m.span → IsSettled es m.given m.key e → IsOccurrence decls (ms ++ m ∷ []) (es ++ e ∷ [])
+seen_more {decls} {ms} {es} m e before new it here settled = occurrence_more m e before (fresh (keys ms) m.key new) it here settled
+
+-- a name of a scope has the next entry, over the places of its parts
+pub seen_named : {decls : Decls} {ms : List Occurrence} {es : List TypeDef} (s : Address) (k : ℕ) (x : ScopeName) (kind : TypeDefKind) → IsOccurrence decls ms es → is_new (key_mark (Def s (local_name x))) (keys ms) ≡ true → slice_get (decls s).0 k ≡ Some x → (kind_of kind).form ≡ (about_name x).body.form → AreAt (keys ms) (name_exprs s x) (kind_of kind).parts → IsOccurrence decls (ms ++ record { key = Def s (local_name x); span = (about_name x).span; given = (about_name x).metadata.stability } ∷ []) (es ++ named (decls s).1 (local_name x) kind (about_name x).metadata (about_name x).span ∷ [])
+seen_named {decls} {ms} {es} s k x kind before new at form parts =
+    let m : Occurrence = record { key = Def s (local_name x); span = (about_name x).span; given = (about_name x).metadata.stability } in
+    seen_more m (named (decls s).1 (local_name x) kind (about_name x).metadata (about_name x).span) before new (k, x, at, refl, refl, refl, refl, form, parts, record { docs = refl; stability = refl; external_id = refl }) refl tt
+
+-- and so has an unnamed type
+pub seen_unnamed : {decls : Decls} {ms : List Occurrence} {es : List TypeDef} (form : Form) (parts : Exprs) (kind : TypeDefKind) (given : Stability) (span : Span) → IsOccurrence decls ms es → is_new (key_mark (Whole form parts)) (keys ms) ≡ true → (kind_of kind).form ≡ form → AreAt (keys ms) parts (kind_of kind).parts → IsOccurrence decls (ms ++ record { key = Whole form parts; span = span; given = given } ∷ []) (es ++ unnamed kind (settled es given kind) span ∷ [])
+seen_unnamed {decls} {ms} {es} form parts kind given span before new of are =
+    let m : Occurrence = record { key = Whole form parts; span = span; given = given } in
+    seen_more m (unnamed kind (settled es given kind) span) before new (refl, refl, of, are, refl, refl) refl refl

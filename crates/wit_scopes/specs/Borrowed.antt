@@ -1,0 +1,47 @@
+-- What the resolver holds by reference: names of a scope, used names and definitions, and interfaces of other packages.
+use Rattle.std.specs.Prelude.{◌≡◌, ℕ, List, Some, ⊤, slice_get}
+use Rattle.wit_scopes.specs.declared.scope_name.UsedName.{UsedName}
+use denote.Ref.{Bor}
+use Rattle.wit_type_tree.specs.declared.types.TypeDef.{TypeDef}
+use Rattle.wit_scopes.specs.declared.scope_name.Lent.{Lent}
+use Rattle.wit_scopes.specs.declared.scope_name.Named.{Named}
+use Rattle.wit_scopes.specs.declared.scope_name.Named.TheVariants as borrowed
+use Rattle.wit_scopes.specs.declared.scope_name.Source.{Source as BorrowedSource}
+use Rattle.wit_scopes.specs.declared.scope_name.Source.TheVariants as borrowed_source
+use Rattle.wit_syntax.specs.Address.{Address, InterfaceNamed, ForeignNamed, package_of}
+use Rattle.wit_syntax.specs.Source.{ScopeName, Used, Defined}
+
+-- the scope that a used name comes from
+abbrev pub source_view : BorrowedSource → Address
+source_view (borrowed_source.Declared id) = InterfaceNamed id.name.now
+source_view (borrowed_source.Foreign id of name) = ForeignNamed (package_of of.now) name.name.now
+
+-- the used name that is borrowed
+abbrev pub use_view : UsedName → ScopeName
+use_view u = Used (source_view u.from) u.attributes.now u.name.now
+
+-- a borrowed definition
+abbrev pub DefinedName : Type 0
+DefinedName = Lent (Bor TypeDef)
+
+-- the definition that is borrowed
+abbrev pub definition_view : DefinedName → ScopeName
+definition_view d = Defined d.definition.now
+
+-- a borrowed name of a scope
+abbrev pub Borrowed : Type 0
+Borrowed = Named UsedName DefinedName
+
+-- the name of a scope that is borrowed
+abbrev pub name_view : Borrowed → ScopeName
+name_view (borrowed.Used u) = use_view u
+name_view (borrowed.Defined d) = definition_view d
+
+-- a used name comes from a declared interface, or from the one of another package at its place
+abbrev pub IsPlaced : List Address → BorrowedSource → Type 0
+IsPlaced prefix (borrowed_source.Declared id) = ⊤
+IsPlaced prefix (borrowed_source.Foreign id of name) = slice_get prefix id ≡ Some (ForeignNamed (package_of of.now) name.name.now)
+
+-- so do all used names of a scope
+pub record ArePlaced (prefix : List Address) (uses : List UsedName) : Type 0 where
+  pub each : (k : ℕ) (u : UsedName) → slice_get uses k ≡ Some u → IsPlaced prefix u.from

@@ -1,0 +1,26 @@
+-- The names of a scope, of which no two on one side may have one key.
+use Rattle.std.specs.Prelude.{ℕ, List}
+use Rattle.wit_names.specs.Folded.{folded_key}
+use Rattle.wit_type_tree.specs.declared.leaves.Id.{Id}
+use Rattle.wit_functions.specs.declared.function.Function.{Function}
+use Rattle.wit_syntax.specs.Bodies.{IsSecond}
+use Rattle.wit_syntax.specs.Fault.{Fault, fault}
+use Rattle.wit_syntax.specs.Function.{SourceFunction}
+use Rattle.wit_refusals.specs.Names.{Name}
+
+abbrev pub name_of_id : Id → Name
+name_of_id id = (id.name.now, id.span)
+
+abbrev pub name_of_made : Function → Name
+name_of_made f = (f.name, f.span)
+
+abbrev pub name_of_function : SourceFunction → Name
+name_of_function fn = (fn.name, fn.span)
+
+-- the key by which a name is distinguished
+abbrev pub name_key : Name → List ℕ
+name_key n = folded_key n.0
+
+-- an earlier one of these names has the key of a later one
+abbrev pub IsTwiceAmong : List Name → Fault → Type 0
+IsTwiceAmong names f = IsSecond name_key (λ (n : Name). fault 17 n.1) names f
