@@ -43,7 +43,7 @@ fn maybe_function<'a, V, F: Fn(&V) -> Option<&Function>>(
     func(value)
 }
 
-fn stated_at<'a, V, M: FunctionMap<V>, F: Fn(&V) -> Option<&Function>>(
+fn stated_at<'a, V: 'a, M: FunctionMap<V>, F: Fn(&V) -> Option<&Function>>(
     map: &'a M,
     place: usize,
     func: &F,
@@ -56,7 +56,7 @@ fn stated_at<'a, V, M: FunctionMap<V>, F: Fn(&V) -> Option<&Function>>(
 }
 
 /// The places of a map, each with the function that is there.
-fn stated_places<'a, V, M: FunctionMap<V>, F: Fn(&V) -> Option<&Function>>(
+fn stated_places<'a, V: 'a, M: FunctionMap<V>, F: Fn(&V) -> Option<&Function>>(
     alloc: Global,
     map: &'a M,
     func: &F,
