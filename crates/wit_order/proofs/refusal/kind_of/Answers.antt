@@ -1,14 +1,14 @@
-use Rattle.std.proofs.Common.{inl, inr}
+use Rattle.std.proofs.Common.{inl, inr, refl}
 use Rattle.std.proofs.lemmas.Result.{IfOk-weaker}
 use Rattle.wit_graph.specs.Table.{rows}
 use Rattle.wit_graph.proofs.Faults.{refuses_missing, refuses_cycle}
 use Rattle.wit_order.proofs.refusal.kind_of.Goals as goal
 
 pub need-requires : goal.need-requires
-need-requires g c = let f = rw c.in-Missing.is at c.requires in (f.id, f.first.is)
+need-requires g c = let f = rw c.in-Missing.is at c.requires in λ k. ((refl, (refl, tt)), (f.id, f.first.is))
 
 pub need-requires-in-Cyclic : goal.need-requires-in-Cyclic
-need-requires-in-Cyclic g c = let f = rw c.in-Cyclic.is at c.requires in (f.id, f.first.is)
+need-requires-in-Cyclic g c = let f = rw c.in-Cyclic.is at c.requires in λ k. ((refl, (refl, tt)), (f.id, f.first.is))
 
 pub returns-in-Missing-clause-ok : goal.returns-in-Missing-clause-ok
 returns-in-Missing-clause-ok g c =
