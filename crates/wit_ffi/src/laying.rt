@@ -2,7 +2,7 @@
 ghost use Rattle.std.specs.Prelude.{◌≡◌};
 ghost use Rattle.wit_ffi.specs.Room.{laid_over};
 
-/// Copies bytes over the prefix of others, as far as they fit.
+/// Copies bytes over the beginning of others, as far as they fit.
 pub(crate) fn lay(room: &mut [u8], bytes: &[u8])
     ensures { room.new ≡ laid_over room.old bytes.now }
 {

@@ -6,8 +6,8 @@ mod answering;
 mod checking;
 mod laying;
 pub mod refusal;
+mod replying;
 mod status;
-mod telling;
 #[cfg(test)]
 mod tests;
 
@@ -23,38 +23,38 @@ use crate::answering::{Answer, answer_bytes, answer_parts};
 use crate::checking::{Checked, check};
 use crate::laying::lay;
 use crate::refusal::fields_of;
-use crate::telling::{Reply, reply_to};
+use crate::replying::{Reply, reply_to};
 pub use refusal::Refusal;
 use std::alloc::Global;
 
-/// Writes what is stated of a text over the prefix of `stated`, as far as it fits, and its whole length to
-/// `len`. The rest of `stated` stays as it was.
+/// Writes the reply to a text over the beginning of `output`, as far as it fits, and its whole length to
+/// `len`. The rest of `output` stays as it was.
 ///
 /// Answers 0 for the listing of the packages that the text's sources make, 1 for the line of their
 /// refusal, 2 where the text is not UTF-8, and 3 where memory was wanted outside the package. For 2
-/// and 3 nothing is stated.
+/// and 3 nothing is written.
 #[unsafe(no_mangle)]
 pub extern "C" fn wit_ffi_answer(
     alloc: Global,
     text: &[u8],
-    as_stated: &mut [u8],
+    output: &mut [u8],
     len: &mut usize,
 ) -> u8
-    ensures { (whole : List ℕ) × IsReply text.now result whole × (as_stated.new ≡ laid_over as_stated.old whole) × (len.new ≡ length whole) }
+    ensures { (whole : List ℕ) × IsReply text.now result whole × (output.new ≡ laid_over output.old whole) × (len.new ≡ length whole) }
 {
     let Reply { status, bytes } = reply_to(alloc, text);
     let whole = bytes.as_slice();
     *len = whole.len();
-    lay(as_stated, whole);
+    lay(output, whole);
     status
 }
 
-/// Tells the refusal of a text in plain fields, its path over the prefix of `path` and its words over
+/// Gives the refusal of a text in plain fields, its path over the beginning of `path` and its words over
 /// that of `message`, each as far as it fits. The rest of both stays as it was, and `refusal` has the
 /// whole lengths.
 ///
 /// Answers 1 for a refusal, 0 where the text's sources make packages, 2 where the text is not UTF-8,
-/// and 3 where memory was wanted outside the package. For 0, 2 and 3 nothing is stated, and each field
+/// and 3 where memory was wanted outside the package. For 0, 2 and 3 nothing is written, and each field
 /// is 0.
 #[unsafe(no_mangle)]
 pub extern "C" fn wit_ffi_check(
@@ -73,23 +73,23 @@ pub extern "C" fn wit_ffi_check(
     status
 }
 
-/// Writes the JSON of the group that a text's sources make, or of their refusal, over the prefix of `stated`,
-/// as far as it fits, and its whole length to `len`. The rest of `stated` stays as it was.
+/// Writes the JSON of the group that a text's sources make, or of their refusal, over the beginning of `output`,
+/// as far as it fits, and its whole length to `len`. The rest of `output` stays as it was.
 ///
 /// Answers 0 for a group, 1 for a refusal, 2 if the text is not UTF-8, and 3 if an allocation failed
-/// outside the resolver. For 2 and 3 nothing is written to `stated`, and `len` is 0.
+/// outside the resolver. For 2 and 3 nothing is written to `output`, and `len` is 0.
 #[unsafe(no_mangle)]
 pub extern "C" fn wit_ffi_package(
     alloc: Global,
     text: &[u8],
-    as_stated: &mut [u8],
+    output: &mut [u8],
     len: &mut usize,
 ) -> u8
-    ensures { (json : List ℕ) × IsTextAnswer text.now result json × (as_stated.new ≡ laid_over as_stated.old json) × (len.new ≡ length json) }
+    ensures { (json : List ℕ) × IsTextAnswer text.now result json × (output.new ≡ laid_over output.old json) × (len.new ≡ length json) }
 {
     let Answer { status, json } = answer_bytes(alloc, text);
     *len = json.len();
-    lay(as_stated, json.as_slice());
+    lay(output, json.as_slice());
     status
 }
 
@@ -102,14 +102,14 @@ pub extern "C" fn wit_ffi_package_of(
     alloc: Global,
     bytes: &[u8],
     lens: &[usize],
-    as_stated: &mut [u8],
+    output: &mut [u8],
     len: &mut usize,
 ) -> u8
-    ensures { (json : List ℕ) × IsPartsAnswer bytes.now lens.now result json × (as_stated.new ≡ laid_over as_stated.old json) × (len.new ≡ length json) }
+    ensures { (json : List ℕ) × IsPartsAnswer bytes.now lens.now result json × (output.new ≡ laid_over output.old json) × (len.new ≡ length json) }
 {
     let Answer { status, json } = answer_parts(alloc, bytes, lens);
     *len = json.len();
-    lay(as_stated, json.as_slice());
+    lay(output, json.as_slice());
     status
 }
 

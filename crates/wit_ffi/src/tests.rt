@@ -5,23 +5,23 @@ use std::alloc::Global;
 use std::process::Abort;
 use std::test::Fail;
 
-/// Checks what is stated of a text, in as much room as there is text, of `.`.
+/// Checks the reply to a text, in as much room as there is text, of `.`.
 fn check_answer(
     rt: &impl Abort,
     alloc: Global,
     text: &[u8],
     status: u8,
     whole: usize,
-    as_stated: &str,
+    output: &str,
 ) -> Result<(), Fail> {
-    let mut room: Vec<u8> = Vec::from_elem(alloc, b'.', as_stated.len())?;
+    let mut room: Vec<u8> = Vec::from_elem(alloc, b'.', output.len())?;
     let mut len = 9;
     assert_eq!(rt;
         wit_ffi_answer(alloc, text, room.as_mut_slice(), &mut len),
         status
     );
     assert_eq!(rt; len, whole);
-    assert_eq!(rt; room.as_slice(), as_stated.as_bytes());
+    assert_eq!(rt; room.as_slice(), output.as_bytes());
     Ok(())
 }
 

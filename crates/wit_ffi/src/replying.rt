@@ -1,4 +1,4 @@
-//! What is stated of a text: the listing of its packages, or the line of their refusal.
+//! The reply to a text: the listing of its packages, or the line of their refusal.
 ghost use Rattle.std.specs.Prelude.{◌≡◌, []};
 ghost use Rattle.wit_ffi.specs.Reply.{IsReply};
 
@@ -7,14 +7,14 @@ use std::alloc::Global;
 use std::str;
 use wit_tool::answer_text;
 
-/// What is stated, and which of the answers it is.
+/// What is written, and which of the answers it is.
 #[derive(Drop)]
 pub(crate) struct Reply {
     pub(crate) status: u8,
     pub(crate) bytes: Vec<u8>,
 }
 
-/// An answer that says nothing.
+/// A reply without bytes.
 fn bare(alloc: Global, status: u8) -> Reply
     ensures status { result.status ≡ status }
     ensures bytes { result.bytes.items ≡ [] }
@@ -25,22 +25,22 @@ fn bare(alloc: Global, status: u8) -> Reply
     }
 }
 
-/// What is stated of bytes, which may be a text.
+/// The reply to bytes, which may be a text.
 pub(crate) fn reply_to(alloc: Global, bytes: &[u8]) -> Reply
     ensures { IsReply bytes.now result.status result.bytes.items }
 {
     let Ok(text) = str::from_utf8(bytes) else {
         return bare(alloc, NO_TEXT);
     };
-    let mut as_stated: Vec<u8> = Vec::new(alloc);
-    match answer_text(alloc, text, &mut as_stated) {
+    let mut output: Vec<u8> = Vec::new(alloc);
+    match answer_text(alloc, text, &mut output) {
         Ok(Some(_)) => Reply {
             status: MADE,
-            bytes: as_stated,
+            bytes: output,
         },
         Ok(None) => Reply {
             status: REFUSED,
-            bytes: as_stated,
+            bytes: output,
         },
         Err(_) => bare(alloc, NO_MEMORY),
     }
