@@ -11,7 +11,7 @@ IsListingOf text output = (group : UnresolvedPackageGroup) × IsAnswered text (S
 abbrev pub IsLineOf : List ℕ → List ℕ → Type 0
 IsLineOf text output = IsAnswered text (Some []) (Some output) (Ok None)
 
--- what is said of bytes, by the status: the listing of a text, the line of its refusal; nothing of what is no text, or because an allocation failed
+-- the reply to bytes, by its status: the listing of a text, the line of its refusal; nothing if it is no text or an allocation failed
 pub data IsReply (bytes : List ℕ) (status : ℕ) (output : List ℕ) : Type 0 where
   Listing : status ≡ 0 → IsUtf8 bytes → IsListingOf bytes output → IsReply bytes status output
   Refusal : status ≡ 1 → IsUtf8 bytes → IsLineOf bytes output → IsReply bytes status output

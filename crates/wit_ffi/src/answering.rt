@@ -93,7 +93,7 @@ fn answer_even(alloc: Global, pieces: &[&str]) -> Answer
     }
 }
 
-/// The answer to the pieces that bytes are, if they are some.
+/// The answer to the pieces, if the bytes can be split so.
 fn answer_found(alloc: Global, found: Option<Vec<&str>>) -> Answer
     ensures { (bytes lens : List ℕ) → MatchOption found.entry ((ps : List (List ℕ)) → ArePieces bytes lens ps → ⊥) (λ pieces. ArePieces bytes lens (map (λ p. p.now) pieces.items)) → IsPartsAnswer bytes lens result.status result.json.items }
 {

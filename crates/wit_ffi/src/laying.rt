@@ -1,4 +1,4 @@
-//! Bytes laid over the room of a caller.
+//! Copies bytes into a caller's buffer.
 ghost use Rattle.std.specs.Prelude.{◌≡◌};
 ghost use Rattle.wit_ffi.specs.Room.{laid_over};
 

@@ -1,5 +1,5 @@
 //! The resolver for callers in C and Rust: from a text to the listing or the JSON of its packages, or why it is
-//! refused, in room that the caller gives.
+//! refused, in the caller's buffers.
 #![tactic(auto)]
 
 mod answering;
@@ -31,8 +31,8 @@ use std::alloc::Global;
 /// `len`. The rest of `output` stays as it was.
 ///
 /// Answers 0 for the listing of the packages that the text's sources make, 1 for the line of their
-/// refusal, 2 where the text is not UTF-8, and 3 where memory was wanted outside the package. For 2
-/// and 3 nothing is written.
+/// refusal, 2 where the text is not UTF-8, and 3 where an allocation failed outside the
+/// resolver. For 2 and 3 nothing is written.
 #[unsafe(no_mangle)]
 pub extern "C" fn wit_ffi_answer(
     alloc: Global,
@@ -54,8 +54,8 @@ pub extern "C" fn wit_ffi_answer(
 /// whole lengths.
 ///
 /// Answers 1 for a refusal, 0 where the text's sources make packages, 2 where the text is not UTF-8,
-/// and 3 where memory was wanted outside the package. For 0, 2 and 3 nothing is written, and each field
-/// is 0.
+/// and 3 where an allocation failed outside the resolver. For 0, 2 and 3 nothing is written, and each
+/// field is 0.
 #[unsafe(no_mangle)]
 pub extern "C" fn wit_ffi_check(
     alloc: Global,
@@ -94,7 +94,7 @@ pub extern "C" fn wit_ffi_package(
 }
 
 /// As `wit_ffi_package`, of sources that come apart: `bytes` are the path and the text of each, one after the
-/// other, and `lens` the length of each of these. So no source is split by a line of its own.
+/// other, and `lens` the length of each of these. So no line of a source starts another one.
 ///
 /// Answers 2 also if the lengths are odd in number, or are not those of the bytes together.
 #[unsafe(no_mangle)]

@@ -7,7 +7,7 @@ use std::alloc::Global;
 use std::str;
 use wit_tool::answer_text;
 
-/// What is written, and which of the answers it is.
+/// The bytes to write, and the status.
 #[derive(Drop)]
 pub(crate) struct Reply {
     pub(crate) status: u8,

@@ -1,4 +1,4 @@
-//! The answers of calls.
+//! The statuses that calls return.
 
 /// The sources make packages.
 pub(crate) const MADE: u8 = 0;
@@ -9,5 +9,5 @@ pub(crate) const REFUSED: u8 = 1;
 /// The text is not UTF-8.
 pub(crate) const NO_TEXT: u8 = 2;
 
-/// Memory was wanted outside the package.
+/// An allocation failed outside the resolver.
 pub(crate) const NO_MEMORY: u8 = 3;

@@ -5,7 +5,7 @@ use std::alloc::Global;
 use std::process::Abort;
 use std::test::Fail;
 
-/// Checks the reply to a text, in as much room as there is text, of `.`.
+/// Checks the reply to a text, in a buffer of `.` as long as the expected output.
 fn check_answer(
     rt: &impl Abort,
     alloc: Global,
@@ -90,7 +90,7 @@ fn gives_a_refusal_in_fields(rt: HostRuntime) -> Result<(), Fail> {
     check_refusal(&rt, alloc, b"\xff", (2, 0, false), (0, 0), ".", ".")
 }
 
-/// Checks the JSON of a text, in a buffer of `.` that is as long as what is wanted in it.
+/// Checks the JSON of a text, in a buffer of `.` as long as the expected output.
 fn check_package(
     rt: &impl Abort,
     alloc: Global,

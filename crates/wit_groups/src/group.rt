@@ -20,7 +20,7 @@ pub struct UnresolvedPackageGroup {
     pub main: UnresolvedPackage,
     /// In the order of the sources' paths, and in each source as they are written.
     pub nested: Row<UnresolvedPackage>,
-    /// What the spans of all packages lead to.
+    /// The sources that all spans refer to.
     pub source_map: SourceMap,
 }
 
@@ -77,8 +77,8 @@ fn resolve_sources(
 }
 
 impl UnresolvedPackageGroup {
-    /// The group that the map's sources make. They are taken by path, byte by byte, those of one path
-    /// as they were pushed; each is read, and then pushed to a `GroupResolver`.
+    /// The group that the map's sources make. Sources are read by path, byte by byte, and those with equal
+    /// paths in push order. Each is then pushed to a `GroupResolver`.
     ///
     /// # Errors
     ///

@@ -5,15 +5,15 @@ ghost use Rattle.wit_groups.specs.Same.{IsSameGroup};
 use crate::group::UnresolvedPackageGroup;
 use std::alloc::AllocError;
 
-/// Whether two groups are the same: their packages, but for the order of the maps in them, and of each
-/// source path, text and offset.
+/// Whether two groups have equal packages, whatever the order of their maps, and sources with equal paths,
+/// texts and offsets.
 pub fn is_same_group(a: &UnresolvedPackageGroup, b: &UnresolvedPackageGroup) -> bool
     ensures { IsTrue result ↔ IsSameGroup a.now b.now }
 {
     a == b
 }
 
-/// Whether a group's copy is the same: it is.
+/// Whether a group's copy is the same. Always true.
 pub fn is_same_as_copy(group: &UnresolvedPackageGroup) -> Result<bool, AllocError>
     ensures { IfOk result IsTrue }
 {

@@ -7,8 +7,8 @@ ghost use Rattle.wit_model.specs.declared.unresolved.UnresolvedPackage.{Unresolv
 ghost use Rattle.wit_arena.specs.Faithful.{IsMadeOf};
 ghost use Rattle.wit_nested.specs.Nested.{IsMadeByNested};
 
-/// Files make one main package, and the packages that are nested in them one list of packages: those
-/// of two groups of the same files are equal, and so are the orders of their maps.
+/// Two groups of the same files have equal main packages and equal nested ones, the orders of their maps
+/// included.
 pub fn one_group()
     ensures main { (files : List TheFile) (p q : ThePackage) → IsMadeOf files p → IsMadeOf files q → p ≡ q }
     ensures nested { (ns : List TheNested) (ps qs : List ThePackage) → AllZip IsMadeByNested ns ps → AllZip IsMadeByNested ns qs → ps ≡ qs }

@@ -48,8 +48,8 @@ fn repeated(alloc: Global, name: &PackageName) -> Result<String, AllocError>
     format!(in alloc; "package `{name}` is defined more than once in this group")
 }
 
-/// Refuses packages of which two have one name, in one version or both in none (E53), at the name of the
-/// first nested one that has the name of the main one or of a nested one before it.
+/// Refuses two packages of one name and version (E53), at the first nested one that repeats the name of
+/// the main one or of a nested one before it.
 pub(crate) fn check_names(
     alloc: Global,
     main: &UnresolvedPackage,

@@ -41,10 +41,10 @@ impl<'a> GroupResolver<'a> {
     ///
     /// A refusal leaves files and packages as they were.
     ///
-    /// - 3, at its name: a package is nested in a nested one.
+    /// - 3, at the inner package's name: a package is nested in a nested one.
     /// - 4 to 44: a nested package breaks a rule by itself, as `Resolver::resolve` says.
-    /// - 1, 2: the source's file cannot be after the files before it, as `Resolver::push` says.
-    /// - 45: a growth was refused.
+    /// - 1, 2: the file conflicts with the files before it, as `Resolver::push` says.
+    /// - 45: an allocation failed.
     pub fn push(&mut self, alloc: Global, source: SourceFile<'a>) -> ParseResult<()>
         ensures files { OnOk result (self.new.main.files.items ≡ self.old.main.files.items ++ source.entry.file ∷ []) }
         ensures nested { OnOk result (GrowByNested source.entry.nested.items self.old.nested.items self.new.nested.items) }
@@ -72,8 +72,8 @@ impl<'a> GroupResolver<'a> {
     /// # Errors
     ///
     /// - 4 to 45, as `Resolver::resolve` says, of the main package: all others are resolved already.
-    /// - 53, at its name, after all others: a nested package has the name of the main one, or of a nested
-    ///   one before it. Versions count.
+    /// - 53, at the nested package's name, found last: it has the name of the main one, or of a nested one
+    ///   before it. Versions count.
     pub fn resolve(self, alloc: Global) -> ParseResult<(UnresolvedPackage, Vec<UnresolvedPackage>)>
         ensures made { IfOk result (λ made. IsMadeOf self.entry.main.files.items made.0) }
         ensures nested { IfOk result (λ made. made.1.items ≡ self.entry.nested.items) }

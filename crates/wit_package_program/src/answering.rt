@@ -26,7 +26,7 @@ fn line_of(alloc: Global, outcome: &Outcome) -> Result<Vec<u8>, AllocError>
 ///
 /// # Errors
 ///
-/// - `Output`: a write failed or took no byte. What was written is a beginning of the line.
+/// - `Output`: a write failed or wrote no byte. What was written is a beginning of the line.
 /// - `Memory`: an allocation failed outside the resolver. Nothing was written.
 pub fn answer_text<W: Write>(alloc: Global, text: &str, out: &mut W) -> Result<Outcome, RunFault>
     ensures { IsAnswered text.now (W.contents out.old) (W.contents out.new) result }

@@ -16,13 +16,13 @@ ghost use Rattle.wit_model.specs.declared.unresolved.UnresolvedPackage.{Unresolv
 
 use wit_model::UnresolvedPackage;
 
-/// `Function::item_name` can be called of each function of a package that files make: its name has
+/// `Function::item_name` can be called on each function of a package that files make: its name has
 /// the mark of its kind.
 pub fn functions_have_marks(package: &UnresolvedPackage)
     ensures { (files : List TheFile) → IsPackage files «package».now → HaveMarks «package».now }
 {}
 
-/// Each id of a package that files make is the place of an entry: `Arena::get` can be called of it.
+/// Each id of a package that files make is the place of an entry: `Arena::get` can be called with it.
 pub fn ids_are_within(package: &UnresolvedPackage)
     ensures { (files : List TheFile) → IsPackage files «package».now → AreIdsWithin «package».now }
 {}
@@ -40,18 +40,18 @@ pub fn value_and_parts(package: &UnresolvedPackage)
 {}
 
 /// What else `Resolver::resolve` says of a package follows from its being the one that legal files make:
-/// its arena of types is what is first seen in the files, and each written type has one at its position,
-/// with the tree that lexical scope gives it.
+/// its arena of types is the list of first occurrences in the files, and each written type has one at its
+/// position, with the tree that lexical scope gives it.
 pub fn packages_are_faithful(package: &UnresolvedPackage)
     ensures arena { (files : List TheFile) → IsLegal files → IsPackage files «package».now → HasArena files «package».now }
     ensures faithful { (files : List TheFile) → IsLegal files → IsPackage files «package».now → IsFaithful files «package».now }
 {}
 
-/// Where files have no `use` at the top and exactly one header, it does not matter that they are
-/// split: the one file with that header and all their declarations, in order, has the same visits, is
-/// legal exactly if they are, and has the same scopes, trees and orders; the first occurrences of types
-/// in it are those in them; and a package that it makes is one that they make, and where they are legal
-/// the only one.
+/// Where files have no `use` at the top and exactly one header, it does not matter that they are split.
+///
+/// The one file with that header and all their declarations, in order, has the same visits. It is legal
+/// exactly if they are, and has the same scopes, trees, orders and first occurrences of types. A package
+/// that it makes is one that they make, and where they are legal the only one.
 pub fn splitting()
     ensures visits { (files : List TheFile) (one : TheFile) → IsJoined files one → all_visits files ≡ all_visits (one ∷ []) }
     ensures same { (files : List TheFile) (one : TheFile) → IsJoined files one → IsSplit files (one ∷ []) }

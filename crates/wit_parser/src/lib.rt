@@ -1,6 +1,6 @@
 //! The resolver: from parsed files to one package, or to the rule that is broken.
 //!
-//! What a caller meets on the way, trees, names, orders and the data of a package, is given again here.
+//! Re-exports what a caller needs: trees, names, orders and the data of a package.
 #![tactic(auto)]
 
 pub mod laws;

@@ -100,7 +100,7 @@ fn package_heading(
     Ok((name, docs))
 }
 
-/// The package that files make whose last header this is.
+/// The package of files whose last header is this one.
 fn resolve_named(
     alloc: Global,
     files: &[PackageFile<'_>],
@@ -187,8 +187,8 @@ impl<'a> Resolver<'a> {
     ///
     /// - 1, at the header: it names another package, or another version, than the last header before it.
     /// - 2, at the header's docs: it has docs, and so has a header before it.
-    /// - 3, at its name: a package is nested in the source.
-    /// - 45: a growth was refused.
+    /// - 3, at the nested package's name: the source has one.
+    /// - 45: an allocation failed.
     pub fn push(&mut self, alloc: Global, source: SourceFile<'a>) -> ParseResult<()>
         ensures ok { OnOk result (self.new.files.items ≡ self.old.files.items ++ source.entry.file ∷ []) }
         ensures unchanged { OnErr result (self.new.files.items ≡ self.old.files.items) }
@@ -208,21 +208,20 @@ impl<'a> Resolver<'a> {
     /// interface after those that it uses, a world after those that it includes. The interfaces
     /// and the worlds each keep that order. Each has the names that it uses and then its
     /// definitions, in the least order in which each comes after those that it names; those of a
-    /// world are imports. Behind them it has its functions, in source order, but that in an
-    /// interface, and on each side of a world that includes nothing, a setter that is written before
-    /// its getter comes directly after it; a world with an include keeps all its setters in place,
-    /// since a getter may come with what it includes.
+    /// world are imports. After them come its functions, in source order. In an interface, and on each
+    /// side of a world that includes nothing, a setter that is written before its getter comes directly
+    /// after it. A world with an include keeps all its setters in place, since a getter may come with
+    /// what it includes.
     ///
     /// Among the functions on a side, in source order, a world has the interfaces that it imports or
     /// exports there: each under the interface itself, or under the name that it has in the world.
     /// Inline interfaces come after all declared ones, in the order of the worlds and of their
     /// items. The arena of types has what occurs in the interfaces and then in the worlds, each once,
-    /// in the order of first occurrence. What the files hold in which order beyond that changes
-    /// nothing.
+    /// in the order of first occurrence. Nothing else about the order in the files matters.
     ///
     /// # Errors
     ///
-    /// The package is given exactly where no rule is broken, unless memory is wanted.
+    /// Ok exactly if no rule is broken, unless an allocation fails.
     ///
     /// - 4: no file names the package.
     /// - 5: an interface or a world is declared twice.
@@ -232,27 +231,26 @@ impl<'a> Resolver<'a> {
     /// - 9: a `use` at the top of a file has attributes.
     /// - 10, 11: a `use`, or the path of an import or an export, leads to a world; an include leads to
     ///   an interface.
-    /// - 12, 13: a used name is none of the interface that it comes from; it is that of a function.
-    /// - 14, 17: a name occurs twice in an interface or a world, to the letter or once case is folded.
+    /// - 12, 13: a used name is not in its interface, or is a function there.
+    /// - 14, 17: a name occurs twice in an interface or a world, exactly, or ignoring case.
+    /// - 15, 16: a name in a definition is not in its scope; definitions name one another in a cycle.
     /// - 18: a setter of an interface, or on a side of a world that includes nothing, has no getter
     ///   there.
-    /// - 15, 16: a name in a definition is none of its scope; definitions name one another in
-    ///   a cycle.
     /// - 19, 20, 22 to 24: a record, flags, a tuple, a variant or an enum is empty.
     /// - 21: flags have more than 32 flags.
-    /// - 25: two fields, flags or cases have one name once case is folded.
-    /// - 26: a map's key is written as a type that no key can have.
-    /// - 27: a name in a handle ends at no resource.
+    /// - 25: two fields, flags or cases have one name, ignoring case.
+    /// - 26: a map's key type is not allowed.
+    /// - 27: a name in a handle does not resolve to a resource.
     /// - 28, 29: a name in a signature is that of a function, or of nothing.
     /// - 30 to 35: attributes break a rule, of an item, a definition, a function, a `use`, an include or
     ///   an interface that is imported or exported.
-    /// - 36, 37: a getter has a parameter, or a setter has not just one.
-    /// - 38: two parameters have one name once case is folded.
-    /// - 39 to 42: a getter has no result; that of a setter, or of a constructor, is another than it
-    ///   has to be.
+    /// - 36, 37: a getter has a parameter, or a setter does not have exactly one.
+    /// - 38: two parameters have one name, ignoring case.
+    /// - 39 to 42: a getter has no result, or the result of a setter or of a constructor has the wrong
+    ///   form.
     /// - 43: a world imports, or exports, an interface twice by its path alone.
     /// - 44: an import or an export has the name of something that comes before it on its side.
-    /// - 45: a growth was refused.
+    /// - 45: an allocation failed.
     pub fn resolve(self, alloc: Global) -> ParseResult<UnresolvedPackage>
         ensures legal { OnOk result (IsLegal self.entry.files.items) }
         ensures made { IfOk result (Makes self.entry.files.items) }

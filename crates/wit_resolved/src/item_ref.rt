@@ -38,8 +38,7 @@ impl<'p> ItemRef<'p> {
         self.item
     }
 
-    /// Its full name: the name that it is found by, of a function with the marks of its kind, or the id of
-    /// the interface that it is found by.
+    /// Its full name: its name in the world, mangled for a function, or the id of its interface.
     ///
     /// # Errors
     ///
@@ -70,7 +69,7 @@ impl<'p> ItemRef<'p> {
         }
     }
 
-    /// The function that it is, if it is one; each has a name.
+    /// The function, if it is one and its key is a name.
     pub fn function(&self) -> Option<FunctionRef<'p>>
         ensures function { option_map (λ f. f.function.now) result ≡ named_function self.now.key.now self.now.item.now }
         ensures package { IfSome result (λ f. f.of.now ≡ self.now.of.now) }

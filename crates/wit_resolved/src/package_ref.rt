@@ -141,8 +141,8 @@ impl<'p> PackageRef<'p> {
         }
     }
 
-    /// The world of this name that the package declares, if it declares one. A world of another package has
-    /// an empty name.
+    /// The first world of this name, if there is one. An empty name finds a world of another package, since
+    /// those have no name here.
     pub fn world(&self, name: &str) -> Option<WorldRef<'p>>
         ensures world { option_map (λ w. w.place) result ≡ world_named self.now.of.now.worlds name.now }
         ensures package { IfSome result (λ w. w.of.now ≡ self.now.of.now) }

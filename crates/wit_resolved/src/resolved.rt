@@ -108,7 +108,7 @@ impl ResolvedGroup {
         }
     }
 
-    /// The group by itself.
+    /// The group itself, borrowed.
     pub fn get(&self) -> &UnresolvedPackageGroup
         ensures { result.now ≡ self.now.group }
     {

@@ -81,7 +81,7 @@ impl<'p> TypeRef<'p> {
         self.of.types.get(self.of.types.id_at(self.place))
     }
 
-    /// Its name; an anonymous type has none.
+    /// Its name; an unnamed type has none.
     pub fn name(&self) -> Option<&'p str>
         ensures { option_copied result ≡ type_name self.now.of.now self.now.place }
     {

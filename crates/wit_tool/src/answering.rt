@@ -12,14 +12,14 @@ use wit_listing::{RunFault, error_line};
 /// Writes the listing of the package that the sources of a text make, and of those that are nested in
 /// it, or the line of the refusal, and answers the group that was listed, if one was.
 ///
-/// A line that begins with `=== ` starts a source, whose path is the rest of that line. What is in
-/// prefix of the first such line is the source `stdin.wit`, if it is not empty. Where the sources are too
+/// A line that begins with `=== ` starts a source, whose path is the rest of that line. What comes
+/// before the first such line is the source `stdin.wit`, if it is not empty. Where the sources are too
 /// large, the refusal has the number 52.
 ///
 /// # Errors
 ///
-/// - `Output`: a write failed or took no byte. What went out is a beginning of the text.
-/// - `Memory`: a growth was refused outside the package. Nothing went out.
+/// - `Output`: a write failed or wrote no byte. What went out is a beginning of the text.
+/// - `Memory`: an allocation failed outside the resolver. Nothing went out.
 pub fn answer_text<W: Write>(
     alloc: Global,
     text: &str,

@@ -1,5 +1,5 @@
-//! From a text, or the sources of a package, to its listing, or the line of a refusal. What `wit_bundle` and
-//! `wit_listing` make is given again.
+//! From a text, or the sources of a package, to its listing, or the line of a refusal. Re-exports calls of
+//! `wit_bundle` and `wit_listing`.
 #![tactic(auto)]
 
 pub mod answering;

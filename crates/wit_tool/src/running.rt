@@ -11,14 +11,14 @@ use wit_lex::SourceMap;
 use wit_listing::{RunFault, error_line};
 use wit_type_tree::ParseError;
 
-/// Writes the listing of a group: of its main package, and after it, in the same way, of its nested
-/// ones: of each its name, its types, its interfaces, its worlds, and what it names of other packages, a
-/// line for each and for what it holds.
+/// Writes the listing of a group: of its main package, and then of each nested one. A package has a line
+/// for its name, and one for each type, interface, world and item of another package, and for what is in
+/// these.
 ///
 /// # Errors
 ///
-/// - `Output`: a write failed or took no byte. What went out is a beginning of the listing.
-/// - `Memory`: a growth was refused. Nothing went out.
+/// - `Output`: a write failed or wrote no byte. What went out is a beginning of the listing.
+/// - `Memory`: an allocation failed. Nothing went out.
 pub fn listing<W: Write>(
     alloc: Global,
     group: &UnresolvedPackageGroup,
@@ -54,15 +54,15 @@ fn refuse<W: Write>(
     Ok(None)
 }
 
-/// Reads the map's sources, by path, byte by byte, those of one path as they were pushed; resolves
-/// them as one package, and each package that is nested in them by itself, and writes the listing of
-/// all, or the line of the refusal. Answers the group that was listed, if one was.
+/// Reads the map's sources by path, byte by byte, those with equal paths in push order. Resolves them as
+/// one package, and each package that is nested in them by itself. Writes the listing of all, or the line
+/// of the refusal, and gives the group that was listed, if one was.
 ///
 /// # Errors
 ///
-/// - `Output`: a write failed or took no byte. What went out is a beginning of the text.
-/// - `Memory`: a growth was refused while the text was made. Nothing went out. Where memory was
-///   wanted in reading or resolving, that is a refusal, and its line is written.
+/// - `Output`: a write failed or wrote no byte. What went out is a beginning of the text.
+/// - `Memory`: an allocation failed while the text was made. Nothing went out. A failed allocation in
+///   reading or resolving is a refusal, whose line is written.
 pub fn run<W: Write>(
     alloc: Global,
     map: SourceMap,
