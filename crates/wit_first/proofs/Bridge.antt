@@ -227,7 +227,7 @@ pub metadata_agree : (xs : List Attribute) → Agrees (metadata_fault xs) (IsBro
 metadata_agree xs = record { broken = metadata_broken xs; unbroken = metadata_unbroken xs }
 
 -- items whose keys repeat
-any_found : {X : Type 0} (p : X → Bool) (xs : List X) → list_any p xs ≡ true → (i : ℕ) × (x : X) × (slice_get xs i ≡ Some x) × (p x ≡ true)
+pub any_found : {X : Type 0} (p : X → Bool) (xs : List X) → list_any p xs ≡ true → (i : ℕ) × (x : X) × (slice_get xs i ≡ Some x) × (p x ≡ true)
 any_found p [] h = absurd (let f : ⊥ = cc in f)
 any_found {X} p (x ∷ xs) h = by (p x) refl (λ k. any_found p xs k)
   where
@@ -235,7 +235,7 @@ any_found {X} p (x ∷ xs) h = by (p x) refl (λ k. any_found p xs k)
     by true is far = (0, x, refl, is)
     by false is far = (let rest = far (rw is at h) in (suc rest.0, rest.1, rest.2, rest.3))
 
-repeat_some : {X : Type 0} (key : X → List ℕ) (as_fault : X → Fault) (before : List X) (x : X) (f : Fault) → repeat_of key as_fault before x ≡ Some f → (list_any (λ y. bytes_eq (key y) (key x)) before ≡ true) × (f ≡ as_fault x)
+pub repeat_some : {X : Type 0} (key : X → List ℕ) (as_fault : X → Fault) (before : List X) (x : X) (f : Fault) → repeat_of key as_fault before x ≡ Some f → (list_any (λ y. bytes_eq (key y) (key x)) before ≡ true) × (f ≡ as_fault x)
 repeat_some key as_fault before x f h = by (list_any (λ y. bytes_eq (key y) (key x)) before) refl
   where
     by : (b : Bool) → list_any (λ y. bytes_eq (key y) (key x)) before ≡ b → (list_any (λ y. bytes_eq (key y) (key x)) before ≡ true) × (f ≡ as_fault x)

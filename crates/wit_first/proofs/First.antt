@@ -6,6 +6,7 @@ use Rattle.std.specs.Str.{bytes_eq}
 use Rattle.std.specs.Option.{option_or}
 use Rattle.std.proofs.lemmas.List.{append-nil, map-append, take_all, take_more, take-map}
 use Rattle.wit_type_tree.specs.declared.error.ParseError.{ParseError}
+use Rattle.wit_syntax.specs.Broken.{Refused}
 use Rattle.wit_syntax.specs.Fault.{Fault, fault_of}
 use Rattle.wit_first.specs.First.{first_in, first_after, Reports, repeat_of, first_repeat}
 use Rattle.std.proofs.lemmas.Bool.{false_from_ne_true}
@@ -102,6 +103,10 @@ any_some p (y ∷ ys) (suc i) x at passed = rw (any_some p ys i x at passed) (or
     or_true true = refl
     or_true false = refl
 
+-- one that an item before a place passes
+pub any_used : {X : Type 0} (p : X → Bool) (xs : List X) (n i : ℕ) (x : X) → i < n → slice_get xs i ≡ Some x → p x ≡ true → list_any p (take n xs) ≡ true
+any_used p xs n i x lt at passed = any_some p (take n xs) i x (slice_get-take xs n i lt ∙ at) passed
+
 any_none : {X : Type 0} (p : X → Bool) (xs : List X) → ((i : ℕ) (x : X) → slice_get xs i ≡ Some x → p x ≡ false) → list_any p xs ≡ false
 any_none p [] failed = refl
 any_none p (y ∷ ys) failed = rw (failed 0 y refl) (any_none p ys (λ i x at. failed (suc i) x at))
@@ -125,13 +130,18 @@ no_repeat-after key as_fault before (x ∷ xs) d =
 pub no_repeats : {X : Type 0} (key : X → List ℕ) (as_fault : X → Fault) (xs : List X) → AllDiffer (map key xs) → first_repeat key as_fault xs ≡ None
 no_repeats key as_fault xs d = no_repeat-after key as_fault [] xs d
 
--- the item at the first place whose key an earlier one has
-pub repeat_first : {X : Type 0} (key : X → List ℕ) (as_fault : X → Fault) (xs : List X) (first second : ℕ) (later : X) → IsRepeatAt (map key xs) first second → AllDiffer (take second (map key xs)) → slice_get xs second ≡ Some later → first_repeat key as_fault xs ≡ Some (as_fault later)
-repeat_first key as_fault xs first second later r d at =
+-- an item whose key an earlier one has
+pub found_before : {X : Type 0} (key : X → List ℕ) (xs : List X) (first second : ℕ) (later : X) → IsRepeatAt (map key xs) first second → slice_get xs second ≡ Some later → list_any (λ y. bytes_eq (key y) (key later)) (take second xs) ≡ true
+found_before key xs first second later r at =
     let earlier = map_at key xs first r.x r.at_first in
     let there : Some r.x ≡ Some (key later) = sym r.at_second ∙ key_at key xs second later at in
     let same : r.x ≡ key later = cc in
-    let found : list_any (λ y. bytes_eq (key y) (key later)) (take second xs) ≡ true = any_some (λ y. bytes_eq (key y) (key later)) (take second xs) first earlier.0 (slice_get-take xs second first r.before ∙ earlier.1) (ap (λ k. bytes_eq k (key later)) (earlier.2 ∙ same) ∙ name_itself (key later)) in
+    any_some (λ y. bytes_eq (key y) (key later)) (take second xs) first earlier.0 (slice_get-take xs second first r.before ∙ earlier.1) (ap (λ k. bytes_eq k (key later)) (earlier.2 ∙ same) ∙ name_itself (key later))
+
+-- the item at the first place whose key an earlier one has
+pub repeat_first : {X : Type 0} (key : X → List ℕ) (as_fault : X → Fault) (xs : List X) (first second : ℕ) (later : X) → IsRepeatAt (map key xs) first second → AllDiffer (take second (map key xs)) → slice_get xs second ≡ Some later → first_repeat key as_fault xs ≡ Some (as_fault later)
+repeat_first key as_fault xs first second later r d at =
+    let found = found_before key xs first second later r at in
     after-at (repeat_of key as_fault) xs second later (as_fault later) at (no_repeats key as_fault (take second xs) (rw (take-map key second xs) at d)) (rw found refl)
 
 -- items that are made of others
@@ -162,3 +172,7 @@ reports_back {first} {second} none report = reports_same (sym (ap (λ (o : Optio
 
 pub none_both : {first second : Option Fault} → first ≡ None → second ≡ None → option_or first second ≡ None
 none_both {first} {second} none both = ap (λ (o : Option Fault). option_or o second) none ∙ both
+
+-- and it refuses what that fault is
+pub refused_as : {first : Option Fault} {Broken : Fault → Type 0} {e : ParseError} → ((f : Fault) → first ≡ Some f → Broken f) → Reports first e → Refused Broken e
+refused_as broken report = elim report [ inl memory ↦ inl memory | inr is ↦ inr (broken _ is) ]

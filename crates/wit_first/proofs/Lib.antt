@@ -3,3 +3,5 @@ pub mod Bridge
 pub mod Functions
 pub mod Files
 pub mod Orders
+pub mod Types
+pub mod Repeats

@@ -1,11 +1,12 @@
 -- The first fault, in the order in which faults are looked for.
-use Rattle.std.specs.Prelude.{◌≡◌, ◌⊎◌, ℕ, if◌then◌else◌, List, [], ◌∷◌, ◌++◌, Option, Some, None, Result, MatchResult}
+use Rattle.std.specs.Prelude.{◌≡◌, ◌⊎◌, ℕ, if◌then◌else◌, List, [], ◌∷◌, ◌++◌, map, take, Option, Some, None, Result, MatchResult}
 use Rattle.std.specs.List.{list_any}
 use Rattle.std.specs.Option.{option_or}
 use Rattle.std.specs.Str.{bytes_eq}
 use Rattle.wit_type_tree.specs.declared.error.ParseError.{ParseError}
 use Rattle.wit_type_tree.specs.Refusal.{IsAllocationFailure}
 use Rattle.wit_syntax.specs.Fault.{Fault, fault_of}
+use Rattle.wit_syntax.specs.Repeats.{IsRepeatAt, AllDiffer}
 
 -- the first fault of items, where each may have one
 abbrev pub first_in : {X : Type 0} → (X → Option Fault) → List X → Option Fault
@@ -37,6 +38,11 @@ FindsBy IsFirst r = MatchResult r (λ _. IsFirst None) (λ e. IsAllocationFailur
 -- an item has the key of an earlier one: the fault is made of the later one
 abbrev pub repeat_of : {X : Type 0} → (X → List ℕ) → (X → Fault) → List X → X → Option Fault
 repeat_of key as_fault before x = if list_any (λ y. bytes_eq (key y) (key x)) before then Some (as_fault x) else None
+
+-- the place of the first item that has, if one has
+abbrev pub IsFirstRepeat : {X : Type 0} → (X → List ℕ) → List X → Option ℕ → Type 0
+IsFirstRepeat key xs None = AllDiffer (map key xs)
+IsFirstRepeat key xs (Some place) = (first : ℕ) × IsRepeatAt (map key xs) first place × AllDiffer (take place (map key xs))
 
 -- the first item that has
 abbrev pub first_repeat : {X : Type 0} → (X → List ℕ) → (X → Fault) → List X → Option Fault

@@ -2,6 +2,7 @@ pub mod First
 pub mod Attributes
 pub mod Lists
 pub mod MapKeys
+pub mod Types
 pub mod Names
 pub mod Functions
 pub mod Files
