@@ -1,6 +1,6 @@
 //! Bodies of definitions, as kinds of entries.
-ghost use Rattle.std.specs.Prelude.{◌≡◌, ◌⊎◌, [], is_some, map, IfOk, IfErr, OnOk};
-ghost use Rattle.std.specs.Option.{option_to_list};
+ghost use Rattle.std.specs.Prelude.{◌≡◌, [], is_some, map, IfOk, OnOk};
+ghost use Rattle.std.specs.Option.{option_or, option_to_list};
 ghost use Rattle.wit_type_tree.specs.Parts.{field_types, case_types, body_types};
 ghost use Rattle.wit_syntax.specs.Form.{RecordForm, FlagsForm, VariantForm, EnumForm};
 ghost use Rattle.wit_arena.specs.Kind.{kind_of, field_member, flag_member, case_member, enum_case_member, payloads};
@@ -8,10 +8,10 @@ ghost use Rattle.wit_syntax.specs.Shape.{member, written_body, body_of, handles,
 ghost use Rattle.wit_syntax.specs.Address.{Address};
 ghost use Rattle.wit_arena.specs.Expr.{exprs_of};
 ghost use Rattle.wit_arena.specs.Occurrences.{shapes_occurrences};
-ghost use Rattle.wit_syntax.specs.Fault.{Fault};
-ghost use Rattle.wit_syntax.specs.Bodies.{IsBrokenType, IsBrokenPart, IsFlagTooMany, AreBroken, IsBrokenBody};
-ghost use Rattle.wit_syntax.specs.Broken.{Refused};
-ghost use Rattle.wit_arena.specs.Resolving.{env_of, AreResolved, IsWrongType, AreWrongTypes, IsWrongBody};
+ghost use Rattle.wit_first.specs.First.{Finds};
+ghost use Rattle.wit_first.specs.Lists.{flags_fault, members_fault};
+ghost use Rattle.wit_arena.specs.Resolving.{env_of, AreResolved};
+ghost use Rattle.wit_entries.specs.Faults.{body_fault, types_fault, written_fault};
 ghost use Rattle.wit_entries.specs.Reading.{AreTypes, IsOwn};
 ghost use Rattle.wit_entries.specs.Requiring.{IsExtended, Requires};
 
@@ -54,10 +54,9 @@ fn resolve_fields(
 ) -> ParseResult<Row<Field>>
     ensures types { IfOk result (λ r. AreTypes types.old types.new (env_of names.now) given.now (field_types fields.now) (map (λ f. f.ty) r)) }
     ensures members { IfOk result (λ r. map field_member r ≡ map (λ x. member x.docs x.name) fields.now) }
-    ensures legal { OnOk result ((f : Fault) → IsBrokenPart (field_types fields.now) f → ⊥) }
     ensures handled { OnOk result (Requires (env_of names.now) types.new (all_handles (field_types fields.now)) required.old.items required.new.items) }
     ensures extended { IsExtended types.old types.new }
-    ensures refused { IfErr result (Refused (AreWrongTypes (env_of names.now) types.new (field_types fields.now))) }
+    ensures first { Finds (types_fault (env_of names.now) types.new (field_types fields.now)) result }
 {
     let mut resolved = Vec::with_capacity(alloc, fields.len())?;
     for written in fields {
@@ -79,11 +78,9 @@ fn resolve_record(
 ) -> ParseResult<TypeDefKind>
     ensures types { IfOk result (λ r. AreTypes types.old types.new (env_of names.now) given.now (field_types fields.now) (kind_of r).parts) }
     ensures form { IfOk result (λ r. (kind_of r).form ≡ RecordForm (map (λ x. member x.docs x.name) fields.now)) }
-    ensures list { OnOk result ((f : Fault) → AreBroken 19 (λ x. x.name) fields.now span f → ⊥) }
-    ensures legal { OnOk result ((f : Fault) → IsBrokenPart (field_types fields.now) f → ⊥) }
     ensures handled { OnOk result (Requires (env_of names.now) types.new (all_handles (field_types fields.now)) required.old.items required.new.items) }
     ensures extended { IsExtended types.old types.new }
-    ensures refused { IfErr result (Refused (λ f. AreBroken 19 (λ x. x.name) fields.now span f ⊎ AreWrongTypes (env_of names.now) types.new (field_types fields.now) f)) }
+    ensures first { Finds (option_or (members_fault 19 (λ x. x.name) span fields.now) (types_fault (env_of names.now) types.new (field_types fields.now))) result }
 {
     check_record(alloc, span, fields)?;
     let fields = resolve_fields(alloc, types, names, required, given, fields)?;
@@ -116,8 +113,7 @@ fn flags(alloc: Global, flags: &[tree::Flag<'_>]) -> Result<Row<Flag>, AllocErro
 fn resolve_flags(alloc: Global, span: Span, written: &[tree::Flag<'_>]) -> ParseResult<TypeDefKind>
     ensures form { IfOk result (λ r. (kind_of r).form ≡ FlagsForm (map (λ x. member x.docs x.name) written.now)) }
     ensures parts { IfOk result (λ r. (kind_of r).parts ≡ []) }
-    ensures list { OnOk result ((f : Fault) → AreBroken 20 (λ x. x.name) written.now span f ⊎ IsFlagTooMany written.now f → ⊥) }
-    ensures refused { IfErr result (Refused (λ f. AreBroken 20 (λ x. x.name) written.now span f ⊎ IsFlagTooMany written.now f)) }
+    ensures first { Finds (flags_fault span written.now) result }
 {
     check_flags(alloc, span, written)?;
     let flags = flags(alloc, written)?;
@@ -148,10 +144,9 @@ fn resolve_case(
 ) -> ParseResult<Case>
     ensures types { IfOk result (λ r. AreTypes types.old types.new (env_of names.now) given.now (option_to_list written.now.ty) (option_to_list r.ty)) }
     ensures member { IfOk result (λ r. case_member r ≡ (member written.now.docs written.now.name, is_some written.now.ty)) }
-    ensures legal { OnOk result ((f : Fault) → IsBrokenPart (option_to_list written.now.ty) f → ⊥) }
     ensures handled { OnOk result (Requires (env_of names.now) types.new (all_handles (option_to_list written.now.ty)) required.old.items required.new.items) }
     ensures extended { IsExtended types.old types.new }
-    ensures refused { IfErr result (Refused (AreWrongTypes (env_of names.now) types.new (option_to_list written.now.ty))) }
+    ensures first { Finds (types_fault (env_of names.now) types.new (option_to_list written.now.ty)) result }
 {
     match &written.ty {
         Some(ty) => {
@@ -173,10 +168,9 @@ fn resolve_cases(
 ) -> ParseResult<Row<Case>>
     ensures types { IfOk result (λ r. AreTypes types.old types.new (env_of names.now) given.now (case_types cases.now) (payloads r)) }
     ensures members { IfOk result (λ r. map case_member r ≡ map (λ c. (member c.docs c.name, is_some c.ty)) cases.now) }
-    ensures legal { OnOk result ((f : Fault) → IsBrokenPart (case_types cases.now) f → ⊥) }
     ensures handled { OnOk result (Requires (env_of names.now) types.new (all_handles (case_types cases.now)) required.old.items required.new.items) }
     ensures extended { IsExtended types.old types.new }
-    ensures refused { IfErr result (Refused (AreWrongTypes (env_of names.now) types.new (case_types cases.now))) }
+    ensures first { Finds (types_fault (env_of names.now) types.new (case_types cases.now)) result }
 {
     let mut resolved = Vec::with_capacity(alloc, cases.len())?;
     for written in cases {
@@ -198,11 +192,9 @@ fn resolve_variant(
 ) -> ParseResult<TypeDefKind>
     ensures types { IfOk result (λ r. AreTypes types.old types.new (env_of names.now) given.now (case_types cases.now) (kind_of r).parts) }
     ensures form { IfOk result (λ r. (kind_of r).form ≡ VariantForm (map (λ c. (member c.docs c.name, is_some c.ty)) cases.now)) }
-    ensures list { OnOk result ((f : Fault) → AreBroken 23 (λ x. x.name) cases.now span f → ⊥) }
-    ensures legal { OnOk result ((f : Fault) → IsBrokenPart (case_types cases.now) f → ⊥) }
     ensures handled { OnOk result (Requires (env_of names.now) types.new (all_handles (case_types cases.now)) required.old.items required.new.items) }
     ensures extended { IsExtended types.old types.new }
-    ensures refused { IfErr result (Refused (λ f. AreBroken 23 (λ x. x.name) cases.now span f ⊎ AreWrongTypes (env_of names.now) types.new (case_types cases.now) f)) }
+    ensures first { Finds (option_or (members_fault 23 (λ x. x.name) span cases.now) (types_fault (env_of names.now) types.new (case_types cases.now))) result }
 {
     check_variant(alloc, span, cases)?;
     let cases = resolve_cases(alloc, types, names, required, given, cases)?;
@@ -239,8 +231,7 @@ fn resolve_enum(
 ) -> ParseResult<TypeDefKind>
     ensures form { IfOk result (λ r. (kind_of r).form ≡ EnumForm (map (λ x. member x.docs x.name) written.now)) }
     ensures parts { IfOk result (λ r. (kind_of r).parts ≡ []) }
-    ensures list { OnOk result ((f : Fault) → AreBroken 24 (λ x. x.name) written.now span f → ⊥) }
-    ensures refused { IfErr result (Refused (AreBroken 24 (λ x. x.name) written.now span)) }
+    ensures first { Finds (members_fault 24 (λ x. x.name) span written.now) result }
 {
     check_enum(alloc, span, written)?;
     let cases = enum_cases(alloc, written)?;
@@ -260,10 +251,9 @@ fn resolve_word(
     ensures parts { IfOk result (λ r. (s : Address) → AreResolved types.old types.new s (env_of names.now)
         (shapes_occurrences s given.now (written_body ty.now).parts) (exprs_of s (written_body ty.now).parts) (kind_of r).parts) }
     ensures form { IfOk result (λ r. (kind_of r).form ≡ (written_body ty.now).form) }
-    ensures legal { OnOk result ((f : Fault) → IsBrokenType ty.now f → ⊥) }
     ensures handled { OnOk result (Requires (env_of names.now) types.new (handles ty.now) required.old.items required.new.items) }
     ensures extended { IsExtended types.old types.new }
-    ensures refused { IfErr result (Refused (IsWrongType (env_of names.now) types.new ty.now)) }
+    ensures first { Finds (written_fault (env_of names.now) types.new ty.now) result }
 {
     let reading = read(alloc, types, names, required, given, ty)?;
     Ok(named_kind(reading))
@@ -281,10 +271,9 @@ fn resolve_plain(
     ensures parts { IfOk result (λ r. (s : Address) → AreResolved types.old types.new s (env_of names.now)
         (shapes_occurrences s given.now (written_body ty.now).parts) (exprs_of s (written_body ty.now).parts) (kind_of r).parts) }
     ensures form { IfOk result (λ r. (kind_of r).form ≡ (written_body ty.now).form) }
-    ensures legal { OnOk result ((f : Fault) → IsBrokenType ty.now f → ⊥) }
     ensures handled { OnOk result (Requires (env_of names.now) types.new (handles ty.now) required.old.items required.new.items) }
     ensures extended { IsExtended types.old types.new }
-    ensures refused { IfErr result (Refused (IsWrongType (env_of names.now) types.new ty.now)) }
+    ensures first { Finds (written_fault (env_of names.now) types.new ty.now) result }
 {
     if let tree::Type::Own(_, id) = ty {
         let resource = find_resource(alloc, types, names, required, *id)?;
@@ -307,10 +296,9 @@ pub fn resolve_body(
     ensures parts { IfOk result (λ r. (s : Address) → AreResolved types.old types.new s (env_of names.now)
         (shapes_occurrences s given.now (body_of body.now).parts) (exprs_of s (body_of body.now).parts) (kind_of r).parts) }
     ensures form { IfOk result (λ r. (kind_of r).form ≡ (body_of body.now).form) }
-    ensures legal { OnOk result ((f : Fault) → IsBrokenBody body.now f → ⊥) }
     ensures handled { OnOk result (Requires (env_of names.now) types.new (all_handles (body_types body.now)) required.old.items required.new.items) }
     ensures extended { IsExtended types.old types.new }
-    ensures refused { IfErr result (Refused (IsWrongBody (env_of names.now) types.new body.now)) }
+    ensures first { Finds (body_fault (env_of names.now) types.new body.now) result }
 {
     match body {
         tree::TypeBody::Record { span, fields } => {

@@ -1,14 +1,12 @@
 //! Definitions, as named entries of the arena.
-ghost use Rattle.std.specs.Prelude.{◌≡◌, ◌⊎◌, List, [], ◌∷◌, OnOk, IfErr};
+ghost use Rattle.std.specs.Prelude.{◌≡◌, List, [], ◌∷◌, OnOk};
 ghost use Rattle.wit_type_tree.specs.Parts.{body_types};
 ghost use Rattle.wit_syntax.specs.Address.{Address};
 ghost use Rattle.wit_syntax.specs.Shape.{all_handles};
 ghost use Rattle.wit_syntax.specs.Source.{Defined};
-ghost use Rattle.wit_syntax.specs.Fault.{Fault};
-ghost use Rattle.wit_syntax.specs.Bodies.{IsBrokenBody};
-ghost use Rattle.wit_syntax.specs.Broken.{Refused};
-ghost use Rattle.wit_syntax.specs.Metadata.{IsBrokenMetadata};
-ghost use Rattle.wit_arena.specs.Resolving.{ResolvedScope, env_of, IsStored, Defines, IsWrongBody};
+ghost use Rattle.wit_first.specs.First.{Finds};
+ghost use Rattle.wit_arena.specs.Resolving.{ResolvedScope, env_of, IsStored, Defines};
+ghost use Rattle.wit_entries.specs.Faults.{definition_fault};
 ghost use Rattle.wit_entries.specs.Requiring.{IsExtended, Requires};
 
 use crate::bodies::resolve_body;
@@ -29,12 +27,10 @@ pub fn define(
 ) -> ParseResult<()>
     ensures defines { OnOk result ((cs : List ResolvedScope) (s : Address) → Defines types.old types.new cs scope.old.owner s scope.old.names scope.new.names (Defined definition.now ∷ [])) }
     ensures owner { OnOk result (scope.new.owner ≡ scope.old.owner) }
-    ensures noted { OnOk result ((f : Fault) → IsBrokenMetadata definition.now.attributes.items f → ⊥) }
-    ensures legal { OnOk result ((f : Fault) → IsBrokenBody definition.now.body f → ⊥) }
     ensures stored { OnOk result (IsStored scope.old.names scope.new.names definition.now.name.name.now) }
     ensures handled { OnOk result (Requires (env_of scope.old.names) types.new (all_handles (body_types definition.now.body)) scope.old.required.items scope.new.required.items) }
     ensures extended { IsExtended types.old types.new }
-    ensures refused { IfErr result (Refused (λ f. IsBrokenMetadata definition.now.attributes.items f ⊎ IsWrongBody (env_of scope.old.names) types.new definition.now.body f)) }
+    ensures first { Finds (definition_fault (env_of scope.old.names) types.new definition.now) result }
 {
     let metadata = metadata_of(alloc, &definition.docs, &definition.attributes)?;
     let kind = resolve_body(

@@ -6,3 +6,5 @@ mod EndsOfEntries
 pub mod Requiring
 mod Settled
 pub mod Noted
+mod Ending
+pub mod Faults

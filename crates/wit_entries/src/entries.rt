@@ -10,7 +10,8 @@ ghost use Rattle.wit_notes.specs.Metadata.{metadata_view};
 ghost use Rattle.wit_entries.specs.ElementTypes.{inner_of};
 ghost use Rattle.wit_entries.specs.Known.{AreKnown, IsSet};
 ghost use Rattle.wit_entries.specs.Places.{key_hashes_at, keys_at};
-ghost use Rattle.wit_entries.specs.EndsOfEntries.{EndsAt};
+ghost use Rattle.wit_entries.specs.Faults.{end_in};
+ghost use Rattle.wit_entries.specs.EndsOfEntries.{EndsAt, end_means};
 ghost use Rattle.wit_entries.specs.Requiring.{IsExtended};
 
 use crate::ends::{End, add_entry, end_at};
@@ -190,7 +191,8 @@ impl Entries {
 
     /// Where the entry at an id ends, through names that are other words for a type.
     pub fn end(&self, id: TypeId) -> End
-        ensures { EndsAt self.now id result }
+        ensures ends { EndsAt self.now id result }
+        ensures end { end_in self.now id ≡ Some (end_means result) }
     {
         end_at(&self.ends, id)
     }

@@ -1,9 +1,10 @@
 //! Names that are written in types: what they mean, and whether a handle may name them.
-ghost use Rattle.std.specs.Prelude.{◌≡◌, ◌⊎◌, List, [], ◌∷◌, IfOk, IfErr, OnOk, Some};
+ghost use Rattle.std.specs.Prelude.{◌≡◌, ◌⊎◌, [], ◌∷◌, IfOk, OnOk, Some};
 ghost use Rattle.wit_type_tree.specs.Refusal.{IsAllocationFailure};
-ghost use Rattle.wit_syntax.specs.Fault.{fault, fault_of};
-ghost use Rattle.wit_syntax.specs.Broken.{Refused};
-ghost use Rattle.wit_arena.specs.Resolving.{env_of, IsUnknown, IsWrongWord};
+ghost use Rattle.wit_syntax.specs.Fault.{fault, fault_of, missing_type_at};
+ghost use Rattle.wit_first.specs.First.{Finds};
+ghost use Rattle.wit_arena.specs.Resolving.{env_of};
+ghost use Rattle.wit_entries.specs.Faults.{handle_fault, name_fault};
 ghost use Rattle.wit_entries.specs.Requiring.{Requires};
 
 use crate::ends::End;
@@ -19,7 +20,7 @@ use wit_types::TypeId;
 /// What a name of the scope means.
 pub fn find_name(alloc: Global, names: &TextTable<TypeId>, id: Id<'_>) -> ParseResult<TypeId>
     ensures found { IfOk result (λ place. env_of names.now id.entry.name.now ≡ Some place) }
-    ensures refused { IfErr result (Refused (IsUnknown (env_of names.now) (id.entry ∷ []))) }
+    ensures first { Finds (name_fault missing_type_at (env_of names.now) id.entry) result }
 {
     match names.get(id.name) {
         Some(found) => Ok(*found),
@@ -50,7 +51,7 @@ pub fn find_resource(
 ) -> ParseResult<TypeId>
     ensures found { IfOk result (λ place. env_of names.now id.entry.name.now ≡ Some place) }
     ensures handled { OnOk result (Requires (env_of names.now) types.now (id.entry ∷ []) required.old.items required.new.items) }
-    ensures refused { IfErr result (Refused (IsWrongWord (env_of names.now) types.now (id.entry ∷ []) (id.entry ∷ []))) }
+    ensures first { Finds (handle_fault missing_type_at (env_of names.now) types.now id.entry) result }
 {
     let place = find_name(alloc, names, id)?;
     match types.end(place) {

@@ -5,10 +5,9 @@ ghost use Rattle.wit_type_tree.specs.Refusal.{IsAllocationFailure};
 ghost use Rattle.wit_type_tree.specs.Parts.{ok_type, err_type, result_types, boxed_types};
 ghost use Rattle.wit_syntax.specs.Node.{primitive_type as the_primitive_type};
 ghost use Rattle.wit_syntax.specs.Shape.{shape_of, handles, all_handles};
-ghost use Rattle.wit_syntax.specs.Fault.{Fault};
-ghost use Rattle.wit_syntax.specs.Bodies.{IsBrokenType, IsBrokenPart};
-ghost use Rattle.wit_syntax.specs.Broken.{Refused};
-ghost use Rattle.wit_arena.specs.Resolving.{env_of, IsWrongType, AreWrongTypes};
+ghost use Rattle.wit_first.specs.First.{Finds};
+ghost use Rattle.wit_arena.specs.Resolving.{env_of};
+ghost use Rattle.wit_entries.specs.Faults.{either_fault, types_fault, written_fault};
 ghost use Rattle.wit_entries.specs.Reading.{IsResolved, AreTypes, IsLeaf, IsList, IsRead, Denotes, named_kind as the_named_kind};
 ghost use Rattle.wit_entries.specs.Requiring.{IsExtended, Requires};
 
@@ -80,10 +79,9 @@ pub fn read(
     ty: &tree::Type<'_>,
 ) -> ParseResult<Reading>
     ensures read { IfOk result (IsRead types.old types.new (env_of names.now) given.now (shape_of ty.now)) }
-    ensures legal { OnOk result ((f : Fault) → IsBrokenType ty.now f → ⊥) }
     ensures handled { OnOk result (Requires (env_of names.now) types.new (handles ty.now) required.old.items required.new.items) }
     ensures extended { IsExtended types.old types.new }
-    ensures refused { IfErr result (Refused (IsWrongType (env_of names.now) types.new ty.now)) }
+    ensures first { Finds (written_fault (env_of names.now) types.new ty.now) result }
 {
     if let tree::Type::Primitive(_, primitive) = ty {
         return Ok(Reading::Leaf(primitive_type(*primitive)));
@@ -118,10 +116,9 @@ fn read_form(
     requires form { IsLeaf (shape_of ty.now) → ⊥ }
     requires unlisted { IsList ty.now → ⊥ }
     ensures read { IfOk result (IsRead types.old types.new (env_of names.now) given.now (shape_of ty.now)) }
-    ensures legal { OnOk result ((f : Fault) → IsBrokenType ty.now f → ⊥) }
     ensures handled { OnOk result (Requires (env_of names.now) types.new (handles ty.now) required.old.items required.new.items) }
     ensures extended { IsExtended types.old types.new }
-    ensures refused { IfErr result (Refused (IsWrongType (env_of names.now) types.new ty.now)) }
+    ensures first { Finds (written_fault (env_of names.now) types.new ty.now) result }
 {
     match ty {
         tree::Type::FixedLengthList(span, item, size) => {
@@ -176,10 +173,9 @@ fn resolve_result(
     ensures ok { IfOk result (λ r. is_some r.ok ≡ is_some (ok_type parts.now)) }
     ensures err { IfOk result (λ r. is_some r.err ≡ is_some (err_type parts.now)) }
     ensures resolved { IfOk result (λ r. AreTypes types.old types.new (env_of names.now) given.now (result_types parts.now) (option_to_list r.ok ++ option_to_list r.err)) }
-    ensures legal { OnOk result ((f : Fault) → IsBrokenPart (result_types parts.now) f → ⊥) }
     ensures handled { OnOk result (Requires (env_of names.now) types.new (all_handles (result_types parts.now)) required.old.items required.new.items) }
     ensures extended { IsExtended types.old types.new }
-    ensures refused { IfErr result (Refused (AreWrongTypes (env_of names.now) types.new (result_types parts.now))) }
+    ensures first { Finds (either_fault (env_of names.now) types.new parts.now) result }
 {
     match parts {
         tree::ResultTypes::Neither => Ok(Result_ {
@@ -221,10 +217,9 @@ fn resolve_optional(
 ) -> ParseResult<Option<Type>>
     ensures is_some { IfOk result (λ r. is_some r ≡ is_some ty.now) }
     ensures resolved { IfOk result (λ r. AreTypes types.old types.new (env_of names.now) given.now (boxed_types ty.now) (option_to_list r)) }
-    ensures legal { OnOk result ((f : Fault) → IsBrokenPart (boxed_types ty.now) f → ⊥) }
     ensures handled { OnOk result (Requires (env_of names.now) types.new (all_handles (boxed_types ty.now)) required.old.items required.new.items) }
     ensures extended { IsExtended types.old types.new }
-    ensures refused { IfErr result (Refused (AreWrongTypes (env_of names.now) types.new (boxed_types ty.now))) }
+    ensures first { Finds (types_fault (env_of names.now) types.new (boxed_types ty.now)) result }
 {
     match ty {
         Some(ty) => {
@@ -246,10 +241,9 @@ fn resolve_types(
     parts: &[tree::Type<'_>],
 ) -> ParseResult<Row<Type>>
     ensures resolved { IfOk result (λ r. AreTypes types.old types.new (env_of names.now) given.now parts.now r) }
-    ensures legal { OnOk result ((f : Fault) → IsBrokenPart parts.now f → ⊥) }
     ensures handled { OnOk result (Requires (env_of names.now) types.new (all_handles parts.now) required.old.items required.new.items) }
     ensures extended { IsExtended types.old types.new }
-    ensures refused { IfErr result (Refused (AreWrongTypes (env_of names.now) types.new parts.now)) }
+    ensures first { Finds (types_fault (env_of names.now) types.new parts.now) result }
 {
     let mut resolved = Vec::with_capacity(alloc, parts.len())?;
     for part in parts {
@@ -272,10 +266,9 @@ pub fn resolve_type(
     ty: &tree::Type<'_>,
 ) -> ParseResult<Type>
     ensures resolved { IfOk result (IsResolved types.old types.new (env_of names.now) given.now (shape_of ty.now)) }
-    ensures legal { OnOk result ((f : Fault) → IsBrokenType ty.now f → ⊥) }
     ensures handled { OnOk result (Requires (env_of names.now) types.new (handles ty.now) required.old.items required.new.items) }
     ensures extended { IsExtended types.old types.new }
-    ensures refused { IfErr result (Refused (IsWrongType (env_of names.now) types.new ty.now)) }
+    ensures first { Finds (written_fault (env_of names.now) types.new ty.now) result }
 {
     let reading = read(alloc, types, names, required, given, ty)?;
     let ty = type_of(types, given, reading)?;

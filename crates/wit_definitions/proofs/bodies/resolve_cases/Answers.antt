@@ -1,5 +1,5 @@
-use Rattle.std.proofs.Common.{◌≡◌, [], ◌∷◌, ◌++◌, ◌+◌, Some, take, sym, ap, ◌∙◌, subst}
-use Rattle.std.specs.Prelude.{is_some, map}
+use Rattle.std.proofs.Common.{◌≡◌, [], ◌∷◌, ◌++◌, ◌+◌, Some, take, sym, ap, ◌∙◌}
+use Rattle.std.specs.Prelude.{is_some, map, slice_get}
 use Rattle.std.specs.Option.{option_to_list}
 use Rattle.std.proofs.lemmas.List.{map-append, take_more, take_all}
 use Rattle.std.proofs.lemmas.Option.{slice_get-get_or}
@@ -9,17 +9,20 @@ use Rattle.wit_type_tree.specs.Parts.{case_types}
 use Rattle.wit_types.specs.declared.types.Case.{Case}
 use Rattle.wit_arena.specs.Kind.{case_member, payloads}
 use Rattle.wit_syntax.specs.Shape.{member}
-use Rattle.wit_arena.specs.Resolving.{env_of, AreWrongTypes}
+use Rattle.wit_arena.specs.Resolving.{env_of}
 use Rattle.wit_syntax.proofs.Lists.{filter_map_more}
-use Rattle.wit_syntax.proofs.Refusing.{refused_weaker}
-use Rattle.wit_arena.proofs.Written.{AreLegal, legal_more}
+use Rattle.wit_first.proofs.First.{in-append, none_both, reports-in, reports_same}
+use Rattle.wit_entries.specs.Faults.{types_fault, written_fault}
+use Rattle.wit_entries.proofs.Faults.{types_extended}
 use Rattle.wit_entries.proofs.Reading.{types_then}
-use Rattle.wit_definitions.proofs.Payloads.{wrong_case}
 use Rattle.wit_entries.proofs.Requiring.{extended_then, requires_types}
+use Rattle.wit_definitions.proofs.Payloads.{cases_first}
 use Rattle.wit_definitions.proofs.bodies.resolve_cases.Goals as goal
 
 pub loop-written-preserved : goal.loop-written-preserved
 loop-written-preserved c =
+    let env = env_of c.args.names.now in
+    let new = c.resolve_case.new.types in
     let cs = c.args.cases.now in
     let i = c.loop-written.written-index in
     let case = c.written-item.result in
@@ -31,7 +34,7 @@ loop-written-preserved c =
     record {
       types = rw (written, types) (types_then c.args.given.now (case_types (take i cs)) (option_to_list case.ty) c.loop-written.invariant.types c.in_ok-case.ensures.types);
       members = ap (map case_member) c.in_ok-push.ensures.items ∙ map-append case_member out (made ∷ []) ∙ ap (λ ms. ms ++ case_member made ∷ []) c.loop-written.invariant.members ∙ ap (λ m. map (λ (c : WrittenCase). (member c.docs c.name, is_some c.ty)) (take i cs) ++ m ∷ []) c.in_ok-case.ensures.member ∙ sym (map-append (λ (c : WrittenCase). (member c.docs c.name, is_some c.ty)) (take i cs) (case ∷ [])) ∙ ap (map (λ (c : WrittenCase). (member c.docs c.name, is_some c.ty))) (sym in_use);
-      legal = subst AreLegal (sym written) (legal_more (case_types (take i cs)) (option_to_list case.ty) c.loop-written.invariant.legal c.in_ok-case.ensures.legal);
+      none = ap (types_fault env new) written ∙ in-append (written_fault env new) (case_types (take i cs)) (option_to_list case.ty) ∙ none_both (types_extended env _ new (case_types (take i cs)) c.in_ok-case.ensures.extended c.loop-written.invariant.none) c.in_ok-case.ensures.first;
       handled = rw written (requires_types (env_of c.args.names.now) _ _ (case_types (take i cs)) (option_to_list case.ty) _ _ _ c.in_ok-case.ensures.extended c.loop-written.invariant.handled c.in_ok-case.ensures.handled);
       extended = extended_then _ _ _ c.loop-written.invariant.extended c.in_ok-case.ensures.extended;
     }
@@ -51,15 +54,19 @@ returns-clause-members c =
     let all = take_all c.loop-written.written-index c.args.cases.now c.loop-written-test.false in
     rw (← all, c.from.ensures) c.loop-written.invariant.members
 
-pub returns-clause-legal : goal.returns-clause-legal
-returns-clause-legal c = subst (λ cs. AreLegal (case_types cs)) (take_all c.loop-written.written-index c.args.cases.now c.loop-written-test.false) c.loop-written.invariant.legal
+pub returns-clause-first : goal.returns-clause-first
+returns-clause-first c =
+    let all = take_all c.loop-written.written-index c.args.cases.now c.loop-written-test.false in
+    rw (← all) c.loop-written.invariant.none
 
-pub returns-in_err-case-clause-refused : goal.returns-in_err-case-clause-refused
-returns-in_err-case-clause-refused c =
+pub returns-in_err-case-clause-first : goal.returns-in_err-case-clause-first
+returns-in_err-case-clause-first c =
     let p = err_from_is_err_and c.from_residual-in_err-case.result c.from_residual-in_err-case.ensures.1 in
     let env = env_of c.args.names.now in
+    let new = c.resolve_case.new.types in
     let cs = c.args.cases.now in
     let i = c.loop-written.written-index in
     let case = c.written-item.result in
-    let at = slice_get-get_or cs i case c.loop-written-test.true ∙ ap Some (sym c.written-item.is) in
-    rw (p.1, p.2) (refused_weaker (AreWrongTypes env _ (option_to_list case.ty)) (AreWrongTypes env _ (case_types cs)) _ (λ f wrong. wrong_case env _ cs i case f at wrong) c.in_err-case.ensures.refused)
+    let at : slice_get cs i ≡ Some case = slice_get-get_or cs i case c.loop-written-test.true ∙ ap Some (sym c.written-item.is) in
+    let none = types_extended env _ new (case_types (take i cs)) c.in_err-case.ensures.extended c.loop-written.invariant.none in
+    rw (p.1, p.2) (reports_same (sym (cases_first env new cs)) (reports-in (λ (x : WrittenCase). types_fault env new (option_to_list x.ty)) cs i case _ at (sym (cases_first env new (take i cs)) ∙ none) c.in_err-case.ensures.first))

@@ -1,10 +1,10 @@
-use Rattle.std.proofs.Common.{◌≡◌, is_some, map, take}
+use Rattle.std.proofs.Common.{◌≡◌, None, is_some, map, take}
 use Rattle.wit_type_tree.specs.Parts.{case_types}
 use Rattle.wit_type_tree.specs.declared.types.Case.{Case as WrittenCase}
 use Rattle.wit_arena.specs.Kind.{case_member, payloads}
 use Rattle.wit_syntax.specs.Shape.{member, all_handles}
 use Rattle.wit_arena.specs.Resolving.{env_of}
-use Rattle.wit_arena.proofs.Written.{AreLegal}
+use Rattle.wit_entries.specs.Faults.{types_fault}
 use Rattle.wit_entries.specs.Reading.{AreTypes}
 use Rattle.wit_entries.specs.Requiring.{IsExtended, Requires}
 use Rattle.wit_definitions.proofs.bodies.resolve_cases.Given as goal
@@ -13,7 +13,7 @@ abbrev pub invariant-loop-written : goal.invariant-loop-written
 invariant-loop-written l = record {
   types : AreTypes l.fn.types l.types (env_of l.names) l.given (case_types (take l.written-index l.cases)) (payloads l.resolved.items);
   members : map case_member l.resolved.items ≡ map (λ (c : WrittenCase). (member c.docs c.name, is_some c.ty)) (take l.written-index l.cases);
-  legal : AreLegal (case_types (take l.written-index l.cases));
+  none : types_fault (env_of l.names) l.types (case_types (take l.written-index l.cases)) ≡ None;
   handled : Requires (env_of l.names) l.types (all_handles (case_types (take l.written-index l.cases))) l.fn.required.items l.required.items;
   extended : IsExtended l.fn.types l.types;
 }

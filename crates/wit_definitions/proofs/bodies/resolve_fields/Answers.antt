@@ -1,7 +1,7 @@
-use Rattle.std.proofs.Common.{◌≡◌, [], ◌∷◌, ◌++◌, ◌+◌, Some, take, sym, ap, ◌∙◌, subst}
+use Rattle.std.proofs.Common.{◌≡◌, [], ◌∷◌, ◌++◌, ◌+◌, Some, None, take, sym, ap, ◌∙◌}
 use Rattle.std.specs.Prelude.{map, slice_get}
 use Rattle.std.specs.Option.{option_map}
-use Rattle.std.proofs.lemmas.List.{map-append, take_more, take_all}
+use Rattle.std.proofs.lemmas.List.{map-append, take_more, take_all, take-map}
 use Rattle.std.proofs.lemmas.Option.{slice_get-map, slice_get-get_or}
 use Rattle.std.proofs.lemmas.Result.{err_from_is_err_and}
 use Rattle.wit_type_tree.specs.declared.types.Field.{Field as WrittenField}
@@ -9,15 +9,18 @@ use Rattle.wit_type_tree.specs.Parts.{field_types}
 use Rattle.wit_types.specs.declared.types.Field.{Field}
 use Rattle.wit_arena.specs.Kind.{field_member}
 use Rattle.wit_syntax.specs.Shape.{member}
-use Rattle.wit_arena.specs.Resolving.{env_of, IsWrongType, AreWrongTypes}
-use Rattle.wit_syntax.proofs.Refusing.{refused_weaker}
-use Rattle.wit_arena.proofs.Written.{AreLegal, legal_one, legal_more, wrong_at}
+use Rattle.wit_arena.specs.Resolving.{env_of}
+use Rattle.wit_first.proofs.First.{in-more, reports-in}
+use Rattle.wit_entries.specs.Faults.{types_fault, written_fault}
+use Rattle.wit_entries.proofs.Faults.{types_extended}
 use Rattle.wit_entries.proofs.Reading.{types_one, types_then}
 use Rattle.wit_entries.proofs.Requiring.{extended_then, requires_types, requires_one}
 use Rattle.wit_definitions.proofs.bodies.resolve_fields.Goals as goal
 
 pub loop-written-preserved : goal.loop-written-preserved
 loop-written-preserved c =
+    let env = env_of c.args.names.now in
+    let new = c.resolve_type.new.types in
     let fs = c.args.fields.now in
     let i = c.loop-written.written-index in
     let f = c.written-item.result in
@@ -29,7 +32,7 @@ loop-written-preserved c =
     record {
       types = rw (written, types) (types_then c.args.given.now (field_types (take i fs)) (f.ty ∷ []) c.loop-written.invariant.types (types_one c.args.given.now f.ty c.in_ok-ty.ensures.resolved));
       members = ap (map field_member) c.in_ok-push.ensures.items ∙ map-append field_member out (made ∷ []) ∙ ap (λ ms. ms ++ field_member made ∷ []) c.loop-written.invariant.members ∙ ap (λ m. map (λ (x : WrittenField). member x.docs x.name) (take i fs) ++ m ∷ []) c.in_ok-field.ensures.member ∙ sym (map-append (λ (x : WrittenField). member x.docs x.name) (take i fs) (f ∷ [])) ∙ ap (map (λ (x : WrittenField). member x.docs x.name)) (sym in_use);
-      legal = subst AreLegal (sym written) (legal_more (field_types (take i fs)) (f.ty ∷ []) c.loop-written.invariant.legal (legal_one f.ty c.in_ok-ty.ensures.legal));
+      none = ap (types_fault env new) written ∙ in-more (written_fault env new) (field_types (take i fs)) f.ty (types_extended env _ new (field_types (take i fs)) c.in_ok-ty.ensures.extended c.loop-written.invariant.none) ∙ c.in_ok-ty.ensures.first;
       handled = rw written (requires_types (env_of c.args.names.now) _ _ (field_types (take i fs)) (f.ty ∷ []) _ _ _ c.in_ok-ty.ensures.extended c.loop-written.invariant.handled (requires_one (env_of c.args.names.now) _ f.ty _ _ c.in_ok-ty.ensures.handled));
       extended = extended_then _ _ _ c.loop-written.invariant.extended c.in_ok-ty.ensures.extended;
     }
@@ -49,15 +52,19 @@ returns-clause-members c =
     let all = take_all c.loop-written.written-index c.args.fields.now c.loop-written-test.false in
     rw (← all, c.from.ensures) c.loop-written.invariant.members
 
-pub returns-clause-legal : goal.returns-clause-legal
-returns-clause-legal c = subst (λ fs. AreLegal (field_types fs)) (take_all c.loop-written.written-index c.args.fields.now c.loop-written-test.false) c.loop-written.invariant.legal
+pub returns-clause-first : goal.returns-clause-first
+returns-clause-first c =
+    let all = take_all c.loop-written.written-index c.args.fields.now c.loop-written-test.false in
+    rw (← all) c.loop-written.invariant.none
 
-pub returns-in_err-ty-clause-refused : goal.returns-in_err-ty-clause-refused
-returns-in_err-ty-clause-refused c =
+pub returns-in_err-ty-clause-first : goal.returns-in_err-ty-clause-first
+returns-in_err-ty-clause-first c =
     let p = err_from_is_err_and c.from_residual-in_err-ty.result c.from_residual-in_err-ty.ensures.1 in
     let env = env_of c.args.names.now in
+    let new = c.resolve_type.new.types in
     let fs = c.args.fields.now in
     let i = c.loop-written.written-index in
     let f = c.written-item.result in
     let at : slice_get (field_types fs) i ≡ Some f.ty = slice_get-map (λ (x : WrittenField). x.ty) fs i ∙ ap (option_map (λ (x : WrittenField). x.ty)) (slice_get-get_or fs i f c.loop-written-test.true ∙ ap Some (sym c.written-item.is)) in
-    rw (p.1, p.2) (refused_weaker (IsWrongType env _ f.ty) (AreWrongTypes env _ (field_types fs)) _ (λ x wrong. wrong_at env _ (field_types fs) i f.ty x at wrong) c.in_err-ty.ensures.refused)
+    let none : types_fault env new (take i (field_types fs)) ≡ None = ap (types_fault env new) (take-map (λ (x : WrittenField). x.ty) i fs) ∙ types_extended env _ new (field_types (take i fs)) c.in_err-ty.ensures.extended c.loop-written.invariant.none in
+    rw (p.1, p.2) (reports-in (written_fault env new) (field_types fs) i f.ty _ at none c.in_err-ty.ensures.first)

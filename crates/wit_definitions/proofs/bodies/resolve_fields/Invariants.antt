@@ -1,10 +1,10 @@
-use Rattle.std.proofs.Common.{◌≡◌, map, take}
+use Rattle.std.proofs.Common.{◌≡◌, None, map, take}
 use Rattle.wit_type_tree.specs.Parts.{field_types}
 use Rattle.wit_type_tree.specs.declared.types.Field.{Field as WrittenField}
 use Rattle.wit_arena.specs.Kind.{field_member}
 use Rattle.wit_syntax.specs.Shape.{member, all_handles}
 use Rattle.wit_arena.specs.Resolving.{env_of}
-use Rattle.wit_arena.proofs.Written.{AreLegal}
+use Rattle.wit_entries.specs.Faults.{types_fault}
 use Rattle.wit_entries.specs.Reading.{AreTypes}
 use Rattle.wit_entries.specs.Requiring.{IsExtended, Requires}
 use Rattle.wit_definitions.proofs.bodies.resolve_fields.Given as goal
@@ -13,7 +13,7 @@ abbrev pub invariant-loop-written : goal.invariant-loop-written
 invariant-loop-written l = record {
   types : AreTypes l.fn.types l.types (env_of l.names) l.given (field_types (take l.written-index l.fields)) (map (λ f. f.ty) l.resolved.items);
   members : map field_member l.resolved.items ≡ map (λ (x : WrittenField). member x.docs x.name) (take l.written-index l.fields);
-  legal : AreLegal (field_types (take l.written-index l.fields));
+  none : types_fault (env_of l.names) l.types (field_types (take l.written-index l.fields)) ≡ None;
   handled : Requires (env_of l.names) l.types (all_handles (field_types (take l.written-index l.fields))) l.fn.required.items l.required.items;
   extended : IsExtended l.fn.types l.types;
 }

@@ -1,7 +1,7 @@
-use Rattle.std.proofs.Common.{take}
+use Rattle.std.proofs.Common.{◌≡◌, None, take}
 use Rattle.wit_arena.specs.Resolving.{env_of}
 use Rattle.wit_syntax.specs.Shape.{all_handles}
-use Rattle.wit_arena.proofs.Written.{AreLegal}
+use Rattle.wit_entries.specs.Faults.{types_fault}
 use Rattle.wit_entries.specs.Reading.{AreTypes}
 use Rattle.wit_entries.specs.Requiring.{IsExtended, Requires}
 use Rattle.wit_entries.proofs.types.+types.Given as goal
@@ -9,7 +9,7 @@ use Rattle.wit_entries.proofs.types.+types.Given as goal
 abbrev pub invariant-resolve_types-loop-part : goal.invariant-resolve_types-loop-part
 invariant-resolve_types-loop-part l = record {
   types : AreTypes l.fn.types l.types (env_of l.names) l.given (take l.part-index l.parts) l.resolved.items;
-  legal : AreLegal (take l.part-index l.parts);
+  none : types_fault (env_of l.names) l.types (take l.part-index l.parts) ≡ None;
   handled : Requires (env_of l.names) l.types (all_handles (take l.part-index l.parts)) l.fn.required.items l.required.items;
   extended : IsExtended l.fn.types l.types;
 }

@@ -12,6 +12,8 @@ use Rattle.wit_syntax.proofs.Refusing.{refused_weaker}
 use Rattle.wit_arena.proofs.DefinitionPart.{defines_none, defines_more}
 use Rattle.wit_arena.proofs.Scoping.{names_none, names_kept, names_more, legal_none, legal_more, noted_none, noted_more}
 use Rattle.wit_syntax.proofs.Found.{contains_at}
+use Rattle.wit_first.proofs.First.{refused_as}
+use Rattle.wit_entries.proofs.Faults.{definition_broken, definition_legal, definition_noted}
 use Rattle.wit_entries.proofs.Requiring.{extended_then}
 use Rattle.wit_scopes.specs.Borrowed.{definition_view}
 use Rattle.wit_scopes.specs.DefinitionOrder.{IsBrokenAmong}
@@ -56,7 +58,7 @@ returns-in_err-define-clause-refused c =
           | inr wrong ↦ inr (wrong_handle_next old mid new o names now ds i d f at before.defines c.in_err-define.ensures.extended wrong)
         ]
       ]
-    ]) c.in_err-define.ensures.refused)
+    ]) (refused_as (definition_broken (env_of now) new d) c.in_err-define.ensures.first))
 
 pub loop-definition-preserved : goal.loop-definition-preserved
 loop-definition-preserved c =
@@ -77,8 +79,8 @@ loop-definition-preserved c =
       owner = e.owner ∙ before.owner;
       listed = rw more (listed_next old new prefix (take i ds) (Defined d) before.listed e.stored free);
       handled = rw more (requires_next old new c.loop-definition.types c.define.new.types (take i ds) d _ _ _ e.stored free e.extended before.handled e.handled);
-      noted = rw more (noted_more (take i ds) d before.noted e.noted);
-      legal = rw more (legal_more (take i ds) d before.legal e.legal);
+      noted = rw more (noted_more (take i ds) d before.noted (definition_noted (env_of old) c.define.new.types d e.first));
+      legal = rw more (legal_more (take i ds) d before.legal (definition_legal (env_of old) c.define.new.types d e.first));
       kept = λ xs h. names_kept old new xs d.name.name.now (before.kept xs h) e.stored;
       has = rw more (names_more old new (take i ds) (Defined d) before.has e.stored);
       extended = extended_then c.args.types.now c.loop-definition.types c.define.new.types before.extended e.extended;
