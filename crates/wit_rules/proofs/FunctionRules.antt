@@ -1,7 +1,7 @@
 -- Rules of functions: their parameters by name, and that no constructor is a setter.
 use Rattle.std.proofs.Common.{◌≡◌, ℕ, ◌<◌, List, [], ◌∷◌, ◌++◌, Option, Some, None, length, arith, refl, sym, ap, ◌∙◌}
 use Rattle.std.specs.Prelude.{map, slice_get}
-use Rattle.std.proofs.lemmas.List.{map-append}
+use Rattle.std.proofs.lemmas.List.{length-map, map-append}
 use Rattle.std.specs.Option.{option_copied}
 use Rattle.std.specs.Slice.{IsItemAt}
 use Rattle.std.proofs.lemmas.Bool.{ltb-true, ltb-false}
@@ -14,16 +14,15 @@ use Rattle.wit_type_tree.specs.declared.types.FuncForm.TheVariants as form
 use Rattle.wit_type_tree.specs.declared.types.Param.{Param}
 use Rattle.wit_type_tree.specs.declared.types.ResourceFunc.{ResourceFunc}
 use Rattle.wit_type_tree.specs.declared.types.ResourceFunc.TheVariants as resource
-use Rattle.wit_syntax.specs.Bodies.{folded, IsRepeated}
+use Rattle.wit_syntax.specs.Bodies.{folded}
 use Rattle.wit_syntax.specs.Fault.{fault}
 use Rattle.wit_syntax.specs.Function.{Freestanding, Method, Static, Constructor, OnSide, SourceFunction, SourceParam, written_param, resource_function}
-use Rattle.wit_syntax.specs.Repeats.{IsRepeatAt}
-use Rattle.wit_syntax.proofs.Lists.{map_at, map_map}
+use Rattle.wit_syntax.specs.Repeats.{AllDiffer}
+use Rattle.wit_syntax.proofs.Lists.{map_map}
 use Rattle.wit_first.specs.Functions.{given_fault, params_fault}
 use Rattle.wit_rules.specs.declared.borrowed.BorrowedFunction.{BorrowedFunction}
 use Rattle.wit_rules.specs.declared.borrowed.BorrowedFunction.TheVariants as borrowed
 use Rattle.wit_rules.specs.Borrowed.{function_view}
-use Rattle.wit_rules.specs.Signatures.{IsRepeatedAt}
 
 -- the names of parameters, of which some are written
 pub names-append : (given params : List SourceParam) (written : List Param) → map written_param written ≡ params → map (λ p. p.name) (given ++ params) ≡ map (λ p. p.name) given ++ map (λ p. p.name.name.now) written
@@ -35,19 +34,15 @@ names-append given params written is =
 pub keys-named : (names : List (Bor (List ℕ))) (params : List SourceParam) → map (λ t. t.now) names ≡ map (λ p. p.name) params → map (λ t. folded t.now) names ≡ map (λ p. folded p.name) params
 keys-named names params is = sym (map_map folded (λ t. t.now) names) ∙ ap (map folded) is ∙ map_map folded (λ p. p.name) params
 
--- a key that is at two places is that of an item at the later one
-pub repeated_at : {X : Type 0} (key : X → List ℕ) (xs : List X) (first second : ℕ) → IsRepeatAt (map key xs) first second → IsRepeatedAt key xs second
-repeated_at key xs first second r =
-    let earlier = map_at key xs first r.x r.at_first in
-    let later = map_at key xs second r.x r.at_second in
-    record { first = first; earlier = earlier.0; later = later.0; before = r.before; at_first = earlier.1; at = later.1; same = earlier.2 ∙ sym later.2 }
-
--- a key that is at two places wants two of them
-pub too_few : {X : Type 0} (key : X → List ℕ) (xs : List X) (later : X) → length xs < 2 → IsRepeated key xs later → ⊥
-too_few key xs later few r =
-    let second : r.1 < length xs = slice_get_within xs r.1 later r.5 in
-    let before = r.2 in
-    omega arith
+-- the key of one item repeats none
+pub few_differ : {X : Type 0} (key : X → List ℕ) (xs : List X) → length xs < 2 → AllDiffer (map key xs)
+few_differ key xs few = record {
+  differ = λ i j k at_i at_j. (
+      let one = slice_get_within (map key xs) i k at_i in
+      let other = slice_get_within (map key xs) j k at_j in
+      let count = length-map xs key in
+      omega arith);
+}
 
 -- no constructor is a setter
 pub no_setter : (h : BorrowedFunction) (of : Id) → (function_view h).role ≡ Constructor of → (function_view h).func.form ≡ form.Setter → ⊥

@@ -1,5 +1,5 @@
 -- What the functions of a scope are resolved in, and what may be wrong with one of them.
-use Rattle.std.specs.Prelude.{◌≡◌, ◌⊎◌, ◌+◌, ◌<◌, ℕ, nat_eq, List, length, map, Option, Some, None, IsSome, Contains, slice_get, ⊤}
+use Rattle.std.specs.Prelude.{◌≡◌, ◌⊎◌, ℕ, nat_eq, List, length, map, Option, Some, None, IsSome, Contains, slice_get, ⊤}
 use Rattle.std.specs.Cmp.Lexicographic.{pointwise}
 use Rattle.std.specs.Map.{lookup}
 use Rattle.std.specs.Option.{option_to_list}
@@ -45,16 +45,6 @@ pub record IsScopeOf (scope : FunctionScope) (xs : List ScopeName) : Type 0 wher
 abbrev pub functions_view : FunctionScope → List SourceFunction
 functions_view scope = map function_view scope.functions.now
 
--- an item at a place has the key of an earlier one
-pub record IsRepeatedAt {X : Type 0} (key : X → List ℕ) (xs : List X) (place : ℕ) : Type 0 where
-  pub first : ℕ
-  pub earlier : X
-  pub later : X
-  pub before : first < place
-  pub at_first : slice_get xs first ≡ Some earlier
-  pub at : slice_get xs place ≡ Some later
-  pub same : key earlier ≡ key later
-
 -- what is wrong with what a setter or a constructor gives
 abbrev pub IsBrokenResult : List ScopeName → SourceFunction → Fault → Type 0
 IsBrokenResult xs fn f = IsSetterWithResult xs fn f ⊎ (IsConstructorWithoutResult xs fn f ⊎ IsConstructorOfOther xs fn f)
@@ -92,18 +82,6 @@ pub data IsWrongInSignature (env : Env) (es : List TypeDef) (fns : List SourceFu
   WrongForm : IsBrokenType t f → IsWrongInSignature env es fns k t f
   LostName : IsLostName env fns k (words (shape_of t)) f → IsWrongInSignature env es fns k t f
   WrongHandle : IsWrongHandle env es (handles t) f → IsWrongInSignature env es fns k t f
-
--- with one of these types
-abbrev pub IsWrongInSignatures : Env → List TypeDef → List SourceFunction → ℕ → List Written → Fault → Type 0
-IsWrongInSignatures env es fns k ts f = (t : Written) × Contains ts t × IsWrongInSignature env es fns k t f
-
--- an item of a list is the one at a place where another list comes before it, and it is refused
-pub record IsRefusedParam (repeated : Option ℕ) (prefix : ℕ) (ws : List SourceParam) (f : Fault) : Type 0 where
-  pub place : ℕ
-  pub later : SourceParam
-  pub at : slice_get ws place ≡ Some later
-  pub same : repeated ≡ Some (prefix + place)
-  pub is : f ≡ fault 38 later.span
 
 -- these are the parameters, over their types, which were added to the arena
 pub record AreParamsOver (old new : List TypeDef) (env : Env) (ws : List SourceParam) (ps : List Param) : Type 0 where

@@ -1,16 +1,16 @@
 //! The rules of functions: of their parameters and of their results.
-ghost use Rattle.std.specs.Prelude.{◌≡◌, ◌⊎◌, List, Some, IfNone, IfOk, IfSome, map};
+ghost use Rattle.std.specs.Prelude.{◌≡◌, ◌⊎◌, List, Some, IfOk, map};
 ghost use Rattle.wit_type_tree.specs.Refusal.{IsAllocationFailure};
 ghost use Rattle.wit_type_tree.specs.declared.types.FuncForm.TheVariants.{Getter, Setter};
 ghost use Rattle.wit_syntax.specs.Bodies.{folded};
-ghost use Rattle.wit_syntax.specs.Fault.{Fault, fault, fault_of};
-ghost use Rattle.wit_first.specs.First.{Finds};
+ghost use Rattle.wit_syntax.specs.Fault.{fault, fault_of};
+ghost use Rattle.wit_first.specs.First.{Finds, IsFirstRepeat};
 ghost use Rattle.wit_first.specs.Functions.{given_fault, gives_fault, is_written_as, made_fault, no_result_fault, setter_fault};
 ghost use Rattle.wit_syntax.specs.Source.{ScopeName};
 ghost use Rattle.wit_syntax.specs.Function.{all_params};
-ghost use Rattle.wit_syntax.specs.Signature.{IsDuplicateParam, ok_span as the_ok_span, result_ok as the_result_ok};
+ghost use Rattle.wit_syntax.specs.Signature.{ok_span as the_ok_span, result_ok as the_result_ok};
 ghost use Rattle.wit_rules.specs.Borrowed.{function_view};
-ghost use Rattle.wit_rules.specs.Signatures.{AreResults, IsRepeatedAt};
+ghost use Rattle.wit_rules.specs.Signatures.{AreResults};
 
 use crate::borrowed::BorrowedFunction;
 use crate::function_scope::{result_ok, span_of};
@@ -98,8 +98,7 @@ pub fn repeated_param(
     alloc: Global,
     function: BorrowedFunction<'_, '_>,
 ) -> Result<Option<usize>, AllocError>
-    ensures some { IfOk result (λ found. IfSome found (λ place. IsRepeatedAt (λ p. folded p.name) (all_params (function_view function.entry)) place)) }
-    ensures none { IfOk result (λ found. IfNone found ((f : Fault) → IsDuplicateParam (function_view function.entry) f → ⊥)) }
+    ensures { IfOk result (IsFirstRepeat (λ p. folded p.name) (all_params (function_view function.entry))) }
 {
     if function.param_count() < 2 {
         return Ok(None);

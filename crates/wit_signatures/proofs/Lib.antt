@@ -1,6 +1,7 @@
 mod SignatureTypes
 mod Lost
 mod FunctionParts
-mod FunctionFaults
+mod Signed
+pub mod FunctionFaults
 mod WholeFunctions
 pub mod Mangling

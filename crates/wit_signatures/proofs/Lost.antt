@@ -2,20 +2,16 @@
 use Rattle.std.proofs.Common.{◌≡◌, ◌<◌, ◌≤◌, ◌+◌, ℕ, List, Some, inl, inr, refl, sym, ap, ◌∙◌, subst, arith}
 use Rattle.std.specs.Prelude.{slice_get}
 use Rattle.std.proofs.lemmas.Bool.{cases_lt}
-use Rattle.wit_values.specs.declared.span.Span.{Span}
-use Rattle.wit_type_tree.specs.declared.error.ParseError.{ParseError}
-use Rattle.wit_type_tree.specs.declared.error.ParseErrorKind.{ParseErrorKind}
 use Rattle.wit_type_tree.specs.declared.types.«Type».{«Type» as Written}
 use Rattle.wit_type_tree.specs.declared.types.«Type».TheVariants as written
 use Rattle.wit_types.specs.declared.types.TypeDef.{TypeDef}
-use Rattle.wit_syntax.specs.Fault.{Fault, fault_of, as_stated}
+use Rattle.wit_syntax.specs.Fault.{Fault}
 use Rattle.wit_syntax.specs.Function.{Role, Freestanding, Method, Static, Constructor, OnSide, SourceFunction}
 use Rattle.wit_syntax.specs.Bodies.{IsBrokenForm, IsBrokenType, Itself, Inside}
-use Rattle.wit_syntax.specs.Broken.{Refused}
 use Rattle.wit_syntax.specs.Signature.{IsEntered}
 use Rattle.wit_syntax.specs.Shape.{shape_of, words}
 use Rattle.wit_arena.specs.Resolving.{Env, IsUnknown, IsWrongType}
-use Rattle.wit_rules.specs.Signatures.{IsFree, IsLostAt, IsWrongInSignature, LostName}
+use Rattle.wit_rules.specs.Signatures.{IsFree}
 
 -- none of the functions before a place is one by itself of this name
 pub record NoneFree (fns : List SourceFunction) (i : ℕ) (name : List ℕ) : Type 0 where
@@ -60,24 +56,8 @@ broken_type-rule : (t : Written) (f : Fault) → IsBrokenType t f → f.rule ≡
 broken_type-rule t f (Itself broken) is = broken_form-rule t f broken is
 broken_type-rule t f (Inside {t = part} among broken) is = broken_type-rule part f broken is
 
--- under the number of a missing type a refusal is one of a name
-unknown_in : (env : Env) (es : List TypeDef) (t : Written) (e : ParseError) → (fault_of e).rule ≡ 15 → Refused (IsWrongType env es t) e → IsUnknown env (words (shape_of t)) (fault_of e)
-unknown_in env es t e is (inl want) = absurd (let same : (fault_of e).rule ≡ e.rule = ap (λ (k : ParseErrorKind). (as_stated e.rule k).rule) want.kind in let it = want.rule in let f : ⊥ = omega arith in f)
-unknown_in env es t e is (inr (inl broken)) = absurd (broken_type-rule t (fault_of e) broken is)
-unknown_in env es t e is (inr (inr (inl unknown))) = unknown
-unknown_in env es t e is (inr (inr (inr handle))) = absurd (let it = ap (λ (x : Fault). x.rule) handle.is in let f : ⊥ = omega arith in f)
-
--- and that name is lost in the signature
-pub refused_lost : (env : Env) (es : List TypeDef) (fns : List SourceFunction) (k : ℕ) (t : Written) (e r : ParseError) (span : Span) (name : List ℕ) → (fault_of e).rule ≡ 15 → (fault_of e).span ≡ span → (fault_of e).name ≡ Some name → Refused (IsWrongType env es t) e → Refused (IsLostAt fns k span name) r → Refused (IsWrongInSignature env es fns k t) r
-refused_lost env es fns k t e r span name is there called wrong (inl want) = inl want
-refused_lost env es fns k t e r span name is there called wrong (inr lost) =
-    let u = unknown_in env es t e is wrong in
-    let place : span ≡ u.id.span = sym there ∙ ap (λ (x : Fault). x.span) u.is in
-    let both : Some name ≡ Some u.id.name.now = sym called ∙ ap (λ (x : Fault). x.name) u.is in
-    let word : name ≡ u.id.name.now = cc in
-    inr (LostName (record {
-      id = u.id;
-      among = u.among;
-      free = u.free;
-      lost = subst (λ (n : List ℕ). IsLostAt fns k u.id.span n (fault_of r)) word (subst (λ (x : Span). IsLostAt fns k x name (fault_of r)) place lost);
-    }))
+-- what is wrong with a type, where it has the number of a missing type, is a name
+pub unknown_in : (env : Env) (es : List TypeDef) (t : Written) (f : Fault) → f.rule ≡ 15 → IsWrongType env es t f → IsUnknown env (words (shape_of t)) f
+unknown_in env es t f is (inl broken) = absurd (broken_type-rule t f broken is)
+unknown_in env es t f is (inr (inl unknown)) = unknown
+unknown_in env es t f is (inr (inr handle)) = absurd (let it = ap (λ (x : Fault). x.rule) handle.is in let g : ⊥ = omega arith in g)

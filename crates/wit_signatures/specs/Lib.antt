@@ -1,2 +1,3 @@
 pub mod ForeignName
 pub mod Over
+pub mod Faults

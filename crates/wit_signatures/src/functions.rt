@@ -1,5 +1,5 @@
 //! Functions over their resolved types.
-ghost use Rattle.std.specs.Prelude.{◌≡◌, ◌<◌, ◌≤◌, ◌⊎◌, ◌++◌, ◌+◌, ℕ, List, [], ◌∷◌, IfOk, IfErr, IsTrue, OnOk, None, Some, length, map, slice_get};
+ghost use Rattle.std.specs.Prelude.{◌≡◌, ◌<◌, ◌≤◌, ◌++◌, List, [], ◌∷◌, IfOk, IfErr, IsTrue, OnOk, None, Some, length, map, slice_get};
 ghost use Rattle.std.specs.Option.{option_to_list};
 ghost use Rattle.wit_type_tree.specs.Refusal.{IsAllocationFailure};
 ghost use Rattle.wit_types.specs.declared.types.TypeDef.{TypeDef as Entry};
@@ -8,20 +8,19 @@ ghost use Rattle.wit_names.specs.Mangled.{is_mangled};
 ghost use Rattle.wit_syntax.specs.Address.{Address};
 ghost use Rattle.wit_syntax.specs.Shape.{all_handles};
 ghost use Rattle.wit_syntax.specs.Source.{ScopeName};
-ghost use Rattle.wit_syntax.specs.Fault.{Fault};
-ghost use Rattle.wit_syntax.specs.Bodies.{IsBrokenPart};
-ghost use Rattle.wit_syntax.specs.Broken.{Refused};
+ghost use Rattle.wit_syntax.specs.Bodies.{folded};
 ghost use Rattle.wit_syntax.specs.Function.{SourceParam, SourceFunction, all_params as the_params, self_param as the_self, written_param, written_types};
 ghost use Rattle.wit_arena.specs.Functions.{kinds_of};
-ghost use Rattle.wit_syntax.specs.Signature.{IsBrokenFunction, IsDuplicateParam, IsGetterWithoutResult};
+ghost use Rattle.wit_first.specs.First.{Finds, IsFirstRepeat};
+ghost use Rattle.wit_first.specs.Functions.{no_result_fault};
 ghost use Rattle.wit_arena.specs.Resolving.{env_of, AddsFunctions};
-ghost use Rattle.wit_arena.specs.Resolved.{IsNameless};
 ghost use Rattle.wit_arena.specs.Adding.{IsKindIn, SaysParam};
-ghost use Rattle.wit_signatures.specs.Over.{IsSignatureOver, IsLegalSignature};
+ghost use Rattle.wit_signatures.specs.Over.{IsSignatureOver};
 ghost use Rattle.wit_entries.specs.Reading.{IsResolved};
 ghost use Rattle.wit_entries.specs.Requiring.{IsExtended, Requires};
 ghost use Rattle.wit_rules.specs.Borrowed.{function_view, owner_of};
-ghost use Rattle.wit_rules.specs.Signatures.{functions_view, HasOwner, HaveOwners, IsScopeOf, IsRefusedParam, AreParamsOver, IsResultOver, IsBrokenReturn, IsWrongInSignatures, IsWrongFunction};
+ghost use Rattle.wit_rules.specs.Signatures.{functions_view, HasOwner, HaveOwners, IsScopeOf, AreParamsOver, IsResultOver};
+ghost use Rattle.wit_signatures.specs.Faults.{function_fault, params_fault, return_fault, signature_fault, signed_fault};
 
 use crate::signatures::resolve_in_signature;
 use std::alloc::{AllocError, Global};
@@ -176,11 +175,9 @@ fn resolve_params(
 ) -> ParseResult<()>
     requires place { place < length scope.functions.now }
     ensures params { OnOk result ((ws : List SourceParam) (first : List Entry) → AreParamsOver first types.old (env_of scope.entry.names.now) ws params.old.items → AreParamsOver first types.new (env_of scope.entry.names.now) (ws ++ map written_param written.now) params.new.items) }
-    ensures distinct { OnOk result ((k : ℕ) → repeated ≡ Some k → length params.old.items ≤ k → length params.old.items + length written.now ≤ k) }
-    ensures legal { OnOk result ((f : Fault) → IsBrokenPart (map (λ p. p.ty) written.now) f → ⊥) }
     ensures handled { OnOk result (Requires (env_of scope.entry.names.now) types.new (all_handles (map (λ p. p.ty) written.now)) required.old.items required.new.items) }
     ensures extended { IsExtended types.old types.new }
-    ensures refused { IfErr result (Refused (λ f. IsRefusedParam repeated (length params.old.items) (map written_param written.now) f ⊎ IsWrongInSignatures (env_of scope.entry.names.now) types.new (functions_view scope.entry) place (map (λ p. p.ty) written.now) f)) }
+    ensures first { (given : List SourceParam) → length given ≡ length params.old.items → length given ≤ 1 → IsFirstRepeat (λ p. folded p.name) (given ++ map written_param written.now) repeated → Finds (params_fault (signed_fault (env_of scope.entry.names.now) types.new (functions_view scope.entry) place) given written.now) result }
 {
     for written in written {
         if repeated == Some(params.len()) {
@@ -205,11 +202,9 @@ fn all_params<'t, 'a>(
     requires place { place < length scope.functions.now }
     requires owner { HasOwner (env_of scope.names.now) (owner_of (function_view function).role) }
     ensures params { IfOk result (λ ps. AreParamsOver types.old types.new (env_of scope.entry.names.now) (the_params (function_view function.entry)) ps.items) }
-    ensures distinct { OnOk result ((f : Fault) → IsDuplicateParam (function_view function.entry) f → ⊥) }
-    ensures legal { OnOk result ((f : Fault) → IsBrokenPart (map (λ p. p.ty) (function_view function.entry).func.params.items) f → ⊥) }
     ensures handled { OnOk result (Requires (env_of scope.entry.names.now) types.new (all_handles (map (λ p. p.ty) (function_view function.entry).func.params.items)) required.old.items required.new.items) }
     ensures extended { IsExtended types.old types.new }
-    ensures refused { IfErr result (Refused (λ f. IsDuplicateParam (function_view function.entry) f ⊎ IsWrongInSignatures (env_of scope.entry.names.now) types.new (functions_view scope.entry) place (map (λ p. p.ty) (function_view function.entry).func.params.items) f)) }
+    ensures first { Finds (params_fault (signed_fault (env_of scope.entry.names.now) types.new (functions_view scope.entry) place) (function_view function.entry).given (function_view function.entry).func.params.items) result }
 {
     let repeated = repeated_param(alloc, function)?;
     let mut params = given_params(alloc, scope.names, function, types)?;
@@ -237,8 +232,7 @@ fn made_result(
     requires owner { HasOwner (env_of names.now) (owner_of (function_view function).role) }
     requires none { (function_view function).func.result ≡ None }
     ensures result { IfOk result (λ r. (es : List Entry) → IsResultOver es es (env_of names.now) (function_view function.entry).result r) }
-    ensures legal { OnOk result ((f : Fault) → IsGetterWithoutResult (function_view function.entry) f → ⊥) }
-    ensures refused { IfErr result (Refused (IsGetterWithoutResult (function_view function.entry))) }
+    ensures first { Finds (no_result_fault (function_view function.entry)) result }
 {
     check_returns(alloc, function)?;
     match function.made() {
@@ -259,11 +253,9 @@ fn resolve_result<'t, 'a>(
     requires place { place < length scope.functions.now }
     requires owner { HasOwner (env_of scope.names.now) (owner_of (function_view function).role) }
     ensures result { IfOk result (IsResultOver types.old types.new (env_of scope.entry.names.now) (function_view function.entry).result) }
-    ensures returns { OnOk result ((xs : List ScopeName) → IsScopeOf scope.entry xs → (f : Fault) → IsBrokenReturn xs (function_view function.entry) f → ⊥) }
-    ensures legal { OnOk result ((f : Fault) → IsBrokenPart (option_to_list (function_view function.entry).func.result) f → ⊥) }
     ensures handled { OnOk result (Requires (env_of scope.entry.names.now) types.new (all_handles (option_to_list (function_view function.entry).func.result)) required.old.items required.new.items) }
     ensures extended { IsExtended types.old types.new }
-    ensures refused { IfErr result (λ e. (xs : List ScopeName) → IsScopeOf scope.entry xs → Refused (λ f. IsBrokenReturn xs (function_view function.entry) f ⊎ IsWrongInSignatures (env_of scope.entry.names.now) types.new (functions_view scope.entry) place (option_to_list (function_view function.entry).func.result) f) e) }
+    ensures first { (xs : List ScopeName) → IsScopeOf scope.entry xs → Finds (return_fault (signed_fault (env_of scope.entry.names.now) types.new (functions_view scope.entry) place) xs (function_view function.entry) (function_view function.entry).func.result) result }
 {
     match function.result() {
         Some(written) => {
@@ -295,10 +287,9 @@ fn resolve_signature<'t, 'a>(
     requires place { place < length scope.functions.now }
     requires owner { HasOwner (env_of scope.names.now) (owner_of (function_view function).role) }
     ensures over { IfOk result (λ s. IsSignatureOver types.old types.new (env_of scope.entry.names.now) (function_view function.entry) s.params s.result) }
-    ensures legal { OnOk result ((xs : List ScopeName) → IsScopeOf scope.entry xs → IsLegalSignature xs (function_view function.entry)) }
     ensures handled { OnOk result (Requires (env_of scope.entry.names.now) types.new (all_handles (written_types (function_view function.entry))) required.old.items required.new.items) }
     ensures extended { IsExtended types.old types.new }
-    ensures refused { IfErr result (λ e. (xs : List ScopeName) → IsScopeOf scope.entry xs → Refused (IsWrongFunction (env_of scope.entry.names.now) types.new xs (functions_view scope.entry) place (function_view function.entry)) e) }
+    ensures first { (xs : List ScopeName) → IsScopeOf scope.entry xs → Finds (signature_fault (signed_fault (env_of scope.entry.names.now) types.new (functions_view scope.entry) place) xs (function_view function.entry)) result }
 {
     check_given(alloc, function)?;
     let params = all_params(alloc, scope, types, required, place, function)?;
@@ -327,10 +318,9 @@ pub fn resolve_function(
     ensures adds { IfOk result (λ f. (fn : SourceFunction) → slice_get (functions_view scope.entry) place ≡ Some fn → (s : Address) → AddsFunctions types.old types.new s scope.entry.names.now (fn ∷ []) (f ∷ [])) }
     ensures named { IfOk result (λ f. (fn : SourceFunction) → slice_get (functions_view scope.entry) place ≡ Some fn → (f.name ≡ fn.name) × (f.span ≡ fn.span)) }
     ensures mangled { IfOk result (λ f. IsTrue (is_mangled f.name)) }
-    ensures legal { OnOk result ((xs : List ScopeName) → IsScopeOf scope.entry xs → (fn : SourceFunction) → slice_get (functions_view scope.entry) place ≡ Some fn → (f : Fault) → IsBrokenFunction xs (functions_view scope.entry) place fn f → IsNameless xs (functions_view scope.entry)) }
     ensures handled { OnOk result ((fn : SourceFunction) → slice_get (functions_view scope.entry) place ≡ Some fn → Requires (env_of scope.entry.names.now) types.new (all_handles (written_types fn)) required.old.items required.new.items) }
     ensures extended { IsExtended types.old types.new }
-    ensures refused { IfErr result (λ e. (xs : List ScopeName) → IsScopeOf scope.entry xs → (fn : SourceFunction) → slice_get (functions_view scope.entry) place ≡ Some fn → Refused (IsWrongFunction (env_of scope.entry.names.now) types.new xs (functions_view scope.entry) place fn) e) }
+    ensures first { (xs : List ScopeName) → IsScopeOf scope.entry xs → (fn : SourceFunction) → slice_get (functions_view scope.entry) place ≡ Some fn → Finds (function_fault (env_of scope.entry.names.now) types.new xs (functions_view scope.entry) place fn) result }
 {
     let function = scope.functions[place];
     let metadata = metadata_of(alloc, function.docs(), function.attributes())?;

@@ -1,20 +1,22 @@
 //! Types in signatures.
-ghost use Rattle.std.specs.Prelude.{◌≡◌, ◌<◌, ◌↔◌, ◌++◌, List, None, IfOk, IfErr, IsTrue, OnOk, length, map, codes, string_bytes};
+ghost use Rattle.std.specs.Prelude.{◌≡◌, ◌<◌, ◌↔◌, ◌++◌, List, None, IfOk, IsTrue, OnOk, length, map, codes, string_bytes};
 ghost use Rattle.wit_type_tree.specs.Refusal.{IsItemNotFound};
 ghost use Rattle.wit_type_tree.specs.declared.types.«Type».{«Type» as Written};
 ghost use Rattle.wit_types.specs.declared.types.TypeDef.{TypeDef};
 ghost use Rattle.wit_types.specs.declared.stability.Stability.TheVariants.{Unknown};
 ghost use Rattle.wit_syntax.specs.Shape.{shape_of, handles};
 ghost use Rattle.wit_syntax.specs.Hint.{hint_of};
-ghost use Rattle.wit_syntax.specs.Fault.{Fault, name_word};
-ghost use Rattle.wit_syntax.specs.Bodies.{IsBrokenType};
+ghost use Rattle.wit_syntax.specs.Fault.{name_word};
 ghost use Rattle.wit_syntax.specs.Broken.{Refused};
 ghost use Rattle.wit_syntax.specs.Signature.{IsEntered};
-ghost use Rattle.wit_arena.specs.Resolving.{Env, env_of, IsWrongType};
+ghost use Rattle.wit_first.specs.First.{Finds, Reports};
+ghost use Rattle.wit_arena.specs.Resolving.{Env, env_of};
+ghost use Rattle.wit_entries.specs.Faults.{written_fault};
 ghost use Rattle.wit_entries.specs.Reading.{IsResolved};
 ghost use Rattle.wit_entries.specs.Requiring.{IsExtended, Requires};
 ghost use Rattle.wit_rules.specs.Borrowed.{function_view};
-ghost use Rattle.wit_rules.specs.Signatures.{functions_view, IsFree, IsLostAt, IsWrongInSignature};
+ghost use Rattle.wit_rules.specs.Signatures.{functions_view, IsFree, IsLostAt};
+ghost use Rattle.wit_signatures.specs.Faults.{signed_fault};
 
 use std::alloc::{AllocError, Global};
 use wit_entries::entries::Entries;
@@ -106,7 +108,7 @@ fn in_signature(
     error: ParseError,
 ) -> ParseError
     requires { place < length functions.now }
-    ensures { (env : Env) (es : List TypeDef) (t : Written) → Refused (IsWrongType env es t) error → Refused (IsWrongInSignature env es (map function_view functions.now) place t) result }
+    ensures { (env : Env) (es : List TypeDef) (t : Written) → Reports (written_fault env es t) error → Reports (signed_fault env es (map function_view functions.now) place t) result }
 {
     if error.rule() != MISSING_TYPE {
         return error;
@@ -133,10 +135,9 @@ pub(crate) fn resolve_in_signature(
 ) -> ParseResult<Type>
     requires { place < length scope.functions.now }
     ensures resolved { IfOk result (IsResolved types.old types.new (env_of scope.entry.names.now) Unknown (shape_of ty.now)) }
-    ensures legal { OnOk result ((f : Fault) → IsBrokenType ty.now f → ⊥) }
     ensures handled { OnOk result (Requires (env_of scope.entry.names.now) types.new (handles ty.now) required.old.items required.new.items) }
     ensures extended { IsExtended types.old types.new }
-    ensures refused { IfErr result (Refused (IsWrongInSignature (env_of scope.entry.names.now) types.new (functions_view scope.entry) place ty.now)) }
+    ensures first { Finds (signed_fault (env_of scope.entry.names.now) types.new (functions_view scope.entry) place ty.now) result }
 {
     match resolve_type(alloc, types, scope.names, required, &Stability::Unknown, ty) {
         Ok(ty) => Ok(ty),

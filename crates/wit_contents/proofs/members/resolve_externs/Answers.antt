@@ -19,7 +19,9 @@ use Rattle.wit_syntax.proofs.Repeated.{differ_none}
 use Rattle.wit_sides.specs.Sides.{defined_on}
 use Rattle.wit_rules.specs.Borrowed.{function_view}
 use Rattle.wit_rules.specs.Signatures.{functions_view, IsScopeOf, IsWrongFunctionAmong}
+use Rattle.wit_first.proofs.First.{refused_as}
 use Rattle.wit_entries.proofs.Requiring.{extended_then}
+use Rattle.wit_signatures.proofs.FunctionFaults.{function_broken, function_legal}
 use Rattle.wit_externs.specs.declared.borrowed.BorrowedExtern.TheVariants as borrowed
 use Rattle.wit_externs.specs.SideMembers.{extern_view, link_view, externs_view}
 use Rattle.wit_externs.specs.Clash.{IsClash, names_of_items}
@@ -120,7 +122,7 @@ returns-in_err-function-in-Function-clause-refused c =
     let env = env_of c.args.scope.names.now in
     let new = c.resolve_function.new.types in
     let extended = extended_then c.args.types.now c.loop-place.types new c.loop-place.invariant.done.extended c.in_err-function-in-Function.ensures.extended in
-    rw (p.1, p.2) (λ s xs scope. refused_weaker (IsWrongFunctionAmong env new xs fns) (IsWrongExtern c.args.types.now (resolved_scopes_of c.args.interfaces.now) (length c.args.interfaces.now.arena) c.args.inside.now c.args.interfaces.now.by_name c.args.scope xs (λ t. defined_on t c.args.in_use.now) s hs (inline_items (item_view c.args.item.now))) _ (λ f wrong. WrongFunction new extended wrong) (refused_among env new xs fns c.len.result fn _ there (c.in_err-function-in-Function.ensures.refused xs scope fn there)))
+    rw (p.1, p.2) (λ s xs scope. refused_weaker (IsWrongFunctionAmong env new xs fns) (IsWrongExtern c.args.types.now (resolved_scopes_of c.args.interfaces.now) (length c.args.interfaces.now.arena) c.args.inside.now c.args.interfaces.now.by_name c.args.scope xs (λ t. defined_on t c.args.in_use.now) s hs (inline_items (item_view c.args.item.now))) _ (λ f wrong. WrongFunction new extended wrong) (refused_among env new xs fns c.len.result fn _ there (refused_as (function_broken c.args.scope new xs scope c.len.result fn there) (c.in_err-function-in-Function.ensures.first xs scope fn there))))
 
 pub define_function-requires-clause-borrowed : goal.define_function-requires-clause-borrowed
 define_function-requires-clause-borrowed c =
@@ -230,7 +232,7 @@ loop-place-preserved c =
           let there = function_at hs i w.in-Function.borrowed fns fs w.len.result at c.requires.functions was.done.named long in
           let says = w.in_ok-function-in-Function.ensures in
           let made = w.in_ok-function-in-Function.function in
-          let legal = λ (zs : List ScopeName) (is : IsScopeOf c.args.scope zs). subst (λ (n : ℕ). (e : Fault) → IsBrokenFunction zs fns n fn e → IsNameless zs fns) long (says.legal zs is fn there) in
+          let legal = λ (zs : List ScopeName) (is : IsScopeOf c.args.scope zs). subst (λ (n : ℕ). (e : Fault) → IsBrokenFunction zs fns n fn e → IsNameless zs fns) long (function_legal c.args.scope w.resolve_function.new.types zs w.len.result fn there (says.first zs is fn there)) in
           rw (w.types-is, w.required-is, w.in_use-is, w.functions-is, w.links-is, w.ids-is, w.inside-is) (record {
             seen = seen;
             done = done_function cs count c.args.scope old now w.resolve_function.new.types inside after before required w.resolve_function.new.required.items fs ids xs us i was.done fn made w.push.new.self.items item w.in_ok-push-in-Function.ensures.items (says.adds fn there) (says.named fn there) legal (says.handled fn there) says.extended;

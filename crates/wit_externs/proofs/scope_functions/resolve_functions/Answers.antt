@@ -14,7 +14,9 @@ use Rattle.wit_syntax.proofs.Refusing.{refused_weaker}
 use Rattle.wit_sides.specs.Sides.{defined_on}
 use Rattle.wit_rules.specs.Borrowed.{function_view}
 use Rattle.wit_rules.specs.Signatures.{functions_view, IsWrongFunctionAmong}
+use Rattle.wit_first.proofs.First.{refused_as}
 use Rattle.wit_entries.proofs.Requiring.{extended_then}
+use Rattle.wit_signatures.proofs.FunctionFaults.{function_broken, function_legal}
 use Rattle.wit_externs.specs.Clash.{IsClash, names_of_items}
 use Rattle.wit_externs.proofs.Clashing.{clash_whole, sides_more}
 use Rattle.wit_externs.proofs.DoneFunctions.{scope_next, item_next, made_to, place_within, done_more, done_all, refused_among, same_name}
@@ -52,7 +54,7 @@ returns-in_err-function-clause-refused c =
     let env = env_of c.args.scope.names.now in
     let new = c.resolve_function.new.types in
     let old : WorldSide → List Name = λ s. defined_on s c.args.in_use.now in
-    rw (p.1, p.2) (λ xs scope. refused_weaker (IsWrongFunctionAmong env new xs fns) (λ (f : Fault). IsWrongFunctionAmong env new xs fns f ⊎ IsClash old (map SideFunction fns) f) _ (λ f wrong. inl wrong) (refused_among env new xs fns c.len.result fn _ there (c.in_err-function.ensures.refused xs scope fn there)))
+    rw (p.1, p.2) (λ xs scope. refused_weaker (IsWrongFunctionAmong env new xs fns) (λ (f : Fault). IsWrongFunctionAmong env new xs fns f ⊎ IsClash old (map SideFunction fns) f) _ (λ f wrong. inl wrong) (refused_among env new xs fns c.len.result fn _ there (refused_as (function_broken c.args.scope new xs scope c.len.result fn there) (c.in_err-function.ensures.first xs scope fn there))))
 
 pub define_alone-requires-clause-borrowed : goal.define_alone-requires-clause-borrowed
 define_alone-requires-clause-borrowed c =
@@ -110,7 +112,7 @@ loop-borrowed-preserved c =
     let says = c.in_ok-function.ensures in
     let made_one = c.in_ok-function.function in
     record {
-      done = done_more c.args.types.now c.loop-borrowed.types c.resolve_function.new.types c.args.scope (take i fns) (take (i + 1) fns) fn c.loop-borrowed.functions.items c.push_reserved.new.self.items made_one c.args.required.now.items c.loop-borrowed.required.items c.resolve_function.new.required.items (used_next fns i fn here) (rw c.reserve.ensures.items at c.push_reserved.ensures.items) (says.adds fn there) (says.named fn there) says.mangled (λ zs scope. subst (λ (n : ℕ). (e : Fault) → IsBrokenFunction zs fns n fn e → IsNameless zs fns) (count ∙ sym made) (says.legal zs scope fn there)) (says.handled fn there) says.extended was.done;
+      done = done_more c.args.types.now c.loop-borrowed.types c.resolve_function.new.types c.args.scope (take i fns) (take (i + 1) fns) fn c.loop-borrowed.functions.items c.push_reserved.new.self.items made_one c.args.required.now.items c.loop-borrowed.required.items c.resolve_function.new.required.items (used_next fns i fn here) (rw c.reserve.ensures.items at c.push_reserved.ensures.items) (says.adds fn there) (says.named fn there) says.mangled (λ zs scope. subst (λ (n : ℕ). (e : Fault) → IsBrokenFunction zs fns n fn e → IsNameless zs fns) (count ∙ sym made) (function_legal c.args.scope c.resolve_function.new.types zs c.len.result fn there (says.first zs scope fn there))) (says.handled fn there) says.extended was.done;
       defined = λ s. sides_more s (defined_on s c.args.in_use.now) (defined_on s c.loop-borrowed.in_use) (defined_on s c.define_alone.new.in_use) xs i (SideFunction fn) item (was.defined s) (c.in_ok-define_alone.ensures.defined s);
       differ = λ s before. c.in_ok-define_alone.ensures.differ s (was.differ s before);
     }

@@ -1,23 +1,28 @@
-use Rattle.std.proofs.Common.{refl, sym, ap, ◌∙◌, subst, IsTrue, get_or}
+use Rattle.std.proofs.Common.{sym, ap, ◌∙◌, subst, IsTrue, get_or}
 use Rattle.std.proofs.lemmas.Result.{err_from_is_err_and}
 use Rattle.wit_names.specs.Mangled.{is_mangled}
 use Rattle.wit_syntax.specs.Function.{SourceFunction, written_types}
 use Rattle.wit_syntax.specs.Shape.{all_handles}
+use Rattle.wit_first.specs.Attributes.{metadata_fault}
+use Rattle.wit_first.proofs.First.{none_both, reports_back, reports_prefix, reports_same}
 use Rattle.wit_arena.specs.Resolving.{env_of}
-use Rattle.wit_first.proofs.Bridge.{metadata_agree, refused_by}
 use Rattle.wit_rules.specs.Borrowed.{function_view}
 use Rattle.wit_rules.specs.Signatures.{functions_view}
 use Rattle.wit_entries.specs.Requiring.{Requires}
 use Rattle.wit_entries.proofs.Noted.{noted_as}
-use Rattle.wit_signatures.proofs.FunctionFaults.{refused_metadata, refused_there, borrowed_legal}
+use Rattle.wit_signatures.specs.Faults.{signature_fault, signed_fault}
 use Rattle.wit_signatures.proofs.Mangling.{mangled_view}
 use Rattle.wit_signatures.proofs.WholeFunctions.{borrowed_here, borrowed_at, borrowed_adds}
 use Rattle.wit_signatures.proofs.functions.resolve_function.Goals as goal
 
-pub returns-in_err-metadata-clause-refused : goal.returns-in_err-metadata-clause-refused
-returns-in_err-metadata-clause-refused c =
+pub returns-in_err-metadata-clause-first : goal.returns-in_err-metadata-clause-first
+returns-in_err-metadata-clause-first c =
     let p = err_from_is_err_and c.from_residual.result c.from_residual.ensures.1 in
-    rw (p.1, p.2) (λ xs scope fn at. refused_metadata (env_of c.args.scope.names.now) c.args.types.now xs (functions_view c.args.scope) c.args.place fn c.attributes.result.now _ (c.attributes.ensures ∙ ap (λ (g : SourceFunction). g.attributes) (borrowed_at c.args.scope.functions.now c.args.place c.index-scope-place.result fn c.requires.place at)) (refused_by (metadata_agree c.attributes.result.now) c.in_err-metadata.ensures.first))
+    let fns = functions_view c.args.scope in
+    rw (p.1, p.2) (λ xs scope fn at. (
+    let same = borrowed_at c.args.scope.functions.now c.args.place c.index-scope-place.result fn c.requires.place at in
+    let written = c.attributes.ensures ∙ ap (λ (g : SourceFunction). g.attributes) same in
+    reports_prefix (signature_fault (signed_fault (env_of c.args.scope.names.now) c.args.types.now fns c.args.place) xs fn) (reports_same (ap metadata_fault written) c.in_err-metadata.ensures.first)))
 
 pub resolve_signature-requires-clause-owner : goal.resolve_signature-requires-clause-owner
 resolve_signature-requires-clause-owner c = c.requires.owners.each c.args.place _ (borrowed_here c.args.scope.functions.now c.args.place c.index-scope-place.result c.requires.place)
@@ -25,10 +30,14 @@ resolve_signature-requires-clause-owner c = c.requires.owners.each c.args.place 
 pub kind_of-requires : goal.kind_of-requires
 kind_of-requires c = c.requires.owners.each c.args.place _ (borrowed_here c.args.scope.functions.now c.args.place c.index-scope-place.result c.requires.place)
 
-pub returns-in_err-signature-clause-refused : goal.returns-in_err-signature-clause-refused
-returns-in_err-signature-clause-refused c =
+pub returns-in_err-signature-clause-first : goal.returns-in_err-signature-clause-first
+returns-in_err-signature-clause-first c =
     let p = err_from_is_err_and c.from_residual-in_err-signature.result c.from_residual-in_err-signature.ensures.1 in
-    rw (p.1, p.2) (λ xs scope fn at. refused_there (env_of c.args.scope.names.now) c.resolve_signature.new.types xs (functions_view c.args.scope) c.args.place _ fn _ (borrowed_at c.args.scope.functions.now c.args.place c.index-scope-place.result fn c.requires.place at) (c.in_err-signature.ensures.refused xs scope))
+    let wrong = signed_fault (env_of c.args.scope.names.now) c.resolve_signature.new.types (functions_view c.args.scope) c.args.place in
+    rw (p.1, p.2) (λ xs scope fn at. (
+    let same = borrowed_at c.args.scope.functions.now c.args.place c.index-scope-place.result fn c.requires.place at in
+    let written = c.attributes.ensures ∙ ap (λ (g : SourceFunction). g.attributes) same in
+    reports_back (ap metadata_fault (sym written) ∙ c.in_ok-metadata.ensures.first) (reports_same (ap (signature_fault wrong xs) same) (c.in_err-signature.ensures.first xs scope))))
 
 pub returns-clause-adds : goal.returns-clause-adds
 returns-clause-adds c = λ fn at s. (
@@ -46,11 +55,12 @@ returns-clause-named c = λ fn at. (
 pub returns-clause-mangled : goal.returns-clause-mangled
 returns-clause-mangled c = subst (λ n. IsTrue (is_mangled n)) (sym c.in_ok-name.ensures) (mangled_view (get_or c.args.scope.functions.now c.args.place c.index-scope-place.result))
 
-pub returns-clause-legal : goal.returns-clause-legal
-returns-clause-legal c = λ xs scope fn at. (
-    let hs = c.args.scope.functions.now in
-    let d = c.index-scope-place.result in
-    borrowed_legal xs (functions_view c.args.scope) c.args.place fn (function_view (get_or hs c.args.place d)) c.attributes.result.now (borrowed_at hs c.args.place d fn c.requires.place at) at c.attributes.ensures ((metadata_agree c.attributes.result.now).unbroken c.in_ok-metadata.ensures.first) (c.in_ok-signature.ensures.legal xs scope))
+pub returns-clause-first : goal.returns-clause-first
+returns-clause-first c = λ xs scope fn at. (
+    let wrong = signed_fault (env_of c.args.scope.names.now) c.resolve_signature.new.types (functions_view c.args.scope) c.args.place in
+    let same = borrowed_at c.args.scope.functions.now c.args.place c.index-scope-place.result fn c.requires.place at in
+    let written = c.attributes.ensures ∙ ap (λ (g : SourceFunction). g.attributes) same in
+    none_both (ap metadata_fault (sym written) ∙ c.in_ok-metadata.ensures.first) (ap (signature_fault wrong xs) (sym same) ∙ c.in_ok-signature.ensures.first xs scope))
 
 pub returns-clause-handled : goal.returns-clause-handled
 returns-clause-handled c = λ fn at. subst (λ (g : SourceFunction). Requires (env_of c.args.scope.names.now) c.resolve_signature.new.types (all_handles (written_types g)) c.args.required.now.items c.resolve_signature.new.required.items) (borrowed_at c.args.scope.functions.now c.args.place c.index-scope-place.result fn c.requires.place at) c.in_ok-signature.ensures.handled

@@ -1,6 +1,9 @@
-use Rattle.std.proofs.Common.{◌≡◌, ◌⊎◌, ◌+◌, ℕ, List, [], ◌∷◌, ◌++◌, Some, length, map, take, inl, inr, sym, ap, ◌∙◌, subst, Contains, arith, rules, length-append}
+use Rattle.std.proofs.Common.{◌≡◌, ◌+◌, ◌≤◌, ℕ, List, [], ◌∷◌, ◌++◌, Option, Some, None, length, map, take, inl, inr, sym, ap, ◌∙◌, subst, arith, rules, length-append}
+use Rattle.std.specs.Prelude.{slice_get}
+use Rattle.std.specs.Option.{option_or}
 use Rattle.std.proofs.lemmas.Bool.{cases_lt}
 use Rattle.std.proofs.lemmas.List.{map-append, take_more, take_all}
+use Rattle.std.proofs.lemmas.Option.{slice_get-get_or}
 use Rattle.std.proofs.lemmas.Result.{err_from_is_err_and}
 use Rattle.wit_type_tree.specs.declared.types.Param.{Param as WrittenParam}
 use Rattle.wit_type_tree.specs.declared.types.«Type».{«Type» as Written}
@@ -8,47 +11,48 @@ use Rattle.wit_functions.specs.declared.function.Param.{Param}
 use Rattle.wit_syntax.specs.Fault.{Fault}
 use Rattle.wit_syntax.specs.Shape.{all_handles}
 use Rattle.wit_syntax.specs.Function.{written_param}
+use Rattle.wit_first.proofs.First.{after-at, after-next, none_both, reports-after, reports_back}
 use Rattle.wit_arena.specs.Resolving.{env_of}
-use Rattle.wit_syntax.proofs.Lists.{read_map}
-use Rattle.wit_syntax.proofs.Refusing.{refused_weaker}
-use Rattle.wit_syntax.proofs.Found.{contains_at}
-use Rattle.wit_arena.proofs.Written.{AreLegal, legal_one, legal_more}
 use Rattle.wit_entries.specs.Requiring.{Requires}
-use Rattle.wit_rules.specs.Signatures.{functions_view, IsRefusedParam, IsWrongInSignature, IsWrongInSignatures, AreParamsOver}
 use Rattle.wit_entries.proofs.Requiring.{extended_then, requires_types, requires_one}
+use Rattle.wit_rules.specs.Signatures.{functions_view, AreParamsOver}
+use Rattle.wit_signatures.specs.Faults.{param_fault, params_fault, signed_fault}
+use Rattle.wit_signatures.proofs.FunctionFaults.{param_repeated, param_unrepeated, params_extended}
 use Rattle.wit_signatures.proofs.FunctionParts.{params_more}
 use Rattle.wit_signatures.proofs.functions.resolve_params.Goals as goal
 
-pub returns-then-eq-clause-refused : goal.returns-then-eq-clause-refused
-returns-then-eq-clause-refused c =
+pub returns-then-eq-clause-first : goal.returns-then-eq-clause-first
+returns-then-eq-clause-first c = λ given count few first.
     let ws = c.args.written.now in
     let i = c.loop-written.written-index in
     let item = c.written-item.result in
     let same : c.args.repeated ≡ Some c.len.result = search rules in
-    let long : c.len.result ≡ length c.args.params.now.items + i = omega (arith, c.len.ensures, c.loop-written.params.ok.0, c.loop-written.invariant.count) in
+    let long : c.len.result ≡ length given + i = omega (arith, c.len.ensures, c.loop-written.params.ok.0, c.loop-written.invariant.count, count) in
+    let at : slice_get ws i ≡ Some item = slice_get-get_or ws i item c.loop-written-test.true ∙ ap Some (sym c.written-item.is) in
+    let repeat = param_repeated given ws c.args.repeated i item first (same ∙ ap (λ (n : ℕ). Some n) long) at in
+    let wrong = signed_fault (env_of c.args.scope.names.now) c.loop-written.types (functions_view c.args.scope) c.args.place in
     elim c.refuse_param.ensures [
       | inl want ↦ inl want
-      | inr fault ↦ inr (inl (record {
-        place = i;
-        later = written_param item;
-        at = read_map written_param ws i item c.loop-written-test.true c.written-item.is;
-        same = same ∙ ap (λ (n : ℕ). Some n) long;
-        is = fault;
-      }))
+      | inr is ↦ inr (after-at (param_fault wrong given) ws i item _ at (c.loop-written.invariant.none given count few first) (ap (λ (o : Option Fault). option_or o (wrong item.ty)) repeat ∙ ap Some (sym is)))
     ]
 
-pub returns-in_err-ty-clause-refused : goal.returns-in_err-ty-clause-refused
-returns-in_err-ty-clause-refused c =
+pub returns-in_err-ty-clause-first : goal.returns-in_err-ty-clause-first
+returns-in_err-ty-clause-first c =
     let p = err_from_is_err_and c.from_residual.result c.from_residual.ensures.1 in
     let ws = c.args.written.now in
     let i = c.loop-written.written-index in
     let item = c.written-item.result in
-    let types = map (λ (w : WrittenParam). w.ty) ws in
-    let among : Contains types item.ty = contains_at types i item.ty (read_map (λ (w : WrittenParam). w.ty) ws i item c.loop-written-test.true c.written-item.is) in
     let env = env_of c.args.scope.names.now in
     let fns = functions_view c.args.scope in
     let new = c.resolve_in_signature.new.types in
-    rw (p.1, p.2) (refused_weaker (IsWrongInSignature env new fns c.args.place item.ty) (λ (f : Fault). IsRefusedParam c.args.repeated (length c.args.params.now.items) (map written_param ws) f ⊎ IsWrongInSignatures env new fns c.args.place types f) _ (λ f wrong. inr (item.ty, among, wrong)) c.in_err-ty.ensures.refused)
+    let at : slice_get ws i ≡ Some item = slice_get-get_or ws i item c.loop-written-test.true ∙ ap Some (sym c.written-item.is) in
+    let differ : (c.args.repeated ≡ Some c.len.result → ⊥) = search rules in
+    let long : c.len.result ≡ length c.args.params.now.items + i = omega (arith, c.len.ensures, c.loop-written.params.ok.0, c.loop-written.invariant.count) in
+    rw (p.1, p.2) (λ given count few first. (
+    let past = λ (k : ℕ) (is : c.args.repeated ≡ Some k) (le : length given ≤ k). (let it = c.loop-written.invariant.distinct k is (omega arith) in let le : length given + i ≤ k = omega arith in le) in
+    let other = λ (is : c.args.repeated ≡ Some (length given + i)). differ (is ∙ ap (λ (n : ℕ). Some n) (let same : length given + i ≡ c.len.result = omega arith in same)) in
+    let repeat = param_unrepeated given ws c.args.repeated i item few first past other at in
+    reports-after (param_fault (signed_fault env new fns c.args.place) given) ws i item _ at (params_extended env c.loop-written.types new fns c.args.place given (take i ws) c.in_err-ty.ensures.extended (c.loop-written.invariant.none given count few first)) (reports_back repeat c.in_err-ty.ensures.first)))
 
 pub loop-written-preserved : goal.loop-written-preserved
 loop-written-preserved c =
@@ -61,6 +65,8 @@ loop-written-preserved c =
     let mid = c.loop-written.types in
     let new = c.resolve_in_signature.new.types in
     let type_of = λ (w : WrittenParam). w.ty in
+    let fns = functions_view c.args.scope in
+    let at : slice_get ws i ≡ Some item = slice_get-get_or ws i item c.loop-written-test.true ∙ ap Some (sym c.written-item.is) in
     let in_use : take (i + 1) ws ≡ take i ws ++ item ∷ [] = take_more ws i item c.loop-written-test.true ∙ ap (λ (x : WrittenParam). take i ws ++ x ∷ []) (sym c.written-item.is) in
     let types : map type_of (take (i + 1) ws) ≡ map type_of (take i ws) ++ item.ty ∷ [] = ap (map type_of) in_use ∙ map-append type_of (take i ws) (item ∷ []) in
     let differ : (c.args.repeated ≡ Some c.len.result → ⊥) = search rules in
@@ -72,7 +78,11 @@ loop-written-preserved c =
         | inl lt ↦ omega arith
         | inr here ↦ (let at = c.loop-written.invariant.distinct k is le in let same : k ≡ c.len.result = omega arith in absurd (differ (is ∙ ap (λ (n : ℕ). Some n) same)))
       ];
-      legal = subst AreLegal (sym types) (legal_more (map type_of (take i ws)) (item.ty ∷ []) c.loop-written.invariant.legal (legal_one item.ty c.in_ok-ty.ensures.legal));
+      none = λ given count few first. (
+          let past = λ (k : ℕ) (is : c.args.repeated ≡ Some k) (le : length given ≤ k). (let it = c.loop-written.invariant.distinct k is (omega arith) in let le : length given + i ≤ k = omega arith in le) in
+          let other = λ (is : c.args.repeated ≡ Some (length given + i)). differ (is ∙ ap (λ (n : ℕ). Some n) (let same : length given + i ≡ c.len.result = omega arith in same)) in
+          let repeat = param_unrepeated given ws c.args.repeated i item few first past other at in
+          after-next (param_fault (signed_fault env new fns c.args.place) given) ws i item c.loop-written-test.true c.written-item.is (params_extended env mid new fns c.args.place given (take i ws) c.in_ok-ty.ensures.extended (c.loop-written.invariant.none given count few first)) (none_both repeat c.in_ok-ty.ensures.first));
       handled = subst (λ (ts : List Written). Requires env new (all_handles ts) c.args.required.now.items c.resolve_in_signature.new.required.items) (sym types) (requires_types env mid new (map type_of (take i ws)) (item.ty ∷ []) _ _ _ c.in_ok-ty.ensures.extended c.loop-written.invariant.handled (requires_one env new item.ty _ _ c.in_ok-ty.ensures.handled));
       extended = extended_then _ _ _ c.loop-written.invariant.extended c.in_ok-ty.ensures.extended;
     }
@@ -82,7 +92,7 @@ returns-clause-params c = λ vs first given. (
     let all = take_all c.loop-written.written-index c.args.written.now c.loop-written-test.false in
     subst (λ (l : List WrittenParam). AreParamsOver first c.loop-written.types (env_of c.args.scope.names.now) (vs ++ map written_param l) c.loop-written.params.items) all (c.loop-written.invariant.params vs first given))
 
-pub returns-clause-legal : goal.returns-clause-legal
-returns-clause-legal c =
+pub returns-clause-first : goal.returns-clause-first
+returns-clause-first c = λ given count few first.
     let all = take_all c.loop-written.written-index c.args.written.now c.loop-written-test.false in
-    subst (λ (l : List WrittenParam). AreLegal (map (λ (w : WrittenParam). w.ty) l)) all c.loop-written.invariant.legal
+    subst (λ (l : List WrittenParam). params_fault (signed_fault (env_of c.args.scope.names.now) c.loop-written.types (functions_view c.args.scope) c.args.place) given l ≡ None) all (c.loop-written.invariant.none given count few first)

@@ -1,12 +1,14 @@
-use Rattle.std.proofs.Common.{◌≡◌, ◌≤◌, ◌+◌, ℕ, List, ◌++◌, Some, length, map, take}
+use Rattle.std.proofs.Common.{◌≡◌, ◌≤◌, ◌+◌, ℕ, List, ◌++◌, Some, None, length, map, take}
 use Rattle.wit_type_tree.specs.declared.types.Param.{Param as Written}
 use Rattle.wit_types.specs.declared.types.TypeDef.{TypeDef}
+use Rattle.wit_syntax.specs.Bodies.{folded}
 use Rattle.wit_syntax.specs.Shape.{all_handles}
 use Rattle.wit_syntax.specs.Function.{SourceParam, written_param}
+use Rattle.wit_first.specs.First.{IsFirstRepeat}
 use Rattle.wit_arena.specs.Resolving.{env_of}
-use Rattle.wit_arena.proofs.Written.{AreLegal}
 use Rattle.wit_entries.specs.Requiring.{IsExtended, Requires}
-use Rattle.wit_rules.specs.Signatures.{AreParamsOver}
+use Rattle.wit_rules.specs.Signatures.{functions_view, AreParamsOver}
+use Rattle.wit_signatures.specs.Faults.{params_fault, signed_fault}
 use Rattle.wit_signatures.proofs.functions.resolve_params.Given as goal
 
 abbrev pub invariant-loop-written : goal.invariant-loop-written
@@ -14,7 +16,7 @@ invariant-loop-written l = record {
   params : (ws : List SourceParam) (first : List TypeDef) → AreParamsOver first l.fn.types (env_of l.scope.names.now) ws l.fn.params.items → AreParamsOver first l.types (env_of l.scope.names.now) (ws ++ map written_param (take l.written-index l.written)) l.params.items;
   count : length l.params.items ≡ length l.fn.params.items + l.written-index;
   distinct : (k : ℕ) → l.repeated ≡ Some k → length l.fn.params.items ≤ k → length l.fn.params.items + l.written-index ≤ k;
-  legal : AreLegal (map (λ (p : Written). p.ty) (take l.written-index l.written));
+  none : (given : List SourceParam) → length given ≡ length l.fn.params.items → length given ≤ 1 → IsFirstRepeat (λ (p : SourceParam). folded p.name) (given ++ map written_param l.written) l.repeated → params_fault (signed_fault (env_of l.scope.names.now) l.types (functions_view l.scope) l.place) given (take l.written-index l.written) ≡ None;
   handled : Requires (env_of l.scope.names.now) l.types (all_handles (map (λ (p : Written). p.ty) (take l.written-index l.written))) l.fn.required.items l.required.items;
   extended : IsExtended l.fn.types l.types;
 }

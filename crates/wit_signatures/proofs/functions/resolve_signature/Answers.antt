@@ -1,31 +1,36 @@
-use Rattle.std.proofs.Common.{map, inl, inr, sym, subst}
-use Rattle.std.specs.Option.{option_to_list}
+use Rattle.std.proofs.Common.{map, sym, subst}
+use Rattle.std.specs.Option.{option_or, option_to_list}
 use Rattle.std.proofs.lemmas.Result.{err_from_is_err_and}
 use Rattle.wit_syntax.specs.Function.{all_params}
-use Rattle.wit_first.proofs.Bridge.{refused_by}
-use Rattle.wit_first.proofs.Functions.{given_agrees}
+use Rattle.wit_first.proofs.First.{none_both, reports_back, reports_prefix}
 use Rattle.wit_arena.specs.Resolving.{env_of}
-use Rattle.wit_arena.proofs.Written.{legal_more}
 use Rattle.wit_rules.specs.Borrowed.{function_view}
 use Rattle.wit_rules.specs.Signatures.{functions_view, AreParamsOver}
 use Rattle.wit_entries.proofs.Requiring.{requires_types}
-use Rattle.wit_signatures.proofs.FunctionFaults.{refused_given, refused_params, refused_result}
+use Rattle.wit_signatures.specs.Faults.{params_fault, return_fault, signed_fault}
+use Rattle.wit_signatures.proofs.FunctionFaults.{params_extended}
 use Rattle.wit_signatures.proofs.functions.resolve_signature.Goals as goal
 
-pub returns-in_err-check_given-clause-refused : goal.returns-in_err-check_given-clause-refused
-returns-in_err-check_given-clause-refused c =
+pub returns-in_err-check_given-clause-first : goal.returns-in_err-check_given-clause-first
+returns-in_err-check_given-clause-first c =
     let p = err_from_is_err_and c.from_residual.result c.from_residual.ensures.1 in
-    rw (p.1, p.2) (λ xs scope. refused_given (env_of c.args.scope.names.now) c.args.types.now xs (functions_view c.args.scope) c.args.place (function_view c.args.function) _ (refused_by (given_agrees (function_view c.args.function)) c.in_err-check_given.ensures))
+    let fn = function_view c.args.function in
+    let wrong = signed_fault (env_of c.args.scope.names.now) c.args.types.now (functions_view c.args.scope) c.args.place in
+    rw (p.1, p.2) (λ xs scope. reports_prefix (option_or (params_fault wrong fn.given fn.func.params.items) (return_fault wrong xs fn fn.func.result)) c.in_err-check_given.ensures)
 
-pub returns-in_err-params-clause-refused : goal.returns-in_err-params-clause-refused
-returns-in_err-params-clause-refused c =
+pub returns-in_err-params-clause-first : goal.returns-in_err-params-clause-first
+returns-in_err-params-clause-first c =
     let p = err_from_is_err_and c.from_residual-in_err-params.result c.from_residual-in_err-params.ensures.1 in
-    rw (p.1, p.2) (λ xs scope. refused_params (env_of c.args.scope.names.now) c.all_params.new.types xs (functions_view c.args.scope) c.args.place c.args.function _ scope.names c.in_err-params.ensures.refused)
+    let fn = function_view c.args.function in
+    let wrong = signed_fault (env_of c.args.scope.names.now) c.all_params.new.types (functions_view c.args.scope) c.args.place in
+    rw (p.1, p.2) (λ xs scope. reports_back c.in_ok-check_given.ensures (reports_prefix (return_fault wrong xs fn fn.func.result) c.in_err-params.ensures.first))
 
-pub returns-in_err-result-clause-refused : goal.returns-in_err-result-clause-refused
-returns-in_err-result-clause-refused c =
+pub returns-in_err-result-clause-first : goal.returns-in_err-result-clause-first
+returns-in_err-result-clause-first c =
     let p = err_from_is_err_and c.from_residual-in_err-result.result c.from_residual-in_err-result.ensures.1 in
-    rw (p.1, p.2) (λ xs scope. refused_result (env_of c.args.scope.names.now) c.resolve_result.new.types xs (functions_view c.args.scope) c.args.place c.args.function _ scope.names (c.in_err-result.ensures.refused xs scope))
+    let fn = function_view c.args.function in
+    let params = params_extended (env_of c.args.scope.names.now) c.all_params.new.types c.resolve_result.new.types (functions_view c.args.scope) c.args.place fn.given fn.func.params.items c.in_err-result.ensures.extended c.in_ok-params.ensures.first in
+    rw (p.1, p.2) (λ xs scope. reports_back c.in_ok-check_given.ensures (reports_back params (c.in_err-result.ensures.first xs scope)))
 
 pub returns-clause-over : goal.returns-clause-over
 returns-clause-over c = record {
@@ -34,16 +39,11 @@ returns-clause-over c = record {
   result = c.in_ok-result.ensures.result;
 }
 
-pub returns-clause-legal : goal.returns-clause-legal
-returns-clause-legal c = λ xs scope.
+pub returns-clause-first : goal.returns-clause-first
+returns-clause-first c = λ xs scope.
     let fn = function_view c.args.function in
-    record {
-      getter = λ f broken. (given_agrees fn).unbroken c.in_ok-check_given.ensures f (inl broken);
-      setter = λ f broken. (given_agrees fn).unbroken c.in_ok-check_given.ensures f (inr broken);
-      distinct = c.in_ok-params.ensures.distinct;
-      types = legal_more (map (λ p. p.ty) fn.func.params.items) (option_to_list fn.func.result) c.in_ok-params.ensures.legal c.in_ok-result.ensures.legal;
-      returns = c.in_ok-result.ensures.returns xs scope;
-    }
+    let params = params_extended (env_of c.args.scope.names.now) c.all_params.new.types c.resolve_result.new.types (functions_view c.args.scope) c.args.place fn.given fn.func.params.items c.in_ok-result.ensures.extended c.in_ok-params.ensures.first in
+    none_both c.in_ok-check_given.ensures (none_both params (c.in_ok-result.ensures.first xs scope))
 
 pub returns-clause-handled : goal.returns-clause-handled
 returns-clause-handled c =
