@@ -1,0 +1,9 @@
+pub mod Orders
+pub mod Names
+pub mod Definitions
+pub mod Functions
+pub mod Paths
+pub mod Setters
+pub mod Members
+pub mod Walk
+pub mod Laws
