@@ -1,0 +1,145 @@
+-- What the first fault of the names of files breaks, and that of the uses of their items.
+use Rattle.std.proofs.Common.{◌≡◌, ℕ, zero, suc, Bool, true, false, List, [], ◌∷◌, ◌++◌, Option, Some, None, inl, inr, refl, sym, ap, ◌∙◌, Contains}
+use Rattle.std.specs.Prelude.{slice_get, map, if◌then◌else◌}
+use Rattle.std.specs.List.{flat_map}
+use Rattle.std.specs.Option.{option_map}
+use Rattle.std.specs.Str.{bytes_eq}
+use Rattle.std.proofs.lemmas.List.Elements.{Contains-append_cases}
+use Rattle.std.proofs.lemmas.Option.{none-some, slice_get-map}
+use Rattle.wit_type_tree.specs.declared.leaves.Id.{Id}
+use Rattle.wit_tree.specs.declared.tree.Extern.{Extern}
+use Rattle.wit_tree.specs.declared.tree.Use.{Use as WrittenUse}
+use Rattle.wit_tree.specs.declared.tree.UsePath.{UsePath}
+use Rattle.wit_tree.specs.declared.tree.PackageFile.{PackageFile}
+use Rattle.wit_tree.specs.declared.tree.WorldSide.{WorldSide}
+use Rattle.wit_tree.specs.declared.tree.WorldSide.TheVariants.{Imported, Exported}
+use Rattle.wit_graph.specs.Table.{place_of}
+use Rattle.wit_syntax.specs.Broken.{is_world_at, IsBrokenItems, DuplicateTopName, MissingItem, IsBrokenUse, MissingUse, WorldUsed, IsBroken, UseMetadata, Use}
+use Rattle.wit_syntax.specs.ExternPart.{inline_uses, extern_paths, same_side}
+use Rattle.wit_syntax.specs.Fault.{Fault, fault}
+use Rattle.wit_syntax.specs.Scope.{local_target, item_row, needed_paths, part_uses, use_path, use_paths, uses}
+use Rattle.wit_syntax.specs.Source.{Target, leads, path_id, Part, DefinitionPart, UsePart, IncludePart, FunctionPart, ExternPart, Item, parts, file_items, all_items, item_name, item_named, at_side, walk}
+use Rattle.wit_syntax.proofs.Found.{at_contains, contains_at, find_some}
+use Rattle.wit_syntax.proofs.Lists.{at_prefix, flat_map_at, flat_map_has, map_at}
+use Rattle.wit_syntax.proofs.Names.{name_itself}
+use Rattle.wit_syntax.proofs.Rows.{item_row_at}
+use Rattle.wit_syntax.proofs.Tables.{place_of-Some, none_if}
+use Rattle.wit_first.specs.Attributes.{metadata_fault}
+use Rattle.wit_first.specs.Files.{file_fault, files_fault, lost_fault, paths_fault, unnamed_fault}
+use Rattle.wit_first.specs.First.{first_in}
+use Rattle.wit_first.specs.Names.{top_names_fault}
+use Rattle.wit_first.specs.Uses.{all_uses_fault, item_uses_fault, own_uses, path_fault, reached_fault, use_fault}
+use Rattle.wit_first.proofs.Bridge.{in_some, metadata_agree, or_some, top_names_agree}
+use Rattle.wit_first.proofs.Files.{IsLost, lost_agrees, unnamed_broken}
+
+-- a name that is no item's has no row
+missing_row : (is : List Item) (name : List ℕ) → item_named is name ≡ None → place_of (map item_row is) name ≡ None
+missing_row is name none = none_if (place_of (map item_row is) name) (λ b some. (
+    let r = place_of-Some (map item_row is) name b some in
+    let w = map_at item_row is b r.0 r.1 in
+    let called : item_name w.0 ≡ name = ap (λ row. row.name) w.2 ∙ sym r.2 in
+    let it = find_some (λ (i : Item). bytes_eq (item_name i) name) is b w.0 w.1 (ap (λ n. bytes_eq n name) called ∙ name_itself name) in
+    none-some it.0 (sym none ∙ it.1)))
+
+-- a path that leads to a name which is no item's is an edge to no row
+lost_path : (files : List PackageFile) (p : ℕ) (w : Item) (k : ℕ) (path : UsePath) (f : Fault) → slice_get (all_items files) p ≡ Some w → slice_get (needed_paths w) k ≡ Some path → IsLost (all_items files) (leads w.top path) f → IsBrokenItems files f
+lost_path files p w k path f at there lost =
+    let edges : UsePath → List Id = λ path. local_target (leads w.top path) in
+    let e = flat_map_has edges (needed_paths w) k 0 path lost.id there (ap (λ (t : Target). slice_get (local_target t) 0) lost.local) in
+    MissingItem (p, e.0, lost.id, (item_row w, item_row_at files p w at, e.1), missing_row (all_items files) lost.id.name.now lost.missing, lost.is)
+
+file_broken : (files : List PackageFile) (i : ℕ) (file : PackageFile) (f : Fault) → slice_get files i ≡ Some file → file_fault (all_items files) file ≡ Some f → IsBrokenItems files f
+file_broken files i file f at h =
+    let all = all_items files in
+    elim (or_some (top_names_fault file) (first_in (paths_fault all) (file_items file)) f h) [
+      | inl top ↦ DuplicateTopName file (contains_at files i file at) ((top_names_agree file).broken f top)
+      | inr far ↦ (
+          let own = in_some (paths_fault all) (file_items file) f far.1 in
+          let it = in_some (unnamed_fault all own.1.top) (needed_paths own.1) f own.3 in
+          let p = flat_map_has file_items files i own.0 file own.1 at own.2 in
+          lost_path files p.0 own.1 it.0 it.1 f p.1 it.2 (unnamed_broken all own.1.top it.1 f it.3))
+    ]
+
+pub files_broken : (files : List PackageFile) (f : Fault) → files_fault files ≡ Some f → IsBrokenItems files f
+files_broken files f h = let it = in_some (file_fault (all_items files)) files f h in file_broken files it.0 it.1 f it.2 it.3
+
+-- where a path of an item leads
+pub path_broken : (files : List PackageFile) (i : Item) (from : UsePath) (f : Fault) → Contains (use_paths i) from → path_fault files i.top from ≡ Some f → IsBrokenUse files i f
+path_broken files i from f among h = by (is_world_at files (leads i.top from)) refl h
+  where
+    by : (o : Option Bool) → is_world_at files (leads i.top from) ≡ o → reached_fault o (path_id from).span (lost_fault (all_items files) (leads i.top from)) ≡ Some f → IsBrokenUse files i f
+    by None is h = (let lost = (lost_agrees (all_items files) (leads i.top from)).broken f h in MissingUse from lost.id among lost.local lost.missing lost.is)
+    by (Some true) is h = (let same : Some (fault 10 (path_id from).span) ≡ Some f = h in WorldUsed from among is (let says : f ≡ fault 10 (path_id from).span = cc in says))
+    by (Some false) is h = absurd (let g : ⊥ = cc in g)
+
+-- what each part brings is among what parts bring that bring more
+wider : {A : Type 0} (f g : Part → List A) (ps : List Part) (a : A) → ((p : Part) (j : ℕ) → slice_get (f p) j ≡ Some a → Contains (g p) a) → Contains (flat_map f ps) a → Contains (flat_map g ps) a
+wider f g ps a more among =
+    let k = at_contains (flat_map f ps) a among in
+    let p = flat_map_at f ps k.0 a k.1 in
+    let j = at_contains (g p.1) a (more p.1 p.3.0 p.3.1) in
+    let it = flat_map_has g ps p.0 j.0 p.1 a p.2 j.1 in
+    contains_at (flat_map g ps) it.0 a it.1
+
+own_part : (p : Part) (j : ℕ) (u : WrittenUse) → slice_get (own_uses p) j ≡ Some u → Contains (part_uses p) u
+own_part (UsePart v) j u at = contains_at (v ∷ []) j u at
+own_part (DefinitionPart d) j u at = absurd (let f : ⊥ = cc in f)
+own_part (IncludePart n) j u at = absurd (let f : ⊥ = cc in f)
+own_part (FunctionPart g) j u at = absurd (let f : ⊥ = cc in f)
+own_part (ExternPart x) j u at = absurd (let f : ⊥ = cc in f)
+
+abbrev side_uses : WorldSide → Part → List WrittenUse
+side_uses side = at_side (λ (x : Extern). inline_uses x.kind) side
+
+extern_uses : (b : Bool) (us : List WrittenUse) (j : ℕ) (u : WrittenUse) → slice_get (if b then us else []) j ≡ Some u → Contains us u
+extern_uses true us j u at = contains_at us j u at
+extern_uses false us j u at = absurd (let f : ⊥ = cc in f)
+
+side_part : (side : WorldSide) (p : Part) (j : ℕ) (u : WrittenUse) → slice_get (side_uses side p) j ≡ Some u → Contains (part_uses p) u
+side_part side (ExternPart x) j u at = extern_uses (same_side side x.side) (inline_uses x.kind) j u at
+side_part side (DefinitionPart d) j u at = absurd (let f : ⊥ = cc in f)
+side_part side (UsePart v) j u at = absurd (let f : ⊥ = cc in f)
+side_part side (IncludePart n) j u at = absurd (let f : ⊥ = cc in f)
+side_part side (FunctionPart g) j u at = absurd (let f : ⊥ = cc in f)
+
+walked : (ps : List Part) (u : WrittenUse) → Contains (walk own_uses (λ (x : Extern). inline_uses x.kind) ps) u → Contains (flat_map part_uses ps) u
+walked ps u among = elim (Contains-append_cases (flat_map own_uses ps) (flat_map (side_uses Imported) ps ++ flat_map (side_uses Exported) ps) u among) [
+  | inl own ↦ wider own_uses part_uses ps u (λ p j at. own_part p j u at) own
+  | inr sides ↦ elim (Contains-append_cases (flat_map (side_uses Imported) ps) (flat_map (side_uses Exported) ps) u sides) [
+    | inl imported ↦ wider (side_uses Imported) part_uses ps u (λ p j at. side_part Imported p j u at) imported
+    | inr exported ↦ wider (side_uses Exported) part_uses ps u (λ p j at. side_part Exported p j u at) exported
+  ]
+]
+
+-- the path of a `use` is one of its item
+path_of : (p : Part) (j : ℕ) (u : WrittenUse) → slice_get (part_uses p) j ≡ Some u → slice_get (use_path p) j ≡ Some u.from
+path_of (DefinitionPart d) j u at = absurd (let f : ⊥ = cc in f)
+path_of (UsePart v) zero u at = (let same : v ≡ u = cc in ap (λ (x : WrittenUse). Some x.from) same)
+path_of (UsePart v) (suc j) u at = absurd (let f : ⊥ = cc in f)
+path_of (IncludePart n) j u at = absurd (let f : ⊥ = cc in f)
+path_of (FunctionPart g) j u at = absurd (let f : ⊥ = cc in f)
+path_of (ExternPart x) j u at =
+    let from : WrittenUse → UsePath = λ v. v.from in
+    at_prefix (map from (inline_uses x.kind)) (extern_paths x.kind) j u.from (slice_get-map from (inline_uses x.kind) j ∙ ap (option_map from) at)
+
+path_of_use : (ps : List Part) (u : WrittenUse) → Contains (flat_map part_uses ps) u → Contains (flat_map use_path ps) u.from
+path_of_use ps u among =
+    let k = at_contains (flat_map part_uses ps) u among in
+    let p = flat_map_at part_uses ps k.0 u k.1 in
+    let it = flat_map_has use_path ps p.0 p.3.0 p.1 u.from p.2 (path_of p.1 p.3.0 u p.3.1) in
+    contains_at (flat_map use_path ps) it.0 u.from it.1
+
+-- the uses of items
+pub uses_broken : (files : List PackageFile) (f : Fault) → all_uses_fault files ≡ Some f → IsBroken files f
+uses_broken files f h =
+    let own = in_some (item_uses_fault files) (all_items files) f h in
+    let i = own.1 in
+    let all = walk own_uses (λ (x : Extern). inline_uses x.kind) (parts i) in
+    let it = in_some (use_fault files i.top) all f own.3 in
+    let u = it.1 in
+    let here = contains_at (all_items files) own.0 i own.2 in
+    let among : Contains (uses i) u = walked (parts i) u (contains_at all it.0 u it.2) in
+    elim (or_some (metadata_fault u.attributes.items) (path_fault files i.top u.from) f it.3) [
+      | inl noted ↦ UseMetadata i here u among ((metadata_agree u.attributes.items).broken f noted)
+      | inr far ↦ Use i here (path_broken files i u.from f (path_of_use (parts i) u among) far.1)
+    ]

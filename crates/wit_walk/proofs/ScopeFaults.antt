@@ -1,0 +1,214 @@
+-- What the first fault of the names of a scope breaks, of the order of its definitions, of a definition, and of an include.
+use Rattle.std.proofs.Common.{◌≡◌, ◌⊎◌, ℕ, Bool, true, false, List, [], ◌++◌, take, Option, Some, None, inl, inr, refl, sym, ap, ◌∙◌, Contains}
+use Rattle.std.specs.Prelude.{slice_get, map, if◌then◌else◌}
+use Rattle.std.specs.List.{flat_map, list_any}
+use Rattle.std.specs.Option.{option_map, option_map_or, option_or}
+use Rattle.std.specs.Str.{bytes_eq}
+use Rattle.std.proofs.lemmas.Bool.{cases_Bool}
+use Rattle.std.proofs.lemmas.List.Elements.{Contains-append_left}
+use Rattle.std.proofs.lemmas.Option.{slice_get-map}
+use Rattle.wit_values.specs.declared.span.Span.{Span}
+use Rattle.wit_type_tree.specs.declared.leaves.Id.{Id}
+use Rattle.wit_type_tree.specs.declared.types.TypeDef.{TypeDef}
+use Rattle.wit_type_tree.specs.declared.types.«Type».{«Type» as Written}
+use Rattle.wit_type_tree.specs.Parts.{body_types}
+use Rattle.wit_tree.specs.declared.tree.Include.{Include}
+use Rattle.wit_tree.specs.declared.tree.UseName.{UseName}
+use Rattle.wit_tree.specs.declared.tree.PackageFile.{PackageFile}
+use Rattle.wit_graph.specs.Table.{Row, IsOrder}
+use Rattle.wit_syntax.specs.Address.{Address, same_address}
+use Rattle.wit_syntax.specs.Broken.{is_world_at, IsMissingEdge, IsCyclicEdge, DefinedTwice, Metadata, Body, IsBroken, IncludeStability, InterfaceIncluded, MissingName, Scope, Handle}
+use Rattle.wit_syntax.specs.Ends.{End, AtResource, Elsewhere, AtForeign, shape_end}
+use Rattle.wit_syntax.specs.Fault.{Fault, fault, missing_at, cyclic_at, name_word}
+use Rattle.wit_syntax.specs.Function.{SourceFunction, functions, item_types, name_types, role_names, written_types}
+use Rattle.wit_syntax.specs.Repeats.{AllDiffer}
+use Rattle.wit_syntax.specs.Scope.{used, defined, part_includes, include_path, includes}
+use Rattle.wit_syntax.specs.ScopesOfTrees.{scope}
+use Rattle.wit_syntax.specs.Shape.{shape_of, words, handles, Word}
+use Rattle.wit_syntax.specs.Sides.{all_scopes}
+use Rattle.wit_syntax.specs.Signature.{IsNoType, OfFunction, OfNothing}
+use Rattle.wit_syntax.specs.Source.{leads, path_id, Part, Item, item_name, item_named, item_at, all_items, address, parts, ScopeName, Used, Defined, ForeignName, local_id, local_name, meaning, scope_names}
+use Rattle.wit_syntax.proofs.Addresses.{same_address-equal}
+use Rattle.wit_syntax.proofs.Found.{at_contains, contains_at, find_at, find_passes, find_some}
+use Rattle.wit_syntax.proofs.Lists.{flat_map_at, flat_map_has}
+use Rattle.wit_syntax.proofs.Names.{name_equal, name_itself}
+use Rattle.wit_syntax.proofs.Repeated.{differ_at}
+use Rattle.wit_syntax.proofs.Turns.{at_part, used_at, defined_at}
+use Rattle.wit_first.specs.Attributes.{metadata_fault, stability_fault}
+use Rattle.wit_first.specs.First.{first_in, first_after, repeat_of}
+use Rattle.wit_first.specs.Lists.{list_fault}
+use Rattle.wit_first.specs.Types.{type_fault}
+use Rattle.wit_first.proofs.Bridge.{after_some, any_found, in_some, list_agrees, metadata_agree, or_some, stability_agrees}
+use Rattle.wit_first.proofs.First.{any_some}
+use Rattle.wit_first.proofs.Orders.{order_broken}
+use Rattle.wit_first.proofs.Repeats.{repeat_second}
+use Rattle.wit_walk.specs.Definitions.{definition_fault, end_fault, handle_fault}
+use Rattle.wit_walk.specs.Names.{lost_use, name_fault, unless_meant, use_fault}
+use Rattle.wit_walk.specs.Orders.{Outcome, InOrder, AtMissing, AtCycle, IsOutcome, order_fault, order_of}
+use Rattle.wit_walk.specs.Paths.{include_fault, interface_fault}
+use Rattle.wit_walk.proofs.TypeFaults.{IsOf, handles_among, type_wrong}
+
+pub same_fault : (f g : Fault) → Some g ≡ Some f → f ≡ g
+same_fault f g h = cc
+
+-- where a test decides whether there is a fault, or which
+pub if_some : (b : Bool) (g f : Fault) → (if b then Some g else None) ≡ Some f → (b ≡ true) × (f ≡ g)
+if_some true g f h = (refl, same_fault f g h)
+if_some false g f h = absurd (let e : ⊥ = cc in e)
+
+pub if_true : (b : Bool) (g h : Fault) → b ≡ true → (if b then g else h) ≡ g
+if_true true g h is = refl
+if_true false g h is = absurd (let e : ⊥ = cc in e)
+
+pub if_false : (b : Bool) (g h : Fault) → b ≡ false → (if b then g else h) ≡ h
+if_false true g h is = absurd (let e : ⊥ = cc in e)
+if_false false g h is = refl
+
+-- a name that means nothing
+pub unmeant : (m : Option ScopeName) (lost f : Fault) → unless_meant m lost ≡ Some f → (m ≡ None) × (f ≡ lost)
+unmeant None lost f h = (refl, same_fault f lost h)
+unmeant (Some x) lost f h = absurd (let g : ⊥ = cc in g)
+
+-- the first item of a name, where names differ
+pub named_first : (ws : List Item) (t : ℕ) (w : Item) → AllDiffer (map item_name ws) → slice_get ws t ≡ Some w → item_named ws (item_name w) ≡ Some w
+named_first ws t w d at =
+    let test = λ (v : Item). bytes_eq (item_name v) (item_name w) in
+    let it = find_some test ws t w at (name_itself (item_name w)) in
+    let there = find_at test ws it.0 it.1 in
+    let place : there.0 ≡ t = differ_at item_name ws d there.0 t it.0 w there.1 at (name_equal (item_name it.0) (item_name w) (find_passes test ws it.0 it.1)) in
+    it.1 ∙ sym there.1 ∙ ap (slice_get ws) place ∙ at
+
+-- the names of functions that belong to no resource
+abbrev free_names : Item → List (List ℕ)
+free_names i = flat_map (λ (fn : SourceFunction). role_names fn.role) (functions i)
+
+no_type : (target : Item) (id : Id) (f : Fault) → f ≡ lost_use target id → IsNoType (Contains (free_names target) id.name.now) (fault 13 id.span) (missing_at 12 name_word id) f
+no_type target id f is = elim (cases_Bool (list_any (bytes_eq id.name.now) (free_names target))) [
+  | inl hit ↦ (
+      let it = any_found (bytes_eq id.name.now) (free_names target) hit in
+      let same = name_equal id.name.now it.1 it.3 in
+      OfFunction (contains_at (free_names target) it.0 id.name.now (it.2 ∙ ap Some (sym same))) (is ∙ if_true (list_any (bytes_eq id.name.now) (free_names target)) (fault 13 id.span) (missing_at 12 name_word id) hit))
+  | inr miss ↦ OfNothing (λ among. (
+      let k = at_contains (free_names target) id.name.now among in
+      let wrong : false ≡ true = sym miss ∙ any_some (bytes_eq id.name.now) (free_names target) k.0 id.name.now k.1 (name_itself id.name.now) in
+      let g : ⊥ = cc in
+      g)) (is ∙ if_false (list_any (bytes_eq id.name.now) (free_names target)) (fault 13 id.span) (missing_at 12 name_word id) miss)
+]
+
+-- a used name that means nothing in the interface of this package that it comes from
+record IsLostUse (files : List PackageFile) (from : Address) (n : UseName) (f : Fault) : Type 0 where
+  pub target : Item
+  pub at : item_at (all_items files) from ≡ Some target
+  pub missing : meaning (scope_names target) n.name.name.now ≡ None
+  pub is : f ≡ lost_use target n.name
+
+lost_by : (files : List PackageFile) (from : Address) (n : UseName) (f : Fault) (o : Option Item) → item_at (all_items files) from ≡ o → option_map_or (λ (target : Item). unless_meant (meaning (scope_names target) n.name.name.now) (lost_use target n.name)) o None ≡ Some f → IsLostUse files from n f
+lost_by files from n f None at h = absurd (let g : ⊥ = cc in g)
+lost_by files from n f (Some t) at h = let it = unmeant (meaning (scope_names t) n.name.name.now) (lost_use t n.name) f h in record { target = t; at = at; missing = it.0; is = it.1 }
+
+-- the first fault of the order of a table
+pub outcome_broken : (lost : Id → Fault) (number : ℕ) (sort : List ℕ) (rs : List Row) (o : Outcome) (f : Fault) → IsOutcome rs o → order_fault lost (cyclic_at number sort) o ≡ Some f → IsMissingEdge lost rs f ⊎ IsCyclicEdge number sort rs f
+outcome_broken lost number sort rs (InOrder order) f x h = absurd (let g : ⊥ = cc in g)
+outcome_broken lost number sort rs (AtMissing id) f x h = order_broken lost number sort rs f (inl (x.0, x.1, x.2, same_fault f (lost id) h ∙ ap lost (sym x.3)))
+outcome_broken lost number sort rs (AtCycle id) f x h = order_broken lost number sort rs f (inr (x.0, x.1, x.2, same_fault f (cyclic_at number sort id) h ∙ ap (cyclic_at number sort) (sym x.3)))
+
+pub outcome_order : (lost round : Id → Fault) (rs : List Row) (o : Outcome) → IsOutcome rs o → order_fault lost round o ≡ None → IsOrder rs (order_of o)
+outcome_order lost round rs (InOrder order) x h = x
+outcome_order lost round rs (AtMissing id) x h = absurd (let g : ⊥ = cc in g)
+outcome_order lost round rs (AtCycle id) x h = absurd (let g : ⊥ = cc in g)
+
+-- a name in a handle
+end_wrong : (id : Id) (e : Option End) (f : Fault) → end_fault id e ≡ Some f → (e ≡ Some Elsewhere) × (f ≡ fault 27 id.span)
+end_wrong id None f h = absurd (let g : ⊥ = cc in g)
+end_wrong id (Some AtResource) f h = absurd (let g : ⊥ = cc in g)
+end_wrong id (Some (AtForeign s name)) f h = absurd (let g : ⊥ = cc in g)
+end_wrong id (Some Elsewhere) f h = (refl, same_fault f (fault 27 id.span) h)
+
+-- an include
+include_has : (ps : List Part) (n : Include) → Contains (flat_map part_includes ps) n → Contains (flat_map include_path ps) n.from
+include_has ps n among =
+    let k = at_contains (flat_map part_includes ps) n among in
+    let p = flat_map_at part_includes ps k.0 n k.1 in
+    let own : slice_get (include_path p.1) p.3.0 ≡ Some n.from = slice_get-map (λ (i : Include). i.from) (part_includes p.1) p.3.0 ∙ ap (option_map (λ (i : Include). i.from)) p.3.1 in
+    let it = flat_map_has include_path ps p.0 p.3.0 p.1 n.from p.2 own in
+    contains_at (flat_map include_path ps) it.0 n.from it.1
+
+interface_wrong : (o : Option Bool) (span : Span) (f : Fault) → interface_fault o span ≡ Some f → (o ≡ Some false) × (f ≡ fault 11 span)
+interface_wrong None span f h = absurd (let g : ⊥ = cc in g)
+interface_wrong (Some true) span f h = absurd (let g : ⊥ = cc in g)
+interface_wrong (Some false) span f h = (refl, same_fault f (fault 11 span) h)
+
+pub includes_broken : (files : List PackageFile) (i : Item) → Contains (all_items files) i → (f : Fault) → first_in (include_fault files i.top) (includes i) ≡ Some f → IsBroken files f
+includes_broken files i here f h =
+    let it = in_some (include_fault files i.top) (includes i) f h in
+    let n = it.1 in
+    let among = contains_at (includes i) it.0 n it.2 in
+    let there = is_world_at files (leads i.top n.from) in
+    elim (or_some (stability_fault n.attributes.items) (interface_fault there (path_id n.from).span) f it.3) [
+      | inl own ↦ IncludeStability i here n among ((stability_agrees n.attributes.items).broken f own)
+      | inr far ↦ (let wrong = interface_wrong there (path_id n.from).span f far.1 in InterfaceIncluded i here n.from (include_has (parts i) n among) wrong.0 wrong.1)
+    ]
+
+-- a scope among all
+module _ (files : List PackageFile) (i : Item) (among : Contains (all_scopes files) i) where
+  abbrev xs : List ScopeName
+  xs = scope_names i
+
+  use_broken : AllDiffer (map item_name (all_items files)) → (x : ScopeName) (f : Fault) → Contains xs x → use_fault files x ≡ Some f → IsBroken files f
+  use_broken d (Used from attributes n) f has h =
+      let it = lost_by files from n f (item_at (all_items files) from) refl h in
+      let test = λ (v : Item). same_address (address v) from in
+      let t = find_at test (all_items files) it.target it.at in
+      let same : address it.target ≡ from = same_address-equal (address it.target) from (find_passes test (all_items files) it.target it.at) in
+      MissingName i among from attributes n has it.target (sym same) (named_first (all_items files) t.0 it.target d t.1) it.missing (no_type it.target n.name f it.is)
+  use_broken d (Defined def) f has h = absurd (let g : ⊥ = cc in g)
+  use_broken d (ForeignName attributes id) f has h = absurd (let g : ⊥ = cc in g)
+
+  pub names_broken : AllDiffer (map item_name (all_items files)) → (f : Fault) → first_after (name_fault files) [] (used xs ++ defined xs) ≡ Some f → IsBroken files f
+  names_broken d f h =
+      let it = after_some (name_fault files) [] (used xs ++ defined xs) f h in
+      let x = it.1 in
+      let has : Contains xs x = elim (at_part (used xs) (defined xs) it.0 x it.2) [
+        | inl own ↦ (let p = used_at xs own.0 x own.1 in contains_at xs p.0 x p.1)
+        | inr own ↦ (let p = defined_at xs own.0 x own.1 in contains_at xs p.0 x p.1)
+      ] in
+      elim (or_some (use_fault files x) (repeat_of local_name (λ (y : ScopeName). fault 14 (local_id y).span) (take it.0 (used xs ++ defined xs)) x) f it.3) [
+        | inl own ↦ use_broken d x f has own
+        | inr far ↦ Scope i among (DefinedTwice (repeat_second local_name (λ (y : ScopeName). fault 14 (local_id y).span) (used xs ++ defined xs) it.0 x f it.2 far.1))
+      ]
+
+  pub handle_broken : scope files (address i) ≡ xs → (n : ℕ) (t : Written) (f : Fault) → Contains (item_types i) t → IsOf (handles t) (words (shape_of t)) (handle_fault files n (address i)) f → IsBroken files f
+  handle_broken meant n t f has h =
+      let k = at_contains (item_types i) t has in
+      let e = end_wrong h.id (shape_end files n (address i) (Word h.id)) f h.is in
+      Handle i among meant (h.id, handles_among (item_types i) k.0 t k.1 h.id h.among, (n, e.0), e.1)
+
+  -- a definition
+  type_among : (d : TypeDef) (t : Written) → Contains xs (Defined d) → Contains (body_types d.body) t → Contains (item_types i) t
+  type_among d t has inside =
+      let p = at_contains xs (Defined d) has in
+      let j = at_contains (body_types d.body) t inside in
+      let it = flat_map_has name_types xs p.0 j.0 (Defined d) t p.1 j.1 in
+      Contains-append_left (flat_map name_types xs) (flat_map written_types (functions i)) t (contains_at (flat_map name_types xs) it.0 t it.1)
+
+  pub definition_broken : scope files (address i) ≡ xs → (n : ℕ) (x : ScopeName) (f : Fault) → Contains xs x → definition_fault (handle_fault files n (address i)) x ≡ Some f → IsBroken files f
+  definition_broken meant n (Defined d) f has h =
+      let types = first_in (type_fault (λ (id : Id). None) (handle_fault files n (address i))) (body_types d.body) in
+      elim (or_some (metadata_fault d.attributes.items) (option_or (list_fault d.body) types) f h) [
+        | inl metadata ↦ Scope i among (Metadata d has ((metadata_agree d.attributes.items).broken f metadata))
+        | inr later ↦ elim (or_some (list_fault d.body) types f later.1) [
+          | inl list ↦ Scope i among (Body d has (inl ((list_agrees d.body).broken f list)))
+          | inr last ↦ (
+              let it = in_some (type_fault (λ (id : Id). None) (handle_fault files n (address i))) (body_types d.body) f last.1 in
+              let inside = contains_at (body_types d.body) it.0 it.1 it.2 in
+              elim (type_wrong (λ (id : Id). None) (handle_fault files n (address i)) it.1 f it.3) [
+                | inl broken ↦ Scope i among (Body d has (inr (it.1, inside, broken)))
+                | inr name ↦ elim name [
+                  | inl word ↦ absurd (let none : None ≡ Some f = word.is in let g : ⊥ = cc in g)
+                  | inr handle ↦ handle_broken meant n it.1 f (type_among d it.1 has inside) handle
+                ]
+              ])
+        ]
+      ]
+  definition_broken meant n (Used from attributes name) f has h = absurd (let g : ⊥ = cc in g)
+  definition_broken meant n (ForeignName attributes id) f has h = absurd (let g : ⊥ = cc in g)

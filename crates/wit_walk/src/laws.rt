@@ -1,0 +1,13 @@
+//! What holds of the first fault of files.
+ghost use Rattle.wit_walk.specs.Laws.{FirstIsBroken, OneFirst};
+
+/// Files come to one fault, or to none: two first faults are equal, and files that have one are not
+/// without a fault.
+pub fn one_first()
+    ensures { OneFirst }
+{}
+
+/// The first fault of files is one that a broken rule states: with its number and its place.
+pub fn first_is_broken()
+    ensures { FirstIsBroken }
+{}
