@@ -6,3 +6,4 @@ pub mod FunctionFaults
 pub mod SetterFaults
 pub mod MemberFaults
 pub mod Broken
+pub mod Rows
