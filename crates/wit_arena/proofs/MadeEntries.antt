@@ -74,7 +74,7 @@ module _ (id : Key → ℕ) (decls : Decls) (ks : List Key) (gives : GivesPlaces
   key_stated (Def s name) stable h = named_stated s name h
   key_stated (Whole form parts) stable h = unnamed_stated form parts stable h
 
--- what is beside a occurrence is at its span
+-- what is beside an occurrence is at its span
 span_beside : (seen : List Occurrence) (es : List TypeDef) → map (λ (e : TypeDef). e.span) es ≡ map (λ (m : Occurrence). m.span) seen → (n : ℕ) (m : Occurrence) (e : TypeDef) → slice_get seen n ≡ Some m → slice_get es n ≡ Some e → e.span ≡ m.span
 span_beside seen es spans n m e at_m at_e =
     let of_m : slice_get (map (λ (m : Occurrence). m.span) seen) n ≡ Some m.span = slice_get-map (λ (m : Occurrence). m.span) seen n ∙ ap (option_map (λ (m : Occurrence). m.span)) at_m in

@@ -5,7 +5,7 @@ ghost use Rattle.wit_bundle.specs.Paths.{IsByPath};
 use std::alloc::{AllocError, Global};
 use wit_lex::Source;
 
-/// The sources, by path, byte by byte; those of one path are as they was.
+/// The sources, by path, byte by byte; those of one path keep their order.
 pub fn by_path(alloc: Global, sources: &[Source]) -> Result<Vec<&Source>, AllocError>
     ensures { IfOk result (λ turn. IsByPath sources.now (map (λ s. s.now) turn.items)) }
 {

@@ -87,7 +87,7 @@ fn conflict(alloc: Global, side: WorldSide, name: &str, what: &str) -> Result<St
 /// before it, `types` the names of the scope.
 ///
 /// Refused under E44, at the span, where an earlier name of the side is spelled like it, under E17
-/// where one has its folded key, and because an allocation failed.
+/// where one has its folded key, and under E45 if an allocation failed.
 pub fn define_extern(
     alloc: Global,
     before: &[BorrowedExtern<'_, '_>],
@@ -118,7 +118,7 @@ pub fn define_extern(
 /// names of the scope.
 ///
 /// Refused under E44, where it is an import or an export and an earlier name of the side is spelled
-/// like its own, under E17 where one has its folded key, and because an allocation failed.
+/// like its own, under E17 where one has its folded key, and under E45 if an allocation failed.
 pub fn define_function<'t, 'a>(
     alloc: Global,
     before: &[BorrowedExtern<'t, 'a>],

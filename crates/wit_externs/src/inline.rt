@@ -22,8 +22,8 @@ use wit_sides::Sides;
 use wit_tree::ParseResult;
 use wit_types::TypeId;
 
-/// Puts an interface that is written there on its side, under its name. `before` is what is in
-/// prefix of it, `types` the names of the scope.
+/// Puts an interface that is written there on its side, under its name. `before` is what comes
+/// before it, `types` the names of the scope.
 ///
 /// A refusal is E30 to E35, where its attributes break a rule; E44 or E17 at its name, where the side
 /// has that already; or a failed allocation.

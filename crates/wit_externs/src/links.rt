@@ -60,7 +60,7 @@ impl Links {
 
     /// Puts the interface at a place on a side, after the others.
     ///
-    /// Refused under E43, at the span, where the side has it, and because an allocation failed.
+    /// Refused under E43, at the span, where the side has it, and under E45 if an allocation failed.
     pub fn define(
         &mut self,
         alloc: Global,

@@ -39,8 +39,8 @@ pub(crate) struct Tables<'f, 'a> {
 }
 
 impl<'f, 'a> Tables<'f, 'a> {
-    /// The items of other packages that files name, and no name of theirs yet; refuses attributes in
-    /// prefix of a path to one that break a rule of stability.
+    /// The items of other packages that files name, and no name of theirs yet; refuses attributes
+    /// that break a rule of stability before a path to one.
     fn of_others(alloc: Global, files: &'f [PackageFile<'a>]) -> ParseResult<Self>
         ensures visits { IfOk result (λ names. map foreign_view names.visits.items ≡ the_visits files.now) }
         ensures foreign { IfOk result (λ names. AreItemsOf (the_visits files.now) names.foreign) }

@@ -67,7 +67,7 @@ impl Deps {
         Ok(())
     }
 
-    /// Metadata where a visit names its package, if that has no span yet.
+    /// Notes where a visit names its package, if that has no span yet.
     fn note_span(&mut self, span: Span) -> Result<(), AllocError>
         ensures spans { OnOk result (self.new.spans ≡ self.old.spans ++ cond (nat_lt (length self.old.spans) (length self.old.packages)) (span ∷ []) []) }
         ensures packages { OnOk result (self.new.packages ≡ self.old.packages) }

@@ -45,7 +45,7 @@ impl SourceMap {
     /// Adds a source after the others.
     ///
     /// Refused under the number 52, at (0, 0), where the lengths of all sources, and one place more
-    /// for each, are more than 4,294,967,295 together, and under 45 because an allocation failed. Then the map
+    /// for each, are more than 4,294,967,295 together, and under 45 if an allocation failed. Then the map
     /// is as it was.
     pub fn push(&mut self, alloc: Global, path: &str, contents: &str) -> ParseResult<()>
         ensures sources { OnOk result ((s : _) × IsSource path.now contents.now (space self.old.sources.items) s × (self.new.sources.items ≡ self.old.sources.items ++ s ∷ [])) }

@@ -20,7 +20,7 @@ fault_text Memory = codes "out of memory"
 abbrev pub IsCutShort : Option (List ℕ) → Option (List ℕ) → List ℕ → Type 0
 IsCutShort old new text = (n : ℕ) × (n < length text) × Appends old new (take n text)
 
--- a text that is as described went out; after a failed write a beginning of it and not the whole, because an allocation failed nothing
+-- a text that is as described went out; after a failed write a beginning of it and not the whole, if an allocation failed nothing
 abbrev pub IsWritten : (List ℕ → Type 0) → Option (List ℕ) → Option (List ℕ) → Result (Unit {0}) RunFault → Type 0
 IsWritten IsText old new (Ok _) = (text : List ℕ) × IsText text × Appends old new text
 IsWritten IsText old new (Err Output) = (text : List ℕ) × IsText text × IsCutShort old new text

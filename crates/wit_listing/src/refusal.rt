@@ -25,7 +25,7 @@ fn first_line(text: &str) -> &str
 }
 
 /// Whether a refusal has a place in a source: not the one without a header, that of sources that
-/// are too large, and that because an allocation failed.
+/// are too large, and the one for a failed allocation.
 fn has_place(rule: u8) -> bool
     ensures { result ≡ has_place rule }
 {
@@ -73,7 +73,7 @@ fn line_of(alloc: Global, map: &SourceMap, fault: &ParseError) -> Result<String,
 /// `PATH` is the source in which the refusal's span lies, `SLICE` what is there up to its first
 /// LF or CR. Where it lies in no source, and for the numbers 4, 45 and 52, `PATH` is `-` and
 /// `SLICE` empty. Where a write fails or takes no byte, a beginning of the line went out, and
-/// not the whole; because an allocation failed, nothing.
+/// not the whole; if an allocation failed, nothing.
 pub fn error_line<W: Write>(
     alloc: Global,
     map: &SourceMap,

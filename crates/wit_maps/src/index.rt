@@ -105,7 +105,7 @@ fn keep<K: Eq + Hash + Ord + Clone + Drop>(
     Ok(())
 }
 
-/// Metadata the place of a key in a slot for its hash, and where none is free, at itself.
+/// Notes the place of a key in a slot for its hash, and where none is free, at itself.
 fn note<K: Eq + Hash + Ord + Clone + Drop>(
     slots: &mut Vec<u32>,
     keys: &mut BTreeMap<K, usize>,

@@ -25,7 +25,7 @@ use std::mem::replace;
 ///
 /// Where its entries are few, they are looked through one by one: most maps have few, and then take one
 /// list and no more. More are found by an index, in which no keys cost more than others. There are fewer
-/// than 2^32; one more is refused as because an allocation failed. Two maps are equal if they hold the same pairs, in
+/// than 2^32; one more is refused like a failed allocation. Two maps are equal if they hold the same pairs, in
 /// any order; a copy has its source's order too.
 pub struct Table<K: Eq + Hash + Ord, V> {
     entries: Vec<(K, V)>,

@@ -20,7 +20,7 @@ pub struct ForeignItems {
     /// For each package of `deps`, where a path first names it.
     pub dep_spans: Row<Span>,
     /// For each type of another package, where it is first used. These types are the unknown ones
-    /// at the prefix of the arena of types.
+    /// at the start of the arena of types.
     pub unknown_type_spans: Row<Span>,
     /// For each handle that names a type of another package: that type, which must be a resource,
     /// and where its name is written, in the order in which they are read, with repeats.

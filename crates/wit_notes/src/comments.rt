@@ -276,7 +276,7 @@ fn joined(alloc: Global, comments: &[&str]) -> Result<String, AllocError>
 /// The docs that comments give.
 ///
 /// From a comment that begins with `/**` this prefix is taken, and the `*/` at its end; `/**/` says
-/// nothing. From any other comment all slashes at its prefix are taken. Then white space at the end
+/// nothing. From any other comment all slashes at its start are taken. Then white space at the end
 /// is taken from each. Where all that is not empty begins with at least n bytes of ASCII white
 /// space, and n is the most, n spaces are taken from each text that begins with them. The texts
 /// are line by line, with LF at the end of a line and an empty line for an empty text; LFs at

@@ -16,7 +16,7 @@ use wit_values::Text;
 /// As many texts are compared in pairs; for more their hashes cost less.
 const FEW: usize = 8;
 
-/// Metadata that a text is at a place, and gives the earlier place where it is already.
+/// Notes that a text is at a place, and gives the earlier place where it is already.
 fn note<'t>(
     seen: &mut BTreeMap<&'t str, usize>,
     text: &'t str,

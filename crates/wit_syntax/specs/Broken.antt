@@ -162,6 +162,6 @@ pub data IsBroken (files : List PackageFile) (f : Fault) : Type 0 where
 abbrev pub IsLegal : List PackageFile → Type 0
 IsLegal files = (f : Fault) → IsBroken files f → ⊥
 
--- a refusal is because an allocation failed, or says a fault of this kind
+-- a refusal is for a failed allocation, or says a fault of this kind
 abbrev pub Refused : (Fault → Type 0) → ParseError → Type 0
 Refused P e = IsAllocationFailure e ⊎ P (fault_of e)

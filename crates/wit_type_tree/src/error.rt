@@ -48,7 +48,7 @@ impl Drop for ParseError {
 /// A value, or why there is none.
 pub type ParseResult<T> = Result<T, ParseError>;
 
-/// The number of a refusal because an allocation failed.
+/// The number of a refusal for a failed allocation.
 pub const OUT_OF_MEMORY: u8 = 45;
 
 impl ParseError {
@@ -106,7 +106,7 @@ impl ParseError {
         &mut self.kind
     }
 
-    /// Where it is; (0, 0) because an allocation failed.
+    /// Where it is; (0, 0) if an allocation failed.
     pub fn span(&self) -> Span
         ensures { result ≡ span_of self.now.kind }
     {

@@ -1,10 +1,10 @@
-//! The integers that say cases and hold flags.
+//! The integers that number cases and hold flags.
 ghost use Rattle.std.specs.Prelude.{◌≡◌, ◌≤◌, ◌^◌, length};
 ghost use Rattle.wit_types.specs.Sizes.{count_of, int_of_cases, repr_of_flags};
 
 use crate::types::{Enum, Flags, Variant};
 
-/// An integer that says a case.
+/// An integer that numbers a case.
 #[derive(Debug, Clone, Copy, PartialEq, Eq)]
 pub enum Int {
     U8,
@@ -69,7 +69,7 @@ impl Flags {
 }
 
 impl Variant {
-    /// The integer that gives the cases, of which there are at most 2^32.
+    /// The integer that numbers the cases, of which there are at most 2^32.
     pub fn tag(&self) -> Int
         requires { length self.now.cases ≤ 2 ^ 32 }
         ensures { result ≡ int_of_cases (length self.now.cases) }
@@ -79,7 +79,7 @@ impl Variant {
 }
 
 impl Enum {
-    /// The integer that gives the cases, of which there are at most 2^32.
+    /// The integer that numbers the cases, of which there are at most 2^32.
     pub fn tag(&self) -> Int
         requires { length self.now.cases ≤ 2 ^ 32 }
         ensures { result ≡ int_of_cases (length self.now.cases) }

@@ -9,7 +9,7 @@ use wit_values::{Rare, Release, Text};
 /// The variants are ordered as they are here, and then by their fields.
 #[derive(Debug, Clone, PartialEq, Eq, PartialOrd, Ord, Default)]
 pub enum Stability {
-    /// No attribute says.
+    /// There is no attribute.
     #[default]
     Unknown,
     /// There after a feature, and from a version on deprecated.
@@ -41,7 +41,7 @@ impl Drop for Stability {
 }
 
 impl Stability {
-    /// Whether no attribute says.
+    /// Whether there is no attribute.
     pub fn is_unknown(&self) -> bool
         ensures { result ≡ is_unknown self.now }
     {

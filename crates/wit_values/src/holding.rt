@@ -1,4 +1,4 @@
-//! Values borrowed while something after them may be refused, whatever they are.
+//! Values kept while something after them may be refused, whatever they are.
 ghost use Rattle.std.specs.Prelude.{◌≡◌, ◌++◌, ◌∷◌, [], Err, IfErr, IfOk, Ok, OnOk};
 
 use std::alloc::AllocError;
