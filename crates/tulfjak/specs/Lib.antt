@@ -27,7 +27,7 @@ pub use Rattle.wit_types.specs.Sizes
 pub use Rattle.wit_types.specs.Spans as MovedSpans
 pub use Rattle.wit_types.specs.Stabilities
 pub use Rattle.wit_types.specs.Types
-pub use Rattle.wit_types.specs.Words
+pub use Rattle.wit_types.specs.KindWords
 pub use Rattle.wit_package_names.specs.PackageName
 pub use Rattle.wit_functions.specs.Abi
 pub use Rattle.wit_functions.specs.FunctionKinds
@@ -51,12 +51,12 @@ pub use Rattle.wit_arena.specs.Faithful
 pub use Rattle.wit_arena.specs.Made
 pub use Rattle.wit_arena.specs.Splitting as SplitArenas
 pub use Rattle.wit_arena.specs.Whole
-pub use Rattle.wit_first.specs.Attributes as AttributeFaults
+pub use Rattle.wit_first.specs.AttributeFaults as AttributeFaults
 pub use Rattle.wit_first.specs.First
-pub use Rattle.wit_first.specs.Headers
-pub use Rattle.wit_first.specs.Lists
-pub use Rattle.wit_first.specs.Orders
-pub use Rattle.wit_refusals.specs.Names as ScopeNames
+pub use Rattle.wit_first.specs.HeaderFaults
+pub use Rattle.wit_first.specs.ListFaults
+pub use Rattle.wit_first.specs.OrderFaults
+pub use Rattle.wit_refusals.specs.NameScopes as ScopeNames
 pub use Rattle.wit_refusals.specs.Scope as NameScopes
 pub use Rattle.wit_top_names.specs.Tops
 pub use Rattle.wit_files.specs.FileNames
@@ -65,7 +65,7 @@ pub use Rattle.wit_files.specs.Visits
 pub use Rattle.wit_parser.specs.Ids
 pub use Rattle.wit_parser.specs.Marks
 pub use Rattle.wit_parser.specs.Stray
-pub use Rattle.wit_nested.specs.Names as NestedNames
+pub use Rattle.wit_nested.specs.PackageNames as NestedNames
 pub use Rattle.wit_nested.specs.Nested
 pub use Rattle.wit_groups.specs.Groups
 pub use Rattle.wit_resolved.specs.Ends

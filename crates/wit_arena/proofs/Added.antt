@@ -22,7 +22,7 @@ use Rattle.wit_syntax.specs.Signature.{IsUnpairedSetter}
 use Rattle.wit_tree.specs.declared.tree.WorldSide.TheVariants.{Imported}
 use Rattle.wit_syntax.specs.Function.{functions}
 use Rattle.wit_syntax.specs.Sides.{inline_items}
-use Rattle.wit_arena.specs.Functions.{placed_functions}
+use Rattle.wit_arena.specs.SourceFunctions.{placed_functions}
 use Rattle.wit_syntax.proofs.Sides.{functions_imported}
 use Rattle.wit_arena.proofs.FreeNames.{free_of, free_keyed}
 use Rattle.wit_arena.proofs.Stating.{stated_placed}

@@ -15,7 +15,7 @@ use Rattle.wit_functions.specs.declared.function.Param.{Param}
 use Rattle.wit_syntax.specs.Shape.{Shape}
 use Rattle.wit_syntax.specs.Address.{Address}
 use Rattle.wit_syntax.specs.Function.{Role, Freestanding, Method, Static, Constructor, OnSide, SourceParam, SourceFunction, all_params, signature}
-use Rattle.wit_arena.specs.Functions.{IsKind, IsFunction, AreFunctions}
+use Rattle.wit_arena.specs.SourceFunctions.{IsKind, IsFunction, AreFunctions}
 use Rattle.wit_arena.specs.Expr.{Exprs, one, joined, expr_of, exprs_of}
 use Rattle.wit_arena.specs.Expr as exprs
 use Rattle.wit_arena.specs.Occurrences.{Key, Occurrence, keys, IsAt, AreAt, Collects, shape_occurrences, all_function_occurrences}

@@ -15,7 +15,7 @@ use Rattle.wit_syntax.specs.Source.{local_name}
 use Rattle.wit_syntax.specs.ScopesOfTrees.{scope}
 use Rattle.wit_syntax.proofs.Lists.{at_prefix, at_seam, at_either, map_at, flat_map_at}
 use Rattle.wit_syntax.proofs.Repeated.{differ_more}
-use Rattle.wit_arena.specs.Functions.{IsFunction, AreFunctions}
+use Rattle.wit_arena.specs.SourceFunctions.{IsFunction, AreFunctions}
 use Rattle.wit_arena.specs.Occurrences.{Def, Occurrence, keys, Decls}
 use Rattle.wit_arena.specs.Resolving.{ResolvedScope, env_of, AreNames, AreKnown, AreNew, IsDefined, Defines}
 use Rattle.wit_arena.proofs.DefinitionPart.{name_seen_in, known_kept}

@@ -19,7 +19,7 @@ use Rattle.wit_arena.specs.Package.{owner_of, names_of, functions_of, function_t
 use Rattle.std.proofs.lemmas.Option.{slice_get_within}
 use Rattle.wit_functions.specs.declared.function.Function.{Function}
 use Rattle.wit_syntax.specs.Function.{SourceFunction, signature}
-use Rattle.wit_arena.specs.Functions.{IsFunction}
+use Rattle.wit_arena.specs.SourceFunctions.{IsFunction}
 use Rattle.wit_syntax.specs.Repeats.{AllDiffer}
 use Rattle.wit_syntax.proofs.Found.{at_contains, contains_at}
 use Rattle.wit_syntax.proofs.Lists.{at_within}

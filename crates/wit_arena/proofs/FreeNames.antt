@@ -15,7 +15,7 @@ use Rattle.wit_functions.specs.declared.function.FunctionKind.{FunctionKind}
 use Rattle.wit_syntax.specs.Address.{Address}
 use Rattle.wit_syntax.specs.Source.{Item, Part, DefinitionPart, UsePart, IncludePart, FunctionPart, ExternPart, parts}
 use Rattle.wit_syntax.specs.Function.{Role, Freestanding, Method, Static, Constructor, OnSide, SourceFunction, accessor, free_function, resource_function, definition_functions, part_functions, functions, role_names}
-use Rattle.wit_arena.specs.Functions.{IsKind, IsFunction, AreFunctions, freestanding_names}
+use Rattle.wit_arena.specs.SourceFunctions.{IsKind, IsFunction, AreFunctions, freestanding_names}
 use Rattle.wit_tree.specs.declared.tree.WorldSide.{WorldSide}
 use Rattle.wit_syntax.specs.Sides.{role_side, FunctionKey}
 use Rattle.wit_arena.specs.Package.{keyed}

@@ -10,7 +10,7 @@ use Rattle.wit_functions.specs.declared.function.Function.{Function}
 use Rattle.wit_functions.specs.Setters.{name_in, HaveDistinctNames}
 use Rattle.wit_syntax.specs.Source.{ScopeName}
 use Rattle.wit_syntax.specs.Function.{SourceFunction}
-use Rattle.wit_arena.specs.Functions.{by_name}
+use Rattle.wit_arena.specs.SourceFunctions.{by_name}
 use Rattle.wit_syntax.specs.Repeats.{AllDiffer}
 use Rattle.wit_syntax.specs.Scope.{in_turn}
 use Rattle.wit_syntax.specs.Signature.{Called, name_called}

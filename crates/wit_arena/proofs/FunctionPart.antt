@@ -9,7 +9,7 @@ use Rattle.wit_syntax.specs.Repeats.{AllDiffer}
 use Rattle.wit_syntax.specs.Function.{SourceFunction}
 use Rattle.wit_syntax.specs.Scope.{local_names}
 use Rattle.wit_syntax.specs.ScopesOfTrees.{scope}
-use Rattle.wit_arena.specs.Functions.{IsFunction}
+use Rattle.wit_arena.specs.SourceFunctions.{IsFunction}
 use Rattle.wit_arena.specs.Occurrences.{Key, Def, Occurrence, keys, Collects, Decls, IsOccurrence}
 use Rattle.wit_arena.specs.Resolving.{env_of, AreNames}
 use Rattle.wit_arena.specs.Whole.{functions_at, turn_handles, AreRequired}

@@ -8,7 +8,7 @@ use Rattle.wit_syntax.specs.Fault.{Fault}
 use Rattle.wit_syntax.specs.Scope.{rows_of, local_names}
 use Rattle.wit_syntax.specs.Signature.{IsUnpairedSetter}
 use Rattle.wit_syntax.specs.Source.{scope_names}
-use Rattle.wit_arena.specs.Functions.{placed_functions}
+use Rattle.wit_arena.specs.SourceFunctions.{placed_functions}
 use Rattle.wit_arena.specs.Package.{interface_functions}
 use Rattle.wit_arena.specs.Resolved.{IsInterfaceOf}
 use Rattle.wit_arena.specs.Whole.{Ordered, turned}

@@ -21,7 +21,7 @@ use Rattle.wit_syntax.proofs.JoinedItems.{bare, ArePlain}
 use Rattle.wit_syntax.proofs.JoinedFiles.{AreAlike, alike_back, joined_alike}
 use Rattle.wit_syntax.proofs.JoinedHeaders.{HaveSameHeaders, headers_back, joined_headers}
 use Rattle.wit_arena.specs.Occurrences.{Key, keys, Occurrence, Collects}
-use Rattle.wit_arena.specs.Functions.{AreFunctions, placed_functions}
+use Rattle.wit_arena.specs.SourceFunctions.{AreFunctions, placed_functions}
 use Rattle.wit_arena.specs.Package.{IsInterface, IsWorld, IsForeignWorld, world_types}
 use Rattle.wit_arena.specs.OneByOne.{OneByOne}
 use Rattle.wit_arena.specs.Whole.{Ordered, OrderedWorld, all_inside, Turned, all_turns, addresses, HasTypes, HasSides, turn_handles, interface_addresses, world_addresses, declarations, AreRequired, first_docs, IsPackage, IsResolvedInterface, IsResolvedWorld}

@@ -24,7 +24,7 @@ use Rattle.wit_syntax.specs.Source.{address, is_world}
 use Rattle.wit_syntax.proofs.Lists.{at_prefix, at_back}
 use Rattle.wit_syntax.proofs.Repeated.{differ_none}
 use Rattle.wit_syntax.proofs.Sides.{functions_imported}
-use Rattle.wit_arena.specs.Functions.{AreFunctions}
+use Rattle.wit_arena.specs.SourceFunctions.{AreFunctions}
 use Rattle.wit_arena.specs.Occurrences.{Key, keys}
 use Rattle.wit_arena.specs.Package.{owner_of, names_of, functions_of, inline_owner, named_interface, named_world, interface_functions, interface_items, interfaces_from, import_types, item_functions, keyed, world_functions, world_interfaces, world_types}
 use Rattle.wit_arena.specs.Whole.{Ordered, OrderedWorld, all_inside, interface_addresses, owner_at, world_addresses, HasTypes, IsPackage}

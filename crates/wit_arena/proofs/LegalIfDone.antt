@@ -23,7 +23,7 @@ use Rattle.wit_syntax.specs.Scope.{in_order, item_rows, interfaces_of, worlds_of
 use Rattle.wit_syntax.specs.Sides.{inline_items, all_scopes}
 use Rattle.wit_arena.specs.Occurrences.{Def, keys}
 use Rattle.wit_syntax.specs.Function.{SourceFunction, functions}
-use Rattle.wit_arena.specs.Functions.{AreFunctions}
+use Rattle.wit_arena.specs.SourceFunctions.{AreFunctions}
 use Rattle.std.specs.List.{filter}
 use Rattle.wit_types.specs.declared.types.TypeOwner.TheVariants as owner
 use Rattle.wit_syntax.specs.Broken.{is_world_at, IsBroken, Use, InterfaceIncluded, MissingName, Scope, Sides, LinkedTwice, Handle, Setter}

@@ -13,7 +13,7 @@ use Rattle.wit_syntax.specs.Function.{functions as item_functions}
 use Rattle.wit_syntax.specs.Metadata.{Metadata, no_metadata}
 use Rattle.wit_syntax.specs.Source.{address, about, declared_metadata}
 use Rattle.wit_syntax.proofs.Lists.{map_map}
-use Rattle.wit_arena.specs.Functions.{by_name, placed_functions}
+use Rattle.wit_arena.specs.SourceFunctions.{by_name, placed_functions}
 use Rattle.wit_arena.specs.Made.{function_in, interface, foreign_interface, name_places, names_in_turn, own_interface}
 use Rattle.wit_arena.specs.Occurrences.{Key}
 use Rattle.wit_arena.specs.Package.{IsInterface}

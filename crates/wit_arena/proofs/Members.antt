@@ -14,7 +14,7 @@ use Rattle.wit_syntax.specs.Repeats.{AllDiffer}
 use Rattle.wit_functions.specs.declared.function.Function.{Function}
 use Rattle.wit_syntax.specs.Function.{SourceFunction}
 use Rattle.wit_syntax.specs.Sides.{FunctionKey}
-use Rattle.wit_arena.specs.Functions.{AreFunctions}
+use Rattle.wit_arena.specs.SourceFunctions.{AreFunctions}
 use Rattle.wit_arena.specs.Whole.{Turned, functions_at, turn_handles, AreRequired}
 use Rattle.wit_arena.specs.Resolving.{Names, ResolvedScope, Required, env_of, all_seen, AreNames}
 use Rattle.wit_syntax.specs.Scope.{AreDistinct, local_names}

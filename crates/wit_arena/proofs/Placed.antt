@@ -9,7 +9,7 @@ use Rattle.wit_functions.specs.Setters.{prefixes, is_getter, is_getter_of, goes_
 use Rattle.wit_functions.specs.declared.function.Function.{Function}
 use Rattle.wit_functions.specs.declared.function.FunctionKind.{FunctionKind}
 use Rattle.wit_functions.specs.declared.function.FunctionKind.TheVariants as kind
-use Rattle.wit_arena.specs.Functions.{by_name, placed_functions}
+use Rattle.wit_arena.specs.SourceFunctions.{by_name, placed_functions}
 use Rattle.wit_syntax.proofs.Lists.{map_at, flat_map_at, flat_map_has}
 use Rattle.wit_syntax.proofs.Kept.{after_one, kept_at, kept_has}
 

@@ -16,7 +16,7 @@ use Rattle.wit_syntax.specs.Function.{Role, Freestanding, Method, Static, Constr
 use Rattle.wit_syntax.specs.Shape.{Shape}
 use Rattle.wit_syntax.specs.Source.{ScopeName, local_name}
 use Rattle.wit_arena.specs.Expr.{expr_of}
-use Rattle.wit_arena.specs.Functions.{kinds_of, IsKind, IsParam, IsFunction}
+use Rattle.wit_arena.specs.SourceFunctions.{kinds_of, IsKind, IsParam, IsFunction}
 use Rattle.wit_arena.specs.Made.{type_of, role_kind, function_in, name_places}
 use Rattle.wit_arena.specs.Occurrences.{Key, Def, IsAt}
 use Rattle.wit_arena.specs.OneByOne.{OneByOne}

@@ -15,7 +15,7 @@ use Rattle.wit_type_tree.specs.declared.types.«Type».{«Type» as Written}
 use Rattle.wit_package_names.specs.declared.package_name.PackageName.{PackageName}
 use Rattle.wit_syntax.specs.Shape.{all_handles}
 use Rattle.wit_syntax.specs.Function.{functions, name_types}
-use Rattle.wit_arena.specs.Functions.{AreFunctions}
+use Rattle.wit_arena.specs.SourceFunctions.{AreFunctions}
 use Rattle.wit_syntax.specs.Address.{Address, ForeignNamed, same_address, package_of}
 use Rattle.wit_syntax.specs.Source.{Declared, TheInterface, TheWorld, TheInline, Item, all_items, item_at, ForeignName, local_name, ForeignUse, foreign_uses, same_foreign_use, first_foreign_uses, used_names, about, ScopeName}
 use Rattle.wit_syntax.specs.Sides.{all_scopes}

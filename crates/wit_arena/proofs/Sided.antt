@@ -24,7 +24,7 @@ use Rattle.wit_syntax.proofs.Kept.{after_one, differ_head, differ_tail}
 use Rattle.wit_syntax.proofs.Lists.{at_prefix, at_back, at_seam, at_either}
 use Rattle.wit_syntax.proofs.Sides.{functions_imported}
 use Rattle.wit_syntax.proofs.Turns.{at_part}
-use Rattle.wit_arena.specs.Functions.{IsFunction}
+use Rattle.wit_arena.specs.SourceFunctions.{IsFunction}
 use Rattle.wit_arena.specs.Occurrences.{Key, Def, Occurrence, keys, Collects, Decls, all_function_occurrences}
 use Rattle.wit_arena.specs.Package.{interface_functions}
 use Rattle.wit_arena.specs.Resolving.{env_of, ResolvedScope, Required, HasFunctions, AddsFunctions, AreEnded}

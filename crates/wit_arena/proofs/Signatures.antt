@@ -15,7 +15,7 @@ use Rattle.wit_syntax.specs.Form.{Form}
 use Rattle.wit_syntax.specs.Shape.{Shape}
 use Rattle.wit_syntax.specs.Address.{Address}
 use Rattle.wit_syntax.specs.Function.{Role, Freestanding, Method, Static, Constructor, OnSide, SourceParam, SourceFunction, all_params, signature}
-use Rattle.wit_arena.specs.Functions.{IsKind, IsFunction, AreFunctions, IsParam}
+use Rattle.wit_arena.specs.SourceFunctions.{IsKind, IsFunction, AreFunctions, IsParam}
 use Rattle.wit_arena.specs.Expr.{Exprs, expr_of, exprs_of}
 use Rattle.wit_arena.specs.Occurrences.{Key, Def, Whole, Occurrence, keys, Collects, IsAt, shape_occurrences, shapes_occurrences, all_function_occurrences}
 use Rattle.wit_arena.specs.Package.{function_types}

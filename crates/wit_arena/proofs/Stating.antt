@@ -19,7 +19,7 @@ use Rattle.wit_model.specs.declared.world.WorldItem.{WorldItem}
 use Rattle.wit_syntax.specs.Scope.{local_names}
 use Rattle.wit_syntax.specs.Function.{SourceFunction}
 use Rattle.wit_syntax.specs.Sides.{role_side, FunctionKey, SideItem, item_function}
-use Rattle.wit_arena.specs.Functions.{by_name, placed_functions}
+use Rattle.wit_arena.specs.SourceFunctions.{by_name, placed_functions}
 use Rattle.wit_arena.specs.SideItems.{AreSideItems, settled}
 use Rattle.wit_arena.specs.Package.{import_types, item_functions, keyed, interface_functions, world_functions}
 use Rattle.wit_arena.specs.Whole.{type_imports}

@@ -12,7 +12,7 @@ use Rattle.wit_syntax.specs.Foreign.{ForeignVisit, visited, foreign_visits}
 use Rattle.wit_syntax.specs.Function.{SourceFunction}
 use Rattle.wit_type_tree.specs.declared.types.FuncForm.{FuncForm}
 use Rattle.wit_functions.specs.declared.function.FunctionKind.{FunctionKind}
-use Rattle.wit_arena.specs.Functions.{kinds_of}
+use Rattle.wit_arena.specs.SourceFunctions.{kinds_of}
 use Rattle.wit_arena.specs.Occurrences.{Occurrence, shapes_occurrences, name_occurrences}
 use Rattle.wit_arena.specs.Whole.{Ordered, OrderedWorld, Turned, turn_occurrences, foreign_entry}
 use Rattle.std.specs.Option.{unwrap_or}

@@ -1,4 +1,4 @@
--- The types of unknown form are exactly the prefix of the arena: one for each name that is used from another package.
+-- The types of unknown form are exactly the start of the arena: one for each name that is used from another package.
 use Rattle.std.proofs.Common.{◌≡◌, ◌↔◌, ℕ, ◌<◌, true, false, List, [], ◌∷◌, ◌++◌, length, Option, Some, None, inl, inr, refl, sym, ap, ◌∙◌, subst, arith}
 use Rattle.std.specs.Prelude.{slice_get, map}
 use Rattle.std.specs.Option.{option_map, option_map_or}

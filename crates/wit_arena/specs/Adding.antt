@@ -10,7 +10,7 @@ use Rattle.wit_functions.specs.declared.function.Param.{Param}
 use Rattle.wit_syntax.specs.Shape.{Shape, Shapes, End, More}
 use Rattle.wit_syntax.specs.Address.{Address}
 use Rattle.wit_syntax.specs.Function.{Role, Freestanding, Method, Static, Constructor, OnSide, SourceParam}
-use Rattle.wit_arena.specs.Functions.{kinds_of}
+use Rattle.wit_arena.specs.SourceFunctions.{kinds_of}
 use Rattle.wit_arena.specs.Expr.{exprs_of}
 use Rattle.wit_arena.specs.Occurrences.{shape_occurrences}
 use Rattle.wit_arena.specs.Resolving.{Env, AreResolved}

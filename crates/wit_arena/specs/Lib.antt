@@ -2,7 +2,7 @@ pub mod Kind
 pub mod Expr
 pub mod Occurrences
 pub mod EntryEnds
-pub mod Functions
+pub mod SourceFunctions
 pub mod SideItems
 pub mod Package
 pub mod OneByOne

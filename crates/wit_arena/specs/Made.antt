@@ -47,7 +47,7 @@ use Rattle.wit_syntax.specs.Broken.{last_header, headers}
 use Rattle.wit_arena.specs.Kind.{kind_of}
 use Rattle.wit_arena.specs.Expr.{Expr, Prim, Use, Of, Exprs, End, More, expr_of, name_exprs}
 use Rattle.wit_arena.specs.Occurrences.{Key, Def, Whole, Occurrence, keys, stability_at}
-use Rattle.wit_arena.specs.Functions.{kinds_of}
+use Rattle.wit_arena.specs.SourceFunctions.{kinds_of}
 use Rattle.wit_arena.specs.SideItems.{link_item, inline_entry, settled}
 use Rattle.wit_arena.specs.Whole.{Turned, turn_handles, all_occurrences, AreRequired, place_at, owner_at, dep, renamed, first_docs}
 

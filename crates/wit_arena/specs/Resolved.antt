@@ -27,7 +27,7 @@ use Rattle.wit_functions.specs.declared.function.Function.{Function}
 use Rattle.wit_syntax.specs.Function.{SourceFunction, functions as item_functions, signature, name_types, written_types, all_types, item_types}
 use Rattle.wit_syntax.specs.Signature.{IsUnpairedSetter}
 use Rattle.wit_tree.specs.declared.tree.WorldSide.TheVariants.{Imported, Exported}
-use Rattle.wit_arena.specs.Functions.{placed_functions}
+use Rattle.wit_arena.specs.SourceFunctions.{placed_functions}
 use Rattle.wit_arena.specs.SideItems.{AreSideItems, settled}
 use Rattle.wit_syntax.specs.Broken.{is_world_at, IsBrokenScope, IsBrokenUse, IsLinkedTwice, IsSetterAlone}
 use Rattle.wit_syntax.specs.Sides.{Link, links, SideItem, SideFunction, SideLink, SideInline, side_items, inline_items, IsBrokenSides}

@@ -37,7 +37,7 @@ use Rattle.wit_arena.specs.Package.{At}
 use Rattle.wit_syntax.specs.Bodies.{IsBrokenType, IsBrokenPart, IsBrokenBody}
 use Rattle.wit_syntax.specs.Function.{SourceFunction}
 use Rattle.wit_functions.specs.declared.function.Function.{Function}
-use Rattle.wit_arena.specs.Functions.{AreFunctions, freestanding_names}
+use Rattle.wit_arena.specs.SourceFunctions.{AreFunctions, freestanding_names}
 use Rattle.wit_arena.specs.EntryEnds.{IsResource, IsUnknown as IsUnknownEntry, IsOther, entry_end}
 use Rattle.wit_syntax.specs.Sides.{Link, links}
 use Rattle.wit_syntax.specs.Broken.{is_world_at, IsBrokenScope}

@@ -21,7 +21,7 @@ use Rattle.wit_syntax.specs.ExternPart.{same_side}
 use Rattle.wit_syntax.specs.Metadata.{docs_of, no_docs, stability_of}
 use Rattle.wit_syntax.specs.Source.{TopName, path_id, path_scope}
 use Rattle.wit_syntax.specs.Sides.{role_side, Link, SideItem, SideFunction, SideLink, SideInline}
-use Rattle.wit_arena.specs.Functions.{function_item}
+use Rattle.wit_arena.specs.SourceFunctions.{function_item}
 
 -- an interface without a name of its own goes by its place
 abbrev pub link_key : Option Id → ℕ → WorldKey

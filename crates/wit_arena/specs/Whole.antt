@@ -35,7 +35,7 @@ use Rattle.wit_syntax.specs.Function.{SourceFunction, functions as item_function
 use Rattle.wit_syntax.specs.Ends.{AtResource, AtForeign, EndsAt}
 use Rattle.wit_type_tree.specs.declared.leaves.Id.{Id}
 use Rattle.wit_tree.specs.declared.tree.WorldSide.TheVariants.{Imported, Exported}
-use Rattle.wit_arena.specs.Functions.{IsFunction, placed_functions}
+use Rattle.wit_arena.specs.SourceFunctions.{IsFunction, placed_functions}
 use Rattle.wit_arena.specs.SideItems.{AreSideItems, settled}
 use Rattle.wit_syntax.specs.Scope.{item_rows, interfaces_of, worlds_of, includes, rows_of, in_order, in_turn}
 use Rattle.wit_types.specs.declared.docs.Docs.{Docs}
@@ -147,7 +147,7 @@ IsInclude worlds top x i = (i.stability ≡ stability_of x.attributes.items) × 
 abbrev pub AreIncludes : List Address → Item → List WorldInclude → Type 0
 AreIncludes worlds item is = OneByOne (IsInclude worlds item.top) (includes item) is
 
--- Behind the names of types a world has on its sides what an item has there, with functions over the types of the package, and each setter
+-- After the names of types a world has on its sides what an item has there, with functions over the types of the package, and each setter
 -- after its getter where nothing is included; the interfaces have these addresses, and those that are written in it have those.
 pub record HasSides (ks : List Key) (interfaces inside : List Address) (o : Ordered) (w : World) : Type 0 where
   pub functions : List Function

@@ -17,7 +17,7 @@ use Rattle.wit_syntax.proofs.Inline.{length-inline_after}
 use Rattle.wit_syntax.proofs.Refusing.{refused_weaker}
 use Rattle.wit_arena.specs.Resolving.{ResolvedScope, Names, Required, env_of}
 use Rattle.wit_arena.specs.Resolved.{AddsSides, IsWrongInside}
-use Rattle.wit_refusals.specs.Names.{Name}
+use Rattle.wit_refusals.specs.NameScopes.{Name}
 use Rattle.wit_rules.specs.declared.function_scope.FunctionScope.{FunctionScope}
 use Rattle.wit_rules.specs.Signatures.{IsWrongFunctionAmong, functions_view}
 use Rattle.wit_signatures.specs.ForeignName.{name_of_id}

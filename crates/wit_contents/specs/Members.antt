@@ -13,7 +13,7 @@ use Rattle.wit_syntax.specs.Sides.{IsFoldedTwice, inline_item, inline_items, nam
 use Rattle.wit_syntax.specs.Source.{Item, ScopeName, address, scope_names}
 use Rattle.wit_arena.specs.Resolving.{ResolvedScope, Names, Required, env_of}
 use Rattle.wit_arena.specs.Resolved.{AddsInterface, IsWrongInside}
-use Rattle.wit_refusals.specs.Names.{Name}
+use Rattle.wit_refusals.specs.NameScopes.{Name}
 use Rattle.wit_entries.specs.Requiring.{IsExtended}
 use Rattle.wit_rules.specs.declared.function_scope.FunctionScope.{FunctionScope}
 use Rattle.wit_rules.specs.Signatures.{IsWrongFunctionAmong, functions_view}

@@ -15,7 +15,7 @@ ghost use Rattle.wit_entries.specs.Requiring.{IsExtended};
 ghost use Rattle.wit_rules.specs.Borrowed.{function_view};
 ghost use Rattle.wit_signatures.specs.ForeignName.{name_of_function, name_of_id};
 ghost use Rattle.wit_items.specs.Items.{scope_item};
-ghost use Rattle.wit_arena.specs.Functions.{placed_functions};
+ghost use Rattle.wit_arena.specs.SourceFunctions.{placed_functions};
 ghost use Rattle.wit_arena.specs.Resolving.{ResolvedScope, Names};
 ghost use Rattle.wit_arena.specs.Resolved.{AddsInterface, IsNameless, IsWrongInterface};
 ghost use Rattle.wit_item_names.specs.Interfaces.{prefix_of};

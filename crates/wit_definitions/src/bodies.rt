@@ -9,7 +9,7 @@ ghost use Rattle.wit_syntax.specs.Address.{Address};
 ghost use Rattle.wit_arena.specs.Expr.{exprs_of};
 ghost use Rattle.wit_arena.specs.Occurrences.{shapes_occurrences};
 ghost use Rattle.wit_first.specs.First.{Finds};
-ghost use Rattle.wit_first.specs.Lists.{flags_fault, members_fault};
+ghost use Rattle.wit_first.specs.ListFaults.{flags_fault, members_fault};
 ghost use Rattle.wit_arena.specs.Resolving.{env_of, AreResolved};
 ghost use Rattle.wit_entries.specs.Faults.{body_fault, types_fault, written_fault};
 ghost use Rattle.wit_entries.specs.Reading.{AreTypes, IsOwn};

@@ -18,13 +18,13 @@ use Rattle.wit_syntax.specs.Bodies.{IsBrokenForm, IsBrokenType, IsBrokenBody}
 use Rattle.wit_syntax.specs.Fault.{Fault, fault, missing_type_at}
 use Rattle.wit_syntax.specs.Metadata.{IsBrokenMetadata}
 use Rattle.wit_syntax.specs.Shape.{body_of, shape_of, written_body, words, all_shapes, all_words, all_handles}
-use Rattle.wit_first.specs.Attributes.{metadata_fault}
+use Rattle.wit_first.specs.AttributeFaults.{metadata_fault}
 use Rattle.wit_first.specs.First.{first_in}
-use Rattle.wit_first.specs.Lists.{empty_fault, list_fault}
-use Rattle.wit_first.specs.Types.{type_fault, prefix_fault, back_fault}
+use Rattle.wit_first.specs.ListFaults.{empty_fault, list_fault}
+use Rattle.wit_first.specs.TypeFaults.{type_fault, prefix_fault, back_fault}
 use Rattle.wit_first.proofs.Bridge.{empty_agrees, in_some, key_agrees, list_agrees, metadata_agree, or_none_both, or_some}
 use Rattle.wit_first.proofs.First.{none_both}
-use Rattle.wit_first.proofs.Types.{AllTypes, by_parts, fault_parts, none_parts, tuple_fault, type_at, type_kept}
+use Rattle.wit_first.proofs.TypeFaults.{AllTypes, by_parts, fault_parts, none_parts, tuple_fault, type_at, type_kept}
 use Rattle.wit_arena.specs.EntryEnds.{EntryEnd, IsResource, IsUnknown, IsOther, entry_end, found_end}
 use Rattle.wit_arena.specs.Resolving.{Env, IsWrongHandle, IsWrongWord, IsWrongType, AreWrongTypes, IsWrongBody}
 use Rattle.wit_arena.proofs.Ends.{entry_end-same}

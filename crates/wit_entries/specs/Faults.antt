@@ -9,10 +9,10 @@ use Rattle.wit_type_tree.specs.declared.types.TypeDef.{TypeDef as Definition}
 use Rattle.wit_type_tree.specs.Parts.{body_types}
 use Rattle.wit_types.specs.declared.types.TypeDef.{TypeDef}
 use Rattle.wit_syntax.specs.Fault.{Fault, fault, missing_type_at}
-use Rattle.wit_first.specs.Attributes.{metadata_fault}
+use Rattle.wit_first.specs.AttributeFaults.{metadata_fault}
 use Rattle.wit_first.specs.First.{first_in}
-use Rattle.wit_first.specs.Lists.{list_fault}
-use Rattle.wit_first.specs.Types.{type_fault, outcome_fault}
+use Rattle.wit_first.specs.ListFaults.{list_fault}
+use Rattle.wit_first.specs.TypeFaults.{type_fault, outcome_fault}
 use Rattle.wit_arena.specs.EntryEnds.{EntryEnd, IsOther, entry_end}
 use Rattle.wit_arena.specs.Resolving.{Env}
 

@@ -18,7 +18,7 @@ use Rattle.wit_syntax.specs.ExternPart.{same_side}
 use Rattle.wit_syntax.specs.Sides.{role_side, names_on, SideItem, item_side, items_on, IsExternPart}
 use Rattle.wit_syntax.proofs.Lists.{at_prefix, at_back}
 use Rattle.wit_syntax.proofs.Addresses.{side_itself}
-use Rattle.wit_refusals.specs.Names.{Name, AreUsed, IsDefinedAgain}
+use Rattle.wit_refusals.specs.NameScopes.{Name, AreUsed, IsDefinedAgain}
 use Rattle.wit_refusals.specs.Scope.{HasName}
 use Rattle.wit_sides.specs.Sides.{only_on}
 use Rattle.wit_rules.specs.Borrowed.{across_of}

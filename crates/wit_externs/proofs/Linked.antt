@@ -20,7 +20,7 @@ use Rattle.wit_syntax.proofs.Found.{contains_at, at_contains}
 use Rattle.wit_syntax.proofs.Lists.{at_either, take_seam}
 use Rattle.wit_syntax.proofs.Repeated.{differ_more}
 use Rattle.wit_syntax.proofs.Addresses.{side_itself}
-use Rattle.wit_refusals.specs.Names.{Name}
+use Rattle.wit_refusals.specs.NameScopes.{Name}
 use Rattle.wit_rules.specs.declared.borrowed.BorrowedFunction.{BorrowedFunction}
 use Rattle.wit_externs.specs.declared.borrowed.PathTarget.TheVariants as path_target
 use Rattle.wit_externs.specs.declared.borrowed.BorrowedLink.{BorrowedLink}

@@ -9,7 +9,7 @@ use Rattle.wit_syntax.specs.Fault.{Fault}
 use Rattle.wit_syntax.specs.Repeats.{AllDiffer}
 use Rattle.wit_syntax.proofs.Lists.{at_prefix, at_seam, map_at}
 use Rattle.wit_syntax.proofs.Repeated.{differ_more}
-use Rattle.wit_refusals.specs.Names.{Name, AreUsed, IsDefinedAgain}
+use Rattle.wit_refusals.specs.NameScopes.{Name, AreUsed, IsDefinedAgain}
 use Rattle.wit_signatures.specs.ForeignName.{name_key, IsTwiceAmong}
 
 -- a name whose key is taken is twice among all

@@ -12,7 +12,7 @@ use Rattle.wit_syntax.specs.Function.{SourceFunction}
 use Rattle.wit_syntax.specs.Sides.{role_side, on_side, SideItem, SideFunction, SideLink, SideInline, Link, item_function, item_side, items_on, names_on}
 use Rattle.wit_syntax.proofs.Kept.{kept_at, kept_has}
 use Rattle.wit_syntax.proofs.Lists.{at_back, at_split, flat_map_at, flat_map_has, map_at}
-use Rattle.wit_refusals.specs.Names.{Name}
+use Rattle.wit_refusals.specs.NameScopes.{Name}
 use Rattle.wit_rules.specs.declared.borrowed.BorrowedFunction.{BorrowedFunction}
 use Rattle.wit_rules.specs.Borrowed.{function_view}
 use Rattle.wit_signatures.specs.ForeignName.{name_of_function, name_of_id}

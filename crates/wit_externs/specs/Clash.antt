@@ -8,7 +8,7 @@ use Rattle.wit_tree.specs.declared.tree.WorldSide.{WorldSide}
 use Rattle.wit_syntax.specs.Fault.{Fault, fault}
 use Rattle.wit_syntax.specs.Repeats.{AllDiffer}
 use Rattle.wit_syntax.specs.Sides.{SideItem, SideFunction, SideLink, SideInline, items_on, names_on, IsExternPart}
-use Rattle.wit_refusals.specs.Names.{Name}
+use Rattle.wit_refusals.specs.NameScopes.{Name}
 use Rattle.wit_refusals.specs.Scope.{HasName}
 use Rattle.wit_signatures.specs.ForeignName.{name_key, name_of_id, name_of_function, IsTwiceAmong}
 

@@ -3,4 +3,4 @@ pub mod Clash
 pub mod Links
 pub mod Next
 pub mod Setters
-pub mod Words
+pub mod SideWords

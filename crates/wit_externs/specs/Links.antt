@@ -7,7 +7,7 @@ use Rattle.wit_tree.specs.declared.tree.WorldSide.{WorldSide}
 use Rattle.wit_syntax.specs.Fault.{Fault, fault, missing_at, item_word}
 use Rattle.wit_syntax.specs.Metadata.{IsBrokenMetadata}
 use Rattle.wit_syntax.specs.Source.{path_id}
-use Rattle.wit_refusals.specs.Names.{Name}
+use Rattle.wit_refusals.specs.NameScopes.{Name}
 use Rattle.wit_externs.specs.declared.borrowed.PathTarget.{PathTarget}
 use Rattle.wit_externs.specs.declared.borrowed.PathTarget.TheVariants as path_target
 use Rattle.wit_externs.specs.declared.borrowed.BorrowedLink.{BorrowedLink}

@@ -8,7 +8,7 @@ use Rattle.wit_syntax.specs.ExternPart.{same_side}
 use Rattle.wit_syntax.specs.Fault.{Fault, fault}
 use Rattle.wit_syntax.specs.Metadata.{IsBrokenMetadata}
 use Rattle.wit_syntax.specs.Source.{path_id}
-use Rattle.wit_refusals.specs.Names.{Name}
+use Rattle.wit_refusals.specs.NameScopes.{Name}
 use Rattle.wit_externs.specs.declared.borrowed.BorrowedLink.{BorrowedLink}
 use Rattle.wit_externs.specs.declared.borrowed.BorrowedInline.{BorrowedInline}
 use Rattle.wit_externs.specs.declared.borrowed.BorrowedExtern.{BorrowedExtern}

@@ -5,12 +5,12 @@ ghost use Rattle.wit_tree.specs.declared.tree.WorldSide.{WorldSide};
 ghost use Rattle.wit_syntax.specs.Broken.{Refused};
 ghost use Rattle.wit_syntax.specs.Repeats.{AllDiffer};
 ghost use Rattle.wit_syntax.specs.Sides.{SideFunction, items_on};
-ghost use Rattle.wit_refusals.specs.Names.{IsDefinedAgain, AreUsed};
+ghost use Rattle.wit_refusals.specs.NameScopes.{IsDefinedAgain, AreUsed};
 ghost use Rattle.wit_rules.specs.Borrowed.{function_view};
 ghost use Rattle.wit_sides.specs.Sides.{only_on, defined_on};
 ghost use Rattle.wit_signatures.specs.ForeignName.{name_key, name_of_made, name_of_function};
 ghost use Rattle.wit_externs.specs.Clash.{IsClash, names_of_items, IsCrossed};
-ghost use Rattle.wit_externs.specs.Words.{conflict, side_word};
+ghost use Rattle.wit_externs.specs.SideWords.{conflict, side_word};
 
 use crate::borrowed::BorrowedExtern;
 use std::alloc::{AllocError, Global};

@@ -3,7 +3,7 @@ ghost use Rattle.std.specs.Prelude.{◌≡◌, ◌++◌, ◌∷◌, [], Contains
 ghost use Rattle.std.specs.Map.{keys_of};
 ghost use Rattle.wit_syntax.specs.Broken.{Refused};
 ghost use Rattle.wit_externs.specs.Next.{IsLinked, linked_on, only_place};
-ghost use Rattle.wit_externs.specs.Words.{repeated};
+ghost use Rattle.wit_externs.specs.SideWords.{repeated};
 
 use std::alloc::{AllocError, Global};
 use wit_maps::Table;

@@ -25,14 +25,14 @@ use Rattle.wit_syntax.proofs.Orders.{take_next}
 use Rattle.wit_syntax.proofs.Tables.{place_of-Some, none_if}
 use Rattle.wit_syntax.proofs.Found.{at_contains}
 use Rattle.wit_syntax.proofs.Legal.{no_missing_edge, no_cyclic_edge}
-use Rattle.wit_first.specs.Files.{file_fault, files_fault, paths_fault, tops_fault, visits_fault}
+use Rattle.wit_first.specs.FileFaults.{file_fault, files_fault, paths_fault, tops_fault, visits_fault}
 use Rattle.wit_first.specs.First.{IsOr, first_in}
 use Rattle.wit_first.specs.Laws.{AgreesBy}
-use Rattle.wit_first.specs.Names.{item_names_fault, top_names_fault}
-use Rattle.wit_first.specs.Orders.{IsItemOrderFault, IsNamesFault, IsOrderedFault, items_prefix, names_prefix}
+use Rattle.wit_first.specs.NameFaults.{item_names_fault, top_names_fault}
+use Rattle.wit_first.specs.OrderFaults.{IsItemOrderFault, IsNamesFault, IsOrderedFault, items_prefix, names_prefix}
 use Rattle.wit_first.proofs.Bridge.{in_only, item_names_agree, or_none_both, or_some, top_names_agree}
-use Rattle.wit_first.proofs.Files.{tops_agree, visits_agree}
-use Rattle.wit_first.proofs.Orders.{or_back, or_prefix, or_is, or_neither, order_broken}
+use Rattle.wit_first.proofs.FileFaults.{tops_agree, visits_agree}
+use Rattle.wit_first.proofs.OrderFaults.{or_back, or_prefix, or_is, or_neither, order_broken}
 use Rattle.wit_top_names.specs.Tops.{Named, AreNamed, AreDeclared}
 use Rattle.wit_files.specs.FileNames.{AreTopsOf, AreTablesOf, AddsTop, names_at_top, top_at}
 use Rattle.wit_files.specs.declared.tables.Tables.{Tables}

@@ -7,7 +7,7 @@ use Rattle.wit_type_tree.specs.Refusal.{IsAllocationFailure}
 use Rattle.wit_graph.specs.Table.{Row, IsEdge}
 use Rattle.wit_graph.specs.Faults.{IsFirstMissing, IsFirstCyclic}
 use Rattle.wit_syntax.specs.Fault.{Fault, fault_of}
-use Rattle.wit_first.specs.Orders.{IsOrderFault}
+use Rattle.wit_first.specs.OrderFaults.{IsOrderFault}
 
 -- one place and index have one edge
 same_edge : (rs : List Row) (i k : ℕ) (a b : Id) → IsEdge rs i k a → IsEdge rs i k b → a ≡ b

@@ -3,7 +3,7 @@ ghost use Rattle.std.specs.Prelude.{◌≡◌, ◌++◌, List, [], ◌∷◌, ma
 ghost use Rattle.wit_syntax.specs.Address.{ForeignNamed, package_of, release_of, same_address};
 ghost use Rattle.wit_syntax.specs.Foreign.{ForeignVisit as TheVisit, path_visits, file_visits, foreign_visits as the_visits, visited, same_item};
 ghost use Rattle.wit_syntax.specs.Repeats.{firsts};
-ghost use Rattle.wit_first.specs.Files.{visits_fault};
+ghost use Rattle.wit_first.specs.FileFaults.{visits_fault};
 ghost use Rattle.wit_first.specs.First.{Finds};
 ghost use Rattle.wit_files.specs.Foreign.{foreign_view, wants_world, key_release, key_address, AreItemsOf};
 

@@ -7,9 +7,9 @@ ghost use Rattle.wit_syntax.specs.Scope.{use_path, include_path, item_row};
 ghost use Rattle.wit_syntax.specs.Fault.{cyclic_at, missing_at, item_word};
 ghost use Rattle.wit_syntax.specs.Repeats.{AllDiffer};
 ghost use Rattle.wit_top_names.specs.Tops.{AreNamed, AreDeclared};
-ghost use Rattle.wit_first.specs.Files.{paths_fault, unnamed_fault};
+ghost use Rattle.wit_first.specs.FileFaults.{paths_fault, unnamed_fault};
 ghost use Rattle.wit_first.specs.First.{Finds, FindsBy, first_in};
-ghost use Rattle.wit_first.specs.Orders.{IsOrderFault};
+ghost use Rattle.wit_first.specs.OrderFaults.{IsOrderFault};
 ghost use Rattle.wit_top_names.specs.Checks.{edges_of};
 
 use crate::order_refusal::refuse_item_order;

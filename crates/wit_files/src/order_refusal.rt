@@ -5,7 +5,7 @@ ghost use Rattle.wit_type_tree.specs.Refusal.{IsAllocationFailure};
 ghost use Rattle.wit_graph.specs.Table.{rows, IsEdge};
 ghost use Rattle.wit_graph.specs.Faults.{IsFaultOf};
 ghost use Rattle.wit_syntax.specs.Fault.{cyclic_at, fault_of, missing_at, missing_type_at, item_word, type_word};
-ghost use Rattle.wit_first.specs.Orders.{IsOrderFault};
+ghost use Rattle.wit_first.specs.OrderFaults.{IsOrderFault};
 
 use std::alloc::Global;
 use wit_maps::Table;

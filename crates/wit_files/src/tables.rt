@@ -6,9 +6,9 @@ ghost use Rattle.wit_syntax.specs.Source.{Item as TheItem, file_items, all_items
 ghost use Rattle.wit_syntax.specs.Scope.{item_row, item_rows};
 ghost use Rattle.wit_syntax.specs.Repeats.{AllDiffer};
 ghost use Rattle.wit_syntax.specs.Foreign.{foreign_visits as the_visits};
-ghost use Rattle.wit_first.specs.Files.{file_fault, file_tops_fault, files_fault, tops_fault, visits_fault};
+ghost use Rattle.wit_first.specs.FileFaults.{file_fault, file_tops_fault, files_fault, tops_fault, visits_fault};
 ghost use Rattle.wit_first.specs.First.{Finds, FindsBy, IsOr};
-ghost use Rattle.wit_first.specs.Orders.{IsItemOrderFault, IsNamesFault, items_prefix, names_prefix};
+ghost use Rattle.wit_first.specs.OrderFaults.{IsItemOrderFault, IsNamesFault, items_prefix, names_prefix};
 ghost use Rattle.wit_top_names.specs.Tops.{AreDeclared};
 ghost use Rattle.wit_files.specs.Foreign.{foreign_view, AreItemsOf};
 ghost use Rattle.wit_files.specs.FileNames.{AddsTop, AreTablesOf, AreDeclarationsOf};

@@ -22,7 +22,7 @@ pub enum Wanted {
     Unknown,
 }
 
-/// A path of a file, with whose it is, what is stated before it, and what is taken by it.
+/// A path of a file, its item, the attributes before it, and the names used through it.
 #[derive(Clone, Copy, Debug)]
 pub struct Visit<'f, 'a> {
     /// The name of the item that has to come after what the path leads to: of a declared interface

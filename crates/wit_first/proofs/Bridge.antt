@@ -35,12 +35,12 @@ use Rattle.wit_syntax.specs.Source.{TopName, top_text, top_names, Item, item_nam
 use Rattle.wit_syntax.proofs.Found.{at_contains, contains_at}
 use Rattle.wit_syntax.proofs.Lists.{at_take, map_at}
 use Rattle.wit_syntax.proofs.Names.{name_equal, name_itself}
-use Rattle.wit_first.specs.Attributes.{number_of, repeat_fault, counted_fault, each_once_fault, kinds_fault, together_fault, stability_fault, external_fault, metadata_fault}
+use Rattle.wit_first.specs.AttributeFaults.{number_of, repeat_fault, counted_fault, each_once_fault, kinds_fault, together_fault, stability_fault, external_fault, metadata_fault}
 use Rattle.wit_first.specs.First.{first_in, first_after, Reports, repeat_of, first_repeat}
-use Rattle.wit_first.specs.MapKeys.{can_be_key, is_key, key_fault}
+use Rattle.wit_first.specs.KeyFaults.{can_be_key, is_key, key_fault}
 use Rattle.wit_first.specs.Laws.{Agrees}
-use Rattle.wit_first.specs.Lists.{empty_fault, names_fault, flag_fault, members_fault, flags_fault, list_fault}
-use Rattle.wit_first.specs.Names.{item_names_fault, top_names_fault, local_names_fault}
+use Rattle.wit_first.specs.ListFaults.{empty_fault, names_fault, flag_fault, members_fault, flags_fault, list_fault}
+use Rattle.wit_first.specs.NameFaults.{item_names_fault, top_names_fault, local_names_fault}
 use Rattle.wit_first.proofs.First.{any_some}
 
 -- an error that reports the first fault refuses a broken rule

@@ -1,7 +1,7 @@
 pub mod First
 pub mod Bridge
-pub mod Functions
-pub mod Files
-pub mod Orders
-pub mod Types
+pub mod FunctionFaults
+pub mod FileFaults
+pub mod OrderFaults
+pub mod TypeFaults
 pub mod Repeats

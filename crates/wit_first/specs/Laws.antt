@@ -7,9 +7,9 @@ use Rattle.wit_type_tree.specs.declared.types.«Type».{«Type» as Written}
 use Rattle.wit_syntax.specs.Fault.{Fault}
 use Rattle.wit_syntax.specs.Bodies.{IsBrokenList, IsInvalidKey}
 use Rattle.wit_syntax.specs.Metadata.{IsBrokenStability, IsBrokenMetadata}
-use Rattle.wit_first.specs.Attributes.{stability_fault, metadata_fault}
-use Rattle.wit_first.specs.Lists.{list_fault}
-use Rattle.wit_first.specs.MapKeys.{key_fault}
+use Rattle.wit_first.specs.AttributeFaults.{stability_fault, metadata_fault}
+use Rattle.wit_first.specs.ListFaults.{list_fault}
+use Rattle.wit_first.specs.KeyFaults.{key_fault}
 
 -- the first fault breaks one of the rules, and where there is none, none of them is broken
 pub record Agrees (first : Option Fault) (Broken : Fault → Type 0) : Type 0 where

@@ -1,4 +1,4 @@
-//! How names are spelled and functions are called across a component's border.
+//! How names are spelled and functions are called across a component's boundary.
 ghost use Rattle.std.specs.Prelude.{◌≡◌, IfErr, Some};
 ghost use Rattle.std.specs.Result.{result_ok};
 ghost use Rattle.wit_functions.specs.Abi.{abi_of, choice_for, export_of, fault_text, import_of, in_sync, mangling_named, mangling_of, waits};
@@ -29,7 +29,7 @@ pub enum ManglingAndAbi {
     Legacy(LiftLowerAbi),
 }
 
-/// On which side of the border a function is, and how it is called.
+/// On which side of the FFI a function is, and how it is called.
 #[derive(Debug, Clone, Copy, PartialEq, Eq)]
 pub enum AbiVariant {
     GuestImport,

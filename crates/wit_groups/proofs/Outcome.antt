@@ -15,8 +15,8 @@ use Rattle.wit_model.specs.declared.unresolved.UnresolvedPackage.{UnresolvedPack
 use Rattle.wit_syntax.specs.Fault.{Fault}
 use Rattle.wit_syntax.specs.Broken.{Refused}
 use Rattle.wit_nested.specs.Nested.{GrowByNested, IsUnfit}
-use Rattle.wit_nested.specs.Names.{IsUnjoined}
-use Rattle.wit_nested.specs.Names.IsUnjoined.{Broken, Repeated as RepeatedName}
+use Rattle.wit_nested.specs.PackageNames.{IsUnjoined}
+use Rattle.wit_nested.specs.PackageNames.IsUnjoined.{Broken, Repeated as RepeatedName}
 use Rattle.wit_groups.specs.declared.group.UnresolvedPackageGroup.{UnresolvedPackageGroup}
 use Rattle.wit_groups.specs.Groups.{AreRefused, AreUsed, IsAlone, IsRefused, IsTree, IsUnparsed, IsUnread}
 use Rattle.wit_groups.specs.Groups.AreRefused.{Unread, Unfit, Illegal, Repeated}

@@ -16,7 +16,7 @@ use Rattle.wit_syntax.specs.Fault.{Fault, fault_of}
 use Rattle.wit_syntax.specs.Broken.{IsBroken, Refused}
 use Rattle.wit_arena.specs.Faithful.{IsMadeOf}
 use Rattle.wit_nested.specs.Nested.{GrowByNested, IsUnfit}
-use Rattle.wit_nested.specs.Names.{AreNamedApart, IsRepeatedPackage}
+use Rattle.wit_nested.specs.PackageNames.{AreNamedApart, IsRepeatedPackage}
 
 -- the source spells the tree, from its beginning to its end
 abbrev pub IsTree : Source → SourceFile → Type 0
@@ -54,7 +54,7 @@ pub data AreRefused (turn : List Source) (e : ParseError) : Type 0 where
   Repeated : (files : List PackageFile) (packages : List UnresolvedPackage) (main : UnresolvedPackage) → AreUsed turn files packages → IsMadeOf files main →
       IsRepeatedPackage main packages (fault_of e) → AreRefused turn e
 
--- the sources, taken by path, are refused, or memory was wanted
+-- the sources, taken by path, are refused, or an allocation failed
 pub data IsRefused (sources : List Source) (e : ParseError) : Type 0 where
   InTurn : (turn : List Source) → IsByPath sources turn → AreRefused turn e → IsRefused sources e
   Wanted : IsAllocationFailure e → IsRefused sources e

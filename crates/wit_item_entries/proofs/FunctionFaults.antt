@@ -22,7 +22,7 @@ use Rattle.wit_syntax.proofs.Found.{contains_at}
 use Rattle.wit_arena.proofs.Meant.{free_unmeant}
 use Rattle.wit_arena.proofs.Required.{handle_of}
 use Rattle.wit_arena.proofs.Written.{handles_at}
-use Rattle.wit_refusals.specs.Names.{Name}
+use Rattle.wit_refusals.specs.NameScopes.{Name}
 use Rattle.wit_sides.specs.Sides.{defined_on}
 use Rattle.wit_sides.specs.declared.sides.Sides.{Sides}
 use Rattle.wit_rules.specs.Signatures.{AreAllNames, IsWrongFunctionAmong}

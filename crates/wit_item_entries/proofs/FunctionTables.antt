@@ -8,7 +8,7 @@ use Rattle.wit_model.specs.declared.world.WorldKey.{WorldKey}
 use Rattle.wit_model.specs.declared.world.WorldKey.TheVariants as key
 use Rattle.wit_model.specs.declared.world.WorldItem.TheVariants as item
 use Rattle.wit_model.specs.contracts.world.WorldKeyPartialEq.TheImpl.{eq-value as key_test}
-use Rattle.wit_arena.specs.Functions.{by_name}
+use Rattle.wit_arena.specs.SourceFunctions.{by_name}
 use Rattle.wit_syntax.specs.Repeats.{AllDiffer}
 use Rattle.wit_arena.proofs.FunctionNames.{made_name}
 use Rattle.wit_syntax.proofs.Names.{name_cases}

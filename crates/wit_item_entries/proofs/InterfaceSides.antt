@@ -15,7 +15,7 @@ use Rattle.wit_syntax.proofs.Legal.{no_fold, no_crossed}
 use Rattle.wit_syntax.proofs.Lists.{map_at}
 use Rattle.wit_syntax.proofs.Sides.{interface_imported, side_items_functions}
 use Rattle.wit_syntax.proofs.Unnoted.{unbroken_metadata}
-use Rattle.wit_refusals.specs.Names.{Name}
+use Rattle.wit_refusals.specs.NameScopes.{Name}
 use Rattle.wit_rules.specs.declared.borrowed.BorrowedFunction.{BorrowedFunction}
 use Rattle.wit_rules.specs.Borrowed.{function_view}
 use Rattle.wit_signatures.specs.ForeignName.{name_of_function, name_of_id}

@@ -5,7 +5,7 @@ use Rattle.wit_functions.specs.declared.function.Function.{Function}
 use Rattle.wit_functions.specs.Setters.{is_getter_of, pairs, placed, setters_placed}
 use Rattle.wit_functions.proofs.InTurn.{in_turn}
 use Rattle.wit_functions.proofs.Pairs.{in_turn-placed}
-use Rattle.wit_arena.specs.Functions.{by_name}
+use Rattle.wit_arena.specs.SourceFunctions.{by_name}
 use Rattle.wit_syntax.specs.Repeats.{AllDiffer}
 use Rattle.wit_arena.proofs.FunctionNames.{made_name, names_distinct}
 use Rattle.wit_setters.proofs.Keys.{in_turn_differ}

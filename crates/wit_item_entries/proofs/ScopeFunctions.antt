@@ -27,7 +27,7 @@ use Rattle.wit_arena.proofs.FunctionNames.{names_differ, made_name}
 use Rattle.wit_syntax.proofs.Lists.{map_map}
 use Rattle.wit_arena.proofs.Required.{ended_append, ended_more}
 use Rattle.wit_arena.proofs.Written.{all_handles-append}
-use Rattle.wit_refusals.specs.Names.{Name}
+use Rattle.wit_refusals.specs.NameScopes.{Name}
 use Rattle.wit_entries.specs.Requiring.{IsExtended, Requires}
 use Rattle.wit_rules.specs.Signatures.{IsWrongFunctionAmong}
 use Rattle.wit_signatures.specs.ForeignName.{name_of_function, name_of_id, name_of_made, name_key}

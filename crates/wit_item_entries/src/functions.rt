@@ -6,7 +6,7 @@ ghost use Rattle.indexmap.specs.IndexMap.{insert_entry};
 ghost use Rattle.wit_syntax.specs.Repeats.{AllDiffer};
 ghost use Rattle.wit_syntax.specs.Source.{interface_part, local_name, about};
 ghost use Rattle.wit_syntax.specs.Function.{definition_functions, part_functions};
-ghost use Rattle.wit_arena.specs.Functions.{placed_functions};
+ghost use Rattle.wit_arena.specs.SourceFunctions.{placed_functions};
 ghost use Rattle.wit_rules.specs.Borrowed.{function_view};
 ghost use Rattle.wit_syntax.specs.Signature.{body_ok};
 ghost use Rattle.wit_rules.specs.Signatures.{stated_ok, AreResults};

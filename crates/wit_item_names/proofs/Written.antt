@@ -19,7 +19,7 @@ use Rattle.wit_syntax.specs.Source.{TopName, interface_part, part_names, Part, D
 use Rattle.wit_syntax.specs.Scope.{part_uses}
 use Rattle.wit_syntax.specs.Sides.{SideItem, SideFunction, item_side, items_on, extern_items, part_items}
 use Rattle.wit_syntax.proofs.Found.{at_contains}
-use Rattle.wit_first.specs.Uses.{own_uses}
+use Rattle.wit_first.specs.UseFaults.{own_uses}
 use Rattle.wit_item_names.specs.InlineNames.{inline_names, kind_items, written_items, side_uses}
 
 -- the uses of a part of an interface are its own

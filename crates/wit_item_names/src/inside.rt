@@ -6,7 +6,7 @@ ghost use Rattle.wit_syntax.specs.Source.{TheWorld, world_part as the_world_part
 ghost use Rattle.wit_syntax.specs.Sides.{items_on, part_items};
 ghost use Rattle.wit_syntax.specs.Foreign.{visited, foreign_interfaces};
 ghost use Rattle.wit_first.specs.First.{Finds};
-ghost use Rattle.wit_first.specs.Uses.{uses_fault};
+ghost use Rattle.wit_first.specs.UseFaults.{uses_fault};
 ghost use Rattle.wit_files.specs.FileNames.{top_at};
 ghost use Rattle.wit_item_names.specs.Items.{HasItem};
 ghost use Rattle.wit_item_names.specs.InlineNames.{inline_names, kind_items, side_uses, written_items};

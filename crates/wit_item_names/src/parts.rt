@@ -6,7 +6,7 @@ ghost use Rattle.wit_syntax.specs.ExternPart.{item_uses};
 ghost use Rattle.wit_syntax.specs.Source.{TheWorld, interface_part as the_interface_part, world_part as the_world_part, part_names, path_scope};
 ghost use Rattle.wit_syntax.specs.Foreign.{visited, foreign_interfaces};
 ghost use Rattle.wit_first.specs.First.{Finds};
-ghost use Rattle.wit_first.specs.Uses.{own_uses, use_fault, uses_fault};
+ghost use Rattle.wit_first.specs.UseFaults.{own_uses, use_fault, uses_fault};
 ghost use Rattle.wit_files.specs.FileNames.{top_at};
 ghost use Rattle.wit_scopes.specs.Borrowed.{source_view, name_view, IsPlaced};
 ghost use Rattle.wit_item_names.specs.Items.{part_view, HasItem, HasPath};

@@ -4,7 +4,7 @@ ghost use Rattle.std.specs.Option.{option_copied};
 ghost use Rattle.wit_syntax.specs.Source.{Local, leads, path_scope};
 ghost use Rattle.wit_syntax.specs.Foreign.{visited, foreign_interfaces};
 ghost use Rattle.wit_first.specs.First.{Finds};
-ghost use Rattle.wit_first.specs.Uses.{path_fault};
+ghost use Rattle.wit_first.specs.UseFaults.{path_fault};
 ghost use Rattle.wit_top_names.specs.Tops.{target_view};
 ghost use Rattle.wit_files.specs.FileNames.{top_at};
 ghost use Rattle.wit_scopes.specs.Borrowed.{source_view, IsPlaced};

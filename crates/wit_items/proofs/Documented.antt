@@ -12,7 +12,7 @@ use Rattle.wit_syntax.specs.Metadata.{docs_of}
 use Rattle.wit_syntax.specs.Broken.{IsDocumented, IsSecondDocs, headers}
 use Rattle.wit_arena.specs.Whole.{first_docs}
 use Rattle.wit_syntax.proofs.Found.{at_contains, contains_at}
-use Rattle.wit_first.specs.Headers.{is_documented, have_docs, second_docs_fault}
+use Rattle.wit_first.specs.HeaderFaults.{is_documented, have_docs, second_docs_fault}
 use Rattle.wit_first.specs.Laws.{Agrees}
 
 cons_option-append : (o : Option Header) (xs ys : List Header) → cons_option o (xs ++ ys) ≡ cons_option o xs ++ ys

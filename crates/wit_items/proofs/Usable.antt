@@ -19,11 +19,11 @@ use Rattle.wit_syntax.specs.Source.{Target, Local, Foreign, leads, path_id, top_
 use Rattle.wit_syntax.specs.Scope.{use_paths, uses}
 use Rattle.wit_syntax.proofs.Lists.{at_either}
 use Rattle.wit_syntax.proofs.Found.{at_contains, contains_at}
-use Rattle.wit_first.specs.Attributes.{metadata_fault}
-use Rattle.wit_first.specs.Files.{lost_fault}
-use Rattle.wit_first.specs.Uses.{all_uses_fault, item_uses_fault, own_uses, path_fault, reached_fault, use_fault}
+use Rattle.wit_first.specs.AttributeFaults.{metadata_fault}
+use Rattle.wit_first.specs.FileFaults.{lost_fault}
+use Rattle.wit_first.specs.UseFaults.{all_uses_fault, item_uses_fault, own_uses, path_fault, reached_fault, use_fault}
 use Rattle.wit_first.proofs.Bridge.{in_only, in_some, metadata_agree, or_none_both, or_some}
-use Rattle.wit_first.proofs.Files.{lost_agrees, lost_at}
+use Rattle.wit_first.proofs.FileFaults.{lost_agrees, lost_at}
 use Rattle.wit_top_names.proofs.Lost.{at_flat}
 use Rattle.wit_files.specs.FileNames.{names_at_top}
 use Rattle.wit_items.specs.declared.items.Item.{Item as Borrowed}

@@ -19,7 +19,7 @@ use Rattle.wit_syntax.specs.Scope.{part_uses, uses}
 use Rattle.wit_syntax.proofs.Addresses.{side_itself}
 use Rattle.wit_syntax.proofs.Lists.{flat_map_at}
 use Rattle.wit_syntax.proofs.Found.{at_contains, contains_at}
-use Rattle.wit_first.specs.Uses.{item_uses_fault, own_uses, use_fault, uses_fault}
+use Rattle.wit_first.specs.UseFaults.{item_uses_fault, own_uses, use_fault, uses_fault}
 use Rattle.wit_first.proofs.Bridge.{in_only, or_none_both}
 use Rattle.wit_first.proofs.First.{in-append}
 use Rattle.wit_scopes.specs.Borrowed.{name_view}

@@ -7,7 +7,7 @@ ghost use Rattle.wit_syntax.specs.Address.{package_of};
 ghost use Rattle.wit_syntax.specs.Broken.{IsSamePackage, headers};
 ghost use Rattle.wit_arena.specs.Whole.{first_docs};
 ghost use Rattle.wit_first.specs.First.{Finds};
-ghost use Rattle.wit_first.specs.Headers.{have_docs, is_documented, second_docs_fault};
+ghost use Rattle.wit_first.specs.HeaderFaults.{have_docs, is_documented, second_docs_fault};
 ghost use Rattle.wit_items.specs.FileHeaders.{mismatch};
 
 use semver::Version;

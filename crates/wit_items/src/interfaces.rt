@@ -13,7 +13,7 @@ use wit_types::{Arena, InterfaceId, InterfacePlace};
 #[derive(Drop)]
 pub struct Interfaces<'n, 'e, 'f, 'a> {
     pub files: Files<'n, 'e, 'f, 'a>,
-    /// The interfaces of other packages are its prefix.
+    /// The interfaces of other packages come first in it.
     pub arena: Arena<Interface, InterfacePlace>,
     pub by_name: TextTable<InterfaceId>,
     pub ghost prefix: { length (prefix_of files) ≤ length arena },

@@ -4,7 +4,7 @@ ghost use Rattle.wit_tree.specs.declared.tree.WorldSide.{WorldSide as TheSide};
 ghost use Rattle.wit_syntax.specs.Source.{scope_names, file_items, all_items};
 ghost use Rattle.wit_syntax.specs.Foreign.{visited, foreign_interfaces};
 ghost use Rattle.wit_first.specs.First.{Finds, first_in};
-ghost use Rattle.wit_first.specs.Uses.{all_uses_fault, item_uses_fault};
+ghost use Rattle.wit_first.specs.UseFaults.{all_uses_fault, item_uses_fault};
 ghost use Rattle.wit_scopes.specs.Borrowed.{name_view};
 ghost use Rattle.wit_item_names.specs.Items.{AreEntriesOf};
 ghost use Rattle.wit_items.specs.Items.{item_view, names_view, scope_item, AreFiled};

@@ -1,6 +1,6 @@
 //! What is stated of a declared item: its docs, and how stable it is.
 ghost use Rattle.std.specs.Prelude.{◌≡◌, IfOk};
-ghost use Rattle.wit_first.specs.Attributes.{stability_fault};
+ghost use Rattle.wit_first.specs.AttributeFaults.{stability_fault};
 ghost use Rattle.wit_first.specs.First.{Finds};
 ghost use Rattle.wit_syntax.specs.Metadata.{docs_of, stability_of};
 ghost use Rattle.wit_syntax.specs.Source.{declared_metadata, about};

@@ -47,10 +47,10 @@ use Rattle.wit_json.specs.Interfaces.{interface_json, table_json}
 use Rattle.wit_json.specs.Worlds.{externs_json, import_members, include_json, item_json, rename_json, world_json, world_key}
 use Rattle.wit_json.specs.Package.{ast_item_json, deps_json, foreign_json, package_json, required_json}
 use Rattle.wit_json.specs.Group.{source_json}
-use Rattle.wit_json.specs.Words.{word}
+use Rattle.wit_json.specs.MemberWords.{word}
 use Rattle.wit_json.specs.DistinctKeys.{HasOwnEntries, HasOwnKeys, HasOwnMembers, HasOwnSides}
 use Rattle.wit_json.specs.Laws.{Group, HasOwnMaps, IsPlain, json_of}
-use Rattle.wit_json.specs.Plain.{IsPlainDep, IsPlainExtern, IsPlainPackage, IsPlainWorld}
+use Rattle.wit_json.specs.PlainPackages.{IsPlainDep, IsPlainExtern, IsPlainPackage, IsPlainWorld}
 use Rattle.wit_json.proofs.Texts.{name_determines, world_key_determines}
 use Rattle.wit_json.proofs.Shapes.{case_shape, clone_value, def_apart, def_shape, deprecated_value, docs_value, enum_case_shape, external_value, field_apart, field_shape, flag_apart, flag_shape, function_apart, function_shape, group_apart, group_shape, import_apart, import_shape, include_apart, include_shape, interface_apart, interface_shape, outcome_apart, outcome_shape, package_apart, package_shape, param_apart, param_shape, rename_apart, rename_shape, result_value, source_apart, source_shape, stability_value, stable_apart, stable_shape, type_apart, type_shape, unstable_apart, unstable_shape, world_apart, world_shape}
 use Rattle.wit_json.proofs.Unique.{Unique, UniqueOption, atom, each_unique, fields_unique, list_more, list_unique, map_unique, one_unique, pair_unique, table_unique, texts_distinct}

@@ -32,7 +32,7 @@ use Rattle.wit_json.specs.Interfaces.{clone_members, interface_json, interface_m
 use Rattle.wit_json.specs.Worlds.{externs_json, import_members, include_json, include_members, rename_json, rename_members, type_members, world_json, world_members}
 use Rattle.wit_json.specs.Package.{deps_json, package_json, package_members, required_json}
 use Rattle.wit_json.specs.Group.{group_members, source_json, source_members}
-use Rattle.wit_json.specs.Words.{word}
+use Rattle.wit_json.specs.MemberWords.{word}
 use Rattle.wit_json.proofs.Apart.{are_apart}
 use Rattle.wit_json.proofs.Objects.{Shape, both, have, lack}
 use Rattle.wit_json.proofs.Objects.Shape.{End}

@@ -27,9 +27,9 @@ use Rattle.wit_json.specs.Worlds.{externs_json, include_json, item_json, rename_
 use Rattle.wit_json.specs.Package.{ast_item_json, deps_json, foreign_json, package_json, required_json}
 use Rattle.wit_json.specs.Group.{source_json}
 use Rattle.wit_json.specs.Numbers.{HasShortNumbers}
-use Rattle.wit_json.specs.Plain.{HasVersions, IsPlainDep, IsPlainExtern, IsPlainInterface, IsPlainItem, IsPlainPackage, IsPlainWorld}
+use Rattle.wit_json.specs.PlainPackages.{HasVersions, IsPlainDep, IsPlainExtern, IsPlainInterface, IsPlainItem, IsPlainPackage, IsPlainWorld}
 use Rattle.wit_json.specs.Laws.{Group, IsPlain, json_of, place_of, stated_of}
-use Rattle.wit_json.specs.Words.{word}
+use Rattle.wit_json.specs.MemberWords.{word}
 use Rattle.wit_json.proofs.Objects.{Shape, have}
 use Rattle.wit_json.proofs.Objects.Shape.{End}
 use Rattle.wit_json.proofs.Shapes.{group_apart, group_shape, import_apart, import_shape, include_apart, include_shape, interface_apart, interface_shape, package_apart, package_shape, rename_apart, rename_shape, source_apart, source_keys, type_apart, type_shape, world_apart, world_shape}

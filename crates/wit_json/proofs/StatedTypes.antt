@@ -31,8 +31,8 @@ use Rattle.wit_json.specs.Metadata.{span_json, stability_json}
 use Rattle.wit_json.specs.Kinds.{case_json, enum_case_json, field_json, flag_json, handle_json, kind_json, optional_type, type_json}
 use Rattle.wit_json.specs.Types.{def_json, owner_json}
 use Rattle.wit_json.specs.Functions.{function_json, function_kind, param_json}
-use Rattle.wit_json.specs.Plain.{HasVersions, IsVersion}
-use Rattle.wit_json.specs.Words.{word}
+use Rattle.wit_json.specs.PlainPackages.{HasVersions, IsVersion}
+use Rattle.wit_json.specs.MemberWords.{word}
 use Rattle.wit_json.proofs.Shapes.{case_shape, def_apart, def_shape, deprecated_value, docs_value, enum_case_shape, external_value, field_apart, field_shape, flag_apart, flag_shape, function_apart, function_shape, outcome_apart, outcome_shape, param_apart, param_shape, stability_value, stable_apart, stable_shape, unstable_apart, unstable_shape}
 use Rattle.wit_json.proofs.Same.{Same, SameOption, each_determines, fields_same, is_null, null_differs, number_determines, option_each, option_determines, optional_text_determines, pair_same, some_differs, string_determines, tagged_same, unlike}
 use Rattle.wit_json.proofs.Texts.{release_determines}

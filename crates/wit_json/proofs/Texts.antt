@@ -14,7 +14,7 @@ use Rattle.wit_package_names.specs.PackageName.{at_version, name_text}
 use Rattle.wit_model.specs.declared.world.WorldKey.{WorldKey}
 use Rattle.wit_model.specs.declared.world.WorldKey.TheVariants as key
 use Rattle.wit_json.specs.Worlds.{interface_key, world_key}
-use Rattle.wit_json.specs.Plain.{IsPlainKey, IsPlainName, IsVersion}
+use Rattle.wit_json.specs.PlainPackages.{IsPlainKey, IsPlainName, IsVersion}
 
 -- numbers
 

@@ -7,7 +7,7 @@ use Rattle.wit_model.specs.declared.unresolved.UnresolvedPackage.{UnresolvedPack
 use Rattle.wit_json.specs.Group.{group_json}
 use Rattle.wit_json.specs.DistinctKeys.{HasOwnEntries}
 use Rattle.wit_json.specs.Numbers.{HasShortNumbers}
-use Rattle.wit_json.specs.Plain.{IsPlainPackage}
+use Rattle.wit_json.specs.PlainPackages.{IsPlainPackage}
 
 -- sources, the package that they make, and those that are nested in them
 abbrev pub Group : Type 0

@@ -7,10 +7,10 @@ pub mod Laws
 pub mod Metadata
 pub mod Numbers
 pub mod Package
-pub mod Plain
+pub mod PlainPackages
 pub mod Refusal
 pub mod Tokens
 pub mod Types
 pub mod Values
-pub mod Words
+pub mod MemberWords
 pub mod Worlds

@@ -4,7 +4,7 @@ ghost use Rattle.json.specs.Json.{string};
 ghost use Rattle.json.specs.Token.{begin_object, key};
 ghost use Rattle.wit_json.specs.Tokens.{Adds, AddsMembers};
 ghost use Rattle.wit_json.specs.Values.{at, number_json, optional_number, optional_text};
-ghost use Rattle.wit_json.specs.Words.{word};
+ghost use Rattle.wit_json.specs.MemberWords.{word};
 
 use crate::output::Output;
 use crate::words::Word;

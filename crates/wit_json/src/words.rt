@@ -1,6 +1,6 @@
 //! The keys of members and the tags of variants.
 ghost use Rattle.std.specs.Prelude.{◌≡◌};
-ghost use Rattle.wit_json.specs.Words.{word};
+ghost use Rattle.wit_json.specs.MemberWords.{word};
 
 /// A key or a tag.
 #[derive(Clone, Copy)]
@@ -71,7 +71,7 @@ pub enum Word {
 
 impl Word {
     /// Its text.
-    #[tactic(auto, unfolding(crate::specs::Words::word))]
+    #[tactic(auto, unfolding(crate::specs::MemberWords::word))]
     pub fn as_str(self) -> &'static str
         ensures { result.now ≡ word self }
     {

@@ -15,7 +15,7 @@ use Rattle.wit_nested.specs.Nested.{GrowByNested, IsMadeByNested, file_of}
 use Rattle.wit_groups.specs.Groups.{AreUsed, IsGroup, IsTree}
 use Rattle.wit_groups.specs.Groups.AreUsed.{None, More}
 use Rattle.wit_json.specs.Laws.{IsPlain}
-use Rattle.wit_json.specs.Plain.{IsPlainPackage}
+use Rattle.wit_json.specs.PlainPackages.{IsPlainPackage}
 use Rattle.wit_json_laws.specs.Laws.{IsPlainWhereMade}
 use Rattle.wit_json_laws.specs.PlainTrees.{HasPlainNames, IsPlainFile, IsPlainNested}
 use Rattle.wit_json_laws.proofs.Lists.{all_at, all_both, all_more, all_none, at_all}

@@ -23,7 +23,7 @@ use Rattle.wit_syntax.specs.Address.{package_of, release_of}
 use Rattle.wit_syntax.specs.Metadata.{deprecation, stability_of}
 use Rattle.wit_syntax.proofs.Found.{find_at}
 use Rattle.wit_syntax.proofs.Lists.{flat_map_at}
-use Rattle.wit_json.specs.Plain.{HasVersions, IsPlainName, IsVersion}
+use Rattle.wit_json.specs.PlainPackages.{HasVersions, IsPlainName, IsVersion}
 use Rattle.wit_json_laws.specs.PlainTrees.{IsPlainAttribute, IsPlainPackageId, IsPlainText}
 use Rattle.wit_json_laws.proofs.Lists.{all_at, at_all}
 

@@ -42,7 +42,7 @@ use Rattle.wit_arena.specs.SideItems.{inline_entry, link_item, link_key, settled
 use Rattle.wit_arena.specs.Whole.{dep, foreign_entry}
 use Rattle.wit_arena.proofs.Placed.{placed_at}
 use Rattle.wit_parser.specs.Ids.{AreIdsWithin, AreItemsWithin, IsKeyWithin}
-use Rattle.wit_json.specs.Plain.{HasVersions, IsPlainDep, IsPlainExtern, IsPlainInterface, IsPlainItem, IsPlainKey, IsPlainName, IsPlainPackage, IsPlainWorld}
+use Rattle.wit_json.specs.PlainPackages.{HasVersions, IsPlainDep, IsPlainExtern, IsPlainInterface, IsPlainItem, IsPlainKey, IsPlainName, IsPlainPackage, IsPlainWorld}
 use Rattle.wit_json_laws.specs.PlainTrees.{HasPlainNames, IsPlainInclude, IsPlainPackageId, IsPlainText}
 use Rattle.wit_json_laws.proofs.Deps.{Dep}
 use Rattle.wit_json_laws.proofs.Lists.{all_at, all_both, all_map, all_more, all_none, all_tail, at_all}

@@ -27,7 +27,7 @@ use Rattle.wit_syntax.specs.Function.{SourceFunction, accessor, definition_funct
 use Rattle.wit_syntax.specs.Scope.{part_uses}
 use Rattle.wit_syntax.specs.Sides.{SideItem, SideFunction, SideLink, SideInline, extern_items, extern_link, part_items}
 use Rattle.wit_syntax.specs.Source.{Part, DefinitionPart, UsePart, IncludePart, FunctionPart, ExternPart, ScopeName, Used, Defined, TopName, about_name, interface_part, local_name, part_names, path_scope, world_part}
-use Rattle.wit_json.specs.Plain.{HasVersions}
+use Rattle.wit_json.specs.PlainPackages.{HasVersions}
 use Rattle.wit_json_laws.specs.PlainTrees.{IsPlainBody, IsPlainDefinition, IsPlainExtern, IsPlainFunction, IsPlainInclude, IsPlainItem, IsPlainKind, IsPlainMember, IsPlainText, IsPlainUse, IsPlainUsed, IsPlainWorldItem}
 use Rattle.wit_json_laws.proofs.Lists.{all_map, all_more, all_none, at_all}
 use Rattle.wit_json_laws.proofs.PlainMetadata.{ArePlain, all_flat, all_seen, called_plain, plain_both, stability_plain}

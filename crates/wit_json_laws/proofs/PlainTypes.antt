@@ -33,7 +33,7 @@ use Rattle.wit_arena.specs.Expr.{exprs_of}
 use Rattle.wit_arena.specs.Made.{AreInOrder, AreNamesInOrder, IsEntryOf, Makes, interface_scopes, interface_turn, item_turns, names_in_turn, turns_of_world, turns_on_sides, types_of, world_scopes}
 use Rattle.wit_arena.specs.Occurrences.{Key, Def, Whole, Occurrence, all_function_occurrences, name_occurrences, shape_occurrences, shapes_occurrences, stability_at}
 use Rattle.wit_arena.specs.Whole.{Turned, all_occurrences, owner_at, foreign_use_occurrence, turn_occurrences}
-use Rattle.wit_json.specs.Plain.{HasVersions}
+use Rattle.wit_json.specs.PlainPackages.{HasVersions}
 use Rattle.wit_json_laws.specs.PlainTrees.{HasPlainNames}
 use Rattle.wit_json_laws.proofs.Lists.{all_at, all_both, all_map, all_more, all_none, at_all}
 use Rattle.wit_json_laws.proofs.Members.{interfaces_among, worlds_declared}

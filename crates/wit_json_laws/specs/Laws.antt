@@ -13,7 +13,7 @@ use Rattle.wit_groups.specs.declared.group.UnresolvedPackageGroup.{UnresolvedPac
 use Rattle.wit_json.specs.DistinctKeys.{HasOwnEntries}
 use Rattle.wit_json.specs.Laws.{Group, HasOwnMaps, IsPlain, json_of, stated_of}
 use Rattle.wit_json.specs.Numbers.{HasShortNumbers}
-use Rattle.wit_json.specs.Plain.{IsPlainPackage}
+use Rattle.wit_json.specs.PlainPackages.{IsPlainPackage}
 use Rattle.wit_json_laws.specs.PlainTrees.{HasPlainNames, IsPlainFile}
 
 -- no map of a package that legal files make has a key twice

@@ -73,7 +73,7 @@ IsUnread source from (Fault Version start end) = ⊥
 IsUnread source from (Fault Number start end) = ⊥
 IsUnread source from Wanting = ⊥
 
--- after the blanks and comments from a place on is a comment that has no end, or memory was wanted
+-- after the blanks and comments from a place on is a comment that has no end, or an allocation failed
 abbrev pub IsUnended : List ℕ → ℕ → ReadError → Type 0
 IsUnended source from (Fault Comment start end) = IsSkipped source from start × IsEndless source start × (end ≡ start + 2)
 IsUnended source from (Fault Character start end) = ⊥

@@ -42,7 +42,7 @@ pub record LiesIn (s : Source) (span : Span) : Type 0 where
   pub low : IsCharBoundary (string_bytes s.contents) (span.start - s.offset)
   pub high : IsCharBoundary (string_bytes s.contents) (span.end - s.offset)
 
--- sources that would take so many places are too large, or memory was wanted
+-- sources that would take so many places are too large, or an allocation failed
 abbrev pub ReportsTooLarge : ℕ → ℕ → ParseErrorKind → Type 0
 ReportsTooLarge end number (Syntax span message) =
     (number ≡ 52) × (4294967295 < end) × (span.start ≡ 0) × (span.end ≡ 0) × (string_bytes message ≡ codes "sources too large")

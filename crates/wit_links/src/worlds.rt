@@ -13,7 +13,7 @@ use wit_types::{Arena, WorldId, WorldPlace};
 #[derive(Drop)]
 pub struct Worlds<'i, 'n, 'e, 'f, 'a> {
     pub interfaces: &'i Interfaces<'n, 'e, 'f, 'a>,
-    /// The worlds of other packages are its prefix.
+    /// The worlds of other packages come first in it.
     pub arena: Arena<World, WorldPlace>,
     pub by_name: TextTable<WorldId>,
     pub ghost prefix: { length (others_of interfaces.now.files) ≤ length arena },

@@ -7,7 +7,7 @@ use Rattle.wit_type_tree.specs.Refusal.{span_of, kind_text}
 use Rattle.wit_lex.specs.declared.source.Source.{Source}
 use Rattle.wit_lex.specs.Sources.{IsLocated, LiesIn}
 
--- the prefix of a text up to its first LF or CR
+-- the start of a text up to its first LF or CR
 abbrev pub first_line : List ℕ → List ℕ
 first_line [] = []
 first_line (b ∷ rest) = if b == 10 || b == 13 then [] else (b ∷ first_line rest)

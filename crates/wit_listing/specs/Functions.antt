@@ -4,7 +4,7 @@ use Rattle.wit_types.specs.declared.types.«Type».{«Type» as Ty}
 use Rattle.wit_functions.specs.declared.function.Param.{Param}
 use Rattle.wit_functions.specs.declared.function.Function.{Function}
 use Rattle.wit_functions.specs.FunctionKinds.{is_async}
-use Rattle.wit_listing.specs.Words.{type_text}
+use Rattle.wit_listing.specs.ListingTexts.{type_text}
 use Rattle.wit_listing.specs.Lists.{numbered}
 
 -- a parameter, with a comma before it unless it is the first

@@ -4,7 +4,7 @@ use Rattle.std.specs.List.{flat_map}
 use Rattle.std.specs.Fmt.{decimal}
 use Rattle.wit_functions.specs.declared.function.Function.{Function}
 use Rattle.wit_model.specs.declared.interface.Interface.{Interface}
-use Rattle.wit_listing.specs.Words.{stability_text}
+use Rattle.wit_listing.specs.ListingTexts.{stability_text}
 use Rattle.wit_listing.specs.Functions.{signature_text}
 
 -- a name, or `-` where there is none

@@ -11,7 +11,7 @@ use Rattle.wit_types.specs.declared.types.Handle.{Handle}
 use Rattle.wit_types.specs.declared.types.Handle.TheVariants as handle
 use Rattle.wit_types.specs.declared.types.TypeDefKind.{TypeDefKind}
 use Rattle.wit_types.specs.declared.types.TypeDefKind.TheVariants as kind
-use Rattle.wit_listing.specs.Words.{type_text, optional_text}
+use Rattle.wit_listing.specs.ListingTexts.{type_text, optional_text}
 
 abbrev pub field_text : Field → List ℕ
 field_text f = 32 ∷ (f.name ++ (58 ∷ type_text f.ty))

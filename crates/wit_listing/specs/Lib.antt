@@ -8,5 +8,5 @@ pub mod Lists
 pub mod Output
 pub mod Package
 pub mod Types
-pub mod Words
+pub mod ListingTexts
 pub mod Worlds

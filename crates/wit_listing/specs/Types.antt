@@ -4,7 +4,7 @@ use Rattle.std.specs.Fmt.{decimal}
 use Rattle.wit_types.specs.declared.types.TypeOwner.{TypeOwner}
 use Rattle.wit_types.specs.declared.types.TypeOwner.TheVariants as owner
 use Rattle.wit_types.specs.declared.types.TypeDef.{TypeDef}
-use Rattle.wit_listing.specs.Words.{stability_text}
+use Rattle.wit_listing.specs.ListingTexts.{stability_text}
 use Rattle.wit_listing.specs.Kinds.{kind_text}
 
 -- a world or an interface by its place

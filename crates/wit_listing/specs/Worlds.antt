@@ -13,7 +13,7 @@ use Rattle.wit_model.specs.declared.world.WorldKey.TheVariants as key
 use Rattle.wit_model.specs.declared.world.WorldItem.{WorldItem}
 use Rattle.wit_model.specs.declared.world.WorldItem.TheVariants as item
 use Rattle.wit_listing.specs.Lists.{numbered}
-use Rattle.wit_listing.specs.Words.{stability_text}
+use Rattle.wit_listing.specs.ListingTexts.{stability_text}
 use Rattle.wit_listing.specs.Functions.{signature_text}
 
 -- what an import or export is found by

@@ -1,7 +1,7 @@
 //! Functions in a listing.
 ghost use Rattle.std.specs.Prelude.{[], ◌≡◌, ◌++◌, OnOk, codes, if◌then◌else◌, string_bytes};
 ghost use Rattle.wit_listing.specs.Lists.{numbered};
-ghost use Rattle.wit_listing.specs.Words.{Adds};
+ghost use Rattle.wit_listing.specs.ListingTexts.{Adds};
 ghost use Rattle.wit_listing.specs.Functions.{parameter_text, result_text, signature_text};
 
 use crate::words::push_type;

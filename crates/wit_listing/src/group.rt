@@ -1,7 +1,7 @@
 //! The listing of a group: of a package and of those that are nested in it.
 ghost use Rattle.std.specs.Prelude.{◌≡◌, ◌++◌, IfOk, OnOk, string_bytes};
 ghost use Rattle.std.specs.List.{flat_map};
-ghost use Rattle.wit_listing.specs.Words.{Adds};
+ghost use Rattle.wit_listing.specs.ListingTexts.{Adds};
 ghost use Rattle.wit_listing.specs.Output.{IsWritten};
 ghost use Rattle.wit_listing.specs.Package.{package_text};
 ghost use Rattle.wit_listing.specs.Listing.{listing_text};

@@ -2,7 +2,7 @@
 ghost use Rattle.std.specs.Prelude.{◌≡◌, ◌++◌, OnOk, codes, string_bytes, List, ℕ};
 ghost use Rattle.std.specs.List.{flat_map};
 ghost use Rattle.wit_listing.specs.Lists.{numbered};
-ghost use Rattle.wit_listing.specs.Words.{Adds};
+ghost use Rattle.wit_listing.specs.ListingTexts.{Adds};
 ghost use Rattle.wit_listing.specs.Interfaces.{function_line, interface_lines, named_type_line, name_text};
 
 use crate::functions::push_signature;

@@ -2,7 +2,7 @@
 ghost use Rattle.std.specs.Prelude.{◌≡◌, ◌++◌, OnOk, codes, string_bytes};
 ghost use Rattle.std.specs.List.{flat_map};
 ghost use Rattle.wit_types.specs.declared.types.TypeDefKind.TheVariants as kind;
-ghost use Rattle.wit_listing.specs.Words.{Adds, optional_text};
+ghost use Rattle.wit_listing.specs.ListingTexts.{Adds, optional_text};
 ghost use Rattle.wit_listing.specs.Kinds.{case_text, enum_case_text, field_text, flag_text, handle_text, item_text, kind_text};
 
 use crate::words::{push_numbered, push_optional, push_type};

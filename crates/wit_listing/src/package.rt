@@ -1,6 +1,6 @@
 //! A package in a listing.
 ghost use Rattle.std.specs.Prelude.{◌≡◌, ◌++◌, OnOk, string_bytes};
-ghost use Rattle.wit_listing.specs.Words.{Adds};
+ghost use Rattle.wit_listing.specs.ListingTexts.{Adds};
 ghost use Rattle.wit_listing.specs.Package.{count_line, foreign_text, header_text, interfaces_text, package_text, types_text, worlds_text};
 
 use crate::foreign::push_deps;

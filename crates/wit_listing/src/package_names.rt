@@ -1,7 +1,7 @@
 //! The names of packages in a listing.
 ghost use Rattle.std.specs.Prelude.{◌≡◌, OnOk, string_bytes};
 ghost use Rattle.wit_package_names.specs.PackageName.{at_version, name_text};
-ghost use Rattle.wit_listing.specs.Words.{Adds};
+ghost use Rattle.wit_listing.specs.ListingTexts.{Adds};
 
 use crate::words::push_release;
 use std::alloc::AllocError;

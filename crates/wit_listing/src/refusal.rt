@@ -1,6 +1,6 @@
 //! The line of a refusal.
 ghost use Rattle.std.specs.Prelude.{◌≡◌, ◌≤◌, ◌<◌, ◌++◌, MatchResult, OnOk, IfOk, string_bytes};
-ghost use Rattle.wit_listing.specs.Words.{Adds};
+ghost use Rattle.wit_listing.specs.ListingTexts.{Adds};
 ghost use Rattle.wit_listing.specs.Output.{IsWritten};
 ghost use Rattle.wit_listing.specs.ErrorLine.{IsErrorLine, IsPlaceOf, error_text, first_line, has_place, place_text};
 
@@ -11,7 +11,7 @@ use std::io::Write;
 use wit_lex::SourceMap;
 use wit_type_tree::ParseError;
 
-/// The prefix of a text up to its first LF or CR.
+/// The start of a text up to its first LF or CR.
 fn first_line(text: &str) -> &str
     ensures { result.now ≡ first_line text.now }
 {

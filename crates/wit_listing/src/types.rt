@@ -1,7 +1,7 @@
 //! The types of a package in its listing.
 ghost use Rattle.std.specs.Prelude.{◌≡◌, ◌++◌, OnOk, string_bytes};
 ghost use Rattle.wit_listing.specs.Lists.{numbered};
-ghost use Rattle.wit_listing.specs.Words.{Adds};
+ghost use Rattle.wit_listing.specs.ListingTexts.{Adds};
 ghost use Rattle.wit_listing.specs.Types.{owner_place, owner_text, type_line};
 
 use crate::kinds::push_kind;

@@ -2,7 +2,7 @@
 ghost use Rattle.std.specs.Prelude.{◌≡◌, ◌<◌, ◌∷◌, ◌++◌, OnOk, decimal, string_bytes};
 ghost use Rattle.semver.specs.Identifiers.{marked};
 ghost use Rattle.wit_values.specs.ReleaseText.{release_text};
-ghost use Rattle.wit_listing.specs.Words.{Adds, deprecated_text, optional_text, stability_text, type_text};
+ghost use Rattle.wit_listing.specs.ListingTexts.{Adds, deprecated_text, optional_text, stability_text, type_text};
 
 use itoa::Buffer;
 use std::alloc::AllocError;

@@ -2,7 +2,7 @@
 ghost use Rattle.std.specs.Prelude.{◌≡◌, ◌++◌, OnOk, codes, string_bytes};
 ghost use Rattle.std.specs.List.{flat_map};
 ghost use Rattle.wit_listing.specs.Lists.{numbered};
-ghost use Rattle.wit_listing.specs.Words.{Adds};
+ghost use Rattle.wit_listing.specs.ListingTexts.{Adds};
 ghost use Rattle.wit_listing.specs.Worlds.{extern_line, extern_text, has_own_line, include_line, included_text, is_inline, key_text, rename_text, world_line, world_lines, world_name};
 
 use crate::functions::push_signature;

@@ -46,7 +46,7 @@ use Rattle.wit_arena.specs.Occurrences.{Key, Def, Whole, Occurrence, IsAt}
 use Rattle.wit_syntax.specs.Shape.{Word, all_handles, Shape}
 use Rattle.wit_syntax.specs.Shape as shape
 use Rattle.wit_syntax.specs.Function.{Freestanding, Method, Static, Constructor, SourceParam, SourceFunction, resource_function, free_function, functions, item_types, signature, role_names}
-use Rattle.wit_arena.specs.Functions.{IsParam, IsFunction, AreFunctions, placed_functions}
+use Rattle.wit_arena.specs.SourceFunctions.{IsParam, IsFunction, AreFunctions, placed_functions}
 use Rattle.wit_syntax.specs.Sides.{FunctionKey}
 use Rattle.wit_arena.specs.Package.{package_tree, functions_of, function_types}
 use Rattle.wit_arena.specs.Whole.{turned}

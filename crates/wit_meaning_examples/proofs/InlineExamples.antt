@@ -49,7 +49,7 @@ use Rattle.wit_syntax.specs.Source.{TheWorld, TheInline, Item, address, top_name
 use Rattle.wit_syntax.specs.Scope.{item_rows, uses}
 use Rattle.wit_syntax.specs.Sides.{side_items, inline_items}
 use Rattle.wit_syntax.specs.ScopesOfTrees.{source_tree}
-use Rattle.wit_arena.specs.Functions.{function_item}
+use Rattle.wit_arena.specs.SourceFunctions.{function_item}
 use Rattle.wit_arena.specs.Package.{owner_of, names_of, package_tree}
 use Rattle.wit_arena.specs.SideItems.{inline_entry, AreSideItems}
 use Rattle.wit_meaning_examples.proofs.Examples.{at, id, vec, no_comments, unstated, header}

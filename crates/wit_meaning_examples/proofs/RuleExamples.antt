@@ -41,7 +41,7 @@ use Rattle.wit_syntax.specs.ScopesOfTrees.{source_tree}
 use Rattle.wit_syntax.specs.Shape.{Shape}
 use Rattle.wit_syntax.specs.Function.{Role, Freestanding, SourceFunction, functions, signature}
 use Rattle.wit_tree.specs.declared.tree.WorldSide.TheVariants.{Imported}
-use Rattle.wit_arena.specs.Functions.{function_item}
+use Rattle.wit_arena.specs.SourceFunctions.{function_item}
 use Rattle.wit_syntax.specs.Signature.{OfNothing, MissingInSignature, GetterGiven, SetterGiven, GetterWithoutResult, SetterWithResult, ConstructorWithoutResult, ConstructorOfOther, IsEntered, result_ok}
 use Rattle.wit_syntax.specs.Broken.{IsBroken, Function, IsSetterAlone}
 use Rattle.wit_syntax.proofs.Found.{at_contains}

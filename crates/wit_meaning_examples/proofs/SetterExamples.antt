@@ -31,7 +31,7 @@ use Rattle.wit_syntax.specs.Metadata.{no_docs}
 use Rattle.wit_syntax.specs.Sides.{on_side}
 use Rattle.wit_syntax.specs.Source.{Item, TheWorld, top_names}
 use Rattle.wit_syntax.proofs.Found.{at_contains}
-use Rattle.wit_arena.specs.Functions.{function_item}
+use Rattle.wit_arena.specs.SourceFunctions.{function_item}
 use Rattle.wit_arena.specs.SideItems.{settled}
 use Rattle.wit_meaning_examples.proofs.Examples.{at, id, vec, no_comments, unstated, header}
 use Rattle.wit_meaning_examples.proofs.SignatureExamples.{x_id, func, func_of, v_u8}

@@ -36,7 +36,7 @@ use Rattle.wit_syntax.specs.Broken.{IsBrokenScope, DefinedTwice, MissingType, Cy
 use Rattle.wit_syntax.proofs.Found.{at_contains}
 use Rattle.wit_syntax.proofs.Legal.{no_fold, no_crossed}
 use Rattle.wit_syntax.proofs.Unnoted.{unbroken_metadata}
-use Rattle.wit_arena.specs.Functions.{function_item}
+use Rattle.wit_arena.specs.SourceFunctions.{function_item}
 use Rattle.wit_arena.specs.Package.{functions_of}
 use Rattle.wit_meaning_examples.proofs.Examples.{at, id, vec, no_comments, unstated, header}
 use Rattle.wit_meaning_examples.proofs.SignatureExamples.{one_order}

@@ -41,7 +41,7 @@ use Rattle.wit_arena.specs.Occurrences.{Def, Whole}
 use Rattle.wit_syntax.specs.Fault.{Fault, fault}
 use Rattle.wit_syntax.specs.Shape.{Shape, Word, shape_of}
 use Rattle.wit_syntax.specs.Function.{SourceFunction, functions, role_names}
-use Rattle.wit_arena.specs.Functions.{placed_functions}
+use Rattle.wit_arena.specs.SourceFunctions.{placed_functions}
 use Rattle.wit_syntax.specs.Signature.{Called, OfFunction, MissingInSignature, DuplicateParam, SetterWithResult, ConstructorOfOther, IsWrittenAs, result_ok}
 use Rattle.wit_tree.specs.declared.tree.WorldSide.TheVariants.{Imported}
 use Rattle.wit_syntax.specs.Sides.{side_items, all_scopes, side_called, FoldedTwice, items_on}

@@ -63,7 +63,7 @@ use Rattle.wit_syntax.specs.Sides.{side_items}
 use Rattle.wit_syntax.specs.Source.{TheInterface, TheWorld, Item, all_items, Used, Defined, scope_names, foreign_uses, top_names, declared_metadata, ForeignName}
 use Rattle.wit_syntax.specs.ScopesOfTrees.{source_tree}
 use Rattle.wit_arena.specs.Expr.{End, More, Of, Prim, Use, one}
-use Rattle.wit_arena.specs.Functions.{function_item}
+use Rattle.wit_arena.specs.SourceFunctions.{function_item}
 use Rattle.wit_arena.specs.Occurrences.{Key, Def, Whole, Occurrence, Collects, IsOccurrence}
 use Rattle.wit_arena.specs.Package.{owner_of, function_types, package_tree}
 use Rattle.wit_arena.specs.Resolving.{named, unnamed}

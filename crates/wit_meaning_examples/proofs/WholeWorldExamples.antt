@@ -56,7 +56,7 @@ use Rattle.wit_syntax.specs.Shape.{Shape, Word}
 use Rattle.wit_syntax.specs.Sides.{side_items, inline_items}
 use Rattle.wit_syntax.specs.Source.{TheInterface, TheWorld, TheInline, Item, all_items, Used, Defined, scope_names, top_names}
 use Rattle.wit_syntax.specs.ScopesOfTrees.{source_tree}
-use Rattle.wit_arena.specs.Functions.{function_item}
+use Rattle.wit_arena.specs.SourceFunctions.{function_item}
 use Rattle.wit_arena.specs.Occurrences.{Def, Occurrence, Collects, IsOccurrence}
 use Rattle.wit_arena.specs.Package.{owner_of, names_of, function_types, package_tree}
 use Rattle.wit_arena.specs.SideItems.{inline_entry, AreSideItems}

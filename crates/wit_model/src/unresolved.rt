@@ -88,7 +88,7 @@ impl UnresolvedPackage {
     }
 
     /// Where each type of another package is first used. These types are the unknown ones at the
-    /// prefix of the arena of types, in the same order.
+    /// start of the arena of types, in the same order.
     pub fn unknown_type_spans(&self) -> &[Span]
         ensures { result.now ≡ self.now.unknown_type_spans }
     {

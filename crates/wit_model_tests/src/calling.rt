@@ -1,4 +1,4 @@
-//! How functions are called across a component's border.
+//! How functions are called across a component's boundary.
 use crate::shared::{SPAN, check, check_text, function};
 use std::alloc::Global;
 use std::process::Abort;

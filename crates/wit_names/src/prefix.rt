@@ -1,4 +1,4 @@
-//! Fronts of names, as `[get]`.
+//! Prefixes of names, as `[get]`.
 ghost use Rattle.std.specs.Prelude.{◌≡◌};
 ghost use Rattle.std.specs.Option.{option_copied};
 ghost use Rattle.wit_names.specs.Prefix.{rest_after, is_after};

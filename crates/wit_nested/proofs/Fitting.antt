@@ -13,7 +13,7 @@ use Rattle.wit_parser.specs.Stray.{IsStray}
 use Rattle.wit_nested.specs.Nested.{IsBrokenAmong, IsBrokenNested, IsMadeByNested, IsUnfit}
 use Rattle.wit_nested.specs.Nested.IsBrokenNested.{Inner, Alone}
 use Rattle.wit_nested.specs.Nested.IsUnfit.{Nested, OtherPackage, DocumentedTwice}
-use Rattle.wit_nested.proofs.Names.{none_among}
+use Rattle.wit_nested.proofs.PackageNames.{none_among}
 
 zip_at : {A B : Type 0} (R : A → B → Type 0) (xs : List A) (ys : List B) → AllZip R xs ys → (i : ℕ) (x : A) → slice_get xs i ≡ Some x → (y : B) × R x y
 zip_at R [] ys all i x at = absurd (let f : ⊥ = cc in f)

@@ -6,8 +6,8 @@ use Rattle.wit_model.specs.declared.unresolved.UnresolvedPackage.{UnresolvedPack
 use Rattle.wit_syntax.specs.Broken.{IsBroken, Refused}
 use Rattle.wit_syntax.proofs.Refusing.{refused_weaker}
 use Rattle.wit_arena.specs.Faithful.{IsMadeOf}
-use Rattle.wit_nested.specs.Names.{IsRepeatedPackage, IsUnjoined}
-use Rattle.wit_nested.specs.Names.IsUnjoined.{Broken, Repeated}
+use Rattle.wit_nested.specs.PackageNames.{IsRepeatedPackage, IsUnjoined}
+use Rattle.wit_nested.specs.PackageNames.IsUnjoined.{Broken, Repeated}
 
 -- the files break a rule
 pub broken_files : (files : List PackageFile) (nested : List UnresolvedPackage) (e : ParseError) → Refused (IsBroken files) e → Refused (IsUnjoined files nested) e

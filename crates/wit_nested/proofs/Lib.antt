@@ -2,6 +2,6 @@ pub mod Fitting
 pub mod Prefixes
 pub mod Joining
 pub mod Making
-pub mod Names
+pub mod PackageNames
 pub mod Naming
 pub mod OneGroup

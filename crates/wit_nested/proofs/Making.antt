@@ -20,7 +20,7 @@ use Rattle.wit_nested.specs.Nested.{GrowByNested, IsBrokenAmong, IsBrokenNested,
 use Rattle.wit_nested.specs.Nested.IsBrokenNested.{Inner, Alone}
 use Rattle.wit_nested.specs.Nested.IsUnfit.{Nested, OtherPackage, DocumentedTwice}
 use Rattle.wit_nested.specs.NestedSources.{IsSourceOf}
-use Rattle.wit_nested.proofs.Names.{named_among, none_among, none_nested}
+use Rattle.wit_nested.proofs.PackageNames.{named_among, none_among, none_nested}
 
 -- one more of two lists
 pub zip_more : {A B : Type 0} (R : A → B → Type 0) (xs : List A) (ys : List B) (x : A) (y : B) → AllZip R xs ys → R x y → AllZip R (xs ++ x ∷ []) (ys ++ y ∷ [])

@@ -12,9 +12,9 @@ use Rattle.wit_syntax.specs.Repeats.{AllDiffer}
 use Rattle.wit_syntax.proofs.Found.{contains_at, at_contains}
 use Rattle.wit_syntax.proofs.Lists.{map_at}
 use Rattle.wit_syntax.proofs.Repeated.{differ_none, differ_more}
-use Rattle.wit_nested.specs.Names.{package_names}
+use Rattle.wit_nested.specs.PackageNames.{package_names}
 use Rattle.wit_nested.proofs.Prefixes.{prefix_more}
-use Rattle.wit_nested.proofs.Names.{none_among}
+use Rattle.wit_nested.proofs.PackageNames.{none_among}
 
 -- keys are compared by what they lead to
 any_among : {K N : Type 0} (now : K → N) (eq : K → K → Bool) → ((x y : K) → now x ≡ now y → eq x y ≡ true) → (ks : List K) (k : K) → Contains (map now ks) (now k) → list_any (eq k) ks ≡ true

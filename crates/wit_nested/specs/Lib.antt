@@ -1,3 +1,3 @@
 pub mod Nested
-pub mod Names
+pub mod PackageNames
 pub mod NestedSources

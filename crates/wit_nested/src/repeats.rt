@@ -3,7 +3,7 @@ ghost use Rattle.std.specs.Prelude.{◌≡◌, ◌++◌, ◌∷◌, [], Contains
 ghost use Rattle.std.specs.Map.{keys_of};
 ghost use Rattle.wit_package_names.specs.PackageName.{name_text};
 ghost use Rattle.wit_syntax.specs.Broken.{Refused};
-ghost use Rattle.wit_nested.specs.Names.{AreNamedApart, IsNamedAgain, IsRepeatedPackage};
+ghost use Rattle.wit_nested.specs.PackageNames.{AreNamedApart, IsNamedAgain, IsRepeatedPackage};
 
 use std::alloc::{AllocError, Global};
 use wit_maps::Table;

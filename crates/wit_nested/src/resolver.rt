@@ -4,7 +4,7 @@ ghost use Rattle.wit_syntax.specs.Fault.{Fault};
 ghost use Rattle.wit_syntax.specs.Broken.{Refused};
 ghost use Rattle.wit_arena.specs.Faithful.{IsMadeOf};
 ghost use Rattle.wit_nested.specs.Nested.{GrowByNested, IsUnfit};
-ghost use Rattle.wit_nested.specs.Names.{AreNamedApart, IsUnjoined};
+ghost use Rattle.wit_nested.specs.PackageNames.{AreNamedApart, IsUnjoined};
 
 use crate::nested::{alone, resolve_all};
 use crate::repeats::check_names;

@@ -2,7 +2,7 @@
 ghost use Rattle.std.specs.Prelude.{◌≡◌, ◌⊎◌, IfOk};
 ghost use Rattle.std.specs.Option.{option_copied, option_map};
 ghost use Rattle.wit_type_tree.specs.Refusal.{IsAllocationFailure};
-ghost use Rattle.wit_first.specs.Attributes.{each_once_fault, external_fault, number_of, repeat_fault, stability_fault, together_fault};
+ghost use Rattle.wit_first.specs.AttributeFaults.{each_once_fault, external_fault, number_of, repeat_fault, stability_fault, together_fault};
 ghost use Rattle.wit_first.specs.First.{Finds};
 ghost use Rattle.wit_syntax.specs.Fault.{fault, fault_of};
 ghost use Rattle.wit_type_tree.specs.Attributes.{stated_text, stated_version};

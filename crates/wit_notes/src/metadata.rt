@@ -1,6 +1,6 @@
 //! What the docs and the attributes before a thing say of it.
 ghost use Rattle.std.specs.Prelude.{◌≡◌, IfOk};
-ghost use Rattle.wit_first.specs.Attributes.{metadata_fault};
+ghost use Rattle.wit_first.specs.AttributeFaults.{metadata_fault};
 ghost use Rattle.wit_first.specs.First.{Finds};
 ghost use Rattle.wit_syntax.specs.Metadata.{docs_of, no_docs, metadata as the_metadata};
 ghost use Rattle.wit_notes.specs.Metadata.{metadata_view};

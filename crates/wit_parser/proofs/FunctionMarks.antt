@@ -25,7 +25,7 @@ use Rattle.wit_syntax.specs.Function.{SourceFunction, functions}
 use Rattle.wit_syntax.specs.Scope.{includes}
 use Rattle.wit_syntax.specs.Sides.{FunctionKey, side_items}
 use Rattle.wit_syntax.proofs.Legal.{functions_items}
-use Rattle.wit_arena.specs.Functions.{by_name, placed_functions, AreFunctions}
+use Rattle.wit_arena.specs.SourceFunctions.{by_name, placed_functions, AreFunctions}
 use Rattle.wit_arena.specs.SideItems.{AreSideItems, settled}
 use Rattle.wit_arena.proofs.Settled.{moved, settled_at}
 use Rattle.wit_arena.proofs.SideItems.{side_functions}

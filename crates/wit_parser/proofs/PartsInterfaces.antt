@@ -9,7 +9,7 @@ use Rattle.wit_syntax.specs.Function.{SourceFunction, functions}
 use Rattle.wit_syntax.specs.Source.{Item, ScopeName, address, local_name}
 use Rattle.wit_syntax.specs.ScopesOfTrees.{scope}
 use Rattle.wit_syntax.proofs.Lists.{map_map}
-use Rattle.wit_arena.specs.Functions.{by_name}
+use Rattle.wit_arena.specs.SourceFunctions.{by_name}
 use Rattle.wit_arena.specs.Made.{foreign_interface, function_in, names_in_turn, own_interface}
 use Rattle.wit_arena.specs.Occurrences.{Key, Def, IsSeen}
 use Rattle.wit_arena.specs.Whole.{Ordered, turned, IsForeignInterface, IsResolvedInterface}

@@ -13,7 +13,7 @@ use Rattle.wit_syntax.specs.Shape.{Shape}
 use Rattle.wit_syntax.specs.Source.{ScopeName, local_name}
 use Rattle.wit_syntax.proofs.Lists.{at_prefix, at_back, map_at, map_map}
 use Rattle.wit_arena.specs.Expr.{Expr, Prim, Use, Of, Exprs, End, More, expr_of}
-use Rattle.wit_arena.specs.Functions.{IsKind, IsParam, IsFunction}
+use Rattle.wit_arena.specs.SourceFunctions.{IsKind, IsParam, IsFunction}
 use Rattle.wit_arena.specs.Made.{type_of, types_of, role_kind, function_in, name_places}
 use Rattle.wit_arena.specs.Occurrences.{Key, Def, Whole, IsSeen, IsAt, AreAt}
 use Rattle.wit_arena.specs.OneByOne.{OneByOne}

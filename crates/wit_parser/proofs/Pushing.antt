@@ -16,7 +16,7 @@ use Rattle.wit_syntax.specs.Broken.{IsMismatch, IsSamePackage, headers, last_hea
 use Rattle.wit_syntax.specs.Fault.{Fault, fault}
 use Rattle.wit_syntax.proofs.Addresses.{same_package-equal, same_package-from}
 use Rattle.wit_syntax.proofs.Found.{at_contains, contains_at}
-use Rattle.wit_first.specs.Headers.{nesting_fault, other_fault, push_fault, second_docs_fault}
+use Rattle.wit_first.specs.HeaderFaults.{nesting_fault, other_fault, push_fault, second_docs_fault}
 use Rattle.wit_first.specs.Laws.{Agrees}
 use Rattle.wit_first.proofs.Bridge.{or_none_both, or_some}
 use Rattle.wit_items.proofs.Documented.{docs_agree}

@@ -16,7 +16,7 @@ use Rattle.wit_syntax.specs.Address.{Address}
 use Rattle.wit_syntax.specs.ExternPart.{same_side}
 use Rattle.wit_syntax.specs.Sides.{role_side, SideItem, SideFunction, SideLink, SideInline}
 use Rattle.wit_syntax.specs.Source.{TopName, ScopeName, local_name, local_id, path_scope}
-use Rattle.wit_arena.specs.Functions.{function_item}
+use Rattle.wit_arena.specs.SourceFunctions.{function_item}
 use Rattle.wit_arena.specs.SideItems.{link_key, link_item, inline_entry, put_on, settled, AreSideItems}
 use Rattle.wit_arena.proofs.Settled.{settled_at}
 use Rattle.wit_arena.specs.Whole.{type_imports}

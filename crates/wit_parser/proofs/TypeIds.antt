@@ -16,7 +16,7 @@ use Rattle.wit_model.specs.declared.unresolved.UnresolvedPackage.{UnresolvedPack
 use Rattle.wit_syntax.specs.Address.{Address}
 use Rattle.wit_syntax.specs.Function.{Role, Freestanding, Method, Static, Constructor, OnSide, SourceFunction, signature}
 use Rattle.wit_arena.specs.Expr.{Expr, Prim, Use, Of, Exprs, End, More, expr_of}
-use Rattle.wit_arena.specs.Functions.{IsKind, IsFunction, AreFunctions}
+use Rattle.wit_arena.specs.SourceFunctions.{IsKind, IsFunction, AreFunctions}
 use Rattle.wit_arena.specs.Occurrences.{Key, Def, Whole, IsAt, AreAt}
 use Rattle.wit_arena.specs.Package.{IsBelow, function_types}
 use Rattle.wit_arena.specs.Whole.{Turned, HasTypes, AreRequired}

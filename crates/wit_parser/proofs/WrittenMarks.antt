@@ -17,7 +17,7 @@ use Rattle.wit_functions.specs.declared.function.FunctionKind.{FunctionKind}
 use Rattle.wit_syntax.specs.Address.{Address}
 use Rattle.wit_syntax.specs.Source.{Item, Part, DefinitionPart, UsePart, IncludePart, FunctionPart, ExternPart, parts}
 use Rattle.wit_syntax.specs.Function.{SourceFunction, accessor, dotted, free_function, resource_function, definition_functions, part_functions, functions, side_function}
-use Rattle.wit_arena.specs.Functions.{IsKind}
+use Rattle.wit_arena.specs.SourceFunctions.{IsKind}
 use Rattle.wit_arena.specs.Occurrences.{Key}
 use Rattle.wit_syntax.proofs.Lists.{map_at, flat_map_at}
 use Rattle.wit_type_tree.specs.declared.types.Func.{Func}

@@ -5,7 +5,7 @@ use Rattle.wit_tree.specs.declared.tree.PackageFile.{PackageFile}
 use Rattle.wit_tree.specs.declared.tree.SourceFile.{SourceFile}
 use Rattle.wit_syntax.specs.Fault.{Fault, fault}
 use Rattle.wit_syntax.specs.Broken.{IsDocumentedTwice, IsOtherPackage}
-use Rattle.wit_first.specs.Headers.{push_fault}
+use Rattle.wit_first.specs.HeaderFaults.{push_fault}
 use Rattle.wit_first.specs.Laws.{Agrees}
 
 -- a package is among those that are nested in a source

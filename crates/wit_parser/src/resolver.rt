@@ -5,7 +5,7 @@ ghost use Rattle.semver.specs.Identifiers.{parts_of};
 ghost use Rattle.wit_values.specs.ReleaseText.{release_parts};
 ghost use Rattle.wit_syntax.specs.Broken.{IsBroken, IsLegal, Refused, headers, last_header};
 ghost use Rattle.wit_first.specs.First.{Finds};
-ghost use Rattle.wit_first.specs.Headers.{have_docs as the_docs, nesting_fault, other_fault, push_fault};
+ghost use Rattle.wit_first.specs.HeaderFaults.{have_docs as the_docs, nesting_fault, other_fault, push_fault};
 ghost use Rattle.wit_items.specs.FileHeaders.{header_at};
 ghost use Rattle.wit_type_tree.specs.Refusal.{IsAllocationFailure};
 ghost use Rattle.wit_arena.specs.Made.{Makes};

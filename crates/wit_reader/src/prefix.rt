@@ -1,4 +1,4 @@
-//! Reading what items have in front.
+//! Reading the docs and attributes before an item.
 ghost use Rattle.std.specs.Prelude.{map, IfOk, IfErr};
 ghost use Rattle.wit_grammar.specs.Seen.{see_attribute, see_docs, see_prefix};
 ghost use Rattle.wit_grammar.specs.Grammar.{docs};
@@ -11,7 +11,7 @@ use wit_lex::fault::ReadResult;
 use wit_lex::kind::Kind;
 use wit_tree::tree::{Attribute, Docs};
 
-/// What an item has in front.
+/// The docs and attributes before an item.
 #[derive(Drop)]
 pub struct Prefix<'a> {
     pub docs: Docs<'a>,

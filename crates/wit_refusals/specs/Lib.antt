@@ -1,5 +1,5 @@
 pub mod KeyHashes
 pub mod Lent
-pub mod Names
+pub mod NameScopes
 pub mod Scope
-pub mod Words
+pub mod RepeatWords

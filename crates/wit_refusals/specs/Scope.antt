@@ -4,7 +4,7 @@ use Rattle.wit_names.specs.Folded.{folded_key}
 use Rattle.wit_values.specs.declared.span.Span.{Span}
 use Rattle.wit_syntax.specs.Repeats.{AllDiffer}
 use Rattle.wit_refusals.specs.declared.name_scope.DefinedName.{DefinedName}
-use Rattle.wit_refusals.specs.Names.{Name}
+use Rattle.wit_refusals.specs.NameScopes.{Name}
 
 -- a key, and the name that has it
 abbrev pub Entry : Type 0

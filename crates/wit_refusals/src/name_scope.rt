@@ -5,7 +5,7 @@ ghost use Rattle.wit_names.specs.Setter.{getter_of, is_setter};
 ghost use Rattle.wit_syntax.specs.Broken.{Refused};
 ghost use Rattle.wit_type_tree.specs.Refusal.{IsAllocationFailure};
 ghost use Rattle.wit_syntax.specs.Fault.{fault, fault_of};
-ghost use Rattle.wit_refusals.specs.Names.{IsDefinedAgain, IsFirstLoneSetter, IsLoneSetter, AreUsed};
+ghost use Rattle.wit_refusals.specs.NameScopes.{IsDefinedAgain, IsFirstLoneSetter, IsLoneSetter, AreUsed};
 ghost use Rattle.wit_refusals.specs.Scope.{HasName, IsKeyed, names_of, spelled, spelling};
 
 use crate::getters::is_getter_name;
@@ -54,7 +54,7 @@ impl Drop for NameScope {
 
 impl Model for NameScope {
     ghost use Rattle.std.specs.Prelude.{List};
-    ghost use Rattle.wit_refusals.specs.Names.{Name};
+    ghost use Rattle.wit_refusals.specs.NameScopes.{Name};
     ghost use Rattle.wit_refusals.specs.Scope.{IsKeyed, names_of};
 
     ghost Value = { List Name };

@@ -1,7 +1,7 @@
 //! Names of parts of a definition, which differ once case is folded.
 ghost use Rattle.std.specs.Prelude.{◌≡◌, IfOk, map};
 ghost use Rattle.wit_first.specs.First.{Finds};
-ghost use Rattle.wit_first.specs.Lists.{names_fault};
+ghost use Rattle.wit_first.specs.ListFaults.{names_fault};
 
 use crate::refusal::refuse_in;
 use crate::repeats::first_folded_repeat;

@@ -1,6 +1,6 @@
 //! A file of rows, case by case.
 //!
-//! Lines before the first case are comments. A case begins with a line `--- NAME VIEW`. Behind it are
+//! Lines before the first case are comments. A case begins with a line `--- NAME VIEW`. After it are
 //! sources, a line `=>`, and what the view writes of them, to the last LF. A line `=== PATH` is
 //! before each source; where there is none, the text is the source `stdin.wit`. The LF at the end of a
 //! source's last line is none of its bytes. For the views `input` and `sources` a text is there, as

@@ -19,7 +19,7 @@ use Rattle.wit_syntax.specs.Fault.{fault}
 use Rattle.wit_syntax.specs.Function.{Freestanding, Method, Static, Constructor, OnSide, SourceFunction, SourceParam, written_param, resource_function}
 use Rattle.wit_syntax.specs.Repeats.{AllDiffer}
 use Rattle.wit_syntax.proofs.Lists.{map_map}
-use Rattle.wit_first.specs.Functions.{given_fault, params_fault}
+use Rattle.wit_first.specs.FunctionFaults.{given_fault, params_fault}
 use Rattle.wit_rules.specs.declared.borrowed.BorrowedFunction.{BorrowedFunction}
 use Rattle.wit_rules.specs.declared.borrowed.BorrowedFunction.TheVariants as borrowed
 use Rattle.wit_rules.specs.Borrowed.{function_view}

@@ -5,7 +5,7 @@ ghost use Rattle.wit_type_tree.specs.declared.types.FuncForm.TheVariants.{Getter
 ghost use Rattle.wit_syntax.specs.Bodies.{folded};
 ghost use Rattle.wit_syntax.specs.Fault.{fault, fault_of};
 ghost use Rattle.wit_first.specs.First.{Finds, IsFirstRepeat};
-ghost use Rattle.wit_first.specs.Functions.{given_fault, gives_fault, is_written_as, made_fault, no_result_fault, setter_fault};
+ghost use Rattle.wit_first.specs.FunctionFaults.{given_fault, gives_fault, is_written_as, made_fault, no_result_fault, setter_fault};
 ghost use Rattle.wit_syntax.specs.Source.{ScopeName};
 ghost use Rattle.wit_syntax.specs.Function.{all_params};
 ghost use Rattle.wit_syntax.specs.Signature.{ok_span as the_ok_span, result_ok as the_result_ok};

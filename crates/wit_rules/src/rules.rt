@@ -1,8 +1,8 @@
 //! The rules of types, fields, flags and cases.
 ghost use Rattle.std.specs.Prelude.{◌≡◌, IfOk, map};
 ghost use Rattle.wit_first.specs.First.{Finds};
-ghost use Rattle.wit_first.specs.MapKeys.{can_be_key, is_key, key_fault};
-ghost use Rattle.wit_first.specs.Lists.{empty_fault, flag_fault, flags_fault, members_fault};
+ghost use Rattle.wit_first.specs.KeyFaults.{can_be_key, is_key, key_fault};
+ghost use Rattle.wit_first.specs.ListFaults.{empty_fault, flag_fault, flags_fault, members_fault};
 
 use std::alloc::{AllocError, Global};
 use wit_refusals::check_unique_names;

@@ -2,7 +2,7 @@
 ghost use Rattle.std.specs.Prelude.{◌≡◌, ◌++◌, map, IfOk, OnOk};
 ghost use Rattle.wit_syntax.specs.Source.{local_id as the_local_id};
 ghost use Rattle.wit_first.specs.First.{Finds};
-ghost use Rattle.wit_first.specs.Names.{local_names_fault};
+ghost use Rattle.wit_first.specs.NameFaults.{local_names_fault};
 ghost use Rattle.wit_scopes.specs.Borrowed.{use_view, definition_view};
 
 use crate::scope_name::{DefinedName, UsedName, local_of};
@@ -13,7 +13,7 @@ use wit_refusals::words::defined_twice;
 use wit_tree::ParseResult;
 use wit_tree::tree::Id;
 
-/// The names that used ones go by. Behind them is room for so many more.
+/// The names that used ones go by. After them is room for so many more.
 pub(crate) fn used_ids<'a>(
     alloc: Global,
     uses: &[UsedName<'_, 'a>],

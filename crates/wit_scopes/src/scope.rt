@@ -5,7 +5,7 @@ ghost use Rattle.wit_graph.specs.Table.{rows, IsOrder};
 ghost use Rattle.wit_syntax.specs.Scope.{needed_ids as the_needed, rows_of, used, AreDistinct};
 ghost use Rattle.wit_syntax.specs.Source.{local_id as the_local_id};
 ghost use Rattle.wit_first.specs.First.{FindsBy};
-ghost use Rattle.wit_first.specs.Orders.{IsTypeOrderFault};
+ghost use Rattle.wit_first.specs.OrderFaults.{IsTypeOrderFault};
 ghost use Rattle.wit_scopes.specs.Borrowed.{name_view, use_view, definition_view};
 ghost use Rattle.wit_scopes.specs.DefinitionOrder.{AreOrdered, IsTurnOf, IsWritten, NeedNone};
 

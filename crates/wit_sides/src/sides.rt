@@ -2,7 +2,7 @@
 ghost use Rattle.std.specs.Prelude.{◌≡◌, ◌++◌, [], ◌↔◌, IfErr, IfOk, IsTrue, OnErr, OnOk};
 ghost use Rattle.wit_names.specs.Mangled.{is_mangled};
 ghost use Rattle.wit_syntax.specs.Broken.{Refused};
-ghost use Rattle.wit_refusals.specs.Names.{IsDefinedAgain, AreUsed};
+ghost use Rattle.wit_refusals.specs.NameScopes.{IsDefinedAgain, AreUsed};
 ghost use Rattle.wit_refusals.specs.Scope.{HasName};
 ghost use Rattle.wit_sides.specs.Sides.{only_on, defined_on};
 

@@ -23,12 +23,12 @@ use Rattle.wit_syntax.specs.Source.{ScopeName, meaning}
 use Rattle.wit_syntax.proofs.Found.{contains_at}
 use Rattle.wit_syntax.proofs.Lists.{at_back, at_split, map_at}
 use Rattle.wit_syntax.proofs.Names.{name_itself}
-use Rattle.wit_first.specs.Attributes.{metadata_fault}
+use Rattle.wit_first.specs.AttributeFaults.{metadata_fault}
 use Rattle.wit_first.specs.First.{first_after, repeat_of, IsFirstRepeat}
-use Rattle.wit_first.specs.Functions.{given_fault, gives_fault}
+use Rattle.wit_first.specs.FunctionFaults.{given_fault, gives_fault}
 use Rattle.wit_first.proofs.Bridge.{after_only, after_some, metadata_agree, or_none_both, or_some}
 use Rattle.wit_first.proofs.First.{any_used, none_both}
-use Rattle.wit_first.proofs.Functions.{given_agrees, gives_agrees, no_result_agrees}
+use Rattle.wit_first.proofs.FunctionFaults.{given_agrees, gives_agrees, no_result_agrees}
 use Rattle.wit_first.proofs.Repeats.{after_kept, repeat_after, repeat_found, repeat_second, unrepeated}
 use Rattle.wit_arena.specs.Resolved.{IsNameless}
 use Rattle.wit_arena.specs.Resolving.{Env, env_of}

@@ -22,10 +22,10 @@ use Rattle.wit_syntax.specs.Signature.{IsEntered}
 use Rattle.wit_syntax.proofs.Lists.{at_take}
 use Rattle.wit_syntax.proofs.Names.{name_equal, name_itself}
 use Rattle.wit_first.specs.First.{first_in, Reports}
-use Rattle.wit_first.specs.Types.{type_fault, prefix_fault, back_fault}
+use Rattle.wit_first.specs.TypeFaults.{type_fault, prefix_fault, back_fault}
 use Rattle.wit_first.proofs.Bridge.{any_found, empty_agrees, key_agrees}
 use Rattle.wit_first.proofs.First.{any_used, reports_same}
-use Rattle.wit_first.proofs.Types.{AllTypes, by_parts, fault_parts}
+use Rattle.wit_first.proofs.TypeFaults.{AllTypes, by_parts, fault_parts}
 use Rattle.wit_arena.specs.EntryEnds.{EntryEnd, IsResource, IsUnknown, IsOther}
 use Rattle.wit_arena.specs.Resolving.{Env}
 use Rattle.wit_entries.specs.Faults.{end_in, unless_found, name_fault, end_fault, handled_fault, handle_fault, named_fault, written_fault}

@@ -6,7 +6,7 @@ use Rattle.wit_functions.specs.declared.function.Function.{Function}
 use Rattle.wit_syntax.specs.Bodies.{IsSecond}
 use Rattle.wit_syntax.specs.Fault.{Fault, fault}
 use Rattle.wit_syntax.specs.Function.{SourceFunction}
-use Rattle.wit_refusals.specs.Names.{Name}
+use Rattle.wit_refusals.specs.NameScopes.{Name}
 
 abbrev pub name_of_id : Id → Name
 name_of_id id = (id.name.now, id.span)

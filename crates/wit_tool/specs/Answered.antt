@@ -27,7 +27,7 @@ pub record IsTooMuch (text : List ℕ) (old new : Option (List ℕ)) (result : R
   pub gives : IsTooLarge (room (sources_of text)) e
   pub written : IsWrittenAs None (IsErrorLine [] e) old new result
 
--- memory was wanted before there was a package, and nothing was written
+-- an allocation failed before there was a package, and nothing was written
 pub record IsGivenUp (old new : Option (List ℕ)) (result : Result (Option UnresolvedPackageGroup) RunFault) : Type 0 where
   pub is : result ≡ Err Memory
   pub keeps : Keeps old new

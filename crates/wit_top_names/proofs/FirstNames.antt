@@ -22,7 +22,7 @@ use Rattle.wit_syntax.proofs.Found.{find_passes, find_at}
 use Rattle.wit_graph.specs.Table.{Row, entry_row}
 use Rattle.wit_syntax.specs.Scope.{item_row}
 use Rattle.wit_top_names.specs.declared.top_name.Target.{Target as Borrowed}
-use Rattle.wit_first.specs.Files.{lost_fault, unless_named, unnamed_fault}
+use Rattle.wit_first.specs.FileFaults.{lost_fault, unless_named, unnamed_fault}
 use Rattle.wit_top_names.specs.Tops.{target_view, item_top, Named}
 
 abbrev pub found : List ℕ → Named → Option Borrowed

@@ -18,11 +18,11 @@ use Rattle.wit_syntax.proofs.Names.{name_itself}
 use Rattle.wit_syntax.proofs.Tables.{place_of-Some, none_if}
 use Rattle.wit_syntax.proofs.Found.{contains_at}
 use Rattle.wit_syntax.proofs.Rows.{item_row_at}
-use Rattle.wit_first.specs.Files.{file_fault, files_fault, paths_fault, unnamed_fault}
+use Rattle.wit_first.specs.FileFaults.{file_fault, files_fault, paths_fault, unnamed_fault}
 use Rattle.wit_first.specs.First.{first_in}
-use Rattle.wit_first.specs.Names.{top_names_fault}
+use Rattle.wit_first.specs.NameFaults.{top_names_fault}
 use Rattle.wit_first.proofs.Bridge.{in_some, or_some, top_names_agree}
-use Rattle.wit_first.proofs.Files.{IsLost, unnamed_broken}
+use Rattle.wit_first.proofs.FileFaults.{IsLost, unnamed_broken}
 use Rattle.wit_top_names.specs.Checks.{edges_of}
 use Rattle.wit_top_names.proofs.FirstNames.{find_none}
 

@@ -21,7 +21,7 @@ pub data Sort : Type 0 where
   -- a failed allocation
   Wanting : Sort
 
--- memory was wanted
+-- an allocation failed
 pub record IsAllocationFailure (e : ParseError) : Type 0 where
   pub kind : e.kind ≡ OutOfMemory
   pub rule : e.rule ≡ 45

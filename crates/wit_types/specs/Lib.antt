@@ -3,4 +3,4 @@ pub mod Sizes
 pub mod Spans
 pub mod Stabilities
 pub mod Types
-pub mod Words
+pub mod KindWords

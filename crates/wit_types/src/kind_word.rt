@@ -1,6 +1,6 @@
 //! The words for what a type is.
 ghost use Rattle.std.specs.Prelude.{◌≡◌};
-ghost use Rattle.wit_types.specs.Words.{word_of};
+ghost use Rattle.wit_types.specs.KindWords.{word_of};
 
 use crate::types::{Handle, TypeDefKind};
 

@@ -4,7 +4,7 @@ use Rattle.std.specs.Prelude.{slice_get}
 use Rattle.std.specs.List.{flat_map}
 use Rattle.std.proofs.lemmas.Option.{slice_get_within}
 use Rattle.wit_functions.specs.declared.function.Function.{Function}
-use Rattle.wit_arena.specs.Functions.{freestanding_names}
+use Rattle.wit_arena.specs.SourceFunctions.{freestanding_names}
 use Rattle.wit_syntax.proofs.Lists.{flat_map_at, flat_map_has}
 use Rattle.wit_syntax.proofs.Found.{contains_at, at_contains}
 

@@ -11,7 +11,7 @@ use Rattle.wit_syntax.specs.Signature.{Called, name_called}
 use Rattle.wit_tree.specs.declared.tree.WorldSide.{WorldSide}
 use Rattle.wit_tree.specs.declared.tree.WorldSide.TheVariants.{Imported, Exported}
 use Rattle.wit_syntax.specs.Sides.{SideItem, SideFunction, SideLink, SideInline, item_called, items_on, names_on, side_called}
-use Rattle.wit_refusals.specs.Names.{Name}
+use Rattle.wit_refusals.specs.NameScopes.{Name}
 use Rattle.wit_signatures.specs.ForeignName.{name_of_id, name_key}
 use Rattle.wit_externs.specs.Clash.{item_names, names_of_items, all_on}
 use Rattle.wit_syntax.proofs.Repeated.{called_key}

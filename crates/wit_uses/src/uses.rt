@@ -9,7 +9,7 @@ ghost use Rattle.wit_syntax.specs.Source.{ScopeName};
 ghost use Rattle.wit_syntax.specs.Scope.{used, local_names};
 ghost use Rattle.wit_syntax.specs.Broken.{Refused};
 ghost use Rattle.wit_syntax.specs.Function.{SourceFunction};
-ghost use Rattle.wit_arena.specs.Functions.{freestanding_names};
+ghost use Rattle.wit_arena.specs.SourceFunctions.{freestanding_names};
 ghost use Rattle.wit_scopes.specs.DefinitionOrder.{IsUnstated};
 ghost use Rattle.wit_entries.specs.Requiring.{IsExtended};
 ghost use Rattle.wit_scopes.specs.Borrowed.{source_view, use_view, IsPlaced, ArePlaced};

@@ -25,13 +25,13 @@ use Rattle.wit_syntax.proofs.Orders.{in_order_at, order_within}
 use Rattle.wit_syntax.proofs.Scopes.{all_declared, scope_item_at, scopes_declared, scopes_inline}
 use Rattle.wit_syntax.proofs.Setters.{includes_none}
 use Rattle.wit_syntax.proofs.Turns.{defined_at, in_order_among}
-use Rattle.wit_first.specs.Attributes.{stability_fault}
-use Rattle.wit_first.specs.Files.{files_fault, tops_fault, visits_fault}
+use Rattle.wit_first.specs.AttributeFaults.{stability_fault}
+use Rattle.wit_first.specs.FileFaults.{files_fault, tops_fault, visits_fault}
 use Rattle.wit_first.specs.First.{first_in, first_after}
-use Rattle.wit_first.specs.Names.{item_names_fault}
-use Rattle.wit_first.specs.Uses.{all_uses_fault}
+use Rattle.wit_first.specs.NameFaults.{item_names_fault}
+use Rattle.wit_first.specs.UseFaults.{all_uses_fault}
 use Rattle.wit_first.proofs.Bridge.{in_some, item_names_agree, item_names_differ, or_some, stability_agrees}
-use Rattle.wit_first.proofs.Files.{tops_agree, visits_agree}
+use Rattle.wit_first.proofs.FileFaults.{tops_agree, visits_agree}
 use Rattle.wit_walk.specs.Definitions.{definition_fault, handle_fault}
 use Rattle.wit_walk.specs.Members.{member_fault}
 use Rattle.wit_walk.specs.Names.{folded_fault, name_fault}

@@ -24,13 +24,13 @@ use Rattle.wit_syntax.proofs.Lists.{at_prefix, flat_map_at, flat_map_has, map_at
 use Rattle.wit_syntax.proofs.Names.{name_itself}
 use Rattle.wit_syntax.proofs.Rows.{item_row_at}
 use Rattle.wit_syntax.proofs.Tables.{place_of-Some, none_if}
-use Rattle.wit_first.specs.Attributes.{metadata_fault}
-use Rattle.wit_first.specs.Files.{file_fault, files_fault, lost_fault, paths_fault, unnamed_fault}
+use Rattle.wit_first.specs.AttributeFaults.{metadata_fault}
+use Rattle.wit_first.specs.FileFaults.{file_fault, files_fault, lost_fault, paths_fault, unnamed_fault}
 use Rattle.wit_first.specs.First.{first_in}
-use Rattle.wit_first.specs.Names.{top_names_fault}
-use Rattle.wit_first.specs.Uses.{all_uses_fault, item_uses_fault, own_uses, path_fault, reached_fault, use_fault}
+use Rattle.wit_first.specs.NameFaults.{top_names_fault}
+use Rattle.wit_first.specs.UseFaults.{all_uses_fault, item_uses_fault, own_uses, path_fault, reached_fault, use_fault}
 use Rattle.wit_first.proofs.Bridge.{in_some, metadata_agree, or_some, top_names_agree}
-use Rattle.wit_first.proofs.Files.{IsLost, lost_agrees, unnamed_broken}
+use Rattle.wit_first.proofs.FileFaults.{IsLost, lost_agrees, unnamed_broken}
 
 -- a name that is no item's has no row
 missing_row : (is : List Item) (name : List ℕ) → item_named is name ≡ None → place_of (map item_row is) name ≡ None

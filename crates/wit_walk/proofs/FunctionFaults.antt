@@ -39,12 +39,12 @@ use Rattle.wit_syntax.specs.Source.{Part, DefinitionPart, UsePart, IncludePart, 
 use Rattle.wit_syntax.proofs.Found.{at_contains, contains_at}
 use Rattle.wit_syntax.proofs.Lists.{at_back, at_prefix, at_split, flat_map_at, flat_map_has, map_at}
 use Rattle.wit_syntax.proofs.Names.{name_equal, name_itself}
-use Rattle.wit_first.specs.Attributes.{metadata_fault}
+use Rattle.wit_first.specs.AttributeFaults.{metadata_fault}
 use Rattle.wit_first.specs.First.{first_after, repeat_of}
-use Rattle.wit_first.specs.Functions.{given_fault, gives_fault}
+use Rattle.wit_first.specs.FunctionFaults.{given_fault, gives_fault}
 use Rattle.wit_first.proofs.Bridge.{after_some, any_found, metadata_agree, or_some}
 use Rattle.wit_first.proofs.First.{any_some}
-use Rattle.wit_first.proofs.Functions.{given_agrees, gives_agrees, no_result_agrees}
+use Rattle.wit_first.proofs.FunctionFaults.{given_agrees, gives_agrees, no_result_agrees}
 use Rattle.wit_first.proofs.Repeats.{repeat_second}
 use Rattle.wit_walk.specs.Definitions.{handle_fault}
 use Rattle.wit_walk.specs.Functions.{is_free, lost_word, word_fault, signed_fault, param_fault, return_fault, function_fault}

@@ -36,11 +36,11 @@ use Rattle.wit_syntax.proofs.Inline.{inline_after-append}
 use Rattle.wit_syntax.proofs.Lists.{at_back, at_prefix, flat_map_at, flat_map_has, map_at, take_seam}
 use Rattle.wit_syntax.proofs.Names.{name_equal}
 use Rattle.wit_syntax.proofs.Sides.{links_none}
-use Rattle.wit_first.specs.Attributes.{external_fault, metadata_fault}
-use Rattle.wit_first.specs.Files.{lost_fault}
+use Rattle.wit_first.specs.AttributeFaults.{external_fault, metadata_fault}
+use Rattle.wit_first.specs.FileFaults.{lost_fault}
 use Rattle.wit_first.specs.First.{first_in, first_after, repeat_of}
 use Rattle.wit_first.proofs.Bridge.{after_some, any_found, external_agrees, in_some, metadata_agree, or_some, repeat_some}
-use Rattle.wit_first.proofs.Files.{lost_agrees}
+use Rattle.wit_first.proofs.FileFaults.{lost_agrees}
 use Rattle.wit_first.proofs.First.{split_at}
 use Rattle.wit_first.proofs.Repeats.{repeat_second}
 use Rattle.wit_walk.specs.Definitions.{handle_fault}

@@ -34,13 +34,13 @@ use Rattle.wit_syntax.proofs.Lists.{flat_map_at, flat_map_has}
 use Rattle.wit_syntax.proofs.Names.{name_equal, name_itself}
 use Rattle.wit_syntax.proofs.Repeated.{differ_at}
 use Rattle.wit_syntax.proofs.Turns.{at_part, used_at, defined_at}
-use Rattle.wit_first.specs.Attributes.{metadata_fault, stability_fault}
+use Rattle.wit_first.specs.AttributeFaults.{metadata_fault, stability_fault}
 use Rattle.wit_first.specs.First.{first_in, first_after, repeat_of}
-use Rattle.wit_first.specs.Lists.{list_fault}
-use Rattle.wit_first.specs.Types.{type_fault}
+use Rattle.wit_first.specs.ListFaults.{list_fault}
+use Rattle.wit_first.specs.TypeFaults.{type_fault}
 use Rattle.wit_first.proofs.Bridge.{after_some, any_found, in_some, list_agrees, metadata_agree, or_some, stability_agrees}
 use Rattle.wit_first.proofs.First.{any_some}
-use Rattle.wit_first.proofs.Orders.{order_broken}
+use Rattle.wit_first.proofs.OrderFaults.{order_broken}
 use Rattle.wit_first.proofs.Repeats.{repeat_second}
 use Rattle.wit_walk.specs.Definitions.{definition_fault, end_fault, handle_fault}
 use Rattle.wit_walk.specs.Names.{lost_use, name_fault, unless_meant, use_fault}

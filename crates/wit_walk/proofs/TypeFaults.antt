@@ -14,9 +14,9 @@ use Rattle.wit_syntax.specs.Fault.{Fault}
 use Rattle.wit_syntax.specs.Shape.{shape_of, words, handles, all_shapes, all_words, all_handles, row_shapes, row_handles}
 use Rattle.wit_syntax.proofs.Found.{contains_at}
 use Rattle.wit_first.specs.First.{first_in}
-use Rattle.wit_first.specs.Types.{type_fault, prefix_fault, back_fault}
+use Rattle.wit_first.specs.TypeFaults.{type_fault, prefix_fault, back_fault}
 use Rattle.wit_first.proofs.Bridge.{empty_agrees, in_some, key_agrees, or_some}
-use Rattle.wit_first.proofs.Types.{AllTypes, by_parts, fault_parts, type_at}
+use Rattle.wit_first.proofs.TypeFaults.{AllTypes, by_parts, fault_parts, type_at}
 
 -- the fault of one of these names, which is one of those too
 pub record IsOf (names those : List Id) (of : Id → Option Fault) (f : Fault) : Type 0 where

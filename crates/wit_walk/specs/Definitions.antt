@@ -9,10 +9,10 @@ use Rattle.wit_syntax.specs.Ends.{End, Elsewhere, shape_end}
 use Rattle.wit_syntax.specs.Fault.{Fault, fault}
 use Rattle.wit_syntax.specs.Shape.{Word}
 use Rattle.wit_syntax.specs.Source.{ScopeName, Defined}
-use Rattle.wit_first.specs.Attributes.{metadata_fault}
+use Rattle.wit_first.specs.AttributeFaults.{metadata_fault}
 use Rattle.wit_first.specs.First.{first_in}
-use Rattle.wit_first.specs.Lists.{list_fault}
-use Rattle.wit_first.specs.Types.{type_fault}
+use Rattle.wit_first.specs.ListFaults.{list_fault}
+use Rattle.wit_first.specs.TypeFaults.{type_fault}
 
 -- a name in a handle ends neither at a resource nor at a name of another package
 abbrev pub end_fault : Id → Option End → Option Fault

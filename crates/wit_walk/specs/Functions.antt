@@ -10,10 +10,10 @@ use Rattle.wit_syntax.specs.Bodies.{folded}
 use Rattle.wit_syntax.specs.Fault.{Fault, fault, missing_at, name_word}
 use Rattle.wit_syntax.specs.Function.{Role, Freestanding, SourceParam, SourceFunction, written_param}
 use Rattle.wit_syntax.specs.Source.{ScopeName, meaning}
-use Rattle.wit_first.specs.Attributes.{metadata_fault}
+use Rattle.wit_first.specs.AttributeFaults.{metadata_fault}
 use Rattle.wit_first.specs.First.{first_after, repeat_of}
-use Rattle.wit_first.specs.Functions.{given_fault, gives_fault, no_result_fault}
-use Rattle.wit_first.specs.Types.{type_fault}
+use Rattle.wit_first.specs.FunctionFaults.{given_fault, gives_fault, no_result_fault}
+use Rattle.wit_first.specs.TypeFaults.{type_fault}
 use Rattle.wit_walk.specs.Names.{unless_meant}
 
 -- a function of an interface belongs to no resource and has this written name

@@ -8,7 +8,7 @@ use Rattle.wit_syntax.specs.Function.{Role, OnSide}
 use Rattle.wit_syntax.specs.Signature.{Called}
 use Rattle.wit_syntax.specs.Sides.{SideItem, SideFunction, SideLink, SideInline, item_called, item_function, item_side, items_on, inline_item, is_interface, side_called}
 use Rattle.wit_syntax.specs.Source.{Item, address, scope_names}
-use Rattle.wit_first.specs.Attributes.{external_fault}
+use Rattle.wit_first.specs.AttributeFaults.{external_fault}
 use Rattle.wit_first.specs.First.{first_in, repeat_of}
 use Rattle.wit_walk.specs.Definitions.{handle_fault}
 use Rattle.wit_walk.specs.Functions.{function_fault, signed_fault}

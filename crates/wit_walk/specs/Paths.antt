@@ -10,8 +10,8 @@ use Rattle.wit_syntax.specs.Broken.{is_world_at}
 use Rattle.wit_syntax.specs.Fault.{Fault, fault}
 use Rattle.wit_syntax.specs.Sides.{Link, SideItem, item_link, items_on}
 use Rattle.wit_syntax.specs.Source.{TopName, all_items, leads, path_id, path_scope}
-use Rattle.wit_first.specs.Attributes.{metadata_fault, stability_fault}
-use Rattle.wit_first.specs.Files.{lost_fault}
+use Rattle.wit_first.specs.AttributeFaults.{metadata_fault, stability_fault}
+use Rattle.wit_first.specs.FileFaults.{lost_fault}
 
 -- where a world is wanted: an interface is there
 abbrev pub interface_fault : Option Bool → Span → Option Fault

@@ -10,11 +10,11 @@ use Rattle.wit_syntax.specs.Scope.{item_rows, rows_of, in_order, in_turn, used, 
 use Rattle.wit_syntax.specs.Sides.{side_items}
 use Rattle.wit_syntax.specs.Signature.{name_called}
 use Rattle.wit_syntax.specs.Source.{Item, about, address, all_items, scope_names}
-use Rattle.wit_first.specs.Attributes.{stability_fault}
-use Rattle.wit_first.specs.Files.{files_fault, tops_fault, visits_fault}
+use Rattle.wit_first.specs.AttributeFaults.{stability_fault}
+use Rattle.wit_first.specs.FileFaults.{files_fault, tops_fault, visits_fault}
 use Rattle.wit_first.specs.First.{first_in, first_after}
-use Rattle.wit_first.specs.Names.{item_names_fault}
-use Rattle.wit_first.specs.Uses.{all_uses_fault}
+use Rattle.wit_first.specs.NameFaults.{item_names_fault}
+use Rattle.wit_first.specs.UseFaults.{all_uses_fault}
 use Rattle.wit_walk.specs.Definitions.{definition_fault, handle_fault}
 use Rattle.wit_walk.specs.Members.{member_fault}
 use Rattle.wit_walk.specs.Names.{name_fault, folded_fault}

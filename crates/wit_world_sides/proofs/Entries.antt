@@ -13,7 +13,7 @@ use Rattle.wit_functions.specs.declared.function.Function.{Function}
 use Rattle.wit_syntax.specs.ExternPart.{same_side}
 use Rattle.wit_syntax.specs.Repeats.{AllDiffer}
 use Rattle.wit_syntax.specs.Sides.{role_side}
-use Rattle.wit_arena.specs.Functions.{function_item}
+use Rattle.wit_arena.specs.SourceFunctions.{function_item}
 use Rattle.wit_arena.specs.SideItems.{inline_entry, link_item, put_on}
 use Rattle.wit_rules.specs.Borrowed.{function_view}
 use Rattle.wit_rules.specs.declared.borrowed.BorrowedFunction.{BorrowedFunction}

@@ -11,7 +11,7 @@ use Rattle.wit_syntax.specs.Sides.{Link, role_side}
 use Rattle.wit_syntax.specs.Source.{ScopeName}
 use Rattle.wit_syntax.proofs.Kept.{after_one}
 use Rattle.wit_syntax.proofs.Lists.{at_split}
-use Rattle.wit_arena.specs.Functions.{function_item}
+use Rattle.wit_arena.specs.SourceFunctions.{function_item}
 use Rattle.wit_arena.specs.Resolving.{Names}
 use Rattle.wit_arena.specs.SideItems.{inline_entry, link_item, put_on}
 use Rattle.wit_arena.specs.Whole.{type_imports}

@@ -17,11 +17,11 @@ use Rattle.wit_syntax.specs.Repeats.{AllDiffer}
 use Rattle.wit_syntax.specs.Scope.{local_names}
 use Rattle.wit_syntax.specs.Sides.{SideItem, SideFunction, SideLink, SideInline, role_side, item_function, item_inline, items_on}
 use Rattle.wit_syntax.specs.Source.{ScopeName, ForeignName, local_id, local_name}
-use Rattle.wit_arena.specs.Functions.{function_item}
+use Rattle.wit_arena.specs.SourceFunctions.{function_item}
 use Rattle.wit_arena.specs.Resolving.{Names, names_in}
 use Rattle.wit_arena.specs.SideItems.{inline_entry, link_item, link_key, put_on}
 use Rattle.wit_arena.specs.Whole.{type_imports}
-use Rattle.wit_refusals.specs.Names.{Name}
+use Rattle.wit_refusals.specs.NameScopes.{Name}
 use Rattle.wit_rules.specs.Borrowed.{function_view}
 use Rattle.wit_signatures.specs.ForeignName.{name_of_id, name_of_function, name_of_made, name_key}
 use Rattle.wit_externs.specs.Clash.{DifferOnSides, item_names, names_of_items}

@@ -9,7 +9,7 @@ use Rattle.wit_model.specs.declared.world.WorldItem.{WorldItem}
 use Rattle.wit_model.specs.contracts.world.WorldKeyPartialEq.TheImpl.{eq-value as key_test}
 use Rattle.wit_syntax.specs.ExternPart.{same_side}
 use Rattle.wit_syntax.specs.Sides.{Link, role_side}
-use Rattle.wit_arena.specs.Functions.{function_item}
+use Rattle.wit_arena.specs.SourceFunctions.{function_item}
 use Rattle.wit_arena.specs.SideItems.{inline_entry, link_item, put_on}
 use Rattle.wit_rules.specs.Borrowed.{function_view}
 use Rattle.wit_externs.specs.SideMembers.{link_view}

@@ -15,7 +15,7 @@ ghost use Rattle.wit_syntax.specs.Metadata.{stability_of};
 ghost use Rattle.wit_syntax.specs.Repeats.{AllDiffer};
 ghost use Rattle.wit_syntax.specs.Sides.{item_function, item_inline};
 ghost use Rattle.wit_syntax.specs.Source.{ScopeName, local_id};
-ghost use Rattle.wit_arena.specs.Functions.{function_item};
+ghost use Rattle.wit_arena.specs.SourceFunctions.{function_item};
 ghost use Rattle.wit_arena.specs.SideItems.{settled, inline_entry, link_item, link_key as the_link_key, link_span as the_link_span};
 ghost use Rattle.wit_arena.specs.Whole.{type_imports as the_imports};
 ghost use Rattle.wit_signatures.specs.ForeignName.{name_of_function, name_of_made};
@@ -57,7 +57,7 @@ fn add_import(
     Ok(())
 }
 
-/// The names of a scope as imports of a world: each with the type that it means. Behind them is room
+/// The names of a scope as imports of a world: each with the type that it means. After them is room
 /// for so many more.
 fn type_imports(
     alloc: Global,

@@ -3,8 +3,8 @@ use Rattle.std.proofs.lemmas.Result.{err_from_is_err_and}
 use Rattle.wit_tree.specs.declared.tree.PackageFile.{PackageFile}
 use Rattle.wit_syntax.specs.Broken.{IsBrokenNames, IsBroken, Names}
 use Rattle.wit_syntax.proofs.Refusing.{refused_weaker}
-use Rattle.wit_first.specs.Orders.{IsNamesFault}
-use Rattle.wit_first.proofs.Orders.{refused_as}
+use Rattle.wit_first.specs.OrderFaults.{IsNamesFault}
+use Rattle.wit_first.proofs.OrderFaults.{refused_as}
 use Rattle.wit_files.proofs.Gathering.{names_agree}
 use Rattle.wit_contents.proofs.contents.resolve_gathered.Goals as goal
 

@@ -14,7 +14,7 @@ use Rattle.wit_syntax.specs.Source.{address, scope_names}
 use Rattle.wit_syntax.proofs.Refusing.{refused_weaker}
 use Rattle.wit_syntax.proofs.Repeated.{differ_none}
 use Rattle.wit_arena.specs.Resolving.{env_of}
-use Rattle.wit_refusals.specs.Names.{Name}
+use Rattle.wit_refusals.specs.NameScopes.{Name}
 use Rattle.wit_sides.specs.Sides.{defined_on}
 use Rattle.wit_rules.specs.Borrowed.{function_view}
 use Rattle.wit_rules.specs.Signatures.{AreResults, HaveOwners}

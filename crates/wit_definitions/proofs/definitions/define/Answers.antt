@@ -2,7 +2,7 @@ use Rattle.std.proofs.Common.{◌≡◌, List, None, subst}
 use Rattle.wit_type_tree.specs.declared.leaves.Attribute.{Attribute}
 use Rattle.wit_type_tree.specs.Parts.{body_types}
 use Rattle.wit_syntax.specs.Shape.{all_handles}
-use Rattle.wit_first.specs.Attributes.{metadata_fault}
+use Rattle.wit_first.specs.AttributeFaults.{metadata_fault}
 use Rattle.wit_first.proofs.First.{none_both}
 use Rattle.wit_arena.specs.Resolving.{env_of}
 use Rattle.wit_entries.proofs.Faults.{body_extended}

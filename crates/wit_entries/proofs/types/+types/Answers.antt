@@ -8,7 +8,7 @@ use Rattle.wit_type_tree.specs.Parts.{result_types, boxed_types}
 use Rattle.wit_type_tree.proofs.Rows.{tuple_types, types_of_borrowed}
 use Rattle.wit_arena.specs.Resolving.{env_of}
 use Rattle.wit_syntax.specs.Shape.{shape_of, handles}
-use Rattle.wit_first.specs.MapKeys.{key_fault}
+use Rattle.wit_first.specs.KeyFaults.{key_fault}
 use Rattle.wit_first.proofs.First.{in-all, in-next, none_both, reports-in, reports_back, reports_prefix, reports_same}
 use Rattle.wit_entries.specs.Faults.{types_fault, written_fault}
 use Rattle.wit_entries.proofs.Faults.{tuple_first, types_extended, written_extended}

@@ -6,7 +6,7 @@ use Rattle.wit_syntax.specs.Broken.{Refused}
 use Rattle.wit_syntax.specs.Fault.{Fault}
 use Rattle.wit_syntax.specs.Sides.{role_side, SideFunction}
 use Rattle.wit_syntax.proofs.Refusing.{refused_weaker}
-use Rattle.wit_refusals.specs.Names.{Name, IsDefinedAgain}
+use Rattle.wit_refusals.specs.NameScopes.{Name, IsDefinedAgain}
 use Rattle.wit_sides.specs.Sides.{defined_on}
 use Rattle.wit_rules.specs.Borrowed.{function_view}
 use Rattle.wit_externs.specs.Clash.{item_names, IsClash, IsCrossed}

@@ -7,7 +7,7 @@ use Rattle.wit_syntax.specs.Fault.{Fault}
 use Rattle.wit_syntax.specs.Sides.{item_function, on_side}
 use Rattle.wit_syntax.specs.Signature.{IsUnpairedSetter}
 use Rattle.wit_syntax.proofs.Refusing.{refused_weaker}
-use Rattle.wit_refusals.specs.Names.{Name, IsFirstLoneSetter, IsLoneSetter}
+use Rattle.wit_refusals.specs.NameScopes.{Name, IsFirstLoneSetter, IsLoneSetter}
 use Rattle.wit_externs.specs.Clash.{all_on}
 use Rattle.wit_externs.specs.SideMembers.{externs_view}
 use Rattle.wit_externs.proofs.NoSetters.{none_there}

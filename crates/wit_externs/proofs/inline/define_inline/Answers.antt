@@ -7,7 +7,7 @@ use Rattle.wit_syntax.specs.Metadata.{IsBrokenMetadata}
 use Rattle.wit_syntax.specs.Sides.{SideItem}
 use Rattle.wit_syntax.proofs.Refusing.{refused_weaker}
 use Rattle.wit_first.proofs.Bridge.{metadata_agree, refused_by}
-use Rattle.wit_refusals.specs.Names.{Name, IsDefinedAgain}
+use Rattle.wit_refusals.specs.NameScopes.{Name, IsDefinedAgain}
 use Rattle.wit_sides.specs.Sides.{defined_on}
 use Rattle.wit_externs.specs.declared.borrowed.BorrowedExtern.TheVariants.{Inline}
 use Rattle.wit_externs.specs.SideMembers.{extern_view}

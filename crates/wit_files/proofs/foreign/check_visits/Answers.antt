@@ -4,7 +4,7 @@ use Rattle.std.proofs.lemmas.Option.{slice_get-get_or}
 use Rattle.std.proofs.lemmas.Result.{err_from_is_err_and}
 use Rattle.wit_syntax.specs.Fault.{Fault}
 use Rattle.wit_syntax.specs.Foreign.{ForeignVisit}
-use Rattle.wit_first.specs.Attributes.{stability_fault}
+use Rattle.wit_first.specs.AttributeFaults.{stability_fault}
 use Rattle.wit_first.proofs.First.{in-all, in-map, in-next, reports-in, reports_same}
 use Rattle.wit_files.specs.Foreign.{foreign_view}
 use Rattle.wit_files.specs.declared.foreign.ForeignVisit.{ForeignVisit as Borrowed}

@@ -1,5 +1,5 @@
 use Rattle.std.proofs.Common.{◌≡◌, None, take}
-use Rattle.wit_first.specs.Attributes.{stability_fault}
+use Rattle.wit_first.specs.AttributeFaults.{stability_fault}
 use Rattle.wit_first.specs.First.{first_in}
 use Rattle.wit_files.specs.declared.foreign.ForeignVisit.{ForeignVisit as Borrowed}
 use Rattle.wit_files.proofs.foreign.check_visits.Given as goal

@@ -8,7 +8,7 @@ use Rattle.wit_tree.specs.declared.tree.InterfaceItem.{InterfaceItem}
 use Rattle.wit_syntax.specs.Fault.{Fault}
 use Rattle.wit_syntax.specs.Source.{TopName, Item, interface_part}
 use Rattle.wit_syntax.specs.Scope.{use_path}
-use Rattle.wit_first.specs.Files.{unnamed_fault}
+use Rattle.wit_first.specs.FileFaults.{unnamed_fault}
 use Rattle.wit_first.specs.First.{first_in}
 use Rattle.wit_first.proofs.First.{in-all, in-next, in-parts, reports-in, reports_same}
 use Rattle.wit_top_names.specs.Checks.{edges_of}

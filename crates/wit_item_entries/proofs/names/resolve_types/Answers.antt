@@ -10,7 +10,7 @@ use Rattle.wit_arena.specs.Resolving.{env_of, AreLegalBodies, AreLegalMetadata, 
 use Rattle.wit_syntax.proofs.Refusing.{refused_weaker}
 use Rattle.wit_syntax.proofs.Turns.{distinct_names}
 use Rattle.wit_first.proofs.Bridge.{local_names_agree, local_names_differ, refused_by}
-use Rattle.wit_first.proofs.Orders.{order_broken}
+use Rattle.wit_first.proofs.OrderFaults.{order_broken}
 use Rattle.wit_scopes.specs.Borrowed.{name_view, definition_view}
 use Rattle.wit_scopes.specs.DefinitionOrder.{AreOrdered, IsBrokenAmong, IsRepeatedId}
 use Rattle.wit_item_entries.specs.AddedNames.{IsWrongHandleIn, IsWrongHandleTurn}

@@ -13,7 +13,7 @@ use Rattle.wit_syntax.specs.Fault.{Fault}
 use Rattle.wit_syntax.specs.Foreign.{visited, foreign_interfaces}
 use Rattle.wit_syntax.specs.Scope.{part_uses}
 use Rattle.wit_syntax.specs.Source.{TopName, TheWorld, world_part}
-use Rattle.wit_first.specs.Uses.{use_fault, uses_fault}
+use Rattle.wit_first.specs.UseFaults.{use_fault, uses_fault}
 use Rattle.wit_first.proofs.First.{in-all, in-following, in-parts, reports-in, reports_same}
 use Rattle.wit_scopes.specs.Borrowed.{name_view}
 use Rattle.wit_scopes.specs.PlacedNames.{AreNamesPlaced}

@@ -5,7 +5,7 @@ use Rattle.wit_tree.specs.declared.tree.WorldItem.{WorldItem}
 use Rattle.wit_syntax.specs.Source.{world_part}
 use Rattle.wit_syntax.specs.Foreign.{visited, foreign_interfaces}
 use Rattle.wit_first.specs.First.{first_in}
-use Rattle.wit_first.specs.Uses.{uses_fault}
+use Rattle.wit_first.specs.UseFaults.{uses_fault}
 use Rattle.wit_scopes.specs.PlacedNames.{AreNamesPlaced}
 use Rattle.wit_scopes.specs.Borrowed.{name_view}
 use Rattle.wit_item_names.specs.InlineNames.{written_items, side_uses}

@@ -5,7 +5,7 @@ use Rattle.wit_tree.specs.declared.tree.Use.{Use}
 use Rattle.wit_syntax.specs.Address.{Address}
 use Rattle.wit_syntax.specs.Source.{Used}
 use Rattle.wit_syntax.proofs.Found.{contains_at}
-use Rattle.wit_first.specs.Uses.{use_fault}
+use Rattle.wit_first.specs.UseFaults.{use_fault}
 use Rattle.wit_first.proofs.First.{or_none, reports_same}
 use Rattle.wit_scopes.specs.Borrowed.{name_view}
 use Rattle.wit_syntax.specs.Foreign.{visited, foreign_interfaces}

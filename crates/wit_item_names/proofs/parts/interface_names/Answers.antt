@@ -10,7 +10,7 @@ use Rattle.wit_syntax.specs.ExternPart.{item_uses}
 use Rattle.wit_syntax.specs.Fault.{Fault}
 use Rattle.wit_syntax.specs.Source.{TopName, interface_part, part_names}
 use Rattle.wit_syntax.specs.Foreign.{visited, foreign_interfaces}
-use Rattle.wit_first.specs.Uses.{own_uses, use_fault, uses_fault}
+use Rattle.wit_first.specs.UseFaults.{own_uses, use_fault, uses_fault}
 use Rattle.wit_first.proofs.First.{in-all, in-flat, in-following, reports-in, reports_same}
 use Rattle.wit_item_names.specs.Items.{part_view}
 use Rattle.wit_item_names.proofs.Written.{item_own}

@@ -5,7 +5,7 @@ use Rattle.wit_syntax.specs.Source.{interface_part, part_names}
 use Rattle.wit_syntax.specs.ExternPart.{item_uses}
 use Rattle.wit_syntax.specs.Foreign.{visited, foreign_interfaces}
 use Rattle.wit_first.specs.First.{first_in}
-use Rattle.wit_first.specs.Uses.{uses_fault}
+use Rattle.wit_first.specs.UseFaults.{uses_fault}
 use Rattle.wit_scopes.specs.PlacedNames.{AreNamesPlaced}
 use Rattle.wit_scopes.specs.Borrowed.{name_view}
 use Rattle.wit_files.specs.FileNames.{top_at}

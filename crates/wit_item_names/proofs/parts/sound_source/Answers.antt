@@ -1,5 +1,5 @@
 use Rattle.std.proofs.lemmas.Result.{err_from_is_err_and}
-use Rattle.wit_first.specs.Uses.{path_fault}
+use Rattle.wit_first.specs.UseFaults.{path_fault}
 use Rattle.wit_first.proofs.First.{none_both, reports_back, reports_prefix}
 use Rattle.wit_files.specs.FileNames.{top_at}
 use Rattle.wit_item_names.proofs.parts.sound_source.Goals as goal

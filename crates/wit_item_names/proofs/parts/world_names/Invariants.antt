@@ -4,7 +4,7 @@ use Rattle.wit_tree.specs.declared.tree.WorldItem.{WorldItem}
 use Rattle.wit_syntax.specs.Source.{world_part, part_names}
 use Rattle.wit_syntax.specs.Foreign.{visited, foreign_interfaces}
 use Rattle.wit_first.specs.First.{first_in}
-use Rattle.wit_first.specs.Uses.{own_uses, uses_fault}
+use Rattle.wit_first.specs.UseFaults.{own_uses, uses_fault}
 use Rattle.wit_scopes.specs.PlacedNames.{AreNamesPlaced}
 use Rattle.wit_scopes.specs.Borrowed.{name_view}
 use Rattle.wit_files.specs.FileNames.{top_at}

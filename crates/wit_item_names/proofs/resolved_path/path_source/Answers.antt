@@ -4,9 +4,9 @@ use Rattle.wit_type_tree.specs.declared.leaves.Id.{Id}
 use Rattle.wit_syntax.specs.Broken.{is_world_at}
 use Rattle.wit_syntax.specs.Fault.{Fault, fault}
 use Rattle.wit_syntax.specs.Source.{Target, leads, path_id, all_items, is_world}
-use Rattle.wit_first.specs.Files.{lost_fault}
-use Rattle.wit_first.specs.Uses.{reached_fault}
-use Rattle.wit_first.proofs.Files.{lost_at}
+use Rattle.wit_first.specs.FileFaults.{lost_fault}
+use Rattle.wit_first.specs.UseFaults.{reached_fault}
+use Rattle.wit_first.proofs.FileFaults.{lost_at}
 use Rattle.wit_files.specs.FileNames.{top_at}
 use Rattle.wit_item_names.proofs.resolved_path.path_source.Goals as goal
 

@@ -1,5 +1,5 @@
 use Rattle.std.proofs.Common.{Some, inl, inr, sym, ap, ◌∙◌}
-use Rattle.wit_first.specs.Headers.{second_docs_fault}
+use Rattle.wit_first.specs.HeaderFaults.{second_docs_fault}
 use Rattle.wit_items.proofs.Documented.{none_second, second_here, second_none}
 use Rattle.wit_items.proofs.header.check_docs.Goals.{then-documented+in-Some+else-is_documented, then-documented+in_default, else-documented}
 use Rattle.wit_items.proofs.header.check_docs.Goals as goal

@@ -7,7 +7,7 @@ use Rattle.wit_tree.specs.declared.tree.PackageFile.{PackageFile}
 use Rattle.wit_syntax.specs.Fault.{Fault}
 use Rattle.wit_syntax.specs.Source.{file_items, all_items, scope_names}
 use Rattle.wit_first.specs.First.{first_in}
-use Rattle.wit_first.specs.Uses.{item_uses_fault}
+use Rattle.wit_first.specs.UseFaults.{item_uses_fault}
 use Rattle.wit_first.proofs.First.{in-flat, in-following, reports-in, reports_same}
 use Rattle.wit_syntax.proofs.Orders.{take_next}
 use Rattle.wit_top_names.proofs.Lost.{flat_more}

@@ -4,7 +4,7 @@ use Rattle.wit_tree.specs.declared.tree.PackageFile.{PackageFile}
 use Rattle.wit_syntax.specs.Source.{file_items, all_items, scope_names}
 use Rattle.wit_syntax.specs.Foreign.{visited, foreign_interfaces}
 use Rattle.wit_first.specs.First.{first_in}
-use Rattle.wit_first.specs.Uses.{item_uses_fault}
+use Rattle.wit_first.specs.UseFaults.{item_uses_fault}
 use Rattle.wit_items.specs.PlacedItems.{AreItemsPlaced}
 use Rattle.wit_items.specs.Items.{item_view, names_view, AreFiled}
 use Rattle.wit_items.specs.InlineNames.{inside_view, names_written}

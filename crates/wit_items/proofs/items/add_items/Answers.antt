@@ -13,7 +13,7 @@ use Rattle.wit_syntax.specs.Fault.{Fault}
 use Rattle.wit_syntax.specs.Source.{TopName, TheInterface, TheWorld, Item, parts, top_names, declared_items, file_items, scope_names}
 use Rattle.wit_syntax.specs.Foreign.{visited, foreign_interfaces}
 use Rattle.wit_first.specs.First.{first_in}
-use Rattle.wit_first.specs.Uses.{item_uses_fault, uses_fault}
+use Rattle.wit_first.specs.UseFaults.{item_uses_fault, uses_fault}
 use Rattle.wit_first.proofs.First.{in-all, in-flat, in-following, none_both, or_none, reports_back, reports_prefix, reports-in, reports_same}
 use Rattle.wit_files.specs.FileNames.{names_at_top}
 use Rattle.wit_top_names.proofs.Lost.{flat_more}

@@ -1,6 +1,6 @@
 use Rattle.std.proofs.Common.{take}
 use Rattle.std.specs.List.{flat_map}
-use Rattle.wit_listing.specs.Words.{Adds}
+use Rattle.wit_listing.specs.ListingTexts.{Adds}
 use Rattle.wit_listing.specs.Package.{package_text}
 use Rattle.wit_listing.proofs.group.push_packages.Given as goal
 

@@ -1,6 +1,6 @@
 use Rattle.std.proofs.Common.{take}
 use Rattle.std.specs.List.{flat_map}
-use Rattle.wit_listing.specs.Words.{Adds}
+use Rattle.wit_listing.specs.ListingTexts.{Adds}
 use Rattle.wit_listing.specs.Kinds.{field_text}
 use Rattle.wit_listing.proofs.kinds.push_fields.Given as goal
 

@@ -1,6 +1,6 @@
 use Rattle.std.proofs.Common.{take}
 use Rattle.wit_listing.specs.Lists.{numbered}
-use Rattle.wit_listing.specs.Words.{Adds}
+use Rattle.wit_listing.specs.ListingTexts.{Adds}
 use Rattle.wit_listing.specs.Types.{type_line}
 use Rattle.wit_listing.proofs.types.push_type_lines.Given as goal
 

@@ -1,6 +1,6 @@
 use Rattle.std.proofs.Common.{take}
 use Rattle.wit_listing.specs.Lists.{numbered}
-use Rattle.wit_listing.specs.Words.{Adds}
+use Rattle.wit_listing.specs.ListingTexts.{Adds}
 use Rattle.wit_listing.specs.Worlds.{rename_text}
 use Rattle.wit_listing.proofs.worlds.push_renames.Given as goal
 

@@ -1,6 +1,6 @@
 use Rattle.std.proofs.Common.{take}
 use Rattle.wit_listing.specs.Lists.{numbered}
-use Rattle.wit_listing.specs.Words.{Adds}
+use Rattle.wit_listing.specs.ListingTexts.{Adds}
 use Rattle.wit_listing.specs.Worlds.{world_lines}
 use Rattle.wit_listing.proofs.worlds.push_worlds.Given as goal
 

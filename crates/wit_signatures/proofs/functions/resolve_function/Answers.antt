@@ -3,7 +3,7 @@ use Rattle.std.proofs.lemmas.Result.{err_from_is_err_and}
 use Rattle.wit_names.specs.Mangled.{is_mangled}
 use Rattle.wit_syntax.specs.Function.{SourceFunction, written_types}
 use Rattle.wit_syntax.specs.Shape.{all_handles}
-use Rattle.wit_first.specs.Attributes.{metadata_fault}
+use Rattle.wit_first.specs.AttributeFaults.{metadata_fault}
 use Rattle.wit_first.proofs.First.{none_both, reports_back, reports_prefix, reports_same}
 use Rattle.wit_arena.specs.Resolving.{env_of}
 use Rattle.wit_rules.specs.Borrowed.{function_view}

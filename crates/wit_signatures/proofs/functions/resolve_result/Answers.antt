@@ -2,7 +2,7 @@ use Rattle.std.proofs.Common.{Option, sym, ap, ◌∙◌, subst}
 use Rattle.std.proofs.lemmas.Result.{err_from_is_err_and}
 use Rattle.wit_syntax.specs.Fault.{Fault}
 use Rattle.wit_first.specs.First.{Finds}
-use Rattle.wit_first.specs.Functions.{gives_fault}
+use Rattle.wit_first.specs.FunctionFaults.{gives_fault}
 use Rattle.wit_first.proofs.First.{none_both, reports_back, reports_prefix, reports_same}
 use Rattle.wit_arena.specs.Resolving.{env_of}
 use Rattle.wit_rules.specs.Borrowed.{function_view}

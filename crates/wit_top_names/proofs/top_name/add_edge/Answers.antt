@@ -5,7 +5,7 @@ use Rattle.std.proofs.lemmas.List.{append-nil}
 use Rattle.wit_type_tree.specs.declared.leaves.Id.{Id}
 use Rattle.wit_syntax.specs.Source.{Target, leads}
 use Rattle.wit_syntax.specs.Scope.{local_target}
-use Rattle.wit_first.specs.Files.{unnamed_fault}
+use Rattle.wit_first.specs.FileFaults.{unnamed_fault}
 use Rattle.wit_first.proofs.First.{reports_same}
 use Rattle.wit_top_names.proofs.FirstNames.{leads_some, leads_none, named_later, named_nowhere}
 use Rattle.wit_top_names.proofs.top_name.add_edge.Goals.{in-Id+in-Some+in_ok-add_local-in-Some, in-Id+in-None+in_ok-check_declared-in-None+in_ok-push-in-None, in-Package}

@@ -4,7 +4,7 @@ use Rattle.wit_values.specs.declared.span.Span.{Span}
 use Rattle.wit_type_tree.specs.declared.leaves.Attribute.{Attribute}
 use Rattle.wit_syntax.specs.Fault.{Fault, fault}
 use Rattle.wit_syntax.specs.Source.{leads}
-use Rattle.wit_first.specs.Files.{attributed_fault, lost_fault}
+use Rattle.wit_first.specs.FileFaults.{attributed_fault, lost_fault}
 use Rattle.wit_top_names.proofs.top_name.check_top_use.Goals as goal
 
 some_attributed : (xs : List Attribute) (span : Span) (o : Option Fault) → (xs ≡ [] → ⊥) → option_or (attributed_fault xs span) o ≡ Some (fault 9 span)

@@ -6,7 +6,7 @@ use Rattle.wit_tree.specs.declared.tree.AstItem.{AstItem}
 use Rattle.wit_tree.specs.declared.tree.AstItem.TheVariants as ast
 use Rattle.wit_tree.specs.declared.tree.ToplevelUse.{ToplevelUse}
 use Rattle.wit_syntax.specs.Source.{Item}
-use Rattle.wit_first.specs.Files.{top_fault}
+use Rattle.wit_first.specs.FileFaults.{top_fault}
 use Rattle.wit_first.proofs.First.{in-all, in-next, reports-in}
 use Rattle.wit_top_names.proofs.top_name.check_top_uses.Goals.{in-Use+in_ok-check_top_use, in_default}
 use Rattle.wit_top_names.proofs.top_name.check_top_uses.Goals as goal

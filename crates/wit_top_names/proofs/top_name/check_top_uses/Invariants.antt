@@ -1,6 +1,6 @@
 use Rattle.std.proofs.Common.{◌≡◌, List, None, take}
 use Rattle.wit_syntax.specs.Source.{Item}
-use Rattle.wit_first.specs.Files.{top_fault}
+use Rattle.wit_first.specs.FileFaults.{top_fault}
 use Rattle.wit_first.specs.First.{first_in}
 use Rattle.wit_top_names.specs.Tops.{AreDeclared}
 use Rattle.wit_top_names.proofs.top_name.check_top_uses.Given as goal

@@ -6,7 +6,7 @@ use Rattle.std.proofs.lemmas.Option.{slice_get_read}
 use Rattle.wit_tree.specs.declared.tree.WorldSide.{WorldSide}
 use Rattle.wit_functions.specs.declared.function.Function.{Function}
 use Rattle.wit_syntax.specs.Repeats.{AllDiffer}
-use Rattle.wit_arena.specs.Functions.{function_item}
+use Rattle.wit_arena.specs.SourceFunctions.{function_item}
 use Rattle.wit_externs.specs.declared.borrowed.PathTarget.TheVariants as path_target
 use Rattle.wit_externs.specs.declared.borrowed.BorrowedExtern.{BorrowedExtern}
 use Rattle.wit_externs.specs.declared.borrowed.BorrowedExtern.TheVariants as borrowed

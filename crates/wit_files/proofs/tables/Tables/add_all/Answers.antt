@@ -2,11 +2,11 @@ use Rattle.std.proofs.Common.{◌⊎◌, None, Some, subst}
 use Rattle.std.proofs.lemmas.Result.{err_from_is_err_and}
 use Rattle.wit_graph.specs.Table.{IsOrder}
 use Rattle.wit_syntax.specs.Scope.{item_rows}
-use Rattle.wit_first.specs.Files.{files_fault}
-use Rattle.wit_first.specs.Orders.{IsItemOrderFault, items_prefix}
+use Rattle.wit_first.specs.FileFaults.{files_fault}
+use Rattle.wit_first.specs.OrderFaults.{IsItemOrderFault, items_prefix}
 use Rattle.wit_first.proofs.Bridge.{item_names_differ}
 use Rattle.wit_first.proofs.First.{none_both, reports_back, reports_prefix}
-use Rattle.wit_first.proofs.Orders.{or_back, reports_later, reports_or}
+use Rattle.wit_first.proofs.OrderFaults.{or_back, reports_later, reports_or}
 use Rattle.wit_files.proofs.tables.Tables.add_all.Goals as goal
 
 pub returns-in_err-declared-clause-first : goal.returns-in_err-declared-clause-first

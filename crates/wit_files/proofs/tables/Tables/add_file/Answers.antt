@@ -1,6 +1,6 @@
 use Rattle.std.proofs.lemmas.Result.{err_from_is_err_and}
 use Rattle.wit_syntax.specs.Source.{file_items}
-use Rattle.wit_first.specs.Files.{paths_fault}
+use Rattle.wit_first.specs.FileFaults.{paths_fault}
 use Rattle.wit_first.specs.First.{first_in}
 use Rattle.wit_first.proofs.First.{none_both, reports_back, reports_prefix}
 use Rattle.wit_files.proofs.tables.Tables.add_file.Goals as goal

@@ -3,7 +3,7 @@ use Rattle.std.specs.Prelude.{slice_get}
 use Rattle.std.proofs.lemmas.Option.{slice_get-get_or}
 use Rattle.std.proofs.lemmas.Result.{err_from_is_err_and}
 use Rattle.wit_syntax.specs.Source.{all_items}
-use Rattle.wit_first.specs.Files.{file_tops_fault}
+use Rattle.wit_first.specs.FileFaults.{file_tops_fault}
 use Rattle.wit_first.proofs.First.{in-all, in-next, reports-in}
 use Rattle.wit_files.proofs.tables.Tables.check_tops.Goals as goal
 

@@ -1,8 +1,8 @@
 use Rattle.std.proofs.Common.{None, inl, inr}
 use Rattle.std.proofs.lemmas.Result.{err_from_is_err_and}
-use Rattle.wit_first.specs.Orders.{IsItemOrderFault, items_prefix, names_prefix}
+use Rattle.wit_first.specs.OrderFaults.{IsItemOrderFault, items_prefix, names_prefix}
 use Rattle.wit_first.proofs.First.{reports_prefix}
-use Rattle.wit_first.proofs.Orders.{reports_or}
+use Rattle.wit_first.proofs.OrderFaults.{reports_or}
 use Rattle.wit_files.proofs.Gathering.{after_visits}
 use Rattle.wit_files.proofs.tables.Tables.gather_items.Goals as goal
 

@@ -1,7 +1,7 @@
 use Rattle.std.specs.Option.{option_or}
 use Rattle.std.proofs.lemmas.Result.{err_from_is_err_and}
 use Rattle.wit_syntax.specs.Broken.{headers}
-use Rattle.wit_first.specs.Headers.{nesting_fault, second_docs_fault}
+use Rattle.wit_first.specs.HeaderFaults.{nesting_fault, second_docs_fault}
 use Rattle.wit_first.proofs.First.{none_both, reports_back, reports_prefix}
 use Rattle.wit_parser.proofs.resolver.Resolver.push.Goals as goal
 

@@ -1,7 +1,7 @@
 use Rattle.std.proofs.Common.{◌≡◌, nat_eq, None, inl, inr, sym, subst, ◌∙◌}
 use Rattle.std.specs.Cmp.Lexicographic.{pointwise}
 use Rattle.wit_maps.proofs.Indexed.{lookup_nowhere}
-use Rattle.wit_refusals.specs.Names.{AreUsed}
+use Rattle.wit_refusals.specs.NameScopes.{AreUsed}
 use Rattle.wit_refusals.proofs.Scoping.{in_use-at, free-none, keyed-put}
 use Rattle.wit_refusals.proofs.name_scope.NameScope.define.Goals as goal
 use Rattle.wit_refusals.proofs.name_scope.NameScope.define.Goals.{in-Some, in-None}

@@ -8,7 +8,7 @@ use Rattle.wit_syntax.specs.Broken.{IsMissingEdge, IsCyclicEdge, Refused}
 use Rattle.wit_syntax.specs.Fault.{Fault, fault_of, cyclic_at}
 use Rattle.wit_first.specs.First.{IsOr, Reports}
 use Rattle.wit_first.specs.Laws.{AgreesBy}
-use Rattle.wit_first.specs.Orders.{IsOrderFault}
+use Rattle.wit_first.specs.OrderFaults.{IsOrderFault}
 
 -- an earlier fault, or none
 pub or_prefix : (IsLater : Option Fault → Type 0) (earlier : Option Fault) (f : Fault) → earlier ≡ Some f → IsOr earlier IsLater (Some f)

@@ -12,9 +12,9 @@ use Rattle.wit_type_tree.specs.Parts.{result_types, row_types, part_types}
 use Rattle.wit_type_tree.proofs.Rows.{tuple_types}
 use Rattle.wit_syntax.specs.Fault.{Fault}
 use Rattle.wit_first.specs.First.{first_in}
-use Rattle.wit_first.specs.MapKeys.{key_fault}
-use Rattle.wit_first.specs.Lists.{empty_fault}
-use Rattle.wit_first.specs.Types.{type_fault, outcome_fault, row_fault, prefix_fault, back_fault}
+use Rattle.wit_first.specs.KeyFaults.{key_fault}
+use Rattle.wit_first.specs.ListFaults.{empty_fault}
+use Rattle.wit_first.specs.TypeFaults.{type_fault, outcome_fault, row_fault, prefix_fault, back_fault}
 use Rattle.wit_first.proofs.Bridge.{or_none_both}
 use Rattle.wit_first.proofs.First.{none_both, or_none}
 

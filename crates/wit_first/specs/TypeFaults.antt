@@ -7,8 +7,8 @@ use Rattle.wit_type_tree.specs.declared.types.«Type».TheVariants as written
 use Rattle.wit_type_tree.specs.declared.types.ResultTypes.{ResultTypes, Neither, Ok', Err', Both'}
 use Rattle.wit_type_tree.specs.Parts.{row_types}
 use Rattle.wit_syntax.specs.Fault.{Fault}
-use Rattle.wit_first.specs.MapKeys.{key_fault}
-use Rattle.wit_first.specs.Lists.{empty_fault}
+use Rattle.wit_first.specs.KeyFaults.{key_fault}
+use Rattle.wit_first.specs.ListFaults.{empty_fault}
 
 -- A tuple is looked at before its parts, and a map after its key and its value. `word` says what is wrong with a name, and `handle` with one in a handle.
 abbrev mutual

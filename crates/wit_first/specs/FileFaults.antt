@@ -14,9 +14,9 @@ use Rattle.wit_syntax.specs.Fault.{Fault, fault, missing_at, item_word}
 use Rattle.wit_syntax.specs.Foreign.{ForeignVisit}
 use Rattle.wit_syntax.specs.Scope.{needed_paths}
 use Rattle.wit_syntax.specs.Source.{TopName, top_text, Target, Local, Foreign, leads, Item, file_items, all_items, item_named}
-use Rattle.wit_first.specs.Attributes.{stability_fault}
+use Rattle.wit_first.specs.AttributeFaults.{stability_fault}
 use Rattle.wit_first.specs.First.{first_in}
-use Rattle.wit_first.specs.Names.{top_names_fault}
+use Rattle.wit_first.specs.NameFaults.{top_names_fault}
 
 -- of the attributes before paths with a package, path by path
 abbrev pub visits_fault : List ForeignVisit → Option Fault

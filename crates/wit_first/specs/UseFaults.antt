@@ -10,8 +10,8 @@ use Rattle.wit_syntax.specs.Broken.{is_world_at}
 use Rattle.wit_syntax.specs.ExternPart.{inline_uses}
 use Rattle.wit_syntax.specs.Fault.{Fault, fault}
 use Rattle.wit_syntax.specs.Source.{TopName, path_id, leads, Part, UsePart, Item, parts, all_items, walk}
-use Rattle.wit_first.specs.Attributes.{metadata_fault}
-use Rattle.wit_first.specs.Files.{lost_fault}
+use Rattle.wit_first.specs.AttributeFaults.{metadata_fault}
+use Rattle.wit_first.specs.FileFaults.{lost_fault}
 use Rattle.wit_first.specs.First.{first_in}
 
 -- where an interface is wanted: whether a world is there, if anything does, and else whether the name is lost

@@ -10,9 +10,9 @@ use Rattle.wit_syntax.specs.Fault.{Fault, missing_at, missing_type_at, cyclic_at
 use Rattle.wit_syntax.specs.Foreign.{foreign_visits}
 use Rattle.wit_syntax.specs.Scope.{item_rows, rows_of}
 use Rattle.wit_syntax.specs.Source.{ScopeName}
-use Rattle.wit_first.specs.Files.{files_fault, tops_fault, visits_fault}
+use Rattle.wit_first.specs.FileFaults.{files_fault, tops_fault, visits_fault}
 use Rattle.wit_first.specs.First.{IsOr}
-use Rattle.wit_first.specs.Names.{item_names_fault}
+use Rattle.wit_first.specs.NameFaults.{item_names_fault}
 
 -- the first missing name of a table, or, where none is missing, the name at its first edge both of whose ends reach a cycle
 abbrev pub IsFirstLost : (Id → Fault) → List Row → Fault → Type 0

@@ -17,9 +17,9 @@ use Rattle.wit_syntax.specs.Foreign.{ForeignVisit}
 use Rattle.wit_syntax.specs.Metadata.{IsBrokenStability}
 use Rattle.wit_syntax.specs.Source.{TopName, top_text, Target, Local, Foreign, leads, Item, all_items, item_named}
 use Rattle.wit_syntax.proofs.Found.{at_contains, contains_at}
-use Rattle.wit_first.specs.Attributes.{stability_fault}
+use Rattle.wit_first.specs.AttributeFaults.{stability_fault}
 use Rattle.wit_first.specs.First.{first_in}
-use Rattle.wit_first.specs.Files.{visits_fault, lost_fault, unless_named, unnamed_fault, attributed_fault, top_fault, file_tops_fault, tops_fault}
+use Rattle.wit_first.specs.FileFaults.{visits_fault, lost_fault, unless_named, unnamed_fault, attributed_fault, top_fault, file_tops_fault, tops_fault}
 use Rattle.wit_first.specs.Laws.{Agrees}
 use Rattle.wit_first.proofs.Bridge.{in_agrees, in_only, in_some, or_none_both, or_some, stability_agrees}
 
