@@ -16,9 +16,9 @@ use Rattle.wit_syntax.specs.Address.{Address, InterfaceNamed, is_foreign}
 use Rattle.wit_syntax.specs.Source.{address, Item, all_items, ScopeName, foreign_uses, scope_names}
 use Rattle.wit_syntax.specs.ScopesOfTrees.{scope}
 use Rattle.wit_syntax.specs.Foreign.{visited, foreign_interfaces, foreign_worlds}
-use Rattle.wit_syntax.specs.Scope.{in_turn}
+use Rattle.wit_syntax.specs.ScopeTables.{in_turn}
 use Rattle.wit_arena.specs.Occurrences.{Occurrence, Decls}
-use Rattle.wit_syntax.specs.Signature.{IsUnpairedSetter}
+use Rattle.wit_syntax.specs.SignatureRules.{IsUnpairedSetter}
 use Rattle.wit_tree.specs.declared.tree.WorldSide.TheVariants.{Imported}
 use Rattle.wit_syntax.specs.Function.{functions}
 use Rattle.wit_syntax.specs.Sides.{inline_items}
@@ -26,10 +26,10 @@ use Rattle.wit_arena.specs.SourceFunctions.{placed_functions}
 use Rattle.wit_syntax.proofs.Sides.{functions_imported}
 use Rattle.wit_arena.proofs.FreeNames.{free_of, free_keyed}
 use Rattle.wit_arena.proofs.Stating.{stated_placed}
-use Rattle.wit_arena.specs.Package.{interface_functions}
+use Rattle.wit_arena.specs.UnfoldedTypes.{interface_functions}
 use Rattle.wit_arena.specs.Whole.{Ordered, owner_at, foreign_use_occurrence, all_occurrences, declarations}
 use Rattle.wit_arena.specs.Resolving.{Names, ResolvedScope, Required, resolved_scope, resolved_scopes, Defines}
-use Rattle.wit_arena.specs.Resolved.{IsInterfaceOf, AddsDeclared, AddsInterfaces, AddsForeign, AreUsableUses}
+use Rattle.wit_arena.specs.ResolvedArenas.{IsInterfaceOf, AddsDeclared, AddsInterfaces, AddsForeign, AreUsableUses}
 use Rattle.wit_syntax.proofs.Lists.{at_prefix, at_back, append-cancel}
 use Rattle.wit_syntax.proofs.Turns.{at_part}
 use Rattle.wit_arena.proofs.Adding.{After, adds_after}

@@ -7,7 +7,7 @@ use Rattle.wit_syntax.specs.Source.{Item, scope_names}
 use Rattle.wit_syntax.specs.Broken.{IsBrokenScope}
 use Rattle.wit_syntax.specs.Function.{functions}
 use Rattle.wit_arena.specs.Resolving.{Required}
-use Rattle.wit_arena.specs.Resolved.{AddsEach, IsNameless, AreSoundScopes}
+use Rattle.wit_arena.specs.ResolvedArenas.{AddsEach, IsNameless, AreSoundScopes}
 use Rattle.wit_syntax.proofs.Lists.{at_either}
 
 module _ {X : Type 0} (Adds : List TypeDef → List TypeDef → X → X → List Required → Item → Type 0) where

@@ -19,7 +19,7 @@ use Rattle.wit_arena.specs.SourceFunctions.{IsKind, IsFunction, AreFunctions}
 use Rattle.wit_arena.specs.Expr.{Exprs, one, joined, expr_of, exprs_of}
 use Rattle.wit_arena.specs.Expr as exprs
 use Rattle.wit_arena.specs.Occurrences.{Key, Occurrence, keys, IsAt, AreAt, Collects, shape_occurrences, all_function_occurrences}
-use Rattle.wit_arena.specs.Package.{function_types}
+use Rattle.wit_arena.specs.UnfoldedTypes.{function_types}
 use Rattle.wit_arena.specs.Resolving.{Env, Names, env_of, AreNames, AreResolved, AddsFunctions}
 use Rattle.wit_syntax.proofs.Lists.{at_prefix, at_back, at_split}
 use Rattle.wit_arena.proofs.Occurrence.{collects_append, collects_extended, names_kept}

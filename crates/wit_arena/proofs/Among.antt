@@ -12,7 +12,7 @@ use Rattle.wit_syntax.specs.Source.{Item}
 use Rattle.wit_syntax.specs.Foreign.{ForeignVisit, visited, foreign_interfaces, foreign_worlds}
 use Rattle.wit_arena.specs.Whole.{all_inside}
 use Rattle.wit_arena.specs.Resolving.{ResolvedScope, Required}
-use Rattle.wit_arena.specs.Resolved.{WorldArenas}
+use Rattle.wit_arena.specs.ResolvedArenas.{WorldArenas}
 use Rattle.wit_syntax.proofs.Lists.{at_prefix, at_back}
 use Rattle.wit_arena.proofs.Members.{DoneScope, resolved_scope_of}
 use Rattle.wit_arena.proofs.Prefix.{interface_scope, interface_scopes, world_scopes, prefix_scopes, interface_scope_at}

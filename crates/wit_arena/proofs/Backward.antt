@@ -11,11 +11,11 @@ use Rattle.wit_types.specs.declared.types.Case.{Case}
 use Rattle.wit_types.specs.declared.types.Handle.TheVariants as handle
 use Rattle.wit_types.specs.declared.types.TypeDefKind.{TypeDefKind}
 use Rattle.wit_types.specs.declared.types.TypeDefKind.TheVariants as kind
-use Rattle.wit_types.specs.Types.{place_of, places_to, rank, IsBelow as IsKindBelow, IsBackward}
+use Rattle.wit_types.specs.InnerTypes.{place_of, places_to, rank, IsBelow as IsKindBelow, IsBackward}
 use Rattle.wit_tree.specs.declared.tree.PackageFile.{PackageFile}
 use Rattle.wit_model.specs.declared.unresolved.UnresolvedPackage.{UnresolvedPackage}
 use Rattle.wit_arena.specs.Kind.{kind_of}
-use Rattle.wit_arena.specs.Package.{IsBelow}
+use Rattle.wit_arena.specs.UnfoldedTypes.{IsBelow}
 use Rattle.wit_arena.specs.Faithful.{IsFaithful}
 
 -- each of these is below

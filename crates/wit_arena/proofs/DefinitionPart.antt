@@ -19,7 +19,7 @@ use Rattle.wit_syntax.specs.Source.{ScopeName, Used, Defined, local_name, about_
 use Rattle.wit_arena.specs.Expr.{Exprs, End, exprs_of, name_exprs}
 use Rattle.wit_arena.specs.Occurrences.{Key, Def, Occurrence, keys, IsSeen, Collects, Decls, IsOccurrence, shapes_occurrences, name_occurrences}
 use Rattle.wit_arena.specs.Resolving.{all_seen, Names, ResolvedScope, env_of, Env, AreNames, AreKnown, IsExtended, AreResolved, IsAdded, IsUsed, Defines, AreNew, named, AreOwned}
-use Rattle.wit_syntax.specs.Scope.{AreDistinct, local_names}
+use Rattle.wit_syntax.specs.ScopeTables.{AreDistinct, local_names}
 use Rattle.wit_syntax.proofs.Repeated.{differ_at, differ_by}
 use Rattle.wit_syntax.proofs.Lists.{at_prefix, at_back, at_seam, at_either}
 use Rattle.wit_arena.proofs.Occurrence.{keys-append, collects_append, collects_from, collects_extended, names_kept, no_defs, occurrence_more, Has, has_either}

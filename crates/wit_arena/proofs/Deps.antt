@@ -13,7 +13,7 @@ use Rattle.wit_model.specs.declared.unresolved.UnresolvedPackage.{UnresolvedPack
 use Rattle.wit_types.specs.declared.stability.Stability.{Stability}
 use Rattle.wit_syntax.specs.Address.{Address, ForeignNamed, same_package, package_of}
 use Rattle.wit_syntax.specs.Foreign.{ForeignVisit, visited, same_item, foreign_visits, foreign_items, foreign_interfaces, foreign_worlds, foreign_packages}
-use Rattle.wit_arena.specs.Package.{dep_items, same_entry, foreign_owner}
+use Rattle.wit_arena.specs.UnfoldedTypes.{dep_items, same_entry, foreign_owner}
 use Rattle.wit_syntax.specs.Repeats.{AllDiffer}
 use Rattle.wit_arena.specs.Whole.{foreign_place, foreign_entry, dep}
 use Rattle.wit_syntax.proofs.Lists.{map_at, flat_map_at, flat_map_has}

@@ -24,8 +24,8 @@ use Rattle.wit_syntax.specs.Source.{ScopeName, local_name, meaning, head, named_
 use Rattle.wit_syntax.specs.ScopesOfTrees.{scope, source_tree}
 use Rattle.wit_arena.specs.Expr.{expr_of, exprs_of, name_exprs}
 use Rattle.wit_arena.specs.Occurrences.{Key, Def, Whole, IsAt, AreAt, Decls, IsKeyed}
-use Rattle.wit_arena.specs.Package.{package_tree, entry_head, entry_node, owner_of}
-use Rattle.wit_syntax.specs.Scope.{AreDistinct}
+use Rattle.wit_arena.specs.UnfoldedTypes.{package_tree, entry_head, entry_node, owner_of}
+use Rattle.wit_syntax.specs.ScopeTables.{AreDistinct}
 use Rattle.wit_syntax.proofs.Repeated.{differ_at, differ_by}
 use Rattle.wit_syntax.proofs.Names.{name_cases, name_itself}
 use Rattle.wit_arena.proofs.Primitives.{primitive_node}

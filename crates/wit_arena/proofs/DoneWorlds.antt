@@ -24,15 +24,15 @@ use Rattle.wit_syntax.specs.Sides.{FunctionKey, side_items, inline_items, SideIt
 use Rattle.wit_syntax.specs.Source.{address, Item, TopName, leads, ScopeName, about, declared_metadata, target_scope}
 use Rattle.wit_syntax.specs.ScopesOfTrees.{scope}
 use Rattle.wit_syntax.specs.Foreign.{visited, foreign_interfaces}
-use Rattle.wit_syntax.specs.Scope.{includes, local_names}
+use Rattle.wit_syntax.specs.ScopeTables.{includes, local_names}
 use Rattle.wit_syntax.specs.Fault.{Fault}
 use Rattle.wit_syntax.specs.Broken.{IsSetterAlone}
 use Rattle.wit_syntax.proofs.Lists.{at_prefix, at_back, at_either, at_split, map_at, flat_map_at, flat_map_has}
 use Rattle.wit_syntax.proofs.Turns.{at_part}
 use Rattle.wit_syntax.proofs.Kept.{after_one}
 use Rattle.wit_arena.specs.Occurrences.{Occurrence, keys, Collects, Decls}
-use Rattle.wit_arena.specs.Package.{IsWorld, import_types, world_types, world_functions}
-use Rattle.wit_arena.specs.Resolved.{WorldArenas}
+use Rattle.wit_arena.specs.UnfoldedTypes.{IsWorld, import_types, world_types, world_functions}
+use Rattle.wit_arena.specs.ResolvedArenas.{WorldArenas}
 use Rattle.wit_arena.specs.Resolving.{Names, ResolvedScope, Required}
 use Rattle.wit_arena.specs.SideItems.{AreSideItems, settled}
 use Rattle.wit_arena.specs.Whole.{Ordered, OrderedWorld, Turned, addresses, turned, side_turns, world_turns, all_turns, all_inside, turn_occurrences, foreign_use_occurrence, all_occurrences, turn_handles, AreRequired, type_imports, IsInclude, AreIncludes}

@@ -25,8 +25,8 @@ use Rattle.wit_syntax.specs.ScopesOfTrees.{scope}
 use Rattle.wit_arena.specs.Expr.{exprs_of, name_exprs}
 use Rattle.wit_arena.specs.Occurrences.{Key, Def, AreAt, Decls, IsKeyed}
 use Rattle.wit_arena.proofs.Parts.{HasPart}
-use Rattle.wit_syntax.specs.Scope.{AreDistinct}
-use Rattle.wit_syntax.specs.Ends.{End, AtResource, AtForeign, Elsewhere, named_end, shape_end, EndsAt}
+use Rattle.wit_syntax.specs.ScopeTables.{AreDistinct}
+use Rattle.wit_syntax.specs.NameEnds.{End, AtResource, AtForeign, Elsewhere, named_end, shape_end, EndsAt}
 use Rattle.wit_arena.specs.EntryEnds.{EntryEnd, IsResource, IsUnknown, IsOther, part_end, kind_end, found_end, entry_end}
 use Rattle.wit_syntax.proofs.Lists.{at_prefix, at_within}
 use Rattle.wit_arena.proofs.Places.{all_at_untaken}

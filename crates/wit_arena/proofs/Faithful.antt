@@ -15,7 +15,7 @@ use Rattle.wit_syntax.specs.Source.{ScopeName, Place, local_name, local_id, firs
 use Rattle.wit_syntax.specs.ScopesOfTrees.{scope}
 use Rattle.wit_arena.specs.Expr.{Expr, Exprs, expr_of}
 use Rattle.wit_arena.specs.Occurrences.{Key, Def, Whole, Occurrence, keys, IsAt, Decls, IsEntry}
-use Rattle.wit_arena.specs.Package.{owner_of, names_of, functions_of, function_types, IsBelow}
+use Rattle.wit_arena.specs.UnfoldedTypes.{owner_of, names_of, functions_of, function_types, IsBelow}
 use Rattle.std.proofs.lemmas.Option.{slice_get_within}
 use Rattle.wit_functions.specs.declared.function.Function.{Function}
 use Rattle.wit_syntax.specs.Function.{SourceFunction, signature}

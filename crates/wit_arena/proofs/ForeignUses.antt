@@ -18,11 +18,11 @@ use Rattle.wit_syntax.specs.Address.{Address, same_address, is_foreign, Interfac
 use Rattle.wit_syntax.specs.ExternPart.{same_side, inline_uses}
 use Rattle.wit_syntax.specs.Source.{TopName, Target, Local, Foreign, leads, path_scope, Part, DefinitionPart, UsePart, IncludePart, FunctionPart, ExternPart, Item, all_items, parts, ScopeName, ForeignName, local_name, ForeignUse, use_of_foreign, use_foreign_uses, part_foreign_uses, foreign_uses, same_foreign_use, first_foreign_uses, used_names, target_scope, at_side, walk}
 use Rattle.wit_syntax.specs.Foreign.{ForeignVisit, visited, foreign_interfaces}
-use Rattle.wit_arena.specs.Resolved.{AreUsableUses}
+use Rattle.wit_arena.specs.ResolvedArenas.{AreUsableUses}
 use Rattle.wit_arena.specs.Occurrences.{Key, Def, Occurrence, keys, Collects}
 use Rattle.wit_syntax.specs.Repeats.{AllDiffer, firsts}
 use Rattle.wit_arena.specs.Whole.{foreign_use_occurrence}
-use Rattle.wit_syntax.specs.Scope.{part_uses, uses, AreDistinct}
+use Rattle.wit_syntax.specs.ScopeTables.{part_uses, uses, AreDistinct}
 use Rattle.wit_syntax.proofs.Lists.{at_prefix, map_at, map_map, flat_map_at, flat_map_has}
 use Rattle.wit_syntax.proofs.Names.{name_itself, name_equal}
 use Rattle.wit_syntax.proofs.Addresses.{side_itself, same_address-from, same_address-equal}

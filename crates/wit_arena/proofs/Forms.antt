@@ -5,7 +5,7 @@ use Rattle.wit_type_tree.specs.declared.types.ResultTypes.{ResultTypes, Neither,
 use Rattle.wit_type_tree.specs.declared.types.«Type».TheVariants as written
 use Rattle.wit_type_tree.specs.declared.types.TypeBody.{TypeBody}
 use Rattle.wit_type_tree.specs.declared.types.TypeBody.TheVariants.{Record, Flags, Variant, Enum, Resource, Plain}
-use Rattle.wit_type_tree.specs.Parts.{field_types, case_types}
+use Rattle.wit_type_tree.specs.TypeParts.{field_types, case_types}
 use Rattle.wit_syntax.specs.Form.{Form, UnknownForm}
 use Rattle.wit_syntax.specs.Shape.{Shape, Shapes, shape_of, result_shapes, row_shapes, all_shapes, head, written_body, body_of}
 use Rattle.wit_syntax.specs.Shape as shape

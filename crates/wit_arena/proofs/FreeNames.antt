@@ -18,7 +18,7 @@ use Rattle.wit_syntax.specs.Function.{Role, Freestanding, Method, Static, Constr
 use Rattle.wit_arena.specs.SourceFunctions.{IsKind, IsFunction, AreFunctions, freestanding_names}
 use Rattle.wit_tree.specs.declared.tree.WorldSide.{WorldSide}
 use Rattle.wit_syntax.specs.Sides.{role_side, FunctionKey}
-use Rattle.wit_arena.specs.Package.{keyed}
+use Rattle.wit_arena.specs.UnfoldedTypes.{keyed}
 use Rattle.wit_arena.specs.Occurrences.{Key}
 use Rattle.wit_syntax.proofs.Lists.{at_within, map_at, flat_map_at, flat_map_has}
 use Rattle.wit_syntax.proofs.Found.{at_contains, contains_at}

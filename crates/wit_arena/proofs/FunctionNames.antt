@@ -7,13 +7,13 @@ use Rattle.std.specs.Option.{option_map}
 use Rattle.std.proofs.lemmas.Option.{slice_get-map}
 use Rattle.wit_names.specs.Folded.{folded_key}
 use Rattle.wit_functions.specs.declared.function.Function.{Function}
-use Rattle.wit_functions.specs.Setters.{name_in, HaveDistinctNames}
+use Rattle.wit_functions.specs.SettersPlaced.{name_in, HaveDistinctNames}
 use Rattle.wit_syntax.specs.Source.{ScopeName}
 use Rattle.wit_syntax.specs.Function.{SourceFunction}
 use Rattle.wit_arena.specs.SourceFunctions.{by_name}
 use Rattle.wit_syntax.specs.Repeats.{AllDiffer}
-use Rattle.wit_syntax.specs.Scope.{in_turn}
-use Rattle.wit_syntax.specs.Signature.{Called, name_called}
+use Rattle.wit_syntax.specs.ScopeTables.{in_turn}
+use Rattle.wit_syntax.specs.SignatureRules.{Called, name_called}
 use Rattle.wit_tree.specs.declared.tree.WorldSide.{WorldSide}
 use Rattle.wit_syntax.specs.Sides.{on_side, names_on, SideFunction, side_called, items_on}
 use Rattle.wit_syntax.proofs.Lists.{at_back}

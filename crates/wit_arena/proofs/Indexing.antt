@@ -9,7 +9,7 @@ use Rattle.wit_model.specs.declared.interface.Interface.{Interface}
 use Rattle.wit_model.specs.declared.world.World.{World}
 use Rattle.wit_syntax.specs.Address.{Address, InterfaceNamed, WorldNamed, is_foreign}
 use Rattle.wit_arena.specs.Resolving.{Names, ResolvedScope, resolved_scope_at, resolved_scope, resolved_scopes, env_of, IsIndex, IsWorldIndex}
-use Rattle.wit_arena.specs.Resolved.{interfaces_at, worlds_at}
+use Rattle.wit_arena.specs.ResolvedArenas.{interfaces_at, worlds_at}
 use Rattle.wit_syntax.proofs.Lists.{at_prefix, at_seam, at_either, map_map}
 use Rattle.wit_syntax.proofs.Names.{name_cases, name_itself, lookup-insert_entry}
 

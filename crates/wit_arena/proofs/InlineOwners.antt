@@ -23,7 +23,7 @@ use Rattle.wit_syntax.proofs.Inline.{is_inside, interfaces_on-append, interfaces
 use Rattle.wit_syntax.proofs.Lists.{at_prefix, at_back}
 use Rattle.wit_syntax.proofs.Turns.{at_part}
 use Rattle.wit_arena.specs.SourceFunctions.{function_item}
-use Rattle.wit_arena.specs.Package.{is_interface_item, interface_items, interface_at, interfaces_from, world_interfaces}
+use Rattle.wit_arena.specs.UnfoldedTypes.{is_interface_item, interface_items, interface_at, interfaces_from, world_interfaces}
 use Rattle.wit_arena.specs.Resolving.{Names}
 use Rattle.wit_arena.specs.SideItems.{link_item, inline_entry, put_on, AreSideItems, settled}
 use Rattle.wit_arena.proofs.Settled.{settled_interfaces}

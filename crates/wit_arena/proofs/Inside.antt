@@ -5,12 +5,12 @@ use Rattle.wit_model.specs.declared.interface.Interface.{Interface}
 use Rattle.wit_types.specs.declared.types.TypeOwner.TheVariants as owner
 use Rattle.wit_graph.specs.Table.{IsOrder}
 use Rattle.wit_syntax.specs.Fault.{Fault}
-use Rattle.wit_syntax.specs.Scope.{rows_of, local_names}
-use Rattle.wit_syntax.specs.Signature.{IsUnpairedSetter}
+use Rattle.wit_syntax.specs.ScopeTables.{rows_of, local_names}
+use Rattle.wit_syntax.specs.SignatureRules.{IsUnpairedSetter}
 use Rattle.wit_syntax.specs.Source.{scope_names}
 use Rattle.wit_arena.specs.SourceFunctions.{placed_functions}
-use Rattle.wit_arena.specs.Package.{interface_functions}
-use Rattle.wit_arena.specs.Resolved.{IsInterfaceOf}
+use Rattle.wit_arena.specs.UnfoldedTypes.{interface_functions}
+use Rattle.wit_arena.specs.ResolvedArenas.{IsInterfaceOf}
 use Rattle.wit_arena.specs.Whole.{Ordered, turned}
 use Rattle.wit_arena.proofs.Members.{DoneScope, turn_of}
 

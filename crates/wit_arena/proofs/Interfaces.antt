@@ -13,7 +13,7 @@ use Rattle.wit_types.specs.declared.types.TypeOwner.TheVariants as owner
 use Rattle.wit_syntax.specs.Address.{Address, InterfaceNamed, WorldNamed, InlineAt, ForeignNamed, same_address, is_foreign}
 use Rattle.wit_syntax.specs.Source.{Declared, TheInterface, TheWorld, TheInline, address, Item, all_items, item_name, is_world, item_named, item_at, scope_names, about}
 use Rattle.wit_syntax.specs.ScopesOfTrees.{scope}
-use Rattle.wit_syntax.specs.Scope.{interfaces_of, worlds_of}
+use Rattle.wit_syntax.specs.ScopeTables.{interfaces_of, worlds_of}
 use Rattle.wit_syntax.specs.Repeats.{AllDiffer}
 use Rattle.wit_arena.specs.Whole.{place_at, owner_at, functions_at}
 use Rattle.wit_syntax.specs.Function.{functions}

@@ -11,7 +11,7 @@ use Rattle.wit_tree.specs.declared.tree.PackageFile.{PackageFile}
 use Rattle.wit_graph.specs.Table.{IsOrder}
 use Rattle.wit_syntax.specs.Address.{Address}
 use Rattle.wit_syntax.specs.Source.{TopName, Item, Part, DefinitionPart, UsePart, IncludePart, FunctionPart, ExternPart, Used, ForeignName, path_scope, part_names, parts, item_name, item_named, all_items, scope_names}
-use Rattle.wit_syntax.specs.Scope.{in_order, item_row, item_rows}
+use Rattle.wit_syntax.specs.ScopeTables.{in_order, item_row, item_rows}
 use Rattle.std.specs.List.{flat_map}
 use Rattle.wit_syntax.specs.Repeats.{AllDiffer}
 use Rattle.wit_syntax.proofs.Lists.{map_at, flat_map_at}

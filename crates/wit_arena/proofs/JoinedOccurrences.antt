@@ -5,7 +5,7 @@ use Rattle.wit_tree.specs.declared.tree.PackageFile.{PackageFile}
 use Rattle.wit_graph.specs.Table.{IsOrder}
 use Rattle.wit_graph.proofs.Tables.{matched}
 use Rattle.wit_syntax.specs.Source.{Item, all_items, scope_names, ForeignUse, foreign_uses}
-use Rattle.wit_syntax.specs.Scope.{interfaces_of, worlds_of, in_order, rows_of}
+use Rattle.wit_syntax.specs.ScopeTables.{interfaces_of, worlds_of, in_order, rows_of}
 use Rattle.wit_syntax.specs.Splitting.{IsJoined}
 use Rattle.wit_syntax.proofs.JoinedItems.{ArePlain, AreTwins}
 use Rattle.wit_syntax.proofs.JoinedFiles.{AreAlike, alike_back, items_twins, joined_alike}
@@ -13,7 +13,7 @@ use Rattle.wit_syntax.proofs.JoinedOrders.{order_onward}
 use Rattle.wit_syntax.proofs.JoinedTrees.{foreign_uses_alike}
 use Rattle.wit_arena.specs.Occurrences.{Occurrence, Collects}
 use Rattle.wit_arena.specs.Whole.{Ordered, OrderedWorld, AreOrdered, Turned, all_turns, foreign_use_occurrence, all_occurrences, AreFirstOccurrences}
-use Rattle.wit_arena.specs.Splitting.{HaveSameOccurrences}
+use Rattle.wit_arena.specs.SplitOccurrences.{HaveSameOccurrences}
 use Rattle.wit_arena.proofs.JoinedOnce.{first_once}
 use Rattle.wit_arena.proofs.JoinedTurns.{twins_in_order, twin_interfaces, twin_worlds, reordered, Stated, as_stated, reordered_items, reordered_stated}
 use Rattle.wit_arena.proofs.JoinedWorlds.{reworlded, stated_world, reworlded_items, reworlded_stated, reworlded_inside, turns_same, all_ordered, all_stated}

@@ -5,7 +5,7 @@ use Rattle.wit_tree.specs.declared.tree.PackageFile.{PackageFile}
 use Rattle.wit_graph.specs.Table.{IsOrder}
 use Rattle.wit_graph.proofs.SameEdges.{one_answer}
 use Rattle.wit_syntax.specs.Source.{Item, all_items, scope_names}
-use Rattle.wit_syntax.specs.Scope.{item_rows, interfaces_of, worlds_of, in_order, rows_of}
+use Rattle.wit_syntax.specs.ScopeTables.{item_rows, interfaces_of, worlds_of, in_order, rows_of}
 use Rattle.wit_syntax.specs.Sides.{inline_items}
 use Rattle.wit_syntax.proofs.Lists.{at_prefix, at_back}
 use Rattle.wit_arena.specs.Occurrences.{Occurrence, Collects}

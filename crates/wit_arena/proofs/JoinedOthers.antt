@@ -21,7 +21,7 @@ use Rattle.wit_syntax.specs.ScopesOfTrees.{scope}
 use Rattle.wit_syntax.proofs.JoinedFiles.{AreAlike, visits_same}
 use Rattle.wit_syntax.proofs.JoinedTrees.{foreign_uses_alike, scope_alike}
 use Rattle.wit_syntax.proofs.JoinedLegal.{ends_onward}
-use Rattle.wit_syntax.specs.Ends.{AtResource, AtForeign}
+use Rattle.wit_syntax.specs.NameEnds.{AtResource, AtForeign}
 use Rattle.wit_arena.specs.Occurrences.{Key, Decls, Def, Whole, IsEntry, IsOccurrence, Occurrence, keys}
 use Rattle.wit_arena.specs.OneByOne.{OneByOne}
 use Rattle.wit_arena.specs.Whole.{foreign_place, NamesOthers, HandleRequires, AreRequired, owner_at, declarations, IsForeignInterface, HasTypes}

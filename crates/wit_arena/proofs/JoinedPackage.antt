@@ -22,10 +22,10 @@ use Rattle.wit_syntax.proofs.JoinedFiles.{AreAlike, alike_back, joined_alike}
 use Rattle.wit_syntax.proofs.JoinedHeaders.{HaveSameHeaders, headers_back, joined_headers}
 use Rattle.wit_arena.specs.Occurrences.{Key, keys, Occurrence, Collects}
 use Rattle.wit_arena.specs.SourceFunctions.{AreFunctions, placed_functions}
-use Rattle.wit_arena.specs.Package.{IsInterface, IsWorld, IsForeignWorld, world_types}
+use Rattle.wit_arena.specs.UnfoldedTypes.{IsInterface, IsWorld, IsForeignWorld, world_types}
 use Rattle.wit_arena.specs.OneByOne.{OneByOne}
 use Rattle.wit_arena.specs.Whole.{Ordered, OrderedWorld, all_inside, Turned, all_turns, addresses, HasTypes, HasSides, turn_handles, interface_addresses, world_addresses, declarations, AreRequired, first_docs, IsPackage, IsResolvedInterface, IsResolvedWorld}
-use Rattle.wit_arena.specs.Splitting.{HaveSamePackages}
+use Rattle.wit_arena.specs.SplitOccurrences.{HaveSamePackages}
 use Rattle.wit_arena.proofs.JoinedTurns.{Stated, as_stated}
 use Rattle.wit_arena.proofs.JoinedWorlds.{StatedWorld, stated_world, own_stated, turned_of, turns_same, interfaces_stated}
 use Rattle.wit_arena.proofs.JoinedOccurrences.{HasOrdered, ordered_onward, occurrences_same}

@@ -9,12 +9,12 @@ use Rattle.wit_model.specs.declared.world.WorldItem.{WorldItem}
 use Rattle.wit_model.specs.declared.world.WorldKey.{WorldKey}
 use Rattle.wit_syntax.specs.Address.{Address}
 use Rattle.wit_syntax.specs.Source.{TopName, Item, parts, ScopeName, scope_names}
-use Rattle.wit_syntax.specs.Scope.{includes, in_turn}
+use Rattle.wit_syntax.specs.ScopeTables.{includes, in_turn}
 use Rattle.wit_syntax.specs.Sides.{SideItem, SideFunction, SideLink, SideInline, side_items}
 use Rattle.wit_syntax.proofs.JoinedTargets.{AreThemselves, used_same, included_same}
 use Rattle.wit_syntax.proofs.JoinedItems.{retop, names_same}
 use Rattle.wit_arena.specs.Occurrences.{Key}
-use Rattle.wit_arena.specs.Package.{world_types}
+use Rattle.wit_arena.specs.UnfoldedTypes.{world_types}
 use Rattle.wit_arena.specs.SideItems.{AreSideItems, settled}
 use Rattle.wit_arena.specs.Whole.{Ordered, type_imports, AreIncludes, HasSides}
 use Rattle.wit_arena.proofs.JoinedTurns.{Stated, as_stated}

@@ -5,7 +5,7 @@ use Rattle.std.specs.List.{filter, cons_option}
 use Rattle.std.specs.Option.{option_map}
 use Rattle.std.proofs.lemmas.Option.{slice_get-map}
 use Rattle.wit_syntax.specs.Source.{Declared, Item, ScopeName, scope_names, about}
-use Rattle.wit_syntax.specs.Scope.{in_order, interfaces_of, worlds_of}
+use Rattle.wit_syntax.specs.ScopeTables.{in_order, interfaces_of, worlds_of}
 use Rattle.wit_syntax.specs.Splitting.{declared_of}
 use Rattle.wit_syntax.proofs.Kept.{after_one, kept_at}
 use Rattle.wit_syntax.proofs.JoinedLists.{filter-map}

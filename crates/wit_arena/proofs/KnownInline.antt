@@ -13,7 +13,7 @@ use Rattle.wit_tree.specs.declared.tree.WorldSide.{WorldSide}
 use Rattle.wit_tree.specs.declared.tree.WorldSide.TheVariants.{Imported, Exported}
 use Rattle.wit_syntax.specs.Address.{Address, InlineAt}
 use Rattle.wit_syntax.specs.Repeats.{AllDiffer}
-use Rattle.wit_syntax.specs.Scope.{includes}
+use Rattle.wit_syntax.specs.ScopeTables.{includes}
 use Rattle.wit_syntax.specs.Sides.{side_items, inline_items}
 use Rattle.wit_syntax.specs.Source.{Item, item_name, address, about}
 use Rattle.wit_syntax.proofs.Found.{find_at, find_passes, find_some}
@@ -22,7 +22,7 @@ use Rattle.wit_syntax.proofs.Lists.{at_back, at_within, flat_map_at, flat_map_ha
 use Rattle.wit_syntax.proofs.Turns.{at_part}
 use Rattle.wit_arena.specs.Occurrences.{Key}
 use Rattle.wit_arena.specs.OneByOne.{OneByOne}
-use Rattle.wit_arena.specs.Package.{world_interfaces, world_types, inline_owner}
+use Rattle.wit_arena.specs.UnfoldedTypes.{world_interfaces, world_types, inline_owner}
 use Rattle.wit_arena.specs.SideItems.{AreSideItems}
 use Rattle.wit_arena.specs.Whole.{OrderedWorld, addresses, ordered_names, IsResolvedWorld}
 use Rattle.wit_arena.proofs.InlineOwners.{IsInlineEntry, world_entries, world_entry}

@@ -11,7 +11,7 @@ use Rattle.wit_syntax.specs.Broken.{Names, Sides, IsLegal}
 use Rattle.wit_syntax.specs.Foreign.{visited, foreign_interfaces, foreign_worlds}
 use Rattle.wit_syntax.specs.Function.{SourceFunction, functions}
 use Rattle.wit_syntax.specs.Repeats.{AllDiffer}
-use Rattle.wit_syntax.specs.Scope.{rows_of, in_order, interfaces_of, worlds_of}
+use Rattle.wit_syntax.specs.ScopeTables.{rows_of, in_order, interfaces_of, worlds_of}
 use Rattle.wit_syntax.specs.Sides.{FoldedTwice, all_scopes, function_key, inline_items, side_items}
 use Rattle.wit_syntax.specs.Source.{Item, ScopeName, address, all_items, is_world, item_at, scope_names}
 use Rattle.wit_syntax.specs.ScopesOfTrees.{scope}

@@ -14,14 +14,14 @@ use Rattle.wit_syntax.specs.Address.{Address}
 use Rattle.wit_syntax.specs.Broken.{IsLegal}
 use Rattle.wit_syntax.specs.Foreign.{visited, foreign_interfaces, foreign_worlds}
 use Rattle.wit_syntax.specs.Function.{SourceFunction, functions}
-use Rattle.wit_syntax.specs.Scope.{includes, in_order, interfaces_of}
+use Rattle.wit_syntax.specs.ScopeTables.{includes, in_order, interfaces_of}
 use Rattle.wit_syntax.specs.Sides.{inline_items, side_items}
 use Rattle.wit_syntax.specs.Source.{Item, address, all_items, item_name, about}
 use Rattle.wit_syntax.proofs.Inline.{inline_interface}
 use Rattle.wit_syntax.proofs.Legal.{functions_items}
 use Rattle.wit_syntax.proofs.Lists.{at_prefix, at_back, at_split, at_within, map_at, flat_map_at}
 use Rattle.wit_arena.specs.Occurrences.{Key, keys}
-use Rattle.wit_arena.specs.Package.{inline_owner, world_functions, world_interfaces, world_types}
+use Rattle.wit_arena.specs.UnfoldedTypes.{inline_owner, world_functions, world_interfaces, world_types}
 use Rattle.wit_arena.specs.Whole.{Ordered, OrderedWorld, addresses, all_inside, interface_addresses, ordered_names, world_addresses, IsPackage}
 use Rattle.wit_arena.proofs.Deps.{foreign_interface-none}
 use Rattle.wit_arena.proofs.FreeNames.{AreStated}

@@ -22,10 +22,10 @@ use Rattle.wit_graph.proofs.Tables.{slice_get-take}
 use Rattle.wit_syntax.specs.Address.{Address, InterfaceNamed, ForeignNamed, is_foreign}
 use Rattle.wit_syntax.specs.Source.{TopName, Declared, TheInterface, TheWorld, TheInline, Part, DefinitionPart, UsePart, IncludePart, FunctionPart, ExternPart, interface_part, Target, Local, Foreign, leads, path_scope, Item, Used, all_items, item_name, is_world, parts, item_named, scope_names, use_of_foreign, foreign_uses, about, target_scope}
 use Rattle.wit_syntax.specs.Foreign.{ForeignVisit, visited, foreign_interfaces}
-use Rattle.wit_syntax.specs.Scope.{in_order, include_path, use_paths, include_paths, needed_paths, local_target, item_row, item_rows, uses, part_includes, includes}
+use Rattle.wit_syntax.specs.ScopeTables.{in_order, include_path, use_paths, include_paths, needed_paths, local_target, item_row, item_rows, uses, part_includes, includes}
 use Rattle.wit_syntax.specs.Sides.{with_inline, all_scopes}
 use Rattle.wit_syntax.specs.Broken.{is_world_at}
-use Rattle.wit_arena.specs.Resolved.{AreUsableUses}
+use Rattle.wit_arena.specs.ResolvedArenas.{AreUsableUses}
 use Rattle.wit_syntax.specs.Repeats.{AllDiffer}
 use Rattle.wit_syntax.proofs.Lists.{at_prefix, at_within, flat_map_at, flat_map_has}
 use Rattle.wit_syntax.proofs.Names.{name_equal}

@@ -19,7 +19,7 @@ use Rattle.wit_syntax.specs.Address.{Address, InterfaceNamed, WorldNamed, is_for
 use Rattle.wit_syntax.specs.Source.{address, Target, Local, Foreign, leads, Item, ScopeName, Used, all_items, item_name, is_world, item_named, scope_names, meaning, use_of_foreign, foreign_uses, same_foreign_use}
 use Rattle.wit_syntax.specs.ScopesOfTrees.{scope}
 use Rattle.wit_syntax.specs.Foreign.{visited, foreign_interfaces, foreign_worlds}
-use Rattle.wit_syntax.specs.Scope.{in_order, item_rows, interfaces_of, worlds_of, include_paths}
+use Rattle.wit_syntax.specs.ScopeTables.{in_order, item_rows, interfaces_of, worlds_of, include_paths}
 use Rattle.wit_syntax.specs.Sides.{inline_items, all_scopes}
 use Rattle.wit_arena.specs.Occurrences.{Def, keys}
 use Rattle.wit_syntax.specs.Function.{SourceFunction, functions}
@@ -27,11 +27,11 @@ use Rattle.wit_arena.specs.SourceFunctions.{AreFunctions}
 use Rattle.std.specs.List.{filter}
 use Rattle.wit_types.specs.declared.types.TypeOwner.TheVariants as owner
 use Rattle.wit_syntax.specs.Broken.{is_world_at, IsBroken, Use, InterfaceIncluded, MissingName, Scope, Sides, LinkedTwice, Handle, Setter}
-use Rattle.wit_syntax.specs.Signature.{OfFunction, OfNothing}
+use Rattle.wit_syntax.specs.SignatureRules.{OfFunction, OfNothing}
 use Rattle.wit_syntax.specs.Repeats.{AllDiffer}
 use Rattle.wit_arena.specs.Whole.{Ordered, Turned}
 use Rattle.wit_arena.specs.Resolving.{Names as Table, ResolvedScope, resolved_scope, resolved_scopes, env_of, Required, IsIndex, IsFound, Unresolved, Unstated, OfFunction, WrongName, WrongItself, IsWrongScope, IsWorldIndex, IsNoWorld, IsLostInclude, IsLostLink}
-use Rattle.wit_arena.specs.Resolved.{worlds_at, WorldArenas, prefix_worlds, AddsWorlds, AddsForeign, AreUsableUses, IsWrongHandleNow, WrongStability, WrongScope, WrongSides, WrongWorldSides, WrongLinks, UnpairedOnSide, WrongHandle, Unpaired, IsWrongInline, WrongInline, WrongWorldStability, WrongWorldScope, WrongWorldHandle, WrongWorldUse, LostLink, LostInclude, AddsInterfaces, IsWrongNow, IsWrongWorldNow}
+use Rattle.wit_arena.specs.ResolvedArenas.{worlds_at, WorldArenas, prefix_worlds, AddsWorlds, AddsForeign, AreUsableUses, IsWrongHandleNow, WrongStability, WrongScope, WrongSides, WrongWorldSides, WrongLinks, UnpairedOnSide, WrongHandle, Unpaired, IsWrongInline, WrongInline, WrongWorldStability, WrongWorldScope, WrongWorldHandle, WrongWorldUse, LostLink, LostInclude, AddsInterfaces, IsWrongNow, IsWrongWorldNow}
 use Rattle.wit_syntax.proofs.Lists.{at_back, at_seam, at_split, map_at}
 use Rattle.wit_syntax.proofs.Firsts.{firsts_has}
 use Rattle.wit_syntax.proofs.Found.{at_contains, contains_at, find_at, find_passes}

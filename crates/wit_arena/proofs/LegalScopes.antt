@@ -13,7 +13,7 @@ use Rattle.wit_syntax.specs.ExternPart.{extern_paths, inline_uses}
 use Rattle.wit_syntax.specs.Fault.{Fault, fault, missing_at, item_word}
 use Rattle.wit_syntax.specs.Foreign.{foreign_at, ForeignVisit}
 use Rattle.wit_syntax.specs.Repeats.{AllDiffer}
-use Rattle.wit_syntax.specs.Scope.{AreDistinct, used, defined, use_path, use_paths, part_uses, uses}
+use Rattle.wit_syntax.specs.ScopeTables.{AreDistinct, used, defined, use_path, use_paths, part_uses, uses}
 use Rattle.wit_syntax.specs.Sides.{all_scopes}
 use Rattle.wit_syntax.specs.Source.{Part, DefinitionPart, UsePart, IncludePart, FunctionPart, ExternPart, Target, Local, Foreign, Item, address, all_items, item_at, item_name, item_named, is_world, leads, local_id, local_name, parts, path_id, scope_names, about}
 use Rattle.wit_syntax.specs.ScopesOfTrees.{scope}
@@ -22,7 +22,7 @@ use Rattle.wit_syntax.proofs.Legal.{three_ways}
 use Rattle.wit_syntax.proofs.Lists.{at_prefix, flat_map_at, flat_map_has}
 use Rattle.wit_syntax.proofs.Repeated.{differ_by}
 use Rattle.wit_syntax.proofs.Turns.{distinct_names, distinct_none}
-use Rattle.wit_arena.specs.Resolved.{AreUsableUses}
+use Rattle.wit_arena.specs.ResolvedArenas.{AreUsableUses}
 use Rattle.wit_arena.proofs.ForeignUses.{used_distinct}
 use Rattle.wit_arena.proofs.Visits.{visit_listed, foreign_at-visited, leads_visited}
 

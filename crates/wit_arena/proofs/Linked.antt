@@ -10,7 +10,7 @@ use Rattle.wit_tree.specs.declared.tree.Use.{Use}
 use Rattle.wit_tree.specs.declared.tree.UsePath.{UsePath}
 use Rattle.wit_syntax.specs.ExternPart.{extern_paths, inline_uses}
 use Rattle.wit_syntax.specs.Source.{Part, DefinitionPart, UsePart, IncludePart, FunctionPart, ExternPart, Item, is_world, leads, parts}
-use Rattle.wit_syntax.specs.Scope.{use_path, use_paths, part_uses, uses}
+use Rattle.wit_syntax.specs.ScopeTables.{use_path, use_paths, part_uses, uses}
 use Rattle.wit_syntax.specs.Sides.{Link, SideLink, extern_link, extern_items, part_items, side_items, item_link, links}
 use Rattle.wit_syntax.specs.Fault.{Fault}
 use Rattle.wit_syntax.specs.Broken.{is_world_at, IsBrokenUse, MissingUse, WorldUsed}

@@ -11,7 +11,7 @@ use Rattle.wit_syntax.proofs.Lists.{map_map}
 use Rattle.wit_arena.specs.Made.{names_in_turn, foreign_interface, own_interface, foreign_world, own_world}
 use Rattle.wit_arena.specs.Occurrences.{Key}
 use Rattle.wit_arena.specs.OneByOne.{OneByOne, BothParts}
-use Rattle.wit_arena.specs.Package.{IsForeignWorld}
+use Rattle.wit_arena.specs.UnfoldedTypes.{IsForeignWorld}
 use Rattle.wit_arena.specs.Whole.{Ordered, OrderedWorld, ordered_names, IsForeignInterface, IsResolvedInterface, IsResolvedWorld}
 use Rattle.wit_arena.proofs.MadeInterfaces.{foreign_interface-as_stated, own_interface-as_stated}
 use Rattle.wit_arena.proofs.MadeSides.{ArePlaced}

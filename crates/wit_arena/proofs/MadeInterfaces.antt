@@ -5,7 +5,7 @@ use Rattle.wit_types.specs.declared.docs.Docs.{Docs}
 use Rattle.wit_types.specs.declared.stability.Stability.{Stability}
 use Rattle.wit_tree.specs.declared.tree.PackageFile.{PackageFile}
 use Rattle.wit_functions.specs.declared.function.Function.{Function}
-use Rattle.wit_functions.specs.Setters.{placed}
+use Rattle.wit_functions.specs.SettersPlaced.{placed}
 use Rattle.wit_model.specs.declared.interface.Interface.{Interface}
 use Rattle.wit_syntax.specs.Address.{Address}
 use Rattle.wit_syntax.specs.Foreign.{ForeignVisit}
@@ -16,7 +16,7 @@ use Rattle.wit_syntax.proofs.Lists.{map_map}
 use Rattle.wit_arena.specs.SourceFunctions.{by_name, placed_functions}
 use Rattle.wit_arena.specs.Made.{function_in, interface, foreign_interface, name_places, names_in_turn, own_interface}
 use Rattle.wit_arena.specs.Occurrences.{Key}
-use Rattle.wit_arena.specs.Package.{IsInterface}
+use Rattle.wit_arena.specs.UnfoldedTypes.{IsInterface}
 use Rattle.wit_arena.specs.Whole.{Ordered, ordered_names, turned, IsForeignInterface, IsResolvedInterface}
 use Rattle.wit_arena.proofs.Placing.{GivesPlaces}
 use Rattle.wit_arena.proofs.PlacingFunctions.{functions-in, types-places}

@@ -10,7 +10,7 @@ use Rattle.wit_tree.specs.declared.tree.PackageFile.{PackageFile}
 use Rattle.wit_syntax.specs.Address.{Address, same_address}
 use Rattle.wit_syntax.specs.Broken.{IsLegal}
 use Rattle.wit_syntax.specs.Repeats.{AllDiffer}
-use Rattle.wit_syntax.specs.Scope.{rows_of, in_order, interfaces_of, worlds_of}
+use Rattle.wit_syntax.specs.ScopeTables.{rows_of, in_order, interfaces_of, worlds_of}
 use Rattle.wit_syntax.specs.Sides.{all_scopes, inline_items}
 use Rattle.wit_syntax.specs.Source.{Item, address, all_items, is_world, scope_names}
 use Rattle.wit_syntax.proofs.Addresses.{same_address-itself, same_address-equal}

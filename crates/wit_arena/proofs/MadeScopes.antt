@@ -6,7 +6,7 @@ use Rattle.wit_tree.specs.declared.tree.PackageFile.{PackageFile}
 use Rattle.wit_syntax.specs.Address.{Address}
 use Rattle.wit_syntax.specs.Broken.{Names, IsLegal}
 use Rattle.wit_syntax.specs.Repeats.{AllDiffer}
-use Rattle.wit_syntax.specs.Scope.{interfaces_of, worlds_of}
+use Rattle.wit_syntax.specs.ScopeTables.{interfaces_of, worlds_of}
 use Rattle.wit_syntax.specs.Source.{Item, is_world}
 use Rattle.wit_arena.specs.Made.{AreInOrder, interface_scopes, world_scopes, scope_place}
 use Rattle.wit_arena.proofs.Added.{all_addresses}

@@ -8,7 +8,7 @@ use Rattle.wit_tree.specs.declared.tree.PackageFile.{PackageFile}
 use Rattle.wit_syntax.specs.Address.{Address}
 use Rattle.wit_syntax.specs.Broken.{IsLegal}
 use Rattle.wit_syntax.specs.Function.{SourceFunction, functions}
-use Rattle.wit_syntax.specs.Scope.{in_order, in_turn, interfaces_of}
+use Rattle.wit_syntax.specs.ScopeTables.{in_order, in_turn, interfaces_of}
 use Rattle.wit_syntax.specs.Sides.{SideItem, SideFunction, SideLink, SideInline, inline_items, side_items}
 use Rattle.wit_syntax.specs.Source.{Item, ScopeName, address, all_items, scope_names}
 use Rattle.wit_syntax.proofs.Lists.{at_prefix, at_back, flat_map_has}

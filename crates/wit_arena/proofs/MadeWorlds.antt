@@ -20,13 +20,13 @@ use Rattle.wit_syntax.specs.Address.{Address, WorldNamed}
 use Rattle.wit_syntax.specs.Foreign.{ForeignVisit}
 use Rattle.wit_syntax.specs.Function.{functions as item_functions}
 use Rattle.wit_syntax.specs.Metadata.{Metadata, no_metadata}
-use Rattle.wit_syntax.specs.Scope.{includes}
+use Rattle.wit_syntax.specs.ScopeTables.{includes}
 use Rattle.wit_syntax.specs.Sides.{item_function, side_items, inline_items}
 use Rattle.wit_syntax.specs.Source.{Item, TopName, ScopeName, address, about, declared_metadata, leads, local_id, local_name, target_scope}
 use Rattle.wit_syntax.proofs.Legal.{functions_items}
 use Rattle.wit_arena.specs.Made.{function_in, name_places, names_in_turn, entries_on, name_imports, include_in, world, foreign_world, world_entries, own_world}
 use Rattle.wit_arena.specs.Occurrences.{Key, Def}
-use Rattle.wit_arena.specs.Package.{IsWorld, IsForeignWorld, world_types}
+use Rattle.wit_arena.specs.UnfoldedTypes.{IsWorld, IsForeignWorld, world_types}
 use Rattle.wit_arena.specs.SideItems.{AreSideItems, settled}
 use Rattle.wit_arena.specs.Whole.{OrderedWorld, addresses, ordered_names, turned, type_imports, IsInclude, IsResolvedWorld}
 use Rattle.wit_arena.proofs.ScopesInTurn.{ordered_addresses}

@@ -6,7 +6,7 @@ use Rattle.std.specs.Str.{bytes_eq}
 use Rattle.std.proofs.lemmas.Option.{slice_get-map}
 use Rattle.wit_graph.specs.Table.{IsOrder}
 use Rattle.wit_syntax.specs.Source.{ScopeName, local_name, meaning}
-use Rattle.wit_syntax.specs.Scope.{rows_of, in_turn, local_names}
+use Rattle.wit_syntax.specs.ScopeTables.{rows_of, in_turn, local_names}
 use Rattle.wit_arena.specs.Resolving.{Names, env_of}
 use Rattle.wit_syntax.proofs.Lists.{map_at}
 use Rattle.wit_syntax.proofs.Names.{name_equal}

@@ -17,7 +17,7 @@ use Rattle.wit_syntax.specs.Sides.{FunctionKey}
 use Rattle.wit_arena.specs.SourceFunctions.{AreFunctions}
 use Rattle.wit_arena.specs.Whole.{Turned, functions_at, turn_handles, AreRequired}
 use Rattle.wit_arena.specs.Resolving.{Names, ResolvedScope, Required, env_of, all_seen, AreNames}
-use Rattle.wit_syntax.specs.Scope.{AreDistinct, local_names}
+use Rattle.wit_syntax.specs.ScopeTables.{AreDistinct, local_names}
 use Rattle.wit_arena.proofs.Occurrence.{Has}
 use Rattle.wit_arena.proofs.FreeNames.{free_of, AreStated}
 use Rattle.wit_arena.proofs.Signatures.{IsInFunctions}

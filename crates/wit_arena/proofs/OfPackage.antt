@@ -18,7 +18,7 @@ use Rattle.wit_syntax.specs.Sides.{function_key}
 use Rattle.wit_syntax.specs.Source.{address, first_foreign_uses}
 use Rattle.wit_syntax.proofs.Lists.{at_within}
 use Rattle.wit_arena.specs.Faithful.{IsFaithful, HasArena}
-use Rattle.wit_arena.specs.Package.{owner_of, named_interface, named_world}
+use Rattle.wit_arena.specs.UnfoldedTypes.{owner_of, named_interface, named_world}
 use Rattle.wit_arena.specs.Whole.{Ordered, OrderedWorld, addresses, all_inside, all_turns, interface_addresses, world_addresses, IsPackage}
 use Rattle.wit_arena.proofs.Faithful.{IsOwnerOf, AreOwners, name_at, type_at, faithful}
 use Rattle.wit_arena.proofs.KnownMembers.{decls, written, collects, wholes, present}

@@ -16,10 +16,10 @@ use Rattle.wit_model.specs.declared.unresolved.UnresolvedPackage.{UnresolvedPack
 use Rattle.wit_model.specs.declared.world.World.{World}
 use Rattle.wit_syntax.specs.Address.{Address}
 use Rattle.wit_syntax.specs.Broken.{IsLegal}
-use Rattle.wit_syntax.specs.Ends.{AtResource, AtForeign}
+use Rattle.wit_syntax.specs.NameEnds.{AtResource, AtForeign}
 use Rattle.wit_syntax.specs.Foreign.{foreign_interfaces, foreign_worlds}
 use Rattle.wit_syntax.specs.Repeats.{AllDiffer, firsts}
-use Rattle.wit_syntax.specs.Scope.{worlds_of}
+use Rattle.wit_syntax.specs.ScopeTables.{worlds_of}
 use Rattle.wit_syntax.specs.Source.{Item}
 use Rattle.wit_syntax.specs.ScopesOfTrees.{scope}
 use Rattle.wit_arena.specs.Made.{foreign_interface, own_interface, foreign_world, own_world, item_turns, own_interfaces, interface_scopes, world_scopes, Makes}

@@ -12,7 +12,7 @@ use Rattle.wit_types.specs.declared.types.«Type».{«Type» as Ty}
 use Rattle.wit_syntax.specs.Address.{Address}
 use Rattle.wit_syntax.specs.Form.{Form}
 use Rattle.wit_syntax.specs.Metadata.{no_docs, first_known}
-use Rattle.wit_syntax.specs.Scope.{AreDistinct}
+use Rattle.wit_syntax.specs.ScopeTables.{AreDistinct}
 use Rattle.wit_syntax.specs.Source.{ScopeName, local_name, about_name}
 use Rattle.wit_syntax.proofs.Found.{at_contains}
 use Rattle.wit_syntax.proofs.Lists.{at_within}

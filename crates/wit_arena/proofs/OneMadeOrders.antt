@@ -6,7 +6,7 @@ use Rattle.std.proofs.lemmas.List.{length-map}
 use Rattle.wit_tree.specs.declared.tree.PackageFile.{PackageFile}
 use Rattle.wit_graph.proofs.SameEdges.{one_answer}
 use Rattle.wit_syntax.specs.Address.{Address}
-use Rattle.wit_syntax.specs.Scope.{item_row, item_rows, rows_of, in_order, interfaces_of, worlds_of}
+use Rattle.wit_syntax.specs.ScopeTables.{item_row, item_rows, rows_of, in_order, interfaces_of, worlds_of}
 use Rattle.wit_syntax.specs.Sides.{inline_items, with_inline, all_scopes}
 use Rattle.wit_syntax.specs.Source.{Item, address, all_items, is_world, scope_names}
 use Rattle.wit_syntax.proofs.Found.{contains_at}

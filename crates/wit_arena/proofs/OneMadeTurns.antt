@@ -3,7 +3,7 @@ use Rattle.std.proofs.Common.{◌≡◌, ℕ, suc, List, [], ◌∷◌, ◌++◌
 use Rattle.std.specs.Prelude.{slice_get, map}
 use Rattle.std.specs.List.{flat_map}
 use Rattle.wit_syntax.specs.Address.{Address}
-use Rattle.wit_syntax.specs.Scope.{in_turn, interfaces_of, worlds_of}
+use Rattle.wit_syntax.specs.ScopeTables.{in_turn, interfaces_of, worlds_of}
 use Rattle.wit_syntax.specs.Sides.{SideItem, SideFunction, SideLink, SideInline, side_items, inline_items}
 use Rattle.wit_syntax.specs.Source.{Item, address, scope_names}
 use Rattle.wit_arena.specs.Made.{names_in_turn, interface_turn, turns_on_sides, turns_of_world, item_turns, own_interface, own_world}

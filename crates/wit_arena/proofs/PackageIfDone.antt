@@ -26,13 +26,13 @@ use Rattle.wit_tree.specs.declared.tree.WorldSide.TheVariants.{Imported, Exporte
 use Rattle.wit_syntax.specs.Sides.{side_items, inline_items}
 use Rattle.wit_arena.specs.SourceFunctions.{AreFunctions, placed_functions}
 use Rattle.wit_arena.specs.SideItems.{AreSideItems, settled}
-use Rattle.wit_syntax.specs.Scope.{includes, item_rows, rows_of, in_order, interfaces_of, worlds_of}
+use Rattle.wit_syntax.specs.ScopeTables.{includes, item_rows, rows_of, in_order, interfaces_of, worlds_of}
 use Rattle.wit_syntax.specs.Broken.{headers, last_header}
-use Rattle.wit_arena.specs.Package.{world_types}
+use Rattle.wit_arena.specs.UnfoldedTypes.{world_types}
 use Rattle.wit_arena.specs.OneByOne.{OneByOne}
 use Rattle.wit_arena.specs.Whole.{Ordered, OrderedWorld, AreOrdered, Turned, ordered_names, turned, world_turns, all_turns, all_inside, turn_handles, AreRequired, all_occurrences, type_imports, addresses, interface_addresses, world_addresses, declarations, HasTypes, AreIncludes, HasSides, NamesOthers, first_docs, IsPackage, IsResolvedInterface, IsResolvedWorld, IsForeignInterface, AreFirstOccurrences}
 use Rattle.wit_arena.specs.Resolving.{Names, Required, resolved_scope}
-use Rattle.wit_arena.specs.Resolved.{WorldArenas, AddsForeign}
+use Rattle.wit_arena.specs.ResolvedArenas.{WorldArenas, AddsForeign}
 use Rattle.wit_syntax.proofs.Lists.{at_prefix, at_back, map_map}
 use Rattle.wit_syntax.proofs.Turns.{at_part}
 use Rattle.wit_arena.proofs.Members.{DoneScope, turn_of, members}

@@ -5,7 +5,7 @@ use Rattle.std.specs.List.{filter, list_any}
 use Rattle.std.specs.Option.{option_map}
 use Rattle.std.proofs.lemmas.Bool.{cases_Bool, cond-true, cond-false}
 use Rattle.std.proofs.lemmas.Option.{slice_get-map}
-use Rattle.wit_functions.specs.Setters.{prefixes, is_getter, is_getter_of, goes_on_alike, goes_with, early, others, with_setters, setters_placed, pairs}
+use Rattle.wit_functions.specs.SettersPlaced.{prefixes, is_getter, is_getter_of, goes_on_alike, goes_with, early, others, with_setters, setters_placed, pairs}
 use Rattle.wit_functions.specs.declared.function.Function.{Function}
 use Rattle.wit_functions.specs.declared.function.FunctionKind.{FunctionKind}
 use Rattle.wit_functions.specs.declared.function.FunctionKind.TheVariants as kind

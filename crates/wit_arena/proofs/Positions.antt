@@ -19,7 +19,7 @@ use Rattle.wit_syntax.specs.ScopesOfTrees.{scope, source_node}
 use Rattle.wit_arena.specs.Kind.{kind_of}
 use Rattle.wit_arena.specs.Expr.{Exprs, expr_of, exprs_of, name_exprs}
 use Rattle.wit_arena.specs.Occurrences.{Key, Def, Whole, Occurrence, keys, IsAt, AreAt, Decls}
-use Rattle.wit_arena.specs.Package.{package_node, entry_node}
+use Rattle.wit_arena.specs.UnfoldedTypes.{package_node, entry_node}
 use Rattle.wit_arena.specs.Faithful.{node_parts, LiesBelow}
 use Rattle.wit_arena.specs.Resolving.{seen, all_seen}
 use Rattle.wit_arena.proofs.Primitives.{primitive_node}

@@ -25,7 +25,7 @@ use Rattle.wit_arena.specs.Occurrences.{Key, Def, Occurrence, keys, Decls, IsEnt
 use Rattle.wit_syntax.specs.Repeats.{AllDiffer}
 use Rattle.wit_arena.specs.Whole.{owner_at, foreign_use_occurrence, functions_at, turn_handles, AreRequired, IsForeignInterface}
 use Rattle.wit_arena.specs.Resolving.{resolved_scope_at, resolved_scopes, env_of, AreNames}
-use Rattle.wit_arena.specs.Resolved.{foreign_type, AddsForeign, AreUsableUses}
+use Rattle.wit_arena.specs.ResolvedArenas.{foreign_type, AddsForeign, AreUsableUses}
 use Rattle.wit_syntax.proofs.Lists.{at_prefix, at_within, map_at, map_map}
 use Rattle.wit_syntax.proofs.Names.{lookup-place}
 use Rattle.wit_syntax.proofs.Repeated.{differ_none, differ_join}
@@ -33,7 +33,7 @@ use Rattle.wit_syntax.proofs.Firsts.{firsts_at}
 use Rattle.wit_syntax.proofs.Found.{some_of}
 use Rattle.wit_arena.proofs.UsePart.{lookup-listed}
 use Rattle.wit_arena.proofs.FreeNames.{free_keyed, AreStated}
-use Rattle.wit_arena.specs.Package.{interface_functions}
+use Rattle.wit_arena.specs.UnfoldedTypes.{interface_functions}
 use Rattle.wit_tree.specs.declared.tree.WorldSide.TheVariants.{Imported}
 use Rattle.wit_syntax.proofs.Turns.{at_part}
 use Rattle.wit_arena.proofs.Required.{required_none}

@@ -6,7 +6,7 @@ use Rattle.wit_types.specs.declared.types.«Type».{«Type» as Ty}
 use Rattle.wit_types.specs.declared.types.«Type».TheVariants as type
 use Rattle.wit_model.specs.declared.unresolved.UnresolvedPackage.{UnresolvedPackage}
 use Rattle.wit_syntax.specs.Node.{Leaf, primitive_type}
-use Rattle.wit_arena.specs.Package.{package_node, IsBelow}
+use Rattle.wit_arena.specs.UnfoldedTypes.{package_node, IsBelow}
 
 -- the primitive that a type is
 abbrev primitive_of : Ty → Option Primitive

@@ -16,7 +16,7 @@ use Rattle.wit_syntax.specs.Function.{SourceFunction, name_types, written_types,
 use Rattle.wit_arena.specs.EntryEnds.{EntryEnd, IsResource, IsOther, entry_end}
 use Rattle.wit_arena.specs.EntryEnds as ends
 use Rattle.wit_arena.specs.Occurrences.{Key, Def, Occurrence, keys, Decls, IsKeyed}
-use Rattle.wit_syntax.specs.Ends.{IsNoResource}
+use Rattle.wit_syntax.specs.NameEnds.{IsNoResource}
 use Rattle.wit_arena.specs.Whole.{HandleRequires, AreRequired}
 use Rattle.wit_arena.specs.Resolving.{Env, Names, env_of, AreNames, Required, AreEnded, IsWrongHandle, IsDefined}
 use Rattle.wit_arena.proofs.Places.{Extended, key_extended}

@@ -19,7 +19,7 @@ use Rattle.wit_graph.specs.Table.{IsOrder}
 use Rattle.wit_syntax.specs.Address.{Address, WorldNamed, ForeignNamed}
 use Rattle.wit_syntax.specs.Source.{address, Target, scope_names, Local, Foreign, leads, item_named, item_at, is_world, Item, all_items, item_name, target_scope}
 use Rattle.wit_syntax.specs.Foreign.{visited, foreign_interfaces, foreign_worlds, foreign_at, ForeignVisit}
-use Rattle.wit_syntax.specs.Scope.{in_order, uses as uses_of, include_paths, includes, item_rows, interfaces_of, worlds_of}
+use Rattle.wit_syntax.specs.ScopeTables.{in_order, uses as uses_of, include_paths, includes, item_rows, interfaces_of, worlds_of}
 use Rattle.std.specs.List.{flat_map}
 use Rattle.wit_arena.specs.Occurrences.{Occurrence}
 use Rattle.wit_arena.specs.Resolving.{Required}
@@ -28,7 +28,7 @@ use Rattle.wit_syntax.specs.Metadata.{IsBrokenMetadata}
 use Rattle.wit_syntax.specs.Broken.{is_world_at, IsBrokenScope, IsBrokenNames, Headerless, Names, ItemStability, UseMetadata, IncludeStability, Use, InterfaceIncluded, MissingName, Scope, Sides, LinkedTwice, Handle, Setter, IsLinkedTwice, IsSetterAlone, IsLegal, headers, last_header}
 use Rattle.wit_syntax.specs.Repeats.{AllDiffer}
 use Rattle.wit_arena.specs.Whole.{all_turns, all_occurrences, AreIncludes, NamesOthers, first_docs, IsPackage}
-use Rattle.wit_arena.specs.Resolved.{WorldArenas, prefix_worlds, AddsInterfaces, AddsWorlds, AddsForeign, AreLegalSides, AreUsableUses, AreUsableLinks, AreSoundScopes, IsBrokenItemStability, OwnStability, OfInclude, HaveLegalStability}
+use Rattle.wit_arena.specs.ResolvedArenas.{WorldArenas, prefix_worlds, AddsInterfaces, AddsWorlds, AddsForeign, AreLegalSides, AreUsableUses, AreUsableLinks, AreSoundScopes, IsBrokenItemStability, OwnStability, OfInclude, HaveLegalStability}
 use Rattle.wit_syntax.proofs.Lists.{at_within, flat_map_at, flat_map_has, map_at}
 use Rattle.wit_syntax.proofs.Turns.{at_part}
 use Rattle.wit_syntax.proofs.Setters.{among_alone}

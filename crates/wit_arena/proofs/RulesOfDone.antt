@@ -17,16 +17,16 @@ use Rattle.wit_syntax.specs.ScopesOfTrees as source
 use Rattle.wit_graph.specs.Table.{IsOrder}
 use Rattle.wit_syntax.specs.Shape.{words, all_handles}
 use Rattle.wit_syntax.specs.Function.{SourceFunction, functions, signature, all_types, item_types}
-use Rattle.wit_syntax.specs.Scope.{rows_of, in_turn}
+use Rattle.wit_syntax.specs.ScopeTables.{rows_of, in_turn}
 use Rattle.wit_syntax.specs.Foreign.{visited, foreign_interfaces}
-use Rattle.wit_syntax.specs.Ends.{AtResource, AtForeign, Elsewhere, EndsAt, IsNoResource}
+use Rattle.wit_syntax.specs.NameEnds.{AtResource, AtForeign, Elsewhere, EndsAt, IsNoResource}
 use Rattle.wit_arena.specs.Occurrences.{Key, Occurrence, keys, Decls}
 use Rattle.wit_syntax.specs.Fault.{Fault}
-use Rattle.wit_syntax.specs.Signature.{IsUnpairedSetter}
+use Rattle.wit_syntax.specs.SignatureRules.{IsUnpairedSetter}
 use Rattle.wit_syntax.specs.Broken.{IsSetterAlone}
 use Rattle.wit_arena.specs.Whole.{Ordered, Turned, turned, all_turns, all_inside, all_occurrences, turn_handles, HandleRequires, AreRequired}
 use Rattle.wit_arena.specs.Resolving.{Required}
-use Rattle.wit_arena.specs.Resolved.{WorldArenas}
+use Rattle.wit_arena.specs.ResolvedArenas.{WorldArenas}
 use Rattle.wit_syntax.proofs.Lists.{at_prefix, at_back, at_within, map_at}
 use Rattle.wit_syntax.proofs.Found.{at_contains}
 use Rattle.wit_syntax.proofs.Turns.{in_turn_has}

@@ -13,7 +13,7 @@ use Rattle.wit_syntax.specs.Address.{Address}
 use Rattle.wit_syntax.specs.Source.{address, Item, ScopeName, foreign_uses, scope_names}
 use Rattle.wit_syntax.specs.ScopesOfTrees.{scope}
 use Rattle.wit_syntax.specs.Repeats.{AllDiffer}
-use Rattle.wit_syntax.specs.Scope.{rows_of, in_turn, local_names, AreDistinct}
+use Rattle.wit_syntax.specs.ScopeTables.{rows_of, in_turn, local_names, AreDistinct}
 use Rattle.wit_arena.specs.Occurrences.{Key, Occurrence, Decls}
 use Rattle.wit_arena.specs.Whole.{Ordered, Turned, ordered_names, turned, turn_occurrences, addresses, foreign_use_occurrence, all_occurrences, turn_handles, AreRequired}
 use Rattle.wit_functions.specs.declared.function.Function.{Function}
@@ -21,7 +21,7 @@ use Rattle.wit_syntax.specs.Function.{functions}
 use Rattle.wit_syntax.specs.Sides.{FunctionKey}
 use Rattle.std.specs.List.{flat_map}
 use Rattle.wit_arena.specs.Resolving.{Names, ResolvedScope, Required, Defines}
-use Rattle.wit_arena.specs.Resolved.{AddsAfter, AddsEach}
+use Rattle.wit_arena.specs.ResolvedArenas.{AddsAfter, AddsEach}
 use Rattle.wit_syntax.proofs.Lists.{at_either, at_seam, at_within, map_at, map_map}
 use Rattle.wit_syntax.proofs.Repeated.{differ_at}
 use Rattle.wit_syntax.proofs.Turns.{at_part, in_turn_among, in_turn_has, in_turn_distinct}

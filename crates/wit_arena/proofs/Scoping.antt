@@ -11,7 +11,7 @@ use Rattle.wit_graph.specs.Table.{Row, target, IsEdge, Leads, IsOrder}
 use Rattle.wit_graph.proofs.Tables.{slice_get-take}
 use Rattle.wit_syntax.specs.Source.{ScopeName, Defined, local_name}
 use Rattle.wit_syntax.specs.Fault.{Fault}
-use Rattle.wit_syntax.specs.Scope.{needed_ids, rows_of, in_order}
+use Rattle.wit_syntax.specs.ScopeTables.{needed_ids, rows_of, in_order}
 use Rattle.wit_syntax.specs.Bodies.{IsBrokenBody}
 use Rattle.wit_syntax.specs.Metadata.{IsBrokenMetadata}
 use Rattle.wit_arena.specs.Resolving.{AreLegalBodies, AreLegalMetadata, Env, Names, env_of, HasNames, IsStored}

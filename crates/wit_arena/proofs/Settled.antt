@@ -6,14 +6,14 @@ use Rattle.std.proofs.lemmas.Bool.{cases_Bool, cond-true, cond-false}
 use Rattle.std.proofs.lemmas.Grind.{flat_map-append}
 use Rattle.std.proofs.lemmas.List.Elements.{filter-append}
 use Rattle.wit_tree.specs.declared.tree.Include.{Include}
-use Rattle.wit_functions.specs.Setters.{early, goes_with, others, with_setters, setters_placed, pairs}
-use Rattle.wit_model.specs.Worlds.{function_of}
+use Rattle.wit_functions.specs.SettersPlaced.{early, goes_with, others, with_setters, setters_placed, pairs}
+use Rattle.wit_model.specs.ItemsOfWorlds.{function_of}
 use Rattle.wit_functions.specs.declared.function.Function.{Function}
 use Rattle.wit_model.specs.declared.world.WorldItem.{WorldItem}
 use Rattle.wit_model.specs.declared.world.WorldItem.TheVariants as item
 use Rattle.wit_model.specs.declared.world.WorldKey.{WorldKey}
 use Rattle.wit_syntax.specs.Source.{ScopeName}
-use Rattle.wit_arena.specs.Package.{is_interface_item, interface_items}
+use Rattle.wit_arena.specs.UnfoldedTypes.{is_interface_item, interface_items}
 use Rattle.wit_arena.specs.Resolving.{Names}
 use Rattle.wit_arena.specs.SideItems.{settled}
 use Rattle.wit_arena.specs.Whole.{type_imports}

@@ -8,7 +8,7 @@ use Rattle.wit_types.specs.declared.types.TypeDefKind.{TypeDefKind}
 use Rattle.wit_arena.specs.Kind.{kind_of}
 use Rattle.wit_arena.specs.Expr.{Expr, Prim, Use, Of, Exprs, End, More, name_exprs}
 use Rattle.wit_arena.specs.Occurrences.{Key, Def, Whole, IsAt, AreAt, Decls, IsEntry, IsKeyed}
-use Rattle.wit_arena.specs.Package.{At, IsBelow}
+use Rattle.wit_arena.specs.UnfoldedTypes.{At, IsBelow}
 use Rattle.wit_arena.proofs.Parts.{HasPart}
 use Rattle.wit_syntax.proofs.Lists.{at_take, at_within}
 use Rattle.wit_arena.proofs.Primitives.{primitive_below}

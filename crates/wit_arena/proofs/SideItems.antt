@@ -13,7 +13,7 @@ use Rattle.wit_syntax.specs.ExternPart.{same_side}
 use Rattle.wit_syntax.specs.Source.{TopName, path_scope}
 use Rattle.wit_syntax.specs.Sides.{role_side, SideItem, SideFunction, SideLink, SideInline, Link, item_function}
 use Rattle.wit_arena.specs.SourceFunctions.{by_name, function_item}
-use Rattle.wit_arena.specs.Package.{import_types, item_functions}
+use Rattle.wit_arena.specs.UnfoldedTypes.{import_types, item_functions}
 use Rattle.wit_arena.specs.SideItems.{link_item, inline_entry, put_on, AreSideItems}
 use Rattle.wit_arena.proofs.MadeOn.{made_on}
 

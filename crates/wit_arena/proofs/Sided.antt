@@ -15,7 +15,7 @@ use Rattle.wit_model.specs.declared.interface.Interface.{Interface}
 use Rattle.wit_syntax.specs.Address.{Address}
 use Rattle.wit_syntax.specs.Function.{SourceFunction, functions, written_types, all_types}
 use Rattle.wit_syntax.specs.Repeats.{AllDiffer}
-use Rattle.wit_syntax.specs.Scope.{in_turn}
+use Rattle.wit_syntax.specs.ScopeTables.{in_turn}
 use Rattle.wit_syntax.specs.Shape.{all_handles}
 use Rattle.wit_syntax.specs.Sides.{SideItem, SideFunction, Link, SideLink, SideInline, item_function, item_inline}
 use Rattle.wit_syntax.specs.Source.{address, Item, is_world, ScopeName, scope_names}
@@ -26,9 +26,9 @@ use Rattle.wit_syntax.proofs.Sides.{functions_imported}
 use Rattle.wit_syntax.proofs.Turns.{at_part}
 use Rattle.wit_arena.specs.SourceFunctions.{IsFunction}
 use Rattle.wit_arena.specs.Occurrences.{Key, Def, Occurrence, keys, Collects, Decls, all_function_occurrences}
-use Rattle.wit_arena.specs.Package.{interface_functions}
+use Rattle.wit_arena.specs.UnfoldedTypes.{interface_functions}
 use Rattle.wit_arena.specs.Resolving.{env_of, ResolvedScope, Required, HasFunctions, AddsFunctions, AreEnded}
-use Rattle.wit_arena.specs.Resolved.{AddsInterface, AddsFunction, AddsSides}
+use Rattle.wit_arena.specs.ResolvedArenas.{AddsInterface, AddsFunction, AddsSides}
 use Rattle.wit_arena.specs.Whole.{Ordered, Turned, turned, functions_at, side_turns, turn_occurrences, turn_handles, AreRequired}
 use Rattle.wit_arena.proofs.Added.{defines_wider}
 use Rattle.wit_arena.proofs.DoneNames.{done_function, done_function_from, names_of_functions}

@@ -18,7 +18,7 @@ use Rattle.wit_syntax.specs.Function.{Role, Freestanding, Method, Static, Constr
 use Rattle.wit_arena.specs.SourceFunctions.{IsKind, IsFunction, AreFunctions, IsParam}
 use Rattle.wit_arena.specs.Expr.{Exprs, expr_of, exprs_of}
 use Rattle.wit_arena.specs.Occurrences.{Key, Def, Whole, Occurrence, keys, Collects, IsAt, shape_occurrences, shapes_occurrences, all_function_occurrences}
-use Rattle.wit_arena.specs.Package.{function_types}
+use Rattle.wit_arena.specs.UnfoldedTypes.{function_types}
 use Rattle.wit_arena.specs.Resolving.{ResolvedScope, Env, env_of, seen, all_seen, AreNames, AreKnown}
 use Rattle.wit_arena.specs.Adding.{gathered}
 use Rattle.wit_syntax.proofs.Lists.{at_split, at_within, map_at}

@@ -7,12 +7,12 @@ use Rattle.wit_tree.specs.declared.tree.InterfaceItem.TheVariants as interface_i
 use Rattle.wit_tree.specs.declared.tree.PackageFile.{PackageFile}
 use Rattle.wit_syntax.specs.Fault.{Fault}
 use Rattle.wit_syntax.specs.Source.{interface_part, Item, all_items, about}
-use Rattle.wit_syntax.specs.Scope.{part_includes, includes}
+use Rattle.wit_syntax.specs.ScopeTables.{part_includes, includes}
 use Rattle.wit_syntax.specs.Metadata.{IsBrokenStability}
 use Rattle.wit_syntax.specs.Sides.{SideInline, side_items, inline_items, IsBrokenSides, InterfaceMetadata}
 use Rattle.std.specs.List.{flat_map}
 use Rattle.wit_syntax.specs.Broken.{IsBroken, ItemStability, IncludeStability}
-use Rattle.wit_arena.specs.Resolved.{IsBrokenItemStability, OwnStability, OfInclude}
+use Rattle.wit_arena.specs.ResolvedArenas.{IsBrokenItemStability, OwnStability, OfInclude}
 use Rattle.wit_syntax.proofs.Found.{contains_at}
 use Rattle.wit_syntax.proofs.Inline.{inline_items_at}
 

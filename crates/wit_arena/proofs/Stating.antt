@@ -16,12 +16,12 @@ use Rattle.wit_syntax.specs.Source.{TopName, ScopeName, local_name}
 use Rattle.wit_syntax.specs.Address.{Address}
 use Rattle.wit_model.specs.declared.world.WorldKey.{WorldKey}
 use Rattle.wit_model.specs.declared.world.WorldItem.{WorldItem}
-use Rattle.wit_syntax.specs.Scope.{local_names}
+use Rattle.wit_syntax.specs.ScopeTables.{local_names}
 use Rattle.wit_syntax.specs.Function.{SourceFunction}
 use Rattle.wit_syntax.specs.Sides.{role_side, FunctionKey, SideItem, item_function}
 use Rattle.wit_arena.specs.SourceFunctions.{by_name, placed_functions}
 use Rattle.wit_arena.specs.SideItems.{AreSideItems, settled}
-use Rattle.wit_arena.specs.Package.{import_types, item_functions, keyed, interface_functions, world_functions}
+use Rattle.wit_arena.specs.UnfoldedTypes.{import_types, item_functions, keyed, interface_functions, world_functions}
 use Rattle.wit_arena.specs.Whole.{type_imports}
 use Rattle.wit_arena.specs.Resolving.{Names}
 use Rattle.wit_syntax.proofs.Lists.{at_prefix, at_back, at_split, map_at}

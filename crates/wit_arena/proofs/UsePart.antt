@@ -13,7 +13,7 @@ use Rattle.wit_tree.specs.declared.tree.UseName.{UseName}
 use Rattle.wit_syntax.specs.Address.{Address}
 use Rattle.wit_syntax.specs.Source.{ScopeName, Used, local_name}
 use Rattle.wit_arena.specs.Resolving.{Names, ResolvedScope, env_of, HasNames, IsUsed}
-use Rattle.wit_syntax.specs.Scope.{local_names}
+use Rattle.wit_syntax.specs.ScopeTables.{local_names}
 use Rattle.wit_syntax.proofs.Names.{name_cases, name_itself, names-insert_entry}
 
 -- a name that is listed finds a value

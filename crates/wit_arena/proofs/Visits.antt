@@ -20,9 +20,9 @@ use Rattle.wit_syntax.specs.Address.{Address, ForeignNamed, package_of, same_add
 use Rattle.wit_syntax.specs.ExternPart.{extern_paths, inline_uses}
 use Rattle.wit_syntax.specs.Source.{Local, Foreign, DefinitionPart, UsePart, IncludePart, FunctionPart, ExternPart, TopName, top_name, top_names, top_text, leads, Part, Item, declared_items, file_items, all_items, address, parts, TheInterface, TheWorld, at_side, walk}
 use Rattle.wit_syntax.specs.Foreign.{ForeignVisit, visited, path_visits, part_visits, extern_visits, declaration_visits, file_visits, foreign_visits, same_item, foreign_items, foreign_interfaces, foreign_worlds, foreign_at}
-use Rattle.wit_syntax.specs.Scope.{use_path, use_paths, part_uses, uses}
+use Rattle.wit_syntax.specs.ScopeTables.{use_path, use_paths, part_uses, uses}
 use Rattle.wit_syntax.specs.Broken.{is_world_at}
-use Rattle.wit_arena.specs.Resolved.{AreUsableUses}
+use Rattle.wit_arena.specs.ResolvedArenas.{AreUsableUses}
 use Rattle.wit_syntax.specs.Repeats.{AllDiffer}
 use Rattle.wit_syntax.proofs.Lists.{at_prefix, at_back, map_at, flat_map_at, flat_map_has}
 use Rattle.wit_syntax.proofs.Addresses.{side_itself, same_address-from, same_address-equal}

@@ -18,14 +18,14 @@ use Rattle.wit_syntax.specs.Sides.{FunctionKey, SideItem, inline_items}
 use Rattle.wit_syntax.specs.Source.{address, Item, all_items, ScopeName, scope_names}
 use Rattle.wit_syntax.specs.ScopesOfTrees.{scope}
 use Rattle.wit_syntax.specs.Foreign.{visited, foreign_interfaces, foreign_worlds}
-use Rattle.wit_syntax.specs.Scope.{in_turn}
+use Rattle.wit_syntax.specs.ScopeTables.{in_turn}
 use Rattle.wit_syntax.proofs.Lists.{at_prefix, at_back, at_seam, at_either, map_at}
 use Rattle.wit_syntax.proofs.Turns.{at_part}
 use Rattle.wit_syntax.proofs.Repeated.{differ_at, differ_by}
 use Rattle.wit_syntax.proofs.Inline.{is_inside, inline_inside, inline_interface, inline_items_differ}
 use Rattle.wit_syntax.proofs.Scopes.{inside_one}
 use Rattle.wit_arena.specs.Occurrences.{Occurrence}
-use Rattle.wit_arena.specs.Resolved.{interfaces_at, worlds_at, WorldArenas, AddsScope, AddsSides, AddsForeign, AreUsableUses}
+use Rattle.wit_arena.specs.ResolvedArenas.{interfaces_at, worlds_at, WorldArenas, AddsScope, AddsSides, AddsForeign, AreUsableUses}
 use Rattle.wit_arena.specs.Resolving.{Names, ResolvedScope, Required, resolved_scopes, Defines}
 use Rattle.wit_arena.specs.Whole.{Ordered, Turned, addresses, all_turns, all_inside, all_occurrences}
 use Rattle.wit_syntax.specs.Source as source

@@ -18,13 +18,13 @@ use Rattle.wit_type_tree.specs.declared.types.«Type».{«Type» as Written}
 use Rattle.wit_syntax.specs.Sides.{FunctionKey, item_function, side_items, inline_items}
 use Rattle.wit_syntax.specs.Source.{address, Item, all_items, ScopeName, scope_names}
 use Rattle.wit_syntax.specs.Foreign.{visited, foreign_interfaces, foreign_worlds}
-use Rattle.wit_syntax.specs.Scope.{in_turn, includes, local_names}
+use Rattle.wit_syntax.specs.ScopeTables.{in_turn, includes, local_names}
 use Rattle.wit_syntax.proofs.Lists.{at_prefix, at_back, at_seam, at_either, flat_map_has}
 use Rattle.wit_syntax.proofs.Legal.{functions_items}
 use Rattle.wit_arena.specs.Occurrences.{Occurrence, keys, Collects}
-use Rattle.wit_arena.specs.Package.{import_types, world_functions}
+use Rattle.wit_arena.specs.UnfoldedTypes.{import_types, world_functions}
 use Rattle.wit_arena.specs.SideItems.{settled}
-use Rattle.wit_arena.specs.Resolved.{interfaces_at, worlds_at, WorldArenas, prefix_worlds, AddsWorld, AddsWorlds, AddsForeign, AreUsableUses}
+use Rattle.wit_arena.specs.ResolvedArenas.{interfaces_at, worlds_at, WorldArenas, prefix_worlds, AddsWorld, AddsWorlds, AddsForeign, AreUsableUses}
 use Rattle.wit_arena.specs.Resolving.{Names, env_of, ResolvedScope, Required, resolved_scopes}
 use Rattle.wit_arena.specs.Whole.{Ordered, OrderedWorld, Turned, addresses, turned, side_turns, world_turns, all_turns, all_inside, all_occurrences, turn_handles, AreRequired, functions_at}
 use Rattle.wit_arena.proofs.Added.{InterfacesDone, WorldOwner, inside_of, interface_list, world_list, decls}

@@ -10,7 +10,7 @@ use Rattle.wit_type_tree.specs.declared.types.«Type».{«Type» as Written, Non
 use Rattle.wit_type_tree.specs.declared.types.ResultTypes.{ResultTypes, Neither, Ok', Err', Both'}
 use Rattle.wit_type_tree.specs.declared.types.«Type».TheVariants as written
 use Rattle.wit_type_tree.proofs.Rows.{tuple_types}
-use Rattle.wit_type_tree.specs.Parts.{result_types, row_types, part_types}
+use Rattle.wit_type_tree.specs.TypeParts.{result_types, row_types, part_types}
 use Rattle.wit_types.specs.declared.stability.Stability.{Stability}
 use Rattle.wit_types.specs.declared.types.TypeDef.{TypeDef}
 use Rattle.wit_syntax.specs.Shape.{Shape, Prim, Word, Of, Shapes, End, More, shape_of, result_shapes, row_shapes, all_shapes, head, words, all_words, handles, row_handles, all_handles}

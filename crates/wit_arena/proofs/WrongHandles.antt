@@ -16,15 +16,15 @@ use Rattle.wit_syntax.specs.Address.{Address}
 use Rattle.wit_syntax.specs.Source.{address, Item, all_items, ScopeName, local_name, scope_names}
 use Rattle.wit_syntax.specs.ScopesOfTrees.{scope}
 use Rattle.wit_syntax.specs.Foreign.{visited, foreign_interfaces}
-use Rattle.wit_syntax.specs.Ends.{IsNoResource}
+use Rattle.wit_syntax.specs.NameEnds.{IsNoResource}
 use Rattle.wit_syntax.specs.Function.{item_types}
-use Rattle.wit_syntax.specs.Scope.{in_turn, AreDistinct}
+use Rattle.wit_syntax.specs.ScopeTables.{in_turn, AreDistinct}
 use Rattle.wit_syntax.specs.Sides.{side_items, inline_items}
 use Rattle.wit_syntax.specs.Fault.{Fault}
 use Rattle.wit_arena.specs.Occurrences.{Def, Occurrence, keys, Decls}
 use Rattle.wit_arena.specs.Whole.{Turned, turned, all_occurrences, all_turns}
 use Rattle.wit_arena.specs.Resolving.{Names, ResolvedScope, Required, env_of, resolved_scopes, AreNames, AreKnown, IsDefined, AreOwned}
-use Rattle.wit_arena.specs.Resolved.{WorldArenas, AddsScope, AddsSides, AddsForeign, AreUsableUses, IsWrongHandleNow}
+use Rattle.wit_arena.specs.ResolvedArenas.{WorldArenas, AddsScope, AddsSides, AddsForeign, AreUsableUses, IsWrongHandleNow}
 use Rattle.wit_syntax.proofs.Lists.{at_prefix, at_take, map_at}
 use Rattle.wit_syntax.proofs.Repeated.{differ_at, differ_by}
 use Rattle.wit_syntax.proofs.Turns.{at_part, in_turn_among, in_turn_distinct}

@@ -17,7 +17,7 @@ use Rattle.wit_syntax.specs.Function.{SourceFunction, signature}
 use Rattle.wit_syntax.specs.Sides.{function_key}
 use Rattle.wit_arena.specs.Kind.{kind_of}
 use Rattle.wit_arena.specs.Expr.{expr_of}
-use Rattle.wit_arena.specs.Package.{owner_of, names_of, functions_of, function_types, package_node, package_tree, IsBelow}
+use Rattle.wit_arena.specs.UnfoldedTypes.{owner_of, names_of, functions_of, function_types, package_node, package_tree, IsBelow}
 use Rattle.wit_arena.specs.Occurrences.{Def, Occurrence, keys, IsAt, IsOccurrence}
 use Rattle.wit_syntax.specs.Broken.{IsLegal}
 use Rattle.wit_arena.specs.Whole.{functions_at, all_inside, interface_addresses, world_addresses, declarations, AreFirstOccurrences, IsPackage}

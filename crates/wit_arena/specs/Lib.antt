@@ -4,12 +4,12 @@ pub mod Occurrences
 pub mod EntryEnds
 pub mod SourceFunctions
 pub mod SideItems
-pub mod Package
+pub mod UnfoldedTypes
 pub mod OneByOne
 pub mod Whole
 pub mod Made
 pub mod Faithful
 pub mod Resolving
-pub mod Resolved
+pub mod ResolvedArenas
 pub mod Adding
-pub mod Splitting
+pub mod SplitOccurrences

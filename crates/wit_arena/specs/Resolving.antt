@@ -14,7 +14,7 @@ use Rattle.wit_tree.specs.declared.tree.PackageFile.{PackageFile}
 use Rattle.wit_type_tree.specs.declared.types.«Type».{«Type» as WrittenType}
 use Rattle.wit_type_tree.specs.declared.types.TypeBody.{TypeBody}
 use Rattle.wit_type_tree.specs.declared.types.TypeDef.{TypeDef as Definition}
-use Rattle.wit_type_tree.specs.Parts.{body_types}
+use Rattle.wit_type_tree.specs.TypeParts.{body_types}
 use Rattle.wit_types.specs.declared.stability.Stability.{Stability}
 use Rattle.wit_types.specs.declared.types.«Type».{«Type» as Ty}
 use Rattle.wit_types.specs.declared.types.«Type».TheVariants as type
@@ -27,13 +27,13 @@ use Rattle.wit_model.specs.declared.interface.Interface.{Interface}
 use Rattle.wit_syntax.specs.Address.{Address, InterfaceNamed, WorldNamed, ForeignNamed}
 use Rattle.wit_syntax.specs.Source.{path_id, Target, Local, Foreign, leads, Item, ScopeName, Used, Defined, local_id, local_name}
 use Rattle.wit_syntax.specs.Foreign.{foreign_at, ForeignVisit}
-use Rattle.wit_syntax.specs.Scope.{include_paths, AreDistinct, local_names}
+use Rattle.wit_syntax.specs.ScopeTables.{include_paths, AreDistinct, local_names}
 use Rattle.wit_syntax.specs.Shape.{shape_of, all_shapes, words, all_words, handles, all_handles, body_of}
 use Rattle.wit_syntax.specs.Metadata.{Metadata, metadata, no_docs, IsBrokenMetadata}
 use Rattle.wit_arena.specs.Expr.{Expr, Prim, Use, Of, Exprs, End, More}
 use Rattle.wit_arena.specs.Occurrences.{Key, Def, Whole, Occurrence, keys, IsSeen, Collects, AreAt, Decls, IsOccurrence, name_occurrences, all_function_occurrences, settled}
 use Rattle.wit_syntax.specs.Fault.{Fault, fault, missing_at, missing_type_at, item_word, name_word}
-use Rattle.wit_arena.specs.Package.{At}
+use Rattle.wit_arena.specs.UnfoldedTypes.{At}
 use Rattle.wit_syntax.specs.Bodies.{IsBrokenType, IsBrokenPart, IsBrokenBody}
 use Rattle.wit_syntax.specs.Function.{SourceFunction}
 use Rattle.wit_functions.specs.declared.function.Function.{Function}

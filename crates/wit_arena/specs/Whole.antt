@@ -32,19 +32,19 @@ use Rattle.wit_syntax.specs.ScopesOfTrees.{scope}
 use Rattle.wit_syntax.specs.Foreign.{ForeignVisit, visited, same_item, foreign_interfaces, foreign_worlds, foreign_packages, foreign_visits, foreign_items}
 use Rattle.wit_functions.specs.declared.function.Function.{Function}
 use Rattle.wit_syntax.specs.Function.{SourceFunction, functions as item_functions, all_types}
-use Rattle.wit_syntax.specs.Ends.{AtResource, AtForeign, EndsAt}
+use Rattle.wit_syntax.specs.NameEnds.{AtResource, AtForeign, EndsAt}
 use Rattle.wit_type_tree.specs.declared.leaves.Id.{Id}
 use Rattle.wit_tree.specs.declared.tree.WorldSide.TheVariants.{Imported, Exported}
 use Rattle.wit_arena.specs.SourceFunctions.{IsFunction, placed_functions}
 use Rattle.wit_arena.specs.SideItems.{AreSideItems, settled}
-use Rattle.wit_syntax.specs.Scope.{item_rows, interfaces_of, worlds_of, includes, rows_of, in_order, in_turn}
+use Rattle.wit_syntax.specs.ScopeTables.{item_rows, interfaces_of, worlds_of, includes, rows_of, in_order, in_turn}
 use Rattle.wit_types.specs.declared.docs.Docs.{Docs}
 use Rattle.wit_syntax.specs.Metadata.{docs_of, no_docs, stability_of, no_metadata}
 use Rattle.wit_syntax.specs.Broken.{last_header, headers}
 use Rattle.wit_syntax.specs.Sides.{SideItem, SideFunction, SideLink, SideInline, side_items, inline_items, all_scopes}
 use Rattle.wit_arena.specs.Occurrences.{Key, Def, Occurrence, keys, name_occurrences, Collects, all_function_occurrences, Decls, IsOccurrence}
 use Rattle.wit_arena.specs.OneByOne.{OneByOne, BothParts}
-use Rattle.wit_arena.specs.Package.{IsInterface, IsWorld, IsForeignWorld, world_types}
+use Rattle.wit_arena.specs.UnfoldedTypes.{IsInterface, IsWorld, IsForeignWorld, world_types}
 
 -- an item, with an order of its names
 pub record Ordered : Type 0 where

@@ -8,7 +8,7 @@ use Rattle.wit_lex.specs.declared.source.Source.{Source}
 use Rattle.wit_lex.specs.Sources.{IsSource, IsTooLarge, ReportsTooLarge, space, as_stated, stated_of}
 use Rattle.wit_bundle.specs.Bundle.{mark, sources_of, unnamed}
 use Rattle.wit_bundle.specs.Laid.{AreLaid, laid_out, room}
-use Rattle.wit_bundle.specs.Parts.{parts, sources_after}
+use Rattle.wit_bundle.specs.SplitText.{parts, sources_after}
 
 abbrev total : List (List ℕ × List ℕ × ℕ) → ℕ
 total [] = 0

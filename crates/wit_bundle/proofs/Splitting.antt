@@ -5,7 +5,7 @@ use Rattle.std.specs.Str.Pattern.{LacksTextAt, HasTextAt}
 use Rattle.std.proofs.lemmas.Bool.Decides.{Decides-eqb}
 use Rattle.std.proofs.lemmas.Slice.Eq.{starts_is}
 use Rattle.wit_bundle.specs.Bundle.{put_first, lines_of, without_end, mark, is_marked, with_line, parts_of}
-use Rattle.wit_bundle.specs.Parts.{parts}
+use Rattle.wit_bundle.specs.SplitText.{parts}
 use Rattle.wit_bundle.proofs.Lines.{HasNoFeed, no_feed_more, joined, joined_lines, lines_append, line_then, line_last, without_end-there, without_feed}
 
 -- the end of a line, and what the next one begins with, which starts a source

@@ -10,7 +10,7 @@ use Rattle.std.proofs.lemmas.List.Sorted.{IsPermutation-map, length_permutation,
 use Rattle.std.proofs.lemmas.Cmp.{nat_list_cmp_total}
 use Rattle.std.specs.Cmp.{IsStrictWeakOrder}
 use Rattle.wit_lex.specs.declared.source.Source.{Source}
-use Rattle.wit_bundle.specs.Paths.{IsByPath}
+use Rattle.wit_bundle.specs.SourcePaths.{IsByPath}
 
 -- the path of one source is below that of another
 abbrev pub is_below : Source → Source → Bool

@@ -1,5 +1,5 @@
 pub mod Bundle
 pub mod Laid
-pub mod Parts
-pub mod Paths
+pub mod SplitText
+pub mod SourcePaths
 pub mod Apart

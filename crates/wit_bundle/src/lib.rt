@@ -3,8 +3,8 @@
 
 pub mod apart;
 mod bundles;
-mod parts;
-mod paths;
+mod path_order;
+mod splitting;
 
 pub use bundles::bundle;
-pub use paths::by_path;
+pub use path_order::by_path;

@@ -13,7 +13,7 @@ use Rattle.wit_syntax.specs.Function.{SourceFunction}
 use Rattle.wit_syntax.specs.Sides.{Link, SideItem, SideFunction, SideLink, SideInline, item_inline}
 use Rattle.wit_syntax.specs.Source.{Item}
 use Rattle.wit_arena.specs.Resolving.{ResolvedScope, Names, Required}
-use Rattle.wit_arena.specs.Resolved.{AddsFunction, AddsInterface, AddsSides}
+use Rattle.wit_arena.specs.ResolvedArenas.{AddsFunction, AddsInterface, AddsSides}
 
 module _ (cs : List ResolvedScope) (count : ℕ) (s : Address) (names : Names) where
   -- nothing adds nothing

@@ -16,13 +16,13 @@ use Rattle.wit_syntax.specs.Broken.{IsBrokenScope}
 use Rattle.wit_syntax.specs.Fault.{Fault}
 use Rattle.wit_syntax.specs.Function.{SourceFunction, functions, written_types}
 use Rattle.wit_syntax.specs.Shape.{all_handles}
-use Rattle.wit_syntax.specs.Signature.{IsBrokenFunction}
+use Rattle.wit_syntax.specs.SignatureRules.{IsBrokenFunction}
 use Rattle.wit_syntax.specs.Sides.{IsBrokenSides, Link, SideItem, SideFunction, SideLink, SideInline, item_function, item_inline}
 use Rattle.wit_syntax.specs.Source.{Item, ScopeName, scope_names}
 use Rattle.wit_syntax.proofs.Lists.{at_either}
 use Rattle.wit_types.specs.declared.types.TypeOwner.TheVariants as owner
 use Rattle.wit_arena.specs.Resolving.{AddsFunctions, ResolvedScope, Names, Required, env_of}
-use Rattle.wit_arena.specs.Resolved.{AddsSides, AreLegalSides, AreSoundScopes, IsNameless, IsWrongInside, IsWrongInterface}
+use Rattle.wit_arena.specs.ResolvedArenas.{AddsSides, AreLegalSides, AreSoundScopes, IsNameless, IsWrongInside, IsWrongInterface}
 use Rattle.wit_arena.proofs.Adding.{sounds_more}
 use Rattle.wit_entries.specs.Requiring.{IsExtended, Requires}
 use Rattle.wit_entries.proofs.Requiring.{extended_then}

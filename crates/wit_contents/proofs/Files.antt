@@ -7,7 +7,7 @@ use Rattle.std.proofs.lemmas.Option.{slice_get-get_or}
 use Rattle.wit_graph.specs.Table.{IsOrder}
 use Rattle.wit_arena.proofs.Itemizing.{items_within}
 use Rattle.wit_items.specs.declared.items.Item.{Item as Borrowed}
-use Rattle.wit_items.specs.Items.{item_view, HaveSoundUses}
+use Rattle.wit_items.specs.BorrowedItems.{item_view, HaveSoundUses}
 use Rattle.std.specs.Option.{option_map}
 use Rattle.std.proofs.lemmas.Bool.{cases_Bool}
 use Rattle.semver.specs.Identifiers.{parts_of}
@@ -19,10 +19,10 @@ use Rattle.wit_model.specs.declared.world.World.{World}
 use Rattle.wit_types.specs.declared.types.TypeDef.{TypeDef}
 use Rattle.wit_model.specs.declared.unresolved.UnresolvedPackage.{UnresolvedPackage}
 use Rattle.wit_syntax.specs.Source.{Item, all_items, is_world}
-use Rattle.wit_syntax.specs.Scope.{item_rows, interfaces_of, worlds_of}
+use Rattle.wit_syntax.specs.ScopeTables.{item_rows, interfaces_of, worlds_of}
 use Rattle.wit_syntax.specs.Sides.{inline_items, with_inline}
 use Rattle.wit_syntax.specs.Broken.{IsLegal, headers, last_header}
-use Rattle.wit_arena.specs.Resolved.{AreLegalSides, AreSoundScopes, AreUsableUses}
+use Rattle.wit_arena.specs.ResolvedArenas.{AreLegalSides, AreSoundScopes, AreUsableUses}
 use Rattle.wit_arena.specs.Resolving.{Required}
 use Rattle.wit_arena.specs.Whole.{NamesOthers, first_docs, IsPackage}
 use Rattle.wit_arena.specs.Faithful.{IsMadeOf}

@@ -13,16 +13,16 @@ use Rattle.wit_model.specs.declared.world.World.{World}
 use Rattle.wit_syntax.specs.Foreign.{ForeignVisit, visited, foreign_items, foreign_interfaces, foreign_worlds}
 use Rattle.wit_arena.specs.Whole.{foreign_place}
 use Rattle.wit_arena.specs.Resolving.{Names, resolved_scopes, IsIndex, IsWorldIndex}
-use Rattle.wit_arena.specs.Resolved.{AddsForeign, worlds_at}
+use Rattle.wit_arena.specs.ResolvedArenas.{AddsForeign, worlds_at}
 use Rattle.wit_arena.proofs.Indexing.{index_prefix, world_index_prefix, worlds_at-append}
 use Rattle.wit_syntax.specs.Source.{all_items, scope_names}
 use Rattle.wit_arena.proofs.Visits.{visited_foreign, interfaces_differ}
-use Rattle.wit_files.specs.Foreign.{foreign_view}
+use Rattle.wit_files.specs.ForeignPaths.{foreign_view}
 use Rattle.wit_files.specs.declared.foreign.ForeignVisit.{ForeignVisit as Borrowed}
 use Rattle.wit_front.specs.declared.foreign.ForeignArenas.{ForeignArenas}
 use Rattle.wit_items.specs.declared.items.Item.{Item as BorrowedItem}
-use Rattle.wit_item_names.specs.Interfaces.{prefix_of}
-use Rattle.wit_items.specs.Items.{others_of, names_view}
+use Rattle.wit_item_names.specs.ForeignAddresses.{prefix_of}
+use Rattle.wit_items.specs.BorrowedItems.{others_of, names_view}
 use Rattle.wit_items.specs.InlineNames.{inside_view, names_written}
 use Rattle.wit_items.specs.PlacedItems.{AreItemsPlaced}
 use Rattle.wit_front.specs.ForeignPrefix.{addresses_among, AreAdded, HasUsed, IsPrefix}

@@ -18,13 +18,13 @@ use Rattle.wit_syntax.specs.ExternPart.{extern_paths, inline_uses}
 use Rattle.wit_syntax.specs.Fault.{Fault}
 use Rattle.wit_syntax.specs.Function.{SourceFunction}
 use Rattle.wit_syntax.specs.Repeats.{AllDiffer}
-use Rattle.wit_syntax.specs.Scope.{use_path, use_paths}
+use Rattle.wit_syntax.specs.ScopeTables.{use_path, use_paths}
 use Rattle.wit_syntax.specs.Sides.{Link, SideItem, SideFunction, SideLink, extern_items, item_link, links, part_items, side_items}
 use Rattle.wit_syntax.specs.Source.{Item, Part, TopName, DefinitionPart, UsePart, IncludePart, FunctionPart, ExternPart, leads, parts}
 use Rattle.wit_syntax.proofs.Found.{at_contains, contains_at}
 use Rattle.wit_syntax.proofs.Lists.{at_back, at_either, flat_map_at, flat_map_has, map_at}
 use Rattle.wit_arena.specs.Resolving.{ResolvedScope, Names}
-use Rattle.wit_arena.specs.Resolved.{AreUsableLinks, HasUsableLinks, IsWrongWorld, WrongLinks, WrongWorldUse, LostLink}
+use Rattle.wit_arena.specs.ResolvedArenas.{AreUsableLinks, HasUsableLinks, IsWrongWorld, WrongLinks, WrongWorldUse, LostLink}
 use Rattle.wit_externs.specs.SideMembers.{externs_view, extern_view, borrowed_on, link_view}
 use Rattle.wit_externs.specs.Links.{bare_places, AreRightLinks}
 use Rattle.wit_externs.specs.declared.borrowed.PathTarget.{PathTarget}

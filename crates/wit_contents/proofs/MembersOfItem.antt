@@ -16,14 +16,14 @@ use Rattle.wit_syntax.specs.Source.{Item, address, scope_names}
 use Rattle.wit_syntax.proofs.Inline.{length-inline_after}
 use Rattle.wit_syntax.proofs.Refusing.{refused_weaker}
 use Rattle.wit_arena.specs.Resolving.{ResolvedScope, Names, Required, env_of}
-use Rattle.wit_arena.specs.Resolved.{AddsSides, IsWrongInside}
+use Rattle.wit_arena.specs.ResolvedArenas.{AddsSides, IsWrongInside}
 use Rattle.wit_refusals.specs.NameScopes.{Name}
 use Rattle.wit_rules.specs.declared.function_scope.FunctionScope.{FunctionScope}
 use Rattle.wit_rules.specs.Signatures.{IsWrongFunctionAmong, functions_view}
 use Rattle.wit_signatures.specs.ForeignName.{name_of_id}
 use Rattle.wit_externs.specs.declared.borrowed.BorrowedExtern.{BorrowedExtern}
 use Rattle.wit_externs.specs.SideMembers.{externs_view}
-use Rattle.wit_scopes.specs.Borrowed.{Borrowed as BorrowedName}
+use Rattle.wit_scopes.specs.BorrowedNames.{Borrowed as BorrowedName}
 use Rattle.wit_uses.specs.NewRequirements.{Appends}
 use Rattle.wit_contents.specs.Members.{IsWrongExtern, IsWrongMembers, ExternMember, FunctionMember, InlineMember, WrongExtern, WrongFunction, WrongInside}
 use Rattle.wit_uses.proofs.ItemSides.{HasMembers}

@@ -9,15 +9,15 @@ use Rattle.wit_model.specs.declared.interface.Interface.{Interface}
 use Rattle.wit_syntax.specs.Fault.{Fault}
 use Rattle.wit_syntax.specs.Function.{SourceFunction, functions}
 use Rattle.wit_syntax.specs.Sides.{SideItem, inline_items, item_function, item_inline, on_side, side_items}
-use Rattle.wit_syntax.specs.Signature.{IsUnpairedSetter}
+use Rattle.wit_syntax.specs.SignatureRules.{IsUnpairedSetter}
 use Rattle.wit_syntax.specs.Source.{Item, address}
 use Rattle.wit_syntax.proofs.Legal.{functions_items}
 use Rattle.wit_arena.specs.Resolving.{ResolvedScope, Names, Required}
-use Rattle.wit_arena.specs.Resolved.{AddsSides, AreLegalSides, AreSoundScopes}
+use Rattle.wit_arena.specs.ResolvedArenas.{AddsSides, AreLegalSides, AreSoundScopes}
 use Rattle.wit_externs.specs.declared.borrowed.BorrowedExtern.{BorrowedExtern}
 use Rattle.wit_externs.specs.SideMembers.{externs_view}
 use Rattle.wit_externs.proofs.NoSetters.{none_there}
-use Rattle.wit_scopes.specs.Borrowed.{Borrowed as BorrowedName}
+use Rattle.wit_scopes.specs.BorrowedNames.{Borrowed as BorrowedName}
 use Rattle.wit_uses.specs.NewRequirements.{Appends}
 use Rattle.wit_contents.proofs.MembersOfItem.{member_count}
 use Rattle.wit_uses.proofs.ItemSides.{HasMembers}

@@ -17,7 +17,7 @@ use Rattle.wit_syntax.specs.Broken.{IsBrokenScope, IsSetterAlone}
 use Rattle.wit_syntax.specs.Fault.{Fault}
 use Rattle.wit_syntax.specs.Function.{functions}
 use Rattle.wit_syntax.specs.Repeats.{AllDiffer}
-use Rattle.wit_syntax.specs.Scope.{in_turn, includes}
+use Rattle.wit_syntax.specs.ScopeTables.{in_turn, includes}
 use Rattle.wit_syntax.specs.Sides.{IsBrokenSides, SideItem, inline_items, item_inline, side_items}
 use Rattle.wit_syntax.specs.Metadata.{IsBrokenStability}
 use Rattle.wit_syntax.specs.Source.{Item, ScopeName, address, local_id, scope_names, about, declared_metadata}
@@ -25,7 +25,7 @@ use Rattle.wit_syntax.proofs.Inline.{length-inline_after}
 use Rattle.wit_syntax.proofs.Lists.{at_back}
 use Rattle.wit_syntax.proofs.Turns.{in_turn_distinct}
 use Rattle.wit_arena.specs.Resolving.{Names, Required, resolved_scopes}
-use Rattle.wit_arena.specs.Resolved.{AddsSides, AddsWorld, AreLegalSides, AreSoundScopes, IsBrokenItemStability, IsNameless, OfInclude, OwnStability, interfaces_at, worlds_at}
+use Rattle.wit_arena.specs.ResolvedArenas.{AddsSides, AddsWorld, AreLegalSides, AreSoundScopes, IsBrokenItemStability, IsNameless, OfInclude, OwnStability, interfaces_at, worlds_at}
 use Rattle.wit_arena.specs.SideItems.{AreSideItems, settled}
 use Rattle.wit_arena.specs.Whole.{AreIncludes, type_imports}
 use Rattle.wit_externs.specs.SideMembers.{externs_view}
@@ -41,7 +41,7 @@ use Rattle.wit_contents.specs.declared.world.WorldParts.{WorldParts}
 use Rattle.wit_contents.specs.BetweenWorlds.{AreWorldParts, IsAddedWorld, arenas}
 use Rattle.wit_links.specs.Includes.{AreStable}
 use Rattle.wit_world_sides.specs.Settled.{none_of}
-use Rattle.wit_world_sides.specs.Sides.{entries_on}
+use Rattle.wit_world_sides.specs.FilledSides.{entries_on}
 use Rattle.wit_contents.specs.Members.{AreConsecutive}
 use Rattle.wit_links.proofs.Leading.{links_wider}
 use Rattle.wit_world_sides.proofs.SideKeys.{AreMade}

@@ -11,7 +11,7 @@ use Rattle.wit_syntax.specs.Sides.{inline_items, with_inline}
 use Rattle.wit_syntax.specs.Source.{Item, address}
 use Rattle.wit_syntax.proofs.Lists.{at_split}
 use Rattle.wit_arena.specs.Resolving.{Required}
-use Rattle.wit_arena.specs.Resolved.{AddsEach, AddsWorld, AddsWorlds, AreLegalSides, AreSoundScopes, prefix_worlds}
+use Rattle.wit_arena.specs.ResolvedArenas.{AddsEach, AddsWorld, AddsWorlds, AreLegalSides, AreSoundScopes, prefix_worlds}
 use Rattle.wit_uses.specs.NewRequirements.{Appends}
 use Rattle.wit_contents.specs.BetweenWorlds.{arenas}
 

@@ -10,9 +10,9 @@ use Rattle.wit_syntax.specs.Fault.{Fault}
 use Rattle.wit_syntax.specs.Sides.{FoldedTwice}
 use Rattle.wit_syntax.specs.Source.{Item, scope_names}
 use Rattle.wit_arena.specs.Resolving.{ResolvedScope, Names, Required}
-use Rattle.wit_arena.specs.Resolved.{IsWrongWorld, WrongInline, WrongWorldSides, UnpairedOnSide}
+use Rattle.wit_arena.specs.ResolvedArenas.{IsWrongWorld, WrongInline, WrongWorldSides, UnpairedOnSide}
 use Rattle.wit_externs.specs.declared.borrowed.BorrowedExtern.{BorrowedExtern}
-use Rattle.wit_scopes.specs.Borrowed.{Borrowed as BorrowedName}
+use Rattle.wit_scopes.specs.BorrowedNames.{Borrowed as BorrowedName}
 use Rattle.wit_item_entries.specs.AddedNames.{AddsTurn}
 use Rattle.wit_item_entries.proofs.ScopeFunctions.{turn_added, wrong_among, wrong_function}
 use Rattle.wit_item_entries.proofs.WrongNames.{wrong_world}

@@ -9,7 +9,7 @@ use Rattle.wit_model.specs.declared.foreign.ForeignItems.{ForeignItems}
 use Rattle.wit_model.specs.declared.interface.Interface.{Interface}
 use Rattle.wit_model.specs.declared.world.World.{World}
 use Rattle.wit_syntax.specs.Source.{Item, all_items, first_foreign_uses}
-use Rattle.wit_syntax.specs.Scope.{in_order, item_rows, interfaces_of, worlds_of, uses as uses_of}
+use Rattle.wit_syntax.specs.ScopeTables.{in_order, item_rows, interfaces_of, worlds_of, uses as uses_of}
 use Rattle.wit_syntax.specs.Sides.{with_inline}
 use Rattle.wit_syntax.specs.Fault.{Fault}
 use Rattle.wit_syntax.specs.Metadata.{IsBrokenMetadata}
@@ -17,7 +17,7 @@ use Rattle.wit_syntax.specs.Broken.{IsBrokenNames}
 use Rattle.wit_syntax.specs.Foreign.{visited, foreign_interfaces, foreign_packages, foreign_worlds}
 use Rattle.wit_arena.specs.Resolving.{Required}
 use Rattle.wit_arena.specs.Whole.{dep}
-use Rattle.wit_arena.specs.Resolved.{WorldArenas, prefix_worlds, AddsForeign, AddsInterfaces, AddsWorlds, AreLegalSides, AreSoundScopes, AreUsableLinks, AreUsableUses, HaveLegalStability}
+use Rattle.wit_arena.specs.ResolvedArenas.{WorldArenas, prefix_worlds, AddsForeign, AddsInterfaces, AddsWorlds, AreLegalSides, AreSoundScopes, AreUsableLinks, AreUsableUses, HaveLegalStability}
 
 -- after what comes first, the items of files were added in the least dependency-first order of their table, all interfaces before all
 -- worlds, and after all interfaces those that are written in worlds; no path of a `use`, of an import or of an export leads to nothing or to a

@@ -12,7 +12,7 @@ use Rattle.wit_model.specs.declared.world.WorldKey.{WorldKey}
 use Rattle.wit_model.specs.declared.world.WorldItem.{WorldItem}
 use Rattle.wit_syntax.specs.Address.{Address}
 use Rattle.wit_syntax.specs.Source.{address, Item, scope_names, declared_metadata}
-use Rattle.wit_syntax.specs.Scope.{in_turn, includes}
+use Rattle.wit_syntax.specs.ScopeTables.{in_turn, includes}
 use Rattle.wit_syntax.specs.Broken.{IsSetterAlone}
 use Rattle.wit_syntax.specs.Fault.{Fault}
 use Rattle.wit_syntax.specs.Function.{name_types}
@@ -20,11 +20,11 @@ use Rattle.wit_syntax.specs.Shape.{all_handles}
 use Rattle.std.specs.List.{flat_map}
 use Rattle.wit_syntax.specs.Metadata.{Metadata}
 use Rattle.wit_syntax.specs.Sides.{inline_items, side_items}
-use Rattle.wit_arena.specs.Package.{IsWorld}
+use Rattle.wit_arena.specs.UnfoldedTypes.{IsWorld}
 use Rattle.wit_arena.specs.SideItems.{AreSideItems, settled}
 use Rattle.wit_arena.specs.Whole.{type_imports, AreIncludes}
 use Rattle.wit_arena.specs.Resolving.{Names, env_of, resolved_scopes, Required, AreEnded}
-use Rattle.wit_arena.specs.Resolved.{interfaces_at, worlds_at, AddsScope, AddsSides, WorldArenas}
+use Rattle.wit_arena.specs.ResolvedArenas.{interfaces_at, worlds_at, AddsScope, AddsSides, WorldArenas}
 use Rattle.wit_items.specs.SourceItems.{AreOf}
 use Rattle.wit_contents.specs.declared.world.WorldParts.{WorldParts}
 

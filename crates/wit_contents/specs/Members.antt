@@ -12,7 +12,7 @@ use Rattle.wit_syntax.specs.Function.{functions}
 use Rattle.wit_syntax.specs.Sides.{IsFoldedTwice, inline_item, inline_items, names_on, side_items}
 use Rattle.wit_syntax.specs.Source.{Item, ScopeName, address, scope_names}
 use Rattle.wit_arena.specs.Resolving.{ResolvedScope, Names, Required, env_of}
-use Rattle.wit_arena.specs.Resolved.{AddsInterface, IsWrongInside}
+use Rattle.wit_arena.specs.ResolvedArenas.{AddsInterface, IsWrongInside}
 use Rattle.wit_refusals.specs.NameScopes.{Name}
 use Rattle.wit_entries.specs.Requiring.{IsExtended}
 use Rattle.wit_rules.specs.declared.function_scope.FunctionScope.{FunctionScope}
@@ -23,7 +23,7 @@ use Rattle.wit_externs.specs.declared.borrowed.BorrowedExtern.TheVariants as bor
 use Rattle.wit_externs.specs.declared.borrowed.BorrowedInline.{BorrowedInline}
 use Rattle.wit_externs.specs.SideMembers.{extern_view, externs_view}
 use Rattle.wit_externs.specs.Links.{IsWrongAmong}
-use Rattle.wit_scopes.specs.Borrowed.{name_view}
+use Rattle.wit_scopes.specs.BorrowedNames.{name_view}
 use Rattle.wit_items.specs.declared.items.ItemScope.{ItemScope}
 use Rattle.wit_uses.specs.NewRequirements.{Appends}
 

@@ -1,6 +1,6 @@
 //! What the files of a package make: its arenas, and what it names of other packages.
 ghost use Rattle.std.specs.Prelude.{◌≡◌, Ok, [], map, IfOk, IfErr};
-ghost use Rattle.wit_type_tree.specs.Refusal.{IsAllocationFailure};
+ghost use Rattle.wit_type_tree.specs.RefusalText.{IsAllocationFailure};
 ghost use Rattle.wit_syntax.specs.Fault.{Fault};
 ghost use Rattle.wit_syntax.specs.Source.{first_foreign_uses};
 ghost use Rattle.wit_syntax.specs.Broken.{IsBrokenNames, IsBroken, Refused};

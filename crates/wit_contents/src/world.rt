@@ -1,20 +1,20 @@
 //! Declared worlds.
 ghost use Rattle.std.specs.Prelude.{◌≡◌, ◌<◌, ◌≤◌, ◌+◌, ◌++◌, [], List, All, true, length, IfOk, IfErr, OnOk, map};
-ghost use Rattle.wit_type_tree.specs.Refusal.{IsAllocationFailure};
+ghost use Rattle.wit_type_tree.specs.RefusalText.{IsAllocationFailure};
 ghost use Rattle.wit_syntax.specs.Address.{Address};
 ghost use Rattle.wit_syntax.specs.Source.{address, is_world, about, declared_metadata};
-ghost use Rattle.wit_syntax.specs.Scope.{in_order, part_includes, worlds_of};
+ghost use Rattle.wit_syntax.specs.ScopeTables.{in_order, part_includes, worlds_of};
 ghost use Rattle.wit_syntax.specs.Fault.{Fault};
 ghost use Rattle.wit_syntax.specs.Sides.{inline_items, with_inline};
 ghost use Rattle.wit_syntax.specs.Broken.{Refused};
 ghost use Rattle.wit_types.specs.declared.types.TypeOwner.TheVariants.{World as WorldOwner};
 ghost use Rattle.wit_arena.specs.Resolving.{IsWorldIndex};
-ghost use Rattle.wit_arena.specs.Resolved.{worlds_at, AddsWorld, AddsWorlds, AreLegalSides, AreSoundScopes, AreUsableLinks, HasUsableLinks, IsBrokenItemStability, HaveLegalStability, IsWrongWorld, IsWrongWorldNow, prefix_worlds};
+ghost use Rattle.wit_arena.specs.ResolvedArenas.{worlds_at, AddsWorld, AddsWorlds, AreLegalSides, AreSoundScopes, AreUsableLinks, HasUsableLinks, IsBrokenItemStability, HaveLegalStability, IsWrongWorld, IsWrongWorldNow, prefix_worlds};
 ghost use Rattle.wit_items.specs.declared.metadata.ItemMetadata.{ItemMetadata as TheMetadata};
-ghost use Rattle.wit_items.specs.Items.{declared_view, item_view, others_of};
+ghost use Rattle.wit_items.specs.BorrowedItems.{declared_view, item_view, others_of};
 ghost use Rattle.wit_items.specs.SourceItems.{metadata_view, AreOf};
-ghost use Rattle.wit_item_names.specs.Interfaces.{prefix_of};
-ghost use Rattle.wit_items.specs.Interfaces.{resolved_scopes_of};
+ghost use Rattle.wit_item_names.specs.ForeignAddresses.{prefix_of};
+ghost use Rattle.wit_items.specs.ResolvedInterfaces.{resolved_scopes_of};
 ghost use Rattle.wit_uses.specs.NewRequirements.{Appends};
 ghost use Rattle.wit_links.specs.Includes.{AreStable};
 ghost use Rattle.std.specs.List.{flat_map};
@@ -41,8 +41,8 @@ use wit_tree::ParseResult;
 use wit_tree::tree::Id;
 use wit_types::{Arena, InterfacePlace, TypeOwner, WorldPlace};
 use wit_values::{Row, Text, pair_with};
-use wit_world_sides::setters::is_closed;
 use wit_world_sides::sides::{WorldSides, world_sides};
+use wit_world_sides::sides_setters::is_closed;
 
 /// What a world has but its name: what is stated of it, what its handles require of types of other
 /// packages, what it has on its sides, and its includes.

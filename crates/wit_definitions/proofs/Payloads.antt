@@ -3,12 +3,12 @@ use Rattle.std.proofs.Common.{◌≡◌, List, [], ◌∷◌, ◌++◌, Option, 
 use Rattle.std.specs.List.{cons_option}
 use Rattle.std.specs.Option.{option_or, option_to_list}
 use Rattle.wit_type_tree.specs.declared.types.Case.{Case}
-use Rattle.wit_type_tree.specs.Parts.{case_types}
+use Rattle.wit_type_tree.specs.TypeParts.{case_types}
 use Rattle.wit_types.specs.declared.types.TypeDef.{TypeDef}
 use Rattle.wit_first.specs.First.{first_in}
 use Rattle.wit_first.proofs.First.{in-append}
 use Rattle.wit_arena.specs.Resolving.{Env}
-use Rattle.wit_entries.specs.Faults.{types_fault, written_fault}
+use Rattle.wit_entries.specs.EntryFaults.{types_fault, written_fault}
 
 in_prefix : {X : Type 0} (o : Option X) (xs : List X) → cons_option o xs ≡ option_to_list o ++ xs
 in_prefix None xs = refl

@@ -1,7 +1,7 @@
 //! Bodies of definitions, as kinds of entries.
 ghost use Rattle.std.specs.Prelude.{◌≡◌, [], is_some, map, IfOk, OnOk};
 ghost use Rattle.std.specs.Option.{option_or, option_to_list};
-ghost use Rattle.wit_type_tree.specs.Parts.{field_types, case_types, body_types};
+ghost use Rattle.wit_type_tree.specs.TypeParts.{field_types, case_types, body_types};
 ghost use Rattle.wit_syntax.specs.Form.{RecordForm, FlagsForm, VariantForm, EnumForm};
 ghost use Rattle.wit_arena.specs.Kind.{kind_of, field_member, flag_member, case_member, enum_case_member, payloads};
 ghost use Rattle.wit_syntax.specs.Shape.{member, written_body, body_of, handles, all_handles};
@@ -11,8 +11,8 @@ ghost use Rattle.wit_arena.specs.Occurrences.{shapes_occurrences};
 ghost use Rattle.wit_first.specs.First.{Finds};
 ghost use Rattle.wit_first.specs.ListFaults.{flags_fault, members_fault};
 ghost use Rattle.wit_arena.specs.Resolving.{env_of, AreResolved};
-ghost use Rattle.wit_entries.specs.Faults.{body_fault, types_fault, written_fault};
-ghost use Rattle.wit_entries.specs.Reading.{AreTypes, IsOwn};
+ghost use Rattle.wit_entries.specs.EntryFaults.{body_fault, types_fault, written_fault};
+ghost use Rattle.wit_entries.specs.ResolvedForms.{AreTypes, IsOwn};
 ghost use Rattle.wit_entries.specs.Requiring.{IsExtended, Requires};
 
 use std::alloc::{AllocError, Global};

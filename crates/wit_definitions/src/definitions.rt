@@ -1,12 +1,12 @@
 //! Definitions, as named entries of the arena.
 ghost use Rattle.std.specs.Prelude.{◌≡◌, List, [], ◌∷◌, OnOk};
-ghost use Rattle.wit_type_tree.specs.Parts.{body_types};
+ghost use Rattle.wit_type_tree.specs.TypeParts.{body_types};
 ghost use Rattle.wit_syntax.specs.Address.{Address};
 ghost use Rattle.wit_syntax.specs.Shape.{all_handles};
 ghost use Rattle.wit_syntax.specs.Source.{Defined};
 ghost use Rattle.wit_first.specs.First.{Finds};
 ghost use Rattle.wit_arena.specs.Resolving.{ResolvedScope, env_of, IsStored, Defines};
-ghost use Rattle.wit_entries.specs.Faults.{definition_fault};
+ghost use Rattle.wit_entries.specs.EntryFaults.{definition_fault};
 ghost use Rattle.wit_entries.specs.Requiring.{IsExtended, Requires};
 
 use crate::bodies::resolve_body;

@@ -8,7 +8,7 @@ use Rattle.wit_syntax.specs.Form.{Form, AliasForm}
 use Rattle.wit_syntax.proofs.Lists.{at_take}
 use Rattle.wit_arena.specs.EntryEnds.{EntryEnd, part_end, kind_end, found_end, entry_end}
 use Rattle.wit_arena.specs.Kind.{kind_of}
-use Rattle.wit_entries.specs.Faults.{end_in}
+use Rattle.wit_entries.specs.EntryFaults.{end_in}
 
 -- what one way to say ends finds, another one finds that says all that the first does
 part_found : (f g : ℕ → Option EntryEnd) (parts : List Ty) (e : EntryEnd) → ((j : ℕ) → f j ≡ Some e → g j ≡ Some e) → part_end f parts ≡ Some e → part_end g parts ≡ Some e

@@ -12,7 +12,7 @@ use Rattle.wit_type_tree.specs.declared.types.«Type».TheVariants as written
 use Rattle.wit_type_tree.specs.declared.types.TypeBody.{TypeBody}
 use Rattle.wit_type_tree.specs.declared.types.TypeBody.TheVariants.{Record, Variant, Plain}
 use Rattle.wit_type_tree.specs.declared.types.TypeDef.{TypeDef as Definition}
-use Rattle.wit_type_tree.specs.Parts.{row_types, part_types, body_types}
+use Rattle.wit_type_tree.specs.TypeParts.{row_types, part_types, body_types}
 use Rattle.wit_types.specs.declared.types.TypeDef.{TypeDef}
 use Rattle.wit_syntax.specs.Bodies.{IsBrokenForm, IsBrokenType, IsBrokenBody}
 use Rattle.wit_syntax.specs.Fault.{Fault, fault, missing_type_at}
@@ -30,7 +30,7 @@ use Rattle.wit_arena.specs.Resolving.{Env, IsWrongHandle, IsWrongWord, IsWrongTy
 use Rattle.wit_arena.proofs.Ends.{entry_end-same}
 use Rattle.wit_arena.proofs.Unknown.{unknown_name}
 use Rattle.wit_arena.proofs.Written.{AreLegal, broken_here, legal_more, legal_none, legal_one, legal_whole, words-head, wrong_at, wrong_inside}
-use Rattle.wit_entries.specs.Faults.{end_in, unless_found, name_fault, end_fault, handled_fault, handle_fault, named_fault, written_fault, types_fault, body_fault, definition_fault}
+use Rattle.wit_entries.specs.EntryFaults.{end_in, unless_found, name_fault, end_fault, handled_fault, handle_fault, named_fault, written_fault, types_fault, body_fault, definition_fault}
 use Rattle.wit_entries.specs.Requiring.{IsExtended}
 
 -- a name in a handle ends at a resource, or at a type of another package: so it does in a grown arena

@@ -6,7 +6,7 @@ use Rattle.wit_values.specs.declared.span.Span.{Span}
 use Rattle.wit_type_tree.specs.declared.types.«Type».{«Type» as Written}
 use Rattle.wit_type_tree.specs.declared.types.«Type».TheVariants as written
 use Rattle.wit_type_tree.specs.declared.types.ResultTypes.{ResultTypes}
-use Rattle.wit_type_tree.specs.Parts.{ok_type, err_type, result_types, boxed_types}
+use Rattle.wit_type_tree.specs.TypeParts.{ok_type, err_type, result_types, boxed_types}
 use Rattle.wit_types.specs.declared.types.«Type».{«Type» as Ty}
 use Rattle.wit_types.specs.declared.stability.Stability.{Stability}
 use Rattle.wit_types.specs.declared.types.TypeDef.{TypeDef}
@@ -18,7 +18,7 @@ use Rattle.wit_arena.specs.Expr.{exprs_of}
 use Rattle.wit_arena.specs.Occurrences.{shapes_occurrences}
 use Rattle.wit_arena.specs.Resolving.{Env, AreResolved}
 use Rattle.wit_arena.proofs.Written.{tuple_inner, result_shapes-all}
-use Rattle.wit_entries.specs.Reading.{IsResolved, AreTypes, IsForm}
+use Rattle.wit_entries.specs.ResolvedForms.{IsResolved, AreTypes, IsForm}
 use Rattle.wit_entries.proofs.Reading.{types_one, types_then}
 
 pub types_two : (old mid new : List TypeDef) (env : Env) (given : Stability) (t u : Written) (ty uy : Ty) → IsResolved old mid env given (shape_of t) ty → IsResolved mid new env given (shape_of u) uy → AreTypes old new env given (t ∷ u ∷ []) (ty ∷ uy ∷ [])

@@ -5,7 +5,7 @@ use Rattle.wit_values.specs.declared.span.Span.{Span}
 use Rattle.wit_types.specs.declared.stability.Stability.{Stability}
 use Rattle.wit_types.specs.declared.types.TypeDef.{TypeDef}
 use Rattle.wit_types.specs.declared.types.TypeDefKind.{TypeDefKind}
-use Rattle.wit_arena.specs.Package.{At}
+use Rattle.wit_arena.specs.UnfoldedTypes.{At}
 use Rattle.wit_arena.specs.Resolving.{IsUnnamedOf, unnamed}
 use Rattle.wit_syntax.proofs.Lists.{at_either}
 use Rattle.wit_intern.specs.declared.key.InternKey.{InternKey}

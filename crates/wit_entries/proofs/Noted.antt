@@ -17,7 +17,7 @@ use Rattle.wit_arena.specs.Resolving.{ResolvedScope, Names, env_of, AreResolved,
 use Rattle.wit_syntax.specs.Shape.{body_of}
 use Rattle.wit_syntax.specs.Source.{Defined, about_name}
 use Rattle.wit_arena.proofs.DefinitionPart.{defines_one}
-use Rattle.wit_notes.specs.Metadata.{metadata_view}
+use Rattle.wit_notes.specs.BorrowedMetadata.{metadata_view}
 use Rattle.wit_notes.specs.declared.metadata.Metadata.{Metadata as Made}
 
 -- what docs and attributes say is stated of what has them

@@ -24,7 +24,7 @@ use Rattle.wit_arena.proofs.Resolving.{resolved_more, resolved_whole}
 use Rattle.wit_arena.proofs.Written.{all_exprs-append, all_occurrences-append}
 use Rattle.wit_entries.specs.declared.types.Reading.{Reading}
 use Rattle.wit_entries.specs.declared.types.Reading.TheVariants as reading
-use Rattle.wit_entries.specs.Reading.{IsResolved, AreTypes, IsLeaf, IsOwn, IsForm, IsRead, Denotes, named_kind}
+use Rattle.wit_entries.specs.ResolvedForms.{IsResolved, AreTypes, IsLeaf, IsOwn, IsForm, IsRead, Denotes, named_kind}
 
 -- the type of a name
 pub resolved_word : (es : List TypeDef) (env : Env) (given : Stability) (id : Name) (i : ℕ) → env id.name.now ≡ Some i → IsResolved es es env given (Word id) (Id i)

@@ -3,7 +3,7 @@ use Rattle.std.proofs.Common.{◌≡◌, List, [], ◌∷◌, ◌++◌, refl, sy
 use Rattle.std.proofs.lemmas.List.{append-nil}
 use Rattle.wit_type_tree.specs.declared.leaves.Id.{Id}
 use Rattle.wit_type_tree.specs.declared.types.«Type».{«Type» as Written}
-use Rattle.wit_type_tree.specs.Parts.{part_types}
+use Rattle.wit_type_tree.specs.TypeParts.{part_types}
 use Rattle.wit_types.specs.declared.types.TypeDef.{TypeDef}
 use Rattle.wit_syntax.specs.Shape.{handles, all_handles}
 use Rattle.wit_arena.specs.Resolving.{Env, Required, AreEnded}

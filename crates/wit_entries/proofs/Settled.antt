@@ -14,12 +14,12 @@ use Rattle.wit_types.specs.declared.types.«Type».{«Type» as Ty}
 use Rattle.wit_types.specs.declared.types.TypeDef.{TypeDef}
 use Rattle.wit_types.specs.declared.types.TypeDefKind.{TypeDefKind}
 use Rattle.wit_types.specs.declared.types.TypeDefKind.TheVariants as kind
-use Rattle.wit_types.specs.Types.{slots}
+use Rattle.wit_types.specs.InnerTypes.{slots}
 use Rattle.wit_arena.specs.Kind.{payloads, kind_of}
 use Rattle.wit_syntax.specs.Metadata.{first_known}
 use Rattle.wit_arena.specs.Occurrences.{stability_at}
 use Rattle.wit_syntax.proofs.Lists.{map_map}
-use Rattle.wit_entries.specs.Settled.{known, slot_stability, known_in_slots, known_in_parts}
+use Rattle.wit_entries.specs.FirstStability.{known, slot_stability, known_in_slots, known_in_parts}
 
 -- a known one is the first of all after it
 first_here : (x : Stability) (xs : List Stability) (s : Stability) → known x ≡ Some s → known (first_known (x ∷ xs)) ≡ Some s

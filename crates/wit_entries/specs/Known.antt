@@ -3,7 +3,7 @@ use Rattle.std.specs.Prelude.{◌≡◌, ◌⊎◌, ℕ, List, Option, Some, Non
 use Rattle.std.specs.Hash.FoldHasher.{initial, write, finish}
 use Rattle.std.specs.List.{fold}
 use Rattle.wit_types.specs.declared.types.TypeDef.{TypeDef}
-use Rattle.wit_arena.specs.Package.{At}
+use Rattle.wit_arena.specs.UnfoldedTypes.{At}
 use Rattle.wit_intern.specs.contracts.key.InternKeyHash.TheImpl.{hash_input-value as key_writes}
 use Rattle.wit_intern.specs.declared.key.InternKey.{InternKey}
 use Rattle.wit_intern.specs.TypeKeys.{key_of}

@@ -1,8 +1,8 @@
 pub mod Known
-pub mod Places
-pub mod Reading
-pub mod Settled
+pub mod UnnamedTypes
+pub mod ResolvedForms
+pub mod FirstStability
 pub mod EndsOfEntries
-pub mod Faults
+pub mod EntryFaults
 pub mod Requiring
 pub mod ElementTypes

@@ -1,22 +1,22 @@
 //! The types of a package, while they are made: each unnamed one once.
 ghost use Rattle.std.specs.Prelude.{◌≡◌, ◌+◌, ℕ, None, Some, [], ◌∷◌, ◌++◌, ◌↔◌, length, IsTrue, IfOk, OnOk, OnErr, IfErr, IfSome, IfNone};
-ghost use Rattle.wit_type_tree.specs.Refusal.{IsAllocationFailure};
+ghost use Rattle.wit_type_tree.specs.RefusalText.{IsAllocationFailure};
 ghost use Rattle.wit_types.specs.declared.types.TypeDef.{TypeDef};
 ghost use Rattle.wit_arena.specs.Occurrences.{settled as the_settled};
-ghost use Rattle.wit_arena.specs.Package.{At};
+ghost use Rattle.wit_arena.specs.UnfoldedTypes.{At};
 ghost use Rattle.wit_arena.specs.Resolving.{IsUnnamedOf, IsInterned, named, unnamed};
 ghost use Rattle.wit_intern.specs.TypeKeys.{key_of};
-ghost use Rattle.wit_notes.specs.Metadata.{metadata_view};
+ghost use Rattle.wit_notes.specs.BorrowedMetadata.{metadata_view};
 ghost use Rattle.wit_entries.specs.ElementTypes.{inner_of};
 ghost use Rattle.wit_entries.specs.Known.{AreKnown, IsSet};
-ghost use Rattle.wit_entries.specs.Places.{key_hashes_at, keys_at};
-ghost use Rattle.wit_entries.specs.Faults.{end_in};
+ghost use Rattle.wit_entries.specs.UnnamedTypes.{key_hashes_at, keys_at};
+ghost use Rattle.wit_entries.specs.EntryFaults.{end_in};
 ghost use Rattle.wit_entries.specs.EndsOfEntries.{EndsAt, end_means};
 ghost use Rattle.wit_entries.specs.Requiring.{IsExtended};
 
 use crate::ends::{End, add_entry, end_at};
 use crate::settling::settled;
-use crate::table::KeyTable;
+use crate::unnamed_table::KeyTable;
 use std::alloc::{AllocError, Global};
 use std::marker::Model;
 use wit_intern::InternKey;
@@ -52,7 +52,7 @@ impl Model for Entries {
     ghost use Rattle.std.specs.Prelude.{List};
     ghost use Rattle.wit_types.specs.declared.types.TypeDef.{TypeDef};
     ghost use Rattle.wit_entries.specs.Known.{AreKnown};
-    ghost use Rattle.wit_entries.specs.Places.{key_hashes_at, keys_at};
+    ghost use Rattle.wit_entries.specs.UnnamedTypes.{key_hashes_at, keys_at};
     ghost use Rattle.wit_entries.specs.EndsOfEntries.{AreAsStated};
 
     ghost Value = { List TypeDef };

@@ -6,5 +6,5 @@ pub mod entries;
 pub mod names;
 pub mod scope;
 mod settling;
-mod table;
 pub mod types;
+mod unnamed_table;

@@ -1,10 +1,10 @@
 //! Names that are written in types: what they mean, and whether a handle may name them.
 ghost use Rattle.std.specs.Prelude.{◌≡◌, ◌⊎◌, [], ◌∷◌, IfOk, OnOk, Some};
-ghost use Rattle.wit_type_tree.specs.Refusal.{IsAllocationFailure};
+ghost use Rattle.wit_type_tree.specs.RefusalText.{IsAllocationFailure};
 ghost use Rattle.wit_syntax.specs.Fault.{fault, fault_of, missing_type_at};
 ghost use Rattle.wit_first.specs.First.{Finds};
 ghost use Rattle.wit_arena.specs.Resolving.{env_of};
-ghost use Rattle.wit_entries.specs.Faults.{handle_fault, name_fault};
+ghost use Rattle.wit_entries.specs.EntryFaults.{handle_fault, name_fault};
 ghost use Rattle.wit_entries.specs.Requiring.{Requires};
 
 use crate::ends::End;

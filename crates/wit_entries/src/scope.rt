@@ -1,8 +1,8 @@
 //! The names of a scope, while it is resolved.
 ghost use Rattle.std.specs.Prelude.{◌≡◌, OnOk, IfErr};
-ghost use Rattle.wit_type_tree.specs.Refusal.{IsAllocationFailure};
+ghost use Rattle.wit_type_tree.specs.RefusalText.{IsAllocationFailure};
 ghost use Rattle.wit_arena.specs.Resolving.{IsAdded};
-ghost use Rattle.wit_notes.specs.Metadata.{metadata_view};
+ghost use Rattle.wit_notes.specs.BorrowedMetadata.{metadata_view};
 ghost use Rattle.wit_entries.specs.Requiring.{IsExtended};
 
 use crate::entries::Entries;

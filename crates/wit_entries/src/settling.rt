@@ -1,12 +1,12 @@
 //! The stability of an unnamed type: that of the definition that it is in, or of its parts.
 ghost use Rattle.std.specs.Prelude.{◌≡◌, IfOk};
 ghost use Rattle.std.specs.Option.{option_copied};
-ghost use Rattle.wit_types.specs.Types.{handled};
+ghost use Rattle.wit_types.specs.InnerTypes.{handled};
 ghost use Rattle.wit_arena.specs.Occurrences.{stability_at, settled as the_settled};
-ghost use Rattle.wit_entries.specs.Settled.{known as the_known, slot_stability, known_in_slots, known_in_parts};
+ghost use Rattle.wit_entries.specs.FirstStability.{known as the_known, slot_stability, known_in_slots, known_in_parts};
 
 use std::alloc::AllocError;
-use wit_types::slots::{slot, slot_count};
+use wit_types::type_slots::{slot, slot_count};
 use wit_types::{Arena, Handle, Stability, Type, TypeDef, TypeDefKind, TypeId, TypePlace};
 
 /// A stability, where it is known.

@@ -1,14 +1,14 @@
 //! Written types, as types of the arena.
 ghost use Rattle.std.specs.Prelude.{◌≡◌, ◌++◌, IfOk, IfErr, OnOk, is_some};
 ghost use Rattle.std.specs.Option.{option_to_list};
-ghost use Rattle.wit_type_tree.specs.Refusal.{IsAllocationFailure};
-ghost use Rattle.wit_type_tree.specs.Parts.{ok_type, err_type, result_types, boxed_types};
+ghost use Rattle.wit_type_tree.specs.RefusalText.{IsAllocationFailure};
+ghost use Rattle.wit_type_tree.specs.TypeParts.{ok_type, err_type, result_types, boxed_types};
 ghost use Rattle.wit_syntax.specs.Node.{primitive_type as the_primitive_type};
 ghost use Rattle.wit_syntax.specs.Shape.{shape_of, handles, all_handles};
 ghost use Rattle.wit_first.specs.First.{Finds};
 ghost use Rattle.wit_arena.specs.Resolving.{env_of};
-ghost use Rattle.wit_entries.specs.Faults.{either_fault, types_fault, written_fault};
-ghost use Rattle.wit_entries.specs.Reading.{IsResolved, AreTypes, IsLeaf, IsList, IsRead, Denotes, named_kind as the_named_kind};
+ghost use Rattle.wit_entries.specs.EntryFaults.{either_fault, types_fault, written_fault};
+ghost use Rattle.wit_entries.specs.ResolvedForms.{IsResolved, AreTypes, IsLeaf, IsList, IsRead, Denotes, named_kind as the_named_kind};
 ghost use Rattle.wit_entries.specs.Requiring.{IsExtended, Requires};
 
 use crate::entries::Entries;

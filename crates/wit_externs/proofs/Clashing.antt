@@ -19,9 +19,9 @@ use Rattle.wit_syntax.specs.Sides.{role_side, names_on, SideItem, item_side, ite
 use Rattle.wit_syntax.proofs.Lists.{at_prefix, at_back}
 use Rattle.wit_syntax.proofs.Addresses.{side_itself}
 use Rattle.wit_refusals.specs.NameScopes.{Name, AreUsed, IsDefinedAgain}
-use Rattle.wit_refusals.specs.Scope.{HasName}
-use Rattle.wit_sides.specs.Sides.{only_on}
-use Rattle.wit_rules.specs.Borrowed.{across_of}
+use Rattle.wit_refusals.specs.KeyedNames.{HasName}
+use Rattle.wit_sides.specs.SideNames.{only_on}
+use Rattle.wit_rules.specs.BorrowedFunctions.{across_of}
 use Rattle.wit_signatures.specs.ForeignName.{name_key, IsTwiceAmong}
 use Rattle.wit_externs.specs.Clash.{item_names, names_of_items, IsCrossedAmong, IsClash, Folded, Crossed, IsCrossed}
 use Rattle.wit_externs.proofs.Named.{again_twice, twice_prefix, keys_more}

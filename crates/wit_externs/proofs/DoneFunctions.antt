@@ -21,15 +21,15 @@ use Rattle.wit_syntax.specs.Fault.{Fault}
 use Rattle.wit_syntax.specs.Broken.{Refused}
 use Rattle.wit_syntax.specs.Function.{SourceFunction, written_types}
 use Rattle.wit_syntax.specs.Sides.{SideItem, SideFunction, item_function}
-use Rattle.wit_syntax.specs.Signature.{IsBrokenFunction}
+use Rattle.wit_syntax.specs.SignatureRules.{IsBrokenFunction}
 use Rattle.wit_arena.specs.Resolving.{Env, Required, env_of, AddsFunctions}
-use Rattle.wit_arena.specs.Resolved.{IsNameless}
+use Rattle.wit_arena.specs.ResolvedArenas.{IsNameless}
 use Rattle.wit_arena.proofs.AddingFunctions.{functions_append}
 use Rattle.wit_syntax.proofs.Lists.{at_either}
 use Rattle.wit_syntax.proofs.Refusing.{refused_weaker}
 use Rattle.wit_rules.specs.declared.function_scope.FunctionScope.{FunctionScope}
 use Rattle.wit_rules.specs.declared.borrowed.BorrowedFunction.{BorrowedFunction}
-use Rattle.wit_rules.specs.Borrowed.{function_view}
+use Rattle.wit_rules.specs.BorrowedFunctions.{function_view}
 use Rattle.wit_entries.specs.Requiring.{IsExtended, Requires}
 use Rattle.wit_rules.specs.Signatures.{functions_view, IsScopeOf, IsWrongFunction, IsWrongFunctionAmong}
 use Rattle.wit_signatures.specs.ForeignName.{name_of_function, name_of_made}

@@ -7,15 +7,15 @@ use Rattle.wit_syntax.specs.ExternPart.{same_side}
 use Rattle.wit_syntax.specs.Fault.{Fault}
 use Rattle.wit_syntax.specs.Function.{SourceFunction}
 use Rattle.wit_syntax.specs.Sides.{item_function, on_side, role_side}
-use Rattle.wit_syntax.specs.Signature.{IsUnpairedSetter}
+use Rattle.wit_syntax.specs.SignatureRules.{IsUnpairedSetter}
 use Rattle.wit_syntax.proofs.Found.{at_contains}
 use Rattle.wit_functions.proofs.InTurn.{list_any-filter_none}
 use Rattle.wit_functions.proofs.Walk.{list_any-found}
 use Rattle.wit_rules.specs.declared.borrowed.BorrowedFunction.{BorrowedFunction}
-use Rattle.wit_rules.specs.Borrowed.{function_view}
+use Rattle.wit_rules.specs.BorrowedFunctions.{function_view}
 use Rattle.wit_externs.specs.declared.borrowed.BorrowedExtern.{BorrowedExtern}
 use Rattle.wit_externs.specs.SideMembers.{extern_view, externs_view}
-use Rattle.wit_externs.specs.Setters.{is_form, sets}
+use Rattle.wit_externs.specs.SetterFunctions.{is_form, sets}
 
 -- so none of them is one without its getter
 pub none_alone : (fns : List SourceFunction) → list_any sets fns ≡ false → (f : Fault) → IsUnpairedSetter fns f → ⊥

@@ -14,7 +14,7 @@ use Rattle.wit_syntax.proofs.Kept.{kept_at, kept_has}
 use Rattle.wit_syntax.proofs.Lists.{at_back, at_split, flat_map_at, flat_map_has, map_at}
 use Rattle.wit_refusals.specs.NameScopes.{Name}
 use Rattle.wit_rules.specs.declared.borrowed.BorrowedFunction.{BorrowedFunction}
-use Rattle.wit_rules.specs.Borrowed.{function_view}
+use Rattle.wit_rules.specs.BorrowedFunctions.{function_view}
 use Rattle.wit_signatures.specs.ForeignName.{name_of_function, name_of_id}
 use Rattle.wit_externs.specs.Clash.{all_on, item_names, names_of_items}
 use Rattle.wit_externs.specs.SideMembers.{extern_view, externs_view}

@@ -9,7 +9,7 @@ use Rattle.wit_syntax.specs.Fault.{Fault, fault}
 use Rattle.wit_syntax.specs.Repeats.{AllDiffer}
 use Rattle.wit_syntax.specs.Sides.{SideItem, SideFunction, SideLink, SideInline, items_on, names_on, IsExternPart}
 use Rattle.wit_refusals.specs.NameScopes.{Name}
-use Rattle.wit_refusals.specs.Scope.{HasName}
+use Rattle.wit_refusals.specs.KeyedNames.{HasName}
 use Rattle.wit_signatures.specs.ForeignName.{name_key, name_of_id, name_of_function, IsTwiceAmong}
 
 -- the name that it has: an interface may have none of its own

@@ -2,5 +2,5 @@ pub mod SideMembers
 pub mod Clash
 pub mod Links
 pub mod Next
-pub mod Setters
+pub mod SetterFunctions
 pub mod SideWords

@@ -4,7 +4,7 @@ use Rattle.std.specs.List.{filter}
 use Rattle.wit_tree.specs.declared.tree.WorldSide.{WorldSide}
 use Rattle.wit_syntax.specs.ExternPart.{same_side}
 use Rattle.wit_syntax.specs.Sides.{Link, SideItem, SideFunction, SideLink, SideInline, item_side}
-use Rattle.wit_rules.specs.Borrowed.{function_view}
+use Rattle.wit_rules.specs.BorrowedFunctions.{function_view}
 use Rattle.wit_externs.specs.declared.borrowed.BorrowedLink.{BorrowedLink}
 use Rattle.wit_externs.specs.declared.borrowed.BorrowedExtern.{BorrowedExtern}
 use Rattle.wit_externs.specs.declared.borrowed.BorrowedExtern.TheVariants as borrowed

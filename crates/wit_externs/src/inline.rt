@@ -6,7 +6,7 @@ ghost use Rattle.wit_syntax.specs.Fault.{Fault};
 ghost use Rattle.wit_syntax.specs.Metadata.{IsBrokenMetadata};
 ghost use Rattle.wit_syntax.specs.Repeats.{AllDiffer};
 ghost use Rattle.wit_syntax.specs.Sides.{items_on};
-ghost use Rattle.wit_sides.specs.Sides.{defined_on};
+ghost use Rattle.wit_sides.specs.SideNames.{defined_on};
 ghost use Rattle.wit_signatures.specs.ForeignName.{name_key};
 ghost use Rattle.wit_externs.specs.declared.borrowed.BorrowedExtern.TheVariants.{Inline};
 ghost use Rattle.wit_externs.specs.SideMembers.{extern_view};

@@ -1,7 +1,7 @@
 -- The answer of an outcome, and what a call gives or refuses.
 use Rattle.std.proofs.Common.{◌≡◌, ℕ, List, Result, Ok, Err}
 use Rattle.std.specs.Prelude.{IfErr, IfOk, MatchResult}
-use Rattle.wit_json.specs.Tokens.{json_text}
+use Rattle.wit_json.specs.ValueTokens.{json_text}
 use Rattle.wit_outcome.specs.declared.outcome.Outcome.{Outcome}
 use Rattle.wit_outcome.specs.declared.outcome.Outcome.TheVariants as outcome
 use Rattle.wit_outcome.specs.Outcome.{IsOutcome, outcome_json}

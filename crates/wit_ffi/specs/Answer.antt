@@ -3,7 +3,7 @@ use Rattle.std.specs.Prelude.{◌≡◌, ℕ, List, [], IsUtf8}
 use Rattle.wit_bundle.specs.Apart.{AreParts}
 use Rattle.wit_bundle.specs.Bundle.{sources_of}
 use Rattle.wit_groups.specs.declared.group.UnresolvedPackageGroup.{UnresolvedPackageGroup}
-use Rattle.wit_json.specs.Tokens.{json_text}
+use Rattle.wit_json.specs.ValueTokens.{json_text}
 use Rattle.wit_outcome.specs.declared.outcome.Outcome.{Outcome}
 use Rattle.wit_outcome.specs.declared.outcome.Outcome.TheVariants as outcome
 use Rattle.wit_outcome.specs.declared.plain.Plain.{Plain}

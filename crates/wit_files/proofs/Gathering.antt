@@ -15,7 +15,7 @@ use Rattle.wit_graph.specs.Table.{Row, entry_row, rows, place_of, target, IsOrde
 use Rattle.wit_graph.proofs.Rows.{key_eq, rows-insert}
 use Rattle.wit_graph.proofs.Tables.{place_by_key}
 use Rattle.wit_syntax.specs.Source.{TopName, top_names, declared_items, Item, file_items, all_items, item_name}
-use Rattle.wit_syntax.specs.Scope.{item_row, item_rows}
+use Rattle.wit_syntax.specs.ScopeTables.{item_row, item_rows}
 use Rattle.wit_syntax.specs.Fault.{Fault, missing_at, item_word}
 use Rattle.wit_syntax.specs.Broken.{IsBrokenItems, DuplicateItem, DuplicateTopName, MissingItem, CyclicItem, IsBrokenNames, Items, ForeignStability, TopUse}
 use Rattle.wit_syntax.specs.Foreign.{foreign_visits}

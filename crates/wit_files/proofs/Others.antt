@@ -33,7 +33,7 @@ use Rattle.wit_syntax.proofs.Lists.{map_at}
 use Rattle.wit_syntax.proofs.Addresses.{same_address-from, same_address-equal}
 use Rattle.wit_syntax.proofs.Firsts.{firsts_at, firsts_has, firsts-more}
 use Rattle.wit_files.specs.Visits.{Visit, part_visits, world_part_visits, kind_visits, side_part_visits, item_visits, visits}
-use Rattle.wit_files.specs.Foreign.{wants_world, foreign_view, key_release, key_address, AreItemsOf}
+use Rattle.wit_files.specs.ForeignPaths.{wants_world, foreign_view, key_release, key_address, AreItemsOf}
 use Rattle.wit_files.specs.declared.foreign.ForeignVisit.{ForeignVisit as BorrowedVisit}
 use Rattle.wit_files.specs.declared.foreign.ForeignItems.{ForeignItems}
 use Rattle.wit_files.specs.declared.foreign.VersionKey.{VersionKey}

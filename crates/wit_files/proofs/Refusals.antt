@@ -3,9 +3,9 @@ use Rattle.std.proofs.Common.{◌≡◌, ◌⊎◌, ℕ, List, Some, inl, inr, s
 use Rattle.std.specs.Prelude.{slice_get}
 use Rattle.wit_type_tree.specs.declared.leaves.Id.{Id}
 use Rattle.wit_type_tree.specs.declared.error.ParseError.{ParseError}
-use Rattle.wit_type_tree.specs.Refusal.{IsAllocationFailure}
+use Rattle.wit_type_tree.specs.RefusalText.{IsAllocationFailure}
 use Rattle.wit_graph.specs.Table.{Row, IsEdge}
-use Rattle.wit_graph.specs.Faults.{IsFirstMissing, IsFirstCyclic}
+use Rattle.wit_graph.specs.TableFaults.{IsFirstMissing, IsFirstCyclic}
 use Rattle.wit_syntax.specs.Fault.{Fault, fault_of}
 use Rattle.wit_first.specs.OrderFaults.{IsOrderFault}
 

@@ -5,10 +5,10 @@ use Rattle.wit_tree.specs.declared.tree.PackageFile.{PackageFile}
 use Rattle.wit_graph.specs.Table.{rows, target, IsOrder}
 use Rattle.wit_syntax.specs.Address.{ForeignNamed, same_address}
 use Rattle.wit_syntax.specs.Source.{Target, Local, Foreign, TopName, top_names, all_items, is_world}
-use Rattle.wit_syntax.specs.Scope.{item_rows}
+use Rattle.wit_syntax.specs.ScopeTables.{item_rows}
 use Rattle.wit_syntax.specs.Foreign.{visited, foreign_visits, foreign_items}
 use Rattle.wit_top_names.specs.Tops.{Named, AreNamed}
-use Rattle.wit_files.specs.Foreign.{foreign_view, AreItemsOf}
+use Rattle.wit_files.specs.ForeignPaths.{foreign_view, AreItemsOf}
 use Rattle.wit_files.specs.declared.file_names.Found.{Found}
 use Rattle.wit_files.specs.declared.file_names.Found.TheVariants.{Item as ItemAt, Foreign as ForeignAt}
 use Rattle.wit_files.specs.declared.tables.Tables.{Tables}

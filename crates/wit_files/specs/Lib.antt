@@ -1,4 +1,4 @@
-pub mod Foreign
+pub mod ForeignPaths
 pub mod FileNames
 pub mod Visits
 pub mod Laws

@@ -2,12 +2,12 @@
 ghost use Rattle.std.specs.Prelude.{◌≡◌, ◌<◌, Some, length, map, slice_get, IfOk};
 ghost use Rattle.wit_graph.specs.Table.{IsOrder};
 ghost use Rattle.wit_syntax.specs.Source.{leads as the_leads, all_items, is_world as is_the_world};
-ghost use Rattle.wit_syntax.specs.Scope.{item_rows};
+ghost use Rattle.wit_syntax.specs.ScopeTables.{item_rows};
 ghost use Rattle.wit_syntax.specs.Foreign.{foreign_visits as the_visits, foreign_items};
 ghost use Rattle.wit_first.specs.First.{FindsBy};
 ghost use Rattle.wit_first.specs.OrderFaults.{IsNamesFault};
 ghost use Rattle.wit_top_names.specs.Tops.{target_view};
-ghost use Rattle.wit_files.specs.Foreign.{foreign_view};
+ghost use Rattle.wit_files.specs.ForeignPaths.{foreign_view};
 ghost use Rattle.wit_files.specs.FileNames.{AreTablesOf, found_at, top_at};
 
 use crate::foreign::ForeignVisit;

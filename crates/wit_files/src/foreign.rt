@@ -5,7 +5,7 @@ ghost use Rattle.wit_syntax.specs.Foreign.{ForeignVisit as TheVisit, path_visits
 ghost use Rattle.wit_syntax.specs.Repeats.{firsts};
 ghost use Rattle.wit_first.specs.FileFaults.{visits_fault};
 ghost use Rattle.wit_first.specs.First.{Finds};
-ghost use Rattle.wit_files.specs.Foreign.{foreign_view, wants_world, key_release, key_address, AreItemsOf};
+ghost use Rattle.wit_files.specs.ForeignPaths.{foreign_view, wants_world, key_release, key_address, AreItemsOf};
 
 use crate::visit::{Visit, Wanted, visits};
 use semver::Version;

@@ -3,7 +3,7 @@ ghost use Rattle.std.specs.Prelude.{◌≡◌, ◌++◌, List, map, IfOk, OnOk};
 ghost use Rattle.std.specs.List.{flat_map};
 ghost use Rattle.wit_graph.specs.Table.{rows, IsOrder};
 ghost use Rattle.wit_syntax.specs.Source.{TopName as Top, Item, interface_part, world_part, top_names, file_items, item_name, is_world};
-ghost use Rattle.wit_syntax.specs.Scope.{use_path, include_path, item_row};
+ghost use Rattle.wit_syntax.specs.ScopeTables.{use_path, include_path, item_row};
 ghost use Rattle.wit_syntax.specs.Fault.{cyclic_at, missing_at, item_word};
 ghost use Rattle.wit_syntax.specs.Repeats.{AllDiffer};
 ghost use Rattle.wit_top_names.specs.Tops.{AreNamed, AreDeclared};

@@ -3,14 +3,14 @@ ghost use Rattle.std.specs.Prelude.{◌≡◌, ◌++◌, [], List, map, IfOk, On
 ghost use Rattle.wit_tree.specs.declared.tree.PackageFile.{PackageFile as TheFile};
 ghost use Rattle.wit_graph.specs.Table.{rows, IsOrder};
 ghost use Rattle.wit_syntax.specs.Source.{Item as TheItem, file_items, all_items, item_name, is_world as is_the_world};
-ghost use Rattle.wit_syntax.specs.Scope.{item_row, item_rows};
+ghost use Rattle.wit_syntax.specs.ScopeTables.{item_row, item_rows};
 ghost use Rattle.wit_syntax.specs.Repeats.{AllDiffer};
 ghost use Rattle.wit_syntax.specs.Foreign.{foreign_visits as the_visits};
 ghost use Rattle.wit_first.specs.FileFaults.{file_fault, file_tops_fault, files_fault, tops_fault, visits_fault};
 ghost use Rattle.wit_first.specs.First.{Finds, FindsBy, IsOr};
 ghost use Rattle.wit_first.specs.OrderFaults.{IsItemOrderFault, IsNamesFault, items_prefix, names_prefix};
 ghost use Rattle.wit_top_names.specs.Tops.{AreDeclared};
-ghost use Rattle.wit_files.specs.Foreign.{foreign_view, AreItemsOf};
+ghost use Rattle.wit_files.specs.ForeignPaths.{foreign_view, AreItemsOf};
 ghost use Rattle.wit_files.specs.FileNames.{AddsTop, AreTablesOf, AreDeclarationsOf};
 
 use crate::foreign::{ForeignItems, ForeignVisit, check_visits, foreign_visits};

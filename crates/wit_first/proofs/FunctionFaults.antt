@@ -13,7 +13,7 @@ use Rattle.wit_type_tree.specs.declared.types.«Type».TheVariants as written
 use Rattle.wit_syntax.specs.Fault.{Fault, fault}
 use Rattle.wit_syntax.specs.Function.{Role, Freestanding, Method, Static, Constructor, OnSide, SourceFunction}
 use Rattle.wit_syntax.specs.Shape.{Word}
-use Rattle.wit_syntax.specs.Signature.{ok_span, result_ok, type_span, IsWrittenAs, IsGetterGiven, IsSetterGiven, IsGetterWithoutResult, IsSetterWithResult, IsConstructorWithoutResult, IsConstructorOfOther}
+use Rattle.wit_syntax.specs.SignatureRules.{ok_span, result_ok, type_span, IsWrittenAs, IsGetterGiven, IsSetterGiven, IsGetterWithoutResult, IsSetterWithResult, IsConstructorWithoutResult, IsConstructorOfOther}
 use Rattle.wit_syntax.specs.Source.{ScopeName}
 use Rattle.wit_syntax.proofs.Names.{name_equal, name_itself}
 use Rattle.wit_first.specs.FunctionFaults.{params_fault, given_fault, getter_fault, no_result_fault, setter_fault, is_written_as, made_fault, result_fault, gives_fault}

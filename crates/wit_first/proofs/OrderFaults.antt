@@ -2,7 +2,7 @@
 use Rattle.std.proofs.Common.{◌≡◌, ◌⊎◌, ℕ, List, Option, Some, None, inl, inr, refl, sym, subst}
 use Rattle.wit_type_tree.specs.declared.leaves.Id.{Id}
 use Rattle.wit_type_tree.specs.declared.error.ParseError.{ParseError}
-use Rattle.wit_type_tree.specs.Refusal.{IsAllocationFailure}
+use Rattle.wit_type_tree.specs.RefusalText.{IsAllocationFailure}
 use Rattle.wit_graph.specs.Table.{Row}
 use Rattle.wit_syntax.specs.Broken.{IsMissingEdge, IsCyclicEdge, Refused}
 use Rattle.wit_syntax.specs.Fault.{Fault, fault_of, cyclic_at}

@@ -8,7 +8,7 @@ use Rattle.wit_type_tree.specs.declared.leaves.Id.{Id}
 use Rattle.wit_type_tree.specs.declared.types.«Type».{«Type» as Written, Tuple, None', Some', Row_of-Type, end_of-Type, more_of-Type}
 use Rattle.wit_type_tree.specs.declared.types.«Type».TheVariants as written
 use Rattle.wit_type_tree.specs.declared.types.ResultTypes.{ResultTypes, Neither, Ok', Err', Both'}
-use Rattle.wit_type_tree.specs.Parts.{result_types, row_types, part_types}
+use Rattle.wit_type_tree.specs.TypeParts.{result_types, row_types, part_types}
 use Rattle.wit_type_tree.proofs.Rows.{tuple_types}
 use Rattle.wit_syntax.specs.Fault.{Fault}
 use Rattle.wit_first.specs.First.{first_in}

@@ -12,7 +12,7 @@ use Rattle.wit_tree.specs.declared.tree.AstItem.TheVariants as ast
 use Rattle.wit_tree.specs.declared.tree.PackageFile.{PackageFile}
 use Rattle.wit_syntax.specs.Fault.{Fault, fault, missing_at, item_word}
 use Rattle.wit_syntax.specs.Foreign.{ForeignVisit}
-use Rattle.wit_syntax.specs.Scope.{needed_paths}
+use Rattle.wit_syntax.specs.ScopeTables.{needed_paths}
 use Rattle.wit_syntax.specs.Source.{TopName, top_text, Target, Local, Foreign, leads, Item, file_items, all_items, item_named}
 use Rattle.wit_first.specs.AttributeFaults.{stability_fault}
 use Rattle.wit_first.specs.First.{first_in}

@@ -10,7 +10,7 @@ use Rattle.wit_type_tree.specs.declared.types.«Type».{«Type» as Written}
 use Rattle.wit_type_tree.specs.declared.types.«Type».TheVariants as written
 use Rattle.wit_syntax.specs.Fault.{Fault, fault}
 use Rattle.wit_syntax.specs.Function.{Role, Constructor, SourceFunction}
-use Rattle.wit_syntax.specs.Signature.{ok_span, result_ok, type_span}
+use Rattle.wit_syntax.specs.SignatureRules.{ok_span, result_ok, type_span}
 use Rattle.wit_syntax.specs.Source.{ScopeName}
 
 -- a getter has a parameter, or a setter has not just one

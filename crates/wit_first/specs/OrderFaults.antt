@@ -4,11 +4,11 @@ use Rattle.std.specs.Option.{option_or}
 use Rattle.wit_type_tree.specs.declared.leaves.Id.{Id}
 use Rattle.wit_tree.specs.declared.tree.PackageFile.{PackageFile}
 use Rattle.wit_graph.specs.Table.{Row}
-use Rattle.wit_graph.specs.Faults.{IsFirstMissing, IsFirstCyclic}
+use Rattle.wit_graph.specs.TableFaults.{IsFirstMissing, IsFirstCyclic}
 use Rattle.wit_graph.specs.Laws.{AreAccepted}
 use Rattle.wit_syntax.specs.Fault.{Fault, missing_at, missing_type_at, cyclic_at, item_word, type_word}
 use Rattle.wit_syntax.specs.Foreign.{foreign_visits}
-use Rattle.wit_syntax.specs.Scope.{item_rows, rows_of}
+use Rattle.wit_syntax.specs.ScopeTables.{item_rows, rows_of}
 use Rattle.wit_syntax.specs.Source.{ScopeName}
 use Rattle.wit_first.specs.FileFaults.{files_fault, tops_fault, visits_fault}
 use Rattle.wit_first.specs.First.{IsOr}

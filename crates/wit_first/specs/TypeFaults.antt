@@ -5,7 +5,7 @@ use Rattle.wit_type_tree.specs.declared.leaves.Id.{Id}
 use Rattle.wit_type_tree.specs.declared.types.«Type».{«Type» as Written, None', Some', Row_of-Type, end_of-Type, more_of-Type}
 use Rattle.wit_type_tree.specs.declared.types.«Type».TheVariants as written
 use Rattle.wit_type_tree.specs.declared.types.ResultTypes.{ResultTypes, Neither, Ok', Err', Both'}
-use Rattle.wit_type_tree.specs.Parts.{row_types}
+use Rattle.wit_type_tree.specs.TypeParts.{row_types}
 use Rattle.wit_syntax.specs.Fault.{Fault}
 use Rattle.wit_first.specs.KeyFaults.{key_fault}
 use Rattle.wit_first.specs.ListFaults.{empty_fault}

@@ -10,7 +10,7 @@ use Rattle.wit_model.specs.declared.ast_item.AstItem.{AstItem}
 use Rattle.wit_model.specs.declared.ast_item.AstItem.TheVariants as entry
 use Rattle.wit_syntax.specs.Address.{same_package, package_of}
 use Rattle.wit_syntax.specs.Foreign.{ForeignVisit}
-use Rattle.wit_foreign.specs.declared.deps.Deps.{Deps}
+use Rattle.wit_foreign.specs.declared.package_table.Deps.{Deps}
 use Rattle.wit_foreign.specs.Kept.{table_more, interfaces_in, worlds_in, packages_of, table_in, visit_stability, row_in}
 use Rattle.wit_foreign.specs.Growing.{AreDeps}
 use Rattle.wit_foreign.proofs.Extended.{entry_next, is_known, is_named, table_in-more, is_known-lookup, packages_of-more, worlds_in-more, interfaces_in-more}

@@ -1,7 +1,7 @@
 -- The items of the visits so far.
 use Rattle.std.specs.Prelude.{◌≡◌, List, length, map}
 use Rattle.wit_syntax.specs.Foreign.{ForeignVisit}
-use Rattle.wit_foreign.specs.declared.deps.Deps.{Deps}
+use Rattle.wit_foreign.specs.declared.package_table.Deps.{Deps}
 use Rattle.wit_foreign.specs.Kept.{interfaces_in, worlds_in, packages_of, table_in}
 
 -- these are the items of visits

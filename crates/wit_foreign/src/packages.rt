@@ -7,7 +7,7 @@ ghost use Rattle.indexmap.specs.IndexMap.{insert_entry};
 ghost use Rattle.wit_syntax.specs.Address.{same_package};
 ghost use Rattle.wit_foreign.specs.Kept.{row_more, table_more};
 
-use crate::items::{Items, add_visit_of};
+use crate::package_items::{Items, add_visit_of};
 use std::alloc::{AllocError, Global};
 use wit_maps::{Table, TextTable};
 use wit_model::AstItem;

@@ -28,7 +28,7 @@ use Rattle.wit_syntax.specs.Metadata.{metadata, no_docs}
 use Rattle.wit_syntax.specs.Repeats.{firsts}
 use Rattle.wit_syntax.specs.Foreign.{ForeignVisit, visited, foreign_items, foreign_interfaces, foreign_worlds}
 use Rattle.wit_arena.specs.Occurrences.{Key, Def, keys}
-use Rattle.wit_arena.specs.Package.{IsForeignWorld}
+use Rattle.wit_arena.specs.UnfoldedTypes.{IsForeignWorld}
 use Rattle.wit_arena.specs.Whole.{place_at, owner_at, foreign_use_occurrence, HasTypes, IsForeignInterface}
 use Rattle.wit_arena.specs.Resolving.{Names, named}
 use Rattle.wit_syntax.proofs.Lists.{map_at, map_map}

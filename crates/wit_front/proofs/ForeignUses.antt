@@ -19,7 +19,7 @@ use Rattle.wit_syntax.specs.Source.{Item, TopName, path_scope, interface_part, P
 use Rattle.wit_scopes.specs.PlacedNames.{AreNamesPlaced}
 use Rattle.wit_items.specs.declared.items.Item.{Item as BorrowedItem}
 use Rattle.wit_items.specs.PlacedItems.{AreItemsPlaced}
-use Rattle.wit_items.specs.Items.{names_view}
+use Rattle.wit_items.specs.BorrowedItems.{names_view}
 use Rattle.wit_item_names.specs.InlineNames.{written_items, side_uses}
 use Rattle.wit_items.specs.InlineNames.{inside_view, names_written}
 use Rattle.wit_item_names.proofs.Written.{items_names, uses_written, names_written_in}

@@ -17,10 +17,10 @@ use Rattle.wit_syntax.specs.Repeats.{AllDiffer, firsts}
 use Rattle.wit_syntax.specs.Foreign.{ForeignVisit, visited, foreign_items}
 use Rattle.wit_arena.specs.Whole.{foreign_entry, owner_at}
 use Rattle.wit_arena.specs.Resolving.{Names, named}
-use Rattle.wit_arena.specs.Resolved.{AddsForeign}
+use Rattle.wit_arena.specs.ResolvedArenas.{AddsForeign}
 use Rattle.wit_tree.specs.declared.tree.WorldSide.TheVariants.{Imported, Exported}
 use Rattle.wit_items.specs.declared.items.Item.{Item as BorrowedItem}
-use Rattle.wit_items.specs.Items.{names_view}
+use Rattle.wit_items.specs.BorrowedItems.{names_view}
 use Rattle.wit_items.specs.InlineNames.{inside_view}
 use Rattle.wit_front.specs.declared.foreign.ForeignArenas.{ForeignArenas}
 

@@ -11,7 +11,7 @@ use Rattle.wit_names.specs.Prefix.{rest_after}
 use Rattle.wit_functions.specs.declared.function.Function.{Function}
 use Rattle.wit_functions.specs.declared.function.FunctionKind.{FunctionKind}
 use Rattle.wit_functions.specs.declared.function.FunctionKind.TheVariants as kind
-use Rattle.wit_functions.specs.Setters.{prefixes, goes_on_alike, goes_with, is_getter, is_same_text}
+use Rattle.wit_functions.specs.SettersPlaced.{prefixes, goes_on_alike, goes_with, is_getter, is_same_text}
 use Rattle.wit_functions.proofs.Names.{name_equal}
 use Rattle.wit_functions.specs.MaybeFunction.{is_setter, offered, turned, wanted}
 

@@ -4,7 +4,7 @@ use Rattle.std.proofs.Common.{subst, ◌≡◌, ℕ, suc, ◌+◌, ◌++◌, ◌
 use Rattle.std.proofs.lemmas.Bool.{cases_Bool}
 use Rattle.std.specs.List.{filter, flat_map, list_any, position_from}
 use Rattle.std.specs.Option.{option_map}
-use Rattle.wit_functions.specs.Setters.{early, others, setters_placed, with_setters}
+use Rattle.wit_functions.specs.SettersPlaced.{early, others, setters_placed, with_setters}
 
 -- e at the prefix, or directly after its getter, at this index with e in front
 abbrev pub put_at : {X : Type 0} → X → List X → Option ℕ → List X

@@ -6,7 +6,7 @@ use Rattle.std.proofs.lemmas.Slice.Eq.{bytes_eq-Decides}
 use Rattle.std.specs.Cmp.Lexicographic.{pointwise}
 use Rattle.std.specs.List.{AllByRecursion, IsDistinct, list_any, starts_with}
 use Rattle.wit_names.specs.Prefix.{rest_after}
-use Rattle.wit_functions.specs.Setters.{HaveDistinctNames, prefixes, goes_on_alike, goes_with, is_getter, is_same_text, name_in, pairs, placed, stated_names}
+use Rattle.wit_functions.specs.SettersPlaced.{HaveDistinctNames, prefixes, goes_on_alike, goes_with, is_getter, is_same_text, name_in, pairs, placed, stated_names}
 use Rattle.wit_functions.specs.declared.function.Function.{Function}
 use Rattle.wit_functions.specs.declared.function.FunctionKind.{FunctionKind}
 use Rattle.wit_functions.specs.declared.function.FunctionKind.TheVariants as kind

@@ -8,7 +8,7 @@ use Rattle.std.specs.Str.{bytes_eq}
 use Rattle.std.proofs.lemmas.Bool.{cases_Bool}
 use Rattle.std.proofs.lemmas.List.{reverse-append}
 use Rattle.wit_functions.specs.declared.function.Function.{Function}
-use Rattle.wit_functions.specs.Setters.{early, is_same_text, name_in, others}
+use Rattle.wit_functions.specs.SettersPlaced.{early, is_same_text, name_in, others}
 use Rattle.wit_functions.proofs.Names.{name_cases, name_equal, name_itself}
 use Rattle.wit_functions.specs.MaybeFunction.{goes, offered, wanted, HaveOwnNames}
 use Rattle.wit_functions.specs.Parted.{known, IsParted}

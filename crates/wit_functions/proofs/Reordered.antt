@@ -7,8 +7,8 @@ use Rattle.std.specs.Cmp.Lexicographic.{pointwise}
 use Rattle.std.proofs.lemmas.Bool.{cases_Bool}
 use Rattle.std.proofs.lemmas.Option.{slice_get_within}
 use Rattle.wit_functions.specs.declared.function.Function.{Function}
-use Rattle.wit_functions.specs.Order.{IsOrder, Shows}
-use Rattle.wit_functions.specs.Setters.{HaveDistinctNames, early, goes_with, name_in, others, pairs, placed, setters_placed, stated_names, with_setters}
+use Rattle.wit_functions.specs.Reordered.{IsOrder, Shows}
+use Rattle.wit_functions.specs.SettersPlaced.{HaveDistinctNames, early, goes_with, name_in, others, pairs, placed, setters_placed, stated_names, with_setters}
 use Rattle.wit_functions.specs.MaybeFunction.{HaveOwnNames, goes}
 use Rattle.wit_functions.proofs.InTurn.{in_turn, put_at}
 use Rattle.wit_functions.proofs.Keys.{Differ, Lacks, differ-in_turn}

@@ -5,7 +5,7 @@ use Rattle.std.specs.List.{filter, flat_map, list_any}
 use Rattle.std.specs.Option.{option_and_then, option_to_list}
 use Rattle.std.proofs.lemmas.Bool.{cases_Bool}
 use Rattle.wit_functions.specs.declared.function.Function.{Function}
-use Rattle.wit_functions.specs.Setters.{early, is_getter, is_same_text, others, setters_placed, with_setters}
+use Rattle.wit_functions.specs.SettersPlaced.{early, is_getter, is_same_text, others, setters_placed, with_setters}
 use Rattle.wit_functions.specs.MaybeFunction.{goes, offered, wanted, HaveOwnNames}
 use Rattle.wit_functions.specs.Parted.{served, waiting_for, without, IsParted}
 use Rattle.wit_functions.proofs.GetterNames.{goes_wanted, same_as_none}

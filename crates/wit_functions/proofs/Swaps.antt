@@ -4,7 +4,7 @@ use Rattle.std.specs.Option.{option_and_then}
 use Rattle.std.proofs.lemmas.Option.{slice_get-get_or, slice_get_past, slice_get_cases, slice_get_within}
 use Rattle.std.proofs.lemmas.List.Edits.{length-swap}
 use Rattle.wit_types.proofs.Moving.{some_at}
-use Rattle.wit_functions.specs.Order.{AreBrought, AreFirst, ArePositions, IsExchange, IsOrder, Shows, TurnsBack}
+use Rattle.wit_functions.specs.Reordered.{AreBrought, AreFirst, ArePositions, IsExchange, IsOrder, Shows, TurnsBack}
 
 same_or_not : (m n : ℕ) → (m ≡ n) ⊎ (m ≡ n → ⊥)
 same_or_not m n = elim (three_ways m n) [

@@ -6,7 +6,7 @@ use Rattle.std.proofs.lemmas.List.Folds.{list_any_more}
 use Rattle.std.proofs.lemmas.Option.{get_or_from_slice_get, slice_get_within}
 use Rattle.std.specs.List.{flat_map, list_any}
 use Rattle.wit_functions.specs.Futures.{futures, has_unknown, is_awaited, is_unknown, itself}
-use Rattle.wit_types.specs.Types.{IsBackward, place_of_slot, places_to, rank, slots}
+use Rattle.wit_types.specs.InnerTypes.{IsBackward, place_of_slot, places_to, rank, slots}
 use Rattle.wit_types.specs.declared.types.«Type».{«Type» as Ty}
 use Rattle.wit_types.specs.declared.types.TypeDef.{TypeDef}
 

@@ -1,7 +1,7 @@
 -- The futures and streams of a signature, each after those below it.
 use Rattle.std.specs.Prelude.{ℕ, zero, suc, ◌++◌, ◌||◌, Bool, true, false, List, [], ◌∷◌, Option, Some, None, length, slice_get}
 use Rattle.std.specs.List.{flat_map, list_any}
-use Rattle.wit_types.specs.Types.{place_of_slot, slots}
+use Rattle.wit_types.specs.InnerTypes.{place_of_slot, slots}
 use Rattle.wit_functions.specs.declared.function.Function.{Function}
 use Rattle.wit_types.specs.declared.types.TypeDef.{TypeDef}
 use Rattle.wit_types.specs.declared.types.TypeDefKind.{TypeDefKind}

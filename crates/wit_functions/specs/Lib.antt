@@ -1,10 +1,10 @@
 pub mod Abi
 pub mod FunctionKinds
 pub mod Futures
-pub mod Names
-pub mod Setters
-pub mod Signature
+pub mod FunctionNames
+pub mod SettersPlaced
+pub mod SignatureTypes
 pub mod Spans
 pub mod MaybeFunction
 pub mod Parted
-pub mod Order
+pub mod Reordered

@@ -4,7 +4,7 @@ use Rattle.std.specs.Cmp.Lexicographic.{pointwise}
 use Rattle.std.specs.List.{IsDistinct, flat_map}
 use Rattle.std.specs.Option.{is_some, option_map}
 use Rattle.wit_names.specs.Prefix.{rest_after}
-use Rattle.wit_functions.specs.Setters.{prefixes, goes_with, is_getter, name_in}
+use Rattle.wit_functions.specs.SettersPlaced.{prefixes, goes_with, is_getter, name_in}
 use Rattle.wit_functions.specs.declared.function.Function.{Function}
 
 -- it is a function, and a setter

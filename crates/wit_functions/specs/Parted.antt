@@ -3,7 +3,7 @@ use Rattle.std.specs.Prelude.{◌≡◌, ℕ, ◌++◌, Bool, List, [], ◌∷�
 use Rattle.std.specs.Cmp.Lexicographic.{pointwise}
 use Rattle.std.specs.List.{filter, list_any}
 use Rattle.std.specs.Option.{option_and_then, option_to_list}
-use Rattle.wit_functions.specs.Setters.{early, is_same_text, others}
+use Rattle.wit_functions.specs.SettersPlaced.{early, is_same_text, others}
 use Rattle.wit_functions.specs.declared.function.Function.{Function}
 use Rattle.wit_functions.specs.MaybeFunction.{goes, offered, wanted}
 

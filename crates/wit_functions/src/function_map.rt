@@ -1,8 +1,8 @@
 //! Maps in insertion order, whose values may be functions and can be put into another order.
 ghost use Rattle.std.specs.Prelude.{◌≡◌, ◌<◌, Some, length, slice_get};
-ghost use Rattle.wit_functions.specs.Order.{AreFirst, ArePositions, IsOrder};
+ghost use Rattle.wit_functions.specs.Reordered.{AreFirst, ArePositions, IsOrder};
 
-use crate::order::{Positions, put_in_order};
+use crate::reordering::{Positions, put_in_order};
 use indexmap::IndexMap;
 use std::alloc::Global;
 use std::hash::Hash;

@@ -3,7 +3,7 @@ ghost use Rattle.std.specs.Prelude.{◌≡◌, ◌↔◌, IsTrue, IfOk, IfNone, 
 ghost use Rattle.std.specs.Cow.{IsBorrowedStr, cow_str_bytes};
 ghost use Rattle.std.specs.Result.{IsOkAnd};
 ghost use Rattle.std.specs.Option.{option_copied};
-ghost use Rattle.wit_functions.specs.Names.{HasMark, HasMarkOf, rest_after_first, export_name, item_name, legacy_name, mark_of, standard_name};
+ghost use Rattle.wit_functions.specs.FunctionNames.{HasMark, HasMarkOf, rest_after_first, export_name, item_name, legacy_name, mark_of, standard_name};
 
 use crate::abi::Mangling;
 use crate::function::{Function, FunctionKind};

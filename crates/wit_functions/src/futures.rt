@@ -1,11 +1,11 @@
 //! The futures and streams of a function's signature.
 ghost use Rattle.std.specs.Prelude.{◌≡◌, ◌≤◌, ◌++◌, ℕ, IfOk, OnOk, length};
 ghost use Rattle.wit_functions.specs.Futures.{futures, futures_of, has_unknown, is_awaited, is_unknown, reaches_unknown};
-ghost use Rattle.wit_types.specs.Types.{IsBackward, rank};
+ghost use Rattle.wit_types.specs.InnerTypes.{IsBackward, rank};
 
 use crate::function::Function;
 use std::alloc::{AllocError, Global};
-use wit_types::slots::{place_of_slot, slot, slot_count};
+use wit_types::type_slots::{place_of_slot, slot, slot_count};
 use wit_types::{Type, TypeDefKind, TypeId, Types};
 
 // Whether a kind is a future or a stream.

@@ -7,16 +7,16 @@
 pub mod abi;
 mod clones;
 pub mod function;
+pub mod function_items;
 pub mod function_kind;
 mod function_map;
 pub mod function_name;
 pub mod futures;
-pub mod items;
 pub mod laws;
 pub mod maybe_function;
-mod order;
 mod parted;
 mod placed;
+mod reordering;
 pub mod setters;
 pub mod signature;
 mod spans;

@@ -3,7 +3,7 @@ ghost use Rattle.std.specs.Prelude.{◌≡◌, ◌++◌, ◌∷◌, ◌||◌, []
 ghost use Rattle.std.specs.BTreeMap.{get_by_text};
 ghost use Rattle.std.specs.BTreeSet.{contains_text};
 ghost use Rattle.std.specs.Option.{option_map};
-ghost use Rattle.wit_functions.specs.Setters.{is_same_text};
+ghost use Rattle.wit_functions.specs.SettersPlaced.{is_same_text};
 ghost use Rattle.wit_functions.specs.MaybeFunction.{HaveOwnNames, offered as the_offered, wanted as the_wanted};
 ghost use Rattle.wit_functions.specs.Parted.{known, IsParted};
 

@@ -2,7 +2,7 @@
 ghost use Rattle.std.specs.Prelude.{◌≡◌, ◌++◌, ◌∷◌, ℕ, List, IfOk, OnOk, map, reverse};
 ghost use Rattle.std.specs.BTreeMap.{get_by_text};
 ghost use Rattle.std.specs.Option.{option_and_then, option_copied, option_to_list};
-ghost use Rattle.wit_functions.specs.Setters.{setters_placed};
+ghost use Rattle.wit_functions.specs.SettersPlaced.{setters_placed};
 ghost use Rattle.wit_functions.specs.MaybeFunction.{HaveOwnNames, goes, offered as the_offered};
 ghost use Rattle.wit_functions.specs.Parted.{served, waiting_for, without};
 

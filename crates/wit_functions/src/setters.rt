@@ -2,13 +2,13 @@
 ghost use Rattle.std.specs.Prelude.{◌≡◌, ◌<◌, ℕ, Option, IfOk, OnErr, OnOk, Some, length, map as mapped, slice_get};
 ghost use Rattle.std.specs.List.{enumerate_from};
 ghost use Rattle.std.specs.Option.{option_copied, option_map};
-ghost use Rattle.wit_functions.specs.Order.{IsOrder};
-ghost use Rattle.wit_functions.specs.Setters.{HaveDistinctNames, Computes, prefixes, is_getter, placed};
+ghost use Rattle.wit_functions.specs.Reordered.{IsOrder};
+ghost use Rattle.wit_functions.specs.SettersPlaced.{HaveDistinctNames, Computes, prefixes, is_getter, placed};
 
 use crate::function::{Function, FunctionKind};
 use crate::function_map::FunctionMap;
-use crate::order::Positions;
 use crate::placed::order_of;
+use crate::reordering::Positions;
 use std::alloc::{AllocError, Global};
 
 /// Of a setter's kind, the prefix of its name and that of its getter's name; none for another kind.

@@ -1,7 +1,7 @@
 //! The types in a function's signature.
 ghost use Rattle.std.specs.Prelude.{◌≡◌};
 ghost use Rattle.std.specs.Iterator.{YieldsFirst, item_count};
-ghost use Rattle.wit_functions.specs.Signature.{is_shorthand, signature, types_left};
+ghost use Rattle.wit_functions.specs.SignatureTypes.{is_shorthand, signature, types_left};
 
 use crate::function::{Function, FunctionKind, Param};
 use wit_types::{Handle, Type, TypeDefKind, Types};

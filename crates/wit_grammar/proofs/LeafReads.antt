@@ -17,7 +17,7 @@ use Rattle.wit_lex.specs.declared.kind.Kind.TheVariants as kind
 use Rattle.wit_lex.specs.declared.word.Word.TheVariants as word
 use Rattle.wit_lex.specs.Lexis.{Lexeme, first_token}
 use Rattle.wit_lex.specs.VersionLexis.{version_to}
-use Rattle.wit_grammar.specs.Kinds.{same_kind}
+use Rattle.wit_grammar.specs.TokenKinds.{same_kind}
 use Rattle.wit_grammar.specs.Trees.{Text, Name, Documents, Release, Ty, primitive}
 use Rattle.wit_grammar.specs.Leaves.{Spot, Read, moved, lexed, text_of, span_of, stop, past, mark_at, spanned_at, is_in, text_at, name_of, name_at, name_but_at, number_at, release_at, release_to, version_at, docs_of, docs_at, primitive_of, primitive_with, primitive_at, ◌>>=◌}
 use Rattle.wit_grammar.specs.Grammar.{Terminal, of_kind, of_text, of_other, matches, matches_first, fits, among, primitive_kinds}

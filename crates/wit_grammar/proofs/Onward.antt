@@ -8,7 +8,7 @@ use Rattle.wit_lex.specs.declared.kind.Kind.{Kind}
 use Rattle.wit_lex.specs.declared.kind.Kind.TheVariants.{Comma}
 use Rattle.wit_lex.specs.declared.kind.Kind.TheVariants as kind
 use Rattle.wit_lex.specs.Lexis.{Lexeme}
-use Rattle.wit_grammar.specs.Kinds.{kind_code, same_kind}
+use Rattle.wit_grammar.specs.TokenKinds.{kind_code, same_kind}
 use Rattle.wit_grammar.specs.Trees.{Text}
 use Rattle.wit_grammar.specs.Leaves.{Spot, lexed, text_of, is_in}
 use Rattle.wit_grammar.specs.Grammar.{Gram, mark, spanned, says, name, name_but, number, version, primitives, docs, never, deeper, both, act, either, opt, many, until, listed, Terminal, of_kind, of_text, of_other, matches, matches_first, fits, among, nullable, where_empty, first, closes, spells, Many, AreListed, Listed}

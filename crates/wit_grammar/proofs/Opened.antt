@@ -4,7 +4,7 @@ use Rattle.semver.specs.Parse.{digits_from}
 use Rattle.wit_lex.specs.Lexis.{first_token, skipped, run_end, word_kind}
 use Rattle.wit_lex.specs.DocsLexis.{docs_from, comments}
 use Rattle.wit_lex.specs.VersionLexis.{version_to, dotted_end}
-use Rattle.wit_grammar.specs.Kinds.{same_kind}
+use Rattle.wit_grammar.specs.TokenKinds.{same_kind}
 use Rattle.wit_grammar.specs.Leaves.{past, mark_at, spanned_at, text_at, name_at, name_but_at, number_at, version_at, docs_at, primitive_at, deeper_at, nothing_at}
 use Rattle.wit_grammar.specs.Grammar.{until_at, open_at, next_at, items_at, listed_at}
 use Rattle.wit_grammar.specs.Rules.{label, size, lists, maps_of, options, error_type, result_types, results, tuples, payload, futures, streams, handled, owns, borrows, types, param, params, returned, signature, func_word, accessor, form, function, since_version, of_feature, since_attribute, unstable_attribute, deprecated_attribute, after_at, attribute, attributes, prefix, at_version, item_path, rest_of_path, path, local, used_name, used_names, used, top_used}

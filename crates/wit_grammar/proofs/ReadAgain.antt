@@ -5,7 +5,7 @@ use Rattle.std.proofs.lemmas.Bool.{and_parts, or_parts}
 use Rattle.wit_lex.specs.declared.kind.Kind.{Kind}
 use Rattle.wit_lex.specs.declared.kind.Kind.TheVariants.{Comma}
 use Rattle.wit_lex.specs.Lexis.{Lexeme}
-use Rattle.wit_grammar.specs.Kinds.{same_kind}
+use Rattle.wit_grammar.specs.TokenKinds.{same_kind}
 use Rattle.wit_grammar.specs.Leaves.{Spot, lexed, mark_at}
 use Rattle.wit_grammar.specs.Grammar.{Gram, mark, spanned, says, name, name_but, number, version, primitives, docs, never, deeper, both, act, either, opt, many, until, listed, Terminal, of_kind, matches_first, among, nullable, where_empty, first, starts, closes, spells, run, Many, AreListed, many_at, until_at, open_at, next_at, items_at, listed_at}
 use Rattle.wit_grammar.specs.OneToken.{apart, more, an_item, one_token}

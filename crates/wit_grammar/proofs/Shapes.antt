@@ -4,7 +4,7 @@ use Rattle.std.specs.Prelude.{codes}
 use Rattle.wit_lex.specs.declared.kind.Kind.{Kind}
 use Rattle.wit_lex.specs.declared.kind.Kind.TheVariants.{Semicolon, OpenAngle, OpenBrace, At, End, Word}
 use Rattle.wit_lex.specs.declared.word.Word.TheVariants as word
-use Rattle.wit_grammar.specs.Kinds.{same_kind}
+use Rattle.wit_grammar.specs.TokenKinds.{same_kind}
 use Rattle.wit_grammar.proofs.Opened.{type_rules, function_rules, prefix_rules, definition_rules, extern_rules}
 use Rattle.wit_grammar.specs.Trees.{Ty}
 use Rattle.wit_grammar.specs.Grammar.{Gram, Terminal, of_kind, of_text, first, nullable, deeper, seq}

@@ -6,7 +6,7 @@ use Rattle.wit_lex.specs.declared.fault.ReadFault.TheVariants as fault
 use Rattle.wit_lex.specs.declared.kind.Kind.{Kind}
 use Rattle.wit_lex.specs.declared.kind.Kind.TheVariants.{Comma}
 use Rattle.wit_lex.specs.Lexis.{Lexeme}
-use Rattle.wit_grammar.specs.Kinds.{same_kind}
+use Rattle.wit_grammar.specs.TokenKinds.{same_kind}
 use Rattle.wit_grammar.specs.Leaves.{Spot, Read, lexed, past, mark_at, stop, is_among, nothing_at, deeper_at, ◌>>=◌}
 use Rattle.wit_grammar.specs.Grammar.{Gram, mark, spanned, says, name, name_but, number, version, primitives, docs, never, deeper, both, act, either, opt, many, until, listed, spells, run, starts, closes, Many, AreListed, Listed, many_at, until_at, open_at, next_at, items_at, listed_at}
 use Rattle.wit_grammar.proofs.Tokens.{chosen}

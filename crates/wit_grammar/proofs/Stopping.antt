@@ -19,7 +19,7 @@ use Rattle.wit_lex.specs.declared.kind.Kind.TheVariants.{Comma, Number, Arrow, N
 use Rattle.wit_lex.specs.Starts.{is_letter, is_in_word, is_sign}
 use Rattle.wit_lex.specs.Lexis.{between, skipped, run_end, Lexeme, sign_kind, no_token, word_token, arrow_or_escaped, token_here, token_after, first_token}
 use Rattle.wit_lex.specs.VersionLexis.{version_to}
-use Rattle.wit_grammar.specs.Kinds.{same_kind}
+use Rattle.wit_grammar.specs.TokenKinds.{same_kind}
 use Rattle.wit_grammar.specs.Trees.{Text, Release, primitive}
 use Rattle.wit_grammar.specs.Leaves.{Spot, Read, moved, lexed, stop, past, mark_at, spanned_at, span_of, text_of, is_in, text_at, name_of, name_at, name_but_at, number_at, release_at, release_to, version_at, docs_of, docs_at, primitive_of, primitive_with, primitive_at, is_among, deeper_at, nothing_at, ◌>>=◌}
 use Rattle.wit_grammar.specs.Grammar.{Gram, mark, spanned, says, name, name_but, number, version, primitives, docs, never, deeper, both, act, either, opt, many, until, listed, of_kind, nullable, first, run, starts, closes, many_at, until_at, open_at, next_at, items_at, listed_at}

@@ -9,7 +9,7 @@ use Rattle.wit_lex.specs.declared.kind.Kind.TheVariants.{Comma}
 use Rattle.wit_lex.specs.declared.kind.Kind.TheVariants as kind
 use Rattle.wit_lex.specs.declared.word.Word.TheVariants as word
 use Rattle.wit_lex.specs.Lexis.{Lexeme}
-use Rattle.wit_grammar.specs.Kinds.{same_kind}
+use Rattle.wit_grammar.specs.TokenKinds.{same_kind}
 use Rattle.wit_grammar.specs.Trees.{Text, Name, Documents, Release, Ty}
 use Rattle.wit_grammar.specs.Leaves.{Spot, Read, lexed, past, text_of, is_in, mark_at, spanned_at, text_at, name_at, name_but_at, number_at, version_at, docs_at, primitive_at, deeper_at, nothing_at, ◌>>=◌}
 

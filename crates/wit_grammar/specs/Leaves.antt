@@ -19,7 +19,7 @@ use Rattle.wit_lex.specs.declared.word.Word.TheVariants as word
 use Rattle.wit_lex.specs.Lexis.{Lexeme, first_token}
 use Rattle.wit_lex.specs.DocsLexis.{docs_from, docs_text, docs_span}
 use Rattle.wit_lex.specs.VersionLexis.{version_to}
-use Rattle.wit_grammar.specs.Kinds.{same_kind}
+use Rattle.wit_grammar.specs.TokenKinds.{same_kind}
 use Rattle.wit_grammar.specs.Trees.{Text, Name, Documents, Release, Ty, primitive}
 
 infixl 10 ◌>>=◌

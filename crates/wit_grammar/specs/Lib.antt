@@ -1,4 +1,4 @@
-pub mod Kinds
+pub mod TokenKinds
 pub mod Trees
 pub mod Seen
 pub mod Leaves

@@ -3,7 +3,7 @@ use Rattle.std.specs.Prelude.{Bool, true, false, ◌&&◌, not, List, [], ◌∷
 use Rattle.std.specs.Str.{bytes_eq}
 use Rattle.wit_lex.specs.declared.kind.Kind.TheVariants.{Comma}
 use Rattle.wit_lex.specs.declared.kind.Kind.TheVariants as kind
-use Rattle.wit_grammar.specs.Kinds.{same_kind}
+use Rattle.wit_grammar.specs.TokenKinds.{same_kind}
 use Rattle.wit_grammar.specs.Leaves.{is_in}
 use Rattle.wit_grammar.specs.Grammar.{Gram, both, act, either, opt, many, until, listed, Terminal, of_kind, of_text, of_other, nullable, where_empty, first}
 

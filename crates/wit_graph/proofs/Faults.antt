@@ -3,9 +3,9 @@ use Rattle.std.proofs.Common.{◌≡◌, ℕ, ◌<◌, List, length, sym, ◌∙
 use Rattle.std.proofs.lemmas.Option.{slice_get_within, same_Some}
 use Rattle.wit_type_tree.specs.declared.leaves.Id.{Id}
 use Rattle.wit_type_tree.specs.declared.error.ParseErrorKind.{ParseErrorKind}
-use Rattle.wit_type_tree.specs.Refusal.{IsTypeCycle}
+use Rattle.wit_type_tree.specs.RefusalText.{IsTypeCycle}
 use Rattle.wit_graph.specs.Table.{Row, IsEdge}
-use Rattle.wit_graph.specs.Faults.{IsFirstMissing, IsFirstCyclic}
+use Rattle.wit_graph.specs.TableFaults.{IsFirstMissing, IsFirstCyclic}
 use Rattle.wit_graph.specs.Refused.{IsNotFound, RefusesMissing, RefusesCycle}
 
 -- an edge's name is at its index in the row

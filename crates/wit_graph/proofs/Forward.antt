@@ -5,13 +5,13 @@ use Rattle.std.proofs.lemmas.Bool.{cases_order}
 use Rattle.std.proofs.lemmas.Option.{same_Some, slice_get_within}
 use Rattle.wit_type_tree.specs.declared.leaves.Id.{Id}
 use Rattle.wit_type_tree.specs.declared.error.ParseError.{ParseError}
-use Rattle.wit_type_tree.specs.Refusal.{IsTypeCycle}
+use Rattle.wit_type_tree.specs.RefusalText.{IsTypeCycle}
 use Rattle.wit_graph.specs.Edges.{IsEarlier, IsFirstEdge}
 use Rattle.wit_graph.specs.Table.{Row, target, IsEdge, IsMissing, IsCyclic, IsComplete, Leads, IsOrder}
 use Rattle.wit_graph.specs.Refused.{IsNotFound, IsRefused, FailsAtMissing, FailsAtCycle}
-use Rattle.wit_graph.specs.Faults.{IsFaultOf, FaultsMissing, FaultsCycle}
-use Rattle.wit_graph.specs.declared.fault.OrderFault.{OrderFault}
-use Rattle.wit_graph.specs.declared.fault.OrderFault.TheVariants.{Missing, Cyclic, OutOfMemory}
+use Rattle.wit_graph.specs.TableFaults.{IsFaultOf, FaultsMissing, FaultsCycle}
+use Rattle.wit_graph.specs.declared.table_fault.OrderFault.{OrderFault}
+use Rattle.wit_graph.specs.declared.table_fault.OrderFault.TheVariants.{Missing, Cyclic, OutOfMemory}
 use Rattle.wit_graph.specs.Order.{Walk, ReachesCycle, IsDependencyFirst}
 use Rattle.wit_graph.proofs.Tables.{not_missing}
 

@@ -6,13 +6,13 @@ use Rattle.std.proofs.lemmas.List.Quantifiers.{position-Some}
 use Rattle.std.proofs.lemmas.Bool.{cases_Bool, MatchBool-at_true, MatchBool-at_false}
 use Rattle.std.proofs.lemmas.Option.{slice_get_within, get_or_from_slice_get, slice_get-get_or, same_Some}
 use Rattle.wit_type_tree.specs.declared.leaves.Id.{Id}
-use Rattle.wit_graph.specs.declared.fault.OrderFault.TheVariants.{Cyclic}
+use Rattle.wit_graph.specs.declared.table_fault.OrderFault.TheVariants.{Cyclic}
 use Rattle.wit_graph.specs.Edges.{IsFirstEdge}
 use Rattle.std.proofs.lemmas.List.Sums.{sum_by-cons}
 use Rattle.wit_graph.specs.Graph.{Graph, edge_count, HasEdge, IsClosed, IsGraphEdge, IsStuckEdge, IsSortOf}
 use Rattle.wit_graph.specs.Order.{Walk, ReachesCycle, IsDependencyFirst, IsLeast}
 use Rattle.wit_graph.specs.Table.{Row, place_of, target, IsEdge, Leads, IsComplete, IsOrder}
-use Rattle.wit_graph.specs.Resolved.{IsGraphOf, Cycles}
+use Rattle.wit_graph.specs.PlaceGraph.{IsGraphOf, Cycles}
 use Rattle.wit_graph.specs.declared.sorted.Sorted.TheVariants.{Stuck}
 use Rattle.wit_graph.proofs.Tables.{matched, known, wants, has}
 use Rattle.wit_graph.proofs.Sorting.{edge_from, edge_to}

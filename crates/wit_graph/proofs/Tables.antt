@@ -9,11 +9,11 @@ use Rattle.std.proofs.lemmas.Option.{slice_get_within, get_or_from_slice_get, sl
 use Rattle.std.specs.Map.Iter.{deref_pair}
 use Rattle.std.proofs.lemmas.Bool.{false≢true}
 use Rattle.wit_type_tree.specs.declared.leaves.Id.{Id}
-use Rattle.wit_graph.specs.declared.fault.OrderFault.{OrderFault}
-use Rattle.wit_graph.specs.declared.fault.OrderFault.TheVariants.{Missing}
+use Rattle.wit_graph.specs.declared.table_fault.OrderFault.{OrderFault}
+use Rattle.wit_graph.specs.declared.table_fault.OrderFault.TheVariants.{Missing}
 use Rattle.wit_graph.specs.Graph.{Graph}
 use Rattle.wit_graph.specs.Table.{Row, entry_row, rows, target, place_of}
-use Rattle.wit_graph.specs.Resolved.{AddsRow, MissesFirst, Misses, Resolves}
+use Rattle.wit_graph.specs.PlaceGraph.{AddsRow, MissesFirst, Misses, Resolves}
 
 -- the step of a loop that maps a list
 pub map_step : {A B C : Type 0} (f : A → C) (g : B → C) (xs : List A) (ys : List B) (i : ℕ) (x : A) (y : B) → map f xs ≡ map g (take i ys) → slice_get ys i ≡ Some y → f x ≡ g y

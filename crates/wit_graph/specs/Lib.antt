@@ -1,8 +1,8 @@
 pub mod Edges
-pub mod Faults
+pub mod TableFaults
 pub mod Graph
 pub mod Order
 pub mod Refused
-pub mod Resolved
+pub mod PlaceGraph
 pub mod Table
 pub mod Laws

@@ -5,7 +5,7 @@ use Rattle.wit_values.specs.declared.span.Span.{Span}
 use Rattle.wit_type_tree.specs.declared.error.ParseError.{ParseError}
 use Rattle.wit_type_tree.specs.declared.error.ParseErrorKind.{ParseErrorKind}
 use Rattle.wit_type_tree.specs.declared.error.ParseErrorKind.TheVariants.{Syntax, ItemNotFound, TypeCycle, OutOfMemory}
-use Rattle.wit_type_tree.specs.Refusal.{IsTypeCycle}
+use Rattle.wit_type_tree.specs.RefusalText.{IsTypeCycle}
 use Rattle.wit_graph.specs.Edges.{IsFirstEdge}
 use Rattle.wit_graph.specs.Table.{Row, IsEdge, IsMissing, IsCyclic, IsComplete}
 

@@ -3,7 +3,7 @@
 //! Definitions and laws; `wit_order` finds the order.
 #![tactic(auto)]
 
-pub mod fault;
 pub mod sorted;
+pub mod table_fault;
 
-pub use fault::OrderFault;
+pub use table_fault::OrderFault;

@@ -10,7 +10,7 @@ use Rattle.wit_lex.specs.Sources.{IsSource, space}
 use Rattle.wit_grammar.specs.Trees.{File}
 use Rattle.wit_grammar.specs.Laws.{IsSpelled}
 use Rattle.wit_text.specs.Files.{Gives, IsFaultOf}
-use Rattle.wit_bundle.specs.Paths.{IsByPath}
+use Rattle.wit_bundle.specs.SourcePaths.{IsByPath}
 use Rattle.wit_model.specs.declared.unresolved.UnresolvedPackage.{UnresolvedPackage}
 use Rattle.wit_syntax.specs.Fault.{Fault}
 use Rattle.wit_syntax.specs.Broken.{Refused}

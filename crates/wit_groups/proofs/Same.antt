@@ -4,8 +4,8 @@ use Rattle.wit_lex.specs.Sources.{as_stated}
 use Rattle.wit_model.specs.declared.interface.Interface.{Interface}
 use Rattle.wit_model.specs.declared.unresolved.UnresolvedPackage.{UnresolvedPackage}
 use Rattle.wit_model.specs.declared.world.World.{World}
-use Rattle.wit_model.specs.Same.{AreBothSame, AreSame, HoldSamePairs, IsSameInterface, IsSamePackage, IsSameWorld, is_same_name}
-use Rattle.wit_groups.specs.Same.{IsSameGroup}
+use Rattle.wit_model.specs.SamePackages.{AreBothSame, AreSame, HoldSamePairs, IsSameInterface, IsSamePackage, IsSameWorld, is_same_name}
+use Rattle.wit_groups.specs.SameGroups.{IsSameGroup}
 use Rattle.wit_groups.specs.declared.group.UnresolvedPackageGroup.{UnresolvedPackageGroup}
 
 all_same : {X : Type 0} (R : X → X → Type 0) → ((x : X) → R x x) → (xs : List X) → AreSame R xs xs

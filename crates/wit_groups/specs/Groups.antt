@@ -3,14 +3,14 @@ use Rattle.std.specs.Prelude.{◌≡◌, ℕ, ◌+◌, List, [], ◌∷◌, ◌+
 use Rattle.wit_tree.specs.declared.tree.PackageFile.{PackageFile}
 use Rattle.wit_tree.specs.declared.tree.SourceFile.{SourceFile}
 use Rattle.wit_type_tree.specs.declared.error.ParseError.{ParseError}
-use Rattle.wit_type_tree.specs.Refusal.{IsAllocationFailure}
+use Rattle.wit_type_tree.specs.RefusalText.{IsAllocationFailure}
 use Rattle.wit_lex.specs.declared.source.Source.{Source}
 use Rattle.wit_lex.specs.Sources.{IsSource, IsTooLarge}
 use Rattle.wit_grammar.specs.Trees.{File}
 use Rattle.wit_grammar.specs.Seen.{see_file}
 use Rattle.wit_grammar.specs.Laws.{IsSpelled}
 use Rattle.wit_text.specs.Files.{IsFaultOf}
-use Rattle.wit_bundle.specs.Paths.{IsByPath}
+use Rattle.wit_bundle.specs.SourcePaths.{IsByPath}
 use Rattle.wit_model.specs.declared.unresolved.UnresolvedPackage.{UnresolvedPackage}
 use Rattle.wit_syntax.specs.Fault.{Fault, fault_of}
 use Rattle.wit_syntax.specs.Broken.{IsBroken, Refused}

@@ -1,6 +1,6 @@
 //! What holds of all groups: how they are compared, and that a copy is the same.
 ghost use Rattle.std.specs.Prelude.{◌↔◌, IfOk, IsTrue};
-ghost use Rattle.wit_groups.specs.Same.{IsSameGroup};
+ghost use Rattle.wit_groups.specs.SameGroups.{IsSameGroup};
 
 use crate::group::UnresolvedPackageGroup;
 use std::alloc::AllocError;

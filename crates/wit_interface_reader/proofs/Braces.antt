@@ -5,7 +5,7 @@ use Rattle.wit_lex.specs.declared.fault.ReadError.{ReadError}
 use Rattle.wit_lex.specs.declared.fault.ReadError.TheVariants.{Fault, OutOfMemory}
 use Rattle.wit_lex.specs.declared.kind.Kind.TheVariants.{OpenBrace, CloseBrace}
 use Rattle.wit_lex.specs.Lexis.{lexeme, Stops}
-use Rattle.wit_grammar.specs.Kinds.{same_kind}
+use Rattle.wit_grammar.specs.TokenKinds.{same_kind}
 use Rattle.wit_grammar.specs.Leaves.{Spot, Read, mark_at, past, ◌>>=◌}
 use Rattle.wit_grammar.specs.Grammar.{Gram, many_at, run, until, ◌▸◌, ◌◂◌}
 use Rattle.wit_reader.specs.declared.reader.Reader.{Reader}

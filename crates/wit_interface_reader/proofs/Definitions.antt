@@ -7,7 +7,7 @@ use Rattle.wit_lex.specs.declared.kind.Kind.TheVariants as kind
 use Rattle.wit_lex.specs.declared.word.Word.{Word}
 use Rattle.wit_lex.specs.declared.word.Word.TheVariants as word
 use Rattle.wit_lex.specs.Lexis.{Stops}
-use Rattle.wit_grammar.specs.Kinds.{same_kind}
+use Rattle.wit_grammar.specs.TokenKinds.{same_kind}
 use Rattle.wit_grammar.specs.Trees.{Name, Body}
 use Rattle.wit_grammar.specs.Leaves.{Spot, Read}
 use Rattle.wit_grammar.specs.Grammar.{Gram, run}

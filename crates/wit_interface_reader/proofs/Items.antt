@@ -2,7 +2,7 @@
 use Rattle.std.proofs.Common.{◌≡◌, List, Option, Bool, true, false, ◌∙◌, refl}
 use Rattle.wit_lex.specs.declared.kind.Kind.TheVariants as kind
 use Rattle.wit_lex.specs.declared.word.Word.TheVariants as word
-use Rattle.wit_grammar.specs.Kinds.{same_kind}
+use Rattle.wit_grammar.specs.TokenKinds.{same_kind}
 use Rattle.wit_grammar.specs.Trees.{Name, Ty, Prefix, Parameter, Function, ResourceFunction, Body, Path, UsedName, InterfaceItem, uses, defines, has_func}
 use Rattle.wit_grammar.specs.Grammar.{Gram, act, either, of_kind, run, starts}
 use Rattle.wit_grammar.specs.Rules.{prefix, label, used, use_of}

@@ -1,5 +1,5 @@
 -- What is read after docs and attributes that were read before.
-use Rattle.wit_reader.specs.declared.prefix.Prefix.{Prefix as WrittenPrefix}
+use Rattle.wit_reader.specs.declared.before_item.Prefix.{Prefix as WrittenPrefix}
 use Rattle.wit_grammar.specs.Trees.{Prefix, NamedFunction, ResourceFunction, Definition}
 use Rattle.wit_grammar.specs.Seen.{see_prefix}
 use Rattle.wit_grammar.specs.Grammar.{Gram, act}

@@ -1,2 +1,2 @@
 pub mod After
-pub mod Parts
+pub mod ReadParts

@@ -4,15 +4,15 @@ ghost use Rattle.wit_grammar.specs.Seen.{see_definition, see_item};
 ghost use Rattle.wit_grammar.specs.ItemRules.{alias_definition, record_definition, flags_definition, variant_definition, enum_definition, definition, interface_item, interface_items};
 ghost use Rattle.wit_reader.specs.Reading.{Reads, Refuses};
 ghost use Rattle.wit_interface_reader.specs.After.{defined_after};
-ghost use Rattle.wit_interface_reader.specs.Parts.{see_defined};
+ghost use Rattle.wit_interface_reader.specs.ReadParts.{see_defined};
 
+use crate::braces::{read_cases, read_enum_cases, read_fields, read_flags};
 use crate::function::read_named_func;
-use crate::members::{read_cases, read_enum_cases, read_fields, read_flags};
 use crate::resource::read_resource;
 use wit_lex::fault::ReadResult;
 use wit_lex::kind::Kind;
 use wit_lex::word::Word;
-use wit_reader::prefix::Prefix;
+use wit_reader::before_item::Prefix;
 use wit_reader::reader::Reader;
 use wit_reader::room::add;
 use wit_tree::tree::{Id, InterfaceItem, TypeBody, TypeDef};

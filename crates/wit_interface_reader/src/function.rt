@@ -6,12 +6,12 @@ ghost use Rattle.wit_grammar.specs.Rules.{param, params, returned, signature, fu
 ghost use Rattle.wit_grammar.specs.ItemRules.{closed_function, closed_signature, named_function};
 ghost use Rattle.wit_reader.specs.Reading.{Reads, ReadsOn, Refuses};
 ghost use Rattle.wit_interface_reader.specs.After.{named_after};
-ghost use Rattle.wit_interface_reader.specs.Parts.{see_signature};
+ghost use Rattle.wit_interface_reader.specs.ReadParts.{see_signature};
 
-use crate::accessor::read_form;
+use crate::func_words::read_form;
 use wit_lex::fault::ReadResult;
 use wit_lex::kind::Kind;
-use wit_reader::prefix::Prefix;
+use wit_reader::before_item::Prefix;
 use wit_reader::reader::Reader;
 use wit_reader::room::add;
 use wit_reader::types::MOST_NESTED;

@@ -4,13 +4,13 @@ ghost use Rattle.wit_grammar.specs.Seen.{see_name, see_func, see_resource_func};
 ghost use Rattle.wit_grammar.specs.ItemRules.{constructed, is_static, member, member_of, braced_functions, resource_function, resource_body, resource_definition};
 ghost use Rattle.wit_reader.specs.Reading.{Reads, ReadsOn, Refuses};
 ghost use Rattle.wit_interface_reader.specs.After.{prefix_of, constructed_after, member_after};
-ghost use Rattle.wit_interface_reader.specs.Parts.{see_defined};
+ghost use Rattle.wit_interface_reader.specs.ReadParts.{see_defined};
 
 use crate::function::{read_closed_func, read_closed_signature};
 use wit_lex::fault::ReadResult;
 use wit_lex::kind::Kind;
 use wit_lex::word::Word;
-use wit_reader::prefix::Prefix;
+use wit_reader::before_item::Prefix;
 use wit_reader::reader::Reader;
 use wit_tree::tree::{Func, Id, NamedFunc, ResourceFunc, TypeBody};
 use wit_values::{push, shrunk};

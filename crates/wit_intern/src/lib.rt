@@ -4,11 +4,11 @@
 #![tactic(auto)]
 
 pub mod key;
+mod key_tables;
 pub mod laws;
 pub mod run;
-pub mod table;
-mod tables;
+pub mod type_table;
 
 pub use key::InternKey;
 pub use run::{InternReply, InternStep, intern_run};
-pub use table::InternTable;
+pub use type_table::InternTable;

@@ -3,7 +3,7 @@ ghost use Rattle.std.specs.Prelude.{◌≡◌, IfOk, OnOk, length, take};
 ghost use Rattle.wit_intern.specs.FiniteMap.{after_step, replies, reply};
 
 use crate::key::InternKey;
-use crate::table::InternTable;
+use crate::type_table::InternTable;
 use std::alloc::{AllocError, Global};
 use wit_types::TypeId;
 

@@ -10,9 +10,9 @@ use Rattle.wit_syntax.specs.Fault.{Fault}
 use Rattle.wit_syntax.specs.Bodies.{IsRepeated}
 use Rattle.wit_syntax.specs.Shape.{all_handles}
 use Rattle.wit_syntax.specs.Source.{ScopeName, local_id}
-use Rattle.wit_syntax.specs.Scope.{in_turn, local_names}
+use Rattle.wit_syntax.specs.ScopeTables.{in_turn, local_names}
 use Rattle.wit_syntax.specs.Function.{SourceFunction, written_types}
-use Rattle.wit_syntax.specs.Signature.{Called, name_called}
+use Rattle.wit_syntax.specs.SignatureRules.{Called, name_called}
 use Rattle.wit_tree.specs.declared.tree.WorldSide.{WorldSide}
 use Rattle.wit_tree.specs.declared.tree.WorldSide.TheVariants.{Imported}
 use Rattle.wit_syntax.specs.Sides.{SideItem, SideFunction, item_called, items_on, names_on, IsFoldedTwice, IsCrossedTwice}
@@ -23,13 +23,13 @@ use Rattle.wit_arena.proofs.Meant.{free_unmeant}
 use Rattle.wit_arena.proofs.Required.{handle_of}
 use Rattle.wit_arena.proofs.Written.{handles_at}
 use Rattle.wit_refusals.specs.NameScopes.{Name}
-use Rattle.wit_sides.specs.Sides.{defined_on}
+use Rattle.wit_sides.specs.SideNames.{defined_on}
 use Rattle.wit_sides.specs.declared.sides.Sides.{Sides}
 use Rattle.wit_rules.specs.Signatures.{AreAllNames, IsWrongFunctionAmong}
 use Rattle.wit_signatures.specs.ForeignName.{name_of_id, name_key, IsTwiceAmong}
 use Rattle.wit_externs.specs.Clash.{names_of_items, all_on, IsCrossedAmong, IsClash, Folded, Crossed}
 use Rattle.wit_uses.specs.NameOrder.{IsTurn}
-use Rattle.wit_item_entries.specs.FunctionFaults.{IsWrongFunctions, BrokenFunction, BrokenNames, CrossedNames, HandleOfOther}
+use Rattle.wit_item_entries.specs.ScopeFunctionFaults.{IsWrongFunctions, BrokenFunction, BrokenNames, CrossedNames, HandleOfOther}
 use Rattle.wit_item_entries.proofs.Handled.{handle_wider}
 use Rattle.wit_uses.proofs.NameOrder.{all_used, called, called_item}
 use Rattle.wit_syntax.proofs.Repeated.{called_key}

@@ -9,12 +9,12 @@ use Rattle.std.proofs.lemmas.List.{append-nil, map-append}
 use Rattle.std.proofs.lemmas.Option.{slice_get-map, slice_get_within}
 use Rattle.wit_type_tree.specs.declared.leaves.Id.{Id}
 use Rattle.wit_type_tree.specs.declared.types.TypeDef.{TypeDef as Definition}
-use Rattle.wit_type_tree.specs.Parts.{body_types}
+use Rattle.wit_type_tree.specs.TypeParts.{body_types}
 use Rattle.wit_types.specs.declared.types.TypeDef.{TypeDef}
 use Rattle.wit_types.specs.declared.types.TypeOwner.{TypeOwner}
 use Rattle.wit_syntax.specs.Address.{Address}
 use Rattle.wit_syntax.specs.Source.{ScopeName, Used, Defined, ForeignName, local_name}
-use Rattle.wit_syntax.specs.Scope.{used, defined, in_order, in_turn, local_names}
+use Rattle.wit_syntax.specs.ScopeTables.{used, defined, in_order, in_turn, local_names}
 use Rattle.wit_syntax.specs.Shape.{all_handles}
 use Rattle.wit_syntax.specs.Function.{name_types}
 use Rattle.wit_syntax.specs.Fault.{Fault}

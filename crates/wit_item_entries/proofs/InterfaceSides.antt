@@ -17,10 +17,10 @@ use Rattle.wit_syntax.proofs.Sides.{interface_imported, side_items_functions}
 use Rattle.wit_syntax.proofs.Unnoted.{unbroken_metadata}
 use Rattle.wit_refusals.specs.NameScopes.{Name}
 use Rattle.wit_rules.specs.declared.borrowed.BorrowedFunction.{BorrowedFunction}
-use Rattle.wit_rules.specs.Borrowed.{function_view}
+use Rattle.wit_rules.specs.BorrowedFunctions.{function_view}
 use Rattle.wit_signatures.specs.ForeignName.{name_of_function, name_of_id}
 use Rattle.wit_externs.specs.Clash.{DifferOnSides, all_on, names_of_items}
-use Rattle.wit_scopes.specs.Borrowed.{Borrowed as BorrowedName}
+use Rattle.wit_scopes.specs.BorrowedNames.{Borrowed as BorrowedName}
 use Rattle.wit_uses.specs.NameOrder.{IsTurn}
 use Rattle.wit_item_entries.specs.Body.{HasNames}
 use Rattle.wit_uses.proofs.NameOrder.{differ_called}

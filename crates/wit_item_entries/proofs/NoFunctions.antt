@@ -12,9 +12,9 @@ use Rattle.wit_syntax.specs.Sides.{SideFunction, names_on}
 use Rattle.wit_syntax.proofs.Repeated.{differ_none}
 use Rattle.wit_syntax.specs.Source.{ScopeName}
 use Rattle.wit_syntax.specs.Function.{SourceFunction}
-use Rattle.wit_syntax.specs.Signature.{IsUnpairedSetter}
+use Rattle.wit_syntax.specs.SignatureRules.{IsUnpairedSetter}
 use Rattle.wit_rules.specs.declared.borrowed.BorrowedFunction.{BorrowedFunction}
-use Rattle.wit_rules.specs.Borrowed.{function_view}
+use Rattle.wit_rules.specs.BorrowedFunctions.{function_view}
 use Rattle.wit_signatures.specs.ForeignName.{name_of_id, name_key}
 use Rattle.wit_externs.specs.Clash.{all_on}
 use Rattle.wit_uses.specs.NameOrder.{IsTurn}

@@ -9,13 +9,13 @@ use Rattle.wit_type_tree.specs.declared.types.TypeBody.TheVariants as body
 use Rattle.wit_type_tree.specs.declared.types.ResourceFunc.{ResourceFunc}
 use Rattle.wit_type_tree.specs.declared.types.ResourceFunc.TheVariants as resource
 use Rattle.wit_syntax.specs.Source.{Item, Part, DefinitionPart, UsePart, IncludePart, FunctionPart, ExternPart, parts, ScopeName, Defined, part_names, scope_names, local_name}
-use Rattle.wit_syntax.specs.Scope.{in_turn, local_names}
+use Rattle.wit_syntax.specs.ScopeTables.{in_turn, local_names}
 use Rattle.wit_syntax.specs.Function.{SourceFunction, definition_functions, free_function, resource_function, part_functions, functions}
 use Rattle.wit_arena.specs.Resolving.{Env, Names, env_of, names_in}
 use Rattle.wit_syntax.proofs.Lists.{map_at, flat_map_at, flat_map_has}
 use Rattle.wit_syntax.proofs.Turns.{in_turn_has}
 use Rattle.wit_arena.proofs.UsePart.{lookup-listed}
-use Rattle.wit_rules.specs.Borrowed.{owner_of}
+use Rattle.wit_rules.specs.BorrowedFunctions.{owner_of}
 use Rattle.wit_rules.specs.Signatures.{HasOwner, HaveOwners}
 use Rattle.wit_uses.specs.NameOrder.{IsTurn}
 use Rattle.wit_item_entries.proofs.FunctionFaults.{turn_texts}

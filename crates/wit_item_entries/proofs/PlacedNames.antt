@@ -2,7 +2,7 @@
 use Rattle.std.proofs.Common.{◌≡◌, ℕ, List, [], ◌∷◌, Some, refl, sym, ap, ◌∙◌, subst}
 use Rattle.std.specs.Prelude.{map}
 use Rattle.wit_functions.specs.declared.function.Function.{Function}
-use Rattle.wit_functions.specs.Setters.{is_getter_of, pairs, placed, setters_placed}
+use Rattle.wit_functions.specs.SettersPlaced.{is_getter_of, pairs, placed, setters_placed}
 use Rattle.wit_functions.proofs.InTurn.{in_turn}
 use Rattle.wit_functions.proofs.Pairs.{in_turn-placed}
 use Rattle.wit_arena.specs.SourceFunctions.{by_name}

@@ -12,8 +12,8 @@ use denote.Ref.{Bor}
 use Rattle.wit_type_tree.specs.declared.types.«Type».{«Type» as Written}
 use Rattle.wit_type_tree.specs.declared.types.TypeDef.{TypeDef as Definition}
 use Rattle.wit_syntax.specs.Source.{ScopeName, Defined, local_name, meaning}
-use Rattle.wit_syntax.specs.Signature.{body_ok, meant_ok}
-use Rattle.wit_syntax.specs.Scope.{AreDistinct}
+use Rattle.wit_syntax.specs.SignatureRules.{body_ok, meant_ok}
+use Rattle.wit_syntax.specs.ScopeTables.{AreDistinct}
 use Rattle.wit_syntax.proofs.Names.{name_cases, name_itself}
 use Rattle.wit_syntax.proofs.Repeated.{differ_at, differ_by}
 use Rattle.wit_rules.specs.Signatures.{stated_ok, AreResults}

@@ -13,15 +13,15 @@ use Rattle.wit_syntax.specs.Fault.{Fault, fault, item_word, missing_at}
 use Rattle.wit_syntax.specs.Repeats.{AllDiffer}
 use Rattle.wit_syntax.specs.Shape.{all_handles}
 use Rattle.wit_syntax.specs.Source.{Item, address, ScopeName, scope_names, path_id}
-use Rattle.wit_syntax.specs.Scope.{in_turn}
+use Rattle.wit_syntax.specs.ScopeTables.{in_turn}
 use Rattle.wit_syntax.specs.Function.{SourceFunction, functions, name_types, written_types, item_types}
-use Rattle.wit_syntax.specs.Signature.{IsBrokenFunction}
+use Rattle.wit_syntax.specs.SignatureRules.{IsBrokenFunction}
 use Rattle.wit_tree.specs.declared.tree.WorldSide.{WorldSide}
 use Rattle.wit_tree.specs.declared.tree.WorldSide.TheVariants.{Imported}
 use Rattle.wit_syntax.specs.Sides.{SideItem, SideFunction, names_on, on_side, side_items, IsFoldedTwice, IsCrossedTwice, FoldedTwice, CrossedTwice}
 use Rattle.wit_syntax.specs.Broken.{IsBrokenScope, Function as FunctionBroken}
 use Rattle.wit_arena.specs.Resolving.{Env, Names, env_of, ResolvedScope, Required, AreEnded, AddsFunctions, IsWrongHandle, WrongItself}
-use Rattle.wit_arena.specs.Resolved.{AddsAfter, IsNameless, IsWrongHandleNow}
+use Rattle.wit_arena.specs.ResolvedArenas.{AddsAfter, IsNameless, IsWrongHandleNow}
 use Rattle.wit_syntax.proofs.Legal.{function_name}
 use Rattle.wit_arena.proofs.FunctionNames.{names_differ, made_name}
 use Rattle.wit_syntax.proofs.Lists.{map_map}
@@ -37,11 +37,11 @@ use Rattle.wit_externs.specs.Links.{IsWrongLink, WrongMetadata as NotedWrong, At
 use Rattle.wit_externs.specs.declared.borrowed.BorrowedLink.{BorrowedLink}
 use Rattle.wit_externs.specs.declared.borrowed.BorrowedExtern.{BorrowedExtern}
 use Rattle.wit_externs.specs.declared.borrowed.BorrowedExtern.TheVariants as borrowed
-use Rattle.wit_scopes.specs.Borrowed.{Borrowed as BorrowedName}
+use Rattle.wit_scopes.specs.BorrowedNames.{Borrowed as BorrowedName}
 use Rattle.wit_scopes.specs.DefinitionOrder.{IsOfFunctions, OfFunction}
 use Rattle.wit_item_entries.specs.AddedNames.{AddsTurn}
 use Rattle.wit_uses.specs.NameOrder.{IsTurn}
-use Rattle.wit_item_entries.specs.FunctionFaults.{IsWrongFunctions, BrokenFunction, BrokenNames, CrossedNames, HandleOfOther}
+use Rattle.wit_item_entries.specs.ScopeFunctionFaults.{IsWrongFunctions, BrokenFunction, BrokenNames, CrossedNames, HandleOfOther}
 use Rattle.wit_item_entries.specs.Body.{AddsBody, IsWrongBody, WrongNames, WrongHandles, WrongSides}
 use Rattle.wit_item_entries.proofs.Handled.{handle_wider}
 use Rattle.wit_uses.proofs.NameOrder.{differ_called}

@@ -12,7 +12,7 @@ use Rattle.wit_syntax.specs.Shape.{all_handles}
 use Rattle.wit_syntax.specs.Function.{functions as item_functions, name_types, written_types, item_types}
 use Rattle.wit_syntax.specs.Fault.{Fault}
 use Rattle.wit_arena.specs.Resolving.{Names, ResolvedScope, env_of}
-use Rattle.wit_arena.specs.Resolved.{OwnStability, IsWrongHandleNow, IsWrongInterface, WrongStability, WrongScope, WrongHandle, WrongSides, IsWrongWorld, WrongWorldStability, WrongWorldScope, WrongWorldHandle, WrongWorldSides}
+use Rattle.wit_arena.specs.ResolvedArenas.{OwnStability, IsWrongHandleNow, IsWrongInterface, WrongStability, WrongScope, WrongHandle, WrongSides, IsWrongWorld, WrongWorldStability, WrongWorldScope, WrongWorldHandle, WrongWorldSides}
 use Rattle.wit_arena.proofs.Written.{all_handles-append}
 use Rattle.wit_item_entries.specs.AddedNames.{IsWrongHandleOf, IsWrongNames, WrongScopeNames, WrongHandleNames}
 use Rattle.wit_item_entries.specs.Body.{IsWrongBody, WrongMetadata, WrongNames, WrongHandles, WrongSides as SidesWrong}

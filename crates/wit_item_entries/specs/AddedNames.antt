@@ -7,12 +7,12 @@ use Rattle.wit_types.specs.declared.types.TypeDef.{TypeDef}
 use Rattle.wit_types.specs.declared.types.TypeOwner.{TypeOwner}
 use Rattle.wit_syntax.specs.Address.{Address}
 use Rattle.wit_syntax.specs.Source.{ScopeName, local_id}
-use Rattle.wit_syntax.specs.Scope.{rows_of, in_order, defined, in_turn, local_names, AreDistinct}
+use Rattle.wit_syntax.specs.ScopeTables.{rows_of, in_order, defined, in_turn, local_names, AreDistinct}
 use Rattle.wit_syntax.specs.Fault.{Fault}
 use Rattle.wit_syntax.specs.Shape.{all_handles}
 use Rattle.wit_syntax.specs.Function.{SourceFunction, name_types}
 use Rattle.wit_arena.specs.Resolving.{Names, env_of, names_in, ResolvedScope, Defines, Required, IsWrongHandle, IsWrongScope}
-use Rattle.wit_arena.specs.Resolved.{DefinesAll, AddsScope}
+use Rattle.wit_arena.specs.ResolvedArenas.{DefinesAll, AddsScope}
 use Rattle.wit_entries.specs.Requiring.{Requires}
 
 -- once some of these definitions were added, and some types after them, a name in a handle of one of them ends at something else than

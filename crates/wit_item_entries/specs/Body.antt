@@ -7,16 +7,16 @@ use Rattle.wit_functions.specs.declared.function.Function.{Function}
 use Rattle.wit_syntax.specs.Fault.{Fault}
 use Rattle.wit_syntax.specs.Metadata.{IsBrokenStability}
 use Rattle.wit_syntax.specs.Source.{Declared, Item, local_id, scope_names, about}
-use Rattle.wit_syntax.specs.Scope.{in_turn}
+use Rattle.wit_syntax.specs.ScopeTables.{in_turn}
 use Rattle.wit_syntax.specs.Function.{functions}
 use Rattle.wit_syntax.specs.Sides.{side_items, IsBrokenSides}
 use Rattle.wit_arena.specs.Resolving.{Names, ResolvedScope, Required, IsWrongScope}
-use Rattle.wit_arena.specs.Resolved.{AddsScope, AddsAfter, IsWrongHandleNow}
+use Rattle.wit_arena.specs.ResolvedArenas.{AddsScope, AddsAfter, IsWrongHandleNow}
 use Rattle.wit_signatures.specs.ForeignName.{name_of_function, name_of_made}
 use Rattle.wit_externs.specs.Clash.{DifferOnSides}
 use Rattle.wit_externs.specs.declared.borrowed.PathTarget.TheVariants as path_target
 use Rattle.wit_externs.specs.declared.borrowed.BorrowedExtern.TheVariants as borrowed
-use Rattle.wit_scopes.specs.Borrowed.{name_view, Borrowed as BorrowedName}
+use Rattle.wit_scopes.specs.BorrowedNames.{name_view, Borrowed as BorrowedName}
 
 -- the item is this one, and these are its names
 pub record HasNames (item : Item) (d : Declared) (xs : List BorrowedName) : Type 0 where

@@ -1,3 +1,3 @@
 pub mod AddedNames
-pub mod FunctionFaults
+pub mod ScopeFunctionFaults
 pub mod Body

@@ -7,11 +7,11 @@ ghost use Rattle.wit_syntax.specs.Repeats.{AllDiffer};
 ghost use Rattle.wit_syntax.specs.Source.{interface_part, local_name, about};
 ghost use Rattle.wit_syntax.specs.Function.{definition_functions, part_functions};
 ghost use Rattle.wit_arena.specs.SourceFunctions.{placed_functions};
-ghost use Rattle.wit_rules.specs.Borrowed.{function_view};
-ghost use Rattle.wit_syntax.specs.Signature.{body_ok};
+ghost use Rattle.wit_rules.specs.BorrowedFunctions.{function_view};
+ghost use Rattle.wit_syntax.specs.SignatureRules.{body_ok};
 ghost use Rattle.wit_rules.specs.Signatures.{stated_ok, AreResults};
-ghost use Rattle.wit_items.specs.Items.{declared_view};
-ghost use Rattle.wit_scopes.specs.Borrowed.{name_view};
+ghost use Rattle.wit_items.specs.BorrowedItems.{declared_view};
+ghost use Rattle.wit_scopes.specs.BorrowedNames.{name_view};
 
 use std::alloc::{AllocError, Global};
 use wit_items::items::Declared;
@@ -19,7 +19,7 @@ use wit_maps::TextTable;
 use wit_model::Function;
 use wit_rules::borrowed::BorrowedFunction;
 use wit_scopes::scope_name::ScopeName;
-use wit_setters::setters::setters_after_getters;
+use wit_setters::interface_setters::setters_after_getters;
 use wit_tree::tree::{InterfaceItem, Type, TypeBody, TypeDef};
 use wit_values::{pair_with, push};
 

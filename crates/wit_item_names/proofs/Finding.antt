@@ -14,14 +14,14 @@ use Rattle.wit_type_tree.specs.declared.leaves.Id.{Id}
 use Rattle.wit_tree.specs.declared.tree.PackageFile.{PackageFile}
 use Rattle.wit_graph.specs.Table.{Row, place_of, target}
 use Rattle.wit_syntax.specs.Source.{Target, Local, Item, item_name, item_named, is_world, all_items}
-use Rattle.wit_syntax.specs.Scope.{item_row, item_rows}
+use Rattle.wit_syntax.specs.ScopeTables.{item_row, item_rows}
 use Rattle.wit_syntax.specs.Broken.{is_world_at}
 use Rattle.wit_syntax.proofs.Names.{name_cases}
 use Rattle.wit_syntax.proofs.Lists.{map_at}
 use Rattle.wit_files.specs.FileNames.{found_at}
 use Rattle.wit_files.specs.declared.file_names.Found.{Found}
 use Rattle.wit_files.specs.declared.file_names.Found.TheVariants.{Item as ItemAt, Foreign as ForeignAt}
-use Rattle.wit_item_names.specs.Items.{item_place, other_place}
+use Rattle.wit_item_names.specs.ItemPaths.{item_place, other_place}
 
 -- whether two names are one does not hang on which is first
 bytes_swap : (a b : List ℕ) → bytes_eq a b ≡ bytes_eq b a

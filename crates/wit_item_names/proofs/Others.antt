@@ -20,11 +20,11 @@ use Rattle.wit_syntax.specs.Address.{Address, ForeignNamed, same_address, WorldN
 use Rattle.wit_syntax.specs.Source.{Target, Local, Foreign, leads, Item, Part, DefinitionPart, UsePart, IncludePart, FunctionPart, ExternPart, parts, all_items, target_scope, at_side, walk}
 use Rattle.wit_syntax.specs.Foreign.{ForeignVisit, visited, path_visits, part_visits, extern_visits, same_item, foreign_at, foreign_items, foreign_interfaces, foreign_worlds}
 use Rattle.wit_syntax.specs.ExternPart.{extern_paths, inline_uses}
-use Rattle.wit_syntax.specs.Scope.{use_path}
+use Rattle.wit_syntax.specs.ScopeTables.{use_path}
 use Rattle.wit_arena.specs.Whole.{foreign_place, foreign_entry}
 use Rattle.wit_syntax.specs.Broken.{is_world_at}
 use Rattle.wit_arena.specs.Resolving.{Names, env_of, IsNoWorld}
-use Rattle.wit_arena.specs.Resolved.{worlds_at}
+use Rattle.wit_arena.specs.ResolvedArenas.{worlds_at}
 use Rattle.wit_syntax.proofs.Addresses.{side_itself, same_address-equal, same_address-from}
 use Rattle.wit_syntax.proofs.Found.{find_passes, find_some, find_at, at_contains}
 use Rattle.wit_syntax.proofs.Kept.{kept_has}
@@ -33,7 +33,7 @@ use Rattle.wit_arena.proofs.Visits.{IsVisited, visit_listed, path_among, path_vi
 use Rattle.wit_files.specs.FileNames.{found_at, top_at}
 use Rattle.wit_files.specs.declared.file_names.Found.{Found}
 use Rattle.wit_files.specs.declared.file_names.Found.TheVariants.{Item as ItemAt, Foreign as ForeignAt}
-use Rattle.wit_item_names.specs.Items.{HasPart, HasPath, entry_at, interface_entry, world_entry, world_at}
+use Rattle.wit_item_names.specs.ItemPaths.{HasPart, HasPath, entry_at, interface_entry, world_entry, world_at}
 use Rattle.wit_item_names.proofs.Finding.{find_position, find_no_position}
 
 abbrev named : PackageName → Id → Address

@@ -10,13 +10,13 @@ use Rattle.wit_tree.specs.declared.tree.Use.{Use as WrittenUse}
 use Rattle.wit_tree.specs.declared.tree.UsePath.{UsePath}
 use Rattle.wit_tree.specs.declared.tree.PackageFile.{PackageFile}
 use Rattle.wit_syntax.specs.Source.{TopName, Declared, Part, DefinitionPart, UsePart, IncludePart, FunctionPart, ExternPart, parts, about}
-use Rattle.wit_syntax.specs.Scope.{use_path, part_uses, uses}
+use Rattle.wit_syntax.specs.ScopeTables.{use_path, part_uses, uses}
 use Rattle.wit_syntax.specs.ExternPart.{extern_paths, inline_uses}
 use Rattle.wit_syntax.specs.Fault.{Fault}
 use Rattle.wit_syntax.proofs.Lists.{at_prefix, flat_map_at, flat_map_has}
 use Rattle.wit_syntax.proofs.Found.{at_contains, contains_at}
 use Rattle.wit_top_names.proofs.Lost.{at_flat, flat_more}
-use Rattle.wit_item_names.specs.Items.{HasItem, HasPart, HasPath}
+use Rattle.wit_item_names.specs.ItemPaths.{HasItem, HasPart, HasPath}
 
 -- what is in a list of one is that one
 pub contains_one : {X : Type 0} (x y : X) → Contains (x ∷ []) y → x ≡ y

@@ -16,7 +16,7 @@ use Rattle.wit_tree.specs.declared.tree.WorldSide.{WorldSide}
 use Rattle.wit_syntax.specs.ExternPart.{same_side, item_uses, inline_uses}
 use Rattle.wit_syntax.specs.Function.{SourceFunction, definition_functions, free_function}
 use Rattle.wit_syntax.specs.Source.{TopName, interface_part, part_names, Part, DefinitionPart, UsePart, IncludePart, FunctionPart, ExternPart, ScopeName}
-use Rattle.wit_syntax.specs.Scope.{part_uses}
+use Rattle.wit_syntax.specs.ScopeTables.{part_uses}
 use Rattle.wit_syntax.specs.Sides.{SideItem, SideFunction, item_side, items_on, extern_items, part_items}
 use Rattle.wit_syntax.proofs.Found.{at_contains}
 use Rattle.wit_first.specs.UseFaults.{own_uses}

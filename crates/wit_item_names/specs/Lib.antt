@@ -1,3 +1,3 @@
-pub mod Items
+pub mod ItemPaths
 pub mod InlineNames
-pub mod Interfaces
+pub mod ForeignAddresses

@@ -3,7 +3,7 @@ ghost use Rattle.std.specs.Prelude.{◌≡◌, ◌<◌, Some, length, map, slice
 ghost use Rattle.wit_syntax.specs.Source.{leads, all_items, is_world as is_the_world};
 ghost use Rattle.wit_top_names.specs.Tops.{target_view};
 ghost use Rattle.wit_files.specs.FileNames.{found_at, top_at};
-ghost use Rattle.wit_item_names.specs.Items.{AreEntriesOf};
+ghost use Rattle.wit_item_names.specs.ItemPaths.{AreEntriesOf};
 
 use std::marker::Model;
 use wit_files::{FileNames, Found};
@@ -31,7 +31,7 @@ impl Drop for Files<'_, '_, '_, '_> {
 impl<'n, 'e, 'f, 'a> Model for Files<'n, 'e, 'f, 'a> {
     ghost use Rattle.std.specs.Prelude.{List, []};
     ghost use Rattle.wit_tree.specs.declared.tree.PackageFile.{PackageFile};
-    ghost use Rattle.wit_item_names.specs.Items.{AreEntriesOf};
+    ghost use Rattle.wit_item_names.specs.ItemPaths.{AreEntriesOf};
     ghost use Rattle.wit_type_tree.specs.contracts.types.Type as written;
     ghost use Rattle.std.specs.Coded.{codes};
     ghost use mir.Syntax.{named};

@@ -2,6 +2,6 @@
 #![tactic(auto)]
 
 pub mod files;
-pub mod inside;
-pub mod parts;
+pub mod inline_names;
+pub mod part_names;
 pub mod resolved_path;

@@ -7,8 +7,8 @@ ghost use Rattle.wit_first.specs.First.{Finds};
 ghost use Rattle.wit_first.specs.UseFaults.{path_fault};
 ghost use Rattle.wit_top_names.specs.Tops.{target_view};
 ghost use Rattle.wit_files.specs.FileNames.{top_at};
-ghost use Rattle.wit_scopes.specs.Borrowed.{source_view, IsPlaced};
-ghost use Rattle.wit_item_names.specs.Items.{HasPath, item_place as the_item_place, other_place as the_other_place, entry_at, interface_entry, IsResolvedPath};
+ghost use Rattle.wit_scopes.specs.BorrowedNames.{source_view, IsPlaced};
+ghost use Rattle.wit_item_names.specs.ItemPaths.{HasPath, item_place as the_item_place, other_place as the_other_place, entry_at, interface_entry, IsResolvedPath};
 
 use crate::files::Files;
 use std::alloc::Global;

@@ -8,12 +8,12 @@ use Rattle.wit_syntax.specs.Source.{all_items, scope_names}
 use Rattle.wit_syntax.proofs.Lists.{map_map}
 use Rattle.wit_scopes.specs.PlacedNames.{AreNamesPlaced}
 use Rattle.wit_scopes.proofs.Declaring.{alike}
-use Rattle.wit_item_names.specs.Interfaces.{prefix_of}
+use Rattle.wit_item_names.specs.ForeignAddresses.{prefix_of}
 use Rattle.wit_items.specs.declared.items.Item.{Item}
 use Rattle.wit_items.specs.PlacedItems.{AreItemsPlaced}
 use Rattle.wit_items.specs.Gathered.{AreItemsOf}
 use Rattle.wit_items.specs.InlineNames.{inside_view, names_written}
-use Rattle.wit_items.specs.Items.{AreFiled, item_view, names_view}
+use Rattle.wit_items.specs.BorrowedItems.{AreFiled, item_view, names_view}
 
 -- an item at hand, of whose names the place is known
 placed_one : (prefix : List Address) (items : List Item) (k : ℕ) (x : Item) → slice_get items k ≡ Some x → AreItemsPlaced prefix items → AreItemsPlaced prefix (x ∷ [])

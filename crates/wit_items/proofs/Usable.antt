@@ -16,7 +16,7 @@ use Rattle.wit_syntax.specs.ExternPart.{inline_uses}
 use Rattle.wit_syntax.specs.Fault.{Fault, fault, missing_at, item_word}
 use Rattle.wit_syntax.specs.Foreign.{ForeignVisit, foreign_at}
 use Rattle.wit_syntax.specs.Source.{Target, Local, Foreign, leads, path_id, top_names, Declared, Item, item_named, is_world, parts, file_items, all_items, walk}
-use Rattle.wit_syntax.specs.Scope.{use_paths, uses}
+use Rattle.wit_syntax.specs.ScopeTables.{use_paths, uses}
 use Rattle.wit_syntax.proofs.Lists.{at_either}
 use Rattle.wit_syntax.proofs.Found.{at_contains, contains_at}
 use Rattle.wit_first.specs.AttributeFaults.{metadata_fault}
@@ -27,8 +27,8 @@ use Rattle.wit_first.proofs.FileFaults.{lost_agrees, lost_at}
 use Rattle.wit_top_names.proofs.Lost.{at_flat}
 use Rattle.wit_files.specs.FileNames.{names_at_top}
 use Rattle.wit_items.specs.declared.items.Item.{Item as Borrowed}
-use Rattle.wit_item_names.specs.Items.{HasItem}
-use Rattle.wit_items.specs.Items.{declared_view, IsFiled, AreFiled, HaveSoundUses}
+use Rattle.wit_item_names.specs.ItemPaths.{HasItem}
+use Rattle.wit_items.specs.BorrowedItems.{declared_view, IsFiled, AreFiled, HaveSoundUses}
 use Rattle.wit_item_names.proofs.Others.{used_visited}
 use Rattle.wit_item_names.proofs.Usable.{path_of_use}
 use Rattle.wit_items.proofs.Written.{right_use, walked}

@@ -15,14 +15,14 @@ use Rattle.wit_tree.specs.declared.tree.WorldSide.{WorldSide}
 use Rattle.wit_tree.specs.declared.tree.WorldSide.TheVariants.{Imported, Exported}
 use Rattle.wit_syntax.specs.ExternPart.{inline_uses, item_uses}
 use Rattle.wit_syntax.specs.Source.{TopName, TheInterface, interface_part, Item, Part, DefinitionPart, UsePart, IncludePart, FunctionPart, ExternPart, parts, walk}
-use Rattle.wit_syntax.specs.Scope.{part_uses, uses}
+use Rattle.wit_syntax.specs.ScopeTables.{part_uses, uses}
 use Rattle.wit_syntax.proofs.Addresses.{side_itself}
 use Rattle.wit_syntax.proofs.Lists.{flat_map_at}
 use Rattle.wit_syntax.proofs.Found.{at_contains, contains_at}
 use Rattle.wit_first.specs.UseFaults.{item_uses_fault, own_uses, use_fault, uses_fault}
 use Rattle.wit_first.proofs.Bridge.{in_only, or_none_both}
 use Rattle.wit_first.proofs.First.{in-append}
-use Rattle.wit_scopes.specs.Borrowed.{name_view}
+use Rattle.wit_scopes.specs.BorrowedNames.{name_view}
 use Rattle.wit_items.specs.declared.items.Item.{Item as Borrowed}
 use Rattle.wit_item_names.specs.InlineNames.{written_items, side_uses}
 use Rattle.wit_items.specs.InlineNames.{names_written, inside_view}

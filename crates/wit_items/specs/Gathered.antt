@@ -3,11 +3,11 @@ use Rattle.std.specs.Prelude.{◌≡◌, ℕ, List, [], ◌∷◌, Some, slice_g
 use Rattle.wit_tree.specs.declared.tree.PackageFile.{PackageFile}
 use Rattle.wit_tree.specs.declared.tree.WorldSide.{WorldSide}
 use Rattle.wit_syntax.specs.Source.{scope_names}
-use Rattle.wit_item_names.specs.Interfaces.{prefix_of}
+use Rattle.wit_item_names.specs.ForeignAddresses.{prefix_of}
 use Rattle.wit_items.specs.declared.items.Item.{Item}
 use Rattle.wit_items.specs.PlacedItems.{AreItemsPlaced}
 use Rattle.wit_items.specs.InlineNames.{inside_view, names_written}
-use Rattle.wit_items.specs.Items.{IsFiled, item_view, names_view}
+use Rattle.wit_items.specs.BorrowedItems.{IsFiled, item_view, names_view}
 
 -- an item of these files, with its names and those of the interfaces that are written in it, which are placed
 pub record IsItemOf (files : List PackageFile) (i : Item) : Type 0 where

@@ -1,8 +1,8 @@
 pub mod FileHeaders
-pub mod Items
+pub mod BorrowedItems
 pub mod InlineNames
 pub mod PlacedItems
 pub mod SourceItems
-pub mod Interfaces
+pub mod ResolvedInterfaces
 pub mod Found
 pub mod Gathered

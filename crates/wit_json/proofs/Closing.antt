@@ -8,7 +8,7 @@ use Rattle.json.specs.Json.{Json}
 use Rattle.json.specs.Value.{items_of}
 use Rattle.json.specs.Tree.{json_tokens, items_tokens, members_tokens}
 use Rattle.wit_json.specs.Values.{members_of, fields, list}
-use Rattle.wit_json.specs.Tokens.{member_tokens}
+use Rattle.wit_json.specs.ValueTokens.{member_tokens}
 
 pub items_tokens_of : (js : List Json) → items_tokens (items_of js) ≡ flat_map json_tokens js ++ Token.end_array ∷ []
 items_tokens_of [] = refl

@@ -38,7 +38,7 @@ use Rattle.wit_model.specs.declared.world.WorldKey.{WorldKey}
 use Rattle.wit_model.specs.declared.world.WorldItem.{WorldItem}
 use Rattle.wit_model.specs.declared.world.WorldItem.TheVariants as item
 use Rattle.wit_lex.specs.declared.source.Source.{Source}
-use Rattle.wit_json.specs.declared.words.Word.TheVariants as w
+use Rattle.wit_json.specs.declared.member_words.Word.TheVariants as w
 use Rattle.wit_json.specs.Values.{at, fields, list, members_of, number_json, optional_number, optional_text}
 use Rattle.wit_json.specs.Metadata.{deprecated_members, docs_members, external_members, metadata_members, span_json, stability_json, stability_members}
 use Rattle.wit_json.specs.Kinds.{case_json, enum_case_json, field_json, flag_json, handle_json, kind_json, optional_type, type_json}

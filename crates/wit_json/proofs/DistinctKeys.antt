@@ -37,7 +37,7 @@ use Rattle.wit_model.specs.declared.world.WorldKey.{WorldKey}
 use Rattle.wit_model.specs.declared.world.WorldItem.{WorldItem}
 use Rattle.wit_model.specs.declared.world.WorldItem.TheVariants as item
 use Rattle.wit_lex.specs.declared.source.Source.{Source}
-use Rattle.wit_json.specs.declared.words.Word.{Word}
+use Rattle.wit_json.specs.declared.member_words.Word.{Word}
 use Rattle.wit_json.specs.Values.{fields, number_json, optional_number, optional_text, tagged}
 use Rattle.wit_json.specs.Metadata.{span_json, stability_json}
 use Rattle.wit_json.specs.Kinds.{case_json, enum_case_json, field_json, flag_json, handle_json, kind_json, optional_type, outcome_members, type_json}

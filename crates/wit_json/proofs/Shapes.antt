@@ -22,7 +22,7 @@ use Rattle.wit_model.specs.declared.world.World.{World}
 use Rattle.wit_model.specs.declared.world.WorldInclude.{WorldInclude}
 use Rattle.wit_model.specs.declared.world.IncludeName.{IncludeName}
 use Rattle.wit_lex.specs.declared.source.Source.{Source}
-use Rattle.wit_json.specs.declared.words.Word.TheVariants as w
+use Rattle.wit_json.specs.declared.member_words.Word.TheVariants as w
 use Rattle.wit_json.specs.Values.{list, number_json, optional_number, optional_text, tagged}
 use Rattle.wit_json.specs.Metadata.{deprecated_members, docs_members, external_members, metadata_members, span_json, stability_json, stability_members, stable_members, unstable_members}
 use Rattle.wit_json.specs.Kinds.{case_members, enum_case_members, field_members, flag_members, kind_json, optional_type, outcome_members, type_json}

@@ -17,7 +17,7 @@ use Rattle.wit_model.specs.declared.world.WorldKey.{WorldKey}
 use Rattle.wit_model.specs.declared.world.WorldItem.{WorldItem}
 use Rattle.wit_model.specs.declared.world.WorldItem.TheVariants as item
 use Rattle.wit_lex.specs.declared.source.Source.{Source}
-use Rattle.wit_json.specs.declared.words.Word.TheVariants as w
+use Rattle.wit_json.specs.declared.member_words.Word.TheVariants as w
 use Rattle.wit_json.specs.Values.{at, fields, list, number_json}
 use Rattle.wit_json.specs.Metadata.{span_json, stability_json}
 use Rattle.wit_json.specs.Types.{def_json}

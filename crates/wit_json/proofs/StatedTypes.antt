@@ -25,7 +25,7 @@ use Rattle.wit_functions.specs.declared.function.Function.{Function}
 use Rattle.wit_functions.specs.declared.function.FunctionKind.{FunctionKind}
 use Rattle.wit_functions.specs.declared.function.FunctionKind.TheVariants as form
 use Rattle.wit_functions.specs.declared.function.Param.{Param}
-use Rattle.wit_json.specs.declared.words.Word.TheVariants as w
+use Rattle.wit_json.specs.declared.member_words.Word.TheVariants as w
 use Rattle.wit_json.specs.Values.{tagged}
 use Rattle.wit_json.specs.Metadata.{span_json, stability_json}
 use Rattle.wit_json.specs.Kinds.{case_json, enum_case_json, field_json, flag_json, handle_json, kind_json, optional_type, type_json}

@@ -6,7 +6,7 @@ use Rattle.wit_functions.specs.declared.function.Param.{Param}
 use Rattle.wit_functions.specs.declared.function.Function.{Function}
 use Rattle.wit_functions.specs.declared.function.FunctionKind.{FunctionKind}
 use Rattle.wit_functions.specs.declared.function.FunctionKind.TheVariants as kind
-use Rattle.wit_json.specs.declared.words.Word.TheVariants as w
+use Rattle.wit_json.specs.declared.member_words.Word.TheVariants as w
 use Rattle.wit_json.specs.Values.{at, fields, list, number_json}
 use Rattle.wit_json.specs.Metadata.{metadata_members, span_json}
 use Rattle.wit_json.specs.Kinds.{type_json}

@@ -2,7 +2,7 @@
 use Rattle.std.specs.Prelude.{ℕ, List, [], ◌∷◌, ◌++◌, Option, Some, None, map}
 use Rattle.json.specs.Json.{Json}
 use Rattle.wit_model.specs.declared.interface.Interface.{Interface}
-use Rattle.wit_json.specs.declared.words.Word.TheVariants as w
+use Rattle.wit_json.specs.declared.member_words.Word.TheVariants as w
 use Rattle.wit_json.specs.Values.{at, fields, number_json, optional_number, optional_text}
 use Rattle.wit_json.specs.Metadata.{metadata_members, span_json}
 use Rattle.wit_json.specs.Functions.{function_json}

@@ -9,7 +9,7 @@ pub mod Numbers
 pub mod Package
 pub mod PlainPackages
 pub mod Refusal
-pub mod Tokens
+pub mod ValueTokens
 pub mod Types
 pub mod Values
 pub mod MemberWords

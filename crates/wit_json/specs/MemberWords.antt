@@ -1,7 +1,7 @@
 -- The keys of members and the tags of variants.
 use Rattle.std.specs.Prelude.{ℕ, List, codes}
-use Rattle.wit_json.specs.declared.words.Word.{Word}
-use Rattle.wit_json.specs.declared.words.Word.TheVariants as w
+use Rattle.wit_json.specs.declared.member_words.Word.{Word}
+use Rattle.wit_json.specs.declared.member_words.Word.TheVariants as w
 
 unfoldable pub word : Word → List ℕ
 word w.As = codes "as"

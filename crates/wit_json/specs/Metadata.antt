@@ -6,8 +6,8 @@ use Rattle.wit_values.specs.declared.span.Span.{Span}
 use Rattle.wit_values.specs.ReleaseText.{release_text}
 use Rattle.wit_types.specs.declared.stability.Stability.{Stability}
 use Rattle.wit_types.specs.declared.stability.Stability.TheVariants.{Unknown, Unstable, Stable}
-use Rattle.wit_json.specs.declared.words.Word.{Word}
-use Rattle.wit_json.specs.declared.words.Word.TheVariants as w
+use Rattle.wit_json.specs.declared.member_words.Word.{Word}
+use Rattle.wit_json.specs.declared.member_words.Word.TheVariants as w
 use Rattle.wit_json.specs.Values.{at, fields, list, number_json, tagged}
 
 -- the first byte, and the first after the last

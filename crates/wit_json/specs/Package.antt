@@ -8,7 +8,7 @@ use Rattle.wit_package_names.specs.PackageName.{name_text}
 use Rattle.wit_model.specs.declared.ast_item.AstItem.{AstItem}
 use Rattle.wit_model.specs.declared.ast_item.AstItem.TheVariants as item
 use Rattle.wit_model.specs.declared.unresolved.UnresolvedPackage.{UnresolvedPackage}
-use Rattle.wit_json.specs.declared.words.Word.TheVariants as w
+use Rattle.wit_json.specs.declared.member_words.Word.TheVariants as w
 use Rattle.wit_json.specs.Values.{at, fields, list, number_json, tagged}
 use Rattle.wit_json.specs.Metadata.{docs_members, span_json, stability_json}
 use Rattle.wit_json.specs.Types.{def_json}

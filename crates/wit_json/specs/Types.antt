@@ -4,7 +4,7 @@ use Rattle.json.specs.Json.{Json, null}
 use Rattle.wit_types.specs.declared.types.TypeOwner.{TypeOwner}
 use Rattle.wit_types.specs.declared.types.TypeOwner.TheVariants as owner
 use Rattle.wit_types.specs.declared.types.TypeDef.{TypeDef}
-use Rattle.wit_json.specs.declared.words.Word.TheVariants as w
+use Rattle.wit_json.specs.declared.member_words.Word.TheVariants as w
 use Rattle.wit_json.specs.Values.{at, fields, number_json, optional_text, tagged}
 use Rattle.wit_json.specs.Metadata.{metadata_members, span_json}
 use Rattle.wit_json.specs.Kinds.{kind_json}

@@ -3,7 +3,7 @@ use Rattle.std.specs.Prelude.{ℕ, List, [], ◌∷◌, Option, Some, None}
 use Rattle.std.specs.Fmt.{decimal}
 use Rattle.json.specs.Json.{Json, null, number, string, array, object, Members, no_members, member}
 use Rattle.json.specs.Value.{items_of}
-use Rattle.wit_json.specs.declared.words.Word.{Word}
+use Rattle.wit_json.specs.declared.member_words.Word.{Word}
 use Rattle.wit_json.specs.MemberWords.{word}
 
 abbrev pub members_of : List (List ℕ × Json) → Members

@@ -1,13 +1,13 @@
 //! Functions.
 ghost use Rattle.std.specs.Prelude.{◌≡◌, OnOk, codes};
-ghost use Rattle.wit_json.specs.Tokens.{Adds, AddsMembers};
+ghost use Rattle.wit_json.specs.ValueTokens.{Adds, AddsMembers};
 ghost use Rattle.wit_json.specs.Functions.{function_prefix, function_json, function_kind, function_members, of_resource, param_json, param_members, result_members};
 
 use crate::lists::{AsJson, write_list};
+use crate::member_words::Word;
 use crate::members::{push_key, push_text, write_number};
 use crate::metadata::{push_metadata, push_span};
 use crate::output::Output;
-use crate::words::Word;
 use std::alloc::AllocError;
 use wit_model::{Function, FunctionKind, Param};
 use wit_types::{Type, TypeId};

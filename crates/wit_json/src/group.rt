@@ -1,14 +1,14 @@
 //! A package, and those that are nested in it.
 ghost use Rattle.std.specs.Prelude.{◌≡◌, IfOk, IsUtf8, OnOk};
 ghost use Rattle.wit_json.specs.Numbers.{HasShortNumbers};
-ghost use Rattle.wit_json.specs.Tokens.{Adds, AddsEach, AddsMembers, ReadsAs, json_text};
+ghost use Rattle.wit_json.specs.ValueTokens.{Adds, AddsEach, AddsMembers, ReadsAs, json_text};
 ghost use Rattle.wit_json.specs.Values.{list};
 ghost use Rattle.wit_json.specs.Group.{group_json, group_members, packages_of, source_json, source_members};
 
 use crate::lists::{AsJson, push_each, write_list};
+use crate::member_words::Word;
 use crate::members::{push_key, push_number, push_text};
 use crate::output::Output;
-use crate::words::Word;
 use std::alloc::{AllocError, Global};
 use wit_lex::Source;
 use wit_model::UnresolvedPackage;

@@ -1,13 +1,13 @@
 //! Interfaces.
 ghost use Rattle.std.specs.Prelude.{◌≡◌, OnOk};
-ghost use Rattle.wit_json.specs.Tokens.{Adds, AddsMembers};
+ghost use Rattle.wit_json.specs.ValueTokens.{Adds, AddsMembers};
 ghost use Rattle.wit_json.specs.Interfaces.{clone_members, interface_back, interface_prefix, interface_json, interface_members};
 
 use crate::lists::{AsJson, write_table};
+use crate::member_words::Word;
 use crate::members::{push_key, push_number, write_optional_id, write_optional_text};
 use crate::metadata::{push_docs, push_span, push_stability};
 use crate::output::Output;
-use crate::words::Word;
 use std::alloc::AllocError;
 use wit_model::Interface;
 use wit_types::InterfaceId;

@@ -1,16 +1,16 @@
 //! What a type is.
 ghost use Rattle.std.specs.Prelude.{◌≡◌, ◌∷◌, [], OnOk, codes, map};
 ghost use Rattle.wit_types.specs.declared.types.TypeDefKind.TheVariants as kind;
-ghost use Rattle.wit_json.specs.Tokens.{Adds, AddsMembers};
-ghost use Rattle.wit_json.specs.declared.words.Word.TheVariants as w;
+ghost use Rattle.wit_json.specs.ValueTokens.{Adds, AddsMembers};
+ghost use Rattle.wit_json.specs.declared.member_words.Word.TheVariants as w;
 ghost use Rattle.wit_json.specs.Values.{at, list, number_json, tagged};
 ghost use Rattle.wit_json.specs.Kinds.{case_json, case_members, counted_json, enum_case_json, enum_case_members, field_json, field_members, flag_json, flag_members, handle_json, kind_json, optional_type, outcome_json, outcome_members, pair_json, parts_json, type_json};
 
 use crate::lists::{AsJson, write_list};
+use crate::member_words::Word;
 use crate::members::{open, push_key, push_text, write_number};
 use crate::metadata::{push_docs, push_span};
 use crate::output::Output;
-use crate::words::Word;
 use std::alloc::AllocError;
 use wit_types::{Case, EnumCase, Field, Flag, Handle, Type, TypeDefKind};
 

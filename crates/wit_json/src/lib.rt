@@ -10,13 +10,13 @@ mod interfaces;
 mod kinds;
 pub mod laws;
 mod lists;
+mod member_words;
 mod members;
 mod metadata;
 mod output;
 mod package;
 pub mod refusal;
 mod types;
-mod words;
 mod worlds;
 
 pub use group::group_json;

@@ -1,7 +1,7 @@
 //! Lists of values, and maps in their order.
 ghost use Rattle.std.specs.Prelude.{◌≡◌, ◌∷◌, [], OnOk, map};
 ghost use Rattle.json.specs.Json.{Json};
-ghost use Rattle.wit_json.specs.Tokens.{Adds, AddsEach, AddsMembers};
+ghost use Rattle.wit_json.specs.ValueTokens.{Adds, AddsEach, AddsMembers};
 ghost use Rattle.wit_json.specs.Values.{list, number_json};
 ghost use Rattle.wit_json.specs.Interfaces.{table_json};
 

@@ -2,12 +2,12 @@
 ghost use Rattle.std.specs.Prelude.{◌≡◌, ◌++◌, ◌∷◌, [], OnOk};
 ghost use Rattle.json.specs.Json.{string};
 ghost use Rattle.json.specs.Token.{begin_object, key};
-ghost use Rattle.wit_json.specs.Tokens.{Adds, AddsMembers};
+ghost use Rattle.wit_json.specs.ValueTokens.{Adds, AddsMembers};
 ghost use Rattle.wit_json.specs.Values.{at, number_json, optional_number, optional_text};
 ghost use Rattle.wit_json.specs.MemberWords.{word};
 
+use crate::member_words::Word;
 use crate::output::Output;
-use crate::words::Word;
 use std::alloc::AllocError;
 use wit_types::Id;
 use wit_values::Text;

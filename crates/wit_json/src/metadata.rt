@@ -2,15 +2,15 @@
 ghost use Rattle.std.specs.Prelude.{◌≡◌, ◌++◌, ◌∷◌, [], IfOk, OnOk, codes, string_bytes};
 ghost use Rattle.json.specs.Json.{string};
 ghost use Rattle.wit_values.specs.ReleaseText.{release_text};
-ghost use Rattle.wit_json.specs.declared.words.Word.TheVariants as w;
-ghost use Rattle.wit_json.specs.Tokens.{Adds, AddsMembers};
+ghost use Rattle.wit_json.specs.declared.member_words.Word.TheVariants as w;
+ghost use Rattle.wit_json.specs.ValueTokens.{Adds, AddsMembers};
 ghost use Rattle.wit_json.specs.Values.{at, tagged};
 ghost use Rattle.wit_json.specs.Metadata.{deprecated_members, docs_members, external_members, known_members, metadata_members, span_json, stability_json, stability_members, stable_json, unstable_json, version_members};
 
 use crate::lists::AsJson;
+use crate::member_words::Word;
 use crate::members::{open, push_key, push_text};
 use crate::output::Output;
-use crate::words::Word;
 use std::alloc::{AllocError, Global};
 use wit_types::{Docs, Stability};
 use wit_values::{Rare, Release, Span, Text};

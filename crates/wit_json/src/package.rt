@@ -1,14 +1,14 @@
 //! A package.
 ghost use Rattle.std.specs.Prelude.{◌≡◌, ◌∷◌, [], OnOk};
-ghost use Rattle.wit_json.specs.Tokens.{Adds, AddsMembers};
+ghost use Rattle.wit_json.specs.ValueTokens.{Adds, AddsMembers};
 ghost use Rattle.wit_json.specs.Package.{ast_item_json, dep_member, dep_members, deps_json, foreign_json, name_members, package_back, package_prefix, package_json, package_members, package_middle, required_json};
 
 use crate::kinds::write_tagged;
 use crate::lists::{AsJson, write_arena, write_list, write_table};
+use crate::member_words::Word;
 use crate::members::{push_key, push_text};
 use crate::metadata::{push_docs, push_span};
 use crate::output::Output;
-use crate::words::Word;
 use std::alloc::AllocError;
 use wit_maps::{Table, TextTable};
 use wit_model::{AstItem, UnresolvedPackage};

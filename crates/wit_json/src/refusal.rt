@@ -1,12 +1,12 @@
 //! A refusal.
 ghost use Rattle.std.specs.Prelude.{◌≡◌, IfOk, IsUtf8, OnOk};
-ghost use Rattle.wit_json.specs.Tokens.{Adds, AddsMembers, ReadsAs, json_text};
+ghost use Rattle.wit_json.specs.ValueTokens.{Adds, AddsMembers, ReadsAs, json_text};
 ghost use Rattle.wit_json.specs.Values.{fields};
 ghost use Rattle.wit_json.specs.Refusal.{members_at, optional_range, place_members, range_members, range_of, refusal_at};
 
+use crate::member_words::Word;
 use crate::members::{open, push_number, push_text};
 use crate::output::Output;
-use crate::words::Word;
 use std::alloc::{AllocError, Global};
 
 /// Where a refusal is: a range in the text of one source, in bytes.

@@ -1,14 +1,14 @@
 //! The entries of the arena of types.
 ghost use Rattle.std.specs.Prelude.{◌≡◌, OnOk};
-ghost use Rattle.wit_json.specs.Tokens.{Adds, AddsMembers};
+ghost use Rattle.wit_json.specs.ValueTokens.{Adds, AddsMembers};
 ghost use Rattle.wit_json.specs.Types.{def_prefix, def_json, def_members, owner_json};
 
 use crate::kinds::write_tagged;
 use crate::lists::AsJson;
+use crate::member_words::Word;
 use crate::members::{push_key, write_optional_text};
 use crate::metadata::{push_metadata, push_span};
 use crate::output::Output;
-use crate::words::Word;
 use std::alloc::AllocError;
 use wit_types::{TypeDef, TypeOwner};
 

@@ -1,15 +1,15 @@
 //! Worlds.
 ghost use Rattle.std.specs.Prelude.{◌≡◌, ◌++◌, ◌∷◌, [], IfOk, OnOk, map, string_bytes};
 ghost use Rattle.json.specs.Token as token;
-ghost use Rattle.wit_json.specs.Tokens.{Adds, AddsMembers};
+ghost use Rattle.wit_json.specs.ValueTokens.{Adds, AddsMembers};
 ghost use Rattle.wit_json.specs.Values.{fields};
 ghost use Rattle.wit_json.specs.Worlds.{extern_member, extern_members, externs_json, import_json, import_members, include_json, include_members, interface_key, item_json, rename_json, rename_members, type_members, world_back, world_prefix, world_json, world_key, world_members};
 
 use crate::lists::{AsJson, write_list};
+use crate::member_words::Word;
 use crate::members::{open, push_key, push_number, push_text, write_optional_id};
 use crate::metadata::{push_docs, push_external, push_span, push_stability};
 use crate::output::Output;
-use crate::words::Word;
 use std::alloc::{AllocError, Global};
 use wit_maps::Table;
 use wit_model::{IncludeName, World, WorldInclude, WorldItem, WorldKey};

@@ -6,7 +6,7 @@ use Rattle.wit_syntax.proofs.Lists.{map_map}
 use Rattle.wit_json.specs.Group.{packages_of}
 use Rattle.wit_json.specs.Laws.{Group, json_of, place_of, stated_of}
 use Rattle.wit_json.specs.Values.{at, fields, list, number_json}
-use Rattle.wit_json.specs.declared.words.Word.TheVariants as w
+use Rattle.wit_json.specs.declared.member_words.Word.TheVariants as w
 
 -- the JSON of a source, by its path and its range
 abbrev place_json : List ℕ × ℕ × ℕ → Json

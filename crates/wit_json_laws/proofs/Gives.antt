@@ -17,7 +17,7 @@ use Rattle.wit_lex.specs.declared.kind.Kind.TheVariants as kind
 use Rattle.wit_lex.specs.Lexis.{Lexeme, first_token}
 use Rattle.wit_lex.specs.VersionLexis.{version_to}
 use Rattle.wit_grammar.specs.Grammar.{Gram, mark, name, name_but, version, deeper, both, act, either, opt, many, until, listed, seq, spells, Many, AreListed, ◌▸◌, ◌◂◌}
-use Rattle.wit_grammar.specs.Kinds.{same_kind}
+use Rattle.wit_grammar.specs.TokenKinds.{same_kind}
 use Rattle.wit_grammar.specs.Leaves.{Spot, Read, is_in, lexed, moved, name_at, name_but_at, name_of, past, release_at, release_to, stop, text_of, version_at, ◌>>=◌}
 use Rattle.wit_grammar.specs.Trees.{Name, Release, Text}
 use Rattle.wit_grammar.proofs.LeafReads.{bind_ok, with_value}

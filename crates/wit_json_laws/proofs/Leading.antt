@@ -21,7 +21,7 @@ use Rattle.wit_syntax.specs.Fault.{fault, missing_at, item_word}
 use Rattle.wit_syntax.specs.Foreign.{ForeignVisit, visited, path_visits, part_visits, extern_visits, foreign_at, foreign_items, foreign_interfaces}
 use Rattle.wit_syntax.specs.Function.{definition_functions}
 use Rattle.wit_syntax.specs.Repeats.{AllDiffer}
-use Rattle.wit_syntax.specs.Scope.{interfaces_of, use_path, use_paths, worlds_of}
+use Rattle.wit_syntax.specs.ScopeTables.{interfaces_of, use_path, use_paths, worlds_of}
 use Rattle.wit_syntax.specs.Sides.{Link, SideFunction, SideLink, extern_items, extern_link, inline_items, part_items, side_items}
 use Rattle.wit_syntax.specs.Source.{Part, DefinitionPart, UsePart, IncludePart, FunctionPart, ExternPart, Target, Local, Foreign, Item, address, all_items, at_side, is_world, item_name, item_named, leads, parts, path_id, target_scope, walk}
 use Rattle.wit_syntax.proofs.Addresses.{side_itself}

@@ -7,7 +7,7 @@ use Rattle.wit_tree.specs.declared.tree.PackageFile.{PackageFile}
 use Rattle.wit_tree.specs.declared.tree.WorldSide.{WorldSide}
 use Rattle.wit_tree.specs.declared.tree.WorldSide.TheVariants.{Imported}
 use Rattle.wit_functions.specs.declared.function.Function.{Function}
-use Rattle.wit_functions.specs.Setters.{placed}
+use Rattle.wit_functions.specs.SettersPlaced.{placed}
 use Rattle.wit_graph.specs.Table.{IsOrder}
 use Rattle.wit_syntax.specs.Address.{Address}
 use Rattle.wit_syntax.specs.Broken.{Sides, IsLegal}
@@ -16,9 +16,9 @@ use Rattle.wit_syntax.specs.Fault.{fault}
 use Rattle.wit_syntax.specs.Foreign.{ForeignVisit, visited, foreign_interfaces}
 use Rattle.wit_syntax.specs.Function.{SourceFunction, functions}
 use Rattle.wit_syntax.specs.Repeats.{AllDiffer}
-use Rattle.wit_syntax.specs.Scope.{AreDistinct, interfaces_of, rows_of, worlds_of}
+use Rattle.wit_syntax.specs.ScopeTables.{AreDistinct, interfaces_of, rows_of, worlds_of}
 use Rattle.wit_syntax.specs.Sides.{SideItem, FoldedTwice, all_scopes, inline_items, items_on, on_side, role_side, side_called, side_items}
-use Rattle.wit_syntax.specs.Signature.{Called}
+use Rattle.wit_syntax.specs.SignatureRules.{Called}
 use Rattle.wit_syntax.specs.Source.{Item, ScopeName, address, all_items, is_world, local_name, scope_names}
 use Rattle.wit_syntax.specs.ScopesOfTrees.{scope}
 use Rattle.wit_syntax.proofs.Found.{contains_at}

@@ -3,7 +3,7 @@ use Rattle.std.proofs.Common.{◌≡◌, ℕ, suc, List, [], ◌∷◌, Option, 
 use Rattle.std.specs.Prelude.{slice_get}
 use Rattle.std.specs.List.{IsDistinct}
 use Rattle.wit_functions.specs.declared.function.Function.{Function}
-use Rattle.wit_functions.specs.Setters.{pairs, placed}
+use Rattle.wit_functions.specs.SettersPlaced.{pairs, placed}
 use Rattle.wit_functions.specs.MaybeFunction.{HaveOwnNames}
 use Rattle.wit_functions.proofs.OwnNames.{Differs, differs_more, names, own_more}
 use Rattle.wit_functions.proofs.Pairs.{in_turn-placed}

@@ -21,7 +21,7 @@ use Rattle.wit_syntax.specs.Broken.{last_header}
 use Rattle.wit_syntax.specs.ExternPart.{extern_paths, inline_uses, same_side}
 use Rattle.wit_syntax.specs.Foreign.{ForeignVisit, declaration_visits, extern_visits, file_visits, foreign_visits, part_visits, path_visits}
 use Rattle.wit_syntax.specs.Function.{functions, part_functions}
-use Rattle.wit_syntax.specs.Scope.{part_uses, uses}
+use Rattle.wit_syntax.specs.ScopeTables.{part_uses, uses}
 use Rattle.wit_syntax.specs.Sides.{SideInline, all_scopes, inline_items, part_items, side_items}
 use Rattle.wit_syntax.specs.Source.{Part, DefinitionPart, UsePart, IncludePart, FunctionPart, ExternPart, Item, TopName, TheInterface, TheWorld, about, all_items, at_side, declared_items, file_items, part_names, parts, scope_names, ForeignUse, foreign_uses, top_names, walk}
 use Rattle.wit_syntax.proofs.Found.{at_contains}

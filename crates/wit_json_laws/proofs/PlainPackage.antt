@@ -11,9 +11,9 @@ use Rattle.wit_tree.specs.declared.tree.WorldSide.TheVariants.{Imported, Exporte
 use Rattle.wit_type_tree.specs.declared.leaves.Id.{Id}
 use Rattle.wit_types.specs.declared.stability.Stability.{Stability}
 use Rattle.wit_package_names.specs.declared.package_name.PackageName.{PackageName}
-use Rattle.wit_functions.specs.Setters.{pairs, placed}
+use Rattle.wit_functions.specs.SettersPlaced.{pairs, placed}
 use Rattle.wit_functions.specs.declared.function.Function.{Function}
-use Rattle.wit_model.specs.Worlds.{function_of}
+use Rattle.wit_model.specs.ItemsOfWorlds.{function_of}
 use Rattle.wit_model.specs.declared.ast_item.AstItem.{AstItem}
 use Rattle.wit_model.specs.declared.interface.Interface.{Interface}
 use Rattle.wit_model.specs.declared.unresolved.UnresolvedPackage.{UnresolvedPackage}
@@ -30,7 +30,7 @@ use Rattle.wit_syntax.specs.ExternPart.{same_side}
 use Rattle.wit_syntax.specs.Foreign.{ForeignVisit, foreign_interfaces, foreign_items, foreign_packages, foreign_visits, foreign_worlds, visited}
 use Rattle.wit_syntax.specs.Function.{SourceFunction, functions}
 use Rattle.wit_syntax.specs.Metadata.{stability_of}
-use Rattle.wit_syntax.specs.Scope.{includes, part_includes, worlds_of}
+use Rattle.wit_syntax.specs.ScopeTables.{includes, part_includes, worlds_of}
 use Rattle.wit_syntax.specs.Sides.{SideItem, SideFunction, SideLink, SideInline, inline_items, role_side, side_items}
 use Rattle.wit_syntax.specs.Source.{Part, DefinitionPart, UsePart, IncludePart, FunctionPart, ExternPart, Item, ScopeName, TopName, about, address, local_id, local_name, parts, path_scope}
 use Rattle.wit_syntax.proofs.Firsts.{firsts_at}

@@ -24,7 +24,7 @@ use Rattle.wit_grammar.specs.Seen.{see_body, see_definition, see_extern, see_inc
 use Rattle.wit_syntax.specs.Address.{Address}
 use Rattle.wit_syntax.specs.ExternPart.{inline_uses, item_uses}
 use Rattle.wit_syntax.specs.Function.{SourceFunction, accessor, definition_functions, extern_functions, free_function, part_functions, resource_function, side_function}
-use Rattle.wit_syntax.specs.Scope.{part_uses}
+use Rattle.wit_syntax.specs.ScopeTables.{part_uses}
 use Rattle.wit_syntax.specs.Sides.{SideItem, SideFunction, SideLink, SideInline, extern_items, extern_link, part_items}
 use Rattle.wit_syntax.specs.Source.{Part, DefinitionPart, UsePart, IncludePart, FunctionPart, ExternPart, ScopeName, Used, Defined, TopName, about_name, interface_part, local_name, part_names, path_scope, world_part}
 use Rattle.wit_json.specs.PlainPackages.{HasVersions}

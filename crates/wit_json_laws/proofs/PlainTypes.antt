@@ -17,7 +17,7 @@ use Rattle.wit_syntax.specs.Address.{Address, InterfaceNamed, WorldNamed, Inline
 use Rattle.wit_syntax.specs.Broken.{IsLegal}
 use Rattle.wit_syntax.specs.Function.{SourceFunction, signature}
 use Rattle.wit_syntax.specs.Metadata.{first_known, stability_of}
-use Rattle.wit_syntax.specs.Scope.{interfaces_of, worlds_of}
+use Rattle.wit_syntax.specs.ScopeTables.{interfaces_of, worlds_of}
 use Rattle.wit_syntax.specs.Shape.{Shape, Shapes}
 use Rattle.wit_syntax.specs.Shape as shape
 use Rattle.wit_syntax.specs.Sides.{SideItem, SideFunction, SideLink, SideInline, all_scopes, inline_items, side_items}

@@ -9,22 +9,22 @@ use Rattle.wit_tree.specs.declared.tree.Include.{Include}
 use Rattle.wit_tree.specs.declared.tree.PackageFile.{PackageFile}
 use Rattle.wit_tree.specs.declared.tree.WorldSide.{WorldSide}
 use Rattle.wit_tree.specs.declared.tree.WorldSide.TheVariants.{Imported, Exported}
-use Rattle.wit_functions.specs.Setters.{placed}
+use Rattle.wit_functions.specs.SettersPlaced.{placed}
 use Rattle.wit_graph.specs.Table.{IsOrder}
 use Rattle.wit_graph.proofs.Tables.{slice_get-take}
 use Rattle.wit_model.specs.declared.world.WorldItem.{WorldItem}
 use Rattle.wit_model.specs.declared.world.WorldKey.{WorldKey}
 use Rattle.wit_model.specs.declared.world.WorldKey.TheVariants as key
-use Rattle.wit_model.specs.Worlds.{function_of}
+use Rattle.wit_model.specs.ItemsOfWorlds.{function_of}
 use Rattle.wit_syntax.specs.Address.{Address}
 use Rattle.wit_syntax.specs.Broken.{LinkedTwice, IsLegal}
 use Rattle.wit_syntax.specs.ExternPart.{same_side}
 use Rattle.wit_syntax.specs.Fault.{fault}
 use Rattle.wit_syntax.specs.Foreign.{ForeignVisit, foreign_worlds}
 use Rattle.wit_syntax.specs.Repeats.{AllDiffer}
-use Rattle.wit_syntax.specs.Scope.{includes, rows_of, worlds_of}
+use Rattle.wit_syntax.specs.ScopeTables.{includes, rows_of, worlds_of}
 use Rattle.wit_syntax.specs.Sides.{SideItem, SideLink, Link, all_scopes, inline_items, item_called, item_inline, item_side, items_on, side_called, side_items}
-use Rattle.wit_syntax.specs.Signature.{Called, name_called}
+use Rattle.wit_syntax.specs.SignatureRules.{Called, name_called}
 use Rattle.wit_syntax.specs.Source.{Item, ScopeName, address, all_items, leads, path_id, path_scope, scope_names}
 use Rattle.wit_syntax.proofs.Found.{contains_at}
 use Rattle.wit_syntax.proofs.Inline.{length-inline_after}

@@ -8,7 +8,7 @@ use Rattle.std.proofs.lemmas.List.{drop_all, get_or_past, length-drop}
 use Rattle.std.proofs.lemmas.Slice.Eq.{bytes_eq-Decides}
 use Rattle.wit_type_tree.specs.Comments.{IsNested, IsStop, is_blank}
 use Rattle.wit_lex.specs.Blanks.{IsFirst, IsSkipped, Here, PastBlank, PastComment, IsEndless}
-use Rattle.wit_lex.specs.Faults.{IsUnread}
+use Rattle.wit_lex.specs.TextFaults.{IsUnread}
 use Rattle.wit_lex.specs.Starts.{IsEscaped, IsRun, IsStrange, is_letter, is_in_word, is_sign}
 use Rattle.wit_lex.specs.Tokens.{IsFound, IsToken}
 use Rattle.wit_lex.specs.Words.{IsPlain, word_text}

@@ -5,7 +5,7 @@ use Rattle.std.specs.Char.{is_ascii_digit}
 use Rattle.std.proofs.lemmas.Bool.{cases_Bool, cases_lt, eq-eqb, eqb-true, false_from_ne_true, and_parts, le-ltb, lt-ltb, ne_eqb, true≢false}
 use Rattle.std.proofs.lemmas.List.{drop_all, get_or_past}
 use Rattle.wit_lex.specs.Starts.{IsRun, is_in_word}
-use Rattle.wit_lex.specs.Versions.{IsDotNumber, IsNoDotNumber, IsNumbers, IsNoNumbers, NoMinor, NoPatch, IsDotted, Start, Byte, Dot, IsLongest, IsMarked, IsVersionEnd}
+use Rattle.wit_lex.specs.VersionEnds.{IsDotNumber, IsNoDotNumber, IsNumbers, IsNoNumbers, NoMinor, NoPatch, IsDotted, Start, Byte, Dot, IsLongest, IsMarked, IsVersionEnd}
 use Rattle.wit_lex.specs.Lexis.{run_end}
 use Rattle.wit_lex.specs.VersionLexis.{number_from, dot_number_from, dot_number, dotted_end, marked_from, marked, with_marks, patch_number, version_to}
 use Rattle.wit_lex.proofs.Lexing.{run_is}

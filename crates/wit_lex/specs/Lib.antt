@@ -1,9 +1,9 @@
 pub mod Blanks
-pub mod Faults
+pub mod TextFaults
 pub mod Sources
 pub mod Starts
 pub mod Tokens
-pub mod Versions
+pub mod VersionEnds
 pub mod Words
 pub mod Places
 pub mod Lexis

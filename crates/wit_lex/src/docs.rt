@@ -1,7 +1,7 @@
 //! Docs: comments that document what comes after them.
 ghost use Rattle.std.specs.Prelude.{◌≡◌, ◌+◌, ◌<◌, ◌≤◌, ◌^◌, ◌++◌, ◌∷◌, [], length, IfOk, IfErr, OnOk, MatchBool};
 ghost use Rattle.wit_lex.specs.DocsLexis.{AreDocsFrom, IsDocs, stretched as stretched_span};
-ghost use Rattle.wit_lex.specs.Faults.{IsUnended};
+ghost use Rattle.wit_lex.specs.TextFaults.{IsUnended};
 ghost use Rattle.wit_lex.specs.Lexis.{Stops, first_token};
 
 use crate::blank::{Blank, blank_at, is_blank};

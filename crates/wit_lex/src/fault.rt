@@ -1,7 +1,7 @@
 //! Why a text cannot be read.
 ghost use Rattle.std.specs.Prelude.{◌≡◌, ◌+◌, ◌<◌, ◌≤◌, ◌^◌, length};
 ghost use Rattle.wit_lex.specs.declared.fault.ReadError.TheVariants.{Fault, OutOfMemory};
-ghost use Rattle.wit_lex.specs.Faults.{IsRefusalOf, IsWithin, rule_of, words_of};
+ghost use Rattle.wit_lex.specs.TextFaults.{IsRefusalOf, IsWithin, rule_of, words_of};
 
 use std::alloc::{AllocError, AllocFailed, Global};
 use wit_type_tree::{ParseError, ParseErrorKind};

@@ -1,7 +1,7 @@
 //! Tokens.
 ghost use Rattle.std.specs.Prelude.{◌≡◌, ◌<◌, ◌≤◌, ◌-◌, [], length, slice_index, Ok, Err, IfOk, IfErr, MatchResult, OnOk, OnErr};
 ghost use Rattle.wit_lex.specs.declared.kind.Kind.TheVariants.{End};
-ghost use Rattle.wit_lex.specs.Faults.{IsNoToken};
+ghost use Rattle.wit_lex.specs.TextFaults.{IsNoToken};
 ghost use Rattle.wit_lex.specs.Lexis.{first_token, lexeme};
 ghost use Rattle.wit_lex.specs.Starts.{IsEnd, IsNoStart};
 ghost use Rattle.wit_lex.specs.Tokens.{IsFound, IsToken};

@@ -1,6 +1,6 @@
 //! Versions as `semver` reads them.
 ghost use Rattle.std.specs.Prelude.{IfOk};
-ghost use Rattle.wit_lex.specs.Versions.{IsParsed};
+ghost use Rattle.wit_lex.specs.VersionEnds.{IsParsed};
 
 use semver::Version;
 use std::alloc::{AllocError, Global};

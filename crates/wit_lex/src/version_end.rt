@@ -3,7 +3,7 @@ ghost use Rattle.std.specs.Prelude.{◌≡◌, ◌+◌, ◌-◌, ◌<◌, ◌≤
 ghost use Rattle.std.specs.Char.{is_ascii_digit};
 ghost use Rattle.wit_lex.specs.Starts.{IsRun};
 ghost use Rattle.wit_lex.specs.VersionLexis.{version_to};
-ghost use Rattle.wit_lex.specs.Versions.{IsDotNumber, IsLongest, IsMarked, IsNoDotNumber, IsNoNumbers, IsNumbers};
+ghost use Rattle.wit_lex.specs.VersionEnds.{IsDotNumber, IsLongest, IsMarked, IsNoDotNumber, IsNoNumbers, IsNumbers};
 
 use crate::scan::{digits_end, is_word_byte};
 

@@ -15,7 +15,7 @@ use Rattle.wit_tree.specs.declared.tree.PackageFile.{PackageFile}
 use Rattle.wit_model.specs.declared.world.WorldInclude.{WorldInclude}
 use Rattle.wit_syntax.specs.Address.{Address}
 use Rattle.wit_syntax.specs.Source.{TopName, TheWorld, IncludePart, world_part}
-use Rattle.wit_syntax.specs.Scope.{part_includes, include_path}
+use Rattle.wit_syntax.specs.ScopeTables.{part_includes, include_path}
 use Rattle.wit_syntax.specs.Fault.{Fault}
 use Rattle.wit_syntax.specs.Metadata.{IsBrokenStability}
 use Rattle.wit_arena.specs.Whole.{IsInclude, AreIncludes}

@@ -17,10 +17,10 @@ use Rattle.wit_syntax.proofs.Addresses.{same_address-equal}
 use Rattle.wit_syntax.proofs.Found.{contains_at}
 use Rattle.wit_syntax.proofs.Lists.{at_prefix as before}
 use Rattle.wit_arena.specs.Resolving.{ResolvedScope, Names, resolved_scopes}
-use Rattle.wit_arena.specs.Resolved.{interfaces_at}
+use Rattle.wit_arena.specs.ResolvedArenas.{interfaces_at}
 use Rattle.wit_arena.proofs.Interfaces.{place_at-found}
 use Rattle.wit_arena.proofs.Visits.{interfaces_differ}
-use Rattle.wit_item_names.specs.Interfaces.{prefix_of}
+use Rattle.wit_item_names.specs.ForeignAddresses.{prefix_of}
 use Rattle.wit_externs.specs.declared.borrowed.PathTarget.{PathTarget}
 use Rattle.wit_externs.specs.declared.borrowed.PathTarget.TheVariants as path_target
 use Rattle.wit_externs.specs.declared.borrowed.BorrowedLink.{BorrowedLink}
@@ -30,7 +30,7 @@ use Rattle.wit_item_names.proofs.Usable.{contains_one}
 use Rattle.wit_items.specs.Found.{AreFound}
 use Rattle.wit_items.proofs.Found.{found_resolved_scope}
 use Rattle.wit_rules.specs.declared.borrowed.BorrowedFunction.{BorrowedFunction}
-use Rattle.wit_scopes.specs.Borrowed.{source_view, IsPlaced}
+use Rattle.wit_scopes.specs.BorrowedNames.{source_view, IsPlaced}
 use Rattle.wit_scopes.specs.declared.scope_name.Source.{Source as BorrowedSource}
 use Rattle.wit_scopes.specs.declared.scope_name.Source.TheVariants as borrowed_source
 use Rattle.wit_world_sides.specs.Links.{ArePathTargets, AreWithin, IsPathTarget, IsLostAt, interface_place, source_place}

@@ -12,9 +12,9 @@ use Rattle.wit_syntax.specs.Address.{Address, WorldNamed}
 use Rattle.wit_syntax.proofs.Lists.{at_prefix, at_seam}
 use Rattle.wit_syntax.proofs.Names.{name_cases, name_itself, lookup-insert_entry}
 use Rattle.wit_arena.specs.Resolving.{Names, env_of}
-use Rattle.wit_arena.specs.Resolved.{worlds_at}
-use Rattle.wit_items.specs.Items.{others_of}
-use Rattle.wit_links.specs.Worlds.{AreFound, name_at}
+use Rattle.wit_arena.specs.ResolvedArenas.{worlds_at}
+use Rattle.wit_items.specs.BorrowedItems.{others_of}
+use Rattle.wit_links.specs.NamedWorlds.{AreFound, name_at}
 
 -- the world at a place, where one is
 named_at : (ws : List World) (t : ℕ) (name : List ℕ) → name_at ws t ≡ Some name → (w : World) × (slice_get ws t ≡ Some w) × (w.name ≡ name)

@@ -1,3 +1,3 @@
 pub mod Includes
 pub mod SideCounts
-pub mod Worlds
+pub mod NamedWorlds

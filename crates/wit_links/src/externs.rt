@@ -9,9 +9,9 @@ ghost use Rattle.wit_externs.specs.SideMembers.{extern_view, externs_view, link_
 ghost use Rattle.wit_externs.specs.declared.borrowed.BorrowedLink.{BorrowedLink as TheLink};
 ghost use Rattle.wit_externs.specs.declared.borrowed.BorrowedExtern.TheVariants.{Link as TheBorrowed};
 ghost use Rattle.wit_files.specs.FileNames.{top_at};
-ghost use Rattle.wit_item_names.specs.Items.{HasItem, HasPart, HasPath};
-ghost use Rattle.wit_items.specs.Items.{declared_view};
-ghost use Rattle.wit_item_names.specs.Interfaces.{prefix_of};
+ghost use Rattle.wit_item_names.specs.ItemPaths.{HasItem, HasPart, HasPath};
+ghost use Rattle.wit_items.specs.BorrowedItems.{declared_view};
+ghost use Rattle.wit_item_names.specs.ForeignAddresses.{prefix_of};
 ghost use Rattle.wit_world_sides.specs.Links.{ArePathTargets, IsPathTarget, source_place};
 
 use crate::inside::declared_world;

@@ -3,16 +3,16 @@ ghost use Rattle.std.specs.Prelude.{◌≡◌, ◌<◌, ◌⊎◌, ◌++◌, IfE
 ghost use Rattle.std.specs.List.{flat_map};
 ghost use Rattle.std.specs.Option.{option_copied};
 ghost use Rattle.wit_syntax.specs.Source.{leads, TheWorld, IncludePart, world_part, about};
-ghost use Rattle.wit_syntax.specs.Scope.{part_includes};
+ghost use Rattle.wit_syntax.specs.ScopeTables.{part_includes};
 ghost use Rattle.wit_syntax.specs.Metadata.{IsBrokenStability};
 ghost use Rattle.wit_syntax.specs.Fault.{Fault};
 ghost use Rattle.wit_syntax.specs.Broken.{Refused};
 ghost use Rattle.wit_arena.specs.Whole.{renamed, IsInclude, AreIncludes};
 ghost use Rattle.wit_arena.specs.Resolving.{IsLostInclude};
-ghost use Rattle.wit_arena.specs.Resolved.{worlds_at, IsBrokenItemStability};
+ghost use Rattle.wit_arena.specs.ResolvedArenas.{worlds_at, IsBrokenItemStability};
 ghost use Rattle.wit_files.specs.FileNames.{top_at};
-ghost use Rattle.wit_item_names.specs.Items.{HasItem, HasPart, world_entry, world_at};
-ghost use Rattle.wit_items.specs.Items.{declared_view, others_of};
+ghost use Rattle.wit_item_names.specs.ItemPaths.{HasItem, HasPart, world_entry, world_at};
+ghost use Rattle.wit_items.specs.BorrowedItems.{declared_view, others_of};
 ghost use Rattle.wit_links.specs.Includes.{IsLost, AreStable};
 
 use crate::worlds::Worlds;

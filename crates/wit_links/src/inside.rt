@@ -8,10 +8,10 @@ ghost use Rattle.wit_syntax.specs.Sides.{SideItem, inline_item, is_interface, it
 ghost use Rattle.wit_externs.specs.declared.borrowed.BorrowedExtern.TheVariants.{Inline as TheBorrowed};
 ghost use Rattle.wit_externs.specs.SideMembers.{extern_view};
 ghost use Rattle.wit_scopes.specs.PlacedNames.{AreNamesPlaced};
-ghost use Rattle.wit_scopes.specs.Borrowed.{name_view};
+ghost use Rattle.wit_scopes.specs.BorrowedNames.{name_view};
 ghost use Rattle.wit_items.specs.PlacedItems.{AreItemsPlaced};
 ghost use Rattle.wit_items.specs.InlineNames.{inside_view};
-ghost use Rattle.wit_items.specs.Items.{declared_view, item_view, scope_item};
+ghost use Rattle.wit_items.specs.BorrowedItems.{declared_view, item_view, scope_item};
 ghost use Rattle.wit_links.specs.SideCounts.{IsSeen, seen_on};
 
 use wit_externs::borrowed::{BorrowedExtern, BorrowedInline};

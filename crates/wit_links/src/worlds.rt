@@ -1,7 +1,7 @@
 //! The worlds that are resolved, of this package and of other ones.
 ghost use Rattle.std.specs.Prelude.{◌≤◌, length};
-ghost use Rattle.wit_items.specs.Items.{others_of};
-ghost use Rattle.wit_links.specs.Worlds.{AreFound};
+ghost use Rattle.wit_items.specs.BorrowedItems.{others_of};
+ghost use Rattle.wit_links.specs.NamedWorlds.{AreFound};
 
 use wit_items::interfaces::Interfaces;
 use wit_maps::TextTable;

@@ -4,7 +4,7 @@ use Rattle.std.specs.Prelude.{Option, Some, None, IfSome, IfNone, slice_get}
 use Rattle.std.specs.Borrow.{Bor}
 use Rattle.wit_values.specs.declared.span.Span.{Span}
 use Rattle.wit_type_tree.specs.declared.error.ParseError.{ParseError}
-use Rattle.wit_type_tree.specs.Refusal.{span_of}
+use Rattle.wit_type_tree.specs.RefusalText.{span_of}
 use Rattle.wit_lex.specs.declared.source.Source.{Source}
 use Rattle.wit_lex.specs.Sources.{IsLocated, LiesIn}
 use Rattle.wit_listing.specs.ErrorLine.{IsPlaceOf, has_place}

@@ -1,5 +1,5 @@
 pub mod ErrorLine
-pub mod Foreign
+pub mod ForeignLines
 pub mod Functions
 pub mod Interfaces
 pub mod Kinds

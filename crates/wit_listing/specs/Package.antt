@@ -14,7 +14,7 @@ use Rattle.wit_listing.specs.Lists.{numbered}
 use Rattle.wit_listing.specs.Types.{type_line}
 use Rattle.wit_listing.specs.Interfaces.{interface_lines}
 use Rattle.wit_listing.specs.Worlds.{world_lines}
-use Rattle.wit_listing.specs.Foreign.{dep_lines}
+use Rattle.wit_listing.specs.ForeignLines.{dep_lines}
 
 -- the line of the package
 abbrev pub header_text : PackageName → List ℕ

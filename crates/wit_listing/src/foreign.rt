@@ -3,10 +3,10 @@ ghost use Rattle.std.specs.Prelude.{◌≡◌, ◌++◌, ◌∷◌, OnOk, string
 ghost use Rattle.std.specs.List.{flat_map};
 ghost use Rattle.wit_package_names.specs.PackageName.{name_text};
 ghost use Rattle.wit_listing.specs.ListingTexts.{Adds};
-ghost use Rattle.wit_listing.specs.Foreign.{dep_lines, item_line, item_place};
+ghost use Rattle.wit_listing.specs.ForeignLines.{dep_lines, item_line, item_place};
 
 use crate::package_names::push_package_name;
-use crate::words::push_marked;
+use crate::small_texts::push_marked;
 use std::alloc::AllocError;
 use wit_maps::{Table, TextTable};
 use wit_model::AstItem;

@@ -4,7 +4,7 @@ ghost use Rattle.wit_listing.specs.Lists.{numbered};
 ghost use Rattle.wit_listing.specs.ListingTexts.{Adds};
 ghost use Rattle.wit_listing.specs.Functions.{parameter_text, result_text, signature_text};
 
-use crate::words::push_type;
+use crate::small_texts::push_type;
 use std::alloc::AllocError;
 use wit_model::{Function, Param};
 use wit_types::Type;

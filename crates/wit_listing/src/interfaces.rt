@@ -6,7 +6,7 @@ ghost use Rattle.wit_listing.specs.ListingTexts.{Adds};
 ghost use Rattle.wit_listing.specs.Interfaces.{function_line, interface_lines, named_type_line, name_text};
 
 use crate::functions::push_signature;
-use crate::words::{push_marked, push_numbered, push_stability};
+use crate::small_texts::{push_marked, push_numbered, push_stability};
 use std::alloc::AllocError;
 use wit_maps::TextTable;
 use wit_model::{Function, Interface};

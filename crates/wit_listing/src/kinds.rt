@@ -5,7 +5,7 @@ ghost use Rattle.wit_types.specs.declared.types.TypeDefKind.TheVariants as kind;
 ghost use Rattle.wit_listing.specs.ListingTexts.{Adds, optional_text};
 ghost use Rattle.wit_listing.specs.Kinds.{case_text, enum_case_text, field_text, flag_text, handle_text, item_text, kind_text};
 
-use crate::words::{push_numbered, push_optional, push_type};
+use crate::small_texts::{push_numbered, push_optional, push_type};
 use std::alloc::AllocError;
 use wit_types::{Case, EnumCase, Field, Flag, Handle, Type, TypeDefKind};
 

@@ -11,8 +11,8 @@ pub mod output;
 mod package;
 mod package_names;
 pub mod refusal;
+mod small_texts;
 mod types;
-mod words;
 mod worlds;
 
 pub use fault::RunFault;

@@ -6,8 +6,8 @@ ghost use Rattle.wit_listing.specs.Package.{count_line, foreign_text, header_tex
 use crate::foreign::push_deps;
 use crate::interfaces::push_interfaces;
 use crate::package_names::push_package_name;
+use crate::small_texts::push_marked;
 use crate::types::push_type_lines;
-use crate::words::push_marked;
 use crate::worlds::push_worlds;
 use std::alloc::AllocError;
 use wit_maps::{Table, TextTable};

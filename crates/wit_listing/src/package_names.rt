@@ -3,7 +3,7 @@ ghost use Rattle.std.specs.Prelude.{◌≡◌, OnOk, string_bytes};
 ghost use Rattle.wit_package_names.specs.PackageName.{at_version, name_text};
 ghost use Rattle.wit_listing.specs.ListingTexts.{Adds};
 
-use crate::words::push_release;
+use crate::small_texts::push_release;
 use std::alloc::AllocError;
 use wit_package_names::PackageName;
 use wit_values::Release;

@@ -5,7 +5,7 @@ ghost use Rattle.wit_listing.specs.ListingTexts.{Adds};
 ghost use Rattle.wit_listing.specs.Types.{owner_place, owner_text, type_line};
 
 use crate::kinds::push_kind;
-use crate::words::{push_marked, push_stability};
+use crate::small_texts::{push_marked, push_stability};
 use std::alloc::AllocError;
 use wit_types::{Arena, TypeDef, TypeOwner, TypePlace};
 use wit_values::Text;

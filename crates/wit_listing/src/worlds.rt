@@ -6,7 +6,7 @@ ghost use Rattle.wit_listing.specs.ListingTexts.{Adds};
 ghost use Rattle.wit_listing.specs.Worlds.{extern_line, extern_text, has_own_line, include_line, included_text, is_inline, key_text, rename_text, world_line, world_lines, world_name};
 
 use crate::functions::push_signature;
-use crate::words::{push_marked, push_numbered, push_stability};
+use crate::small_texts::{push_marked, push_numbered, push_stability};
 use std::alloc::AllocError;
 use wit_maps::Table;
 use wit_model::{IncludeName, Interface, World, WorldInclude, WorldItem, WorldKey};

@@ -37,12 +37,12 @@ use Rattle.wit_syntax.specs.Foreign.{ForeignVisit, foreign_visits, foreign_items
 use Rattle.wit_syntax.specs.Form.{AliasForm, UnknownForm}
 use Rattle.wit_syntax.specs.Node.{Head, Named, Tree}
 use Rattle.wit_syntax.specs.Metadata.{no_docs}
-use Rattle.wit_syntax.specs.Scope.{item_rows, rows_of}
+use Rattle.wit_syntax.specs.ScopeTables.{item_rows, rows_of}
 use Rattle.wit_syntax.specs.Shape.{Word}
 use Rattle.wit_syntax.specs.Source.{Foreign, leads, path_scope, top_names, TheInterface, TheWorld, Item, Used, scope_names, foreign_uses, ForeignName}
 use Rattle.wit_syntax.specs.ScopesOfTrees.{source_tree}
 use Rattle.wit_arena.specs.Occurrences.{Def, Occurrence, Collects, IsOccurrence}
-use Rattle.wit_arena.specs.Package.{owner_of, package_tree}
+use Rattle.wit_arena.specs.UnfoldedTypes.{owner_of, package_tree}
 use Rattle.wit_arena.specs.Whole.{Ordered, turned, all_occurrences, interface_addresses, declarations, NamesOthers}
 use Rattle.wit_meaning_examples.proofs.Examples.{at, id, vec, no_comments, unstated, header}
 use Rattle.wit_meaning_examples.proofs.SignatureExamples.{one_order}

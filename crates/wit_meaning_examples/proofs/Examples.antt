@@ -43,13 +43,13 @@ use Rattle.wit_syntax.specs.Source.{path_id, Local, TopName, top_names, top_text
 use Rattle.wit_syntax.specs.ScopesOfTrees.{source_tree}
 use Rattle.wit_arena.specs.Expr.{Prim, one}
 use Rattle.wit_arena.specs.Occurrences.{Def, Whole, Occurrence, IsSeen, Collects}
-use Rattle.wit_syntax.specs.Scope.{rows_of, item_rows, in_turn}
-use Rattle.wit_type_tree.specs.Refusal.{Missing, Cyclic}
+use Rattle.wit_syntax.specs.ScopeTables.{rows_of, item_rows, in_turn}
+use Rattle.wit_type_tree.specs.RefusalText.{Missing, Cyclic}
 use Rattle.wit_syntax.specs.Fault.{fault, missing_type_at, type_word}
 use Rattle.wit_syntax.specs.Shape.{Word}
 use Rattle.wit_syntax.specs.Bodies.{folded, IsSecond, IsDuplicateName}
 use Rattle.wit_syntax.specs.Broken.{last_header, IsMissingEdge, IsCyclicEdge, IsBroken, Headerless, IsWrongTop, LostUse}
-use Rattle.wit_arena.specs.Package.{package_tree}
+use Rattle.wit_arena.specs.UnfoldedTypes.{package_tree}
 use Rattle.wit_arena.specs.Whole.{turned}
 use Rattle.wit_meaning_examples.proofs.SmallOrders.{two, three, two_order, three_order}
 use Rattle.wit_arena.proofs.Turns.{occurrences}

@@ -26,7 +26,7 @@ use Rattle.wit_tree.specs.declared.tree.AstItem.{AstItem}
 use Rattle.wit_tree.specs.declared.tree.AstItem.TheVariants as ast
 use Rattle.wit_tree.specs.declared.tree.PackageFile.{PackageFile}
 use Rattle.wit_syntax.specs.Address.{InterfaceNamed}
-use Rattle.wit_syntax.specs.Ends.{Elsewhere, EndsAt}
+use Rattle.wit_syntax.specs.NameEnds.{Elsewhere, EndsAt}
 use Rattle.wit_syntax.specs.Fault.{Fault, fault}
 use Rattle.wit_syntax.specs.Source.{Declared, TheInterface, TheWorld, TheInline, TopName, Item, about, about_name, address, all_items, is_world, item_name, item_named, leads, ScopeName, scope_names, top_names}
 use Rattle.wit_syntax.specs.Sides.{Link, SideLink, items_on, side_items}

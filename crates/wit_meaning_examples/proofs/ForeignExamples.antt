@@ -29,12 +29,12 @@ use Rattle.wit_syntax.specs.Metadata.{no_docs}
 use Rattle.wit_syntax.specs.Source.{top_names, TheInterface, Item, foreign_uses}
 use Rattle.wit_syntax.specs.ScopesOfTrees.{source_tree}
 use Rattle.wit_syntax.specs.Foreign.{foreign_items}
-use Rattle.wit_syntax.specs.Scope.{item_rows}
+use Rattle.wit_syntax.specs.ScopeTables.{item_rows}
 use Rattle.wit_arena.specs.Occurrences.{Def, Occurrence}
 use Rattle.wit_syntax.specs.Shape.{Word}
-use Rattle.wit_arena.specs.Package.{owner_of, package_tree}
+use Rattle.wit_arena.specs.UnfoldedTypes.{owner_of, package_tree}
 use Rattle.wit_arena.specs.Whole.{turned, all_occurrences, NamesOthers}
-use Rattle.wit_arena.specs.Resolved.{foreign_type}
+use Rattle.wit_arena.specs.ResolvedArenas.{foreign_type}
 use Rattle.wit_meaning_examples.proofs.Examples.{at, id, vec, no_comments, unstated, header}
 
 -- package foo:foo; use a:b/c as d; interface i { use d.{t}; }

@@ -40,7 +40,7 @@ use Rattle.wit_syntax.specs.Address.{Address, InterfaceNamed}
 use Rattle.wit_syntax.specs.Metadata.{no_docs}
 use Rattle.wit_syntax.specs.Source.{top_names, TheInterface, Item, scope_names}
 use Rattle.wit_syntax.specs.ScopesOfTrees.{source_tree}
-use Rattle.wit_syntax.specs.Scope.{rows_of}
+use Rattle.wit_syntax.specs.ScopeTables.{rows_of}
 use Rattle.wit_arena.specs.Expr.{Expr, Prim, Use, Of, End, More, one, expr_of}
 use Rattle.wit_arena.specs.Occurrences.{Key, Def, Whole, Occurrence, IsAt}
 use Rattle.wit_syntax.specs.Shape.{Word, all_handles, Shape}
@@ -48,7 +48,7 @@ use Rattle.wit_syntax.specs.Shape as shape
 use Rattle.wit_syntax.specs.Function.{Freestanding, Method, Static, Constructor, SourceParam, SourceFunction, resource_function, free_function, functions, item_types, signature, role_names}
 use Rattle.wit_arena.specs.SourceFunctions.{IsParam, IsFunction, AreFunctions, placed_functions}
 use Rattle.wit_syntax.specs.Sides.{FunctionKey}
-use Rattle.wit_arena.specs.Package.{package_tree, functions_of, function_types}
+use Rattle.wit_arena.specs.UnfoldedTypes.{package_tree, functions_of, function_types}
 use Rattle.wit_arena.specs.Whole.{turned}
 use Rattle.wit_meaning_examples.proofs.Examples.{at, id, vec, no_comments, unstated, header}
 use Rattle.wit_arena.proofs.Turns.{occurrences}

@@ -37,7 +37,7 @@ use Rattle.wit_arena.specs.Expr.{Use, More, expr_of, one}
 use Rattle.wit_arena.specs.Occurrences.{Key, Def, Whole, Occurrence, IsSeen, Collects, IsAt}
 use Rattle.wit_syntax.specs.Fault.{fault}
 use Rattle.wit_syntax.specs.Shape.{shape_of}
-use Rattle.wit_syntax.specs.Ends.{AtResource, AtForeign, Elsewhere, EndsAt}
+use Rattle.wit_syntax.specs.NameEnds.{AtResource, AtForeign, Elsewhere, EndsAt}
 use Rattle.wit_arena.specs.EntryEnds.{IsResource, IsUnknown, IsOther, entry_end}
 use Rattle.wit_syntax.specs.Broken.{IsBroken, Handle}
 use Rattle.wit_arena.specs.Whole.{Ordered, turned, turn_handles, all_occurrences, AreRequired}

@@ -46,11 +46,11 @@ use Rattle.wit_syntax.specs.Node.{Head, Leaf, Named}
 use Rattle.wit_syntax.specs.Metadata.{no_docs}
 use Rattle.wit_syntax.specs.Shape.{Word}
 use Rattle.wit_syntax.specs.Source.{TheWorld, TheInline, Item, address, top_names, Used, Defined, scope_names}
-use Rattle.wit_syntax.specs.Scope.{item_rows, uses}
+use Rattle.wit_syntax.specs.ScopeTables.{item_rows, uses}
 use Rattle.wit_syntax.specs.Sides.{side_items, inline_items}
 use Rattle.wit_syntax.specs.ScopesOfTrees.{source_tree}
 use Rattle.wit_arena.specs.SourceFunctions.{function_item}
-use Rattle.wit_arena.specs.Package.{owner_of, names_of, package_tree}
+use Rattle.wit_arena.specs.UnfoldedTypes.{owner_of, names_of, package_tree}
 use Rattle.wit_arena.specs.SideItems.{inline_entry, AreSideItems}
 use Rattle.wit_meaning_examples.proofs.Examples.{at, id, vec, no_comments, unstated, header}
 

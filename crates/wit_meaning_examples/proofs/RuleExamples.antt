@@ -23,7 +23,7 @@ use Rattle.wit_tree.specs.declared.tree.World.{World as WrittenWorld}
 use Rattle.wit_tree.specs.declared.tree.WorldItem.TheVariants as world_item
 use Rattle.wit_tree.specs.declared.tree.AstItem.TheVariants as ast
 use Rattle.wit_tree.specs.declared.tree.PackageFile.{PackageFile}
-use Rattle.wit_type_tree.specs.Refusal.{Missing}
+use Rattle.wit_type_tree.specs.RefusalText.{Missing}
 use Rattle.wit_types.specs.declared.stability.Stability.TheVariants.{Unknown}
 use Rattle.wit_types.specs.declared.types.«Type».TheVariants as type
 use Rattle.wit_types.specs.declared.types.Handle.TheVariants.{Borrow}
@@ -42,10 +42,10 @@ use Rattle.wit_syntax.specs.Shape.{Shape}
 use Rattle.wit_syntax.specs.Function.{Role, Freestanding, SourceFunction, functions, signature}
 use Rattle.wit_tree.specs.declared.tree.WorldSide.TheVariants.{Imported}
 use Rattle.wit_arena.specs.SourceFunctions.{function_item}
-use Rattle.wit_syntax.specs.Signature.{OfNothing, MissingInSignature, GetterGiven, SetterGiven, GetterWithoutResult, SetterWithResult, ConstructorWithoutResult, ConstructorOfOther, IsEntered, result_ok}
+use Rattle.wit_syntax.specs.SignatureRules.{OfNothing, MissingInSignature, GetterGiven, SetterGiven, GetterWithoutResult, SetterWithResult, ConstructorWithoutResult, ConstructorOfOther, IsEntered, result_ok}
 use Rattle.wit_syntax.specs.Broken.{IsBroken, Function, IsSetterAlone}
 use Rattle.wit_syntax.proofs.Found.{at_contains}
-use Rattle.wit_arena.specs.Package.{names_of, functions_of, function_types, package_tree}
+use Rattle.wit_arena.specs.UnfoldedTypes.{names_of, functions_of, function_types, package_tree}
 use Rattle.wit_arena.specs.Whole.{Ordered, ordered_names, type_imports}
 use Rattle.wit_meaning_examples.proofs.Examples.{at, id, vec, no_comments, unstated, header}
 use Rattle.wit_meaning_examples.proofs.SignatureExamples.{i_of, file_of, item_of, in_scope, f_id, r_id, t_id, x_id, param, func, func_of, v_u8, resource_of}

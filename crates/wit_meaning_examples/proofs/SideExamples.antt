@@ -30,14 +30,14 @@ use Rattle.wit_syntax.specs.Metadata.{no_docs, IsBrokenMetadata}
 use Rattle.wit_syntax.specs.Repeats.{AllDiffer}
 use Rattle.wit_syntax.specs.Source.{top_names, TheWorld, Item, Defined, scope_names}
 use Rattle.wit_syntax.specs.Function.{SourceFunction, side_function, functions, role_names}
-use Rattle.wit_syntax.specs.Signature.{IsBrokenFunction, BrokenMetadata, BrokenTypes, MissingInSignature, GetterGiven, SetterGiven, DuplicateParam, GetterWithoutResult, SetterWithResult, ConstructorWithoutResult, ConstructorOfOther}
+use Rattle.wit_syntax.specs.SignatureRules.{IsBrokenFunction, BrokenMetadata, BrokenTypes, MissingInSignature, GetterGiven, SetterGiven, DuplicateParam, GetterWithoutResult, SetterWithResult, ConstructorWithoutResult, ConstructorOfOther}
 use Rattle.wit_syntax.specs.Sides.{SideItem, SideFunction, side_items, items_on, side_called, IsFoldedTwice, IsCrossedTwice, IsBrokenSides, FoldedTwice, CrossedTwice, InterfaceMetadata, interface_attributes}
 use Rattle.wit_syntax.specs.Broken.{IsBrokenScope, DefinedTwice, MissingType, CyclicType, Metadata, Body, Function, IsBroken, Sides}
 use Rattle.wit_syntax.proofs.Found.{at_contains}
 use Rattle.wit_syntax.proofs.Legal.{no_fold, no_crossed}
 use Rattle.wit_syntax.proofs.Unnoted.{unbroken_metadata}
 use Rattle.wit_arena.specs.SourceFunctions.{function_item}
-use Rattle.wit_arena.specs.Package.{functions_of}
+use Rattle.wit_arena.specs.UnfoldedTypes.{functions_of}
 use Rattle.wit_meaning_examples.proofs.Examples.{at, id, vec, no_comments, unstated, header}
 use Rattle.wit_meaning_examples.proofs.SignatureExamples.{one_order}
 use Rattle.std.specs.List.{flat_map}

@@ -29,7 +29,7 @@ use Rattle.wit_types.specs.declared.stability.Stability.TheVariants.{Unknown}
 use Rattle.wit_functions.specs.declared.function.Function.{Function as Made}
 use Rattle.wit_functions.specs.declared.function.FunctionKind.{FunctionKind}
 use Rattle.wit_functions.specs.declared.function.FunctionKind.TheVariants as kind
-use Rattle.wit_type_tree.specs.Refusal.{Missing}
+use Rattle.wit_type_tree.specs.RefusalText.{Missing}
 use Rattle.wit_graph.specs.Order.{IsDependencyFirst}
 use Rattle.wit_graph.specs.Table.{Row, IsEdge, Leads, IsOrder}
 use Rattle.wit_syntax.specs.Form.{ResultForm}
@@ -42,7 +42,7 @@ use Rattle.wit_syntax.specs.Fault.{Fault, fault}
 use Rattle.wit_syntax.specs.Shape.{Shape, Word, shape_of}
 use Rattle.wit_syntax.specs.Function.{SourceFunction, functions, role_names}
 use Rattle.wit_arena.specs.SourceFunctions.{placed_functions}
-use Rattle.wit_syntax.specs.Signature.{Called, OfFunction, MissingInSignature, DuplicateParam, SetterWithResult, ConstructorOfOther, IsWrittenAs, result_ok}
+use Rattle.wit_syntax.specs.SignatureRules.{Called, OfFunction, MissingInSignature, DuplicateParam, SetterWithResult, ConstructorOfOther, IsWrittenAs, result_ok}
 use Rattle.wit_tree.specs.declared.tree.WorldSide.TheVariants.{Imported}
 use Rattle.wit_syntax.specs.Sides.{side_items, all_scopes, side_called, FoldedTwice, items_on}
 use Rattle.wit_syntax.specs.Broken.{IsBrokenScope, MissingType, Function, IsBroken, Scope, Sides, MissingName, Setter}

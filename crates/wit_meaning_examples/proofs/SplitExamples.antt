@@ -30,7 +30,7 @@ use Rattle.wit_syntax.specs.Foreign.{ForeignVisit}
 use Rattle.wit_syntax.specs.Function.{functions, item_types}
 use Rattle.wit_syntax.specs.Metadata.{IsBrokenStability, IsBrokenMetadata}
 use Rattle.wit_syntax.specs.Repeats.{AllDiffer}
-use Rattle.wit_syntax.specs.Scope.{include_paths, includes, item_rows, rows_of, uses}
+use Rattle.wit_syntax.specs.ScopeTables.{include_paths, includes, item_rows, rows_of, uses}
 use Rattle.wit_syntax.specs.Shape.{all_handles}
 use Rattle.wit_syntax.specs.Sides.{all_scopes, on_side, side_items, IsBrokenSides, FoldedTwice, CrossedTwice, side_called, items_on, InterfaceMetadata}
 use Rattle.wit_syntax.specs.Source.{Item, ScopeName, Used, Defined, TheInterface, leads, address, all_items, item_name, local_name, scope_names, top_names, top_text, about}

@@ -57,7 +57,7 @@ use Rattle.wit_syntax.specs.Form.{BorrowForm, ListForm, ResultForm}
 use Rattle.wit_syntax.specs.Function.{functions, signature}
 use Rattle.wit_syntax.specs.Metadata.{Metadata, no_docs, metadata}
 use Rattle.wit_syntax.specs.Docs.{joined}
-use Rattle.wit_syntax.specs.Scope.{in_order, item_rows, rows_of}
+use Rattle.wit_syntax.specs.ScopeTables.{in_order, item_rows, rows_of}
 use Rattle.wit_syntax.specs.Shape.{Shape, Word}
 use Rattle.wit_syntax.specs.Sides.{side_items}
 use Rattle.wit_syntax.specs.Source.{TheInterface, TheWorld, Item, all_items, Used, Defined, scope_names, foreign_uses, top_names, declared_metadata, ForeignName}
@@ -65,7 +65,7 @@ use Rattle.wit_syntax.specs.ScopesOfTrees.{source_tree}
 use Rattle.wit_arena.specs.Expr.{End, More, Of, Prim, Use, one}
 use Rattle.wit_arena.specs.SourceFunctions.{function_item}
 use Rattle.wit_arena.specs.Occurrences.{Key, Def, Whole, Occurrence, Collects, IsOccurrence}
-use Rattle.wit_arena.specs.Package.{owner_of, function_types, package_tree}
+use Rattle.wit_arena.specs.UnfoldedTypes.{owner_of, function_types, package_tree}
 use Rattle.wit_arena.specs.Resolving.{named, unnamed}
 use Rattle.wit_arena.specs.SideItems.{AreSideItems}
 use Rattle.wit_arena.specs.Whole.{Turned, all_occurrences, all_turns, declarations, turn_handles, interface_addresses, NamesOthers}

@@ -51,14 +51,14 @@ use Rattle.wit_graph.specs.Table.{IsOrder}
 use Rattle.wit_syntax.specs.Address.{Address, InterfaceNamed, WorldNamed, InlineAt}
 use Rattle.wit_syntax.specs.Function.{functions, signature}
 use Rattle.wit_syntax.specs.Metadata.{no_docs}
-use Rattle.wit_syntax.specs.Scope.{in_order, item_rows, rows_of, interfaces_of, worlds_of}
+use Rattle.wit_syntax.specs.ScopeTables.{in_order, item_rows, rows_of, interfaces_of, worlds_of}
 use Rattle.wit_syntax.specs.Shape.{Shape, Word}
 use Rattle.wit_syntax.specs.Sides.{side_items, inline_items}
 use Rattle.wit_syntax.specs.Source.{TheInterface, TheWorld, TheInline, Item, all_items, Used, Defined, scope_names, top_names}
 use Rattle.wit_syntax.specs.ScopesOfTrees.{source_tree}
 use Rattle.wit_arena.specs.SourceFunctions.{function_item}
 use Rattle.wit_arena.specs.Occurrences.{Def, Occurrence, Collects, IsOccurrence}
-use Rattle.wit_arena.specs.Package.{owner_of, names_of, function_types, package_tree}
+use Rattle.wit_arena.specs.UnfoldedTypes.{owner_of, names_of, function_types, package_tree}
 use Rattle.wit_arena.specs.SideItems.{inline_entry, AreSideItems}
 use Rattle.wit_arena.specs.Whole.{Ordered, OrderedWorld, all_occurrences, all_turns, declarations, interface_addresses, world_addresses, IsInclude}
 use Rattle.wit_meaning_examples.proofs.Examples.{at, id, vec, no_comments, unstated, header}

@@ -37,9 +37,9 @@ use Rattle.wit_syntax.specs.Metadata.{no_docs}
 use Rattle.wit_syntax.specs.Source.{TheInterface, TheWorld, Item, top_names, all_items, Used, Defined, scope_names}
 use Rattle.wit_syntax.specs.ScopesOfTrees.{source_tree}
 use Rattle.wit_arena.specs.Occurrences.{Def, Occurrence}
-use Rattle.wit_syntax.specs.Scope.{in_order, item_rows, interfaces_of, worlds_of}
+use Rattle.wit_syntax.specs.ScopeTables.{in_order, item_rows, interfaces_of, worlds_of}
 use Rattle.wit_syntax.specs.Shape.{Word}
-use Rattle.wit_arena.specs.Package.{names_of, package_tree}
+use Rattle.wit_arena.specs.UnfoldedTypes.{names_of, package_tree}
 use Rattle.wit_arena.specs.Whole.{Ordered, addresses, turned, ordered_names, type_imports, IsInclude}
 use Rattle.wit_meaning_examples.proofs.Examples.{at, id, vec, no_comments, unstated, header}
 use Rattle.wit_arena.proofs.Turns.{occurrences}

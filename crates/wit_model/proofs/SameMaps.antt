@@ -16,7 +16,7 @@ use Rattle.wit_functions.proofs.Same.{Decides-function}
 use Rattle.wit_model.proofs.Same.{Decides-include, Decides-world_item}
 use Rattle.wit_types.specs.contracts.stability.StabilityPartialEq.TheImpl.{eq-value as stability_test}
 use Rattle.wit_types.specs.declared.stability.Stability.{Stability}
-use Rattle.wit_model.specs.Same.{AreBothSame, AreSame, HoldSamePairs, HoldSameValues, IsSameInterface, IsSamePackage, IsSameWorld, is_same_key, is_same_name, is_same_package_name}
+use Rattle.wit_model.specs.SamePackages.{AreBothSame, AreSame, HoldSamePairs, HoldSameValues, IsSameInterface, IsSamePackage, IsSameWorld, is_same_key, is_same_name, is_same_package_name}
 use Rattle.wit_model.specs.contracts.ast_item.AstItemPartialEq.TheImpl.{eq-value as ast_item_test}
 use Rattle.wit_model.specs.declared.ast_item.AstItem.{AstItem}
 use Rattle.wit_model.specs.contracts.interface.InterfacePartialEq.TheImpl.{eq-value as interface_test}

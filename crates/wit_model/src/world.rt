@@ -2,7 +2,7 @@
 ghost use Rattle.std.specs.Prelude.{◌≡◌, IfOk, IsSome, Some, string_bytes};
 ghost use Rattle.std.specs.Map.{lookup};
 ghost use Rattle.std.specs.Option.{option_copied};
-ghost use Rattle.wit_model.specs.Worlds.{IsWithin, function_of, is_name, key_text, name_of, span_of, stability_of};
+ghost use Rattle.wit_model.specs.ItemsOfWorlds.{IsWithin, function_of, is_name, key_text, name_of, span_of, stability_of};
 
 use std::alloc::{AllocError, Global};
 use wit_functions::Function;

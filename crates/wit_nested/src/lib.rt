@@ -3,7 +3,7 @@
 
 pub mod laws;
 mod nested;
-mod repeats;
+mod package_names;
 pub mod resolver;
 
 pub use resolver::GroupResolver;

@@ -7,7 +7,7 @@ ghost use Rattle.wit_nested.specs.Nested.{GrowByNested, IsUnfit};
 ghost use Rattle.wit_nested.specs.PackageNames.{AreNamedApart, IsUnjoined};
 
 use crate::nested::{alone, resolve_all};
-use crate::repeats::check_names;
+use crate::package_names::check_names;
 use std::alloc::Global;
 use wit_model::UnresolvedPackage;
 use wit_parser::Resolver;

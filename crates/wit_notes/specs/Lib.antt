@@ -1,3 +1,3 @@
 pub mod Indents
-pub mod Metadata
+pub mod BorrowedMetadata
 pub mod PlainComments

@@ -3,7 +3,7 @@ ghost use Rattle.std.specs.Prelude.{◌≡◌, IfOk};
 ghost use Rattle.wit_first.specs.AttributeFaults.{metadata_fault};
 ghost use Rattle.wit_first.specs.First.{Finds};
 ghost use Rattle.wit_syntax.specs.Metadata.{docs_of, no_docs, metadata as the_metadata};
-ghost use Rattle.wit_notes.specs.Metadata.{metadata_view};
+ghost use Rattle.wit_notes.specs.BorrowedMetadata.{metadata_view};
 
 use crate::attributes::{
     check_external_once, check_stability, stated_external_id, stated_stability,

@@ -5,19 +5,19 @@
 //! or names the edge that forbids one. [`laws`] says what holds of every table.
 #![tactic(auto)]
 
+mod counting;
 mod graph;
 mod heap;
 pub mod laws;
+pub mod least_order;
+mod name_places;
 mod name_table;
-mod names;
-pub mod order;
+mod order_refusal;
 mod places;
 mod ready;
-mod refusal;
-mod tree;
 mod turned;
 
+pub use least_order::{order_places, order_steps, toposort, toposort_heap, toposort_scan};
 pub use name_table::NameTable;
-pub use order::{order_places, order_steps, toposort, toposort_heap, toposort_scan};
 pub use ready::Steps;
 pub use wit_graph::OrderFault;

@@ -1,7 +1,7 @@
 -- A refusal in plain values: its number, its place in the text of a source, and its words.
 use Rattle.std.specs.Prelude.{◌≡◌, ℕ, ◌+◌, true, false, List, [], Some, slice_get, string_bytes}
 use Rattle.wit_type_tree.specs.declared.error.ParseError.{ParseError}
-use Rattle.wit_type_tree.specs.Refusal.{span_of, kind_text}
+use Rattle.wit_type_tree.specs.RefusalText.{span_of, kind_text}
 use Rattle.wit_lex.specs.declared.source.Source.{Source}
 use Rattle.wit_lex.specs.Sources.{LiesIn}
 use Rattle.wit_listing.specs.ErrorLine.{has_place}

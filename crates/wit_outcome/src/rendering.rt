@@ -1,6 +1,6 @@
 //! The JSON of what sources come to.
 ghost use Rattle.std.specs.Prelude.{◌≡◌, IfOk};
-ghost use Rattle.wit_json.specs.Tokens.{json_text};
+ghost use Rattle.wit_json.specs.ValueTokens.{json_text};
 ghost use Rattle.wit_json.specs.Refusal.{optional_range};
 ghost use Rattle.wit_outcome.specs.Outcome.{outcome_json, plain_place};
 

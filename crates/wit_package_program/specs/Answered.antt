@@ -5,7 +5,7 @@ use Rattle.wit_bundle.specs.Bundle.{sources_of}
 use Rattle.wit_listing.specs.declared.fault.RunFault.{RunFault}
 use Rattle.wit_listing.specs.declared.fault.RunFault.TheVariants.{Output, Memory}
 use Rattle.wit_listing.specs.Output.{IsCutShort}
-use Rattle.wit_json.specs.Tokens.{json_text}
+use Rattle.wit_json.specs.ValueTokens.{json_text}
 use Rattle.wit_outcome.specs.declared.outcome.Outcome.{Outcome}
 use Rattle.wit_outcome.specs.declared.outcome.Outcome.TheVariants as outcome
 use Rattle.wit_outcome.specs.Outcome.{IsOutcome, outcome_json}

@@ -11,7 +11,7 @@ use Rattle.wit_tree.specs.declared.tree.Include.{Include}
 use Rattle.wit_tree.specs.declared.tree.PackageFile.{PackageFile}
 use Rattle.wit_types.specs.declared.types.TypeOwner.{TypeOwner}
 use Rattle.wit_types.specs.declared.types.TypeOwner.TheVariants as owner
-use Rattle.wit_functions.specs.Names.{mark_of, HasMarkOf}
+use Rattle.wit_functions.specs.FunctionNames.{mark_of, HasMarkOf}
 use Rattle.wit_functions.specs.declared.function.Function.{Function}
 use Rattle.wit_model.specs.declared.interface.Interface.{Interface}
 use Rattle.wit_model.specs.declared.world.World.{World}
@@ -22,7 +22,7 @@ use Rattle.wit_syntax.specs.Address.{Address}
 use Rattle.wit_syntax.specs.Foreign.{ForeignVisit, foreign_interfaces, foreign_worlds}
 use Rattle.wit_syntax.specs.Source.{Item, ScopeName, address}
 use Rattle.wit_syntax.specs.Function.{SourceFunction, functions}
-use Rattle.wit_syntax.specs.Scope.{includes}
+use Rattle.wit_syntax.specs.ScopeTables.{includes}
 use Rattle.wit_syntax.specs.Sides.{FunctionKey, side_items}
 use Rattle.wit_syntax.proofs.Legal.{functions_items}
 use Rattle.wit_arena.specs.SourceFunctions.{by_name, placed_functions, AreFunctions}
@@ -30,7 +30,7 @@ use Rattle.wit_arena.specs.SideItems.{AreSideItems, settled}
 use Rattle.wit_arena.proofs.Settled.{moved, settled_at}
 use Rattle.wit_arena.proofs.SideItems.{side_functions}
 use Rattle.wit_arena.specs.Occurrences.{Key, keys}
-use Rattle.wit_arena.specs.Package.{item_functions, keyed, interface_functions, world_functions, world_types, functions_of, IsForeignWorld}
+use Rattle.wit_arena.specs.UnfoldedTypes.{item_functions, keyed, interface_functions, world_functions, world_types, functions_of, IsForeignWorld}
 use Rattle.wit_arena.specs.OneByOne.{OneByOne}
 use Rattle.wit_arena.specs.Whole.{Ordered, OrderedWorld, ordered_names, addresses, all_inside, type_imports, IsPackage, interface_addresses, world_addresses, IsResolvedInterface, IsResolvedWorld, IsForeignInterface}
 use Rattle.wit_syntax.proofs.Lists.{at_split, at_within, map_at}

@@ -21,12 +21,12 @@ use Rattle.wit_model.specs.declared.unresolved.UnresolvedPackage.{UnresolvedPack
 use Rattle.wit_syntax.specs.Address.{Address, same_address, same_package, WorldNamed, package_of}
 use Rattle.wit_syntax.specs.Foreign.{ForeignVisit, visited, foreign_items, foreign_interfaces, foreign_worlds, foreign_packages}
 use Rattle.wit_syntax.specs.Function.{functions}
-use Rattle.wit_syntax.specs.Scope.{includes}
+use Rattle.wit_syntax.specs.ScopeTables.{includes}
 use Rattle.wit_syntax.specs.Sides.{side_items}
 use Rattle.wit_syntax.specs.Source.{Item, address, leads, target_scope}
 use Rattle.wit_arena.specs.Kind.{kind_of}
 use Rattle.wit_arena.specs.Occurrences.{Key, Def, Whole, keys, IsEntry, IsKeyed}
-use Rattle.wit_arena.specs.Package.{world_types, IsForeignWorld}
+use Rattle.wit_arena.specs.UnfoldedTypes.{world_types, IsForeignWorld}
 use Rattle.wit_arena.specs.OneByOne.{OneByOne}
 use Rattle.wit_arena.specs.Whole.{Ordered, OrderedWorld, turned, ordered_names, addresses, all_inside, all_turns, turn_handles, type_imports, place_at, owner_at, declarations, AreIncludes, IsPackage, interface_addresses, world_addresses, foreign_entry, dep, IsResolvedInterface, IsResolvedWorld, IsForeignInterface}
 use Rattle.wit_syntax.proofs.Kept.{kept_at}

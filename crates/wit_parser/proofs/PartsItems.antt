@@ -19,10 +19,10 @@ use Rattle.wit_syntax.specs.Fault.{fault, missing_at, name_word}
 use Rattle.wit_syntax.specs.Foreign.{foreign_interfaces}
 use Rattle.wit_syntax.specs.Function.{SourceFunction, functions, signature, role_names}
 use Rattle.wit_syntax.specs.Repeats.{AllDiffer}
-use Rattle.wit_syntax.specs.Scope.{in_order, item_rows, interfaces_of, worlds_of}
+use Rattle.wit_syntax.specs.ScopeTables.{in_order, item_rows, interfaces_of, worlds_of}
 use Rattle.wit_syntax.specs.Shape.{Shape, words}
 use Rattle.wit_syntax.specs.Sides.{SideItem, SideFunction, SideLink, SideInline, all_scopes, inline_items, item_function, side_items, with_inline}
-use Rattle.wit_syntax.specs.Signature.{OfFunction, OfNothing}
+use Rattle.wit_syntax.specs.SignatureRules.{OfFunction, OfNothing}
 use Rattle.wit_syntax.specs.Source.{Item, ScopeName, Used, ForeignName, ForeignUse, address, all_items, is_world, item_at, item_name, local_name, meaning, scope_names, foreign_uses}
 use Rattle.wit_syntax.specs.ScopesOfTrees.{scope}
 use Rattle.wit_syntax.proofs.Found.{at_contains, contains_at, find_at, find_passes}

@@ -12,7 +12,7 @@ use Rattle.wit_syntax.specs.Address.{Address}
 use Rattle.wit_syntax.specs.Broken.{IsLegal}
 use Rattle.wit_syntax.specs.Foreign.{ForeignVisit, visited}
 use Rattle.wit_syntax.specs.Function.{SourceFunction, functions, signature}
-use Rattle.wit_syntax.specs.Scope.{in_order, item_rows, interfaces_of, worlds_of}
+use Rattle.wit_syntax.specs.ScopeTables.{in_order, item_rows, interfaces_of, worlds_of}
 use Rattle.wit_syntax.specs.Sides.{SideItem, SideFunction, SideLink, SideInline, inline_items, item_function, item_inline, side_items}
 use Rattle.wit_syntax.specs.Source.{Item, ScopeName, ForeignUse, address, all_items, local_name, foreign_uses, same_foreign_use}
 use Rattle.wit_syntax.specs.ScopesOfTrees.{scope}

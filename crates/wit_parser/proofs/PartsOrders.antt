@@ -8,7 +8,7 @@ use Rattle.wit_graph.specs.Table.{IsOrder}
 use Rattle.wit_syntax.specs.Address.{Address}
 use Rattle.wit_syntax.specs.Broken.{IsLegal}
 use Rattle.wit_syntax.specs.Foreign.{visited, foreign_interfaces, foreign_worlds}
-use Rattle.wit_syntax.specs.Scope.{in_order, item_rows, rows_of, interfaces_of, worlds_of}
+use Rattle.wit_syntax.specs.ScopeTables.{in_order, item_rows, rows_of, interfaces_of, worlds_of}
 use Rattle.wit_syntax.specs.Sides.{SideItem, SideFunction, SideLink, SideInline, inline_items, side_items}
 use Rattle.wit_syntax.specs.Source.{Item, address, all_items, is_world, scope_names}
 use Rattle.wit_syntax.proofs.Kept.{kept_at}

@@ -10,7 +10,7 @@ use Rattle.wit_model.specs.declared.unresolved.UnresolvedPackage.{UnresolvedPack
 use Rattle.wit_syntax.specs.Address.{Address}
 use Rattle.wit_syntax.specs.Broken.{IsLegal, last_header}
 use Rattle.wit_syntax.specs.Repeats.{firsts}
-use Rattle.wit_syntax.specs.Scope.{in_order, worlds_of}
+use Rattle.wit_syntax.specs.ScopeTables.{in_order, worlds_of}
 use Rattle.wit_syntax.specs.Source.{Item, all_items}
 use Rattle.wit_arena.specs.Made.{Makes, interface_scopes, item_turns, world_scopes}
 use Rattle.wit_arena.specs.Occurrences.{Occurrence, keys, Collects, IsOccurrence}

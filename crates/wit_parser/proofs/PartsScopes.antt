@@ -22,7 +22,7 @@ use Rattle.wit_syntax.specs.Fault.{fault, missing_at, item_word}
 use Rattle.wit_syntax.specs.Foreign.{ForeignVisit, visited, path_visits, part_visits, extern_visits, foreign_at, foreign_items, foreign_interfaces, foreign_worlds}
 use Rattle.wit_syntax.specs.Function.{definition_functions}
 use Rattle.wit_syntax.specs.Repeats.{AllDiffer}
-use Rattle.wit_syntax.specs.Scope.{includes, include_path, include_paths, interfaces_of, needed_paths, part_includes, use_path, use_paths, worlds_of}
+use Rattle.wit_syntax.specs.ScopeTables.{includes, include_path, include_paths, interfaces_of, needed_paths, part_includes, use_path, use_paths, worlds_of}
 use Rattle.wit_syntax.specs.Sides.{Link, SideItem, SideFunction, SideLink, SideInline, extern_items, extern_link, inline_items, item_link, part_items, side_items}
 use Rattle.wit_syntax.specs.Source.{Part, DefinitionPart, UsePart, IncludePart, FunctionPart, ExternPart, Target, Local, Foreign, Item, address, all_items, at_side, is_world, item_name, item_named, leads, parts, path_id, path_scope, target_scope, walk}
 use Rattle.wit_syntax.proofs.Addresses.{side_itself}

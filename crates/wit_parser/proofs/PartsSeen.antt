@@ -16,7 +16,7 @@ use Rattle.wit_syntax.specs.Broken.{IsLegal}
 use Rattle.wit_syntax.specs.Form.{Form}
 use Rattle.wit_syntax.specs.Metadata.{first_known}
 use Rattle.wit_syntax.specs.Repeats.{AllDiffer, firsts}
-use Rattle.wit_syntax.specs.Scope.{in_order, item_rows}
+use Rattle.wit_syntax.specs.ScopeTables.{in_order, item_rows}
 use Rattle.wit_syntax.specs.Source.{Item, ScopeName, ForeignUse, about_name, all_items, first_foreign_uses, local_name, same_foreign_use, foreign_uses}
 use Rattle.wit_syntax.specs.ScopesOfTrees.{scope}
 use Rattle.wit_syntax.proofs.Firsts.{firsts_at}

@@ -16,10 +16,10 @@ use Rattle.wit_syntax.specs.Address.{Address}
 use Rattle.wit_syntax.specs.Broken.{IsLegal, Scope, Function, MissingName}
 use Rattle.wit_syntax.specs.Fault.{fault, missing_at, name_word}
 use Rattle.wit_syntax.specs.Function.{SourceFunction, functions, signature, role_names}
-use Rattle.wit_syntax.specs.Scope.{AreDistinct, rows_of, in_order, in_turn, used, defined, is_defined, needed_ids}
+use Rattle.wit_syntax.specs.ScopeTables.{AreDistinct, rows_of, in_order, in_turn, used, defined, is_defined, needed_ids}
 use Rattle.wit_syntax.specs.Shape.{Shape, words, all_words}
 use Rattle.wit_syntax.specs.Sides.{all_scopes}
-use Rattle.wit_syntax.specs.Signature.{IsEntered, MissingInSignature, OfFunction, OfNothing}
+use Rattle.wit_syntax.specs.SignatureRules.{IsEntered, MissingInSignature, OfFunction, OfNothing}
 use Rattle.wit_syntax.specs.Source.{ScopeName, Used, Defined, ForeignName, about_name, address, local_name, meaning, scope_names}
 use Rattle.wit_syntax.specs.ScopesOfTrees.{scope}
 use Rattle.wit_syntax.proofs.Found.{at_contains, contains_at, find_at, find_passes, some_of}

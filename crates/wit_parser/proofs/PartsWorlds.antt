@@ -13,7 +13,7 @@ use Rattle.wit_model.specs.declared.world.WorldKey.{WorldKey}
 use Rattle.wit_model.specs.declared.world.WorldKey.TheVariants as key
 use Rattle.wit_syntax.specs.Address.{Address, WorldNamed}
 use Rattle.wit_syntax.specs.Function.{SourceFunction, functions}
-use Rattle.wit_syntax.specs.Scope.{includes}
+use Rattle.wit_syntax.specs.ScopeTables.{includes}
 use Rattle.wit_syntax.specs.Sides.{Link, item_function, item_link, side_items, inline_items}
 use Rattle.wit_syntax.specs.Source.{Item, ScopeName, address, leads, local_id, local_name, path_scope, target_scope}
 use Rattle.wit_syntax.proofs.Inline.{length-inline_after}
@@ -21,7 +21,7 @@ use Rattle.wit_syntax.proofs.Legal.{functions_items}
 use Rattle.wit_syntax.proofs.Lists.{map_map}
 use Rattle.wit_arena.specs.Made.{function_in, name_places, names_in_turn, entries_on, name_imports, world_entries, own_world}
 use Rattle.wit_arena.specs.Occurrences.{Key, Def, IsSeen}
-use Rattle.wit_arena.specs.Package.{import_types, world_types}
+use Rattle.wit_arena.specs.UnfoldedTypes.{import_types, world_types}
 use Rattle.wit_arena.specs.SideItems.{AreSideItems, settled}
 use Rattle.wit_arena.specs.Whole.{Ordered, OrderedWorld, turned, addresses, type_imports, HasTypes, IsResolvedWorld}
 use Rattle.wit_arena.proofs.DoneWorlds.{own_types}

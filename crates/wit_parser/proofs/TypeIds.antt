@@ -18,7 +18,7 @@ use Rattle.wit_syntax.specs.Function.{Role, Freestanding, Method, Static, Constr
 use Rattle.wit_arena.specs.Expr.{Expr, Prim, Use, Of, Exprs, End, More, expr_of}
 use Rattle.wit_arena.specs.SourceFunctions.{IsKind, IsFunction, AreFunctions}
 use Rattle.wit_arena.specs.Occurrences.{Key, Def, Whole, IsAt, AreAt}
-use Rattle.wit_arena.specs.Package.{IsBelow, function_types}
+use Rattle.wit_arena.specs.UnfoldedTypes.{IsBelow, function_types}
 use Rattle.wit_arena.specs.Whole.{Turned, HasTypes, AreRequired}
 use Rattle.wit_syntax.proofs.Lists.{at_within}
 use Rattle.wit_arena.proofs.Primitives.{primitive_below}

@@ -20,7 +20,7 @@ use Rattle.wit_model.specs.declared.world.WorldKey.{WorldKey}
 use Rattle.wit_model.specs.declared.world.WorldKey.TheVariants as key
 use Rattle.wit_model.specs.declared.unresolved.UnresolvedPackage.{UnresolvedPackage}
 use Rattle.wit_arena.specs.Kind.{kind_of}
-use Rattle.wit_arena.specs.Package.{IsBelow, function_types}
+use Rattle.wit_arena.specs.UnfoldedTypes.{IsBelow, function_types}
 
 -- each of these types is a primitive, or has the place of a type of the package
 abbrev pub AreTypesWithin : UnresolvedPackage → List Ty → Type 0

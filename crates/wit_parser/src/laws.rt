@@ -4,9 +4,9 @@ ghost use Rattle.wit_tree.specs.declared.tree.PackageFile.{PackageFile as TheFil
 ghost use Rattle.wit_files.specs.Visits.{all_visits};
 ghost use Rattle.wit_syntax.specs.Splitting.{IsJoined, IsSplit};
 ghost use Rattle.wit_syntax.specs.Broken.{IsLegal};
-ghost use Rattle.wit_types.specs.Types.{IsBackward};
+ghost use Rattle.wit_types.specs.InnerTypes.{IsBackward};
 ghost use Rattle.wit_arena.specs.Faithful.{IsFaithful, HasArena};
-ghost use Rattle.wit_arena.specs.Splitting.{HaveSameOccurrences, HaveSamePackages};
+ghost use Rattle.wit_arena.specs.SplitOccurrences.{HaveSameOccurrences, HaveSamePackages};
 ghost use Rattle.wit_arena.specs.Made.{Makes};
 ghost use Rattle.wit_arena.specs.Whole.{IsPackage};
 ghost use Rattle.wit_parser.specs.Ids.{AreIdsWithin};

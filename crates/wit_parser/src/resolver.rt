@@ -7,7 +7,7 @@ ghost use Rattle.wit_syntax.specs.Broken.{IsBroken, IsLegal, Refused, headers, l
 ghost use Rattle.wit_first.specs.First.{Finds};
 ghost use Rattle.wit_first.specs.HeaderFaults.{have_docs as the_docs, nesting_fault, other_fault, push_fault};
 ghost use Rattle.wit_items.specs.FileHeaders.{header_at};
-ghost use Rattle.wit_type_tree.specs.Refusal.{IsAllocationFailure};
+ghost use Rattle.wit_type_tree.specs.RefusalText.{IsAllocationFailure};
 ghost use Rattle.wit_arena.specs.Made.{Makes};
 ghost use Rattle.wit_arena.specs.Whole.{first_docs, IsPackage};
 ghost use Rattle.wit_arena.specs.Faithful.{IsFaithful, HasArena, IsMadeOf};

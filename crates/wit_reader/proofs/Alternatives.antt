@@ -12,7 +12,7 @@ use Rattle.wit_lex.specs.declared.word.Word.{Word}
 use Rattle.wit_lex.specs.declared.word.Word.TheVariants as word
 use Rattle.wit_lex.specs.Lexis.{Lexeme, Stops, lexeme}
 use Rattle.wit_grammar.specs.Grammar.{Gram, run, listed, act, name, primitives}
-use Rattle.wit_grammar.specs.Kinds.{same_kind}
+use Rattle.wit_grammar.specs.TokenKinds.{same_kind}
 use Rattle.wit_grammar.specs.Leaves.{Spot, Read, lexed, spanned_at, name_at, deeper_at, is_among}
 use Rattle.wit_grammar.specs.Rules.{type_kinds, types, tuples, lists, maps_of, options, results, futures, streams, owns, borrows}
 use Rattle.wit_grammar.specs.Trees.{Name, Ty, named, tuple, tys}

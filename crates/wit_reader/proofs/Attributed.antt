@@ -5,7 +5,7 @@ use Rattle.wit_values.specs.declared.span.Span.{Span}
 use Rattle.wit_lex.specs.declared.kind.Kind.TheVariants as kind
 use Rattle.wit_lex.specs.declared.fault.ReadError.{ReadError}
 use Rattle.wit_lex.specs.Lexis.{lexeme, Stops}
-use Rattle.wit_grammar.specs.Kinds.{same_kind}
+use Rattle.wit_grammar.specs.TokenKinds.{same_kind}
 use Rattle.wit_grammar.specs.Leaves.{Read, ◌>>=◌}
 use Rattle.wit_grammar.specs.Trees.{Attribute, Name, Release}
 use Rattle.wit_grammar.specs.Grammar.{Gram, act, applied, either, matches, of_kind, of_text, run, starts}

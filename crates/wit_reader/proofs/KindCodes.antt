@@ -7,7 +7,7 @@ use Rattle.wit_lex.specs.declared.kind.Kind.TheVariants as kind
 use Rattle.wit_lex.specs.declared.word.Word.{Word}
 use Rattle.wit_lex.specs.declared.word.Word.TheVariants as word
 use Rattle.wit_lex.specs.Lexis.{words}
-use Rattle.wit_grammar.specs.Kinds.{kind_code, same_kind}
+use Rattle.wit_grammar.specs.TokenKinds.{kind_code, same_kind}
 
 abbrev pub all_kinds : List Kind
 all_kinds =

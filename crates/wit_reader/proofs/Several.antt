@@ -6,7 +6,7 @@ use Rattle.wit_lex.specs.declared.fault.ReadError.{ReadError}
 use Rattle.wit_lex.specs.declared.fault.ReadError.TheVariants.{Fault, OutOfMemory}
 use Rattle.wit_lex.specs.declared.kind.Kind.{Kind}
 use Rattle.wit_lex.specs.Lexis.{Stops}
-use Rattle.wit_grammar.specs.Kinds.{same_kind}
+use Rattle.wit_grammar.specs.TokenKinds.{same_kind}
 use Rattle.wit_grammar.specs.Leaves.{Spot, Read, ◌>>=◌}
 use Rattle.wit_grammar.specs.Grammar.{closes, many_at, until_at}
 use Rattle.wit_reader.specs.declared.reader.Reader.{Reader}

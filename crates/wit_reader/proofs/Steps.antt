@@ -9,7 +9,7 @@ use Rattle.wit_lex.specs.declared.fault.ReadError.TheVariants.{Fault, OutOfMemor
 use Rattle.wit_lex.specs.declared.fault.ReadFault.TheVariants as fault
 use Rattle.wit_lex.specs.declared.kind.Kind.TheVariants.{Name}
 use Rattle.wit_lex.specs.Lexis.{Lexeme, Stops, first_token}
-use Rattle.wit_grammar.specs.Kinds.{same_kind}
+use Rattle.wit_grammar.specs.TokenKinds.{same_kind}
 use Rattle.wit_grammar.specs.Leaves.{Spot, Read, lexed, past, moved, span_of, stop, text_at, text_of, ◌>>=◌}
 
 pub past_end : (s : Spot) (t : Lexeme) → t.start ≡ t.end → past s t ≡ Err (Fault fault.Token t.start t.end)

@@ -3,11 +3,11 @@
 #![tactic(auto)]
 
 pub mod attribute;
+pub mod before_item;
 mod handle;
 pub mod holding;
 pub mod list;
 mod nesting;
-pub mod prefix;
 mod primitive;
 pub mod reader;
 pub mod room;

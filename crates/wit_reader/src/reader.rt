@@ -4,7 +4,7 @@ ghost use Rattle.wit_lex.specs.declared.fault.ReadError.TheVariants.{Fault};
 ghost use Rattle.wit_lex.specs.declared.kind.Kind.TheVariants.{Word as WordKind};
 ghost use Rattle.wit_lex.specs.Tokens.{IsFound, IsToken};
 ghost use Rattle.wit_lex.specs.Lexis.{Stops, first_token, lexeme};
-ghost use Rattle.wit_grammar.specs.Kinds.{same_kind};
+ghost use Rattle.wit_grammar.specs.TokenKinds.{same_kind};
 ghost use Rattle.wit_grammar.specs.Seen.{see_name};
 ghost use Rattle.wit_grammar.specs.Leaves.{past, mark_at};
 ghost use Rattle.wit_grammar.specs.Grammar.{matches, of_text, name, says, spanned};

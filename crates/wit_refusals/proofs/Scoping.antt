@@ -25,7 +25,7 @@ use Rattle.wit_type_tree.specs.declared.error.ParseError.{ParseError}
 use Rattle.wit_syntax.specs.Fault.{fault}
 use Rattle.wit_syntax.specs.Broken.{Refused}
 use Rattle.wit_refusals.specs.NameScopes.{Name, AreUsed, IsLoneSetter, IsFirstLoneSetter}
-use Rattle.wit_refusals.specs.Scope.{Entry, spelled, name_of, names_of, IsKeyed, HasName}
+use Rattle.wit_refusals.specs.KeyedNames.{Entry, spelled, name_of, names_of, IsKeyed, HasName}
 use Rattle.wit_refusals.proofs.Tables.{lookup-at, lookup-none}
 
 abbrev key : Entry → List ℕ

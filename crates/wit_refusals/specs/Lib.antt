@@ -1,5 +1,5 @@
 pub mod KeyHashes
 pub mod Lent
 pub mod NameScopes
-pub mod Scope
+pub mod KeyedNames
 pub mod RepeatWords

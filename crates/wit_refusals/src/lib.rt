@@ -5,9 +5,9 @@ mod getters;
 mod key_hashes;
 pub mod name_scope;
 pub mod refusal;
+pub mod repeat_words;
 pub mod repeats;
 pub mod unique_names;
-pub mod words;
 
 pub use name_scope::NameScope;
 pub use unique_names::check_unique_names;

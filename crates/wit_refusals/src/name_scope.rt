@@ -3,14 +3,14 @@ ghost use Rattle.std.specs.Prelude.{◌≡◌, ◌⊎◌, ◌++◌, ◌∷◌, [
 ghost use Rattle.wit_names.specs.Mangled.{is_mangled};
 ghost use Rattle.wit_names.specs.Setter.{getter_of, is_setter};
 ghost use Rattle.wit_syntax.specs.Broken.{Refused};
-ghost use Rattle.wit_type_tree.specs.Refusal.{IsAllocationFailure};
+ghost use Rattle.wit_type_tree.specs.RefusalText.{IsAllocationFailure};
 ghost use Rattle.wit_syntax.specs.Fault.{fault, fault_of};
 ghost use Rattle.wit_refusals.specs.NameScopes.{IsDefinedAgain, IsFirstLoneSetter, IsLoneSetter, AreUsed};
-ghost use Rattle.wit_refusals.specs.Scope.{HasName, IsKeyed, names_of, spelled, spelling};
+ghost use Rattle.wit_refusals.specs.KeyedNames.{HasName, IsKeyed, names_of, spelled, spelling};
 
 use crate::getters::is_getter_name;
 use crate::refusal::refuse_in;
-use crate::words::clash;
+use crate::repeat_words::clash;
 use std::alloc::{AllocError, Global};
 use std::marker::Model;
 use wit_maps::Table;
@@ -55,7 +55,7 @@ impl Drop for NameScope {
 impl Model for NameScope {
     ghost use Rattle.std.specs.Prelude.{List};
     ghost use Rattle.wit_refusals.specs.NameScopes.{Name};
-    ghost use Rattle.wit_refusals.specs.Scope.{IsKeyed, names_of};
+    ghost use Rattle.wit_refusals.specs.KeyedNames.{IsKeyed, names_of};
 
     ghost Value = { List Name };
 

@@ -1,7 +1,7 @@
 //! Refusals of a broken rule.
 ghost use Rattle.std.specs.Prelude.{◌≡◌, ◌⊎◌, ◌++◌, IfErr, IfOk, None, Some, codes, string_bytes};
 ghost use Rattle.std.specs.Option.{option_map};
-ghost use Rattle.wit_type_tree.specs.Refusal.{IsAllocationFailure, IsItemNotFound, IsTypeCycle, kind_text};
+ghost use Rattle.wit_type_tree.specs.RefusalText.{IsAllocationFailure, IsItemNotFound, IsTypeCycle, kind_text};
 ghost use Rattle.wit_syntax.specs.Fault.{fault, fault_of, missing_at, missing_type_at, cyclic_at, type_word};
 ghost use Rattle.wit_syntax.specs.Hint.{hint_of, renamed, type_hint};
 

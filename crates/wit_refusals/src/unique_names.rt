@@ -4,8 +4,8 @@ ghost use Rattle.wit_first.specs.First.{Finds};
 ghost use Rattle.wit_first.specs.ListFaults.{names_fault};
 
 use crate::refusal::refuse_in;
+use crate::repeat_words::clash;
 use crate::repeats::first_folded_repeat;
-use crate::words::clash;
 use std::alloc::{AllocError, Global};
 use wit_type_tree::ParseResult;
 use wit_type_tree::leaves::Id;

@@ -4,13 +4,13 @@ use Rattle.std.specs.Prelude.{length, slice_get}
 use Rattle.std.proofs.Math.Logic.{∥∥₁_elim}
 use Rattle.std.proofs.Props.{props}
 use Rattle.std.proofs.lemmas.Option.{option_and_then_some, slice_get_within}
-use Rattle.wit_types.specs.Types.{IsBackward, IsBelow, handled_of, place_of, places_to, rank}
+use Rattle.wit_types.specs.InnerTypes.{IsBackward, IsBelow, handled_of, place_of, places_to, rank}
 use Rattle.wit_types.specs.declared.types.«Type».{«Type» as Ty}
 use Rattle.wit_types.specs.declared.types.TypeDef.{TypeDef}
 use Rattle.wit_types.specs.declared.types.TypeDefKind.{TypeDefKind}
 use Rattle.wit_types.specs.declared.types.TypeDefKind.TheVariants as kind
 use Rattle.wit_model.specs.declared.unresolved.UnresolvedPackage.{UnresolvedPackage}
-use Rattle.wit_resolved.specs.Ends.{aliased, aliased_at}
+use Rattle.wit_resolved.specs.AliasEnds.{aliased, aliased_at}
 use Rattle.wit_resolved.specs.Valid.{IsValid}
 
 ranked : (t : Ty) (n next : ℕ) → rank (Some t) ≤ n → place_of t ≡ Some next → next < n

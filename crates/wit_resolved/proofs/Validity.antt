@@ -7,9 +7,9 @@ use Rattle.std.proofs.Math.Logic.{∥∥₁_elim, ∥∥₁_map}
 use Rattle.std.proofs.Props.{props}
 use Rattle.std.proofs.lemmas.Option.{slice_get-map}
 use Rattle.wit_tree.specs.declared.tree.WorldSide.TheVariants.{Imported, Exported}
-use Rattle.wit_types.specs.Types.{IsBackward}
+use Rattle.wit_types.specs.InnerTypes.{IsBackward}
 use Rattle.wit_types.specs.declared.types.TypeOwner.TheVariants as owner
-use Rattle.wit_functions.specs.Names.{mark_of, HasMarkOf}
+use Rattle.wit_functions.specs.FunctionNames.{mark_of, HasMarkOf}
 use Rattle.wit_functions.specs.declared.function.Function.{Function}
 use Rattle.wit_model.specs.declared.interface.Interface.{Interface}
 use Rattle.wit_model.specs.declared.unresolved.UnresolvedPackage.{UnresolvedPackage}
@@ -20,7 +20,7 @@ use Rattle.wit_model.specs.declared.world.WorldKey.{WorldKey}
 use Rattle.wit_model.specs.declared.world.WorldKey.TheVariants as key
 use Rattle.wit_syntax.specs.Sides.{FunctionKey}
 use Rattle.wit_syntax.proofs.Lists.{at_back, at_prefix, flat_map_has}
-use Rattle.wit_arena.specs.Package.{functions_of, interface_functions, item_functions, keyed, world_functions}
+use Rattle.wit_arena.specs.UnfoldedTypes.{functions_of, interface_functions, item_functions, keyed, world_functions}
 use Rattle.wit_parser.specs.Ids.{AreNamesWithin, IsItemWithin}
 use Rattle.wit_resolved.specs.Valid.{AreFunctionsValid, AreItemsValid, IsFunctionValid, IsItemValid, IsValid, named_function}
 

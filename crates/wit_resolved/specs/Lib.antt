@@ -1,4 +1,4 @@
-pub mod Ends
+pub mod AliasEnds
 pub mod Left
 pub mod Lookups
 pub mod Valid

@@ -1,8 +1,8 @@
 -- What holds of each package that legal files make: its ids are places of entries, those of its types point backward, and the names of its
 -- functions have the marks of their kinds.
 use Rattle.std.specs.Prelude.{◌≡◌, ℕ, List, Option, Some, None, slice_get}
-use Rattle.wit_types.specs.Types.{IsBackward}
-use Rattle.wit_functions.specs.Names.{mark_of, HasMarkOf}
+use Rattle.wit_types.specs.InnerTypes.{IsBackward}
+use Rattle.wit_functions.specs.FunctionNames.{mark_of, HasMarkOf}
 use Rattle.wit_functions.specs.declared.function.Function.{Function}
 use Rattle.wit_model.specs.declared.world.WorldItem.{WorldItem}
 use Rattle.wit_model.specs.declared.world.WorldItem.TheVariants as item

@@ -3,7 +3,7 @@ ghost use Rattle.std.specs.Prelude.{◌≡◌, IfOk, IfSome};
 ghost use Rattle.std.specs.Option.{option_map};
 ghost use Rattle.wit_functions.specs.FunctionKinds.{resource_of};
 ghost use Rattle.wit_functions.specs.Futures.{futures_of};
-ghost use Rattle.wit_functions.specs.Names.{item_name};
+ghost use Rattle.wit_functions.specs.FunctionNames.{item_name};
 ghost use Rattle.wit_resolved.specs.Left.{functions_from};
 ghost use Rattle.wit_resolved.specs.Valid.{AreFunctionsValid, IsFunctionValid, IsValid};
 

@@ -1,7 +1,7 @@
 //! Packages.
 ghost use Rattle.std.specs.Prelude.{◌≡◌, ◌<◌, IfSome, Some, length};
 ghost use Rattle.std.specs.Option.{option_map};
-ghost use Rattle.wit_types.specs.Types.{place_of};
+ghost use Rattle.wit_types.specs.InnerTypes.{place_of};
 ghost use Rattle.wit_resolved.specs.Lookups.{interface_named, is_name, place_within, world_named};
 ghost use Rattle.wit_resolved.specs.Valid.{AreMade, IsMade, IsValid};
 
@@ -10,7 +10,7 @@ use crate::type_ref::{TypeRef, TypeRefs};
 use crate::world_ref::{WorldRef, WorldRefs};
 use wit_model::{Interface, UnresolvedPackage, World};
 use wit_parser::laws::{functions_have_marks, ids_are_within, ids_point_backward};
-use wit_types::slots::place_of_slot;
+use wit_types::type_slots::place_of_slot;
 use wit_types::{Arena, InterfacePlace, Type, WorldPlace};
 
 /// A resolved package, borrowed. It is copied freely, and gives what the package has.

@@ -1,8 +1,8 @@
 //! Types of packages.
 ghost use Rattle.std.specs.Prelude.{◌≡◌, ◌<◌, IfSome, Some, length, slice_get};
 ghost use Rattle.std.specs.Option.{option_copied, option_map};
-ghost use Rattle.wit_types.specs.Types.{handled_of};
-ghost use Rattle.wit_resolved.specs.Ends.{IsEnd, IsResourceOf, aliased, aliased_at};
+ghost use Rattle.wit_types.specs.InnerTypes.{handled_of};
+ghost use Rattle.wit_resolved.specs.AliasEnds.{IsEnd, IsResourceOf, aliased, aliased_at};
 ghost use Rattle.wit_resolved.specs.Left.{type_places};
 ghost use Rattle.wit_resolved.specs.Lookups.{type_interface, type_name, type_owner_name, type_world};
 ghost use Rattle.wit_resolved.specs.Valid.{IsValid};
@@ -11,7 +11,7 @@ use crate::interface_ref::InterfaceRef;
 use crate::paths::{own_name, world_name};
 use crate::world_ref::WorldRef;
 use wit_model::UnresolvedPackage;
-use wit_types::slots::place_of_slot;
+use wit_types::type_slots::place_of_slot;
 use wit_types::{Handle, TypeDef, TypeDefKind, TypeId, TypeOwner, Types};
 
 /// A type of a resolved package.

@@ -22,7 +22,7 @@ use Rattle.wit_syntax.proofs.Lists.{map_map}
 use Rattle.wit_first.specs.FunctionFaults.{given_fault, params_fault}
 use Rattle.wit_rules.specs.declared.borrowed.BorrowedFunction.{BorrowedFunction}
 use Rattle.wit_rules.specs.declared.borrowed.BorrowedFunction.TheVariants as borrowed
-use Rattle.wit_rules.specs.Borrowed.{function_view}
+use Rattle.wit_rules.specs.BorrowedFunctions.{function_view}
 
 -- the names of parameters, of which some are written
 pub names-append : (given params : List SourceParam) (written : List Param) → map written_param written ≡ params → map (λ p. p.name) (given ++ params) ≡ map (λ p. p.name) given ++ map (λ p. p.name.name.now) written

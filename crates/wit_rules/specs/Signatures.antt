@@ -5,7 +5,7 @@ use Rattle.std.specs.Map.{lookup}
 use Rattle.std.specs.Option.{option_to_list}
 use denote.Ref.{Bor}
 use Rattle.wit_values.specs.declared.span.Span.{Span}
-use Rattle.wit_type_tree.specs.Refusal.{Missing}
+use Rattle.wit_type_tree.specs.RefusalText.{Missing}
 use Rattle.wit_type_tree.specs.declared.leaves.Id.{Id}
 use Rattle.wit_type_tree.specs.declared.types.«Type».{«Type» as Written}
 use Rattle.wit_types.specs.declared.types.«Type».{«Type» as Ty}
@@ -18,10 +18,10 @@ use Rattle.wit_syntax.specs.Shape.{Shape, shape_of, words, handles, all_handles}
 use Rattle.wit_syntax.specs.Source.{ScopeName, meaning}
 use Rattle.wit_syntax.specs.Function.{Role, Freestanding, Method, Static, Constructor, OnSide, SourceParam, SourceFunction, written_types}
 use Rattle.wit_syntax.specs.Bodies.{IsBrokenType}
-use Rattle.wit_syntax.specs.Signature.{ok_of, meant_ok, IsEntered, IsGetterWithoutResult, IsSetterWithResult, IsConstructorWithoutResult, IsConstructorOfOther, IsBrokenFunction}
+use Rattle.wit_syntax.specs.SignatureRules.{ok_of, meant_ok, IsEntered, IsGetterWithoutResult, IsSetterWithResult, IsConstructorWithoutResult, IsConstructorOfOther, IsBrokenFunction}
 use Rattle.wit_arena.specs.Resolving.{Env, env_of, IsWrongHandle}
 use Rattle.wit_rules.specs.declared.function_scope.FunctionScope.{FunctionScope}
-use Rattle.wit_rules.specs.Borrowed.{function_view, owner_of}
+use Rattle.wit_rules.specs.BorrowedFunctions.{function_view, owner_of}
 
 -- what the definition of a name gives where all is well, by a table of definitions that are written as results
 abbrev pub stated_ok : Option (Bor Written) → Option (Option Written)

@@ -3,7 +3,7 @@ ghost use Rattle.std.specs.Prelude.{◌≡◌, ◌++◌, length, map, IfOk, stri
 ghost use Rattle.std.specs.Option.{option_map};
 ghost use Rattle.wit_syntax.specs.Function.{accessor, all_params, dotted, resource_function, written_param};
 ghost use Rattle.wit_syntax.specs.Sides.{role_side};
-ghost use Rattle.wit_rules.specs.Borrowed.{function_view, owner_of, given_of, made_of, across_of};
+ghost use Rattle.wit_rules.specs.BorrowedFunctions.{function_view, owner_of, given_of, made_of, across_of};
 
 use std::alloc::{AllocError, Global};
 use wit_tree::Span;

@@ -1,6 +1,6 @@
 //! The rules of functions: of their parameters and of their results.
 ghost use Rattle.std.specs.Prelude.{◌≡◌, ◌⊎◌, List, Some, IfOk, map};
-ghost use Rattle.wit_type_tree.specs.Refusal.{IsAllocationFailure};
+ghost use Rattle.wit_type_tree.specs.RefusalText.{IsAllocationFailure};
 ghost use Rattle.wit_type_tree.specs.declared.types.FuncForm.TheVariants.{Getter, Setter};
 ghost use Rattle.wit_syntax.specs.Bodies.{folded};
 ghost use Rattle.wit_syntax.specs.Fault.{fault, fault_of};
@@ -8,8 +8,8 @@ ghost use Rattle.wit_first.specs.First.{Finds, IsFirstRepeat};
 ghost use Rattle.wit_first.specs.FunctionFaults.{given_fault, gives_fault, is_written_as, made_fault, no_result_fault, setter_fault};
 ghost use Rattle.wit_syntax.specs.Source.{ScopeName};
 ghost use Rattle.wit_syntax.specs.Function.{all_params};
-ghost use Rattle.wit_syntax.specs.Signature.{ok_span as the_ok_span, result_ok as the_result_ok};
-ghost use Rattle.wit_rules.specs.Borrowed.{function_view};
+ghost use Rattle.wit_syntax.specs.SignatureRules.{ok_span as the_ok_span, result_ok as the_result_ok};
+ghost use Rattle.wit_rules.specs.BorrowedFunctions.{function_view};
 ghost use Rattle.wit_rules.specs.Signatures.{AreResults};
 
 use crate::borrowed::BorrowedFunction;
@@ -17,8 +17,8 @@ use crate::function_scope::{result_ok, span_of};
 use std::alloc::{AllocError, Global};
 use wit_maps::TextTable;
 use wit_refusals::refusal::{refuse, refuse_in};
+use wit_refusals::repeat_words::defined_twice;
 use wit_refusals::repeats::first_folded_repeat;
-use wit_refusals::words::defined_twice;
 use wit_tree::tree::{FuncForm, Id, Type};
 use wit_tree::{ParseError, ParseResult, Span};
 

@@ -2,7 +2,7 @@
 ghost use Rattle.std.specs.Prelude.{◌≡◌, List};
 ghost use Rattle.std.specs.Option.{option_map};
 ghost use Rattle.wit_syntax.specs.Source.{ScopeName};
-ghost use Rattle.wit_syntax.specs.Signature.{ok_of as the_ok, result_ok as the_result_ok, type_span};
+ghost use Rattle.wit_syntax.specs.SignatureRules.{ok_of as the_ok, result_ok as the_result_ok, type_span};
 ghost use Rattle.wit_rules.specs.Signatures.{AreResults};
 
 use crate::borrowed::BorrowedFunction;

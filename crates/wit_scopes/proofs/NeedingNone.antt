@@ -10,7 +10,7 @@ use Rattle.wit_graph.specs.Table.{Row, IsEdge, Leads, IsOrder}
 use Rattle.wit_graph.proofs.Greedy.{own_greedy, greedy_sorted, greedy_least}
 use Rattle.wit_graph.proofs.Tables.{slice_get-take}
 use Rattle.wit_syntax.specs.Source.{ScopeName, local_id}
-use Rattle.wit_syntax.specs.Scope.{needed_ids, rows_of, in_order, used, defined}
+use Rattle.wit_syntax.specs.ScopeTables.{needed_ids, rows_of, in_order, used, defined}
 use Rattle.wit_syntax.proofs.Lists.{at_prefix, at_seam, at_take, at_within, map_at}
 use Rattle.wit_syntax.proofs.Orders.{take_next, in_order-append}
 use Rattle.wit_scopes.specs.DefinitionOrder.{AreOrdered, IsTurnOf, IsWritten, NeedNone}

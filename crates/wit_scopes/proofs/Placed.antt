@@ -3,7 +3,7 @@ use Rattle.std.proofs.Common.{◌≡◌, List, [], ◌∷◌, ◌++◌, inl, inr
 use Rattle.wit_syntax.specs.Address.{Address}
 use Rattle.wit_syntax.proofs.Lists.{at_either}
 use Rattle.wit_scopes.specs.declared.scope_name.UsedName.{UsedName}
-use Rattle.wit_scopes.specs.Borrowed.{Borrowed, IsPlaced, ArePlaced}
+use Rattle.wit_scopes.specs.BorrowedNames.{Borrowed, IsPlaced, ArePlaced}
 use Rattle.wit_scopes.specs.PlacedNames.{IsNamePlaced, AreNamesPlaced}
 
 -- one name more

@@ -10,7 +10,7 @@ use Rattle.wit_syntax.specs.Source.{ScopeName, Used, Defined, ForeignName, local
 use Rattle.wit_type_tree.specs.declared.leaves.Id.{Id}
 use Rattle.wit_type_tree.specs.declared.types.TypeDef.{TypeDef as Definition}
 use Rattle.wit_syntax.specs.Shape.{all_words, body_of}
-use Rattle.wit_syntax.specs.Scope.{in_order, is_defined, rows_of, used, defined, AreDistinct, local_names}
+use Rattle.wit_syntax.specs.ScopeTables.{in_order, is_defined, rows_of, used, defined, AreDistinct, local_names}
 use Rattle.wit_syntax.specs.Fault.{Fault, fault, missing_type_at, type_word}
 use Rattle.wit_syntax.specs.Bodies.{IsRepeated}
 use Rattle.wit_syntax.specs.Function.{SourceFunction}
@@ -24,7 +24,7 @@ use Rattle.wit_syntax.proofs.Turns.{AreOwn, used_is, used_has, defined_at, defin
 use Rattle.wit_arena.proofs.Scoping.{needed_earlier}
 use Rattle.wit_syntax.proofs.Found.{at_contains, contains_at}
 use Rattle.wit_syntax.proofs.Legal.{no_missing_edge, no_cyclic_edge}
-use Rattle.wit_scopes.specs.Borrowed.{Borrowed, name_view}
+use Rattle.wit_scopes.specs.BorrowedNames.{Borrowed, name_view}
 use Rattle.wit_scopes.specs.declared.scope_name.Named.TheVariants as borrowed
 use Rattle.wit_scopes.specs.DefinitionOrder.{AreOrdered, AreInTurn, IsBrokenAmong, IsRepeatedId, OfFunction, IsOfFunctions}
 

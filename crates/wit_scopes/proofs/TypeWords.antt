@@ -7,7 +7,7 @@ use Rattle.wit_values.specs.declared.span.Span.{Span}
 use Rattle.wit_type_tree.specs.declared.leaves.Id.{Id}
 use Rattle.wit_type_tree.specs.declared.types.Case.{Case}
 use Rattle.wit_type_tree.specs.declared.types.«Type».{«Type» as Written, Tuple}
-use Rattle.wit_type_tree.specs.Parts.{case_types}
+use Rattle.wit_type_tree.specs.TypeParts.{case_types}
 use Rattle.wit_syntax.specs.Shape.{shape_of, all_shapes, words, all_words}
 use Rattle.wit_syntax.proofs.Lists.{filter_map_more}
 use Rattle.wit_arena.proofs.Written.{tuple_inner, all_words-append}

@@ -9,13 +9,13 @@ use Rattle.wit_type_tree.specs.declared.leaves.Attribute.{Attribute}
 use Rattle.wit_tree.specs.declared.tree.UseName.{UseName}
 use Rattle.wit_syntax.specs.Address.{Address}
 use Rattle.wit_syntax.specs.Source.{ScopeName, Used, local_name}
-use Rattle.wit_syntax.specs.Scope.{is_defined, used, defined, local_names}
+use Rattle.wit_syntax.specs.ScopeTables.{is_defined, used, defined, local_names}
 use Rattle.wit_syntax.specs.Fault.{Fault}
 use Rattle.wit_syntax.specs.Function.{SourceFunction}
 use Rattle.wit_syntax.specs.Bodies.{IsRepeated}
 use Rattle.wit_syntax.specs.Broken.{DefinedTwice}
 use Rattle.wit_arena.specs.Resolving.{Names, ResolvedScope, env_of, IsFound, IsWrongName, Unstated, OfFunction, IsWrongUse, Wrong, ForeignName, IsWrongScope, WrongName, WrongItself}
-use Rattle.wit_scopes.specs.Borrowed.{Borrowed, name_view}
+use Rattle.wit_scopes.specs.BorrowedNames.{Borrowed, name_view}
 use Rattle.wit_scopes.specs.DefinitionOrder.{IsUnstated, AtFunction, AtNothing}
 use Rattle.wit_syntax.proofs.Orders.{take_next}
 use Rattle.wit_syntax.proofs.Lists.{at_prefix, at_take, map_at}

@@ -4,12 +4,12 @@ use Rattle.wit_type_tree.specs.declared.leaves.Id.{Id}
 use Rattle.wit_type_tree.specs.declared.types.TypeDef.{TypeDef as Definition}
 use Rattle.wit_graph.specs.Table.{IsOrder}
 use Rattle.wit_syntax.specs.Source.{ScopeName, Defined, local_id, local_name}
-use Rattle.wit_syntax.specs.Scope.{needed_ids, rows_of, in_order, used, defined}
+use Rattle.wit_syntax.specs.ScopeTables.{needed_ids, rows_of, in_order, used, defined}
 use Rattle.wit_syntax.specs.Fault.{Fault, fault, missing_at, name_word}
 use Rattle.wit_syntax.specs.Metadata.{IsBrokenMetadata}
 use Rattle.wit_syntax.specs.Bodies.{IsSecond, IsBrokenBody}
 use Rattle.wit_syntax.specs.Function.{SourceFunction}
-use Rattle.wit_syntax.specs.Signature.{IsBrokenFunction}
+use Rattle.wit_syntax.specs.SignatureRules.{IsBrokenFunction}
 use Rattle.wit_arena.specs.Resolving.{Env, HasNames}
 
 -- no name of a scope needs one

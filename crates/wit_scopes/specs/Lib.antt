@@ -1,3 +1,3 @@
-pub mod Borrowed
+pub mod BorrowedNames
 pub mod PlacedNames
 pub mod DefinitionOrder

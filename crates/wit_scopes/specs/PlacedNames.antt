@@ -2,7 +2,7 @@
 use Rattle.std.specs.Prelude.{◌≡◌, ℕ, ⊤, List, Some, slice_get}
 use Rattle.wit_syntax.specs.Address.{Address}
 use Rattle.wit_syntax.specs.Source.{Used, Defined}
-use Rattle.wit_scopes.specs.Borrowed.{Borrowed, IsPlaced}
+use Rattle.wit_scopes.specs.BorrowedNames.{Borrowed, IsPlaced}
 use Rattle.wit_scopes.specs.declared.scope_name.Named.TheVariants as borrowed
 
 -- a used name is from a declared interface, or from that of another package at its place

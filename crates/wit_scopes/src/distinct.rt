@@ -3,13 +3,13 @@ ghost use Rattle.std.specs.Prelude.{◌≡◌, ◌++◌, map, IfOk, OnOk};
 ghost use Rattle.wit_syntax.specs.Source.{local_id as the_local_id};
 ghost use Rattle.wit_first.specs.First.{Finds};
 ghost use Rattle.wit_first.specs.NameFaults.{local_names_fault};
-ghost use Rattle.wit_scopes.specs.Borrowed.{use_view, definition_view};
+ghost use Rattle.wit_scopes.specs.BorrowedNames.{use_view, definition_view};
 
 use crate::scope_name::{DefinedName, UsedName, local_of};
 use std::alloc::{AllocError, Global};
 use wit_refusals::refusal::refuse;
+use wit_refusals::repeat_words::defined_twice;
 use wit_refusals::repeats::first_repeat;
-use wit_refusals::words::defined_twice;
 use wit_tree::ParseResult;
 use wit_tree::tree::Id;
 

@@ -3,8 +3,8 @@ ghost use Rattle.std.specs.Prelude.{◌≡◌, ◌++◌, List, map, IfOk, OnOk};
 ghost use Rattle.std.specs.Option.{unwrap_or};
 ghost use Rattle.wit_syntax.specs.Address.{Address};
 ghost use Rattle.wit_syntax.specs.Source.{Used, local_id as the_local_id};
-ghost use Rattle.wit_syntax.specs.Scope.{used, defined};
-ghost use Rattle.wit_scopes.specs.Borrowed.{source_view, name_view, use_view, definition_view, IsPlaced, ArePlaced};
+ghost use Rattle.wit_syntax.specs.ScopeTables.{used, defined};
+ghost use Rattle.wit_scopes.specs.BorrowedNames.{source_view, name_view, use_view, definition_view, IsPlaced, ArePlaced};
 ghost use Rattle.wit_scopes.specs.PlacedNames.{AreNamesPlaced};
 
 use std::alloc::{AllocError, Global};

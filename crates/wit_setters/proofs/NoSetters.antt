@@ -2,7 +2,7 @@
 use Rattle.std.proofs.Common.{◌≡◌, ◌||◌, Bool, true, false, List, [], ◌∷◌, refl, ap, ◌∙◌}
 use Rattle.std.specs.Prelude.{Option}
 use Rattle.std.specs.List.{flat_map, list_any}
-use Rattle.wit_functions.specs.Setters.{early, is_same_text, others, setters_placed, with_setters}
+use Rattle.wit_functions.specs.SettersPlaced.{early, is_same_text, others, setters_placed, with_setters}
 use Rattle.wit_functions.specs.declared.function.Function.{Function}
 use Rattle.wit_functions.specs.MaybeFunction.{goes, is_setter, offered}
 use Rattle.wit_functions.proofs.GetterNames.{goes_wanted, wants_none}

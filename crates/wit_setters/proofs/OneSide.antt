@@ -8,8 +8,8 @@ use Rattle.wit_model.specs.declared.world.WorldItem.{WorldItem}
 use Rattle.wit_model.specs.declared.world.WorldKey.{WorldKey}
 use Rattle.wit_model.specs.declared.world.WorldKey.TheVariants as key
 use Rattle.wit_model.specs.contracts.world.WorldKeyPartialEq.TheImpl.{eq-value as key_test}
-use Rattle.wit_functions.specs.Setters.{pairs, placed}
-use Rattle.wit_model.specs.Worlds.{function_of}
+use Rattle.wit_functions.specs.SettersPlaced.{pairs, placed}
+use Rattle.wit_model.specs.ItemsOfWorlds.{function_of}
 use Rattle.wit_functions.proofs.Pairs.{in_turn-placed}
 use Rattle.wit_syntax.specs.Repeats.{AllDiffer}
 use Rattle.wit_syntax.proofs.Names.{name_equal}

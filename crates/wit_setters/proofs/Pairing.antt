@@ -5,7 +5,7 @@ use Rattle.std.specs.List.{flat_map, list_any}
 use Rattle.std.specs.Option.{option_map}
 use Rattle.std.proofs.lemmas.Bool.{cases_Bool}
 use Rattle.std.proofs.lemmas.Option.{slice_get-map, slice_get_within}
-use Rattle.wit_functions.specs.Setters.{early, is_getter, is_getter_of, is_same_text, others, setters_placed, with_setters}
+use Rattle.wit_functions.specs.SettersPlaced.{early, is_getter, is_getter_of, is_same_text, others, setters_placed, with_setters}
 use Rattle.wit_functions.specs.declared.function.Function.{Function}
 use Rattle.wit_syntax.specs.Repeats.{AllDiffer}
 use Rattle.wit_syntax.proofs.Names.{name_equal}

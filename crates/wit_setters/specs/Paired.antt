@@ -1,7 +1,7 @@
 -- Setters that come after their getters.
 use Rattle.std.specs.Prelude.{◌≡◌, ℕ, ◌<◌, true, List, Some, length, slice_get}
 use Rattle.wit_functions.specs.declared.function.Function.{Function}
-use Rattle.wit_functions.specs.Setters.{is_getter_of}
+use Rattle.wit_functions.specs.SettersPlaced.{is_getter_of}
 use Rattle.wit_functions.specs.MaybeFunction.{is_setter}
 
 -- the getter of the function at a place comes before it, if that is a setter

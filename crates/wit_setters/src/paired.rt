@@ -1,7 +1,7 @@
 //! Whether each setter comes directly after its getter already.
 ghost use Rattle.std.specs.Prelude.{◌≡◌, ◌<◌, length, IsTrue};
 ghost use Rattle.std.specs.Option.{option_copied};
-ghost use Rattle.wit_functions.specs.Setters.{prefixes as the_prefixes, goes_on_alike, is_getter_of, is_same_text};
+ghost use Rattle.wit_functions.specs.SettersPlaced.{prefixes as the_prefixes, goes_on_alike, is_getter_of, is_same_text};
 ghost use Rattle.wit_setters.specs.Paired.{ArePaired, IsPaired};
 
 use wit_functions::maybe_function::is_setter;

@@ -3,8 +3,8 @@ ghost use Rattle.std.specs.Prelude.{◌≡◌, ◌++◌, [], ◌↔◌, IfErr, I
 ghost use Rattle.wit_names.specs.Mangled.{is_mangled};
 ghost use Rattle.wit_syntax.specs.Broken.{Refused};
 ghost use Rattle.wit_refusals.specs.NameScopes.{IsDefinedAgain, AreUsed};
-ghost use Rattle.wit_refusals.specs.Scope.{HasName};
-ghost use Rattle.wit_sides.specs.Sides.{only_on, defined_on};
+ghost use Rattle.wit_refusals.specs.KeyedNames.{HasName};
+ghost use Rattle.wit_sides.specs.SideNames.{only_on, defined_on};
 
 use std::alloc::{AllocError, Global};
 use wit_refusals::NameScope;

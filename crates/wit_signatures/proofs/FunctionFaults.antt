@@ -18,7 +18,7 @@ use Rattle.wit_syntax.specs.Fault.{Fault, fault, missing_type_at}
 use Rattle.wit_syntax.specs.Function.{SourceParam, SourceFunction, written_param, all_params, written_types, signature}
 use Rattle.wit_syntax.specs.Metadata.{IsBrokenMetadata}
 use Rattle.wit_syntax.specs.Shape.{words}
-use Rattle.wit_syntax.specs.Signature.{IsBrokenFunction, BrokenMetadata, BrokenTypes, OfFunction, OfNothing, MissingInSignature, GetterGiven, SetterGiven, DuplicateParam, GetterWithoutResult, SetterWithResult, ConstructorWithoutResult, ConstructorOfOther, IsGetterGiven, IsSetterGiven}
+use Rattle.wit_syntax.specs.SignatureRules.{IsBrokenFunction, BrokenMetadata, BrokenTypes, OfFunction, OfNothing, MissingInSignature, GetterGiven, SetterGiven, DuplicateParam, GetterWithoutResult, SetterWithResult, ConstructorWithoutResult, ConstructorOfOther, IsGetterGiven, IsSetterGiven}
 use Rattle.wit_syntax.specs.Source.{ScopeName, meaning}
 use Rattle.wit_syntax.proofs.Found.{contains_at}
 use Rattle.wit_syntax.proofs.Lists.{at_back, at_split, map_at}
@@ -30,17 +30,17 @@ use Rattle.wit_first.proofs.Bridge.{after_only, after_some, metadata_agree, or_n
 use Rattle.wit_first.proofs.First.{any_used, none_both}
 use Rattle.wit_first.proofs.FunctionFaults.{given_agrees, gives_agrees, no_result_agrees}
 use Rattle.wit_first.proofs.Repeats.{after_kept, repeat_after, repeat_found, repeat_second, unrepeated}
-use Rattle.wit_arena.specs.Resolved.{IsNameless}
+use Rattle.wit_arena.specs.ResolvedArenas.{IsNameless}
 use Rattle.wit_arena.specs.Resolving.{Env, env_of}
 use Rattle.wit_arena.proofs.Written.{AreLegal, legal_more, legal_none, legal_one}
 use Rattle.wit_entries.specs.Requiring.{IsExtended}
 use Rattle.wit_entries.proofs.Faults.{named_extended, type_broken, type_legal}
 use Rattle.wit_rules.specs.declared.function_scope.FunctionScope.{FunctionScope}
 use Rattle.wit_rules.specs.declared.borrowed.BorrowedFunction.{BorrowedFunction}
-use Rattle.wit_rules.specs.Borrowed.{function_view}
+use Rattle.wit_rules.specs.BorrowedFunctions.{function_view}
 use Rattle.wit_rules.specs.Signatures.{functions_view, AreAllNames, AtFunction, AtNothing, IsScopeOf, IsWrongInSignature, WrongForm, LostName, WrongHandle, IsLostAt, IsBrokenReturn, IsWrongFunction}
 use Rattle.wit_rules.proofs.FunctionRules.{no_setter}
-use Rattle.wit_signatures.specs.Faults.{lost_at, signed_fault, param_fault, params_fault, return_fault, signature_fault, function_fault}
+use Rattle.wit_signatures.specs.SignatureFaults.{lost_at, signed_fault, param_fault, params_fault, return_fault, signature_fault, function_fault}
 use Rattle.wit_signatures.specs.Over.{IsLegalSignature}
 use Rattle.wit_signatures.proofs.FunctionParts.{given_few, no_result}
 use Rattle.wit_signatures.proofs.Lost.{unknown_in}

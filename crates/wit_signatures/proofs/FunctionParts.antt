@@ -26,8 +26,8 @@ use Rattle.wit_arena.proofs.AddingFunctions.{shapes_none, shapes_one, shapes_app
 use Rattle.wit_syntax.proofs.Lists.{at_split}
 use Rattle.wit_rules.specs.declared.borrowed.BorrowedFunction.{BorrowedFunction}
 use Rattle.wit_rules.specs.declared.borrowed.BorrowedFunction.TheVariants as borrowed
-use Rattle.wit_rules.specs.Borrowed.{function_view, given_of}
-use Rattle.wit_entries.specs.Reading.{IsResolved}
+use Rattle.wit_rules.specs.BorrowedFunctions.{function_view, given_of}
+use Rattle.wit_entries.specs.ResolvedForms.{IsResolved}
 use Rattle.wit_rules.specs.Signatures.{AreParamsOver, IsResultOver, IsBrokenResult}
 use Rattle.wit_entries.proofs.Reading.{alone, resolved_word, whole_present}
 use Rattle.wit_signatures.proofs.SignatureTypes.{result_shape}

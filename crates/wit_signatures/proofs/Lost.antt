@@ -8,7 +8,7 @@ use Rattle.wit_types.specs.declared.types.TypeDef.{TypeDef}
 use Rattle.wit_syntax.specs.Fault.{Fault}
 use Rattle.wit_syntax.specs.Function.{Role, Freestanding, Method, Static, Constructor, OnSide, SourceFunction}
 use Rattle.wit_syntax.specs.Bodies.{IsBrokenForm, IsBrokenType, Itself, Inside}
-use Rattle.wit_syntax.specs.Signature.{IsEntered}
+use Rattle.wit_syntax.specs.SignatureRules.{IsEntered}
 use Rattle.wit_syntax.specs.Shape.{shape_of, words}
 use Rattle.wit_arena.specs.Resolving.{Env, IsUnknown, IsWrongType}
 use Rattle.wit_rules.specs.Signatures.{IsFree}

@@ -16,7 +16,7 @@ use Rattle.wit_syntax.proofs.Lists.{map_map, map_at, flat_map_has, at_prefix, at
 use Rattle.wit_syntax.proofs.Found.{contains_at, at_contains}
 use Rattle.wit_rules.specs.declared.borrowed.BorrowedFunction.{BorrowedFunction}
 use Rattle.wit_rules.specs.declared.borrowed.BorrowedFunction.TheVariants as borrowed
-use Rattle.wit_rules.specs.Borrowed.{function_view}
+use Rattle.wit_rules.specs.BorrowedFunctions.{function_view}
 
 -- the written type of a function's result has the shape of that
 abbrev IsWritten : SourceFunction → Type 0

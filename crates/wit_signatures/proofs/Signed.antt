@@ -13,12 +13,12 @@ use Rattle.wit_type_tree.specs.declared.error.ParseErrorKind.TheVariants.{Syntax
 use Rattle.wit_type_tree.specs.declared.leaves.Id.{Id}
 use Rattle.wit_type_tree.specs.declared.types.«Type».{«Type» as Written}
 use Rattle.wit_type_tree.specs.declared.types.«Type».TheVariants as written
-use Rattle.wit_type_tree.specs.Parts.{row_types, part_types}
+use Rattle.wit_type_tree.specs.TypeParts.{row_types, part_types}
 use Rattle.wit_types.specs.declared.types.TypeDef.{TypeDef}
 use Rattle.wit_syntax.specs.Broken.{Refused}
 use Rattle.wit_syntax.specs.Fault.{Fault, fault, fault_of, as_stated, missing_at, missing_type_at, name_word}
 use Rattle.wit_syntax.specs.Function.{Role, Freestanding, Method, Static, Constructor, OnSide, SourceFunction}
-use Rattle.wit_syntax.specs.Signature.{IsEntered}
+use Rattle.wit_syntax.specs.SignatureRules.{IsEntered}
 use Rattle.wit_syntax.proofs.Lists.{at_take}
 use Rattle.wit_syntax.proofs.Names.{name_equal, name_itself}
 use Rattle.wit_first.specs.First.{first_in, Reports}
@@ -28,9 +28,9 @@ use Rattle.wit_first.proofs.First.{any_used, reports_same}
 use Rattle.wit_first.proofs.TypeFaults.{AllTypes, by_parts, fault_parts}
 use Rattle.wit_arena.specs.EntryEnds.{EntryEnd, IsResource, IsUnknown, IsOther}
 use Rattle.wit_arena.specs.Resolving.{Env}
-use Rattle.wit_entries.specs.Faults.{end_in, unless_found, name_fault, end_fault, handled_fault, handle_fault, named_fault, written_fault}
+use Rattle.wit_entries.specs.EntryFaults.{end_in, unless_found, name_fault, end_fault, handled_fault, handle_fault, named_fault, written_fault}
 use Rattle.wit_rules.specs.Signatures.{IsFree, IsLostAt, AtFunction, AtNothing}
-use Rattle.wit_signatures.specs.Faults.{is_free, is_among, lost_at}
+use Rattle.wit_signatures.specs.SignatureFaults.{is_free, is_among, lost_at}
 use Rattle.wit_signatures.proofs.Lost.{entered_at}
 
 -- a fault is that of a name, and another one, of the same name, takes its place; or else it stays, and has another number

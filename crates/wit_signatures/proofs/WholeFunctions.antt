@@ -13,7 +13,7 @@ use Rattle.wit_arena.specs.Resolving.{Names, env_of, AddsFunctions}
 use Rattle.wit_arena.proofs.AddingFunctions.{function_one, shapes_append}
 use Rattle.wit_signatures.specs.Over.{IsSignatureOver}
 use Rattle.wit_rules.specs.declared.borrowed.BorrowedFunction.{BorrowedFunction}
-use Rattle.wit_rules.specs.Borrowed.{function_view}
+use Rattle.wit_rules.specs.BorrowedFunctions.{function_view}
 use Rattle.wit_rules.specs.Signatures.{AreParamsOver, IsResultOver}
 use Rattle.wit_syntax.specs.Metadata.{AreMetadata, metadata, docs_of}
 

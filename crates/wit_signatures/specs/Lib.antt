@@ -1,3 +1,3 @@
 pub mod ForeignName
 pub mod Over
-pub mod Faults
+pub mod SignatureFaults

@@ -6,7 +6,7 @@ use Rattle.wit_functions.specs.declared.function.Param.{Param}
 use Rattle.wit_syntax.specs.Bodies.{IsBrokenPart}
 use Rattle.wit_syntax.specs.Fault.{Fault}
 use Rattle.wit_syntax.specs.Function.{SourceFunction, all_params, written_types}
-use Rattle.wit_syntax.specs.Signature.{IsGetterGiven, IsSetterGiven, IsDuplicateParam}
+use Rattle.wit_syntax.specs.SignatureRules.{IsGetterGiven, IsSetterGiven, IsDuplicateParam}
 use Rattle.wit_syntax.specs.Source.{ScopeName}
 use Rattle.wit_arena.specs.Resolving.{Env}
 use Rattle.wit_rules.specs.Signatures.{AreParamsOver, IsResultOver, IsBrokenReturn}

@@ -1,7 +1,7 @@
 //! Functions over their resolved types.
 ghost use Rattle.std.specs.Prelude.{◌≡◌, ◌<◌, ◌≤◌, ◌++◌, List, [], ◌∷◌, IfOk, IfErr, IsTrue, OnOk, None, Some, length, map, slice_get};
 ghost use Rattle.std.specs.Option.{option_to_list};
-ghost use Rattle.wit_type_tree.specs.Refusal.{IsAllocationFailure};
+ghost use Rattle.wit_type_tree.specs.RefusalText.{IsAllocationFailure};
 ghost use Rattle.wit_types.specs.declared.types.TypeDef.{TypeDef as Entry};
 ghost use Rattle.wit_types.specs.declared.stability.Stability.TheVariants.{Unknown};
 ghost use Rattle.wit_names.specs.Mangled.{is_mangled};
@@ -16,11 +16,11 @@ ghost use Rattle.wit_first.specs.FunctionFaults.{no_result_fault};
 ghost use Rattle.wit_arena.specs.Resolving.{env_of, AddsFunctions};
 ghost use Rattle.wit_arena.specs.Adding.{IsKindIn, SaysParam};
 ghost use Rattle.wit_signatures.specs.Over.{IsSignatureOver};
-ghost use Rattle.wit_entries.specs.Reading.{IsResolved};
+ghost use Rattle.wit_entries.specs.ResolvedForms.{IsResolved};
 ghost use Rattle.wit_entries.specs.Requiring.{IsExtended, Requires};
-ghost use Rattle.wit_rules.specs.Borrowed.{function_view, owner_of};
+ghost use Rattle.wit_rules.specs.BorrowedFunctions.{function_view, owner_of};
 ghost use Rattle.wit_rules.specs.Signatures.{functions_view, HasOwner, HaveOwners, IsScopeOf, AreParamsOver, IsResultOver};
-ghost use Rattle.wit_signatures.specs.Faults.{function_fault, params_fault, return_fault, signature_fault, signed_fault};
+ghost use Rattle.wit_signatures.specs.SignatureFaults.{function_fault, params_fault, return_fault, signature_fault, signed_fault};
 
 use crate::signatures::resolve_in_signature;
 use std::alloc::{AllocError, Global};

@@ -1,6 +1,6 @@
 //! Types in signatures.
 ghost use Rattle.std.specs.Prelude.{◌≡◌, ◌<◌, ◌↔◌, ◌++◌, List, None, IfOk, IsTrue, OnOk, length, map, codes, string_bytes};
-ghost use Rattle.wit_type_tree.specs.Refusal.{IsItemNotFound};
+ghost use Rattle.wit_type_tree.specs.RefusalText.{IsItemNotFound};
 ghost use Rattle.wit_type_tree.specs.declared.types.«Type».{«Type» as Written};
 ghost use Rattle.wit_types.specs.declared.types.TypeDef.{TypeDef};
 ghost use Rattle.wit_types.specs.declared.stability.Stability.TheVariants.{Unknown};
@@ -8,15 +8,15 @@ ghost use Rattle.wit_syntax.specs.Shape.{shape_of, handles};
 ghost use Rattle.wit_syntax.specs.Hint.{hint_of};
 ghost use Rattle.wit_syntax.specs.Fault.{name_word};
 ghost use Rattle.wit_syntax.specs.Broken.{Refused};
-ghost use Rattle.wit_syntax.specs.Signature.{IsEntered};
+ghost use Rattle.wit_syntax.specs.SignatureRules.{IsEntered};
 ghost use Rattle.wit_first.specs.First.{Finds, Reports};
 ghost use Rattle.wit_arena.specs.Resolving.{Env, env_of};
-ghost use Rattle.wit_entries.specs.Faults.{written_fault};
-ghost use Rattle.wit_entries.specs.Reading.{IsResolved};
+ghost use Rattle.wit_entries.specs.EntryFaults.{written_fault};
+ghost use Rattle.wit_entries.specs.ResolvedForms.{IsResolved};
 ghost use Rattle.wit_entries.specs.Requiring.{IsExtended, Requires};
-ghost use Rattle.wit_rules.specs.Borrowed.{function_view};
+ghost use Rattle.wit_rules.specs.BorrowedFunctions.{function_view};
 ghost use Rattle.wit_rules.specs.Signatures.{functions_view, IsFree, IsLostAt};
-ghost use Rattle.wit_signatures.specs.Faults.{signed_fault};
+ghost use Rattle.wit_signatures.specs.SignatureFaults.{signed_fault};
 
 use std::alloc::{AllocError, Global};
 use wit_entries::entries::Entries;

@@ -2,7 +2,7 @@
 use Rattle.std.proofs.Common.{◌≡◌, Option, None}
 use Rattle.std.specs.Option.{option_map_or, unwrap_or}
 use Rattle.wit_syntax.specs.Address.{Address}
-use Rattle.wit_syntax.specs.Ends.{End, named_end}
+use Rattle.wit_syntax.specs.NameEnds.{End, named_end}
 use Rattle.wit_syntax.specs.Shape.{Shape}
 use Rattle.wit_syntax.specs.Source.{ScopeName, local_name, about_name}
 

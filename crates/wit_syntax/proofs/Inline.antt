@@ -18,7 +18,7 @@ use Rattle.wit_syntax.specs.ExternPart.{same_side, item_uses, inline_uses}
 use Rattle.wit_syntax.specs.Function.{SourceFunction, functions, definition_functions, free_function}
 use Rattle.wit_syntax.specs.Repeats.{AllDiffer}
 use Rattle.wit_syntax.specs.Source.{TheInline, interface_part, Part, DefinitionPart, UsePart, IncludePart, FunctionPart, ExternPart, parts, Item, address, item_name, is_world}
-use Rattle.wit_syntax.specs.Scope.{part_uses, uses}
+use Rattle.wit_syntax.specs.ScopeTables.{part_uses, uses}
 use Rattle.wit_syntax.specs.Sides.{SideItem, SideFunction, SideLink, SideInline, extern_items, part_items, item_inline, item_side, items_on, is_interface, side_items, inline_item, inline_after, inline_items, with_inline}
 use Rattle.wit_syntax.proofs.Lists.{at_split, map_at, flat_map_at, flat_map_has}
 use Rattle.wit_syntax.proofs.Addresses.{side_itself}

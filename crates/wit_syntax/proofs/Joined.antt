@@ -3,7 +3,7 @@ use Rattle.std.proofs.Common.{◌≡◌, List, [], ◌∷◌}
 use Rattle.wit_tree.specs.declared.tree.UsePath.{UsePath}
 use Rattle.wit_tree.specs.declared.tree.PackageFile.{PackageFile}
 use Rattle.wit_syntax.specs.Source.{leads, Item, target_scope}
-use Rattle.wit_syntax.specs.Scope.{use_paths, include_paths}
+use Rattle.wit_syntax.specs.ScopeTables.{use_paths, include_paths}
 use Rattle.wit_syntax.specs.Sides.{all_scopes}
 use Rattle.wit_syntax.specs.Splitting.{IsJoined, used_scopes, included_scopes, IsSplit}
 use Rattle.wit_syntax.proofs.JoinedLists.{map_by}

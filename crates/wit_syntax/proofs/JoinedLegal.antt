@@ -5,7 +5,7 @@ use Rattle.wit_tree.specs.declared.tree.PackageFile.{PackageFile}
 use Rattle.wit_type_tree.specs.declared.leaves.Id.{Id}
 use Rattle.wit_type_tree.specs.declared.types.«Type».{«Type» as Written}
 use Rattle.wit_syntax.specs.Address.{Address}
-use Rattle.wit_syntax.specs.Ends.{End, Elsewhere, named_end, shape_end, EndsAt, IsNoResource}
+use Rattle.wit_syntax.specs.NameEnds.{End, Elsewhere, named_end, shape_end, EndsAt, IsNoResource}
 use Rattle.wit_syntax.specs.Fault.{Fault, missing_at, item_word}
 use Rattle.wit_syntax.specs.Foreign.{ForeignVisit}
 use Rattle.wit_syntax.specs.Function.{functions, all_types, item_types}

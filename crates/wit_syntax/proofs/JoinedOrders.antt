@@ -13,7 +13,7 @@ use Rattle.wit_graph.proofs.Tables.{matched}
 use Rattle.wit_graph.proofs.SameEdges.{one_answer, same_edges, missing_onward, cyclic_onward}
 use Rattle.wit_syntax.specs.Fault.{Fault, cyclic_at}
 use Rattle.wit_syntax.specs.Source.{TopName, Item, item_name, leads, all_items}
-use Rattle.wit_syntax.specs.Scope.{needed_paths, local_target, item_row, item_rows}
+use Rattle.wit_syntax.specs.ScopeTables.{needed_paths, local_target, item_row, item_rows}
 use Rattle.wit_syntax.specs.Broken.{IsMissingEdge, IsCyclicEdge}
 use Rattle.wit_syntax.proofs.Lists.{map_map, map_at}
 use Rattle.wit_syntax.proofs.JoinedLists.{flat_map_by, map-flat_map}

@@ -6,7 +6,7 @@ use Rattle.std.proofs.lemmas.Bool.{cases_Bool, cond-true, cond-false}
 use Rattle.std.proofs.lemmas.List.{append-nil, take-append-drop}
 use Rattle.std.proofs.lemmas.List.Elements.{filter-append}
 use Rattle.wit_graph.proofs.Tables.{slice_get-take}
-use Rattle.wit_syntax.specs.Scope.{in_order}
+use Rattle.wit_syntax.specs.ScopeTables.{in_order}
 use Rattle.wit_syntax.specs.Repeats.{AllDiffer}
 use Rattle.wit_syntax.proofs.Lists.{at_prefix}
 use Rattle.wit_syntax.proofs.Orders.{in_order-append, in_order-more, in_order_has}

@@ -17,10 +17,10 @@ use Rattle.wit_graph.proofs.Forward.{no_cycle}
 use Rattle.wit_graph.proofs.SameEdges.{one_answer}
 use Rattle.wit_syntax.specs.Source.{Part, DefinitionPart, UsePart, IncludePart, FunctionPart, ExternPart, Item, parts, ScopeName}
 use Rattle.wit_syntax.specs.Fault.{Fault, fault}
-use Rattle.wit_syntax.specs.Scope.{rows_of, in_turn}
+use Rattle.wit_syntax.specs.ScopeTables.{rows_of, in_turn}
 use Rattle.wit_syntax.specs.Bodies.{IsRepeated}
 use Rattle.wit_syntax.specs.Function.{SourceFunction, definition_functions, extern_functions, part_functions, functions}
-use Rattle.wit_syntax.specs.Signature.{Called, name_called}
+use Rattle.wit_syntax.specs.SignatureRules.{Called, name_called}
 use Rattle.wit_tree.specs.declared.tree.WorldSide.{WorldSide}
 use Rattle.wit_syntax.specs.ExternPart.{same_side}
 use Rattle.wit_syntax.specs.Sides.{role_side, function_key, names_on, SideItem, SideFunction, SideLink, SideInline, extern_items, part_items, side_items, item_function, item_side, items_on, item_called, side_called, IsFoldedTwice, IsCrossedTwice}

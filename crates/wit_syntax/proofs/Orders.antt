@@ -6,7 +6,7 @@ use Rattle.std.proofs.lemmas.List.{take_more}
 use Rattle.std.proofs.lemmas.List.Elements.{filter_map-append}
 use Rattle.std.proofs.lemmas.Option.{slice_get-get_or, slice_get_within, get_or_from_slice_get}
 use Rattle.wit_graph.specs.Table.{Row, IsOrder}
-use Rattle.wit_syntax.specs.Scope.{in_order}
+use Rattle.wit_syntax.specs.ScopeTables.{in_order}
 use Rattle.wit_syntax.proofs.Lists.{at_within}
 
 -- one element more

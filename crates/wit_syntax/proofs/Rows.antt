@@ -14,7 +14,7 @@ use Rattle.wit_syntax.proofs.Orders.{take_next}
 use Rattle.std.proofs.lemmas.Option.{slice_get-map}
 use Rattle.wit_tree.specs.declared.tree.PackageFile.{PackageFile}
 use Rattle.wit_syntax.specs.Source.{Item, all_items, ScopeName, local_name}
-use Rattle.wit_syntax.specs.Scope.{needed_ids, item_row, item_rows}
+use Rattle.wit_syntax.specs.ScopeTables.{needed_ids, item_row, item_rows}
 use Rattle.std.specs.Option.{option_map}
 
 abbrev row : List ℕ → List Id → Row

@@ -9,9 +9,9 @@ use Rattle.wit_syntax.specs.Broken.{IsSetterAlone}
 use Rattle.wit_syntax.specs.ExternPart.{same_side}
 use Rattle.wit_syntax.specs.Fault.{Fault}
 use Rattle.wit_syntax.specs.Function.{SourceFunction, functions}
-use Rattle.wit_syntax.specs.Scope.{part_includes, includes}
+use Rattle.wit_syntax.specs.ScopeTables.{part_includes, includes}
 use Rattle.wit_syntax.specs.Sides.{role_side, on_side}
-use Rattle.wit_syntax.specs.Signature.{IsUnpairedSetter}
+use Rattle.wit_syntax.specs.SignatureRules.{IsUnpairedSetter}
 use Rattle.wit_syntax.specs.Source.{Declared, TheInterface, TheWorld, TheInline, interface_part, Item, is_world, about}
 use Rattle.wit_syntax.proofs.Found.{at_contains}
 use Rattle.wit_syntax.proofs.Sides.{kept_all, kept_none, functions_imported}

@@ -16,7 +16,7 @@ use Rattle.wit_tree.specs.declared.tree.WorldSide.TheVariants.{Imported}
 use Rattle.wit_syntax.specs.Source.{Declared, TheInterface, TheWorld, TheInline, interface_part, Item, is_world, about}
 use Rattle.wit_syntax.specs.Function.{SourceFunction, free_function, resource_function, definition_functions, part_functions, functions}
 use Rattle.wit_syntax.specs.ExternPart.{same_side}
-use Rattle.wit_syntax.specs.Signature.{Called}
+use Rattle.wit_syntax.specs.SignatureRules.{Called}
 use Rattle.wit_syntax.specs.Sides.{role_side, on_side, SideItem, SideFunction, part_items, side_items, item_link, links, items_on, item_called}
 use Rattle.wit_syntax.proofs.Lists.{flat_map_at, map_at}
 use Rattle.wit_syntax.proofs.Repeated.{function_called}

@@ -10,7 +10,7 @@ use Rattle.wit_type_tree.specs.declared.leaves.Id.{Id}
 use Rattle.wit_graph.specs.Table.{IsOrder}
 use Rattle.wit_syntax.specs.Address.{Address}
 use Rattle.wit_syntax.specs.Source.{ScopeName, Used, Defined, ForeignName, local_name}
-use Rattle.wit_syntax.specs.Scope.{rows_of, in_order, is_defined, used, defined, in_turn, AreDistinct}
+use Rattle.wit_syntax.specs.ScopeTables.{rows_of, in_order, is_defined, used, defined, in_turn, AreDistinct}
 use Rattle.wit_syntax.specs.Repeats.{AllDiffer}
 use Rattle.wit_syntax.proofs.Lists.{at_prefix, at_back}
 use Rattle.wit_syntax.proofs.Repeated.{differ_none, differ_at, differ_by}

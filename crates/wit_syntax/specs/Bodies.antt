@@ -14,7 +14,7 @@ use Rattle.wit_type_tree.specs.declared.types.«Type».{«Type» as Written}
 use Rattle.wit_type_tree.specs.declared.types.«Type».TheVariants as written
 use Rattle.wit_type_tree.specs.declared.types.TypeBody.{TypeBody}
 use Rattle.wit_type_tree.specs.declared.types.TypeBody.TheVariants.{Record, Flags, Variant, Enum}
-use Rattle.wit_type_tree.specs.Parts.{part_types, row_types, body_types}
+use Rattle.wit_type_tree.specs.TypeParts.{part_types, row_types, body_types}
 use Rattle.wit_syntax.specs.Fault.{Fault, fault}
 
 -- the key by which labels are distinguished: the label in lower case

@@ -4,7 +4,7 @@ use Rattle.std.specs.List.{filter_map, flat_map}
 use Rattle.std.specs.Option.{option_map, option_or}
 use Rattle.semver.specs.Identifiers.{parts_of}
 use Rattle.wit_type_tree.specs.declared.error.ParseError.{ParseError}
-use Rattle.wit_type_tree.specs.Refusal.{IsAllocationFailure}
+use Rattle.wit_type_tree.specs.RefusalText.{IsAllocationFailure}
 use Rattle.wit_type_tree.specs.declared.leaves.Id.{Id}
 use Rattle.wit_type_tree.specs.declared.leaves.Attribute.{Attribute}
 use Rattle.wit_tree.specs.declared.tree.WorldSide.{WorldSide}
@@ -28,10 +28,10 @@ use Rattle.wit_syntax.specs.Source.{path_id, path_scope, Target, Local, Foreign,
 use Rattle.wit_syntax.specs.Foreign.{ForeignVisit, foreign_visits, foreign_at}
 use Rattle.wit_syntax.specs.Function.{SourceFunction, functions, item_types, role_names}
 use Rattle.wit_syntax.specs.Sides.{on_side, all_scopes, Link, SideLink, side_items, items_on, IsBrokenSides}
-use Rattle.wit_syntax.specs.Signature.{IsNoType, IsBrokenFunction, IsUnpairedSetter}
-use Rattle.wit_syntax.specs.Ends.{IsNoResource}
+use Rattle.wit_syntax.specs.SignatureRules.{IsNoType, IsBrokenFunction, IsUnpairedSetter}
+use Rattle.wit_syntax.specs.NameEnds.{IsNoResource}
 use Rattle.wit_syntax.specs.ScopesOfTrees.{scope}
-use Rattle.wit_syntax.specs.Scope.{use_paths, include_paths, uses, includes, item_rows, rows_of, used, defined}
+use Rattle.wit_syntax.specs.ScopeTables.{use_paths, include_paths, uses, includes, item_rows, rows_of, used, defined}
 
 -- the header of the last file that has one
 abbrev pub last_header : List PackageFile → Option Header

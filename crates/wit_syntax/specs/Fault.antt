@@ -6,7 +6,7 @@ use Rattle.wit_type_tree.specs.declared.leaves.Id.{Id}
 use Rattle.wit_type_tree.specs.declared.error.ParseError.{ParseError}
 use Rattle.wit_type_tree.specs.declared.error.ParseErrorKind.{ParseErrorKind}
 use Rattle.wit_type_tree.specs.declared.error.ParseErrorKind.TheVariants.{Syntax, ItemNotFound, TypeCycle, OutOfMemory}
-use Rattle.wit_type_tree.specs.Refusal.{Sort, Said, Missing, Cyclic, Wanting}
+use Rattle.wit_type_tree.specs.RefusalText.{Sort, Said, Missing, Cyclic, Wanting}
 use Rattle.wit_syntax.specs.Hint.{type_hint}
 
 -- the number of a rule, a place, the name that it is about, where it is about one, which kind of refusal it is, and the hint that it gives, where it gives one

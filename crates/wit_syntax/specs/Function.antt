@@ -20,7 +20,7 @@ use Rattle.wit_type_tree.specs.declared.types.FuncForm.TheVariants as form
 use Rattle.wit_type_tree.specs.declared.types.Param.{Param}
 use Rattle.wit_type_tree.specs.declared.types.ResourceFunc.{ResourceFunc}
 use Rattle.wit_type_tree.specs.declared.types.ResourceFunc.TheVariants as resource
-use Rattle.wit_type_tree.specs.Parts.{body_types}
+use Rattle.wit_type_tree.specs.TypeParts.{body_types}
 use Rattle.wit_syntax.specs.Form.{BorrowForm}
 use Rattle.wit_syntax.specs.Shape.{Shape, Word, Of, one, shape_of}
 use Rattle.wit_syntax.specs.Source.{Item, Part, DefinitionPart, UsePart, IncludePart, FunctionPart, ExternPart, parts, ScopeName, Used, Defined, ForeignName, scope_names}

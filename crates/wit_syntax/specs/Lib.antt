@@ -10,12 +10,12 @@ pub mod Node
 pub mod Shape
 pub mod Source
 pub mod Foreign
-pub mod Scope
+pub mod ScopeTables
 pub mod Bodies
 pub mod Function
-pub mod Signature
+pub mod SignatureRules
 pub mod Sides
 pub mod ScopesOfTrees
-pub mod Ends
+pub mod NameEnds
 pub mod Broken
 pub mod Splitting

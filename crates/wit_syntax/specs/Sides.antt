@@ -20,9 +20,9 @@ use Rattle.wit_syntax.specs.Fault.{Fault, fault}
 use Rattle.wit_syntax.specs.Metadata.{IsBrokenMetadata}
 use Rattle.wit_syntax.specs.Bodies.{IsSecond}
 use Rattle.wit_syntax.specs.Source.{TheInline, Part, DefinitionPart, FunctionPart, ExternPart, Item, item_name, parts, all_items, ScopeName, scope_names}
-use Rattle.wit_syntax.specs.Scope.{rows_of, in_turn}
+use Rattle.wit_syntax.specs.ScopeTables.{rows_of, in_turn}
 use Rattle.wit_syntax.specs.Function.{Role, OnSide, SourceFunction, definition_functions, free_function, side_function}
-use Rattle.wit_syntax.specs.Signature.{Called, name_called}
+use Rattle.wit_syntax.specs.SignatureRules.{Called, name_called}
 use Rattle.wit_names.specs.Folded.{folded_key}
 
 -- the side that a function of a role is on

@@ -9,7 +9,7 @@ use Rattle.wit_tree.specs.declared.tree.ToplevelUse.{ToplevelUse}
 use Rattle.wit_graph.specs.Table.{IsOrder}
 use Rattle.wit_syntax.specs.Address.{Address, InterfaceNamed, WorldNamed}
 use Rattle.wit_syntax.specs.Source.{leads, Declared, Item, all_items, Place, target_scope}
-use Rattle.wit_syntax.specs.Scope.{use_paths, include_paths, item_rows}
+use Rattle.wit_syntax.specs.ScopeTables.{use_paths, include_paths, item_rows}
 use Rattle.wit_syntax.specs.Sides.{all_scopes}
 use Rattle.wit_syntax.specs.Foreign.{foreign_visits}
 use Rattle.wit_syntax.specs.ScopesOfTrees.{scope, source_tree}

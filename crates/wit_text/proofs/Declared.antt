@@ -7,7 +7,7 @@ use Rattle.wit_lex.specs.declared.fault.ReadError.TheVariants.{Fault, OutOfMemor
 use Rattle.wit_lex.specs.declared.kind.Kind.TheVariants as kind
 use Rattle.wit_lex.specs.declared.word.Word.TheVariants as word
 use Rattle.wit_lex.specs.Lexis.{Stops, lexeme}
-use Rattle.wit_grammar.specs.Kinds.{same_kind}
+use Rattle.wit_grammar.specs.TokenKinds.{same_kind}
 use Rattle.wit_grammar.specs.Trees.{Attribute, Documents, Prefix, Name, Path, InterfaceItem, WorldItem, Declaration, Item, PackageId, Release, declares, of_interface, of_world, of_use}
 use Rattle.wit_grammar.specs.Leaves.{Read, Spot, docs_at, ◌>>=◌}
 use Rattle.wit_grammar.specs.Grammar.{Gram, act, both, docs, either, fits, of_kind, run, starts}

@@ -15,7 +15,7 @@ use Rattle.wit_lex.specs.declared.kind.Kind.TheVariants as kind
 use Rattle.wit_lex.specs.declared.kind.Kind.TheVariants.{End}
 use Rattle.wit_lex.specs.declared.word.Word.TheVariants as word
 use Rattle.wit_lex.specs.Lexis.{Stops, lexeme}
-use Rattle.wit_grammar.specs.Kinds.{same_kind}
+use Rattle.wit_grammar.specs.TokenKinds.{same_kind}
 use Rattle.wit_grammar.specs.Trees.{File, Item}
 use Rattle.wit_grammar.specs.Seen.{see_declaration, see_nested, see_package_id}
 use Rattle.wit_grammar.specs.Leaves.{Read, Spot, docs_at, docs_of, lexed, mark_at, moved, nothing_at, ◌>>=◌}

@@ -11,7 +11,7 @@ use Rattle.wit_lex.specs.declared.kind.Kind.TheVariants as kind
 use Rattle.wit_lex.specs.declared.kind.Kind.TheVariants.{Semicolon}
 use Rattle.wit_lex.specs.declared.word.Word.TheVariants as word
 use Rattle.wit_lex.specs.Lexis.{Stops, lexeme}
-use Rattle.wit_grammar.specs.Kinds.{same_kind}
+use Rattle.wit_grammar.specs.TokenKinds.{same_kind}
 use Rattle.wit_grammar.specs.Trees.{Text, Name, Release, Ty, Parameter, Function, Path, InterfaceItem, ExternKind, inline_interface, by_path, by_func, named_path}
 use Rattle.wit_grammar.specs.Leaves.{Read, Spot, mark_at, name_at, name_but_at, stop, text_of, ◌>>=◌}
 use Rattle.wit_grammar.specs.Grammar.{Gram, act, applied, either, of_kind, run, starts, ◌◂◌}

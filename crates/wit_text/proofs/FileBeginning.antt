@@ -17,7 +17,7 @@ use Rattle.wit_lex.specs.declared.kind.Kind.TheVariants as kind
 use Rattle.wit_lex.specs.declared.kind.Kind.TheVariants.{End, OpenBrace, Semicolon}
 use Rattle.wit_lex.specs.declared.word.Word.TheVariants as word
 use Rattle.wit_lex.specs.Lexis.{Stops, lexeme}
-use Rattle.wit_grammar.specs.Kinds.{same_kind}
+use Rattle.wit_grammar.specs.TokenKinds.{same_kind}
 use Rattle.wit_grammar.specs.Trees.{Declaration, Documents, File, Item, Name, Nested, PackageId, Release, declares, items_of, nests}
 use Rattle.wit_grammar.specs.Seen.{see_declaration, see_docs, see_nested, see_package_id}
 use Rattle.wit_grammar.specs.Leaves.{Read, Spot, docs_at, mark_at, ◌>>=◌}

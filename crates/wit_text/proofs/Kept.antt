@@ -13,7 +13,7 @@ use Rattle.wit_lex.specs.declared.kind.Kind.TheVariants as kind
 use Rattle.wit_lex.specs.declared.kind.Kind.TheVariants.{OpenBrace, CloseBrace}
 use Rattle.wit_lex.specs.declared.word.Word.TheVariants as word
 use Rattle.wit_lex.specs.Lexis.{Stops, lexeme}
-use Rattle.wit_grammar.specs.Kinds.{same_kind}
+use Rattle.wit_grammar.specs.TokenKinds.{same_kind}
 use Rattle.wit_grammar.specs.Trees.{Declaration, Documents, Item, Items, Name, Nested, PackageId, Release, declares, items_of, nests}
 use Rattle.wit_grammar.specs.Seen.{see_declaration, see_docs, see_package_id}
 use Rattle.wit_grammar.specs.Leaves.{Read, Spot, deeper_at, docs_at, mark_at, past, ◌>>=◌}

@@ -2,10 +2,10 @@
 use Rattle.std.proofs.Common.{◌≡◌, ℕ, List, ◌∙◌, sym, arith}
 use Rattle.std.specs.Prelude.{Ok, Err}
 use Rattle.wit_type_tree.specs.declared.error.ParseError.{ParseError}
-use Rattle.wit_type_tree.specs.Refusal.{IsAllocationFailure}
+use Rattle.wit_type_tree.specs.RefusalText.{IsAllocationFailure}
 use Rattle.wit_lex.specs.declared.fault.ReadError.{ReadError}
 use Rattle.wit_lex.specs.declared.fault.ReadError.TheVariants.{Fault, OutOfMemory}
-use Rattle.wit_lex.specs.Faults.{IsRefusalOf, IsWithin}
+use Rattle.wit_lex.specs.TextFaults.{IsRefusalOf, IsWithin}
 use Rattle.wit_lex.specs.Lexis.{Stops}
 use Rattle.wit_grammar.specs.Trees.{File}
 use Rattle.wit_grammar.specs.Grammar.{run}

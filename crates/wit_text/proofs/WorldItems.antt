@@ -8,7 +8,7 @@ use Rattle.wit_lex.specs.declared.fault.ReadError.{ReadError}
 use Rattle.wit_lex.specs.declared.kind.Kind.TheVariants as kind
 use Rattle.wit_lex.specs.declared.word.Word.TheVariants as word
 use Rattle.wit_lex.specs.Lexis.{Stops}
-use Rattle.wit_grammar.specs.Kinds.{same_kind}
+use Rattle.wit_grammar.specs.TokenKinds.{same_kind}
 use Rattle.wit_grammar.specs.Trees.{Name, Prefix, Body, Path, UsedName, RenamedName, ExternKind, WorldItem, crosses, world_uses, world_defines, includes}
 use Rattle.wit_grammar.specs.Leaves.{Read, Spot}
 use Rattle.wit_grammar.specs.Grammar.{Gram, act, either, of_kind, run, starts}

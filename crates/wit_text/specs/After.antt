@@ -10,7 +10,7 @@ use Rattle.wit_type_tree.specs.declared.leaves.Id.{Id}
 use Rattle.wit_tree.specs.declared.tree.PackageName.{PackageName}
 use Rattle.wit_lex.specs.declared.kind.Kind.TheVariants.{OpenBrace, CloseBrace}
 use Rattle.wit_reader.specs.FoundVersions.{see_found}
-use Rattle.wit_reader.specs.declared.prefix.Prefix.{Prefix as WrittenPrefix}
+use Rattle.wit_reader.specs.declared.before_item.Prefix.{Prefix as WrittenPrefix}
 use Rattle.wit_grammar.specs.Trees.{Name, Release, RenamedName, Interface, World, Extern, ExternKind, Include, Nested, PackageId, WorldItem, crosses, world_uses, world_defines, includes, inline_interface, by_func}
 use Rattle.wit_grammar.specs.Seen.{see_attribute, see_docs, see_name, see_package_id}
 use Rattle.wit_grammar.specs.Grammar.{Gram, act, listed}

@@ -4,13 +4,13 @@ use Rattle.std.specs.declared.alloc.Global.{Global}
 use Rattle.std.specs.List.{flat_map}
 use Rattle.std.specs.Option.{option_map}
 use Rattle.wit_type_tree.specs.declared.error.ParseError.{ParseError}
-use Rattle.wit_type_tree.specs.Refusal.{IsAllocationFailure}
+use Rattle.wit_type_tree.specs.RefusalText.{IsAllocationFailure}
 use Rattle.wit_tree.specs.declared.tree.AstItem.{AstItem}
 use Rattle.wit_tree.specs.declared.tree.NestedPackage.{NestedPackage}
 use Rattle.wit_tree.specs.declared.tree.PackageName.{PackageName}
 use Rattle.wit_tree.specs.declared.tree.SourceFile.{SourceFile}
 use Rattle.wit_lex.specs.declared.fault.ReadError.{ReadError}
-use Rattle.wit_lex.specs.Faults.{IsRefusalOf, IsWithin}
+use Rattle.wit_lex.specs.TextFaults.{IsRefusalOf, IsWithin}
 use Rattle.wit_grammar.specs.Grammar.{run}
 use Rattle.wit_grammar.specs.Trees.{File, Item, PackageId}
 use Rattle.wit_grammar.specs.Seen.{see_declaration, see_file, see_nested, see_package_id}

@@ -10,7 +10,7 @@ use Rattle.wit_lex.specs.declared.fault.ReadFault.TheVariants as fault
 use Rattle.wit_lex.specs.declared.kind.Kind.TheVariants.{Word}
 use Rattle.wit_lex.specs.declared.word.Word.TheVariants as word
 use Rattle.wit_lex.specs.declared.token.Token.{Token}
-use Rattle.wit_grammar.specs.Kinds.{same_kind}
+use Rattle.wit_grammar.specs.TokenKinds.{same_kind}
 use Rattle.wit_grammar.specs.Grammar.{Gram, docs}
 use Rattle.wit_grammar.specs.Trees.{Declaration, Item, PackageId, declares, items_of}
 use Rattle.wit_grammar.specs.Seen.{see_docs, see_declaration, see_package_id}

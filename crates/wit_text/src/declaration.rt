@@ -10,7 +10,7 @@ use crate::world::read_world;
 use wit_interface_reader::definition::read_interface_items;
 use wit_lex::fault::ReadResult;
 use wit_lex::word::Word;
-use wit_reader::prefix::Prefix;
+use wit_reader::before_item::Prefix;
 use wit_reader::reader::Reader;
 use wit_tree::tree::{AstItem, Docs, Interface};
 

@@ -6,13 +6,13 @@ ghost use Rattle.wit_grammar.specs.ItemRules.{inline_items, worded_function, aft
 ghost use Rattle.wit_reader.specs.Reading.{Reads, Refuses, spot};
 ghost use Rattle.wit_text.specs.After.{accessor_after, extern_after, inline_after, kind_after, path_after, worded_after};
 
-use wit_interface_reader::accessor::{at_accessor, read_accessor, read_func_word};
 use wit_interface_reader::definition::read_interface_items;
+use wit_interface_reader::func_words::{at_accessor, read_accessor, read_func_word};
 use wit_interface_reader::function::read_closed_signature;
 use wit_lex::fault::ReadResult;
 use wit_lex::kind::Kind;
 use wit_lex::word::Word;
-use wit_reader::prefix::Prefix;
+use wit_reader::before_item::Prefix;
 use wit_reader::reader::Reader;
 use wit_tree::tree::{Extern, ExternKind, Func, Id, UsePath, WorldSide};
 

@@ -13,7 +13,7 @@ use wit_interface_reader::definition::read_definition;
 use wit_lex::fault::ReadResult;
 use wit_lex::kind::Kind;
 use wit_lex::word::Word;
-use wit_reader::prefix::Prefix;
+use wit_reader::before_item::Prefix;
 use wit_reader::reader::Reader;
 use wit_reader::room::add;
 use wit_tree::tree::{Attribute, Include, IncludeName, World, WorldItem};

@@ -20,7 +20,7 @@ use Rattle.wit_syntax.proofs.Names.{name_equal, name_cases, name_itself}
 use Rattle.wit_syntax.proofs.Repeated.{differ_more}
 use Rattle.wit_syntax.proofs.Found.{find_passes, find_at}
 use Rattle.wit_graph.specs.Table.{Row, entry_row}
-use Rattle.wit_syntax.specs.Scope.{item_row}
+use Rattle.wit_syntax.specs.ScopeTables.{item_row}
 use Rattle.wit_top_names.specs.declared.top_name.Target.{Target as Borrowed}
 use Rattle.wit_first.specs.FileFaults.{lost_fault, unless_named, unnamed_fault}
 use Rattle.wit_top_names.specs.Tops.{target_view, item_top, Named}

@@ -10,7 +10,7 @@ use Rattle.wit_tree.specs.declared.tree.UsePath.{UsePath}
 use Rattle.wit_tree.specs.declared.tree.PackageFile.{PackageFile}
 use Rattle.wit_graph.specs.Table.{place_of}
 use Rattle.wit_syntax.specs.Source.{TopName, Target, leads, Item, file_items, all_items, item_name, item_named}
-use Rattle.wit_syntax.specs.Scope.{local_target, item_row, needed_paths}
+use Rattle.wit_syntax.specs.ScopeTables.{local_target, item_row, needed_paths}
 use Rattle.wit_syntax.specs.Fault.{Fault}
 use Rattle.wit_syntax.specs.Broken.{IsBrokenItems, DuplicateTopName, MissingItem}
 use Rattle.wit_syntax.proofs.Lists.{at_prefix, at_back, map_at}

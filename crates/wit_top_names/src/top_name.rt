@@ -1,7 +1,7 @@
 //! Names at the top of files, and what paths lead to.
 ghost use Rattle.std.specs.Prelude.{◌≡◌, ◌++◌, List, [], map, IfOk, OnOk, codes, string_bytes};
 ghost use Rattle.wit_syntax.specs.Source.{Local as TheLocal, TopName as Top, Item, itself as the_itself, top_name as the_name, top_names as the_names, top_text, leads as the_leads, file_items, all_items};
-ghost use Rattle.wit_syntax.specs.Scope.{local_target};
+ghost use Rattle.wit_syntax.specs.ScopeTables.{local_target};
 ghost use Rattle.wit_syntax.specs.Fault.{fault};
 ghost use Rattle.wit_first.specs.FileFaults.{file_tops_fault, lost_fault, top_use_fault, unnamed_fault};
 ghost use Rattle.wit_first.specs.First.{Finds, first_repeat};

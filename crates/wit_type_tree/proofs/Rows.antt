@@ -3,7 +3,7 @@ use Rattle.std.proofs.Common.{◌≡◌, ◌∷◌, Some, None, Option, refl, ap
 use Rattle.std.specs.declared.alloc.Global.{Global}
 use Rattle.wit_values.specs.declared.span.Span.{Span}
 use Rattle.wit_type_tree.specs.declared.types.«Type».{«Type» as Written, Tuple, Row_of-Type, end_of-Type, more_of-Type, items-the_row-Type, back-Type-Future-1, the_lemmas}
-use Rattle.wit_type_tree.specs.Parts.{row_types, part_types, borrowed_types, boxed_types}
+use Rattle.wit_type_tree.specs.TypeParts.{row_types, part_types, borrowed_types, boxed_types}
 
 types_of_row : (n : _) (row : Row_of-Type n) → row_types row ≡ items-the_row-Type n row
 types_of_row n end_of-Type = refl

@@ -1,4 +1,4 @@
 pub mod Attributes
 pub mod Comments
-pub mod Parts
-pub mod Refusal
+pub mod TypeParts
+pub mod RefusalText

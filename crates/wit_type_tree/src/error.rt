@@ -1,6 +1,6 @@
 //! Refusals.
 ghost use Rattle.std.specs.Prelude.{◌≡◌, Some};
-ghost use Rattle.wit_type_tree.specs.Refusal.{IsAllocationFailure, kind_text, span_of};
+ghost use Rattle.wit_type_tree.specs.RefusalText.{IsAllocationFailure, kind_text, span_of};
 
 use std::alloc::{AllocError, AllocFailed};
 use std::error::Error;

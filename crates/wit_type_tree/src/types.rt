@@ -233,7 +233,7 @@ pub enum ResultTypes<'a> {
 }
 
 impl<'a> ResultTypes<'a> {
-    ghost use Rattle.wit_type_tree.specs.Parts.{ok_type};
+    ghost use Rattle.wit_type_tree.specs.TypeParts.{ok_type};
 
     /// The type of the value, where there is one.
     pub fn ok(&self) -> Option<&Type<'a>>

@@ -1,6 +1,6 @@
-pub mod Orders
+pub mod TypeOrders
 pub mod Sizes
 pub mod Spans
 pub mod Stabilities
-pub mod Types
+pub mod InnerTypes
 pub mod KindWords

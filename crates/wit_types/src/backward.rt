@@ -1,9 +1,9 @@
 //! Whether each type refers to earlier ones alone.
 ghost use Rattle.std.specs.Prelude.{◌≡◌, ◌<◌, ◌≤◌, All};
 ghost use Rattle.std.specs.Bool.{MatchBool};
-ghost use Rattle.wit_types.specs.Types.{IsBackward, IsBelow, handled_of, places_to, rank, slots};
+ghost use Rattle.wit_types.specs.InnerTypes.{IsBackward, IsBelow, handled_of, places_to, rank, slots};
 
-use crate::slots::{place_of_slot, slot, slot_count};
+use crate::type_slots::{place_of_slot, slot, slot_count};
 use crate::types::{Handle, Type, TypeDefKind, Types};
 
 fn is_slot_below(in_slot: Option<Type>, place: usize) -> bool

@@ -15,9 +15,9 @@ pub mod ids;
 pub mod int;
 pub mod kind_word;
 pub mod laws;
-pub mod slots;
 pub mod spans;
 pub mod stability;
+pub mod type_slots;
 pub mod types;
 
 pub use arena::{Arena, Id};

@@ -3,7 +3,7 @@ use Rattle.std.proofs.Common.{List, [], ◌∷◌, ◌++◌, ap, ◌∙◌, appe
 use Rattle.wit_types.specs.declared.types.TypeDef.{TypeDef}
 use Rattle.wit_syntax.specs.Source.{Item}
 use Rattle.wit_arena.specs.Resolving.{Required}
-use Rattle.wit_arena.specs.Resolved.{AddsEach}
+use Rattle.wit_arena.specs.ResolvedArenas.{AddsEach}
 use Rattle.wit_arena.proofs.Adding.{adds_append, adds_one}
 use Rattle.wit_uses.specs.NewRequirements.{Appends}
 

@@ -15,7 +15,7 @@ use Rattle.wit_syntax.proofs.Lists.{map_at}
 use Rattle.wit_syntax.proofs.Found.{at_contains, contains_at}
 use Rattle.wit_syntax.proofs.Unnoted.{unbroken_metadata}
 use Rattle.wit_rules.specs.declared.borrowed.BorrowedFunction.{BorrowedFunction}
-use Rattle.wit_rules.specs.Borrowed.{function_view}
+use Rattle.wit_rules.specs.BorrowedFunctions.{function_view}
 use Rattle.wit_externs.specs.SideMembers.{extern_view, externs_view}
 use Rattle.wit_externs.specs.Clash.{DifferOnSides}
 use Rattle.wit_externs.specs.Links.{AreRightLinks, AreNotedInside}
@@ -23,7 +23,7 @@ use Rattle.wit_externs.specs.declared.borrowed.BorrowedLink.{BorrowedLink}
 use Rattle.wit_externs.specs.declared.borrowed.BorrowedInline.{BorrowedInline}
 use Rattle.wit_externs.specs.declared.borrowed.BorrowedExtern.{BorrowedExtern}
 use Rattle.wit_externs.specs.declared.borrowed.BorrowedExtern.TheVariants as borrowed
-use Rattle.wit_scopes.specs.Borrowed.{Borrowed as BorrowedName, name_view}
+use Rattle.wit_scopes.specs.BorrowedNames.{Borrowed as BorrowedName, name_view}
 use Rattle.wit_uses.specs.NameOrder.{IsTurn}
 use Rattle.wit_uses.proofs.NameOrder.{differ_called}
 

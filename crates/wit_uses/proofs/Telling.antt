@@ -12,10 +12,10 @@ use Rattle.wit_model.specs.declared.world.World.{World}
 use Rattle.wit_syntax.specs.Fault.{Fault}
 use Rattle.wit_syntax.specs.Metadata.{Metadata, IsBrokenStability}
 use Rattle.wit_syntax.specs.Source.{Declared, TheInterface, TheWorld, TheInline, interface_part, Item, is_world, about}
-use Rattle.wit_syntax.specs.Scope.{part_includes, interfaces_of, worlds_of}
+use Rattle.wit_syntax.specs.ScopeTables.{part_includes, interfaces_of, worlds_of}
 use Rattle.wit_syntax.specs.Sides.{IsBrokenSides}
-use Rattle.wit_arena.specs.Package.{IsWorld}
-use Rattle.wit_arena.specs.Resolved.{IsBrokenItemStability, OwnStability, OfInclude, HaveLegalStability, AreLegalSides}
+use Rattle.wit_arena.specs.UnfoldedTypes.{IsWorld}
+use Rattle.wit_arena.specs.ResolvedArenas.{IsBrokenItemStability, OwnStability, OfInclude, HaveLegalStability, AreLegalSides}
 use Rattle.wit_syntax.proofs.Kept.{kept_has}
 use Rattle.wit_syntax.proofs.Lists.{at_either}
 use Rattle.wit_items.specs.declared.metadata.ItemMetadata.{ItemMetadata}

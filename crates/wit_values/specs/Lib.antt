@@ -1,4 +1,4 @@
 pub mod ReleaseOrder
 pub mod ReleaseParts
 pub mod ReleaseText
-pub mod Spans
+pub mod SpanOrder

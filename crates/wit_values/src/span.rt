@@ -1,6 +1,6 @@
 //! Ranges of bytes in the sources.
 ghost use Rattle.std.specs.Prelude.{◌≡◌, ◌+◌, ◌<◌, ◌^◌, ◌↔◌, IsTrue};
-ghost use Rattle.wit_values.specs.Spans.{span_cmp};
+ghost use Rattle.wit_values.specs.SpanOrder.{span_cmp};
 
 use std::cmp::Ordering;
 

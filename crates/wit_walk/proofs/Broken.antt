@@ -13,10 +13,10 @@ use Rattle.wit_syntax.specs.Fault.{Fault, fault, missing_at, missing_type_at, cy
 use Rattle.wit_syntax.specs.Foreign.{foreign_visits}
 use Rattle.wit_syntax.specs.Metadata.{IsBrokenStability}
 use Rattle.wit_syntax.specs.Repeats.{AllDiffer}
-use Rattle.wit_syntax.specs.Scope.{item_row, item_rows, rows_of, in_order, in_turn, used, defined, includes, interfaces_of, worlds_of}
+use Rattle.wit_syntax.specs.ScopeTables.{item_row, item_rows, rows_of, in_order, in_turn, used, defined, includes, interfaces_of, worlds_of}
 use Rattle.wit_syntax.specs.ScopesOfTrees.{scope}
 use Rattle.wit_syntax.specs.Sides.{all_scopes, with_inline, inline_items, side_items, InterfaceMetadata, SideInline}
-use Rattle.wit_syntax.specs.Signature.{name_called}
+use Rattle.wit_syntax.specs.SignatureRules.{name_called}
 use Rattle.wit_syntax.specs.Source.{Declared, TheInterface, TheWorld, TheInline, Item, about, address, all_items, is_world, item_at, item_name, ScopeName, scope_names}
 use Rattle.wit_syntax.proofs.Found.{at_contains, contains_at}
 use Rattle.wit_syntax.proofs.Inline.{inline_items_at}

@@ -17,7 +17,7 @@ use Rattle.wit_graph.specs.Table.{place_of}
 use Rattle.wit_syntax.specs.Broken.{is_world_at, IsBrokenItems, DuplicateTopName, MissingItem, IsBrokenUse, MissingUse, WorldUsed, IsBroken, UseMetadata, Use}
 use Rattle.wit_syntax.specs.ExternPart.{inline_uses, extern_paths, same_side}
 use Rattle.wit_syntax.specs.Fault.{Fault, fault}
-use Rattle.wit_syntax.specs.Scope.{local_target, item_row, needed_paths, part_uses, use_path, use_paths, uses}
+use Rattle.wit_syntax.specs.ScopeTables.{local_target, item_row, needed_paths, part_uses, use_path, use_paths, uses}
 use Rattle.wit_syntax.specs.Source.{Target, leads, path_id, Part, DefinitionPart, UsePart, IncludePart, FunctionPart, ExternPart, Item, parts, file_items, all_items, item_name, item_named, at_side, walk}
 use Rattle.wit_syntax.proofs.Found.{at_contains, contains_at, find_some}
 use Rattle.wit_syntax.proofs.Lists.{at_prefix, flat_map_at, flat_map_has, map_at}

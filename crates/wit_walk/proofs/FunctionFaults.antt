@@ -34,7 +34,7 @@ use Rattle.wit_syntax.specs.Function.{Role, Freestanding, Method, Static, Constr
 use Rattle.wit_syntax.specs.Shape.{Word, shape_of, words}
 use Rattle.wit_syntax.specs.ScopesOfTrees.{scope}
 use Rattle.wit_syntax.specs.Sides.{all_scopes}
-use Rattle.wit_syntax.specs.Signature.{IsEntered, IsNoType, OfFunction, OfNothing, IsBrokenFunction, BrokenMetadata, BrokenTypes, MissingInSignature, GetterGiven, SetterGiven, DuplicateParam, GetterWithoutResult, SetterWithResult, ConstructorWithoutResult, ConstructorOfOther, IsGetterGiven, IsSetterGiven, IsSetterWithResult, IsConstructorWithoutResult, IsConstructorOfOther}
+use Rattle.wit_syntax.specs.SignatureRules.{IsEntered, IsNoType, OfFunction, OfNothing, IsBrokenFunction, BrokenMetadata, BrokenTypes, MissingInSignature, GetterGiven, SetterGiven, DuplicateParam, GetterWithoutResult, SetterWithResult, ConstructorWithoutResult, ConstructorOfOther, IsGetterGiven, IsSetterGiven, IsSetterWithResult, IsConstructorWithoutResult, IsConstructorOfOther}
 use Rattle.wit_syntax.specs.Source.{Part, DefinitionPart, UsePart, IncludePart, FunctionPart, ExternPart, Item, address, parts, meaning, scope_names}
 use Rattle.wit_syntax.proofs.Found.{at_contains, contains_at}
 use Rattle.wit_syntax.proofs.Lists.{at_back, at_prefix, at_split, flat_map_at, flat_map_has, map_at}

@@ -25,10 +25,10 @@ use Rattle.wit_syntax.specs.Broken.{is_world_at, IsBroken, MissingUse, WorldUsed
 use Rattle.wit_syntax.specs.ExternPart.{inline_uses, extern_paths, same_side}
 use Rattle.wit_syntax.specs.Fault.{Fault, fault}
 use Rattle.wit_syntax.specs.Function.{Role, Freestanding, Method, Static, Constructor, OnSide, SourceFunction, definition_functions, extern_functions, part_functions, functions}
-use Rattle.wit_syntax.specs.Scope.{rows_of, use_path, use_paths, in_turn}
+use Rattle.wit_syntax.specs.ScopeTables.{rows_of, use_path, use_paths, in_turn}
 use Rattle.wit_syntax.specs.ScopesOfTrees.{scope}
 use Rattle.wit_syntax.specs.Sides.{Link, SideItem, SideFunction, SideLink, SideInline, part_items, extern_items, extern_link, side_items, item_function, item_link, item_side, items_on, names_on, is_interface, inline_item, inline_after, inline_items, all_scopes, item_called, side_called, IsExternPart, FoldedTwice, CrossedTwice, InterfaceMetadata}
-use Rattle.wit_syntax.specs.Signature.{Called, name_called}
+use Rattle.wit_syntax.specs.SignatureRules.{Called, name_called}
 use Rattle.wit_syntax.specs.Source.{leads, path_id, path_scope, Part, DefinitionPart, UsePart, IncludePart, FunctionPart, ExternPart, Item, all_items, address, is_world, parts, ScopeName, scope_names}
 use Rattle.wit_syntax.proofs.Addresses.{same_address-equal, side_itself}
 use Rattle.wit_syntax.proofs.Found.{at_contains, contains_at}

@@ -6,7 +6,7 @@ use mathlib.Core.Path.{fun_ext}
 use Rattle.wit_type_tree.specs.declared.leaves.Id.{Id}
 use Rattle.wit_tree.specs.declared.tree.PackageFile.{PackageFile}
 use Rattle.wit_graph.specs.Edges.{IsEarlier, IsFirstEdge}
-use Rattle.wit_graph.specs.Faults.{IsFirstMissing, IsFirstCyclic}
+use Rattle.wit_graph.specs.TableFaults.{IsFirstMissing, IsFirstCyclic}
 use Rattle.wit_graph.specs.Laws.{AreRefused}
 use Rattle.wit_graph.specs.Table.{Row, target, IsEdge, IsMissing, IsCyclic}
 use Rattle.wit_graph.proofs.SameEdges.{one_answer}

@@ -11,22 +11,22 @@ use Rattle.wit_values.specs.declared.span.Span.{Span}
 use Rattle.wit_type_tree.specs.declared.leaves.Id.{Id}
 use Rattle.wit_type_tree.specs.declared.types.TypeDef.{TypeDef}
 use Rattle.wit_type_tree.specs.declared.types.«Type».{«Type» as Written}
-use Rattle.wit_type_tree.specs.Parts.{body_types}
+use Rattle.wit_type_tree.specs.TypeParts.{body_types}
 use Rattle.wit_tree.specs.declared.tree.Include.{Include}
 use Rattle.wit_tree.specs.declared.tree.UseName.{UseName}
 use Rattle.wit_tree.specs.declared.tree.PackageFile.{PackageFile}
 use Rattle.wit_graph.specs.Table.{Row, IsOrder}
 use Rattle.wit_syntax.specs.Address.{Address, same_address}
 use Rattle.wit_syntax.specs.Broken.{is_world_at, IsMissingEdge, IsCyclicEdge, DefinedTwice, Metadata, Body, IsBroken, IncludeStability, InterfaceIncluded, MissingName, Scope, Handle}
-use Rattle.wit_syntax.specs.Ends.{End, AtResource, Elsewhere, AtForeign, shape_end}
+use Rattle.wit_syntax.specs.NameEnds.{End, AtResource, Elsewhere, AtForeign, shape_end}
 use Rattle.wit_syntax.specs.Fault.{Fault, fault, missing_at, cyclic_at, name_word}
 use Rattle.wit_syntax.specs.Function.{SourceFunction, functions, item_types, name_types, role_names, written_types}
 use Rattle.wit_syntax.specs.Repeats.{AllDiffer}
-use Rattle.wit_syntax.specs.Scope.{used, defined, part_includes, include_path, includes}
+use Rattle.wit_syntax.specs.ScopeTables.{used, defined, part_includes, include_path, includes}
 use Rattle.wit_syntax.specs.ScopesOfTrees.{scope}
 use Rattle.wit_syntax.specs.Shape.{shape_of, words, handles, Word}
 use Rattle.wit_syntax.specs.Sides.{all_scopes}
-use Rattle.wit_syntax.specs.Signature.{IsNoType, OfFunction, OfNothing}
+use Rattle.wit_syntax.specs.SignatureRules.{IsNoType, OfFunction, OfNothing}
 use Rattle.wit_syntax.specs.Source.{leads, path_id, Part, Item, item_name, item_named, item_at, all_items, address, parts, ScopeName, Used, Defined, ForeignName, local_id, local_name, meaning, scope_names}
 use Rattle.wit_syntax.proofs.Addresses.{same_address-equal}
 use Rattle.wit_syntax.proofs.Found.{at_contains, contains_at, find_at, find_passes, find_some}

@@ -13,9 +13,9 @@ use Rattle.wit_tree.specs.declared.tree.WorldSide.TheVariants.{Imported, Exporte
 use Rattle.wit_syntax.specs.Broken.{IsSetterAlone}
 use Rattle.wit_syntax.specs.Fault.{Fault, fault}
 use Rattle.wit_syntax.specs.Function.{SourceFunction, functions}
-use Rattle.wit_syntax.specs.Scope.{includes}
+use Rattle.wit_syntax.specs.ScopeTables.{includes}
 use Rattle.wit_syntax.specs.Sides.{on_side}
-use Rattle.wit_syntax.specs.Signature.{IsUnpairedSetter}
+use Rattle.wit_syntax.specs.SignatureRules.{IsUnpairedSetter}
 use Rattle.wit_syntax.specs.Source.{Item}
 use Rattle.wit_syntax.proofs.Found.{at_contains, contains_at}
 use Rattle.wit_syntax.proofs.Names.{name_itself}

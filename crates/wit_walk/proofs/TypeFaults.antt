@@ -8,7 +8,7 @@ use Rattle.wit_type_tree.specs.declared.leaves.Id.{Id}
 use Rattle.wit_type_tree.specs.declared.types.«Type».{«Type» as Written, None', Some', Row_of-Type, end_of-Type, more_of-Type}
 use Rattle.wit_type_tree.specs.declared.types.«Type».TheVariants as written
 use Rattle.wit_type_tree.specs.declared.types.ResultTypes.{Neither, Ok', Err', Both'}
-use Rattle.wit_type_tree.specs.Parts.{row_types, part_types}
+use Rattle.wit_type_tree.specs.TypeParts.{row_types, part_types}
 use Rattle.wit_syntax.specs.Bodies.{IsBrokenForm, IsBrokenType, Itself, Inside}
 use Rattle.wit_syntax.specs.Fault.{Fault}
 use Rattle.wit_syntax.specs.Shape.{shape_of, words, handles, all_shapes, all_words, all_handles, row_shapes, row_handles}

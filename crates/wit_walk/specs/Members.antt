@@ -5,7 +5,7 @@ use Rattle.std.specs.Option.{option_or}
 use Rattle.wit_tree.specs.declared.tree.PackageFile.{PackageFile}
 use Rattle.wit_syntax.specs.Fault.{Fault, fault}
 use Rattle.wit_syntax.specs.Function.{Role, OnSide}
-use Rattle.wit_syntax.specs.Signature.{Called}
+use Rattle.wit_syntax.specs.SignatureRules.{Called}
 use Rattle.wit_syntax.specs.Sides.{SideItem, SideFunction, SideLink, SideInline, item_called, item_function, item_side, items_on, inline_item, is_interface, side_called}
 use Rattle.wit_syntax.specs.Source.{Item, address, scope_names}
 use Rattle.wit_first.specs.AttributeFaults.{external_fault}

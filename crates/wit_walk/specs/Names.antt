@@ -8,7 +8,7 @@ use Rattle.wit_type_tree.specs.declared.leaves.Id.{Id}
 use Rattle.wit_tree.specs.declared.tree.PackageFile.{PackageFile}
 use Rattle.wit_syntax.specs.Fault.{Fault, fault, missing_at, name_word}
 use Rattle.wit_syntax.specs.Function.{SourceFunction, functions, role_names}
-use Rattle.wit_syntax.specs.Signature.{Called}
+use Rattle.wit_syntax.specs.SignatureRules.{Called}
 use Rattle.wit_syntax.specs.Source.{Item, ScopeName, Used, item_at, all_items, local_id, local_name, meaning, scope_names}
 use Rattle.wit_first.specs.First.{repeat_of}
 

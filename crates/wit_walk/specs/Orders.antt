@@ -2,7 +2,7 @@
 use Rattle.std.specs.Prelude.{◌≡◌, ℕ, List, [], Option, None, Some}
 use Rattle.wit_type_tree.specs.declared.leaves.Id.{Id}
 use Rattle.wit_graph.specs.Table.{Row, IsOrder}
-use Rattle.wit_graph.specs.Faults.{IsFirstMissing, IsFirstCyclic}
+use Rattle.wit_graph.specs.TableFaults.{IsFirstMissing, IsFirstCyclic}
 use Rattle.wit_syntax.specs.Fault.{Fault}
 
 pub data Outcome : Type 0 where

@@ -6,9 +6,9 @@ use Rattle.wit_graph.specs.Table.{Row}
 use Rattle.wit_syntax.specs.Broken.{last_header}
 use Rattle.wit_syntax.specs.Fault.{Fault, fault, missing_at, missing_type_at, cyclic_at, item_word, type_word}
 use Rattle.wit_syntax.specs.Foreign.{foreign_visits}
-use Rattle.wit_syntax.specs.Scope.{item_rows, rows_of, in_order, in_turn, used, defined, includes, interfaces_of, worlds_of}
+use Rattle.wit_syntax.specs.ScopeTables.{item_rows, rows_of, in_order, in_turn, used, defined, includes, interfaces_of, worlds_of}
 use Rattle.wit_syntax.specs.Sides.{side_items}
-use Rattle.wit_syntax.specs.Signature.{name_called}
+use Rattle.wit_syntax.specs.SignatureRules.{name_called}
 use Rattle.wit_syntax.specs.Source.{Item, about, address, all_items, scope_names}
 use Rattle.wit_first.specs.AttributeFaults.{stability_fault}
 use Rattle.wit_first.specs.FileFaults.{files_fault, tops_fault, visits_fault}

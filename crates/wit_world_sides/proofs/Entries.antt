@@ -15,7 +15,7 @@ use Rattle.wit_syntax.specs.Repeats.{AllDiffer}
 use Rattle.wit_syntax.specs.Sides.{role_side}
 use Rattle.wit_arena.specs.SourceFunctions.{function_item}
 use Rattle.wit_arena.specs.SideItems.{inline_entry, link_item, put_on}
-use Rattle.wit_rules.specs.Borrowed.{function_view}
+use Rattle.wit_rules.specs.BorrowedFunctions.{function_view}
 use Rattle.wit_rules.specs.declared.borrowed.BorrowedFunction.{BorrowedFunction}
 use Rattle.wit_externs.specs.SideMembers.{link_view}
 use Rattle.wit_externs.specs.declared.borrowed.PathTarget.{PathTarget}
@@ -28,7 +28,7 @@ use Rattle.wit_syntax.proofs.Lists.{at_prefix, at_back}
 use Rattle.wit_syntax.proofs.Names.{name_cases}
 use Rattle.wit_syntax.proofs.Repeated.{differ_at}
 use Rattle.wit_syntax.proofs.Inserting.{insert_entry-new}
-use Rattle.wit_world_sides.specs.Sides.{entries_on, inserted_on, put_link}
+use Rattle.wit_world_sides.specs.FilledSides.{entries_on, inserted_on, put_link}
 
 abbrev pub Entry : Type 0
 Entry = WorldKey × WorldItem

@@ -3,7 +3,7 @@ use Rattle.std.proofs.Common.{◌≡◌, ℕ, List, [], ◌∷◌, ◌++◌, Som
 use Rattle.std.proofs.lemmas.Bool.{cases_Bool, cond-true, cond-false}
 use Rattle.wit_tree.specs.declared.tree.WorldSide.{WorldSide}
 use Rattle.wit_tree.specs.declared.tree.WorldSide.TheVariants.{Imported, Exported}
-use Rattle.wit_model.specs.Worlds.{function_of}
+use Rattle.wit_model.specs.ItemsOfWorlds.{function_of}
 use Rattle.wit_functions.specs.declared.function.Function.{Function}
 use Rattle.wit_model.specs.declared.world.WorldKey.TheVariants as key
 use Rattle.wit_syntax.specs.ExternPart.{same_side}
@@ -16,7 +16,7 @@ use Rattle.wit_arena.specs.Resolving.{Names}
 use Rattle.wit_arena.specs.SideItems.{inline_entry, link_item, put_on}
 use Rattle.wit_arena.specs.Whole.{type_imports}
 use Rattle.wit_arena.proofs.Settled.{types_stated}
-use Rattle.wit_rules.specs.Borrowed.{function_view}
+use Rattle.wit_rules.specs.BorrowedFunctions.{function_view}
 use Rattle.wit_externs.specs.SideMembers.{link_view}
 use Rattle.wit_externs.specs.declared.borrowed.PathTarget.{PathTarget}
 use Rattle.wit_externs.specs.declared.borrowed.PathTarget.TheVariants as path_target
@@ -24,7 +24,7 @@ use Rattle.wit_externs.specs.declared.borrowed.BorrowedExtern.{BorrowedExtern}
 use Rattle.wit_externs.specs.declared.borrowed.BorrowedExtern.TheVariants as borrowed
 use Rattle.wit_world_sides.specs.declared.sides.WorldSides.{WorldSides}
 use Rattle.wit_world_sides.specs.Settled.{AreCalled}
-use Rattle.wit_world_sides.specs.Sides.{entries_of, entries_on, put_link}
+use Rattle.wit_world_sides.specs.FilledSides.{entries_of, entries_on, put_link}
 use Rattle.wit_world_sides.proofs.Entries.{Entry}
 
 -- an entry is at its name, if it is a function

@@ -13,7 +13,7 @@ use Rattle.wit_externs.specs.declared.borrowed.PathTarget.TheVariants as path_ta
 use Rattle.wit_externs.specs.declared.borrowed.BorrowedLink.{BorrowedLink}
 use Rattle.wit_externs.specs.declared.borrowed.BorrowedExtern.{BorrowedExtern}
 use Rattle.wit_externs.specs.declared.borrowed.BorrowedExtern.TheVariants as borrowed
-use Rattle.wit_world_sides.specs.Sides.{entries_on, put_link}
+use Rattle.wit_world_sides.specs.FilledSides.{entries_on, put_link}
 use Rattle.wit_world_sides.proofs.SideKeys.{AreCounted, AreMade, Lead, counted_rest, counted_some}
 use Rattle.wit_externs.proofs.Linked.{AreLinksPlaced}
 

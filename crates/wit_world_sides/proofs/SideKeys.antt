@@ -14,7 +14,7 @@ use Rattle.wit_model.specs.declared.world.WorldKey.{WorldKey}
 use Rattle.wit_model.specs.declared.world.WorldKey.TheVariants as key
 use Rattle.wit_syntax.specs.ExternPart.{same_side}
 use Rattle.wit_syntax.specs.Repeats.{AllDiffer}
-use Rattle.wit_syntax.specs.Scope.{local_names}
+use Rattle.wit_syntax.specs.ScopeTables.{local_names}
 use Rattle.wit_syntax.specs.Sides.{SideItem, SideFunction, SideLink, SideInline, role_side, item_function, item_inline, items_on}
 use Rattle.wit_syntax.specs.Source.{ScopeName, ForeignName, local_id, local_name}
 use Rattle.wit_arena.specs.SourceFunctions.{function_item}
@@ -22,7 +22,7 @@ use Rattle.wit_arena.specs.Resolving.{Names, names_in}
 use Rattle.wit_arena.specs.SideItems.{inline_entry, link_item, link_key, put_on}
 use Rattle.wit_arena.specs.Whole.{type_imports}
 use Rattle.wit_refusals.specs.NameScopes.{Name}
-use Rattle.wit_rules.specs.Borrowed.{function_view}
+use Rattle.wit_rules.specs.BorrowedFunctions.{function_view}
 use Rattle.wit_signatures.specs.ForeignName.{name_of_id, name_of_function, name_of_made, name_key}
 use Rattle.wit_externs.specs.Clash.{DifferOnSides, item_names, names_of_items}
 use Rattle.wit_externs.specs.SideMembers.{externs_view, extern_view, borrowed_on, link_view}
@@ -36,7 +36,7 @@ use Rattle.wit_externs.specs.declared.borrowed.BorrowedExtern.TheVariants as bor
 use Rattle.wit_syntax.proofs.Lists.{flat_map_has}
 use Rattle.wit_syntax.proofs.Repeated.{differ_at, differ_by, differ_none}
 use Rattle.wit_world_sides.specs.declared.sides.WorldSides.{WorldSides}
-use Rattle.wit_world_sides.specs.Sides.{entries_of, entries_on, put_link}
+use Rattle.wit_world_sides.specs.FilledSides.{entries_of, entries_on, put_link}
 use Rattle.wit_world_sides.proofs.Entries.{Entry, key_of}
 
 -- the name that a key is, or the place

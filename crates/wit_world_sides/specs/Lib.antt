@@ -1,3 +1,3 @@
 pub mod Links
 pub mod Settled
-pub mod Sides
+pub mod FilledSides

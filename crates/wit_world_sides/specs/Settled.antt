@@ -1,7 +1,7 @@
 -- Worlds that include nothing, and entries whose functions are at their names.
 use Rattle.std.specs.Prelude.{◌≡◌, ℕ, Bool, true, false, List, [], ◌∷◌, Some, slice_get}
 use Rattle.wit_tree.specs.declared.tree.Include.{Include}
-use Rattle.wit_model.specs.Worlds.{function_of}
+use Rattle.wit_model.specs.ItemsOfWorlds.{function_of}
 use Rattle.wit_functions.specs.declared.function.Function.{Function}
 use Rattle.wit_model.specs.declared.world.WorldItem.{WorldItem}
 use Rattle.wit_model.specs.declared.world.WorldKey.{WorldKey}

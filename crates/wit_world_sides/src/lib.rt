@@ -1,5 +1,5 @@
 //! What a world has on its sides.
 #![tactic(auto)]
 
-pub mod setters;
 pub mod sides;
+pub mod sides_setters;

@@ -25,9 +25,9 @@ ghost use Rattle.wit_externs.specs.Links.{AreRightLinks, bare_places};
 ghost use Rattle.wit_arena.specs.Resolving.{names_in};
 ghost use Rattle.wit_world_sides.specs.Links.{AreWithin};
 ghost use Rattle.wit_world_sides.specs.Settled.{none_of};
-ghost use Rattle.wit_world_sides.specs.Sides.{entries_of, entries_on, inserted_on};
+ghost use Rattle.wit_world_sides.specs.FilledSides.{entries_of, entries_on, inserted_on};
 
-use crate::setters::settle;
+use crate::sides_setters::settle;
 use std::alloc::{AllocError, Global};
 use wit_externs::borrowed::{BorrowedExtern, BorrowedInline, BorrowedLink, PathTarget};
 use wit_items::interfaces::Interfaces;

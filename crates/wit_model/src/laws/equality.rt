@@ -1,6 +1,6 @@
 //! Equality: values are equal exactly if they are the same, interfaces and worlds but for the order of their maps.
 ghost use Rattle.std.specs.Prelude.{◌≡◌, ◌↔◌, IsTrue};
-ghost use Rattle.wit_model.specs.Same.{IsSameInterface, IsSameWorld, IsSamePackage};
+ghost use Rattle.wit_model.specs.SamePackages.{IsSameInterface, IsSameWorld, IsSamePackage};
 
 use crate::ast_item::AstItem;
 use crate::interface::Interface;

@@ -1,6 +1,6 @@
 //! Order: types as they are listed, and the other ordered values field by field.
 ghost use Rattle.std.specs.Prelude.{◌≡◌};
-ghost use Rattle.wit_model.specs.Orders.{package_name_cmp};
+ghost use Rattle.wit_model.specs.PackageOrders.{package_name_cmp};
 
 use std::cmp::Ordering;
 use wit_package_names::package_name::PackageName;

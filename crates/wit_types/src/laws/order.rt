@@ -1,6 +1,6 @@
 //! Order: types as they are listed, stabilities field by field.
 ghost use Rattle.std.specs.Prelude.{◌≡◌};
-ghost use Rattle.wit_types.specs.Orders.{stability_cmp, type_cmp};
+ghost use Rattle.wit_types.specs.TypeOrders.{stability_cmp, type_cmp};
 
 use crate::stability::Stability;
 use crate::types::Type;

@@ -3,19 +3,19 @@ use Rattle.std.specs.List.{flat_map}
 use Rattle.std.proofs.lemmas.Result.{err_from_is_err_and}
 use Rattle.wit_syntax.specs.Address.{Address}
 use Rattle.wit_syntax.specs.Source.{all_items}
-use Rattle.wit_syntax.specs.Scope.{in_order, interfaces_of, worlds_of}
+use Rattle.wit_syntax.specs.ScopeTables.{in_order, interfaces_of, worlds_of}
 use Rattle.wit_syntax.specs.Broken.{IsBroken}
 use Rattle.wit_syntax.specs.Sides.{with_inline}
 use Rattle.wit_arena.specs.Resolving.{Required, resolved_scopes, IsIndex}
-use Rattle.wit_arena.specs.Resolved.{WorldArenas, prefix_worlds, AddsInterfaces, AddsWorlds, AreLegalSides, AreSoundScopes, AreUsableLinks, HaveLegalStability, IsWrongNow, IsWrongWorldNow}
+use Rattle.wit_arena.specs.ResolvedArenas.{WorldArenas, prefix_worlds, AddsInterfaces, AddsWorlds, AreLegalSides, AreSoundScopes, AreUsableLinks, HaveLegalStability, IsWrongNow, IsWrongWorldNow}
 use Rattle.wit_syntax.proofs.Refusing.{refused_weaker}
 use Rattle.wit_arena.proofs.LegalScopes.{distinct_items}
 use Rattle.wit_arena.proofs.LegalIfDone.{broken_now, broken_world_now}
-use Rattle.wit_items.specs.Items.{item_view, others_of}
+use Rattle.wit_items.specs.BorrowedItems.{item_view, others_of}
 use Rattle.wit_items.proofs.Usable.{uses_broken, uses_sound}
 use Rattle.wit_items.proofs.Found.{found_none}
 use Rattle.wit_items.proofs.Gathered.{items_of}
-use Rattle.wit_item_names.specs.Interfaces.{prefix_of}
+use Rattle.wit_item_names.specs.ForeignAddresses.{prefix_of}
 use Rattle.wit_front.specs.ForeignPrefix.{IsPrefix}
 use Rattle.wit_uses.specs.NewRequirements.{Appends}
 use Rattle.wit_contents.specs.Outer.{AreOuter}

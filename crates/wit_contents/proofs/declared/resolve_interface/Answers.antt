@@ -7,9 +7,9 @@ use Rattle.wit_syntax.specs.Function.{functions}
 use Rattle.wit_syntax.specs.Metadata.{IsBrokenStability}
 use Rattle.wit_syntax.specs.Sides.{IsBrokenSides}
 use Rattle.wit_syntax.specs.Source.{Item, is_world, scope_names, about}
-use Rattle.wit_arena.specs.Resolved.{AddsInterface, IsNameless}
-use Rattle.wit_items.specs.Items.{item_view}
-use Rattle.wit_items.specs.Interfaces.{resolved_scopes_of}
+use Rattle.wit_arena.specs.ResolvedArenas.{AddsInterface, IsNameless}
+use Rattle.wit_items.specs.BorrowedItems.{item_view}
+use Rattle.wit_items.specs.ResolvedInterfaces.{resolved_scopes_of}
 use Rattle.wit_uses.specs.NewRequirements.{Appends}
 use Rattle.wit_contents.proofs.declared.resolve_interface.Goals as goal
 

@@ -3,11 +3,11 @@ use Rattle.std.specs.Prelude.{slice_get, map}
 use Rattle.std.proofs.lemmas.Option.{slice_get-get_or}
 use Rattle.std.proofs.lemmas.Result.{err_from_is_err_and}
 use Rattle.wit_syntax.specs.Source.{is_world, about}
-use Rattle.wit_syntax.specs.Scope.{in_order, interfaces_of}
+use Rattle.wit_syntax.specs.ScopeTables.{in_order, interfaces_of}
 use Rattle.wit_arena.specs.Resolving.{resolved_scopes}
-use Rattle.wit_arena.specs.Resolved.{AddsDeclared, IsWrongInterface, IsWrongNow}
+use Rattle.wit_arena.specs.ResolvedArenas.{AddsDeclared, IsWrongInterface, IsWrongNow}
 use Rattle.wit_types.specs.declared.types.TypeOwner.TheVariants.{Interface as OfInterface}
-use Rattle.wit_item_names.specs.Interfaces.{prefix_of}
+use Rattle.wit_item_names.specs.ForeignAddresses.{prefix_of}
 use Rattle.wit_uses.specs.NewRequirements.{Appends}
 use Rattle.wit_items.specs.declared.items.Item.{Item as BorrowedItem}
 use Rattle.wit_syntax.proofs.Lists.{read_map}
@@ -17,7 +17,7 @@ use Rattle.wit_arena.proofs.Adding.{sounds_more}
 use Rattle.wit_uses.proofs.Emitting.{appends_more}
 use Rattle.wit_uses.proofs.Telling.{interface_stable, sides_more, stability_more}
 use Rattle.wit_items.specs.declared.items.Declared.{Declared as BorrowedDeclared}
-use Rattle.wit_items.specs.Items.{declared_view, item_view}
+use Rattle.wit_items.specs.BorrowedItems.{declared_view, item_view}
 use Rattle.wit_contents.proofs.declared.resolve_interfaces.Goals.{in-Interface+in_ok-resolve_interface-in-Interface, in-World, in-Inline}
 use Rattle.wit_contents.proofs.declared.resolve_interfaces.Goals as goal
 

@@ -1,9 +1,9 @@
 use Rattle.std.proofs.Common.{◌≡◌, map, take}
-use Rattle.wit_syntax.specs.Scope.{in_order, interfaces_of}
+use Rattle.wit_syntax.specs.ScopeTables.{in_order, interfaces_of}
 use Rattle.wit_arena.specs.Resolving.{resolved_scopes, IsIndex}
-use Rattle.wit_arena.specs.Resolved.{AddsInterfaces, AreLegalSides, AreSoundScopes, HaveLegalStability}
-use Rattle.wit_item_names.specs.Interfaces.{prefix_of}
-use Rattle.wit_items.specs.Items.{item_view}
+use Rattle.wit_arena.specs.ResolvedArenas.{AddsInterfaces, AreLegalSides, AreSoundScopes, HaveLegalStability}
+use Rattle.wit_item_names.specs.ForeignAddresses.{prefix_of}
+use Rattle.wit_items.specs.BorrowedItems.{item_view}
 use Rattle.wit_uses.specs.NewRequirements.{Appends}
 use Rattle.wit_contents.proofs.declared.resolve_interfaces.Given as goal
 

@@ -4,14 +4,14 @@ use Rattle.wit_tree.specs.declared.tree.WorldSide.TheVariants.{Imported}
 use Rattle.wit_syntax.specs.Source.{ScopeName}
 use Rattle.wit_syntax.specs.Function.{SourceFunction, functions}
 use Rattle.wit_syntax.specs.Sides.{SideFunction}
-use Rattle.wit_syntax.specs.Signature.{IsUnpairedSetter}
+use Rattle.wit_syntax.specs.SignatureRules.{IsUnpairedSetter}
 use Rattle.wit_syntax.proofs.Refusing.{refused_weaker}
 use Rattle.wit_syntax.proofs.Sides.{side_items_functions}
-use Rattle.wit_arena.specs.Resolved.{IsWrongInterface, Unpaired}
-use Rattle.wit_rules.specs.Borrowed.{function_view}
+use Rattle.wit_arena.specs.ResolvedArenas.{IsWrongInterface, Unpaired}
+use Rattle.wit_rules.specs.BorrowedFunctions.{function_view}
 use Rattle.wit_signatures.specs.ForeignName.{name_of_id, name_of_function}
 use Rattle.wit_externs.specs.Clash.{all_on}
-use Rattle.wit_items.specs.Items.{scope_item, declared_view}
+use Rattle.wit_items.specs.BorrowedItems.{scope_item, declared_view}
 use Rattle.wit_uses.specs.NameOrder.{IsTurn}
 use Rattle.wit_item_entries.specs.Body.{HasNames, IsWrongBody}
 use Rattle.wit_item_entries.proofs.InterfaceSides.{all_imported, names_imported}

@@ -5,10 +5,10 @@ use Rattle.wit_syntax.specs.Source.{about, declared_metadata}
 use Rattle.wit_syntax.specs.Function.{functions}
 use Rattle.wit_syntax.proofs.Refusing.{refused_weaker}
 use Rattle.wit_arena.specs.Resolving.{Names, Required}
-use Rattle.wit_arena.specs.Resolved.{IsWrongInterface}
+use Rattle.wit_arena.specs.ResolvedArenas.{IsWrongInterface}
 use Rattle.wit_entries.proofs.Requiring.{extended_then}
-use Rattle.wit_items.specs.Items.{scope_item}
-use Rattle.wit_items.specs.Interfaces.{resolved_scopes_of}
+use Rattle.wit_items.specs.BorrowedItems.{scope_item}
+use Rattle.wit_items.specs.ResolvedInterfaces.{resolved_scopes_of}
 use Rattle.wit_item_entries.specs.Body.{AddsBody, IsWrongBody}
 use Rattle.wit_item_entries.proofs.WrongNames.{wrong_interface}
 use Rattle.wit_contents.proofs.interface.interface_of.Goals as goal

@@ -9,15 +9,15 @@ use Rattle.wit_refusals.specs.NameScopes.{Name}
 use Rattle.wit_syntax.specs.Fault.{Fault}
 use Rattle.wit_syntax.specs.Source.{ScopeName}
 use Rattle.wit_syntax.specs.Sides.{SideItem, SideFunction, SideLink, inline_items, items_on}
-use Rattle.wit_syntax.specs.Signature.{IsBrokenFunction}
-use Rattle.wit_arena.specs.Resolved.{IsNameless, IsWrongInterface}
+use Rattle.wit_syntax.specs.SignatureRules.{IsBrokenFunction}
+use Rattle.wit_arena.specs.ResolvedArenas.{IsNameless, IsWrongInterface}
 use Rattle.wit_arena.specs.Resolving.{env_of}
 use Rattle.wit_syntax.specs.Repeats.{AllDiffer}
 use Rattle.wit_syntax.proofs.Inline.{inlined}
 use Rattle.wit_syntax.proofs.Refusing.{refused_weaker}
 use Rattle.wit_syntax.proofs.Repeated.{differ_none}
-use Rattle.wit_sides.specs.Sides.{defined_on}
-use Rattle.wit_rules.specs.Borrowed.{function_view}
+use Rattle.wit_sides.specs.SideNames.{defined_on}
+use Rattle.wit_rules.specs.BorrowedFunctions.{function_view}
 use Rattle.wit_rules.specs.Signatures.{functions_view, IsScopeOf, IsWrongFunctionAmong}
 use Rattle.wit_first.proofs.First.{refused_as}
 use Rattle.wit_entries.proofs.Requiring.{extended_then}
@@ -32,8 +32,8 @@ use Rattle.wit_externs.proofs.BorrowedAt.{borrowed_here, view_at, whole_count, f
 use Rattle.wit_externs.proofs.Linked.{nothing_on, places_more, right_more, noted_more, wrong_whole, whole_apart, whole_right, whole_noted, no_link, inline_no_link, same_link, no_inline, link_no_inline, same_inline}
 use Rattle.wit_externs.proofs.Steps.{split_at, used_next}
 use Rattle.wit_items.specs.InlineNames.{inside_view}
-use Rattle.wit_items.specs.Items.{item_view}
-use Rattle.wit_items.specs.Interfaces.{resolved_scopes_of}
+use Rattle.wit_items.specs.BorrowedItems.{item_view}
+use Rattle.wit_items.specs.ResolvedInterfaces.{resolved_scopes_of}
 use Rattle.wit_links.specs.declared.inside.Counts.{Counts}
 use Rattle.wit_links.specs.SideCounts.{IsSeen, counted}
 use Rattle.wit_contents.specs.Members.{IsWrongExtern, WrongFunction, WrongExtern, WrongInside}

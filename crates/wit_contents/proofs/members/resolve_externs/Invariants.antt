@@ -2,14 +2,14 @@ use Rattle.std.proofs.Common.{◌≡◌, ◌++◌, length, map, take}
 use Rattle.wit_tree.specs.declared.tree.WorldSide.{WorldSide}
 use Rattle.wit_syntax.specs.Repeats.{AllDiffer}
 use Rattle.wit_syntax.specs.Sides.{inline_items, items_on}
-use Rattle.wit_sides.specs.Sides.{defined_on}
+use Rattle.wit_sides.specs.SideNames.{defined_on}
 use Rattle.wit_signatures.specs.ForeignName.{name_key}
 use Rattle.wit_externs.specs.SideMembers.{externs_view, borrowed_on}
 use Rattle.wit_externs.specs.Clash.{names_of_items}
 use Rattle.wit_externs.specs.Links.{AreNotedInside, AreRightLinks, bare_places}
 use Rattle.wit_externs.specs.Next.{linked_on}
-use Rattle.wit_items.specs.Items.{item_view}
-use Rattle.wit_items.specs.Interfaces.{resolved_scopes_of}
+use Rattle.wit_items.specs.BorrowedItems.{item_view}
+use Rattle.wit_items.specs.ResolvedInterfaces.{resolved_scopes_of}
 use Rattle.wit_links.specs.SideCounts.{IsSeen}
 use Rattle.wit_contents.proofs.DoneSides.{AreDoneTo}
 use Rattle.wit_contents.proofs.members.resolve_externs.Given as goal

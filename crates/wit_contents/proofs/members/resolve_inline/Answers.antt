@@ -1,10 +1,10 @@
 use Rattle.std.proofs.Common.{ℕ, List, subst}
 use Rattle.std.proofs.lemmas.Result.{err_from_is_err_and}
 use Rattle.wit_arena.specs.Resolving.{Required}
-use Rattle.wit_arena.specs.Resolved.{AddsInterface}
-use Rattle.wit_items.specs.Items.{scope_item}
+use Rattle.wit_arena.specs.ResolvedArenas.{AddsInterface}
+use Rattle.wit_items.specs.BorrowedItems.{scope_item}
 use Rattle.wit_uses.specs.NewRequirements.{Appends}
-use Rattle.wit_items.specs.Interfaces.{resolved_scopes_of}
+use Rattle.wit_items.specs.ResolvedInterfaces.{resolved_scopes_of}
 use Rattle.wit_contents.proofs.members.resolve_inline.Goals as goal
 
 pub returns-in_err-interface-clause-refused : goal.returns-in_err-interface-clause-refused

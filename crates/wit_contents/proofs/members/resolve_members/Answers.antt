@@ -9,21 +9,21 @@ use Rattle.wit_tree.specs.declared.tree.WorldSide.TheVariants.{Imported}
 use Rattle.wit_syntax.specs.Function.{functions}
 use Rattle.wit_syntax.specs.Repeats.{AllDiffer}
 use Rattle.wit_syntax.specs.Sides.{item_function, items_on, names_on, on_side, side_items}
-use Rattle.wit_syntax.specs.Signature.{IsUnpairedSetter}
+use Rattle.wit_syntax.specs.SignatureRules.{IsUnpairedSetter}
 use Rattle.wit_syntax.specs.Source.{address, scope_names}
 use Rattle.wit_syntax.proofs.Refusing.{refused_weaker}
 use Rattle.wit_syntax.proofs.Repeated.{differ_none}
 use Rattle.wit_arena.specs.Resolving.{env_of}
 use Rattle.wit_refusals.specs.NameScopes.{Name}
-use Rattle.wit_sides.specs.Sides.{defined_on}
-use Rattle.wit_rules.specs.Borrowed.{function_view}
+use Rattle.wit_sides.specs.SideNames.{defined_on}
+use Rattle.wit_rules.specs.BorrowedFunctions.{function_view}
 use Rattle.wit_rules.specs.Signatures.{AreResults, HaveOwners}
 use Rattle.wit_signatures.specs.ForeignName.{IsTwiceAmong, name_key, name_of_function, name_of_id}
 use Rattle.wit_externs.specs.Clash.{all_on, names_of_items}
 use Rattle.wit_externs.specs.SideMembers.{externs_view}
-use Rattle.wit_scopes.specs.Borrowed.{name_view}
-use Rattle.wit_items.specs.Items.{item_view}
-use Rattle.wit_items.specs.Interfaces.{resolved_scopes_of}
+use Rattle.wit_scopes.specs.BorrowedNames.{name_view}
+use Rattle.wit_items.specs.BorrowedItems.{item_view}
+use Rattle.wit_items.specs.ResolvedInterfaces.{resolved_scopes_of}
 use Rattle.wit_item_entries.proofs.FunctionFaults.{all_names, prefix_folded, used_before}
 use Rattle.wit_uses.proofs.ItemSides.{HasMembers, borrowed_functions}
 use Rattle.wit_item_entries.proofs.NoFunctions.{names_alone}

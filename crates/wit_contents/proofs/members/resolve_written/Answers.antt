@@ -8,11 +8,11 @@ use Rattle.wit_syntax.specs.Sides.{IsBrokenSides}
 use Rattle.wit_syntax.specs.Source.{Item, is_world, scope_names, about}
 use Rattle.wit_syntax.proofs.Inline.{inlined}
 use Rattle.wit_syntax.proofs.Refusing.{refused_weaker}
-use Rattle.wit_arena.specs.Resolved.{IsNameless, IsWrongInterface}
-use Rattle.wit_scopes.specs.Borrowed.{name_view}
-use Rattle.wit_items.specs.Items.{item_view, scope_item}
-use Rattle.wit_item_names.specs.Interfaces.{prefix_of}
-use Rattle.wit_items.specs.Interfaces.{resolved_scopes_of}
+use Rattle.wit_arena.specs.ResolvedArenas.{IsNameless, IsWrongInterface}
+use Rattle.wit_scopes.specs.BorrowedNames.{name_view}
+use Rattle.wit_items.specs.BorrowedItems.{item_view, scope_item}
+use Rattle.wit_item_names.specs.ForeignAddresses.{prefix_of}
+use Rattle.wit_items.specs.ResolvedInterfaces.{resolved_scopes_of}
 use Rattle.wit_contents.specs.Members.{AddsInside}
 use Rattle.wit_links.proofs.Inlined.{head_same}
 use Rattle.wit_contents.proofs.members.resolve_written.Goals as goal

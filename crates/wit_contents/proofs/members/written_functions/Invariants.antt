@@ -1,7 +1,7 @@
 use Rattle.std.proofs.Common.{◌≡◌, map, take}
 use Rattle.std.specs.List.{flat_map}
 use Rattle.wit_syntax.specs.Sides.{item_function}
-use Rattle.wit_rules.specs.Borrowed.{function_view}
+use Rattle.wit_rules.specs.BorrowedFunctions.{function_view}
 use Rattle.wit_externs.specs.SideMembers.{externs_view}
 use Rattle.wit_contents.proofs.members.written_functions.Given as goal
 

@@ -2,7 +2,7 @@ use Rattle.std.proofs.Common.{◌++◌, ◌∷◌, [], List, length, refl, ap, �
 use Rattle.wit_arena.proofs.Indexing.{index_world}
 use Rattle.wit_arena.specs.Resolving.{Required}
 use Rattle.wit_contents.specs.declared.world.WorldParts.{WorldParts}
-use Rattle.wit_items.specs.Items.{others_of}
+use Rattle.wit_items.specs.BorrowedItems.{others_of}
 use Rattle.wit_links.proofs.WorldsFound.{found_put, found_wider, prefix_wider}
 use Rattle.wit_contents.proofs.world.add_world.Goals as goal
 

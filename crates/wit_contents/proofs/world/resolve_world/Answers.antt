@@ -4,9 +4,9 @@ use Rattle.std.proofs.lemmas.Result.{err_from_is_err_and}
 use Rattle.wit_type_tree.specs.declared.leaves.Id.{Id}
 use Rattle.wit_model.specs.declared.interface.Interface.{Interface}
 use Rattle.wit_syntax.specs.Address.{WorldNamed}
-use Rattle.wit_items.specs.Items.{item_view, others_of}
+use Rattle.wit_items.specs.BorrowedItems.{item_view, others_of}
 use Rattle.wit_items.specs.SourceItems.{metadata_view}
-use Rattle.wit_item_names.specs.Interfaces.{prefix_of}
+use Rattle.wit_item_names.specs.ForeignAddresses.{prefix_of}
 use Rattle.wit_contents.specs.BetweenWorlds.{IsAddedWorld}
 use Rattle.wit_contents.proofs.Parts.{world_adds}
 use Rattle.wit_contents.proofs.world.resolve_world.Goals as goal

@@ -5,19 +5,19 @@ use Rattle.std.proofs.lemmas.List.{take_all}
 use Rattle.std.proofs.lemmas.Option.{slice_get-get_or}
 use Rattle.std.proofs.lemmas.Result.{err_from_is_err_and}
 use Rattle.wit_items.specs.declared.items.Item.{Item as BorrowedItem}
-use Rattle.wit_item_names.specs.Interfaces.{prefix_of}
-use Rattle.wit_items.specs.Interfaces.{resolved_scopes_of}
+use Rattle.wit_item_names.specs.ForeignAddresses.{prefix_of}
+use Rattle.wit_items.specs.ResolvedInterfaces.{resolved_scopes_of}
 use Rattle.wit_syntax.specs.Source.{is_world, about}
-use Rattle.wit_syntax.specs.Scope.{in_order, worlds_of}
+use Rattle.wit_syntax.specs.ScopeTables.{in_order, worlds_of}
 use Rattle.wit_syntax.specs.Sides.{with_inline}
-use Rattle.wit_arena.specs.Resolved.{IsWrongWorld, IsWrongWorldNow}
+use Rattle.wit_arena.specs.ResolvedArenas.{IsWrongWorld, IsWrongWorldNow}
 use Rattle.wit_types.specs.declared.types.TypeOwner.TheVariants.{World as OfWorld}
 use Rattle.wit_syntax.proofs.Lists.{read_map}
 use Rattle.wit_syntax.proofs.Kept.{kept_next, kept_past}
 use Rattle.wit_syntax.proofs.Refusing.{refused_weaker}
 use Rattle.wit_uses.proofs.Telling.{stability_more}
 use Rattle.wit_items.specs.declared.items.Declared.{Declared as BorrowedDeclared}
-use Rattle.wit_items.specs.Items.{declared_view, item_view, others_of}
+use Rattle.wit_items.specs.BorrowedItems.{declared_view, item_view, others_of}
 use Rattle.wit_links.proofs.WorldsFound.{found_none}
 use Rattle.wit_contents.specs.BetweenWorlds.{arenas}
 use Rattle.wit_contents.proofs.Linking.{links_more}

@@ -1,11 +1,11 @@
 use Rattle.std.proofs.Common.{◌≡◌, map, take}
 use Rattle.std.specs.List.{flat_map}
-use Rattle.wit_syntax.specs.Scope.{in_order, worlds_of}
+use Rattle.wit_syntax.specs.ScopeTables.{in_order, worlds_of}
 use Rattle.wit_syntax.specs.Sides.{with_inline}
 use Rattle.wit_arena.specs.Resolving.{IsWorldIndex}
-use Rattle.wit_arena.specs.Resolved.{worlds_at, AreLegalSides, AreSoundScopes, AreUsableLinks, HaveLegalStability}
-use Rattle.wit_item_names.specs.Interfaces.{prefix_of}
-use Rattle.wit_items.specs.Items.{item_view, others_of}
+use Rattle.wit_arena.specs.ResolvedArenas.{worlds_at, AreLegalSides, AreSoundScopes, AreUsableLinks, HaveLegalStability}
+use Rattle.wit_item_names.specs.ForeignAddresses.{prefix_of}
+use Rattle.wit_items.specs.BorrowedItems.{item_view, others_of}
 use Rattle.wit_contents.proofs.WorldsMore.{AreWorldsTo}
 use Rattle.wit_contents.proofs.world.resolve_worlds.Given as goal
 

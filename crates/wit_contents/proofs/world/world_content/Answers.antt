@@ -4,26 +4,26 @@ use Rattle.wit_type_tree.specs.declared.leaves.Id.{Id}
 use Rattle.wit_types.specs.declared.types.TypeOwner.TheVariants.{World as OfWorld}
 use Rattle.wit_syntax.specs.Function.{functions}
 use Rattle.wit_syntax.specs.Repeats.{AllDiffer}
-use Rattle.wit_syntax.specs.Scope.{includes as written_includes}
+use Rattle.wit_syntax.specs.ScopeTables.{includes as written_includes}
 use Rattle.wit_syntax.specs.Sides.{inline_items, side_items}
 use Rattle.wit_syntax.specs.Source.{scope_names}
 use Rattle.wit_syntax.proofs.Refusing.{refused_weaker}
-use Rattle.wit_arena.specs.Resolved.{IsBrokenItemStability, IsWrongWorld, WrongWorldStability, LostInclude, interfaces_at}
+use Rattle.wit_arena.specs.ResolvedArenas.{IsBrokenItemStability, IsWrongWorld, WrongWorldStability, LostInclude, interfaces_at}
 use Rattle.wit_arena.specs.Resolving.{IsLostInclude, names_in}
 use Rattle.wit_externs.specs.Clash.{DifferOnSides}
 use Rattle.wit_externs.specs.SideMembers.{externs_view}
 use Rattle.wit_files.specs.FileNames.{names_at_top}
-use Rattle.wit_items.specs.Items.{item_view, others_of}
+use Rattle.wit_items.specs.BorrowedItems.{item_view, others_of}
 use Rattle.wit_items.proofs.Usable.{filed_item}
-use Rattle.wit_item_names.specs.Interfaces.{prefix_of}
-use Rattle.wit_items.specs.Interfaces.{resolved_scopes_of}
+use Rattle.wit_item_names.specs.ForeignAddresses.{prefix_of}
+use Rattle.wit_items.specs.ResolvedInterfaces.{resolved_scopes_of}
 use Rattle.wit_uses.specs.NameOrder.{IsTurn}
 use Rattle.wit_uses.proofs.ItemSides.{HasMembers, sides_legal}
 use Rattle.wit_item_entries.proofs.ScopeFunctions.{scope_sound, turn_added}
 use Rattle.wit_item_entries.proofs.WrongNames.{wrong_names, wrong_world}
 use Rattle.wit_item_entries.specs.AddedNames.{IsWrongNames}
 use Rattle.wit_scopes.specs.PlacedNames.{AreNamesPlaced}
-use Rattle.wit_scopes.specs.Borrowed.{name_view}
+use Rattle.wit_scopes.specs.BorrowedNames.{name_view}
 use Rattle.wit_world_sides.specs.Links.{ArePathTargets}
 use Rattle.wit_contents.specs.Members.{IsWrongMembers}
 use Rattle.wit_links.proofs.Leading.{addresses_count, links_placed, links_within}

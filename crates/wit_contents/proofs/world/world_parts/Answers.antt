@@ -4,11 +4,11 @@ use Rattle.wit_types.specs.declared.types.TypeOwner.TheVariants.{World as OfWorl
 use Rattle.wit_syntax.specs.Source.{about}
 use Rattle.wit_syntax.proofs.Refusing.{refused_weaker}
 use Rattle.wit_first.proofs.Bridge.{refused_by, stability_agrees}
-use Rattle.wit_arena.specs.Resolved.{IsWrongWorld}
-use Rattle.wit_items.specs.Items.{item_view}
+use Rattle.wit_arena.specs.ResolvedArenas.{IsWrongWorld}
+use Rattle.wit_items.specs.BorrowedItems.{item_view}
 use Rattle.wit_item_entries.specs.Body.{WrongMetadata}
 use Rattle.wit_syntax.specs.Metadata.{IsBrokenStability}
-use Rattle.wit_items.specs.Interfaces.{resolved_scopes_of}
+use Rattle.wit_items.specs.ResolvedInterfaces.{resolved_scopes_of}
 use Rattle.wit_item_entries.proofs.WrongNames.{wrong_world}
 use Rattle.wit_contents.proofs.Parts.{world_stable}
 use Rattle.wit_contents.proofs.world.world_parts.Goals as goal

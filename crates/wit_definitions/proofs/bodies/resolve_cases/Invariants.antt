@@ -1,11 +1,11 @@
 use Rattle.std.proofs.Common.{◌≡◌, None, is_some, map, take}
-use Rattle.wit_type_tree.specs.Parts.{case_types}
+use Rattle.wit_type_tree.specs.TypeParts.{case_types}
 use Rattle.wit_type_tree.specs.declared.types.Case.{Case as WrittenCase}
 use Rattle.wit_arena.specs.Kind.{case_member, payloads}
 use Rattle.wit_syntax.specs.Shape.{member, all_handles}
 use Rattle.wit_arena.specs.Resolving.{env_of}
-use Rattle.wit_entries.specs.Faults.{types_fault}
-use Rattle.wit_entries.specs.Reading.{AreTypes}
+use Rattle.wit_entries.specs.EntryFaults.{types_fault}
+use Rattle.wit_entries.specs.ResolvedForms.{AreTypes}
 use Rattle.wit_entries.specs.Requiring.{IsExtended, Requires}
 use Rattle.wit_definitions.proofs.bodies.resolve_cases.Given as goal
 

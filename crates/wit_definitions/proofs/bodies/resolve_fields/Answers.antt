@@ -5,13 +5,13 @@ use Rattle.std.proofs.lemmas.List.{map-append, take_more, take_all, take-map}
 use Rattle.std.proofs.lemmas.Option.{slice_get-map, slice_get-get_or}
 use Rattle.std.proofs.lemmas.Result.{err_from_is_err_and}
 use Rattle.wit_type_tree.specs.declared.types.Field.{Field as WrittenField}
-use Rattle.wit_type_tree.specs.Parts.{field_types}
+use Rattle.wit_type_tree.specs.TypeParts.{field_types}
 use Rattle.wit_types.specs.declared.types.Field.{Field}
 use Rattle.wit_arena.specs.Kind.{field_member}
 use Rattle.wit_syntax.specs.Shape.{member}
 use Rattle.wit_arena.specs.Resolving.{env_of}
 use Rattle.wit_first.proofs.First.{in-more, reports-in}
-use Rattle.wit_entries.specs.Faults.{types_fault, written_fault}
+use Rattle.wit_entries.specs.EntryFaults.{types_fault, written_fault}
 use Rattle.wit_entries.proofs.Faults.{types_extended}
 use Rattle.wit_entries.proofs.Reading.{types_one, types_then}
 use Rattle.wit_entries.proofs.Requiring.{extended_then, requires_types, requires_one}

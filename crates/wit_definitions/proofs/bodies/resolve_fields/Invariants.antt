@@ -1,11 +1,11 @@
 use Rattle.std.proofs.Common.{◌≡◌, None, map, take}
-use Rattle.wit_type_tree.specs.Parts.{field_types}
+use Rattle.wit_type_tree.specs.TypeParts.{field_types}
 use Rattle.wit_type_tree.specs.declared.types.Field.{Field as WrittenField}
 use Rattle.wit_arena.specs.Kind.{field_member}
 use Rattle.wit_syntax.specs.Shape.{member, all_handles}
 use Rattle.wit_arena.specs.Resolving.{env_of}
-use Rattle.wit_entries.specs.Faults.{types_fault}
-use Rattle.wit_entries.specs.Reading.{AreTypes}
+use Rattle.wit_entries.specs.EntryFaults.{types_fault}
+use Rattle.wit_entries.specs.ResolvedForms.{AreTypes}
 use Rattle.wit_entries.specs.Requiring.{IsExtended, Requires}
 use Rattle.wit_definitions.proofs.bodies.resolve_fields.Given as goal
 

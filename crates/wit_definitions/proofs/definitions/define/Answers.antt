@@ -1,6 +1,6 @@
 use Rattle.std.proofs.Common.{◌≡◌, List, None, subst}
 use Rattle.wit_type_tree.specs.declared.leaves.Attribute.{Attribute}
-use Rattle.wit_type_tree.specs.Parts.{body_types}
+use Rattle.wit_type_tree.specs.TypeParts.{body_types}
 use Rattle.wit_syntax.specs.Shape.{all_handles}
 use Rattle.wit_first.specs.AttributeFaults.{metadata_fault}
 use Rattle.wit_first.proofs.First.{none_both}

@@ -4,13 +4,13 @@ use Rattle.std.proofs.lemmas.List.{take_more, take_all}
 use Rattle.std.proofs.lemmas.Option.{slice_get-get_or}
 use Rattle.std.proofs.lemmas.Result.{err_from_is_err_and}
 use Rattle.wit_type_tree.specs.declared.types.«Type».TheVariants as written
-use Rattle.wit_type_tree.specs.Parts.{result_types, boxed_types}
+use Rattle.wit_type_tree.specs.TypeParts.{result_types, boxed_types}
 use Rattle.wit_type_tree.proofs.Rows.{tuple_types, types_of_borrowed}
 use Rattle.wit_arena.specs.Resolving.{env_of}
 use Rattle.wit_syntax.specs.Shape.{shape_of, handles}
 use Rattle.wit_first.specs.KeyFaults.{key_fault}
 use Rattle.wit_first.proofs.First.{in-all, in-next, none_both, reports-in, reports_back, reports_prefix, reports_same}
-use Rattle.wit_entries.specs.Faults.{types_fault, written_fault}
+use Rattle.wit_entries.specs.EntryFaults.{types_fault, written_fault}
 use Rattle.wit_entries.proofs.Faults.{tuple_first, types_extended, written_extended}
 use Rattle.wit_entries.proofs.Reading.{resolved_word, read_present, types_one, types_then}
 use Rattle.wit_entries.proofs.Requiring.{extended_then, requires_none, requires_extended, requires_types, requires_one, requires_boxed, requires_parts, requires_only}

@@ -1,8 +1,8 @@
 use Rattle.std.proofs.Common.{◌≡◌, None, take}
 use Rattle.wit_arena.specs.Resolving.{env_of}
 use Rattle.wit_syntax.specs.Shape.{all_handles}
-use Rattle.wit_entries.specs.Faults.{types_fault}
-use Rattle.wit_entries.specs.Reading.{AreTypes}
+use Rattle.wit_entries.specs.EntryFaults.{types_fault}
+use Rattle.wit_entries.specs.ResolvedForms.{AreTypes}
 use Rattle.wit_entries.specs.Requiring.{IsExtended, Requires}
 use Rattle.wit_entries.proofs.types.+types.Given as goal
 

@@ -7,8 +7,8 @@ use Rattle.wit_syntax.specs.Fault.{Fault}
 use Rattle.wit_syntax.specs.Sides.{role_side, SideFunction}
 use Rattle.wit_syntax.proofs.Refusing.{refused_weaker}
 use Rattle.wit_refusals.specs.NameScopes.{Name, IsDefinedAgain}
-use Rattle.wit_sides.specs.Sides.{defined_on}
-use Rattle.wit_rules.specs.Borrowed.{function_view}
+use Rattle.wit_sides.specs.SideNames.{defined_on}
+use Rattle.wit_rules.specs.BorrowedFunctions.{function_view}
 use Rattle.wit_externs.specs.Clash.{item_names, IsClash, IsCrossed}
 use Rattle.wit_externs.proofs.Clashing.{side_imported, side_across, item_defined, name_differs, clash_again, clash_crossed}
 use Rattle.wit_externs.proofs.defining.define_function.Goals as goal

@@ -5,7 +5,7 @@ use Rattle.wit_tree.specs.declared.tree.WorldSide.{WorldSide}
 use Rattle.wit_tree.specs.declared.tree.WorldSide.TheVariants.{Imported, Exported}
 use Rattle.wit_syntax.specs.Fault.{Fault}
 use Rattle.wit_syntax.specs.Sides.{item_function, on_side}
-use Rattle.wit_syntax.specs.Signature.{IsUnpairedSetter}
+use Rattle.wit_syntax.specs.SignatureRules.{IsUnpairedSetter}
 use Rattle.wit_syntax.proofs.Refusing.{refused_weaker}
 use Rattle.wit_refusals.specs.NameScopes.{Name, IsFirstLoneSetter, IsLoneSetter}
 use Rattle.wit_externs.specs.Clash.{all_on}

@@ -4,7 +4,7 @@ use Rattle.std.proofs.lemmas.Result.{err_from_is_err_and}
 use Rattle.wit_type_tree.specs.declared.leaves.Id.{Id}
 use Rattle.wit_tree.specs.declared.tree.WorldSide.TheVariants.{Imported}
 use Rattle.wit_syntax.proofs.Refusing.{refused_weaker}
-use Rattle.wit_sides.specs.Sides.{defined_on}
+use Rattle.wit_sides.specs.SideNames.{defined_on}
 use Rattle.wit_refusals.specs.NameScopes.{Name, IsDefinedAgain}
 use Rattle.wit_signatures.specs.ForeignName.{name_of_id, IsTwiceAmong}
 use Rattle.wit_externs.proofs.Clashing.{sides_differ, types_more}

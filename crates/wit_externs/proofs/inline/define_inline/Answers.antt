@@ -8,7 +8,7 @@ use Rattle.wit_syntax.specs.Sides.{SideItem}
 use Rattle.wit_syntax.proofs.Refusing.{refused_weaker}
 use Rattle.wit_first.proofs.Bridge.{metadata_agree, refused_by}
 use Rattle.wit_refusals.specs.NameScopes.{Name, IsDefinedAgain}
-use Rattle.wit_sides.specs.Sides.{defined_on}
+use Rattle.wit_sides.specs.SideNames.{defined_on}
 use Rattle.wit_externs.specs.declared.borrowed.BorrowedExtern.TheVariants.{Inline}
 use Rattle.wit_externs.specs.SideMembers.{extern_view}
 use Rattle.wit_externs.specs.Clash.{IsCrossed}

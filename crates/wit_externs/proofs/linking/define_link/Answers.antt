@@ -8,7 +8,7 @@ use Rattle.wit_syntax.specs.Fault.{Fault}
 use Rattle.wit_syntax.specs.Sides.{SideItem, SideLink}
 use Rattle.wit_syntax.proofs.Refusing.{refused_weaker}
 use Rattle.wit_refusals.specs.NameScopes.{Name, IsDefinedAgain}
-use Rattle.wit_sides.specs.Sides.{defined_on}
+use Rattle.wit_sides.specs.SideNames.{defined_on}
 use Rattle.wit_signatures.specs.ForeignName.{name_of_id}
 use Rattle.wit_externs.specs.declared.borrowed.BorrowedExtern.TheVariants.{Link}
 use Rattle.wit_externs.specs.SideMembers.{link_view}

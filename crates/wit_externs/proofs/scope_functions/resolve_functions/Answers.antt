@@ -7,12 +7,12 @@ use Rattle.wit_tree.specs.declared.tree.WorldSide.{WorldSide}
 use Rattle.wit_refusals.specs.NameScopes.{Name}
 use Rattle.wit_syntax.specs.Fault.{Fault}
 use Rattle.wit_syntax.specs.Sides.{SideItem, SideFunction, items_on}
-use Rattle.wit_syntax.specs.Signature.{IsBrokenFunction}
-use Rattle.wit_arena.specs.Resolved.{IsNameless}
+use Rattle.wit_syntax.specs.SignatureRules.{IsBrokenFunction}
+use Rattle.wit_arena.specs.ResolvedArenas.{IsNameless}
 use Rattle.wit_arena.specs.Resolving.{env_of}
 use Rattle.wit_syntax.proofs.Refusing.{refused_weaker}
-use Rattle.wit_sides.specs.Sides.{defined_on}
-use Rattle.wit_rules.specs.Borrowed.{function_view}
+use Rattle.wit_sides.specs.SideNames.{defined_on}
+use Rattle.wit_rules.specs.BorrowedFunctions.{function_view}
 use Rattle.wit_rules.specs.Signatures.{functions_view, IsWrongFunctionAmong}
 use Rattle.wit_first.proofs.First.{refused_as}
 use Rattle.wit_entries.proofs.Requiring.{extended_then}

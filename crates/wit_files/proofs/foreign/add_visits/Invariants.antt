@@ -1,7 +1,7 @@
 use Rattle.std.proofs.Common.{◌≡◌, ◌++◌, map, take}
 use Rattle.std.specs.List.{flat_map}
 use Rattle.wit_files.specs.Visits.{visit_view}
-use Rattle.wit_files.specs.Foreign.{foreign_view}
+use Rattle.wit_files.specs.ForeignPaths.{foreign_view}
 use Rattle.wit_files.proofs.Others.{foreign_of}
 use Rattle.wit_files.proofs.foreign.add_visits.Given as goal
 

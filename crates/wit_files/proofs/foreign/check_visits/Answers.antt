@@ -6,7 +6,7 @@ use Rattle.wit_syntax.specs.Fault.{Fault}
 use Rattle.wit_syntax.specs.Foreign.{ForeignVisit}
 use Rattle.wit_first.specs.AttributeFaults.{stability_fault}
 use Rattle.wit_first.proofs.First.{in-all, in-map, in-next, reports-in, reports_same}
-use Rattle.wit_files.specs.Foreign.{foreign_view}
+use Rattle.wit_files.specs.ForeignPaths.{foreign_view}
 use Rattle.wit_files.specs.declared.foreign.ForeignVisit.{ForeignVisit as Borrowed}
 use Rattle.wit_files.proofs.foreign.check_visits.Goals as goal
 

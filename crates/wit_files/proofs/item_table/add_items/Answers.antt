@@ -10,7 +10,7 @@ use Rattle.wit_graph.specs.Table.{rows}
 use Rattle.wit_syntax.specs.Fault.{Fault}
 use Rattle.wit_syntax.specs.Source.{TopName, Item, TheInterface, TheWorld, top_names, declared_items, item_name}
 use Rattle.wit_syntax.specs.Repeats.{AllDiffer}
-use Rattle.wit_syntax.specs.Scope.{item_row}
+use Rattle.wit_syntax.specs.ScopeTables.{item_row}
 use Rattle.wit_first.specs.FileFaults.{paths_fault}
 use Rattle.wit_first.specs.First.{first_in}
 use Rattle.wit_first.proofs.First.{in-all, in-flat, in-next, or_none, reports-in, reports_same}

@@ -7,7 +7,7 @@ use Rattle.wit_type_tree.specs.declared.leaves.Id.{Id}
 use Rattle.wit_tree.specs.declared.tree.WorldItem.{WorldItem}
 use Rattle.wit_syntax.specs.Fault.{Fault}
 use Rattle.wit_syntax.specs.Source.{TopName, Item, world_part}
-use Rattle.wit_syntax.specs.Scope.{include_path}
+use Rattle.wit_syntax.specs.ScopeTables.{include_path}
 use Rattle.wit_first.specs.FileFaults.{unnamed_fault}
 use Rattle.wit_first.specs.First.{first_in}
 use Rattle.wit_first.proofs.First.{in-all, in-next, in-parts, reports-in, reports_same}

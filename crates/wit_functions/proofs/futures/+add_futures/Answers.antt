@@ -1,7 +1,7 @@
 use Rattle.std.proofs.Common.{arith, ap, refl, ◌≡◌, ◌∙◌, ◌++◌, sym, []}
 use Rattle.std.proofs.lemmas.List.{append-nil}
 use Rattle.wit_functions.specs.Futures.{futures, is_awaited, itself}
-use Rattle.wit_types.specs.Types.{places_to, slots}
+use Rattle.wit_types.specs.InnerTypes.{places_to, slots}
 use Rattle.std.proofs.lemmas.Option.{slice_get_within}
 use Rattle.wit_functions.proofs.Walk.{flat_map_one_more, futures_whole, slot_below}
 use Rattle.wit_functions.proofs.futures.+add_futures.Goals as goal

@@ -1,7 +1,7 @@
 use Rattle.std.proofs.Common.{◌≡◌, ◌≤◌, ◌++◌, ℕ, suc, take}
 use Rattle.std.specs.List.{flat_map}
 use Rattle.wit_functions.specs.Futures.{futures}
-use Rattle.wit_types.specs.Types.{rank, slots}
+use Rattle.wit_types.specs.InnerTypes.{rank, slots}
 use Rattle.wit_functions.proofs.futures.+add_futures.Given as goal
 
 abbrev pub decreases-add_futures : goal.decreases-add_futures

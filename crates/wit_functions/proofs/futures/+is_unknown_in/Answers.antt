@@ -1,7 +1,7 @@
 use Rattle.std.proofs.Common.{arith, ap, ◌≡◌, ◌||◌, ◌∙◌, sym, false}
 use Rattle.std.specs.List.{list_any}
 use Rattle.wit_functions.specs.Futures.{has_unknown, is_unknown}
-use Rattle.wit_types.specs.Types.{places_to, slots}
+use Rattle.wit_types.specs.InnerTypes.{places_to, slots}
 use Rattle.std.proofs.lemmas.Option.{slice_get_within}
 use Rattle.wit_functions.proofs.Walk.{list_any-found, list_any_one_more, slot_below, unknown_found, unknown_missing}
 use Rattle.wit_functions.proofs.futures.+is_unknown_in.Goals as goal

@@ -1,7 +1,7 @@
 use Rattle.std.proofs.Common.{◌≡◌, ◌≤◌, ℕ, suc, false, take}
 use Rattle.std.specs.List.{list_any}
 use Rattle.wit_functions.specs.Futures.{has_unknown}
-use Rattle.wit_types.specs.Types.{rank, slots}
+use Rattle.wit_types.specs.InnerTypes.{rank, slots}
 use Rattle.wit_functions.proofs.futures.+is_unknown_in.Given as goal
 
 abbrev pub decreases-is_unknown_in : goal.decreases-is_unknown_in

@@ -1,4 +1,4 @@
-use Rattle.wit_functions.specs.Setters.{placed}
+use Rattle.wit_functions.specs.SettersPlaced.{placed}
 use Rattle.wit_functions.proofs.setters.place_setters_after_getters.Goals as goal
 
 pub returns-clause-placed : goal.returns-clause-placed

@@ -1,7 +1,7 @@
 use Rattle.std.proofs.Common.{◌≡◌, ℕ, Option, map, take}
 use Rattle.std.specs.List.{enumerate_from}
 use Rattle.std.specs.Option.{option_copied}
-use Rattle.wit_functions.specs.Setters.{Computes}
+use Rattle.wit_functions.specs.SettersPlaced.{Computes}
 use Rattle.wit_functions.specs.declared.function.Function.{Function}
 use Rattle.wit_functions.proofs.setters.stated_places.Given as goal
 

@@ -3,10 +3,10 @@ use Rattle.wit_syntax.specs.Metadata.{IsBrokenStability}
 use Rattle.wit_syntax.specs.Source.{scope_names, about}
 use Rattle.wit_syntax.proofs.Refusing.{refused_weaker}
 use Rattle.wit_first.proofs.Bridge.{refused_by, stability_agrees}
-use Rattle.wit_items.specs.Items.{scope_item}
+use Rattle.wit_items.specs.BorrowedItems.{scope_item}
 use Rattle.wit_item_entries.specs.AddedNames.{IsWrongNames}
 use Rattle.wit_item_entries.specs.Body.{IsWrongBody, WrongMetadata}
-use Rattle.wit_items.specs.Interfaces.{resolved_scopes_of}
+use Rattle.wit_items.specs.ResolvedInterfaces.{resolved_scopes_of}
 use Rattle.wit_item_entries.proofs.WrongNames.{wrong_names}
 use Rattle.wit_item_entries.proofs.body.resolve_head.Goals as goal
 

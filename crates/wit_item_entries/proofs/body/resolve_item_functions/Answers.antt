@@ -6,13 +6,13 @@ use Rattle.wit_syntax.specs.Sides.{SideFunction, side_items}
 use Rattle.wit_syntax.proofs.Refusing.{refused_weaker}
 use Rattle.wit_syntax.proofs.Sides.{side_items_functions}
 use Rattle.wit_arena.specs.Resolving.{env_of}
-use Rattle.wit_rules.specs.Borrowed.{function_view}
+use Rattle.wit_rules.specs.BorrowedFunctions.{function_view}
 use Rattle.wit_rules.specs.Signatures.{HaveOwners}
 use Rattle.wit_signatures.specs.ForeignName.{name_of_function}
 use Rattle.wit_externs.specs.Clash.{DifferOnSides}
-use Rattle.wit_items.specs.Items.{declared_view}
+use Rattle.wit_items.specs.BorrowedItems.{declared_view}
 use Rattle.wit_uses.specs.NameOrder.{IsTurn}
-use Rattle.wit_item_entries.specs.FunctionFaults.{IsWrongFunctions}
+use Rattle.wit_item_entries.specs.ScopeFunctionFaults.{IsWrongFunctions}
 use Rattle.wit_item_entries.specs.Body.{IsWrongBody}
 use Rattle.wit_item_entries.proofs.InterfaceSides.{declared_functions, declared_interface, sides_sound}
 use Rattle.wit_item_entries.proofs.Owners.{owners, turn_has}

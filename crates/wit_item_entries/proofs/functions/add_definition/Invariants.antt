@@ -1,6 +1,6 @@
 use Rattle.std.proofs.Common.{◌≡◌, ◌++◌, map, take}
 use Rattle.wit_syntax.specs.Function.{resource_function}
-use Rattle.wit_rules.specs.Borrowed.{function_view}
+use Rattle.wit_rules.specs.BorrowedFunctions.{function_view}
 use Rattle.wit_item_entries.proofs.functions.add_definition.Given as goal
 
 abbrev pub invariant-loop-function : goal.invariant-loop-function

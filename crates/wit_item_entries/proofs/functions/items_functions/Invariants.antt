@@ -2,7 +2,7 @@ use Rattle.std.proofs.Common.{◌≡◌, map, take}
 use Rattle.std.specs.List.{flat_map}
 use Rattle.wit_syntax.specs.Source.{interface_part}
 use Rattle.wit_syntax.specs.Function.{part_functions}
-use Rattle.wit_rules.specs.Borrowed.{function_view}
+use Rattle.wit_rules.specs.BorrowedFunctions.{function_view}
 use Rattle.wit_item_entries.proofs.functions.items_functions.Given as goal
 
 abbrev pub invariant-loop-part : goal.invariant-loop-part

@@ -2,7 +2,7 @@ use Rattle.std.proofs.Common.{rules, ◌≡◌, ◌++◌, ◌∷◌, [], ap, ◌
 use Rattle.std.specs.Prelude.{map}
 use Rattle.std.specs.Vec.Iter.{into_iter_items}
 use Rattle.std.proofs.lemmas.List.{append-nil, nil_from_length}
-use Rattle.wit_functions.specs.Setters.{is_getter_of, setters_placed}
+use Rattle.wit_functions.specs.SettersPlaced.{is_getter_of, setters_placed}
 use Rattle.wit_arena.specs.SourceFunctions.{by_name}
 use Rattle.wit_syntax.specs.Repeats.{AllDiffer}
 use Rattle.wit_arena.proofs.FunctionNames.{made_name}

@@ -1,6 +1,6 @@
 use Rattle.std.proofs.Common.{◌≡◌, ◌++◌, map}
 use Rattle.std.specs.Vec.Iter.{into_iter_items}
-use Rattle.wit_functions.specs.Setters.{is_getter_of, setters_placed}
+use Rattle.wit_functions.specs.SettersPlaced.{is_getter_of, setters_placed}
 use Rattle.wit_arena.specs.SourceFunctions.{by_name}
 use Rattle.wit_item_entries.proofs.functions.placed_table.Given as goal
 

@@ -5,9 +5,9 @@ use Rattle.std.proofs.lemmas.List.{map-append, take-map}
 use Rattle.std.proofs.lemmas.Option.{slice_get_read, slice_get-map}
 use Rattle.wit_syntax.specs.Source.{Defined, local_name, meaning}
 use Rattle.wit_syntax.proofs.Orders.{take_next}
-use Rattle.wit_syntax.specs.Signature.{body_ok, meant_ok}
+use Rattle.wit_syntax.specs.SignatureRules.{body_ok, meant_ok}
 use Rattle.wit_rules.specs.Signatures.{stated_ok}
-use Rattle.wit_scopes.specs.Borrowed.{name_view}
+use Rattle.wit_scopes.specs.BorrowedNames.{name_view}
 use Rattle.wit_item_entries.proofs.Results.{unmeant_before, results_same, results_more}
 use Rattle.wit_item_entries.proofs.functions.written_results.Goals.{in-Defined+in-Some+in_ok-from_str+in_ok-put, in-Defined+in_default-written_result, in_default}
 use Rattle.wit_item_entries.proofs.functions.written_results.Goals as goal

@@ -15,7 +15,7 @@ use Rattle.wit_syntax.proofs.Found.{contains_at}
 use Rattle.wit_first.proofs.First.{refused_as}
 use Rattle.wit_entries.proofs.Faults.{definition_broken, definition_legal, definition_noted}
 use Rattle.wit_entries.proofs.Requiring.{extended_then}
-use Rattle.wit_scopes.specs.Borrowed.{definition_view}
+use Rattle.wit_scopes.specs.BorrowedNames.{definition_view}
 use Rattle.wit_scopes.specs.DefinitionOrder.{IsBrokenAmong}
 use Rattle.wit_item_entries.specs.AddedNames.{IsWrongHandleIn}
 use Rattle.wit_scopes.proofs.Turning.{none_unknown}

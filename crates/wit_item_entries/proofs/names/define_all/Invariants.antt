@@ -5,9 +5,9 @@ use Rattle.wit_syntax.specs.Source.{ScopeName}
 use Rattle.wit_syntax.specs.Shape.{all_handles}
 use Rattle.wit_syntax.specs.Function.{name_types}
 use Rattle.wit_arena.specs.Resolving.{ResolvedScope, env_of, Defines, AreLegalBodies, AreLegalMetadata, HasNames, names_in}
-use Rattle.wit_syntax.specs.Scope.{local_names}
+use Rattle.wit_syntax.specs.ScopeTables.{local_names}
 use Rattle.wit_entries.specs.Requiring.{IsExtended, Requires}
-use Rattle.wit_scopes.specs.Borrowed.{definition_view}
+use Rattle.wit_scopes.specs.BorrowedNames.{definition_view}
 use Rattle.wit_item_entries.proofs.names.define_all.Given as goal
 
 abbrev pub invariant-loop-definition : goal.invariant-loop-definition

@@ -4,7 +4,7 @@ use Rattle.std.proofs.lemmas.List.{map-append}
 use Rattle.std.proofs.lemmas.Result.{err_from_is_err_and}
 use Rattle.wit_type_tree.specs.declared.types.«Type».{«Type» as Written}
 use Rattle.wit_syntax.specs.Address.{Address}
-use Rattle.wit_syntax.specs.Scope.{in_order, used, defined, local_names}
+use Rattle.wit_syntax.specs.ScopeTables.{in_order, used, defined, local_names}
 use Rattle.wit_syntax.specs.Shape.{all_handles}
 use Rattle.wit_syntax.specs.Source.{local_name}
 use Rattle.wit_syntax.specs.Function.{SourceFunction, name_types}
@@ -14,8 +14,8 @@ use Rattle.wit_syntax.proofs.Refusing.{refused_weaker}
 use Rattle.wit_arena.proofs.DefinitionPart.{defines_more}
 use Rattle.wit_entries.specs.Requiring.{Requires}
 use Rattle.wit_entries.proofs.Requiring.{extended_then}
-use Rattle.wit_scopes.specs.Borrowed.{name_view, use_view}
-use Rattle.wit_items.specs.Interfaces.{resolved_scopes_of}
+use Rattle.wit_scopes.specs.BorrowedNames.{name_view, use_view}
+use Rattle.wit_items.specs.ResolvedInterfaces.{resolved_scopes_of}
 use Rattle.wit_item_entries.specs.AddedNames.{DefinesTurn, IsWrongHandleTurn, IsWrongNames, WrongScopeNames, WrongHandleNames}
 use Rattle.wit_item_entries.proofs.FunctionFaults.{turn_texts}
 use Rattle.wit_item_entries.proofs.Handled.{types-in_turn, wrong_handle_turn}

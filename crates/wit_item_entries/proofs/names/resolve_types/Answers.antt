@@ -2,7 +2,7 @@ use Rattle.std.proofs.Common.{◌≡◌, ◌⊎◌, ◌++◌, List, map, inl, in
 use Rattle.std.proofs.lemmas.Result.{err_from_is_err_and}
 use Rattle.wit_type_tree.specs.declared.leaves.Id.{Id}
 use Rattle.wit_syntax.specs.Source.{local_id}
-use Rattle.wit_syntax.specs.Scope.{rows_of, used, defined, AreDistinct}
+use Rattle.wit_syntax.specs.ScopeTables.{rows_of, used, defined, AreDistinct}
 use Rattle.wit_syntax.specs.Function.{SourceFunction}
 use Rattle.wit_syntax.specs.Broken.{IsBrokenScope, MissingType, CyclicType}
 use Rattle.wit_syntax.specs.Fault.{missing_type_at, type_word}
@@ -11,7 +11,7 @@ use Rattle.wit_syntax.proofs.Refusing.{refused_weaker}
 use Rattle.wit_syntax.proofs.Turns.{distinct_names}
 use Rattle.wit_first.proofs.Bridge.{local_names_agree, local_names_differ, refused_by}
 use Rattle.wit_first.proofs.OrderFaults.{order_broken}
-use Rattle.wit_scopes.specs.Borrowed.{name_view, definition_view}
+use Rattle.wit_scopes.specs.BorrowedNames.{name_view, definition_view}
 use Rattle.wit_scopes.specs.DefinitionOrder.{AreOrdered, IsBrokenAmong, IsRepeatedId}
 use Rattle.wit_item_entries.specs.AddedNames.{IsWrongHandleIn, IsWrongHandleTurn}
 use Rattle.wit_scopes.proofs.Turning.{in_their_turn, own_borrowed, broken_twice, broken_definition, differ_names, turn_differs, legal_unfolded}

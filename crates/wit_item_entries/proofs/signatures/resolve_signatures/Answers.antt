@@ -7,16 +7,16 @@ use Rattle.wit_tree.specs.declared.tree.WorldSide.TheVariants.{Imported}
 use Rattle.wit_syntax.specs.Repeats.{AllDiffer}
 use Rattle.wit_syntax.specs.Sides.{SideFunction, items_on, names_on}
 use Rattle.wit_syntax.proofs.Repeated.{differ_none}
-use Rattle.wit_sides.specs.Sides.{defined_on}
+use Rattle.wit_sides.specs.SideNames.{defined_on}
 use Rattle.wit_arena.specs.Resolving.{env_of}
 use Rattle.wit_syntax.proofs.Refusing.{refused_weaker}
 use Rattle.wit_refusals.specs.NameScopes.{Name}
-use Rattle.wit_rules.specs.Borrowed.{function_view}
+use Rattle.wit_rules.specs.BorrowedFunctions.{function_view}
 use Rattle.wit_rules.specs.Signatures.{IsWrongFunctionAmong}
 use Rattle.wit_signatures.specs.ForeignName.{name_key, name_of_id, IsTwiceAmong}
 use Rattle.wit_externs.specs.Clash.{IsClash, all_on, names_of_items}
-use Rattle.wit_item_entries.specs.FunctionFaults.{IsWrongFunctions, BrokenNames}
-use Rattle.wit_scopes.specs.Borrowed.{name_view}
+use Rattle.wit_item_entries.specs.ScopeFunctionFaults.{IsWrongFunctions, BrokenNames}
+use Rattle.wit_scopes.specs.BorrowedNames.{name_view}
 use Rattle.wit_item_entries.proofs.FunctionFaults.{all_names, prefix_folded, used_before, wrong_clash, wrong_functions}
 use Rattle.wit_item_entries.proofs.NoFunctions.{names_alone}
 use Rattle.wit_item_entries.proofs.signatures.resolve_signatures.Goals as goal

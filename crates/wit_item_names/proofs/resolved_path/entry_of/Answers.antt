@@ -1,5 +1,5 @@
 use Rattle.std.proofs.Common.{ap, ◌∙◌}
-use Rattle.wit_item_names.specs.Items.{entry_at}
+use Rattle.wit_item_names.specs.ItemPaths.{entry_at}
 use Rattle.wit_item_names.proofs.resolved_path.entry_of.Goals as goal
 
 pub returns : goal.returns

@@ -4,7 +4,7 @@ use Rattle.wit_syntax.specs.Source.{Foreign, leads, target_scope}
 use Rattle.wit_syntax.specs.Broken.{is_world_at}
 use Rattle.wit_top_names.specs.Tops.{target_view}
 use Rattle.wit_files.specs.FileNames.{top_at}
-use Rattle.wit_item_names.specs.Items.{entry_at, interface_entry}
+use Rattle.wit_item_names.specs.ItemPaths.{entry_at, interface_entry}
 use Rattle.wit_item_names.proofs.Others.{interface_found, interface_missing, wanted_visited}
 use Rattle.wit_item_names.proofs.resolved_path.resolve_path.Goals as goal
 

@@ -19,7 +19,7 @@ use Rattle.wit_files.specs.FileNames.{names_at_top}
 use Rattle.wit_top_names.proofs.Lost.{flat_more}
 use Rattle.wit_scopes.specs.PlacedNames.{AreNamesPlaced}
 use Rattle.wit_scopes.proofs.Declaring.{one_more}
-use Rattle.wit_items.specs.Items.{item_view, names_view}
+use Rattle.wit_items.specs.BorrowedItems.{item_view, names_view}
 use Rattle.wit_item_names.specs.InlineNames.{side_uses}
 use Rattle.wit_items.specs.InlineNames.{inside_view, names_written}
 use Rattle.wit_items.proofs.Placed.{item_placed, none_all, items_more}

@@ -7,7 +7,7 @@ use Rattle.wit_syntax.specs.Foreign.{visited, foreign_interfaces}
 use Rattle.wit_first.specs.First.{first_in}
 use Rattle.wit_first.specs.UseFaults.{item_uses_fault}
 use Rattle.wit_items.specs.PlacedItems.{AreItemsPlaced}
-use Rattle.wit_items.specs.Items.{item_view, names_view, AreFiled}
+use Rattle.wit_items.specs.BorrowedItems.{item_view, names_view, AreFiled}
 use Rattle.wit_items.specs.InlineNames.{inside_view, names_written}
 use Rattle.wit_items.proofs.items.add_items.Given as goal
 

@@ -1,5 +1,5 @@
 use Rattle.std.proofs.Common.{◌≡◌, ◌+◌, ◌-◌, sym, ◌∙◌, arith}
-use Rattle.wit_lex.specs.Versions.{Start, Byte, Dot}
+use Rattle.wit_lex.specs.VersionEnds.{Start, Byte, Dot}
 use Rattle.wit_lex.proofs.version_end.run_end.Goals as goal
 
 pub loop-at-init : goal.loop-at-init

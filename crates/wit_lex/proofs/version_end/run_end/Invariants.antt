@@ -1,5 +1,5 @@
 use Rattle.std.proofs.Common.{◌-◌, ◌≤◌, ◌<◌, get_or}
-use Rattle.wit_lex.specs.Versions.{IsDotted}
+use Rattle.wit_lex.specs.VersionEnds.{IsDotted}
 use Rattle.wit_lex.proofs.version_end.run_end.Given as goal
 
 abbrev pub invariant-loop-at : goal.invariant-loop-at

@@ -1,6 +1,6 @@
 use Rattle.std.proofs.Common.{rules, sym, ◌∙◌}
 use Rattle.std.proofs.lemmas.Result.{IfErr-at_err, err_from_is_err_and}
-use Rattle.wit_lex.specs.Versions.{IsNoNumbers}
+use Rattle.wit_lex.specs.VersionEnds.{IsNoNumbers}
 use Rattle.wit_lex.proofs.VersionLexing.{version_ends, version_missing}
 use Rattle.wit_lex.proofs.version_end.version_end.Goals as goal
 

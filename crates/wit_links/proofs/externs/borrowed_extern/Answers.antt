@@ -6,7 +6,7 @@ use Rattle.wit_syntax.specs.ExternPart.{extern_paths, inline_uses}
 use Rattle.wit_syntax.specs.Sides.{Link}
 use Rattle.wit_syntax.specs.Source.{ExternPart}
 use Rattle.wit_item_names.proofs.Usable.{part_path}
-use Rattle.wit_item_names.specs.Interfaces.{prefix_of}
+use Rattle.wit_item_names.specs.ForeignAddresses.{prefix_of}
 use Rattle.wit_files.specs.FileNames.{top_at}
 use Rattle.wit_links.proofs.Leading.{resolved_link, resolved_one}
 use Rattle.wit_links.proofs.externs.borrowed_extern.Goals as goal

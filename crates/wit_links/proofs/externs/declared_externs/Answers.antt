@@ -1,5 +1,5 @@
 use Rattle.std.proofs.Common.{subst}
-use Rattle.wit_item_names.specs.Items.{HasItem}
+use Rattle.wit_item_names.specs.ItemPaths.{HasItem}
 use Rattle.wit_links.proofs.externs.declared_externs.Goals as goal
 
 pub world_externs-requires : goal.world_externs-requires

@@ -1,6 +1,6 @@
 use Rattle.std.proofs.Common.{inl, sym, ap, ◌∙◌}
 use Rattle.wit_syntax.specs.Address.{is_foreign}
-use Rattle.wit_item_names.specs.Interfaces.{prefix_of}
+use Rattle.wit_item_names.specs.ForeignAddresses.{prefix_of}
 use Rattle.wit_world_sides.specs.Links.{interface_place}
 use Rattle.wit_links.proofs.Leading.{resolved_lost, source_local, source_placed}
 use Rattle.wit_files.specs.FileNames.{top_at}

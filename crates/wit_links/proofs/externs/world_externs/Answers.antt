@@ -10,7 +10,7 @@ use Rattle.wit_syntax.specs.Sides.{SideItem, SideFunction, extern_items, part_it
 use Rattle.wit_syntax.specs.Source.{ExternPart, TheWorld, world_part}
 use Rattle.wit_syntax.proofs.Found.{contains_at}
 use Rattle.wit_item_names.proofs.Usable.{parts_more}
-use Rattle.wit_item_names.specs.Interfaces.{prefix_of}
+use Rattle.wit_item_names.specs.ForeignAddresses.{prefix_of}
 use Rattle.wit_externs.specs.SideMembers.{extern_view, externs_view}
 use Rattle.wit_world_sides.specs.Links.{ArePathTargets}
 use Rattle.wit_links.proofs.Leading.{resolved_kept, resolved_more}

@@ -3,7 +3,7 @@ use Rattle.std.specs.List.{flat_map}
 use Rattle.wit_syntax.specs.Sides.{part_items}
 use Rattle.wit_syntax.specs.Source.{world_part}
 use Rattle.wit_externs.specs.SideMembers.{externs_view}
-use Rattle.wit_item_names.specs.Interfaces.{prefix_of}
+use Rattle.wit_item_names.specs.ForeignAddresses.{prefix_of}
 use Rattle.wit_world_sides.specs.Links.{ArePathTargets}
 use Rattle.wit_files.specs.FileNames.{top_at}
 use Rattle.wit_links.proofs.externs.world_externs.Given as goal

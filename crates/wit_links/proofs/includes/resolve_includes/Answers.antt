@@ -9,10 +9,10 @@ use Rattle.wit_tree.specs.declared.tree.WorldItem.TheVariants as world_item
 use Rattle.wit_syntax.specs.Metadata.{IsBrokenStability}
 use Rattle.wit_syntax.specs.Source.{Item, TheWorld, IncludePart, world_part}
 use Rattle.wit_arena.specs.Resolving.{IsLostInclude}
-use Rattle.wit_arena.specs.Resolved.{worlds_at, IsBrokenItemStability, OfInclude}
+use Rattle.wit_arena.specs.ResolvedArenas.{worlds_at, IsBrokenItemStability, OfInclude}
 use Rattle.wit_syntax.proofs.Refusing.{refused_weaker}
 use Rattle.wit_syntax.proofs.Found.{contains_at}
-use Rattle.wit_items.specs.Items.{others_of}
+use Rattle.wit_items.specs.BorrowedItems.{others_of}
 use Rattle.wit_links.specs.Includes.{IsLost, AreStable}
 use Rattle.wit_links.proofs.IncludePart.{included, AreIncluded, included_none, included_next, no_include, included_past, included_more, includes_are, included_among, lost_among, stable_none, stable_more}
 use Rattle.wit_links.proofs.includes.resolve_includes.Goals.{in-Include+in_ok-include+in_ok-push, in_default}

@@ -1,6 +1,6 @@
 use Rattle.std.proofs.Common.{take}
-use Rattle.wit_arena.specs.Resolved.{worlds_at}
-use Rattle.wit_items.specs.Items.{others_of}
+use Rattle.wit_arena.specs.ResolvedArenas.{worlds_at}
+use Rattle.wit_items.specs.BorrowedItems.{others_of}
 use Rattle.wit_links.specs.Includes.{AreStable}
 use Rattle.wit_links.proofs.IncludePart.{included, AreIncluded}
 use Rattle.wit_files.specs.FileNames.{top_at}

@@ -5,7 +5,7 @@ use Rattle.std.proofs.lemmas.List.{length-map}
 use Rattle.wit_tree.specs.declared.tree.WorldSide.{WorldSide}
 use Rattle.wit_syntax.specs.Source.{ScopeName}
 use Rattle.wit_scopes.specs.PlacedNames.{AreNamesPlaced}
-use Rattle.wit_scopes.specs.Borrowed.{name_view, Borrowed as BorrowedName}
+use Rattle.wit_scopes.specs.BorrowedNames.{name_view, Borrowed as BorrowedName}
 use Rattle.wit_items.specs.InlineNames.{inside_view}
 use Rattle.wit_links.proofs.Inlined.{read_all, read_map}
 use Rattle.wit_links.proofs.inside.names_at.Goals as goal

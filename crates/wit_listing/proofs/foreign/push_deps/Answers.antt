@@ -1,5 +1,5 @@
 use Rattle.std.proofs.Common.{sym}
-use Rattle.wit_listing.specs.Foreign.{dep_lines}
+use Rattle.wit_listing.specs.ForeignLines.{dep_lines}
 use Rattle.wit_listing.proofs.Growing.{joined_more}
 use Rattle.wit_listing.proofs.foreign.push_deps.Goals as goal
 

@@ -1,5 +1,5 @@
 use Rattle.std.proofs.Common.{sym}
-use Rattle.wit_listing.specs.Foreign.{item_line}
+use Rattle.wit_listing.specs.ForeignLines.{item_line}
 use Rattle.wit_listing.proofs.Growing.{joined_more}
 use Rattle.wit_listing.proofs.foreign.push_items.Goals as goal
 

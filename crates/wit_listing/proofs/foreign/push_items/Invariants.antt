@@ -1,7 +1,7 @@
 use Rattle.std.proofs.Common.{take}
 use Rattle.std.specs.List.{flat_map}
 use Rattle.wit_listing.specs.ListingTexts.{Adds}
-use Rattle.wit_listing.specs.Foreign.{item_line}
+use Rattle.wit_listing.specs.ForeignLines.{item_line}
 use Rattle.wit_listing.proofs.foreign.push_items.Given as goal
 
 abbrev pub invariant-loop-place : goal.invariant-loop-place

@@ -1,6 +1,6 @@
 use Rattle.std.proofs.Common.{◌≡◌, ◌≤◌, Some, length, slice_get, sym, ap, ◌∙◌, arith, option_map}
 use Rattle.std.specs.Map.Iter.{deref_pair}
-use Rattle.wit_model.specs.Worlds.{is_name}
+use Rattle.wit_model.specs.ItemsOfWorlds.{is_name}
 use Rattle.wit_model.proofs.Lookups.{lookup-here, lookup-none}
 use Rattle.wit_model.proofs.world.get_name.Goals as goal
 

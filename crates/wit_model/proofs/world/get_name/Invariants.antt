@@ -1,4 +1,4 @@
-use Rattle.wit_model.specs.Worlds.{is_name}
+use Rattle.wit_model.specs.ItemsOfWorlds.{is_name}
 use Rattle.wit_model.proofs.Lookups.{NoneBefore}
 use Rattle.wit_model.proofs.world.get_name.Given as goal
 

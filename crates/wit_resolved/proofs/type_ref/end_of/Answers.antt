@@ -1,5 +1,5 @@
 use Rattle.std.proofs.Common.{◌<◌, sym, arith}
-use Rattle.wit_resolved.specs.Ends.IsAlias.{Here, On}
+use Rattle.wit_resolved.specs.AliasEnds.IsAlias.{Here, On}
 use Rattle.wit_resolved.proofs.Ending.{alias_earlier}
 use Rattle.wit_resolved.proofs.type_ref.end_of.Goals as goal
 

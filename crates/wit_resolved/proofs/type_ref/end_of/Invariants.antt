@@ -1,5 +1,5 @@
 use Rattle.std.proofs.Common.{◌<◌, length}
-use Rattle.wit_resolved.specs.Ends.{IsAlias}
+use Rattle.wit_resolved.specs.AliasEnds.{IsAlias}
 use Rattle.wit_resolved.proofs.type_ref.end_of.Given as goal
 
 abbrev pub invariant-loop-next : goal.invariant-loop-next

@@ -2,7 +2,7 @@ use Rattle.std.proofs.Common.{◌≡◌, ℕ, List, map, take, ap, ◌∙◌, su
 use Rattle.wit_syntax.specs.Bodies.{folded}
 use Rattle.wit_syntax.specs.Function.{SourceParam, all_params}
 use Rattle.wit_syntax.specs.Repeats.{AllDiffer, IsRepeatAt}
-use Rattle.wit_rules.specs.Borrowed.{function_view}
+use Rattle.wit_rules.specs.BorrowedFunctions.{function_view}
 use Rattle.wit_rules.proofs.FunctionRules.{few_differ, keys-named}
 use Rattle.wit_rules.proofs.function_rules.repeated_param.Goals as goal
 

@@ -1,6 +1,6 @@
 use Rattle.std.proofs.Common.{◌≡◌, ◌++◌, map, take}
 use Rattle.wit_syntax.specs.Source.{local_id}
-use Rattle.wit_scopes.specs.Borrowed.{definition_view}
+use Rattle.wit_scopes.specs.BorrowedNames.{definition_view}
 use Rattle.wit_scopes.proofs.distinct.add_definition_ids.Given as goal
 
 abbrev pub invariant-loop-defined : goal.invariant-loop-defined

@@ -1,6 +1,6 @@
 use Rattle.std.proofs.Common.{◌≡◌, map, take}
 use Rattle.wit_syntax.specs.Source.{local_id}
-use Rattle.wit_scopes.specs.Borrowed.{use_view}
+use Rattle.wit_scopes.specs.BorrowedNames.{use_view}
 use Rattle.wit_scopes.proofs.distinct.used_ids.Given as goal
 
 abbrev pub invariant-loop-used : goal.invariant-loop-used

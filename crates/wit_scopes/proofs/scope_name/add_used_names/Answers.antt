@@ -3,7 +3,7 @@ use Rattle.std.proofs.lemmas.List.{map-append}
 use Rattle.std.proofs.lemmas.Option.{slice_get_read}
 use Rattle.wit_syntax.specs.Source.{Used}
 use Rattle.wit_syntax.proofs.Orders.{take_next}
-use Rattle.wit_scopes.specs.Borrowed.{source_view, name_view}
+use Rattle.wit_scopes.specs.BorrowedNames.{source_view, name_view}
 use Rattle.wit_scopes.proofs.Declaring.{one_more}
 use Rattle.wit_scopes.proofs.Placed.{names_more}
 use Rattle.wit_scopes.proofs.scope_name.add_used_names.Goals as goal

@@ -1,6 +1,6 @@
 use Rattle.std.proofs.Common.{◌≡◌, map, take}
-use Rattle.wit_syntax.specs.Scope.{defined}
-use Rattle.wit_scopes.specs.Borrowed.{name_view, definition_view}
+use Rattle.wit_syntax.specs.ScopeTables.{defined}
+use Rattle.wit_scopes.specs.BorrowedNames.{name_view, definition_view}
 use Rattle.wit_scopes.proofs.scope_name.definitions.Given as goal
 
 abbrev pub invariant-loop-name : goal.invariant-loop-name

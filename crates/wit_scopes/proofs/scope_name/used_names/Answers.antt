@@ -3,8 +3,8 @@ use Rattle.std.specs.Prelude.{slice_get}
 use Rattle.std.proofs.lemmas.List.{map-append, append-nil}
 use Rattle.std.proofs.lemmas.Option.{slice_get_read}
 use Rattle.wit_syntax.specs.Source.{ScopeName}
-use Rattle.wit_syntax.specs.Scope.{used}
-use Rattle.wit_scopes.specs.Borrowed.{Borrowed, name_view, use_view}
+use Rattle.wit_syntax.specs.ScopeTables.{used}
+use Rattle.wit_scopes.specs.BorrowedNames.{Borrowed, name_view, use_view}
 use Rattle.wit_scopes.specs.PlacedNames.{IsNamePlaced}
 use Rattle.wit_scopes.proofs.Placed.{uses_none, uses_more}
 use Rattle.wit_scopes.proofs.UsedNames.{used_more}

@@ -1,7 +1,7 @@
 use Rattle.std.proofs.Common.{◌≡◌, List, map, take}
 use Rattle.wit_syntax.specs.Address.{Address}
-use Rattle.wit_syntax.specs.Scope.{used}
-use Rattle.wit_scopes.specs.Borrowed.{name_view, use_view, ArePlaced}
+use Rattle.wit_syntax.specs.ScopeTables.{used}
+use Rattle.wit_scopes.specs.BorrowedNames.{name_view, use_view, ArePlaced}
 use Rattle.wit_scopes.specs.PlacedNames.{AreNamesPlaced}
 use Rattle.wit_scopes.proofs.scope_name.used_names.Given as goal
 

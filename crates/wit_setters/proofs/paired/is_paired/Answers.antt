@@ -1,7 +1,7 @@
 use Rattle.std.proofs.Common.{◌≡◌, ◌-◌, Some, true, sym, ap, ◌∙◌, arith}
 use Rattle.std.specs.Prelude.{slice_get}
 use Rattle.std.proofs.lemmas.Option.{slice_get-get_or}
-use Rattle.wit_functions.specs.Setters.{is_getter_of}
+use Rattle.wit_functions.specs.SettersPlaced.{is_getter_of}
 use Rattle.wit_setters.proofs.paired.is_paired.Goals as goal
 
 pub returns : goal.returns

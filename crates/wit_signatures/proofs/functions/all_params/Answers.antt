@@ -8,7 +8,7 @@ use Rattle.wit_syntax.specs.Function.{SourceParam, written_param}
 use Rattle.wit_first.specs.First.{IsFirstRepeat}
 use Rattle.wit_arena.specs.Resolving.{env_of}
 use Rattle.wit_entries.specs.Requiring.{Requires}
-use Rattle.wit_rules.specs.Borrowed.{function_view}
+use Rattle.wit_rules.specs.BorrowedFunctions.{function_view}
 use Rattle.wit_rules.specs.Signatures.{AreParamsOver}
 use Rattle.wit_signatures.proofs.FunctionParts.{given_few}
 use Rattle.wit_signatures.proofs.functions.all_params.Goals as goal

@@ -6,11 +6,11 @@ use Rattle.wit_syntax.specs.Shape.{all_handles}
 use Rattle.wit_first.specs.AttributeFaults.{metadata_fault}
 use Rattle.wit_first.proofs.First.{none_both, reports_back, reports_prefix, reports_same}
 use Rattle.wit_arena.specs.Resolving.{env_of}
-use Rattle.wit_rules.specs.Borrowed.{function_view}
+use Rattle.wit_rules.specs.BorrowedFunctions.{function_view}
 use Rattle.wit_rules.specs.Signatures.{functions_view}
 use Rattle.wit_entries.specs.Requiring.{Requires}
 use Rattle.wit_entries.proofs.Noted.{noted_as}
-use Rattle.wit_signatures.specs.Faults.{signature_fault, signed_fault}
+use Rattle.wit_signatures.specs.SignatureFaults.{signature_fault, signed_fault}
 use Rattle.wit_signatures.proofs.Mangling.{mangled_view}
 use Rattle.wit_signatures.proofs.WholeFunctions.{borrowed_here, borrowed_at, borrowed_adds}
 use Rattle.wit_signatures.proofs.functions.resolve_function.Goals as goal

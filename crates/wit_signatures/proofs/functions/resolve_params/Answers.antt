@@ -16,7 +16,7 @@ use Rattle.wit_arena.specs.Resolving.{env_of}
 use Rattle.wit_entries.specs.Requiring.{Requires}
 use Rattle.wit_entries.proofs.Requiring.{extended_then, requires_types, requires_one}
 use Rattle.wit_rules.specs.Signatures.{functions_view, AreParamsOver}
-use Rattle.wit_signatures.specs.Faults.{param_fault, params_fault, signed_fault}
+use Rattle.wit_signatures.specs.SignatureFaults.{param_fault, params_fault, signed_fault}
 use Rattle.wit_signatures.proofs.FunctionFaults.{param_repeated, param_unrepeated, params_extended}
 use Rattle.wit_signatures.proofs.FunctionParts.{params_more}
 use Rattle.wit_signatures.proofs.functions.resolve_params.Goals as goal

@@ -8,7 +8,7 @@ use Rattle.wit_first.specs.First.{IsFirstRepeat}
 use Rattle.wit_arena.specs.Resolving.{env_of}
 use Rattle.wit_entries.specs.Requiring.{IsExtended, Requires}
 use Rattle.wit_rules.specs.Signatures.{functions_view, AreParamsOver}
-use Rattle.wit_signatures.specs.Faults.{params_fault, signed_fault}
+use Rattle.wit_signatures.specs.SignatureFaults.{params_fault, signed_fault}
 use Rattle.wit_signatures.proofs.functions.resolve_params.Given as goal
 
 abbrev pub invariant-loop-written : goal.invariant-loop-written

@@ -5,9 +5,9 @@ use Rattle.wit_first.specs.First.{Finds}
 use Rattle.wit_first.specs.FunctionFaults.{gives_fault}
 use Rattle.wit_first.proofs.First.{none_both, reports_back, reports_prefix, reports_same}
 use Rattle.wit_arena.specs.Resolving.{env_of}
-use Rattle.wit_rules.specs.Borrowed.{function_view}
+use Rattle.wit_rules.specs.BorrowedFunctions.{function_view}
 use Rattle.wit_rules.specs.Signatures.{functions_view}
-use Rattle.wit_signatures.specs.Faults.{return_fault, signed_fault}
+use Rattle.wit_signatures.specs.SignatureFaults.{return_fault, signed_fault}
 use Rattle.wit_signatures.proofs.FunctionParts.{result_view}
 use Rattle.wit_signatures.proofs.functions.resolve_result.Goals as goal
 

@@ -4,10 +4,10 @@ use Rattle.std.proofs.lemmas.Result.{err_from_is_err_and}
 use Rattle.wit_syntax.specs.Function.{all_params}
 use Rattle.wit_first.proofs.First.{none_both, reports_back, reports_prefix}
 use Rattle.wit_arena.specs.Resolving.{env_of}
-use Rattle.wit_rules.specs.Borrowed.{function_view}
+use Rattle.wit_rules.specs.BorrowedFunctions.{function_view}
 use Rattle.wit_rules.specs.Signatures.{functions_view, AreParamsOver}
 use Rattle.wit_entries.proofs.Requiring.{requires_types}
-use Rattle.wit_signatures.specs.Faults.{params_fault, return_fault, signed_fault}
+use Rattle.wit_signatures.specs.SignatureFaults.{params_fault, return_fault, signed_fault}
 use Rattle.wit_signatures.proofs.FunctionFaults.{params_extended}
 use Rattle.wit_signatures.proofs.functions.resolve_signature.Goals as goal
 

@@ -3,9 +3,9 @@ use Rattle.wit_values.specs.declared.span.Span.{Span}
 use Rattle.wit_type_tree.specs.declared.error.ParseErrorKind.{ParseErrorKind}
 use Rattle.wit_syntax.specs.Broken.{Refused}
 use Rattle.wit_syntax.specs.Fault.{Fault, as_stated}
-use Rattle.wit_rules.specs.Borrowed.{function_view}
+use Rattle.wit_rules.specs.BorrowedFunctions.{function_view}
 use Rattle.wit_rules.specs.Signatures.{IsLostAt}
-use Rattle.wit_signatures.specs.Faults.{lost_at}
+use Rattle.wit_signatures.specs.SignatureFaults.{lost_at}
 use Rattle.wit_signatures.proofs.Signed.{lost_reports, name_turned, numbered, other_kind, other_turned}
 use Rattle.wit_signatures.proofs.signatures.in_signature.Goals as goal
 

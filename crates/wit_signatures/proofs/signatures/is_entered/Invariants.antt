@@ -1,5 +1,5 @@
 use Rattle.std.proofs.Common.{map}
-use Rattle.wit_rules.specs.Borrowed.{function_view}
+use Rattle.wit_rules.specs.BorrowedFunctions.{function_view}
 use Rattle.wit_signatures.proofs.Lost.{NoneFree}
 use Rattle.wit_signatures.proofs.signatures.is_entered.Given as goal
 

@@ -1,6 +1,6 @@
 use Rattle.wit_arena.specs.Resolving.{env_of}
 use Rattle.wit_rules.specs.Signatures.{functions_view}
-use Rattle.wit_signatures.specs.Faults.{lost_at}
+use Rattle.wit_signatures.specs.SignatureFaults.{lost_at}
 use Rattle.wit_signatures.proofs.Signed.{none_turned}
 use Rattle.wit_signatures.proofs.signatures.resolve_in_signature.Goals as goal
 

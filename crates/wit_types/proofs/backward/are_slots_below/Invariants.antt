@@ -1,5 +1,5 @@
 use Rattle.std.proofs.Common.{◌≡◌, ◌<◌, ◌≤◌, ℕ, Option, Some, slice_get}
-use Rattle.wit_types.specs.Types.{rank, slots}
+use Rattle.wit_types.specs.InnerTypes.{rank, slots}
 use Rattle.wit_types.specs.declared.types.«Type».{«Type» as Ty}
 use Rattle.wit_types.proofs.backward.are_slots_below.Given as goal
 

@@ -1,6 +1,6 @@
 use Rattle.std.proofs.Common.{arith, ◌≡◌, ◌∙◌, ap, Some, slice_get, length, refl}
 use Rattle.std.proofs.lemmas.Option.{slice_get_read, slice_get_within}
-use Rattle.wit_types.specs.Types.{IsBelow}
+use Rattle.wit_types.specs.InnerTypes.{IsBelow}
 use Rattle.wit_types.proofs.Moving.{covers_one_more}
 use Rattle.wit_types.proofs.backward.is_backward.Goals as goal
 

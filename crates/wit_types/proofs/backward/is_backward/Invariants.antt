@@ -1,5 +1,5 @@
 use Rattle.std.proofs.Common.{◌≡◌, ◌<◌, ℕ, Some, slice_get}
-use Rattle.wit_types.specs.Types.{IsBelow}
+use Rattle.wit_types.specs.InnerTypes.{IsBelow}
 use Rattle.wit_types.specs.declared.types.TypeDef.{TypeDef}
 use Rattle.wit_types.proofs.backward.is_backward.Given as goal
 

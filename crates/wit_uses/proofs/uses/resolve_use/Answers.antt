@@ -4,8 +4,8 @@ use Rattle.wit_type_tree.specs.declared.leaves.Id.{Id}
 use Rattle.wit_syntax.proofs.Refusing.{refused_weaker}
 use Rattle.wit_syntax.specs.Address.{InterfaceNamed}
 use Rattle.wit_arena.specs.Resolving.{resolved_scope_at, env_of, IsUnresolved, IsWrongUse, Unresolved, Wrong}
-use Rattle.wit_scopes.specs.Borrowed.{source_view}
-use Rattle.wit_items.specs.Interfaces.{resolved_scopes_of}
+use Rattle.wit_scopes.specs.BorrowedNames.{source_view}
+use Rattle.wit_items.specs.ResolvedInterfaces.{resolved_scopes_of}
 use Rattle.wit_scopes.specs.DefinitionOrder.{IsUnstated}
 use Rattle.wit_scopes.proofs.UsedNames.{unstated_name}
 use Rattle.wit_uses.proofs.uses.resolve_use.Goals as goal

@@ -7,15 +7,15 @@ use Rattle.wit_types.specs.declared.types.TypeOwner.{TypeOwner}
 use Rattle.wit_syntax.specs.Source.{Used}
 use Rattle.wit_syntax.specs.Function.{SourceFunction}
 use Rattle.wit_arena.specs.Resolving.{Defines, IsWrongUse, IsWrongScope}
-use Rattle.wit_syntax.specs.Scope.{local_names}
+use Rattle.wit_syntax.specs.ScopeTables.{local_names}
 use Rattle.wit_syntax.proofs.Lists.{read_map}
 use Rattle.wit_syntax.proofs.Orders.{take_next}
 use Rattle.wit_arena.proofs.DefinitionPart.{defines_used, defines_more}
 use Rattle.wit_syntax.proofs.Refusing.{refused_weaker}
 use Rattle.wit_arena.proofs.UsePart.{listed_has, listed_more}
 use Rattle.wit_entries.proofs.Requiring.{extended_then}
-use Rattle.wit_scopes.specs.Borrowed.{source_view, use_view}
-use Rattle.wit_items.specs.Interfaces.{resolved_scopes_of}
+use Rattle.wit_scopes.specs.BorrowedNames.{source_view, use_view}
+use Rattle.wit_items.specs.ResolvedInterfaces.{resolved_scopes_of}
 use Rattle.wit_scopes.proofs.UsedNames.{wrong_used}
 use Rattle.wit_uses.proofs.uses.resolve_uses.Goals as goal
 

@@ -1,10 +1,10 @@
 use Rattle.std.proofs.Common.{◌≡◌, map, take}
 use Rattle.wit_syntax.specs.Address.{Address}
 use Rattle.wit_arena.specs.Resolving.{Defines}
-use Rattle.wit_syntax.specs.Scope.{local_names}
+use Rattle.wit_syntax.specs.ScopeTables.{local_names}
 use Rattle.wit_entries.specs.Requiring.{IsExtended}
-use Rattle.wit_scopes.specs.Borrowed.{use_view}
-use Rattle.wit_items.specs.Interfaces.{resolved_scopes_of}
+use Rattle.wit_scopes.specs.BorrowedNames.{use_view}
+use Rattle.wit_items.specs.ResolvedInterfaces.{resolved_scopes_of}
 use Rattle.wit_uses.proofs.uses.resolve_uses.Given as goal
 
 abbrev pub invariant-loop-name : goal.invariant-loop-name

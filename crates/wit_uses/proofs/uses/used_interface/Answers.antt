@@ -1,7 +1,7 @@
 use Rattle.std.proofs.Common.{rules, ◌≡◌, Some, None, length, inl, inr, ap, subst}
 use Rattle.wit_arena.specs.Resolving.{env_of}
-use Rattle.wit_scopes.specs.Borrowed.{source_view, IsPlaced}
-use Rattle.wit_item_names.specs.Interfaces.{prefix_of}
+use Rattle.wit_scopes.specs.BorrowedNames.{source_view, IsPlaced}
+use Rattle.wit_item_names.specs.ForeignAddresses.{prefix_of}
 use Rattle.wit_uses.proofs.ResolvedScopes.{named_within, named_found, prefix_within, prefix_found}
 use Rattle.wit_uses.proofs.uses.used_interface.Goals as goal
 

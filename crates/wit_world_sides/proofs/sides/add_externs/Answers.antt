@@ -10,7 +10,7 @@ use Rattle.wit_arena.specs.SourceFunctions.{function_item}
 use Rattle.wit_externs.specs.declared.borrowed.PathTarget.TheVariants as path_target
 use Rattle.wit_externs.specs.declared.borrowed.BorrowedExtern.{BorrowedExtern}
 use Rattle.wit_externs.specs.declared.borrowed.BorrowedExtern.TheVariants as borrowed
-use Rattle.wit_world_sides.specs.Sides.{entries_of, entries_on, inserted_on}
+use Rattle.wit_world_sides.specs.FilledSides.{entries_of, entries_on, inserted_on}
 use Rattle.wit_world_sides.proofs.Entries.{key_of, function_put, inline_put, link_put, link_left}
 use Rattle.wit_world_sides.proofs.sides.add_externs.Goals.{in-Function+in-Some+in_ok-add_function-in-Function, in-Function+in_default, in-Link+in-Interface+in_ok-add_link-in-Link, in-Link+in_default-path_target, in-Inline+in-Some-next+in_ok-add_inline-in-Inline, in-Inline+in_default-next}
 use Rattle.wit_world_sides.proofs.sides.add_externs.Goals as goal

@@ -1,7 +1,7 @@
 use Rattle.std.proofs.Common.{◌≡◌, ◌++◌, drop, length}
 use Rattle.std.specs.Vec.Iter.{into_iter_items, into_iter_len}
 use Rattle.wit_tree.specs.declared.tree.WorldSide.{WorldSide}
-use Rattle.wit_world_sides.specs.Sides.{entries_of, entries_on}
+use Rattle.wit_world_sides.specs.FilledSides.{entries_of, entries_on}
 use Rattle.wit_world_sides.proofs.sides.add_externs.Given as goal
 
 abbrev pub invariant-loop-borrowed : goal.invariant-loop-borrowed

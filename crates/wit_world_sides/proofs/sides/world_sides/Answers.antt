@@ -4,12 +4,12 @@ use Rattle.wit_type_tree.specs.declared.leaves.Id.{Id}
 use Rattle.wit_tree.specs.declared.tree.WorldSide.TheVariants.{Imported, Exported}
 use Rattle.wit_syntax.specs.Repeats.{AllDiffer}
 use Rattle.wit_syntax.specs.Source.{local_id}
-use Rattle.wit_syntax.specs.Scope.{local_names}
+use Rattle.wit_syntax.specs.ScopeTables.{local_names}
 use Rattle.wit_syntax.proofs.Lists.{map_map}
 use Rattle.wit_arena.specs.SideItems.{settled}
 use Rattle.wit_arena.specs.Resolving.{names_in}
 use Rattle.wit_world_sides.specs.Settled.{AreCalled}
-use Rattle.wit_world_sides.specs.Sides.{entries_on}
+use Rattle.wit_world_sides.specs.FilledSides.{entries_on}
 use Rattle.wit_world_sides.proofs.Entries.{Entry, key_of}
 use Rattle.wit_world_sides.proofs.SideCalled.{sides_called}
 use Rattle.wit_world_sides.proofs.SideEntries.{right_lead}

@@ -3,7 +3,7 @@ use Rattle.std.specs.Option.{is_some}
 use Rattle.std.specs.Map.{keys_of}
 use Rattle.std.proofs.lemmas.Map.Made.{is_some-lookup}
 use Rattle.wit_syntax.proofs.Inserting.{keys-insert_entry}
-use Rattle.wit_files.specs.Foreign.{foreign_view}
+use Rattle.wit_files.specs.ForeignPaths.{foreign_view}
 use Rattle.wit_files.specs.contracts.foreign.ForeignKeyPartialEq.TheImpl.{eq-value as key_test}
 use Rattle.wit_files.proofs.Others.{items_kept, items_more}
 use Rattle.wit_files.proofs.foreign.ForeignItems.add.Goals as goal

@@ -1,5 +1,5 @@
 use Rattle.std.proofs.Common.{map, take}
-use Rattle.wit_files.specs.Foreign.{foreign_view, AreItemsOf}
+use Rattle.wit_files.specs.ForeignPaths.{foreign_view, AreItemsOf}
 use Rattle.wit_files.proofs.foreign.ForeignItems.of.Given as goal
 
 abbrev pub invariant-loop-visit : goal.invariant-loop-visit

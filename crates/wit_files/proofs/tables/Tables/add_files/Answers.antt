@@ -5,7 +5,7 @@ use Rattle.std.proofs.lemmas.Option.{slice_get-get_or}
 use Rattle.std.proofs.lemmas.Result.{err_from_is_err_and}
 use Rattle.wit_graph.specs.Table.{rows}
 use Rattle.wit_syntax.specs.Source.{file_items, all_items, is_world}
-use Rattle.wit_syntax.specs.Scope.{item_row}
+use Rattle.wit_syntax.specs.ScopeTables.{item_row}
 use Rattle.wit_first.specs.FileFaults.{file_fault}
 use Rattle.wit_first.proofs.First.{in-all, in-next, reports-in}
 use Rattle.wit_top_names.proofs.Lost.{flat_more}

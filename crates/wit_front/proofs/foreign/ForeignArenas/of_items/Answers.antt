@@ -3,7 +3,7 @@ use Rattle.std.proofs.lemmas.List.{take_all}
 use Rattle.wit_syntax.specs.Foreign.{foreign_items}
 use Rattle.wit_arena.proofs.Visits.{visits_differ}
 use Rattle.wit_files.specs.declared.foreign.ForeignVisit.{ForeignVisit as Borrowed}
-use Rattle.wit_files.specs.Foreign.{foreign_view}
+use Rattle.wit_files.specs.ForeignPaths.{foreign_view}
 use Rattle.wit_front.specs.ForeignPrefix.{entries_after}
 use Rattle.wit_front.proofs.Prefixes.{entries_after-among}
 use Rattle.wit_front.proofs.foreign.ForeignArenas.of_items.Goals as goal

@@ -8,7 +8,7 @@ use Rattle.wit_types.specs.declared.types.TypeOwner.TheVariants as owner
 use Rattle.wit_model.specs.declared.interface.Interface.{Interface}
 use Rattle.wit_syntax.specs.Metadata.{Metadata}
 use Rattle.wit_arena.specs.Resolving.{named}
-use Rattle.wit_notes.specs.Metadata.{metadata_view}
+use Rattle.wit_notes.specs.BorrowedMetadata.{metadata_view}
 use Rattle.wit_front.specs.ForeignPrefix.{with_types, addresses_among}
 use Rattle.wit_front.proofs.ForeignName.{in_use-known, in_use-fresh, is_some-copied, none_copied}
 use Rattle.wit_front.proofs.foreign.ForeignArenas.take.Goals as goal

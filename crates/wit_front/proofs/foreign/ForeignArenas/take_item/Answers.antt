@@ -2,7 +2,7 @@ use Rattle.std.proofs.Common.{◌++◌, List, refl, ◌∙◌, subst, append_ass
 use Rattle.std.specs.List.{flat_map}
 use Rattle.wit_tree.specs.declared.tree.WorldSide.TheVariants.{Imported, Exported}
 use Rattle.wit_syntax.specs.Source.{ForeignUse}
-use Rattle.wit_items.specs.Items.{names_view}
+use Rattle.wit_items.specs.BorrowedItems.{names_view}
 use Rattle.wit_items.specs.InlineNames.{inside_view}
 use Rattle.wit_front.specs.ForeignPrefix.{AreAdded, names_foreign_uses}
 use Rattle.wit_front.proofs.foreign.ForeignArenas.take_item.Goals as goal

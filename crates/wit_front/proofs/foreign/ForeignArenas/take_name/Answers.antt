@@ -2,7 +2,7 @@ use Rattle.std.proofs.Common.{◌≡◌, [], ◌∷◌, ap, ◌∙◌, subst}
 use Rattle.std.proofs.lemmas.List.{append-nil}
 use Rattle.wit_syntax.specs.Address.{ForeignNamed, package_of}
 use Rattle.wit_syntax.specs.Source.{Used, use_of_foreign}
-use Rattle.wit_scopes.specs.Borrowed.{Borrowed as ScopeName, source_view, name_view, IsPlaced}
+use Rattle.wit_scopes.specs.BorrowedNames.{Borrowed as ScopeName, source_view, name_view, IsPlaced}
 use Rattle.wit_scopes.specs.declared.scope_name.Source.{Source}
 use Rattle.wit_scopes.specs.PlacedNames.{IsNamePlaced}
 use Rattle.wit_front.specs.ForeignPrefix.{addresses_among, name_foreign_uses}

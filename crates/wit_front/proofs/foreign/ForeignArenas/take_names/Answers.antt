@@ -3,7 +3,7 @@ use Rattle.std.specs.Prelude.{slice_get}
 use Rattle.std.proofs.lemmas.List.{take_more}
 use Rattle.std.proofs.lemmas.Option.{slice_get-get_or}
 use Rattle.wit_syntax.specs.Source.{ForeignUse}
-use Rattle.wit_scopes.specs.Borrowed.{Borrowed as ScopeName, name_view}
+use Rattle.wit_scopes.specs.BorrowedNames.{Borrowed as ScopeName, name_view}
 use Rattle.wit_front.specs.ForeignPrefix.{AreAdded, name_foreign_uses, names_foreign_uses}
 use Rattle.wit_front.proofs.ForeignName.{foreign_uses-next}
 use Rattle.wit_front.proofs.foreign.ForeignArenas.take_names.Goals as goal

@@ -1,7 +1,7 @@
 use Rattle.std.proofs.Common.{◌++◌, List, map, take}
 use Rattle.wit_syntax.specs.Source.{ForeignUse}
 use Rattle.wit_syntax.specs.Foreign.{ForeignVisit}
-use Rattle.wit_scopes.specs.Borrowed.{name_view}
+use Rattle.wit_scopes.specs.BorrowedNames.{name_view}
 use Rattle.wit_scopes.specs.PlacedNames.{AreNamesPlaced}
 use Rattle.wit_front.specs.ForeignPrefix.{AreAdded, AreApart, addresses_among, names_foreign_uses}
 use Rattle.wit_front.proofs.foreign.ForeignArenas.take_names.Given as goal

@@ -2,7 +2,7 @@ use Rattle.std.proofs.Common.{◌≡◌, ◌||◌, true, List, ℕ, Some, None, 
 use Rattle.std.specs.BTreeSet.{contains_text}
 use Rattle.std.specs.Option.{option_copied}
 use Rattle.std.proofs.lemmas.Map.Text.{btree_set_updates_text}
-use Rattle.wit_functions.specs.Setters.{is_same_text}
+use Rattle.wit_functions.specs.SettersPlaced.{is_same_text}
 use Rattle.wit_functions.specs.MaybeFunction.{offered}
 use Rattle.wit_functions.proofs.Parting.{offered_more}
 use Rattle.wit_functions.proofs.parted.Parted.keep.Goals.{in-Some+in_ok-name+in_ok-insert, in_default}

@@ -1,6 +1,6 @@
 use Rattle.std.proofs.Common.{refl, rules}
 use Rattle.std.proofs.lemmas.Result.{IfErr-weaker}
-use Rattle.wit_lex.specs.Faults.{IsUnread}
+use Rattle.wit_lex.specs.TextFaults.{IsUnread}
 use Rattle.wit_lex.proofs.Lexing.{next_lexed, next_unlexed}
 use Rattle.wit_lex.proofs.token.Token.advance.Goals as goal
 

@@ -6,7 +6,7 @@ use Rattle.std.proofs.lemmas.Result.{err_from_is_err_and}
 use Rattle.wit_syntax.specs.Broken.{Refused}
 use Rattle.wit_syntax.proofs.Lists.{at_within, map_at}
 use Rattle.wit_refusals.specs.NameScopes.{IsLoneSetter, IsFirstLoneSetter}
-use Rattle.wit_refusals.specs.Scope.{spelled, name_of, names_of}
+use Rattle.wit_refusals.specs.KeyedNames.{spelled, name_of, names_of}
 use Rattle.wit_refusals.proofs.Scoping.{paired-more, first-lone}
 use Rattle.wit_refusals.proofs.name_scope.NameScope.check_setters.Goals as goal
 use Rattle.wit_refusals.proofs.name_scope.NameScope.check_setters.Goals.{in-Some+in_ok-check_setter, in_default}

@@ -1,6 +1,6 @@
 use Rattle.std.proofs.Common.{◌≡◌, ◌∙◌, ℕ, ◌+◌, nat_cmp, refl, arith}
 use Rattle.std.proofs.lemmas.Bool.Decides.{nat_tests}
-use Rattle.wit_types.specs.Orders.{type_cmp}
+use Rattle.wit_types.specs.TypeOrders.{type_cmp}
 use Rattle.wit_types.specs.contracts.types.TypeOrd.TheImpl.{cmp-value as order}
 use Rattle.wit_types.specs.declared.types.«Type».{«Type» as Ty}
 use Rattle.wit_types.specs.declared.types.«Type».TheVariants as ty

@@ -1,0 +1,287 @@
+-- What resolving interfaces and worlds does to the arenas, one after another.
+use Rattle.std.specs.Prelude.{◌≡◌, ℕ, ◌+◌, true, false, List, [], ◌∷◌, ◌++◌, length, map, take, Some, None, slice_get, Contains}
+use Rattle.std.specs.List.{flat_map}
+use Rattle.wit_type_tree.specs.declared.leaves.Id.{Id}
+use Rattle.wit_tree.specs.declared.tree.Include.{Include}
+use Rattle.wit_tree.specs.declared.tree.Use.{Use}
+use Rattle.wit_tree.specs.declared.tree.PackageFile.{PackageFile}
+use Rattle.wit_types.specs.declared.types.TypeDef.{TypeDef}
+use Rattle.wit_types.specs.declared.types.TypeDefKind.TheVariants.{Unknown}
+use Rattle.wit_types.specs.declared.types.TypeOwner.{TypeOwner}
+use Rattle.wit_types.specs.declared.types.TypeOwner.TheVariants as owner
+use Rattle.wit_model.specs.declared.interface.Interface.{Interface}
+use Rattle.wit_model.specs.declared.world.World.{World}
+use Rattle.wit_graph.specs.Table.{IsOrder}
+use Rattle.wit_syntax.specs.Address.{Address, WorldNamed}
+use Rattle.wit_syntax.specs.Metadata.{metadata, no_docs, IsBrokenStability}
+use Rattle.wit_model.specs.declared.world.WorldKey.{WorldKey}
+use Rattle.wit_model.specs.declared.world.WorldItem.{WorldItem}
+use Rattle.wit_syntax.specs.Source.{leads, Item, address, is_world, ScopeName, scope_names, meaning, ForeignUse, first_foreign_uses, about, declared_metadata}
+use Rattle.wit_syntax.specs.Foreign.{visited, foreign_interfaces, foreign_worlds}
+use Rattle.wit_arena.specs.Occurrences.{keys}
+use Rattle.wit_syntax.specs.Fault.{Fault}
+use Rattle.wit_arena.specs.OneByOne.{OneByOne}
+use Rattle.wit_arena.specs.UnfoldedTypes.{IsInterface, IsWorld, IsForeignWorld}
+use Rattle.wit_syntax.specs.ScopeTables.{uses, includes, interfaces_of, worlds_of, rows_of, in_order, defined, in_turn, AreDistinct}
+use Rattle.wit_functions.specs.declared.function.Function.{Function}
+use Rattle.wit_syntax.specs.Function.{SourceFunction, functions as item_functions, signature, name_types, written_types, all_types, item_types}
+use Rattle.wit_syntax.specs.SignatureRules.{IsUnpairedSetter}
+use Rattle.wit_tree.specs.declared.tree.WorldSide.TheVariants.{Imported, Exported}
+use Rattle.wit_arena.specs.SourceFunctions.{placed_functions}
+use Rattle.wit_arena.specs.SideItems.{AreSideItems, settled}
+use Rattle.wit_syntax.specs.Broken.{is_world_at, IsBrokenScope, IsBrokenUse, IsLinkedTwice, IsSetterAlone}
+use Rattle.wit_syntax.specs.Sides.{Link, links, SideItem, SideFunction, SideLink, SideInline, side_items, inline_items, IsBrokenSides}
+use Rattle.wit_arena.specs.Whole.{owner_at, foreign_use_occurrence, IsForeignInterface, type_imports, AreIncludes}
+use Rattle.wit_arena.specs.Resolving.{Names, env_of, ResolvedScope, resolved_scopes, named, Defines, AddsFunctions, Required, IsWrongHandle, AreEnded, IsIndex, IsWorldIndex, IsLostInclude, IsLostLink, IsWrongScope}
+use Rattle.wit_syntax.specs.Shape.{words, all_handles}
+
+-- the definitions of a scope were added in the least dependency-first order, after its used names
+pub record DefinesAll (old new : List TypeDef) (o : TypeOwner) (names names' : Names) (xs : List ScopeName) : Type 0 where
+  pub order : List ℕ
+  pub least : IsOrder (rows_of xs) order
+  pub distinct : AreDistinct xs
+  pub defines : (cs : List ResolvedScope) (s : Address) → Defines old new cs o s names names' (defined (in_order xs order))
+
+-- what the names of a scope add to the arena of types, in the order of its table; `cs` are the scopes that they may use
+pub record AddsScope (old new : List TypeDef) (cs : List ResolvedScope) (o : TypeOwner) (xs : List ScopeName) (types : Names) : Type 0 where
+  pub order : List ℕ
+  pub least : IsOrder (rows_of xs) order
+  pub distinct : AreDistinct xs
+  pub defines : (s : Address) → Defines old new cs o s [] types (in_turn xs order)
+
+-- what the functions of an item add to the arena of types, after its names in turn, and what its handles require
+pub record AddsAfter (old new : List TypeDef) (item : Item) (order : List ℕ) (names : Names) (fs : List Function) (rs : List Required) : Type 0 where
+  pub adds : AddsFunctions old new (address item) names (item_functions item) fs
+  pub ended : AreEnded (env_of names) new (all_handles (all_types (in_turn (scope_names item) order) (item_functions item))) rs
+
+-- an interface of the arena is the one of an item, apart from its types and functions
+abbrev pub IsInterfaceOf : Item → Interface → Type 0
+IsInterfaceOf item i = IsInterface (about item.declared).called (about item.declared).id.span (declared_metadata item.declared) i
+
+-- what an interface adds to the arena of types, where it is at this place, and these are the scopes that it may use
+pub record AddsInterface (cs : List ResolvedScope) (place : ℕ) (old new : List TypeDef) (added : Interface) (rs : List Required) (item : Item) : Type 0 where
+  pub says : IsInterfaceOf item added
+  pub middle : List TypeDef
+  pub adds : AddsScope old middle cs (owner.Interface place) (scope_names item) added.types
+  pub functions : List Function
+  pub rest_after : AddsAfter middle new item adds.order added.types functions rs
+  pub are_present : added.functions ≡ placed_functions functions
+  pub paired : (f : Fault) → IsUnpairedSetter (item_functions item) f → ⊥
+
+-- what a declared interface adds to the arenas, where those at these addresses are of other packages
+pub record AddsDeclared (foreign : List Address) (old new : List TypeDef) (is is' : List Interface) (rs : List Required) (item : Item) : Type 0 where
+  pub added : Interface
+  pub last : is' ≡ is ++ added ∷ []
+  pub adds : AddsInterface (resolved_scopes foreign is) (length is) old new added rs item
+
+-- the addresses of worlds: at first of those of other packages
+abbrev pub worlds_at : List Address → List World → List Address
+worlds_at [] ws = map (λ w. WorldNamed w.name) ws
+worlds_at (s ∷ ss) [] = []
+worlds_at (s ∷ ss) (w ∷ ws) = s ∷ worlds_at ss ws
+
+-- the addresses of interfaces: at first of those of other packages
+abbrev pub interfaces_at : List Address → List Interface → List Address
+interfaces_at foreign is = map (λ c. c.address) (resolved_scopes foreign is)
+
+-- what a function of a scope adds to the arena of types, after its names, and what its handles require
+pub record AddsFunction (s : Address) (names : Names) (old new : List TypeDef) (fn : SourceFunction) (f : Function) (rs : List Required) : Type 0 where
+  pub adds : AddsFunctions old new s names (fn ∷ []) (f ∷ [])
+  pub ended : AreEnded (env_of names) new (all_handles (written_types fn)) rs
+
+-- What is on the sides of a world adds to the arenas, one after another, after its names: functions, and the interfaces that are written
+-- there, which are these items, after so many others; `cs` are the scopes that these may use.
+abbrev pub AddsSides : List ResolvedScope → ℕ → Address → Names → List TypeDef → List TypeDef → List Interface → List Interface → List Function → List Required → List SideItem → List Item → Type 0
+AddsSides cs count s names old new is is' fs rs [] inside = (new ≡ old) × (is' ≡ is) × (fs ≡ []) × (rs ≡ [])
+AddsSides cs count s names old new is is' fs rs (SideFunction fn ∷ xs) inside = (mid : List TypeDef) × (f : Function) × (more : List Function) × (own : List Required) × (rest : List Required) × (fs ≡ f ∷ more) × (rs ≡ own ++ rest) × AddsFunction s names old mid fn f own × AddsSides cs count s names mid new is is' more rest xs inside
+AddsSides cs count s names old new is is' fs rs (SideLink link ∷ xs) inside = AddsSides cs count s names old new is is' fs rs xs inside
+AddsSides cs count s names old new is is' fs rs (SideInline x name items ∷ xs) [] = ⊥
+AddsSides cs count s names old new is is' fs rs (SideInline x name items ∷ xs) (i ∷ inside) = (mid : List TypeDef) × (added : Interface) × (own : List Required) × (rest : List Required) × (rs ≡ own ++ rest) × AddsInterface cs (count + length is) old mid added own i × AddsSides cs count s names mid new (is ++ added ∷ []) is' fs rest xs inside
+
+-- the worlds of the arena, and the interfaces that are written in them, with their addresses
+pub record WorldArenas : Type 0 where
+  pub worlds : List World
+  pub inside : List Interface
+  pub addresses : List Address
+
+-- what a world adds to the arenas, where these are the declared interfaces, and at first those at these addresses
+pub record AddsWorld (foreign others : List Address) (is : List Interface) (old new : List TypeDef) (a b : WorldArenas) (rs : List Required) (item : Item) : Type 0 where
+  pub added : World
+  pub last : b.worlds ≡ a.worlds ++ added ∷ []
+  pub more : b.addresses ≡ a.addresses ++ map address (inline_items item)
+  pub says : IsWorld (about item.declared).id.name.now (about item.declared).id.span (declared_metadata item.declared) added
+  pub types : Names
+  pub middle : List TypeDef
+  pub adds : AddsScope old middle (resolved_scopes foreign is) (owner.World (length a.worlds)) (scope_names item) types
+  pub own : List Required
+  pub ended : AreEnded (env_of types) middle (all_handles (flat_map name_types (in_turn (scope_names item) adds.order))) own
+  pub functions : List Function
+  pub rest : List Required
+  pub requires : rs ≡ own ++ rest
+  pub sides : AddsSides (resolved_scopes foreign is) (length is) (address item) types middle new a.inside b.inside functions rest (side_items item) (inline_items item)
+  pub imported : List (WorldKey × WorldItem)
+  pub are_imported : AreSideItems (interfaces_at foreign is ++ b.addresses) item.top Imported (side_items item) functions (map address (inline_items item)) imported
+  pub imports : added.imports ≡ settled (includes item) (type_imports (in_turn (scope_names item) adds.order) types ++ imported)
+  pub exported : List (WorldKey × WorldItem)
+  pub are_exported : AreSideItems (interfaces_at foreign is ++ b.addresses) item.top Exported (side_items item) functions (map address (inline_items item)) exported
+  pub exports : added.exports ≡ settled (includes item) exported
+  pub paired : (f : Fault) → IsSetterAlone item f → ⊥
+  pub includes : AreIncludes (worlds_at others a.worlds) item added.includes
+
+-- what items add to the arenas, one after another, and what they require, where `Adds` says what one of them does
+abbrev pub AddsEach : {X : Type 0} → (List TypeDef → List TypeDef → X → X → List Required → Item → Type 0) → List TypeDef → List TypeDef → X → X → List Required → List Item → Type 0
+AddsEach Adds old new x x' rs [] = (new ≡ old) × (x' ≡ x) × (rs ≡ [])
+AddsEach {X} Adds old new x x' rs (w ∷ ws) = (mid : List TypeDef) × (between : X) × (own : List Required) × (rest : List Required) × (rs ≡ own ++ rest) × Adds old mid x between own w × AddsEach Adds mid new between x' rest ws
+
+-- what interfaces add, after those of other packages
+abbrev pub AddsInterfaces : List Address → List TypeDef → List TypeDef → List Interface → List Interface → List Required → List Item → Type 0
+AddsInterfaces foreign old new is is' rs items = AddsEach (AddsDeclared foreign) old new is is' rs items
+
+-- what worlds add, where these are the declared interfaces
+abbrev pub AddsWorlds : List Address → List Address → List Interface → List TypeDef → List TypeDef → WorldArenas → WorldArenas → List Required → List Item → Type 0
+AddsWorlds foreign others is old new a b rs items = AddsEach (AddsWorld foreign others is) old new a b rs items
+
+-- the arenas with these worlds in front
+abbrev pub prefix_worlds : List World → WorldArenas
+prefix_worlds ws = record { worlds = ws; inside = []; addresses = [] }
+
+-- nothing is wrong with what is on the sides of these items
+pub record AreLegalSides (items : List Item) : Type 0 where
+  pub legal : (i : ℕ) (item : Item) (f : Fault) → slice_get items i ≡ Some item → IsBrokenSides item f → ⊥
+
+-- the path of each `use` of these items leads to an interface
+pub record AreUsableUses (files : List PackageFile) (items : List Item) : Type 0 where
+  pub usable : (item : Item) (u : Use) → Contains items item → Contains (uses item) u → is_world_at files (leads item.top u.from) ≡ Some false
+
+-- the paths by which an item imports and exports interfaces lead to interfaces, no two on a side without a name of their own to one
+pub record HasUsableLinks (files : List PackageFile) (item : Item) : Type 0 where
+  pub usable : (link : Link) → Contains (links item) link → is_world_at files (leads item.top link.path) ≡ Some false
+  pub apart : (f : Fault) → IsLinkedTwice files item f → ⊥
+
+-- so do those of each of these
+pub record AreUsableLinks (files : List PackageFile) (items : List Item) : Type 0 where
+  pub each : (i : ℕ) (item : Item) → slice_get items i ≡ Some item → HasUsableLinks files item
+
+-- a name in a signature of a scope with these names and functions means nothing
+pub record IsNameless (xs : List ScopeName) (fns : List SourceFunction) : Type 0 where
+  pub k : ℕ
+  pub fn : SourceFunction
+  pub at : slice_get fns k ≡ Some fn
+  pub id : Id
+  pub among : Contains (flat_map words (signature fn)) id
+  pub missing : meaning xs id.name.now ≡ None
+
+-- no scope of these items is broken by itself, but where a name in a signature means nothing
+pub record AreSoundScopes (items : List Item) : Type 0 where
+  pub sound : (i : ℕ) (item : Item) (f : Fault) → slice_get items i ≡ Some item → IsBrokenScope (scope_names item) (item_functions item) f → IsNameless (scope_names item) (item_functions item)
+
+-- what is wrong with the stability that the attributes of an item say, or those of its includes
+pub data IsBrokenItemStability (item : Item) (f : Fault) : Type 0 where
+  OwnStability : IsBrokenStability (about item.declared).attributes f → IsBrokenItemStability item f
+  OfInclude : (n : Include) → Contains (includes item) n → IsBrokenStability n.attributes.items f → IsBrokenItemStability item f
+
+-- nothing is wrong with the stability of these items
+pub record HaveLegalStability (items : List Item) : Type 0 where
+  pub legal : (i : ℕ) (item : Item) (f : Fault) → slice_get items i ≡ Some item → IsBrokenItemStability item f → ⊥
+
+-- an item at a place, once some of those at places were gone over
+pub record IsNext (items : List Item) (places : List ℕ) (count : ℕ) (item : Item) : Type 0 where
+  pub place : ℕ
+  pub next : slice_get places count ≡ Some place
+  pub at : slice_get items place ≡ Some item
+
+-- the entry of a name of another package: nothing is known of it but whose it is
+abbrev pub foreign_type : List PackageFile → ForeignUse → TypeDef
+foreign_type files t = named (owner_at (map visited (foreign_interfaces files)) (map visited (foreign_worlds files)) t.from) t.id.name.now Unknown (metadata no_docs t.attributes) t.id.span
+
+-- what other packages' items put before the arenas: the names that are taken from them, and their interfaces and worlds
+pub record AddsForeign (files : List PackageFile) (es : List TypeDef) (is : List Interface) (ws : List World) : Type 0 where
+  pub types : es ≡ map (foreign_type files) (first_foreign_uses files)
+  pub interfaces : OneByOne (IsForeignInterface files (keys (map foreign_use_occurrence (first_foreign_uses files)))) (foreign_interfaces files) is
+  pub worlds : OneByOne IsForeignWorld (foreign_worlds files) ws
+
+-- once some names of a scope were added in turn, and some types after them, a name in a handle of the item ends at something else than
+-- a resource
+pub record IsWrongHandleNow (old : List TypeDef) (cs : List ResolvedScope) (o : TypeOwner) (item : Item) (f : Fault) : Type 0 where
+  pub order : List ℕ
+  pub least : IsOrder (rows_of (scope_names item)) order
+  pub distinct : AreDistinct (scope_names item)
+  pub count : ℕ
+  pub mid : List TypeDef
+  pub names : Names
+  pub defines : (s : Address) → Defines old mid cs o s [] names (take count (in_turn (scope_names item) order))
+  pub more : List TypeDef
+  pub wrong : IsWrongHandle (env_of names) (mid ++ more) (all_handles (item_types item)) f
+
+-- what is wrong with an interface, by what was resolved before
+pub data IsWrongInterface (old : List TypeDef) (cs : List ResolvedScope) (by_name : Names) (o : TypeOwner) (item : Item) (f : Fault) : Type 0 where
+  WrongStability : IsBrokenItemStability item f → IsWrongInterface old cs by_name o item f
+  WrongScope : IsWrongScope cs by_name (scope_names item) (item_functions item) f → IsWrongInterface old cs by_name o item f
+  WrongHandle : IsWrongHandleNow old cs o item f → IsWrongInterface old cs by_name o item f
+  WrongSides : IsBrokenSides item f → IsWrongInterface old cs by_name o item f
+  Unpaired : IsUnpairedSetter (item_functions item) f → IsWrongInterface old cs by_name o item f
+
+-- Once some of what is on the sides of a world was added after its names, the next interface that is written there is wrong; there are so
+-- many others, and then those that were written before it.
+pub record IsWrongInside (old : List TypeDef) (cs : List ResolvedScope) (count : ℕ) (inside : List Interface) (by_name names : Names) (s : Address) (xs : List SideItem) (us : List Item) (f : Fault) : Type 0 where
+  pub place : ℕ
+  pub done : ℕ
+  pub mid : List TypeDef
+  pub now : List Interface
+  pub functions : List Function
+  pub rs : List Required
+  pub sides : AddsSides cs count s names old mid inside now functions rs (take place xs) (take done us)
+  pub covered : length now ≡ length inside + done
+  pub inner : Item
+  pub next : slice_get us done ≡ Some inner
+  pub wrong : IsWrongInterface mid cs by_name (owner.Interface (count + length now)) inner f
+
+-- once the names of a world were added, what is written in it is wrong
+pub record IsWrongInline (old : List TypeDef) (cs : List ResolvedScope) (count : ℕ) (inside : List Interface) (by_name : Names) (o : TypeOwner) (item : Item) (f : Fault) : Type 0 where
+  pub types : Names
+  pub middle : List TypeDef
+  pub adds : AddsScope old middle cs o (scope_names item) types
+  pub wrong : IsWrongInside middle cs count inside by_name types (address item) (side_items item) (inline_items item) f
+
+-- what is wrong with a world, by what was resolved before
+pub data IsWrongWorld (files : List PackageFile) (old : List TypeDef) (cs : List ResolvedScope) (count : ℕ) (inside : List Interface) (by_name worlds_by_name : Names) (o : TypeOwner) (item : Item) (f : Fault) : Type 0 where
+  WrongInline : IsWrongInline old cs count inside by_name o item f → IsWrongWorld files old cs count inside by_name worlds_by_name o item f
+  WrongWorldStability : IsBrokenItemStability item f → IsWrongWorld files old cs count inside by_name worlds_by_name o item f
+  WrongWorldScope : IsWrongScope cs by_name (scope_names item) (item_functions item) f → IsWrongWorld files old cs count inside by_name worlds_by_name o item f
+  WrongWorldHandle : IsWrongHandleNow old cs o item f → IsWrongWorld files old cs count inside by_name worlds_by_name o item f
+  WrongWorldSides : IsBrokenSides item f → IsWrongWorld files old cs count inside by_name worlds_by_name o item f
+  WrongLinks : IsLinkedTwice files item f → IsWrongWorld files old cs count inside by_name worlds_by_name o item f
+  UnpairedOnSide : IsSetterAlone item f → IsWrongWorld files old cs count inside by_name worlds_by_name o item f
+  WrongWorldUse : IsBrokenUse files item f → IsWrongWorld files old cs count inside by_name worlds_by_name o item f
+  LostLink : IsLostLink files by_name item f → IsWrongWorld files old cs count inside by_name worlds_by_name o item f
+  LostInclude : IsLostInclude files worlds_by_name item f → IsWrongWorld files old cs count inside by_name worlds_by_name o item f
+
+-- where these come first, at these addresses: once the interfaces among some of the items were added in the order of their places,
+-- the next item is an interface that is wrong
+pub record IsWrongNow (foreign : List Address) (es : List TypeDef) (prefix : List Interface) (items : List Item) (places : List ℕ) (f : Fault) : Type 0 where
+  pub count : ℕ
+  pub item : Item
+  pub next : IsNext items places count item
+  pub sort : is_world item ≡ false
+  pub mid : List TypeDef
+  pub before : List Interface
+  pub rs : List Required
+  pub added : AddsInterfaces foreign es mid prefix before rs (interfaces_of (in_order items (take count places)))
+  pub by_name : Names
+  pub index : IsIndex (resolved_scopes foreign before) by_name
+  pub wrong : IsWrongInterface mid (resolved_scopes foreign before) by_name (owner.Interface (length before)) item f
+
+-- where these are the interfaces, their types were resolved, and these worlds come first: once the worlds among some of the items
+-- were added in the order of their places, the next item is a world that is wrong
+pub record IsWrongWorldNow (files : List PackageFile) (foreign others : List Address) (middle : List TypeDef) (is : List Interface) (by_name : Names) (prefix : List World) (items : List Item) (places : List ℕ) (f : Fault) : Type 0 where
+  pub count : ℕ
+  pub item : Item
+  pub next : IsNext items places count item
+  pub sort : is_world item ≡ true
+  pub mid : List TypeDef
+  pub before : WorldArenas
+  pub rs : List Required
+  pub added : AddsWorlds foreign others is middle mid (prefix_worlds prefix) before rs (worlds_of (in_order items (take count places)))
+  pub worlds_by_name : Names
+  pub worlds_index : IsWorldIndex (worlds_at others before.worlds) worlds_by_name
+  pub wrong : IsWrongWorld files mid (resolved_scopes foreign is) (length is) before.inside by_name worlds_by_name (owner.World (length before.worlds)) item f

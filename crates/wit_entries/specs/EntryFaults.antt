@@ -1,0 +1,63 @@
+-- The first fault of written types and of definitions, by what the names of a scope mean in an arena: E15 and E27, and the rules of types.
+use Rattle.std.specs.Prelude.{ℕ, suc, List, Option, Some, None}
+use Rattle.std.specs.Option.{option_or}
+use Rattle.wit_type_tree.specs.declared.leaves.Id.{Id}
+use Rattle.wit_type_tree.specs.declared.types.«Type».{«Type» as Written}
+use Rattle.wit_type_tree.specs.declared.types.ResultTypes.{ResultTypes}
+use Rattle.wit_type_tree.specs.declared.types.TypeBody.{TypeBody}
+use Rattle.wit_type_tree.specs.declared.types.TypeDef.{TypeDef as Definition}
+use Rattle.wit_type_tree.specs.TypeParts.{body_types}
+use Rattle.wit_types.specs.declared.types.TypeDef.{TypeDef}
+use Rattle.wit_syntax.specs.Fault.{Fault, fault, missing_type_at}
+use Rattle.wit_first.specs.AttributeFaults.{metadata_fault}
+use Rattle.wit_first.specs.First.{first_in}
+use Rattle.wit_first.specs.ListFaults.{list_fault}
+use Rattle.wit_first.specs.TypeFaults.{type_fault, outcome_fault}
+use Rattle.wit_arena.specs.EntryEnds.{EntryEnd, IsOther, entry_end}
+use Rattle.wit_arena.specs.Resolving.{Env}
+
+-- where the entry at a place ends: in these steps it is found for each arena
+abbrev pub end_in : List TypeDef → ℕ → Option EntryEnd
+end_in es place = entry_end (suc (suc place)) es place
+
+-- a name means nothing: `lost` says which fault that is
+abbrev pub unless_found : Fault → Option ℕ → Option Fault
+unless_found lost None = Some lost
+unless_found lost (Some place) = None
+
+abbrev pub name_fault : (Id → Fault) → Env → Id → Option Fault
+name_fault lost env id = unless_found (lost id) (env id.name.now)
+
+-- one in a handle means nothing, or it ends at something else than a resource
+abbrev pub end_fault : Id → Option EntryEnd → Option Fault
+end_fault id (Some IsOther) = Some (fault 27 id.span)
+end_fault id end = None
+
+abbrev pub handled_fault : (Id → Fault) → List TypeDef → Id → Option ℕ → Option Fault
+handled_fault lost es id None = Some (lost id)
+handled_fault lost es id (Some place) = end_fault id (end_in es place)
+
+abbrev pub handle_fault : (Id → Fault) → Env → List TypeDef → Id → Option Fault
+handle_fault lost env es id = handled_fault lost es id (env id.name.now)
+
+-- of a written type, where `lost` is the fault of a name that means nothing
+abbrev pub named_fault : (Id → Fault) → Env → List TypeDef → Written → Option Fault
+named_fault lost env es t = type_fault (name_fault lost env) (handle_fault lost env es) t
+
+-- of a type, of the types of a result, and of types one after another, in a definition
+abbrev pub written_fault : Env → List TypeDef → Written → Option Fault
+written_fault env es t = named_fault missing_type_at env es t
+
+abbrev pub either_fault : Env → List TypeDef → ResultTypes → Option Fault
+either_fault env es of = outcome_fault (name_fault missing_type_at env) (handle_fault missing_type_at env es) of
+
+abbrev pub types_fault : Env → List TypeDef → List Written → Option Fault
+types_fault env es ts = first_in (written_fault env es) ts
+
+-- of the body of a definition: its list first, and then the types in it
+abbrev pub body_fault : Env → List TypeDef → TypeBody → Option Fault
+body_fault env es b = option_or (list_fault b) (types_fault env es (body_types b))
+
+-- of a definition: its attributes first
+abbrev pub definition_fault : Env → List TypeDef → Definition → Option Fault
+definition_fault env es d = option_or (metadata_fault d.attributes.items) (body_fault env es d.body)

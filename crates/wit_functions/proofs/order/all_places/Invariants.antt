@@ -1,6 +1,0 @@
-use Rattle.std.proofs.Common.{◌≡◌, length}
-use Rattle.wit_functions.specs.Order.{AreFirst}
-use Rattle.wit_functions.proofs.order.all_places.Given as goal
-
-abbrev pub invariant-loop-place : goal.invariant-loop-place
-invariant-loop-place l = record { long : length l.places.items ≡ l.place; first : AreFirst l.places.items }

@@ -1,0 +1,38 @@
+use Rattle.std.proofs.Common.{◌≡◌, get_or, map, ap, sym, ◌∙◌, subst, arith}
+use Rattle.std.proofs.lemmas.List.{length-map}
+use Rattle.std.proofs.lemmas.Option.{slice_get-get_or}
+use Rattle.std.proofs.lemmas.Result.{err_from_is_err_and}
+use Rattle.wit_graph.specs.Table.{IsOrder}
+use Rattle.wit_syntax.specs.ScopeTables.{rows_of, in_order, defined}
+use Rattle.wit_syntax.proofs.Turns.{names_within}
+use Rattle.wit_scopes.specs.BorrowedNames.{name_view}
+use Rattle.wit_scopes.proofs.Turning.{map-in_order}
+use Rattle.wit_scopes.proofs.definition_order.sorted_definitions.Goals as goal
+
+pub in_order-requires : goal.in_order-requires
+in_order-requires c = λ i d lt.
+    let names = c.args.names.now in
+    let xs = map name_view names in
+    let places = c.deref.result.now in
+    let order : IsOrder (rows_of xs) places = subst (IsOrder (rows_of xs)) (sym c.deref.ensures.value) c.in_ok-places.ensures.order in
+    (let h = names_within xs places order i (get_or places i d) (slice_get-get_or places i d lt) in omega (arith, length-map names name_view))
+
+pub returns-clause-ordered : goal.returns-clause-ordered
+returns-clause-ordered c =
+    let names = c.args.names.now in
+    let places = c.in_ok-places.places.items in
+    let ordered = c.in_ok-ordered.ordered.items in
+    let are : ordered ≡ in_order names places = c.in_ok-ordered.ensures ∙ ap (in_order names) c.deref.ensures.value in
+    record {
+      order = places;
+      least = c.in_ok-places.ensures.order;
+      are = c.in_ok-definitions.ensures ∙ ap (λ l. defined (map name_view l)) (c.deref-2.ensures.value ∙ are) ∙ ap defined (map-in_order name_view names places);
+    }
+
+pub returns-in_err-places-clause-first : goal.returns-in_err-places-clause-first
+returns-in_err-places-clause-first c =
+    let p = err_from_is_err_and c.from_residual.result c.from_residual.ensures.1 in
+    rw (p.1, p.2) c.in_err-places.ensures.first
+
+pub returns-clause-first : goal.returns-clause-first
+returns-clause-first c = c.in_ok-places.ensures.first

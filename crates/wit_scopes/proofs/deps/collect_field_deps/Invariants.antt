@@ -1,7 +1,0 @@
-use Rattle.std.proofs.Common.{◌≡◌, ◌++◌, take}
-use Rattle.wit_type_tree.specs.Parts.{field_types}
-use Rattle.wit_scopes.proofs.TypeWords.{type_words}
-use Rattle.wit_scopes.proofs.deps.collect_field_deps.Given as goal
-
-abbrev pub invariant-loop-field : goal.invariant-loop-field
-invariant-loop-field l = l.deps.items ≡ l.fn.deps.items ++ type_words (field_types (take l.field-index l.fields))

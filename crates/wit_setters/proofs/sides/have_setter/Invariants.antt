@@ -1,9 +1,0 @@
-use Rattle.wit_model.specs.declared.world.WorldItem.{WorldItem}
-use Rattle.wit_model.specs.declared.world.WorldKey.{WorldKey}
-use Rattle.wit_model.specs.Worlds.{function_of}
-use Rattle.wit_functions.specs.MaybeFunction.{is_setter}
-use Rattle.wit_setters.proofs.Sought.{NoneBefore}
-use Rattle.wit_setters.proofs.sides.have_setter.Given as goal
-
-abbrev pub invariant-loop-place : goal.invariant-loop-place
-invariant-loop-place l = NoneBefore (λ (e : WorldKey × WorldItem). is_setter (function_of e.1)) l.side l.place

@@ -1,0 +1,14 @@
+use Rattle.wit_tree.specs.declared.tree.WorldSide.TheVariants.{Imported, Exported}
+use Rattle.wit_world_sides.proofs.sides_setters.settle.Goals as goal
+
+pub place_setters-requires-clause-distinct : goal.place_setters-requires-clause-distinct
+place_setters-requires-clause-distinct c = c.requires.differ Imported
+
+pub place_setters-requires-clause-named : goal.place_setters-requires-clause-named
+place_setters-requires-clause-named c = c.requires.called Imported
+
+pub place_setters-requires-2-clause-distinct : goal.place_setters-requires-2-clause-distinct
+place_setters-requires-2-clause-distinct c = c.requires.differ Exported
+
+pub place_setters-requires-2-clause-named : goal.place_setters-requires-2-clause-named
+place_setters-requires-2-clause-named c = c.requires.called Exported
