@@ -4,7 +4,7 @@ ghost use Rattle.wit_lex.specs.Sources.{IsTooLarge};
 ghost use Rattle.wit_bundle.specs.Bundle.{sources_of, unnamed};
 ghost use Rattle.wit_bundle.specs.Laid.{AreLaid, room};
 
-use crate::splitting::{named, prefix_of};
+use crate::cutting::{named, prefix_of};
 use std::alloc::Global;
 use wit_lex::SourceMap;
 use wit_type_tree::ParseResult;

@@ -3,8 +3,8 @@
 
 pub mod apart;
 mod bundles;
+mod cutting;
 mod path_order;
-mod splitting;
 
 pub use bundles::bundle;
 pub use path_order::by_path;

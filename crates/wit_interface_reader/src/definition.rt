@@ -6,8 +6,8 @@ ghost use Rattle.wit_reader.specs.Reading.{Reads, Refuses};
 ghost use Rattle.wit_interface_reader.specs.After.{defined_after};
 ghost use Rattle.wit_interface_reader.specs.ReadParts.{see_defined};
 
-use crate::braces::{read_cases, read_enum_cases, read_fields, read_flags};
 use crate::function::read_named_func;
+use crate::in_braces::{read_cases, read_enum_cases, read_fields, read_flags};
 use crate::resource::read_resource;
 use wit_lex::fault::ReadResult;
 use wit_lex::kind::Kind;

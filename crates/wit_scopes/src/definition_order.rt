@@ -9,8 +9,8 @@ ghost use Rattle.wit_first.specs.OrderFaults.{IsTypeOrderFault};
 ghost use Rattle.wit_scopes.specs.BorrowedNames.{name_view, use_view, definition_view};
 ghost use Rattle.wit_scopes.specs.DefinitionOrder.{AreOrdered, IsTurnOf, IsWritten, NeedNone};
 
+use crate::by_place::in_order;
 use crate::distinct::{add_definition_ids, used_ids};
-use crate::placed::in_order;
 use crate::scope_name::{DefinedName, ScopeName, UsedName, definitions, local_id};
 use crate::written_names::body_deps;
 use std::alloc::{AllocError, Global};

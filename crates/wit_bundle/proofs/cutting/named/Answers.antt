@@ -3,7 +3,7 @@ use Rattle.std.proofs.lemmas.Str.Pattern.{split_parts}
 use Rattle.wit_bundle.specs.Bundle.{mark}
 use Rattle.wit_bundle.specs.SplitText.{parts}
 use Rattle.wit_bundle.proofs.Splitting.{named_then, named_last}
-use Rattle.wit_bundle.proofs.splitting.named.Goals as goal
+use Rattle.wit_bundle.proofs.cutting.named.Goals as goal
 
 pub returns-in-Some-clause-parts : goal.returns-in-Some-clause-parts
 returns-in-Some-clause-parts c =

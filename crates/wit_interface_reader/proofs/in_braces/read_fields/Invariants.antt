@@ -6,7 +6,7 @@ use Rattle.wit_grammar.specs.ItemRules.{field}
 use Rattle.wit_reader.specs.Reading.{spot}
 use Rattle.wit_reader.proofs.Lists.{IsListing}
 use Rattle.wit_interface_reader.specs.ReadParts.{braced_list}
-use Rattle.wit_interface_reader.proofs.braces.read_fields.Given as goal
+use Rattle.wit_interface_reader.proofs.in_braces.read_fields.Given as goal
 
 abbrev pub invariant-fields : goal.invariant-fields
 invariant-fields l =

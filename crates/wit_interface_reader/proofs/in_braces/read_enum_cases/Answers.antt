@@ -5,7 +5,7 @@ use Rattle.wit_grammar.specs.Grammar.{run}
 use Rattle.wit_grammar.specs.ItemRules.{flag}
 use Rattle.wit_reader.specs.Reading.{spot}
 use Rattle.wit_reader.proofs.Lists.{listing_opened, listing_more, listing_closed, open_stops, item_stops, next_stops}
-use Rattle.wit_interface_reader.proofs.braces.read_enum_cases.Goals as goal
+use Rattle.wit_interface_reader.proofs.in_braces.read_enum_cases.Goals as goal
 
 pub cases-init : goal.cases-init
 cases-init c = rw c.new-cases.ensures.items (listing_opened see_enum_case (run flag) OpenBrace CloseBrace c.in_ok-more.more c.in_ok-more.ensures.reads)

@@ -1,6 +1,6 @@
 use Rattle.std.proofs.Common.{◌<◌, ◌+◌, get_or, arith}
 use Rattle.std.proofs.lemmas.Str.{lead_after_ascii}
-use Rattle.wit_bundle.proofs.splitting.through.Goals as goal
+use Rattle.wit_bundle.proofs.cutting.through.Goals as goal
 
 pub range-requires-clause-end_boundary : goal.range-requires-clause-end_boundary
 range-requires-clause-end_boundary c =

@@ -2,7 +2,7 @@ use Rattle.std.proofs.Common.{sym, ap, ◌∙◌, arith}
 use Rattle.wit_bundle.specs.Bundle.{without_end}
 use Rattle.std.proofs.lemmas.Str.Pattern.{strip_suffix_char}
 use Rattle.wit_bundle.proofs.Lines.{without_end-there, without_end-not}
-use Rattle.wit_bundle.proofs.splitting.without_return.Goals as goal
+use Rattle.wit_bundle.proofs.cutting.without_return.Goals as goal
 
 pub returns-in-Some : goal.returns-in-Some
 returns-in-Some c =

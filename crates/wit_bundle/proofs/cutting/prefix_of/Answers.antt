@@ -2,7 +2,7 @@ use Rattle.std.proofs.Common.{◌≡◌, ◌<◌, arith, is_none, true, rules}
 use Rattle.memchr.specs.Find.{FindsNeedle}
 use Rattle.wit_bundle.proofs.Searching.{found_nowhere}
 use Rattle.wit_bundle.proofs.Splitting.{next, found_is, found_prefix, found_none}
-use Rattle.wit_bundle.proofs.splitting.prefix_of.Goals as goal
+use Rattle.wit_bundle.proofs.cutting.prefix_of.Goals as goal
 
 pub returns-then-is_none-clause-parts : goal.returns-then-is_none-clause-parts
 returns-then-is_none-clause-parts c =
