@@ -88,7 +88,7 @@ own_part (IncludePart n) j u at = absurd (let f : ⊥ = cc in f)
 own_part (FunctionPart g) j u at = absurd (let f : ⊥ = cc in f)
 own_part (ExternPart x) j u at = absurd (let f : ⊥ = cc in f)
 
-abbrev side_uses : WorldSide → Part → List WrittenUse
+abbrev pub side_uses : WorldSide → Part → List WrittenUse
 side_uses side = at_side (λ (x : Extern). inline_uses x.kind) side
 
 extern_uses : (b : Bool) (us : List WrittenUse) (j : ℕ) (u : WrittenUse) → slice_get (if b then us else []) j ≡ Some u → Contains us u

@@ -52,7 +52,7 @@ use Rattle.wit_walk.proofs.ScopeFaults.{handle_broken, if_false, if_true, unmean
 use Rattle.wit_walk.proofs.TypeFaults.{type_wrong}
 
 -- a function of an item: the type that is written as its result has the shape of that, and a constructor is no setter
-record IsMade (fn : SourceFunction) : Type 0 where
+pub record IsMade (fn : SourceFunction) : Type 0 where
   pub written : (t : Written) → fn.func.result ≡ Some t → fn.result ≡ Some (shape_of t)
   pub no_setter : (of : Id) → fn.role ≡ Constructor of → fn.func.form ≡ form.Setter → ⊥
 
@@ -90,11 +90,11 @@ made_part (ExternPart x) k fn at = made_extern x x.kind k fn at
 made_part (UsePart u) k fn at = absurd (let f : ⊥ = cc in f)
 made_part (IncludePart n) k fn at = absurd (let f : ⊥ = cc in f)
 
-made : (i : Item) (k : ℕ) (fn : SourceFunction) → slice_get (functions i) k ≡ Some fn → IsMade fn
+pub made : (i : Item) (k : ℕ) (fn : SourceFunction) → slice_get (functions i) k ≡ Some fn → IsMade fn
 made i k fn at = (let it = flat_map_at part_functions (parts i) k fn at in made_part it.1 it.3.0 fn it.3.1)
 
 -- a written type is in the signature
-at_option : {X : Type 0} (o : Option X) (k : ℕ) (x : X) → slice_get (option_to_list o) k ≡ Some x → o ≡ Some x
+pub at_option : {X : Type 0} (o : Option X) (k : ℕ) (x : X) → slice_get (option_to_list o) k ≡ Some x → o ≡ Some x
 at_option None k x at = absurd (let f : ⊥ = cc in f)
 at_option (Some y) zero x at = at
 at_option (Some y) (suc k) x at = absurd (let f : ⊥ = cc in f)
@@ -128,7 +128,7 @@ word_signed fn t id m among word =
     contains_at (flat_map words (signature fn)) found.0 id found.1
 
 -- the parameters before a written one
-params_before : (given : List SourceParam) (ps : List Param) (i : ℕ) → take (length given + i) (given ++ map written_param ps) ≡ given ++ map written_param (take i ps)
+pub params_before : (given : List SourceParam) (ps : List Param) (i : ℕ) → take (length given + i) (given ++ map written_param ps) ≡ given ++ map written_param (take i ps)
 params_before given ps i = take-append-add given (map written_param ps) i ∙ ap (λ (l : List SourceParam). given ++ l) (take-map written_param i ps)
 
 param_at : (given : List SourceParam) (ps : List Param) (i : ℕ) (p : Param) → slice_get ps i ≡ Some p → slice_get (given ++ map written_param ps) (length given + i) ≡ Some (written_param p)

@@ -6,4 +6,11 @@ pub mod FunctionFaults
 pub mod SetterFaults
 pub mod MemberFaults
 pub mod Broken
+pub mod TypesLegal
+pub mod FilesLegal
+pub mod FunctionsLegal
+pub mod ScopesLegal
+pub mod SettersLegal
+pub mod MembersLegal
+pub mod Legal
 pub mod Rows

@@ -24,7 +24,7 @@ use Rattle.wit_syntax.specs.Bodies.{IsSecond}
 use Rattle.wit_syntax.specs.Broken.{is_world_at, IsBroken, MissingUse, WorldUsed, Use, Sides, LinkedTwice, IsLinkedTwice}
 use Rattle.wit_syntax.specs.ExternPart.{inline_uses, extern_paths, same_side}
 use Rattle.wit_syntax.specs.Fault.{Fault, fault}
-use Rattle.wit_syntax.specs.Function.{Role, Freestanding, Method, Static, Constructor, OnSide, SourceFunction, definition_functions, extern_functions, part_functions, functions}
+use Rattle.wit_syntax.specs.Function.{Role, Freestanding, Method, Static, Constructor, OnSide, SourceFunction, definition_functions, functions}
 use Rattle.wit_syntax.specs.ScopeTables.{rows_of, use_path, use_paths, in_turn}
 use Rattle.wit_syntax.specs.ScopesOfTrees.{scope}
 use Rattle.wit_syntax.specs.Sides.{Link, SideItem, SideFunction, SideLink, SideInline, part_items, extern_items, extern_link, side_items, item_function, item_link, item_side, items_on, names_on, is_interface, inline_item, inline_after, inline_items, all_scopes, item_called, side_called, IsExternPart, FoldedTwice, CrossedTwice, InterfaceMetadata}
@@ -33,6 +33,7 @@ use Rattle.wit_syntax.specs.Source.{leads, path_id, path_scope, Part, Definition
 use Rattle.wit_syntax.proofs.Addresses.{same_address-equal, side_itself}
 use Rattle.wit_syntax.proofs.Found.{at_contains, contains_at}
 use Rattle.wit_syntax.proofs.Inline.{inline_after-append}
+use Rattle.wit_syntax.proofs.Legal.{functions_items}
 use Rattle.wit_syntax.proofs.Lists.{at_back, at_prefix, flat_map_at, flat_map_has, map_at, take_seam}
 use Rattle.wit_syntax.proofs.Names.{name_equal}
 use Rattle.wit_syntax.proofs.Sides.{links_none}
@@ -50,28 +51,6 @@ use Rattle.wit_walk.specs.Names.{folded_fault}
 use Rattle.wit_walk.specs.Paths.{is_same_link, link_fault, linked_fault, there_fault}
 use Rattle.wit_walk.proofs.FunctionFaults.{function_broken}
 use Rattle.wit_walk.proofs.ScopeFaults.{if_some, same_fault}
-
--- the functions of an item are those on its sides
-of_functions : (fns : List SourceFunction) → fns ≡ flat_map item_function (map SideFunction fns)
-of_functions [] = refl
-of_functions (fn ∷ fns) = ap (λ (l : List SourceFunction). fn ∷ l) (of_functions fns)
-
-of_extern : (x : Extern) (kind : ExternKind) → extern_functions x kind ≡ flat_map item_function (extern_items x kind)
-of_extern x (extern.Interface name items) = refl
-of_extern x (extern.Path path) = refl
-of_extern x (extern.Func name g) = refl
-of_extern x (extern.NamedPath name path) = refl
-
-of_part : (p : Part) → part_functions p ≡ flat_map item_function (part_items p)
-of_part (DefinitionPart d) = of_functions (definition_functions d.name d.body)
-of_part (FunctionPart g) = refl
-of_part (ExternPart x) = of_extern x x.kind
-of_part (UsePart u) = refl
-of_part (IncludePart n) = refl
-
-of_parts : (qs : List Part) → flat_map part_functions qs ≡ flat_map item_function (flat_map part_items qs)
-of_parts [] = refl
-of_parts (p ∷ qs) = ap (λ (l : List SourceFunction). l ++ flat_map part_functions qs) (of_part p) ∙ ap (λ (l : List SourceFunction). flat_map item_function (part_items p) ++ l) (of_parts qs) ∙ sym (flat_map-append item_function (part_items p) (flat_map part_items qs))
 
 -- what is on a side, up to one of it
 on_split : (side : WorldSide) (xs before rest : List SideItem) (x : SideItem) → item_side x ≡ side → xs ≡ before ++ x ∷ rest → items_on side xs ≡ items_on side before ++ x ∷ items_on side rest
@@ -149,7 +128,7 @@ path_among i k link at =
     let it = flat_map_has use_path (parts i) p.0 j.0 p.1 link.path p.2 j.1 in
     contains_at (use_paths i) it.0 link.path it.1
 
-link_is : (y : SideItem) (r : ℕ) (l : Link) → slice_get (item_link y) r ≡ Some l → y ≡ SideLink l
+pub link_is : (y : SideItem) (r : ℕ) (l : Link) → slice_get (item_link y) r ≡ Some l → y ≡ SideLink l
 link_is (SideLink m) zero l at = (let same : m ≡ l = cc in ap SideLink same)
 link_is (SideLink m) (suc r) l at = absurd (let f : ⊥ = cc in f)
 link_is (SideFunction fn) r l at = absurd (let f : ⊥ = cc in f)
@@ -191,7 +170,7 @@ module _ (files : List PackageFile) (i : Item) (known : IsScope files i) (n : �
       let it = split_at all k (SideFunction fn) at in
       let prefix = flat_map item_function (take k all) in
       let rest = flat_map item_function it.0 in
-      let split : functions i ≡ prefix ++ fn ∷ rest = of_parts (parts i) ∙ ap (flat_map item_function) it.1 ∙ flat_map-append item_function (take k all) (SideFunction fn ∷ it.0) in
+      let split : functions i ≡ prefix ++ fn ∷ rest = functions_items i ∙ ap (flat_map item_function) it.1 ∙ flat_map-append item_function (take k all) (SideFunction fn ∷ it.0) in
       function_broken files i known.among known.meant n prefix rest fn split f h
 
   -- a link: an earlier one on its side is the same

@@ -56,6 +56,10 @@ pub if_some : (b : Bool) (g f : Fault) → (if b then Some g else None) ≡ Some
 if_some true g f h = (refl, same_fault f g h)
 if_some false g f h = absurd (let e : ⊥ = cc in e)
 
+pub if_none : (b : Bool) (g : Fault) → (if b then Some g else None) ≡ None → b ≡ true → ⊥
+if_none true g h is = (let e : ⊥ = cc in e)
+if_none false g h is = (let e : ⊥ = cc in e)
+
 pub if_true : (b : Bool) (g h : Fault) → b ≡ true → (if b then g else h) ≡ g
 if_true true g h is = refl
 if_true false g h is = absurd (let e : ⊥ = cc in e)

@@ -42,11 +42,11 @@ words_among [] k t at id h = absurd (let f : ⊥ = cc in f)
 words_among (u ∷ ts) zero t at id h = (let same : u ≡ t = cc in Contains-append_left (words (shape_of u)) (all_words (all_shapes ts)) id (rw same h))
 words_among (u ∷ ts) (suc k) t at id h = Contains-append_right (words (shape_of u)) (all_words (all_shapes ts)) id (words_among ts k t at id h)
 
-nothing : (id : Id) → Contains [] id → ⊥
+pub nothing : (id : Id) → Contains [] id → ⊥
 nothing id (k, lt, is) = omega arith
 
 -- those in the parts of a type are among those in it
-row_words : {m : _} (ts : Row_of-Type m) → all_words (all_shapes (row_types ts)) ≡ all_words (row_shapes ts)
+pub row_words : {m : _} (ts : Row_of-Type m) → all_words (all_shapes (row_types ts)) ≡ all_words (row_shapes ts)
 row_words end_of-Type = refl
 row_words (more_of-Type t rest) = ap (λ (l : List Id). words (shape_of t) ++ l) (row_words rest)
 
@@ -65,7 +65,7 @@ words_inside (written.Stream' span None') id h = h
 words_inside (written.Stream' span (Some' p t)) id h = h
 words_inside _ id h = h
 
-row_handles_all : {m : _} (ts : Row_of-Type m) → all_handles (row_types ts) ≡ row_handles ts
+pub row_handles_all : {m : _} (ts : Row_of-Type m) → all_handles (row_types ts) ≡ row_handles ts
 row_handles_all end_of-Type = refl
 row_handles_all (more_of-Type t rest) = ap (λ (l : List Id). handles t ++ l) (row_handles_all rest)
 

@@ -33,8 +33,8 @@ earliest faults = first_in (λ (o : Option Fault). o) faults
 
 -- Of an item, where this is the outcome of ordering its definitions, and `inside` is the fault of an inline interface. A line a step: E30 to E34 of
 -- the item; E12 to E14; E15 and E16; E30 to E35, E19 to E27 of definitions; E30 to E34, E11; E17 of types; the members; E18.
-abbrev pub scope_fault : List PackageFile → ℕ → (Item → Option Fault) → Item → Outcome → Option Fault
-scope_fault files steps inside i outcome = earliest
+abbrev pub scope_faults : List PackageFile → ℕ → (Item → Option Fault) → Item → Outcome → List (Option Fault)
+scope_faults files steps inside i outcome =
     (stability_fault (about i.declared).attributes
     ∷ first_after (name_fault files) [] (used (scope_names i) ++ defined (scope_names i))
     ∷ order_fault missing_type_at (cyclic_at 16 type_word) outcome
@@ -46,7 +46,7 @@ scope_fault files steps inside i outcome = earliest
     ∷ [])
 
 abbrev pub ordered_fault : List PackageFile → Known → (Item → Option Fault) → Item → Option Fault
-ordered_fault files known inside i = scope_fault files known.steps inside i (known.outcome (rows_of (scope_names i)))
+ordered_fault files known inside i = earliest (scope_faults files known.steps inside i (known.outcome (rows_of (scope_names i))))
 
 -- of an inline interface, in which there is none; and of an item with those that are written in it
 abbrev pub inline_fault : List PackageFile → Known → Item → Option Fault
@@ -61,8 +61,8 @@ header_fault (Some header) = None
 
 -- Of files, where this is the outcome of ordering their items. A line a step: E4; E30 to E34 before paths to other packages; E5; E6 and E7, file by
 -- file; E7 and E8; E9 and E7; E30 to E35, E7 and E10 of uses; and what is in interfaces, and then in worlds.
-abbrev pub walk_fault : List PackageFile → Known → Outcome → Option Fault
-walk_fault files known outcome = earliest
+abbrev pub walk_faults : List PackageFile → Known → Outcome → List (Option Fault)
+walk_faults files known outcome =
     (header_fault (last_header files)
     ∷ visits_fault (foreign_visits files)
     ∷ item_names_fault files
@@ -75,7 +75,7 @@ walk_fault files known outcome = earliest
     ∷ [])
 
 abbrev pub first_fault : List PackageFile → Known → Option Fault
-first_fault files known = walk_fault files known (known.outcome (item_rows files))
+first_fault files known = earliest (walk_faults files known (known.outcome (item_rows files)))
 
 -- that is what the walk comes to, in as many steps as it takes to find where names end, or more
 pub record ComesTo (files : List PackageFile) (first : Option Fault) : Type 0 where

@@ -1,5 +1,5 @@
 //! What holds of the first fault of files.
-ghost use Rattle.wit_walk.specs.Laws.{FirstIsBroken, OneFirst};
+ghost use Rattle.wit_walk.specs.Laws.{FaultlessIsLegal, FirstIsBroken, OneFirst};
 
 /// Files come to one fault, or to none: two first faults are equal, and files that have one are not
 /// without a fault.
@@ -10,4 +10,9 @@ pub fn one_first()
 /// The first fault of files is one that a broken rule states: with its number and its place.
 pub fn first_is_broken()
     ensures { FirstIsBroken }
+{}
+
+/// Files without a fault are legal: no rule is broken in them.
+pub fn faultless_is_legal()
+    ensures { FaultlessIsLegal }
 {}

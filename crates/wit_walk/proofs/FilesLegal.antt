@@ -1,0 +1,177 @@
+-- Where the walk finds nothing in the names of files, no rule about them is broken; nor in the uses of items, and in where paths lead.
+use Rattle.std.proofs.Common.{◌≡◌, ◌⊎◌, ℕ, zero, suc, Bool, true, false, List, [], ◌∷◌, ◌++◌, Option, Some, None, inl, inr, refl, sym, ap, ◌∙◌, subst, Contains}
+use Rattle.std.specs.Prelude.{slice_get, map, if◌then◌else◌}
+use Rattle.std.specs.List.{flat_map}
+use Rattle.std.specs.Option.{option_map}
+use Rattle.std.proofs.lemmas.List.Elements.{Contains-append_left, Contains-append_right}
+use Rattle.wit_values.specs.declared.span.Span.{Span}
+use Rattle.wit_type_tree.specs.declared.leaves.Id.{Id}
+use Rattle.wit_tree.specs.declared.tree.Extern.{Extern}
+use Rattle.wit_tree.specs.declared.tree.ExternKind.{ExternKind}
+use Rattle.wit_tree.specs.declared.tree.ExternKind.TheVariants as extern
+use Rattle.wit_tree.specs.declared.tree.Include.{Include}
+use Rattle.wit_tree.specs.declared.tree.Use.{Use as WrittenUse}
+use Rattle.wit_tree.specs.declared.tree.UsePath.{UsePath}
+use Rattle.wit_tree.specs.declared.tree.PackageFile.{PackageFile}
+use Rattle.wit_tree.specs.declared.tree.WorldSide.{WorldSide}
+use Rattle.wit_tree.specs.declared.tree.WorldSide.TheVariants.{Imported, Exported}
+use Rattle.wit_syntax.specs.Bodies.{IsSecond}
+use Rattle.wit_syntax.specs.Broken.{is_world_at, IsBrokenUse, MissingUse, WorldUsed}
+use Rattle.wit_syntax.specs.ExternPart.{inline_uses, extern_paths, same_side}
+use Rattle.wit_syntax.specs.Fault.{Fault, fault, missing_at, item_word}
+use Rattle.wit_syntax.specs.Metadata.{IsBrokenMetadata, IsBrokenStability}
+use Rattle.wit_syntax.specs.ScopeTables.{include_path, include_paths, includes, part_includes, part_uses, use_path, use_paths, uses}
+use Rattle.wit_syntax.specs.Sides.{Link, SideItem, SideLink, extern_items, extern_link, part_items, side_items}
+use Rattle.wit_syntax.specs.Source.{TopName, top_names, top_text, Local, leads, path_id, Part, DefinitionPart, UsePart, IncludePart, FunctionPart, ExternPart, Item, parts, file_items, all_items, item_named, is_world, walk}
+use Rattle.wit_syntax.proofs.Found.{at_contains, contains_at}
+use Rattle.wit_syntax.proofs.Lists.{at_split, flat_map_at, flat_map_has, map_at}
+use Rattle.wit_first.specs.AttributeFaults.{metadata_fault, stability_fault}
+use Rattle.wit_first.specs.FileFaults.{file_fault, files_fault, lost_fault, paths_fault}
+use Rattle.wit_first.specs.First.{first_in}
+use Rattle.wit_first.specs.NameFaults.{top_names_fault}
+use Rattle.wit_first.specs.UseFaults.{all_uses_fault, item_uses_fault, own_uses, path_fault, reached_fault, use_fault}
+use Rattle.wit_first.proofs.Bridge.{in_only, metadata_agree, or_none_both, stability_agrees, top_names_agree}
+use Rattle.wit_first.proofs.FileFaults.{lost_agrees}
+use Rattle.wit_walk.specs.Paths.{include_fault, interface_fault}
+use Rattle.wit_walk.proofs.FileFaults.{side_uses}
+
+-- what is in what one item of a list brings is in what the list brings
+pub has_flat : {X A : Type 0} (f : X → List A) (xs : List X) (p : ℕ) (x : X) (a : A) → slice_get xs p ≡ Some x → Contains (f x) a → Contains (flat_map f xs) a
+has_flat f xs p x a at h =
+    let j = at_contains (f x) a h in
+    let it = flat_map_has f xs p j.0 x a at j.1 in
+    contains_at (flat_map f xs) it.0 a it.1
+
+-- and what is in the one is in what one item of the other brings
+pub flat_has : {X A : Type 0} (f : X → List A) (xs : List X) (a : A) → Contains (flat_map f xs) a → (p : ℕ) × (x : X) × (slice_get xs p ≡ Some x) × ((j : ℕ) × (slice_get (f x) j ≡ Some a))
+flat_has f xs a h = let k = at_contains (flat_map f xs) a h in flat_map_at f xs k.0 a k.1
+
+-- names at the tops of files
+pub tops_legal : (files : List PackageFile) → files_fault files ≡ None → (file : PackageFile) → Contains files file → (f : Fault) → IsSecond top_text (λ (n : TopName). fault 6 n.id.span) (top_names file) f → ⊥
+tops_legal files none file among f broken =
+    let k = at_contains files file among in
+    let own = or_none_both (top_names_fault file) (first_in (paths_fault (all_items files)) (file_items file)) (in_only (file_fault (all_items files)) files none k.0 file k.1) in
+    (top_names_agree file).unbroken own.0 f broken
+
+-- each `use` of a part is looked at: by itself, or on the side on which it is written
+each_side : (side : WorldSide) (us : List WrittenUse) (u : WrittenUse) → Contains us u → Contains (if same_side Imported side then us else []) u ⊎ Contains (if same_side Exported side then us else []) u
+each_side Imported us u h = inl h
+each_side Exported us u h = inr h
+
+part_walked : (p : Part) (u : WrittenUse) → Contains (part_uses p) u → Contains (own_uses p) u ⊎ (Contains (side_uses Imported p) u ⊎ Contains (side_uses Exported p) u)
+part_walked (UsePart v) u h = inl h
+part_walked (ExternPart x) u h = inr (each_side x.side (inline_uses x.kind) u h)
+part_walked (DefinitionPart d) u h = inl h
+part_walked (IncludePart n) u h = inl h
+part_walked (FunctionPart g) u h = inl h
+
+walked_has : (ps : List Part) (u : WrittenUse) → Contains (flat_map part_uses ps) u → Contains (walk own_uses (λ (x : Extern). inline_uses x.kind) ps) u
+walked_has ps u h =
+    let p = flat_has part_uses ps u h in
+    let imports = flat_map (side_uses Imported) ps in
+    let exports = flat_map (side_uses Exported) ps in
+    let own = flat_map own_uses ps in
+    elim (part_walked p.1 u (contains_at (part_uses p.1) p.3.0 u p.3.1)) [
+      | inl by_itself ↦ Contains-append_left own (imports ++ exports) u (has_flat own_uses ps p.0 p.1 u p.2 by_itself)
+      | inr sides ↦ Contains-append_right own (imports ++ exports) u (elim sides [
+        | inl imported ↦ Contains-append_left imports exports u (has_flat (side_uses Imported) ps p.0 p.1 u p.2 imported)
+        | inr exported ↦ Contains-append_right imports exports u (has_flat (side_uses Exported) ps p.0 p.1 u p.2 exported)
+      ])
+    ]
+
+-- so nothing is wrong with a `use` of an item
+use_none : (files : List PackageFile) → all_uses_fault files ≡ None → (i : Item) → Contains (all_items files) i → (u : WrittenUse) → Contains (uses i) u → (metadata_fault u.attributes.items ≡ None) × (path_fault files i.top u.from ≡ None)
+use_none files none i here u among =
+    let k = at_contains (all_items files) i here in
+    let all = walk own_uses (λ (x : Extern). inline_uses x.kind) (parts i) in
+    let j = at_contains all u (walked_has (parts i) u among) in
+    or_none_both (metadata_fault u.attributes.items) (path_fault files i.top u.from) (in_only (use_fault files i.top) all (in_only (item_uses_fault files) (all_items files) none k.0 i k.1) j.0 u j.1)
+
+pub use_legal : (files : List PackageFile) → all_uses_fault files ≡ None → (i : Item) → Contains (all_items files) i → (u : WrittenUse) → Contains (uses i) u → (f : Fault) → IsBrokenMetadata u.attributes.items f → ⊥
+use_legal files none i here u among = (metadata_agree u.attributes.items).unbroken (use_none files none i here u among).0
+
+-- a path of an item is that of a `use`, or that of a link
+abbrev IsUsePath : List WrittenUse → UsePath → Type 0
+IsUsePath us path = (u : WrittenUse) × Contains us u × (u.from ≡ path)
+
+abbrev IsLinkPath : List SideItem → UsePath → Type 0
+IsLinkPath xs path = (k : ℕ) × (link : Link) × (slice_get xs k ≡ Some (SideLink link)) × (link.path ≡ path)
+
+extern_path : (x : Extern) (kind : ExternKind) (j : ℕ) (path : UsePath) → slice_get (extern_paths kind) j ≡ Some path → IsLinkPath (extern_items x kind) path
+extern_path x (extern.Path p) zero path at = (0, extern_link x None p, refl, cc)
+extern_path x (extern.Path p) (suc j) path at = absurd (let f : ⊥ = cc in f)
+extern_path x (extern.NamedPath name p) zero path at = (0, extern_link x (Some name) p, refl, cc)
+extern_path x (extern.NamedPath name p) (suc j) path at = absurd (let f : ⊥ = cc in f)
+extern_path x (extern.Interface name items) j path at = absurd (let f : ⊥ = cc in f)
+extern_path x (extern.Func name g) j path at = absurd (let f : ⊥ = cc in f)
+
+part_path : (p : Part) (j : ℕ) (path : UsePath) → slice_get (use_path p) j ≡ Some path → IsUsePath (part_uses p) path ⊎ IsLinkPath (part_items p) path
+part_path (UsePart u) zero path at = inl (u, contains_at (u ∷ []) 0 u refl, cc)
+part_path (UsePart u) (suc j) path at = absurd (let f : ⊥ = cc in f)
+part_path (ExternPart x) j path at =
+    let from : WrittenUse → UsePath = λ u. u.from in
+    elim (at_split (map from (inline_uses x.kind)) (extern_paths x.kind) j path at) [
+      | inl prefix ↦ (let u = map_at from (inline_uses x.kind) j path prefix in inl (u.0, contains_at (inline_uses x.kind) j u.0 u.1, u.2))
+      | inr back ↦ inr (extern_path x x.kind back.0 path back.2)
+    ]
+part_path (DefinitionPart d) j path at = absurd (let f : ⊥ = cc in f)
+part_path (IncludePart n) j path at = absurd (let f : ⊥ = cc in f)
+part_path (FunctionPart g) j path at = absurd (let f : ⊥ = cc in f)
+
+path_cases : (i : Item) (path : UsePath) → Contains (use_paths i) path → IsUsePath (uses i) path ⊎ IsLinkPath (side_items i) path
+path_cases i path h =
+    let p = flat_has use_path (parts i) path h in
+    elim (part_path p.1 p.3.0 path p.3.1) [
+      | inl own ↦ inl (own.0, has_flat part_uses (parts i) p.0 p.1 own.0 p.2 own.1, own.2)
+      | inr link ↦ (let it = flat_map_has part_items (parts i) p.0 link.0 p.1 (SideLink link.1) p.2 link.2 in inr (it.0, link.1, it.1, link.3))
+    ]
+
+-- where nothing is wrong with a path, something is there, and it is no world
+world_none : (o : Option Bool) (span : Span) (lost : Option Fault) → reached_fault o span lost ≡ None → o ≡ Some true → ⊥
+world_none o span lost none is =
+    let wrong : Some (fault 10 span) ≡ None = subst (λ (p : Option Bool). reached_fault p span lost ≡ None) is none in
+    (let f : ⊥ = cc in f)
+
+lost_none : (o : Option Bool) (span : Span) (lost : Option Fault) → reached_fault o span lost ≡ None → o ≡ None → lost ≡ None
+lost_none o span lost none is = subst (λ (p : Option Bool). reached_fault p span lost ≡ None) is none
+
+path_legal : (files : List PackageFile) (top : List TopName) (path : UsePath) → path_fault files top path ≡ None → (id : Id) → leads top path ≡ Local id → item_named (all_items files) id.name.now ≡ None → ⊥
+path_legal files top path none id local missing =
+    let there : is_world_at files (leads top path) ≡ None = ap (is_world_at files) local ∙ ap (option_map is_world) missing in
+    let lost = lost_none (is_world_at files (leads top path)) (path_id path).span (lost_fault (all_items files) (leads top path)) none there in
+    (lost_agrees (all_items files) (leads top path)).unbroken lost (missing_at 7 item_word id) (record { id = id; local = local; missing = missing; is = refl })
+
+-- so the paths of an item lead where they have to, where nothing is wrong with those of its links
+pub paths_legal : (files : List PackageFile) → all_uses_fault files ≡ None → (i : Item) → Contains (all_items files) i → ((k : ℕ) (link : Link) → slice_get (side_items i) k ≡ Some (SideLink link) → path_fault files i.top link.path ≡ None) → (f : Fault) → IsBrokenUse files i f → ⊥
+paths_legal files none i here links f broken = elim broken [
+  | MissingUse path id among local missing says ↦ path_legal files i.top path (right path among) id local missing
+  | WorldUsed path among is says ↦ world_none (is_world_at files (leads i.top path)) (path_id path).span (lost_fault (all_items files) (leads i.top path)) (right path among) is
+]
+  where
+    right : (path : UsePath) → Contains (use_paths i) path → path_fault files i.top path ≡ None
+    right path among = elim (path_cases i path among) [
+      | inl own ↦ ap (path_fault files i.top) (sym own.2) ∙ (use_none files none i here own.0 own.1).1
+      | inr link ↦ ap (path_fault files i.top) (sym link.3) ∙ links link.0 link.1 link.2
+    ]
+
+-- an include
+include_none : (files : List PackageFile) (i : Item) → first_in (include_fault files i.top) (includes i) ≡ None → (n : Include) → Contains (includes i) n → (stability_fault n.attributes.items ≡ None) × (interface_fault (is_world_at files (leads i.top n.from)) (path_id n.from).span ≡ None)
+include_none files i none n among =
+    let k = at_contains (includes i) n among in
+    or_none_both (stability_fault n.attributes.items) (interface_fault (is_world_at files (leads i.top n.from)) (path_id n.from).span) (in_only (include_fault files i.top) (includes i) none k.0 n k.1)
+
+pub include_legal : (files : List PackageFile) (i : Item) → first_in (include_fault files i.top) (includes i) ≡ None → (n : Include) → Contains (includes i) n → (f : Fault) → IsBrokenStability n.attributes.items f → ⊥
+include_legal files i none n among = (stability_agrees n.attributes.items).unbroken (include_none files i none n among).0
+
+include_of : (i : Item) (path : UsePath) → Contains (include_paths i) path → (n : Include) × Contains (includes i) n × (n.from ≡ path)
+include_of i path h =
+    let p = flat_has include_path (parts i) path h in
+    let n = map_at (λ (n : Include). n.from) (part_includes p.1) p.3.0 path p.3.1 in
+    (n.0, has_flat part_includes (parts i) p.0 p.1 n.0 p.2 (contains_at (part_includes p.1) p.3.0 n.0 n.1), n.2)
+
+pub included_legal : (files : List PackageFile) (i : Item) → first_in (include_fault files i.top) (includes i) ≡ None → (path : UsePath) → Contains (include_paths i) path → is_world_at files (leads i.top path) ≡ Some false → ⊥
+included_legal files i none path among is =
+    let n = include_of i path among in
+    let there : is_world_at files (leads i.top n.0.from) ≡ Some false = ap (λ (p : UsePath). is_world_at files (leads i.top p)) n.2 ∙ is in
+    let wrong : Some (fault 11 (path_id n.0.from).span) ≡ None = subst (λ (o : Option Bool). interface_fault o (path_id n.0.from).span ≡ None) there (include_none files i none n.0 n.1).1 in
+    (let f : ⊥ = cc in f)

@@ -1,0 +1,34 @@
+-- Where the walk finds no setter without its getter, each has one.
+use Rattle.std.proofs.Common.{◌≡◌, ◌&&◌, not, List, [], None, inl, inr, ap, subst}
+use Rattle.std.specs.List.{list_any}
+use Rattle.std.specs.Str.{bytes_eq}
+use Rattle.std.proofs.lemmas.Bool.{and_from, cases_Bool, not_from_false}
+use Rattle.wit_names.specs.Setter.{getter_of}
+use Rattle.wit_tree.specs.declared.tree.Include.{Include}
+use Rattle.wit_tree.specs.declared.tree.WorldSide.{WorldSide}
+use Rattle.wit_tree.specs.declared.tree.WorldSide.TheVariants.{Imported, Exported}
+use Rattle.wit_syntax.specs.Broken.{IsSetterAlone}
+use Rattle.wit_syntax.specs.Fault.{Fault, fault}
+use Rattle.wit_syntax.specs.Function.{SourceFunction, functions}
+use Rattle.wit_syntax.specs.Sides.{on_side}
+use Rattle.wit_syntax.specs.Source.{Item}
+use Rattle.wit_syntax.proofs.Found.{at_contains, contains_at}
+use Rattle.wit_syntax.proofs.Names.{name_equal}
+use Rattle.wit_first.proofs.Bridge.{any_found, in_only, or_none_both}
+use Rattle.wit_walk.specs.Setters.{is_setter, setter_fault, setters_beside, setters_fault, side_setters_fault}
+use Rattle.wit_walk.proofs.ScopeFaults.{if_none}
+
+side_none : (i : Item) → setters_beside i [] ≡ None → (side : WorldSide) → side_setters_fault i side ≡ None
+side_none i none Imported = (or_none_both (side_setters_fault i Imported) (side_setters_fault i Exported) none).0
+side_none i none Exported = (or_none_both (side_setters_fault i Imported) (side_setters_fault i Exported) none).1
+
+pub setters_legal : (i : Item) → setters_fault i ≡ None → (f : Fault) → IsSetterAlone i f → ⊥
+setters_legal i none f (empty, side, (fn, among, is, alone, says)) =
+    let fns = on_side side (functions i) in
+    let right = side_none i (subst (λ (ns : List Include). setters_beside i ns ≡ None) empty none) side in
+    let k = at_contains fns fn among in
+    let test = λ (g : SourceFunction). bytes_eq g.name (getter_of fn.name) in
+    elim (cases_Bool (list_any test fns)) [
+      | inl hit ↦ (let it = any_found test fns hit in alone it.1 (contains_at fns it.0 it.1 it.2) (name_equal it.1.name (getter_of fn.name) it.3))
+      | inr miss ↦ if_none (is_setter fn.func.form && not (list_any test fns)) (fault 18 fn.span) (in_only (setter_fault fns) fns right k.0 fn k.1) (and_from (is_setter fn.func.form) (not (list_any test fns)) (ap is_setter is) (not_from_false (list_any test fns) miss))
+    ]
