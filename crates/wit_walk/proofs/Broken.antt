@@ -257,7 +257,7 @@ module _ (files : List PackageFile) (known : Known) (outcomes : AreOutcomes know
     ]
   ]
 
-  first_broken : first_fault files known ≡ Some f → IsBroken files f
+  pub first_broken : first_fault files known ≡ Some f → IsBroken files f
   first_broken h = elim (or_some (header_fault (last_header files)) rest2 f h) [
     | inl it ↦ (let none = headerless (last_header files) f it in Headerless none.0 none.1)
     | inr h2 ↦ stage2 h2.1

@@ -1,4 +1,4 @@
--- Files in which the walk finds nothing break no rule.
+-- Files in which the walk finds nothing break no rule; and in files that break none it finds nothing.
 use Rattle.std.proofs.Common.{◌≡◌, ◌+◌, ◌≤◌, ℕ, false, not, List, [], ◌∷◌, ◌++◌, length, take, Option, Some, None, inl, inr, refl, sym, ap, ◌∙◌, Contains, arith}
 use Rattle.std.specs.Prelude.{slice_get, map}
 use Rattle.std.proofs.lemmas.Bool.{cases_Bool, not_from_false}
@@ -9,7 +9,7 @@ use Rattle.wit_tree.specs.declared.tree.Extern.{Extern}
 use Rattle.wit_tree.specs.declared.tree.InterfaceItem.{InterfaceItem}
 use Rattle.wit_tree.specs.declared.tree.PackageName.{PackageName as Header}
 use Rattle.wit_tree.specs.declared.tree.PackageFile.{PackageFile}
-use Rattle.wit_graph.specs.Table.{IsOrder}
+use Rattle.wit_graph.specs.Table.{Row, IsOrder}
 use Rattle.wit_syntax.specs.Broken.{last_header, DefinedTwice, MissingType, CyclicType, Metadata, Body, Function, IsBrokenScope, IsBrokenItems, DuplicateItem, DuplicateTopName, MissingItem, CyclicItem, IsBrokenNames, Items, ForeignStability, TopUse, IsLegal, Headerless, Names, ItemStability, UseMetadata, IncludeStability, Use, InterfaceIncluded, MissingName, Scope, Sides, LinkedTwice, Handle, Setter}
 use Rattle.wit_syntax.specs.Fault.{Fault, missing_at, missing_type_at, cyclic_at, item_word, type_word}
 use Rattle.wit_syntax.specs.Foreign.{foreign_visits}
@@ -35,12 +35,14 @@ use Rattle.wit_first.proofs.FileFaults.{tops_agree, visits_agree}
 use Rattle.wit_walk.specs.Definitions.{definition_fault, handle_fault}
 use Rattle.wit_walk.specs.Members.{member_fault}
 use Rattle.wit_walk.specs.Names.{name_fault, folded_fault}
-use Rattle.wit_walk.specs.Orders.{AreOutcomes, order_of}
+use Rattle.wit_walk.specs.Orders.{Outcome, AreOutcomes, order_of}
 use Rattle.wit_walk.specs.Paths.{include_fault}
 use Rattle.wit_walk.specs.Setters.{setters_fault}
 use Rattle.wit_walk.specs.Walk.{Known, IsFaultless, ordered_fault, inline_fault, contents_fault, earliest, header_fault, first_fault, scope_faults, walk_faults}
+use Rattle.wit_walk.proofs.Broken.{first_broken}
 use Rattle.wit_walk.proofs.FilesLegal.{include_legal, included_legal, paths_legal, tops_legal, use_legal}
 use Rattle.wit_walk.proofs.MembersLegal.{functions_legal, item_none, link_reached, links_legal, sides_legal, signed_handles}
+use Rattle.wit_walk.proofs.Outcomes.{outcome_of}
 use Rattle.wit_walk.proofs.ScopeFaults.{outcome_order}
 use Rattle.wit_walk.proofs.ScopesLegal.{body_legal, defined_handles, handle_legal, metadata_legal, names_legal, twice_legal}
 use Rattle.wit_walk.proofs.SettersLegal.{setters_legal}
@@ -233,3 +235,19 @@ module _ (files : List PackageFile) (it : IsFaultless files) where
         | Handle i among meant h ↦ handle_right i among f h
         | Setter i among h ↦ setters_legal i (clear i among).setters f h
       ]
+
+-- back: where no rule is broken, there is no first fault, which would be that of one
+no_fault : (o : Option Fault) → ((f : Fault) → o ≡ Some f → ⊥) → o ≡ None
+no_fault None none = refl
+no_fault (Some f) none = absurd (none f refl)
+
+pub faultless : (files : List PackageFile) → IsLegal files → IsFaultless files
+faultless files legal =
+    let outcome : List Row → Outcome = λ rs. (outcome_of rs).0 in
+    let outcomes : AreOutcomes outcome = record { each = λ rs. (outcome_of rs).1 } in
+    record {
+      outcome = outcome;
+      outcomes = outcomes;
+      enough = 0;
+      is = λ steps le. no_fault (first_fault files (record { outcome = outcome; steps = steps })) (λ f h. legal f (first_broken files (record { outcome = outcome; steps = steps }) outcomes f h));
+    }

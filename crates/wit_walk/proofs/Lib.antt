@@ -6,6 +6,7 @@ pub mod FunctionFaults
 pub mod SetterFaults
 pub mod MemberFaults
 pub mod Broken
+pub mod Outcomes
 pub mod TypesLegal
 pub mod FilesLegal
 pub mod FunctionsLegal

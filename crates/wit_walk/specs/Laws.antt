@@ -13,3 +13,6 @@ FirstIsBroken = (files : List PackageFile) (f : Fault) → IsFirst files f → I
 
 abbrev pub FaultlessIsLegal : Type 0
 FaultlessIsLegal = (files : List PackageFile) → IsFaultless files → IsLegal files
+
+abbrev pub LegalIsFaultless : Type 0
+LegalIsFaultless = (files : List PackageFile) → IsLegal files → IsFaultless files

@@ -1,5 +1,5 @@
 //! What holds of the first fault of files.
-ghost use Rattle.wit_walk.specs.Laws.{FaultlessIsLegal, FirstIsBroken, OneFirst};
+ghost use Rattle.wit_walk.specs.Laws.{FaultlessIsLegal, FirstIsBroken, LegalIsFaultless, OneFirst};
 
 /// Files come to one fault, or to none: two first faults are equal, and files that have one are not
 /// without a fault.
@@ -15,4 +15,9 @@ pub fn first_is_broken()
 /// Files without a fault are legal: no rule is broken in them.
 pub fn faultless_is_legal()
     ensures { FaultlessIsLegal }
+{}
+
+/// And files that are legal have no fault.
+pub fn legal_is_faultless()
+    ensures { LegalIsFaultless }
 {}
