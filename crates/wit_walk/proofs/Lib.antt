@@ -14,4 +14,6 @@ pub mod ScopesLegal
 pub mod SettersLegal
 pub mod MembersLegal
 pub mod Legal
+pub mod Steps
+pub mod Decided
 pub mod Rows

@@ -48,11 +48,11 @@ module _ (files : List PackageFile) (e : End) where
   ends_more s name one other more AliasForm NoShape h = h
   ends_more s name one other more form parts h = h
 
-  meant_more : (one other : Address → Shape → Option End) → ((t : Address) (x : Shape) → one t x ≡ Some e → other t x ≡ Some e) → (s : Address) (m : Option ScopeName) → meant_end one s m ≡ Some e → meant_end other s m ≡ Some e
+  pub meant_more : (one other : Address → Shape → Option End) → ((t : Address) (x : Shape) → one t x ≡ Some e → other t x ≡ Some e) → (s : Address) (m : Option ScopeName) → meant_end one s m ≡ Some e → meant_end other s m ≡ Some e
   meant_more one other more s None h = h
   meant_more one other more s (Some x) h = (let t = unwrap_or (about_name x).from s in ends_more s (local_name x) (one t) (other t) (more t) (about_name x).body.form (about_name x).body.parts h)
 
-  steps_more : (n m : ℕ) → n ≤ m → (s : Address) (x : Shape) → shape_end files n s x ≡ Some e → shape_end files m s x ≡ Some e
+  pub steps_more : (n m : ℕ) → n ≤ m → (s : Address) (x : Shape) → shape_end files n s x ≡ Some e → shape_end files m s x ≡ Some e
   steps_more zero m le s x h = absurd (let f : ⊥ = cc in f)
   steps_more (suc n) zero le s x h = absurd (let f : ⊥ = omega (arith, le) in f)
   steps_more (suc n) (suc m) le s (Word id) h = meant_more (shape_end files n) (shape_end files m) (λ t x. steps_more n m (omega (arith, le)) t x) s (meaning (scope files s) id.name.now) h

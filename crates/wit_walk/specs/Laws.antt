@@ -1,5 +1,5 @@
 -- What holds of the first fault of files.
-use Rattle.std.specs.Prelude.{◌≡◌, List, Option}
+use Rattle.std.specs.Prelude.{◌≡◌, ◌⊎◌, List, Option}
 use Rattle.wit_tree.specs.declared.tree.PackageFile.{PackageFile}
 use Rattle.wit_syntax.specs.Broken.{IsBroken, IsLegal}
 use Rattle.wit_syntax.specs.Fault.{Fault}
@@ -16,3 +16,6 @@ FaultlessIsLegal = (files : List PackageFile) → IsFaultless files → IsLegal 
 
 abbrev pub LegalIsFaultless : Type 0
 LegalIsFaultless = (files : List PackageFile) → IsLegal files → IsFaultless files
+
+abbrev pub LegalOrFirst : Type 0
+LegalOrFirst = (files : List PackageFile) → IsLegal files ⊎ ((f : Fault) × IsFirst files f)

@@ -1,5 +1,5 @@
 //! What holds of the first fault of files.
-ghost use Rattle.wit_walk.specs.Laws.{FaultlessIsLegal, FirstIsBroken, LegalIsFaultless, OneFirst};
+ghost use Rattle.wit_walk.specs.Laws.{FaultlessIsLegal, FirstIsBroken, LegalIsFaultless, LegalOrFirst, OneFirst};
 
 /// Files come to one fault, or to none: two first faults are equal, and files that have one are not
 /// without a fault.
@@ -20,4 +20,9 @@ pub fn faultless_is_legal()
 /// And files that are legal have no fault.
 pub fn legal_is_faultless()
     ensures { LegalIsFaultless }
+{}
+
+/// Files are legal, or they have a first fault.
+pub fn legal_or_first()
+    ensures { LegalOrFirst }
 {}
