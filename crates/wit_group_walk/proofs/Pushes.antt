@@ -1,0 +1,152 @@
+-- The first fault of sources is a reason why one of them cannot be pushed; and where there is none, each of them can.
+use Rattle.std.proofs.Common.{◌≡◌, ◌⊎◌, Bool, true, false, List, [], ◌∷◌, take, Option, Some, None, inl, inr, refl, sym, ap, ◌∙◌, subst}
+use Rattle.std.specs.Prelude.{Contains}
+use Rattle.std.specs.Option.{option_or}
+use mathlib.Core.Path.{fun_ext}
+use Rattle.wit_tree.specs.declared.tree.NestedPackage.{NestedPackage}
+use Rattle.wit_tree.specs.declared.tree.PackageName.{PackageName as Header}
+use Rattle.wit_tree.specs.declared.tree.PackageFile.{PackageFile}
+use Rattle.wit_tree.specs.declared.tree.SourceFile.{SourceFile}
+use Rattle.wit_syntax.specs.Address.{package_of, same_package}
+use Rattle.wit_syntax.specs.Broken.{IsBroken, IsMismatch, IsDocumentedTwice, IsOtherPackage, headers, last_header}
+use Rattle.wit_syntax.specs.Fault.{Fault, fault}
+use Rattle.wit_syntax.proofs.Found.{at_contains, contains_at}
+use Rattle.wit_first.specs.First.{first_in}
+use Rattle.wit_first.specs.HeaderFaults.{other_fault}
+use Rattle.wit_first.specs.Laws.{Agrees}
+use Rattle.wit_first.proofs.Bridge.{after_only, after_some, in_agrees, or_none_both, or_some}
+use Rattle.wit_items.proofs.Documented.{docs_agree}
+use Rattle.wit_parser.proofs.Pushing.{other_here, same_by}
+use Rattle.wit_nested.specs.Nested.{IsBrokenAmong, IsBrokenNested, IsInner, IsUnfit, file_of}
+use Rattle.wit_nested.specs.Nested.IsBrokenNested.{Inner, Alone}
+use Rattle.wit_nested.specs.Nested.IsUnfit.{Nested, OtherPackage, DocumentedTwice}
+use Rattle.wit_walk.specs.Walk.{ComesTo}
+use Rattle.wit_walk.proofs.Broken.{broken}
+use Rattle.wit_walk.proofs.Decided.{decided}
+use Rattle.wit_walk.proofs.Legal.{faultless, legal}
+use Rattle.wit_walk.proofs.One.{one_first}
+use Rattle.wit_group_walk.specs.GroupFaults.{IsUnfitAmong}
+use Rattle.wit_group_walk.specs.PushFaults.{IsWalk, inner_fault, nested_fault, file_fault, source_fault, files_of, pushes_fault}
+
+-- of two faults, one after the other
+pub or_agrees : {a b : Option Fault} {A B C : Fault → Type 0} → Agrees a A → Agrees b B → ((f : Fault) → A f → C f) → ((f : Fault) → B f → C f) → ((f : Fault) → C f → A f ⊎ B f) → Agrees (option_or a b) C
+or_agrees {a} {b} {A} {B} {C} x y left right back = record {
+  broken = λ f h. elim (or_some a b f h) [
+    | inl own ↦ left f (x.broken f own)
+    | inr far ↦ right f (y.broken f far.1)
+  ];
+  unbroken = λ none f c. (
+      let both = or_none_both a b none in
+      elim (back f c) [
+        | inl own ↦ x.unbroken both.0 f own
+        | inr far ↦ y.unbroken both.1 f far
+      ]);
+}
+
+-- the same fault in other words
+pub agrees_as : {a : Option Fault} {A B : Fault → Type 0} → Agrees a A → ((f : Fault) → A f → B f) → ((f : Fault) → B f → A f) → Agrees a B
+agrees_as x to back = record { broken = λ f h. to f (x.broken f h); unbroken = λ none f b. x.unbroken none f (back f b) }
+
+-- where nothing is wrong there is none
+pub none_of : {A : Fault → Type 0} (first : Option Fault) → Agrees first A → ((f : Fault) → A f → ⊥) → first ≡ None
+none_of None x none = refl
+none_of (Some f) x none = absurd (none f (x.broken f refl))
+
+-- there is one walk of files
+pub one_walk : (walk other : List PackageFile → Option Fault) → IsWalk walk → IsWalk other → walk ≡ other
+one_walk walk other a b = fun_ext (λ (files : List PackageFile). one_first files (walk files) (other files) (a.each files) (b.each files))
+
+found : (files : List PackageFile) → (first : Option Fault) × ComesTo files first
+found files = elim (decided files) [
+  | inl right ↦ (None, faultless files right)
+  | inr wrong ↦ (Some wrong.0, wrong.1)
+]
+
+pub a_walk : (walk : List PackageFile → Option Fault) × IsWalk walk
+a_walk = (λ files. (found files).0, record { each = λ files. (found files).1 })
+
+-- what it comes to is a broken rule
+pub walk_agrees : (walk : List PackageFile → Option Fault) → IsWalk walk → (files : List PackageFile) → Agrees (walk files) (IsBroken files)
+walk_agrees walk walks files = record {
+  broken = λ f is. broken files f (subst (ComesTo files) is (walks.each files));
+  unbroken = λ none. legal files (subst (ComesTo files) none (walks.each files));
+}
+
+-- a package in a nested one
+inner_broken : (n : NestedPackage) (inner : List Header) (f : Fault) → n.nested.items ≡ inner → inner_fault inner ≡ Some f → IsInner n f
+inner_broken n [] f is h = absurd (let g : ⊥ = cc in g)
+inner_broken n (i ∷ rest) f is h = (
+    let same : Some (fault 3 i.span) ≡ Some f = h in
+    record { inner = i; among = subst (λ hs. Contains hs i) (sym is) (contains_at (i ∷ rest) 0 i refl); is = (let says : f ≡ fault 3 i.span = cc in says) })
+
+inner_unbroken : (inner : List Header) (i : Header) → inner_fault inner ≡ None → Contains inner i → ⊥
+inner_unbroken [] i none among = (let it = at_contains [] i among in let at = it.1 in let g : ⊥ = cc in g)
+inner_unbroken (j ∷ rest) i none among = (let g : ⊥ = cc in g)
+
+inner_agrees : (n : NestedPackage) → Agrees (inner_fault n.nested.items) (IsInner n)
+inner_agrees n = record { broken = λ f h. inner_broken n n.nested.items f refl h; unbroken = λ none f i. inner_unbroken n.nested.items i.inner none i.among }
+
+nested_back : (n : NestedPackage) (f : Fault) → IsBrokenNested n f → IsInner n f ⊎ IsBroken (file_of n ∷ []) f
+nested_back n f (Inner i) = inl i
+nested_back n f (Alone b) = inr b
+
+nested_agrees : (walk : List PackageFile → Option Fault) → IsWalk walk → (n : NestedPackage) → Agrees (nested_fault walk n) (IsBrokenNested n)
+nested_agrees walk walks n = or_agrees (inner_agrees n) (walk_agrees walk walks (file_of n ∷ [])) (λ f i. Inner i) (λ f b. Alone b) (nested_back n)
+
+-- a header after another one
+other_broken : (previous current : Option Header) (f : Fault) → other_fault previous current ≡ Some f → IsMismatch previous current f
+other_broken None current f h = absurd (let g : ⊥ = cc in g)
+other_broken (Some before) None f h = absurd (let g : ⊥ = cc in g)
+other_broken (Some before) (Some own) f h = by (same_package (package_of before) (package_of own)) refl
+  where
+    by : (b : Bool) → same_package (package_of before) (package_of own) ≡ b → IsMismatch (Some before) (Some own) f
+    by true is = absurd (let wrong : None ≡ Some f = rw is at h in let g : ⊥ = cc in g)
+    by false is = (
+        let same : Some (fault 1 own.span) ≡ Some f = rw is at h in
+        record {
+          before = before;
+          own = own;
+          was = refl;
+          now = refl;
+          other = λ one. (let wrong : true ≡ false = sym (same_by before own one) ∙ is in let g : ⊥ = cc in g);
+          is = (let says : f ≡ fault 1 own.span = cc in says);
+        })
+
+other_unbroken : (previous current : Option Header) → other_fault previous current ≡ None → (f : Fault) → IsMismatch previous current f → ⊥
+other_unbroken previous current none f h =
+    let there = ap (λ (o : Option Header). other_fault o current) h.was ∙ ap (other_fault (Some h.before)) h.now ∙ other_here h.before h.own h.other in
+    let wrong : None ≡ Some (fault 1 h.own.span) = sym none ∙ there in
+    (let g : ⊥ = cc in g)
+
+other_agrees : (previous current : Option Header) → Agrees (other_fault previous current) (IsMismatch previous current)
+other_agrees previous current = record { broken = other_broken previous current; unbroken = other_unbroken previous current }
+
+file_agrees : (files : List PackageFile) (file : PackageFile) → Agrees (file_fault files file) (λ f. IsOtherPackage files file f ⊎ IsDocumentedTwice files file f)
+file_agrees files file = or_agrees (other_agrees (last_header files) file.package_id) (docs_agree (headers files) file.package_id) (λ f x. inl x) (λ f x. inr x) (λ f x. x)
+
+-- a source
+unfit_back : (files : List PackageFile) (s : SourceFile) (f : Fault) → IsUnfit files s f → IsBrokenAmong s.nested.items f ⊎ (IsOtherPackage files s.file f ⊎ IsDocumentedTwice files s.file f)
+unfit_back files s f (Nested b) = inl b
+unfit_back files s f (OtherPackage other) = inr (inl other)
+unfit_back files s f (DocumentedTwice twice) = inr (inr twice)
+
+unfit_file : (files : List PackageFile) (s : SourceFile) (f : Fault) → IsOtherPackage files s.file f ⊎ IsDocumentedTwice files s.file f → IsUnfit files s f
+unfit_file files s f (inl other) = OtherPackage other
+unfit_file files s f (inr twice) = DocumentedTwice twice
+
+among_agrees : (walk : List PackageFile → Option Fault) → IsWalk walk → (ns : List NestedPackage) → Agrees (first_in (nested_fault walk) ns) (IsBrokenAmong ns)
+among_agrees walk walks ns = agrees_as (in_agrees (nested_fault walk) IsBrokenNested ns (nested_agrees walk walks)) (λ f h. record { n = h.0; among = h.1; broken = h.2 }) (λ f b. (b.n, b.among, b.broken))
+
+pub source_agrees : (walk : List PackageFile → Option Fault) → IsWalk walk → (files : List PackageFile) (s : SourceFile) → Agrees (source_fault walk files s) (IsUnfit files s)
+source_agrees walk walks files s = or_agrees (among_agrees walk walks s.nested.items) (file_agrees files s.file) (λ f b. Nested b) (unfit_file files s) (unfit_back files s)
+
+-- sources
+pub pushes_agree : (walk : List PackageFile → Option Fault) → IsWalk walk → (sources : List SourceFile) → Agrees (pushes_fault walk sources) (IsUnfitAmong sources)
+pushes_agree walk walks sources =
+    let w = λ (before : List SourceFile) (s : SourceFile). source_fault walk (files_of before) s in
+    record {
+      broken = λ f h. (
+          let it = after_some w [] sources f h in
+          record { place = it.0; s = it.1; present = it.2; unfit = (source_agrees walk walks (files_of (take it.0 sources)) it.1).broken f it.3 });
+      unbroken = λ none f u. (source_agrees walk walks (files_of (take u.place sources)) u.s).unbroken (after_only w [] sources none u.place u.s u.present) f u.unfit;
+    }

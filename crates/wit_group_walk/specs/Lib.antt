@@ -1,0 +1,3 @@
+pub mod PushFaults
+pub mod GroupFaults
+pub mod Laws
