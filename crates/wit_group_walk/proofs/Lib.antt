@@ -1,2 +1,3 @@
 pub mod Pushes
+pub mod Names
 pub mod Group

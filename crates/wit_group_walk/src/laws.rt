@@ -1,5 +1,5 @@
 //! What holds of the first fault of a group.
-ghost use Rattle.wit_group_walk.specs.Laws.{FaultlessGroupIsLegal, FirstOfGroupIsBroken, LegalGroupIsFaultless, LegalGroupOrFirst, OneFirstOfGroup};
+ghost use Rattle.wit_group_walk.specs.Laws.{FaultlessGroupIsLegal, FirstOfGroupIsBroken, LegalGroupIsFaultless, LegalGroupOrFirst, NamesAgree, OneFirstOfGroup};
 
 /// A group comes to one fault, or to none: two first faults are equal, and a group that has one is not
 /// without a fault.
@@ -26,4 +26,10 @@ pub fn legal_group_is_faultless()
 /// A group is legal, or it has a first fault.
 pub fn legal_group_or_first()
     ensures { LegalGroupOrFirst }
+{}
+
+/// Two packages of one name are refused where the packages are made: the fault of the names that are
+/// written is the refusal of `GroupResolver::resolve`, and there is none exactly where it refuses none.
+pub fn names_agree()
+    ensures { NamesAgree }
 {}
