@@ -1,3 +1,6 @@
 pub mod Pushes
 pub mod Names
 pub mod Group
+pub mod Turns
+pub mod ByPath
+pub mod Groups

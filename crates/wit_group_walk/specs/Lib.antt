@@ -1,3 +1,5 @@
 pub mod PushFaults
 pub mod GroupFaults
 pub mod Laws
+pub mod SourceFaults
+pub mod SourceLaws

@@ -1,5 +1,6 @@
-//! What holds of the first fault of a group.
+//! What holds of the first fault of a group, and of sources.
 ghost use Rattle.wit_group_walk.specs.Laws.{FaultlessGroupIsLegal, FirstOfGroupIsBroken, LegalGroupIsFaultless, LegalGroupOrFirst, NamesAgree, OneFirstOfGroup};
+ghost use Rattle.wit_group_walk.specs.SourceLaws.{FaultlessIsGroup, FaultlessOrFirst, FirstOfSourcesIsBroken, GroupIsFaultless, OneFirstOfSources, RefusedHaveFirst};
 
 /// A group comes to one fault, or to none: two first faults are equal, and a group that has one is not
 /// without a fault.
@@ -32,4 +33,35 @@ pub fn legal_group_or_first()
 /// written is the refusal of `GroupResolver::resolve`, and there is none exactly where it refuses none.
 pub fn names_agree()
     ensures { NamesAgree }
+{}
+
+/// Sources of which the same is read come to one fault, or to none.
+pub fn one_first_of_sources()
+    ensures { OneFirstOfSources }
+{}
+
+/// The first fault of sources is something that is wrong with them: one cannot be read or pushed, or the
+/// files or the names of all are wrong.
+pub fn first_of_sources_is_broken()
+    ensures { FirstOfSourcesIsBroken }
+{}
+
+/// Sources have no fault, or they have a first one, whatever is read of them.
+pub fn faultless_or_first()
+    ensures { FaultlessOrFirst }
+{}
+
+/// Sources that make a group have no fault.
+pub fn group_is_faultless()
+    ensures { GroupIsFaultless }
+{}
+
+/// And sources without a fault make a group: the packages that their trees make.
+pub fn faultless_is_group()
+    ensures { FaultlessIsGroup }
+{}
+
+/// Sources that are refused have a first fault, unless an allocation failed.
+pub fn refused_have_first()
+    ensures { RefusedHaveFirst }
 {}

@@ -1,0 +1,203 @@
+-- Sources that make a group have no fault; and sources that are refused have one.
+use Rattle.std.proofs.Common.{◌≡◌, ◌⊎◌, List, [], ◌∷◌, ◌++◌, Option, Some, None, inl, inr, refl, sym, ap, ◌∙◌, subst, append_assoc, map}
+use Rattle.std.specs.Prelude.{string_bytes}
+use Rattle.std.specs.List.{AllZip}
+use Rattle.std.specs.Option.{option_or}
+use Rattle.std.proofs.lemmas.Grind.{flat_map-append}
+use Rattle.std.proofs.lemmas.List.{append-nil, map-append}
+use Rattle.wit_tree.specs.declared.tree.NestedPackage.{NestedPackage}
+use Rattle.wit_tree.specs.declared.tree.PackageFile.{PackageFile}
+use Rattle.wit_tree.specs.declared.tree.SourceFile.{SourceFile}
+use Rattle.wit_type_tree.specs.declared.error.ParseError.{ParseError}
+use Rattle.wit_type_tree.specs.RefusalText.{IsAllocationFailure}
+use Rattle.wit_lex.specs.declared.fault.ReadError.TheVariants.{Fault as Stopped, OutOfMemory as Wanting}
+use Rattle.wit_lex.specs.declared.source.Source.{Source}
+use Rattle.wit_bundle.specs.SourcePaths.{IsByPath}
+use Rattle.wit_model.specs.declared.unresolved.UnresolvedPackage.{UnresolvedPackage}
+use Rattle.wit_syntax.specs.Broken.{IsBroken, last_header}
+use Rattle.wit_syntax.specs.Fault.{Fault, fault_of}
+use Rattle.wit_arena.specs.Faithful.{IsMadeOf}
+use Rattle.wit_first.specs.First.{first_after}
+use Rattle.wit_first.proofs.Bridge.{or_none_both}
+use Rattle.wit_first.proofs.First.{after-more, none_both, or_none}
+use Rattle.wit_nested.specs.Nested.{GrowByNested, IsMadeByNested, IsUnfit}
+use Rattle.wit_nested.specs.PackageNames.{AreNamedApart}
+use Rattle.wit_nested.proofs.Making.{zip_more}
+use Rattle.wit_groups.specs.Groups.{AreRefused, AreUsed, IsGroup, IsRefused, IsTree}
+use Rattle.wit_groups.specs.Groups.AreRefused.{Unread, Unfit, Illegal, Repeated}
+use Rattle.wit_groups.specs.Groups.AreUsed.{None as NoneUsed, More}
+use Rattle.wit_groups.specs.Groups.IsRefused.{InTurn, Wanted}
+use Rattle.wit_text.specs.Files.{IsFaultOf}
+use Rattle.wit_text.specs.Files.IsFaultOf.{At, Wanted as FaultWanted}
+use Rattle.wit_walk.specs.Walk.{earliest}
+use Rattle.wit_group_walk.specs.GroupFaults.{joined_faults, names_fault, nested_names}
+use Rattle.wit_group_walk.specs.PushFaults.{IsWalk, files_of, nested_of, pushes_fault, source_fault}
+use Rattle.wit_group_walk.specs.SourceFaults.{Read, Tree, Stop, IsRead, IsStop, stop_fault, trees_of, TurnComesTo, SourcesComeTo, IsFirstOfSources, AreFaultless, AreBroken}
+use Rattle.wit_group_walk.proofs.ByPath.{one_by_path}
+use Rattle.wit_group_walk.proofs.Names.{made_names}
+use Rattle.wit_group_walk.proofs.Pushes.{a_walk, none_of, one_walk, some_of, source_agrees, walk_agrees}
+use Rattle.wit_group_walk.proofs.Turns.{or_here, pushed, turn_broken, turn_comes, turn_one, turn_prefix, turn_trees}
+
+zip_append : {A B : Type 0} (R : A → B → Type 0) (xs us : List A) (ys vs : List B) → AllZip R xs ys → AllZip R us vs → AllZip R (xs ++ us) (ys ++ vs)
+zip_append R [] us [] vs a b = b
+zip_append R [] us (y ∷ ys) vs a b = absurd a
+zip_append R (x ∷ xs) us [] vs a b = absurd a
+zip_append R (x ∷ xs) us (y ∷ ys) vs a b = (a.0, zip_append R xs us ys vs a.1 b)
+
+-- the trees of sources that are used: they can be pushed, and the nested packages are made of what is nested in them
+pub record HasTrees (walk : List PackageFile → Option Fault) (turn : List Source) (files : List PackageFile) (packages : List UnresolvedPackage) : Type 0 where
+  pub trees : List SourceFile
+  pub each : AllZip IsTree turn trees
+  pub files_are : files ≡ files_of trees
+  pub none : pushes_fault walk trees ≡ None
+  pub made : AllZip IsMadeByNested (nested_of trees) packages
+
+module _ (walk : List PackageFile → Option Fault) (walks : IsWalk walk) where
+  fits : (files : List PackageFile) (read : SourceFile) → ((f : Fault) → IsUnfit files read f → ⊥) → source_fault walk files read ≡ None
+  fits files read fit = none_of (source_fault walk files read) (source_agrees walk walks files read) fit
+
+  used_trees : (turn : List Source) (files : List PackageFile) (packages : List UnresolvedPackage) → AreUsed turn files packages → HasTrees walk turn files packages
+  used_trees _ _ _ NoneUsed = record { trees = []; each = tt; files_are = refl; none = refl; made = tt }
+  used_trees _ _ _ (More sources files packages kept s read used tree fit grow) =
+      let it = used_trees sources files packages used in
+      let nested : nested_of (it.trees ++ read ∷ []) ≡ nested_of it.trees ++ read.nested.items = flat_map-append (λ (s : SourceFile). s.nested.items) it.trees (read ∷ []) ∙ ap (λ (l : List NestedPackage). nested_of it.trees ++ l) (append-nil read.nested.items) in
+      let all = zip_append IsMadeByNested (nested_of it.trees) read.nested.items packages grow.made it.made grow.each in
+      record {
+        trees = it.trees ++ read ∷ [];
+        each = zip_more IsTree sources it.trees s read it.each tree;
+        files_are = ap (λ (l : List PackageFile). l ++ read.file ∷ []) it.files_are ∙ sym (map-append (λ (s : SourceFile). s.file) it.trees (read ∷ []));
+        none = after-more (pushed walk) it.trees read it.none ∙ fits (files_of it.trees) read (subst (λ (l : List PackageFile). (f : Fault) → IsUnfit l read f → ⊥) it.files_are fit);
+        made = subst (λ (ps : List UnresolvedPackage). AllZip IsMadeByNested (nested_of (it.trees ++ read ∷ [])) ps) (sym grow.extended) (subst (λ (ns : List NestedPackage). AllZip IsMadeByNested ns (packages ++ grow.made)) (sym nested) all);
+      }
+
+  -- nothing is wrong with the files of all, nor with the names
+  joined_none : (trees : List SourceFile) → walk (files_of trees) ≡ None → names_fault (last_header (files_of trees)) (nested_names trees) ≡ None → earliest (joined_faults walk trees) ≡ None
+  joined_none trees files names = none_both files (or_none (names_fault (last_header (files_of trees)) (nested_names trees)) ∙ names)
+
+  -- sources that make a group have no fault
+  group_turn : (turn : List Source) (files : List PackageFile) (main : UnresolvedPackage) (nested : List UnresolvedPackage) → AreUsed turn files nested → IsMadeOf files main → AreNamedApart main nested → (reads : List Read) × TurnComesTo walk [] turn reads None
+  group_turn turn files main nested used made apart =
+      let it = used_trees turn files nested used in
+      let made_of : IsMadeOf (files_of it.trees) main = subst (λ (fs : List PackageFile). IsMadeOf fs main) it.files_are made in
+      let right : walk (files_of it.trees) ≡ None = none_of (walk (files_of it.trees)) (walk_agrees walk walks (files_of it.trees)) made_of.legal in
+      let none = joined_none it.trees right ((made_names it.trees main nested made_of it.made).apart.1 apart) in
+      (map Tree it.trees ++ [], subst (λ (l : List Source). TurnComesTo walk [] l (map Tree it.trees ++ []) None) (append-nil turn) (turn_prefix walk [] turn it.trees [] [] None it.each it.none (sym none)))
+
+  -- one of two lists, in two parts
+  zip_split : {A B : Type 0} (R : A → B → Type 0) (xs us : List A) (zs : List B) → AllZip R (xs ++ us) zs → (ys vs : List B) × (zs ≡ ys ++ vs) × AllZip R xs ys × AllZip R us vs
+  zip_split R [] us zs all = ([], zs, refl, tt, all)
+  zip_split R (x ∷ xs) us [] all = absurd all
+  zip_split R (x ∷ xs) us (z ∷ zs) all = (let it = zip_split R xs us zs all.1 in (z ∷ it.0, it.1, ap (λ (l : List _). z ∷ l) it.2, (all.0, it.3), it.4))
+
+  -- trees that can be pushed are used
+  used_from : (done : List Source) (before : List SourceFile) (packages : List UnresolvedPackage) → AreUsed done (files_of before) packages → (turn : List Source) (trees : List SourceFile) (more : List UnresolvedPackage) →
+      AllZip IsTree turn trees → first_after (pushed walk) before trees ≡ None → AllZip IsMadeByNested (nested_of trees) more → AreUsed (done ++ turn) (files_of (before ++ trees)) (packages ++ more)
+  used_from done before packages used [] [] [] each none made =
+      subst (λ (l : List Source). AreUsed l (files_of (before ++ [])) (packages ++ [])) (sym (append-nil done))
+      (subst (λ (l : List SourceFile). AreUsed done (files_of l) (packages ++ [])) (sym (append-nil before)) (subst (λ (l : List UnresolvedPackage). AreUsed done (files_of before) l) (sym (append-nil packages)) used))
+  used_from done before packages used [] [] (p ∷ more) each none made = absurd made
+  used_from done before packages used [] (t ∷ trees) more each none made = absurd each
+  used_from done before packages used (s ∷ turn) [] more each none made = absurd each
+  used_from done before packages used (s ∷ turn) (t ∷ trees) more each none made =
+      let both = or_none_both (pushed walk before t) (first_after (pushed walk) (before ++ t ∷ []) trees) none in
+      let it = zip_split IsMadeByNested t.nested.items (nested_of trees) more made in
+      let grow : GrowByNested t.nested.items packages (packages ++ it.0) = record { made = it.0; each = it.3; extended = refl } in
+      let one = More done (files_of before) packages (packages ++ it.0) s t used each.0 ((source_agrees walk walks (files_of before) t).unbroken both.0) grow in
+      let next = subst (λ (l : List PackageFile). AreUsed (done ++ s ∷ []) l (packages ++ it.0)) (sym (map-append (λ (s : SourceFile). s.file) before (t ∷ []))) one in
+      let all = used_from (done ++ s ∷ []) (before ++ t ∷ []) (packages ++ it.0) next turn trees it.1 each.1 both.1 it.4 in
+      subst (λ (l : List Source). AreUsed l (files_of (before ++ t ∷ trees)) (packages ++ more)) (append_assoc done (s ∷ []) turn)
+      (subst (λ (l : List SourceFile). AreUsed ((done ++ s ∷ []) ++ turn) (files_of l) (packages ++ more)) (append_assoc before (t ∷ []) trees)
+      (subst (λ (l : List UnresolvedPackage). AreUsed ((done ++ s ∷ []) ++ turn) (files_of ((before ++ t ∷ []) ++ trees)) l) (append_assoc packages it.0 it.1 ∙ ap (λ (l : List UnresolvedPackage). packages ++ l) (sym it.2)) all))
+
+  -- sources have a first fault, or an allocation failed
+  abbrev HaveFirst : List Source → ParseError → Type 0
+  HaveFirst turn e = IsAllocationFailure e ⊎ ((reads : List Read) × (f : Fault) × TurnComesTo walk [] turn reads (Some f))
+
+  -- one that cannot be read
+  unread_first : (prefix rest : List Source) (s : Source) (trees : List SourceFile) (e : ParseError) → AllZip IsTree prefix trees → pushes_fault walk trees ≡ None → IsFaultOf (string_bytes s.contents) s.offset e → HaveFirst (prefix ++ s ∷ rest) e
+  unread_first prefix rest s trees e each none (FaultWanted wanted) = inl wanted
+  unread_first prefix rest s trees e each none (At Wanting runs within refusal) = inl refusal
+  unread_first prefix rest s trees e each none (At (Stopped stop from to) runs within refusal) =
+      let f = stop_fault s.offset stop from to in
+      let own : IsStop s f = (stop, from, to, runs, refl) in
+      inr (map Tree trees ++ Stop f ∷ [], f, turn_prefix walk [] prefix trees (s ∷ rest) (Stop f ∷ []) (Some f) each none (own, refl))
+
+  -- one that cannot be pushed
+  unfit_first : (prefix rest : List Source) (s : Source) (trees : List SourceFile) (read : SourceFile) (e : ParseError) (f : Fault) → AllZip IsTree prefix trees → pushes_fault walk trees ≡ None → IsTree s read → IsUnfit (files_of trees) read f → HaveFirst (prefix ++ s ∷ rest) e
+  unfit_first prefix rest s trees read e f each none tree unfit =
+      let it = some_of (source_fault walk (files_of trees) read) (source_agrees walk walks (files_of trees) read) f unfit in
+      let later = TurnComesTo walk (trees ++ read ∷ []) rest [] in
+      inr (map Tree trees ++ Tree read ∷ [], it.0, turn_prefix walk [] prefix trees (s ∷ rest) (Tree read ∷ []) (Some it.0) each none (tree, or_here (source_fault walk (files_of trees) read) later it.0 it.1))
+
+  -- all are read and pushed
+  joined_first : (turn : List Source) (trees : List SourceFile) (e : ParseError) (f : Fault) → AllZip IsTree turn trees → pushes_fault walk trees ≡ None → earliest (joined_faults walk trees) ≡ Some f → HaveFirst turn e
+  joined_first turn trees e f each none is =
+      inr (map Tree trees ++ [], f, subst (λ (l : List Source). TurnComesTo walk [] l (map Tree trees ++ []) (Some f)) (append-nil turn) (turn_prefix walk [] turn trees [] [] (Some f) each none (sym is)))
+
+  refused_first : (turn : List Source) (e : ParseError) → AreRefused turn e → HaveFirst turn e
+  refused_first turn e (Unread prefix rest s is files packages used unread) =
+      let it = used_trees prefix files packages used in
+      subst (λ (l : List Source). HaveFirst l e) (sym is) (unread_first prefix rest s it.trees e it.each it.none unread.fault)
+  refused_first turn e (Unfit prefix rest s is files packages read used tree (inl wanted)) = inl wanted
+  refused_first turn e (Unfit prefix rest s is files packages read used tree (inr unfit)) =
+      let it = used_trees prefix files packages used in
+      subst (λ (l : List Source). HaveFirst l e) (sym is)
+      (unfit_first prefix rest s it.trees read e (fault_of e) it.each it.none tree (subst (λ (fs : List PackageFile). IsUnfit fs read (fault_of e)) it.files_are unfit))
+  refused_first turn e (Illegal files packages used (inl wanted)) = inl wanted
+  refused_first turn e (Illegal files packages used (inr broken)) =
+      let it = used_trees turn files packages used in
+      let own = some_of (walk (files_of it.trees)) (walk_agrees walk walks (files_of it.trees)) (fault_of e) (subst (λ (fs : List PackageFile). IsBroken fs (fault_of e)) it.files_are broken) in
+      joined_first turn it.trees e own.0 it.each it.none (ap (λ (o : Option Fault). option_or o (earliest (names_fault (last_header (files_of it.trees)) (nested_names it.trees) ∷ []))) own.1)
+  refused_first turn e (Repeated files packages main used made again) =
+      let it = used_trees turn files packages used in
+      let made_of : IsMadeOf (files_of it.trees) main = subst (λ (fs : List PackageFile). IsMadeOf fs main) it.files_are made in
+      let right : walk (files_of it.trees) ≡ None = none_of (walk (files_of it.trees)) (walk_agrees walk walks (files_of it.trees)) made_of.legal in
+      let names = ((made_names it.trees main packages made_of it.made).repeated (fault_of e)).1 again in
+      joined_first turn it.trees e (fault_of e) it.each it.none
+      (ap (λ (o : Option Fault). option_or o (earliest (names_fault (last_header (files_of it.trees)) (nested_names it.trees) ∷ []))) right ∙ or_none (names_fault (last_header (files_of it.trees)) (nested_names it.trees)) ∙ names)
+
+pub one_first : (sources : List Source) (reads : List Read) (first other : Option Fault) → SourcesComeTo sources reads first → SourcesComeTo sources reads other → first ≡ other
+one_first sources reads first other a b =
+    let turns : b.turn ≡ a.turn = one_by_path sources b.turn a.turn b.by_path a.by_path in
+    let same = subst (λ (l : List Source). TurnComesTo b.walk [] l reads other) turns b.is in
+    turn_one a.walk [] a.turn reads first other a.is (subst (λ (walk : List PackageFile → Option Fault). TurnComesTo walk [] a.turn reads other) (one_walk b.walk a.walk b.walks a.walks) same)
+
+by_first : (sources : List Source) (reads : List Read) (first : Option Fault) → SourcesComeTo sources reads first → AreFaultless sources reads ⊎ ((f : Fault) × IsFirstOfSources sources reads f)
+by_first sources reads None it = inl it
+by_first sources reads (Some f) it = inr (f, it)
+
+pub decided : (sources turn : List Source) (reads : List Read) → IsByPath sources turn → AllZip IsRead turn reads → AreFaultless sources reads ⊎ ((f : Fault) × IsFirstOfSources sources reads f)
+decided sources turn reads by_path each =
+    let it = turn_comes a_walk.0 [] turn reads each in
+    by_first sources reads it.0 (record { turn = turn; by_path = by_path; walk = a_walk.0; walks = a_walk.1; is = it.1 })
+
+pub broken : (sources : List Source) (reads : List Read) (f : Fault) → IsFirstOfSources sources reads f → AreBroken sources f
+broken sources reads f it = record { turn = it.turn; by_path = it.by_path; broken = turn_broken it.walk it.walks [] [] tt it.turn reads f it.is }
+
+pub faultless : (sources : List Source) (main : UnresolvedPackage) (nested : List UnresolvedPackage) → IsGroup sources main nested → (reads : List Read) × AreFaultless sources reads
+faultless sources main nested g =
+    let it = group_turn a_walk.0 a_walk.1 g.turn g.files main nested g.in_use g.made g.apart in
+    (it.0, record { turn = g.turn; by_path = g.by_path; walk = a_walk.0; walks = a_walk.1; is = it.1 })
+
+pub group : (sources : List Source) (reads : List Read) (main : UnresolvedPackage) (nested : List UnresolvedPackage) → AreFaultless sources reads → IsMadeOf (files_of (trees_of reads)) main →
+    AllZip IsMadeByNested (nested_of (trees_of reads)) nested → IsGroup sources main nested
+group sources reads main nested it made each =
+    let trees = trees_of reads in
+    let t = turn_trees it.walk [] it.turn reads it.is in
+    let names = names_fault (last_header (files_of trees)) (nested_names trees) in
+    let both = or_none_both (it.walk (files_of trees)) (earliest (names ∷ [])) t.2 in
+    record {
+      turn = it.turn;
+      by_path = it.by_path;
+      files = files_of trees;
+      in_use = used_from it.walk it.walks [] [] [] NoneUsed it.turn trees nested t.0 t.1 each;
+      made = made;
+      apart = (made_names trees main nested made each).apart.0 (sym (or_none names) ∙ both.1);
+    }
+
+pub first : (sources : List Source) (e : ParseError) → IsRefused sources e → IsAllocationFailure e ⊎ ((reads : List Read) × (f : Fault) × IsFirstOfSources sources reads f)
+first sources e (Wanted wanted) = inl wanted
+first sources e (InTurn turn by_path refused) = elim (refused_first a_walk.0 a_walk.1 turn e refused) [
+  | inl wanted ↦ inl wanted
+  | inr it ↦ inr (it.0, it.1, record { turn = turn; by_path = by_path; walk = a_walk.0; walks = a_walk.1; is = it.2 })
+]

@@ -1,0 +1,79 @@
+-- The first fault of sources: each is read, and pushed before the next is read; and then that of the group that they make.
+use Rattle.std.specs.Prelude.{◌≡◌, ℕ, ◌+◌, List, [], ◌∷◌, ◌++◌, Option, None, Some, string_bytes}
+use Rattle.std.specs.List.{AllZip}
+use Rattle.wit_tree.specs.declared.tree.PackageFile.{PackageFile}
+use Rattle.wit_tree.specs.declared.tree.SourceFile.{SourceFile}
+use Rattle.wit_lex.specs.TextFaults.{rule_of}
+use Rattle.wit_lex.specs.declared.fault.ReadFault.{ReadFault}
+use Rattle.wit_lex.specs.declared.source.Source.{Source}
+use Rattle.wit_grammar.specs.Laws.{StopsAt}
+use Rattle.wit_bundle.specs.SourcePaths.{IsByPath}
+use Rattle.wit_syntax.specs.Broken.{IsBroken, last_header}
+use Rattle.wit_syntax.specs.Fault.{Fault, fault}
+use Rattle.wit_first.specs.First.{IsOr}
+use Rattle.wit_nested.specs.Nested.{IsUnfit}
+use Rattle.wit_groups.specs.Groups.{IsTree}
+use Rattle.wit_walk.specs.Walk.{earliest}
+use Rattle.wit_group_walk.specs.GroupFaults.{IsNamedTwice, joined_faults, nested_names}
+use Rattle.wit_group_walk.specs.PushFaults.{IsWalk, files_of, source_fault}
+
+-- what is read of a source: its tree, or the fault at which reading stops
+pub data Read : Type 0 where
+  Tree : (tree : SourceFile) → Read
+  Stop : (f : Fault) → Read
+
+-- E46 to E51, of a source whose first byte has the place `offset`
+abbrev pub stop_fault : ℕ → ReadFault → (from to : ℕ) → Fault
+stop_fault offset stop from to = fault (rule_of stop) (record { start = offset + from; end = offset + to })
+
+-- reading the source stops there
+abbrev pub IsStop : Source → Fault → Type 0
+IsStop s f = (stop : ReadFault) × (from : ℕ) × (to : ℕ) × StopsAt (string_bytes s.contents) s.offset stop from to × (f ≡ stop_fault s.offset stop from to)
+
+abbrev pub IsRead : Source → Read → Type 0
+IsRead s (Tree tree) = IsTree s tree
+IsRead s (Stop f) = IsStop s f
+
+-- the trees of what is read
+abbrev pub trees_of : List Read → List SourceFile
+trees_of [] = []
+trees_of (Tree tree ∷ reads) = tree ∷ trees_of reads
+trees_of (Stop f ∷ reads) = trees_of reads
+
+-- Sources come to a fault, or to none, after these trees, where this is read of them. Those after one that cannot be read or pushed are not looked at.
+abbrev pub TurnComesTo : (List PackageFile → Option Fault) → List SourceFile → List Source → List Read → Option Fault → Type 0
+TurnComesTo walk before [] [] first = first ≡ earliest (joined_faults walk before)
+TurnComesTo walk before [] (r ∷ reads) first = ⊥
+TurnComesTo walk before (s ∷ turn) [] first = ⊥
+TurnComesTo walk before (s ∷ turn) (Stop f ∷ reads) first = IsStop s f × (first ≡ Some f)
+TurnComesTo walk before (s ∷ turn) (Tree tree ∷ reads) first = IsTree s tree × IsOr (source_fault walk (files_of before) tree) (TurnComesTo walk (before ++ tree ∷ []) turn reads) first
+
+-- so do sources that are taken by path
+pub record SourcesComeTo (sources : List Source) (reads : List Read) (first : Option Fault) : Type 0 where
+  pub turn : List Source
+  pub by_path : IsByPath sources turn
+  pub walk : List PackageFile → Option Fault
+  pub walks : IsWalk walk
+  pub is : TurnComesTo walk [] turn reads first
+
+-- a fault is the first of sources; and sources have none
+abbrev pub IsFirstOfSources : List Source → List Read → Fault → Type 0
+IsFirstOfSources sources reads f = SourcesComeTo sources reads (Some f)
+
+abbrev pub AreFaultless : List Source → List Read → Type 0
+AreFaultless sources reads = SourcesComeTo sources reads None
+
+-- what is wrong with sources: one cannot be read, or its tree is unfit after the files of those before it; or the files of all break a rule, or a
+-- nested package has the name of the main one or of a nested one before it
+pub data IsBrokenTurn (turn : List Source) (f : Fault) : Type 0 where
+  Unread : (prefix rest : List Source) (s : Source) → turn ≡ prefix ++ s ∷ rest → IsStop s f → IsBrokenTurn turn f
+  Unfit : (prefix rest : List Source) (s : Source) → turn ≡ prefix ++ s ∷ rest → (trees : List SourceFile) (tree : SourceFile) → AllZip IsTree prefix trees →
+      IsTree s tree → IsUnfit (files_of trees) tree f → IsBrokenTurn turn f
+  Illegal : (trees : List SourceFile) → AllZip IsTree turn trees → IsBroken (files_of trees) f → IsBrokenTurn turn f
+  NamedTwice : (trees : List SourceFile) → AllZip IsTree turn trees → IsNamedTwice (last_header (files_of trees)) (nested_names trees) f → IsBrokenTurn turn f
+
+-- the same of sources that are taken by path
+pub record AreBroken (sources : List Source) (f : Fault) : Type 0 where
+  pub turn : List Source
+  pub by_path : IsByPath sources turn
+  pub broken : IsBrokenTurn turn f

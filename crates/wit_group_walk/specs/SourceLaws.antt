@@ -1,0 +1,36 @@
+-- What holds of the first fault of sources.
+use Rattle.std.specs.Prelude.{◌≡◌, ◌⊎◌, List, Option}
+use Rattle.std.specs.List.{AllZip}
+use Rattle.wit_type_tree.specs.declared.error.ParseError.{ParseError}
+use Rattle.wit_type_tree.specs.RefusalText.{IsAllocationFailure}
+use Rattle.wit_lex.specs.declared.source.Source.{Source}
+use Rattle.wit_bundle.specs.SourcePaths.{IsByPath}
+use Rattle.wit_model.specs.declared.unresolved.UnresolvedPackage.{UnresolvedPackage}
+use Rattle.wit_syntax.specs.Fault.{Fault}
+use Rattle.wit_arena.specs.Faithful.{IsMadeOf}
+use Rattle.wit_nested.specs.Nested.{IsMadeByNested}
+use Rattle.wit_groups.specs.Groups.{IsGroup, IsRefused}
+use Rattle.wit_group_walk.specs.PushFaults.{files_of, nested_of}
+use Rattle.wit_group_walk.specs.SourceFaults.{Read, IsRead, trees_of, SourcesComeTo, IsFirstOfSources, AreFaultless, AreBroken}
+
+-- where the same is read of them
+abbrev pub OneFirstOfSources : Type 0
+OneFirstOfSources = (sources : List Source) (reads : List Read) (first other : Option Fault) → SourcesComeTo sources reads first → SourcesComeTo sources reads other → first ≡ other
+
+abbrev pub FirstOfSourcesIsBroken : Type 0
+FirstOfSourcesIsBroken = (sources : List Source) (reads : List Read) (f : Fault) → IsFirstOfSources sources reads f → AreBroken sources f
+
+-- whatever is read of sources that are taken by path
+abbrev pub FaultlessOrFirst : Type 0
+FaultlessOrFirst = (sources turn : List Source) (reads : List Read) → IsByPath sources turn → AllZip IsRead turn reads → AreFaultless sources reads ⊎ ((f : Fault) × IsFirstOfSources sources reads f)
+
+abbrev pub GroupIsFaultless : Type 0
+GroupIsFaultless = (sources : List Source) (main : UnresolvedPackage) (nested : List UnresolvedPackage) → IsGroup sources main nested → (reads : List Read) × AreFaultless sources reads
+
+-- the packages that their trees make are a group
+abbrev pub FaultlessIsGroup : Type 0
+FaultlessIsGroup = (sources : List Source) (reads : List Read) (main : UnresolvedPackage) (nested : List UnresolvedPackage) → AreFaultless sources reads → IsMadeOf (files_of (trees_of reads)) main →
+    AllZip IsMadeByNested (nested_of (trees_of reads)) nested → IsGroup sources main nested
+
+abbrev pub RefusedHaveFirst : Type 0
+RefusedHaveFirst = (sources : List Source) (e : ParseError) → IsRefused sources e → IsAllocationFailure e ⊎ ((reads : List Read) × (f : Fault) × IsFirstOfSources sources reads f)
