@@ -33,7 +33,6 @@ use Rattle.wit_walk.specs.Walk.{earliest}
 use Rattle.wit_group_walk.specs.GroupFaults.{joined_faults, names_fault, nested_names}
 use Rattle.wit_group_walk.specs.PushFaults.{IsWalk, files_of, nested_of, pushes_fault, source_fault}
 use Rattle.wit_group_walk.specs.SourceFaults.{Read, Tree, Stop, IsRead, IsStop, stop_fault, trees_of, TurnComesTo, SourcesComeTo, IsFirstOfSources, AreFaultless, AreBroken}
-use Rattle.wit_group_walk.proofs.ByPath.{one_by_path}
 use Rattle.wit_group_walk.proofs.Names.{made_names}
 use Rattle.wit_group_walk.proofs.Pushes.{a_walk, none_of, one_walk, some_of, source_agrees, walk_agrees}
 use Rattle.wit_group_walk.proofs.Turns.{or_here, pushed, turn_broken, turn_comes, turn_one, turn_prefix, turn_trees}
@@ -156,11 +155,9 @@ module _ (walk : List PackageFile → Option Fault) (walks : IsWalk walk) where
       joined_first turn it.trees e (fault_of e) it.each it.none
       (ap (λ (o : Option Fault). option_or o (earliest (names_fault (last_header (files_of it.trees)) (nested_names it.trees) ∷ []))) right ∙ or_none (names_fault (last_header (files_of it.trees)) (nested_names it.trees)) ∙ names)
 
-pub one_first : (sources : List Source) (reads : List Read) (first other : Option Fault) → SourcesComeTo sources reads first → SourcesComeTo sources reads other → first ≡ other
-one_first sources reads first other a b =
-    let turns : b.turn ≡ a.turn = one_by_path sources b.turn a.turn b.by_path a.by_path in
-    let same = subst (λ (l : List Source). TurnComesTo b.walk [] l reads other) turns b.is in
-    turn_one a.walk [] a.turn reads first other a.is (subst (λ (walk : List PackageFile → Option Fault). TurnComesTo walk [] a.turn reads other) (one_walk b.walk a.walk b.walks a.walks) same)
+pub one_first : (sources others : List Source) (reads : List Read) (first other : Option Fault) → SourcesComeTo sources reads first → SourcesComeTo others reads other → first ≡ other
+one_first sources others reads first other a b =
+    turn_one a.walk [] a.turn b.turn reads first other a.is (subst (λ (walk : List PackageFile → Option Fault). TurnComesTo walk [] b.turn reads other) (one_walk b.walk a.walk b.walks a.walks) b.is)
 
 by_first : (sources : List Source) (reads : List Read) (first : Option Fault) → SourcesComeTo sources reads first → AreFaultless sources reads ⊎ ((f : Fault) × IsFirstOfSources sources reads f)
 by_first sources reads None it = inl it

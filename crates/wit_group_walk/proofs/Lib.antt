@@ -4,3 +4,4 @@ pub mod Group
 pub mod Turns
 pub mod ByPath
 pub mod Groups
+pub mod Texts

@@ -20,10 +20,10 @@ use Rattle.wit_group_walk.specs.SourceFaults.IsBrokenTurn.{Unread, Unfit, Illega
 use Rattle.wit_group_walk.proofs.Group.{joined_agrees}
 use Rattle.wit_group_walk.proofs.Pushes.{source_agrees}
 
--- where a relation says one fault, so does what comes first
-or_one : (o : Option Fault) (Later : Option Fault → Type 0) → ((x y : Option Fault) → Later x → Later y → x ≡ y) → (x y : Option Fault) → IsOr o Later x → IsOr o Later y → x ≡ y
-or_one None Later one x y a b = one x y a b
-or_one (Some f) Later one x y a b = a ∙ sym b
+-- where two relations say one fault, so does what comes first
+pub or_two : (o : Option Fault) (Later Other : Option Fault → Type 0) → ((x y : Option Fault) → Later x → Other y → x ≡ y) → (x y : Option Fault) → IsOr o Later x → IsOr o Other y → x ≡ y
+or_two None Later Other one x y a b = one x y a b
+or_two (Some f) Later Other one x y a b = a ∙ sym b
 
 or_at : (o : Option Fault) (Later : Option Fault → Type 0) (first : Option Fault) → o ≡ None → Later first → IsOr o Later first
 or_at None Later first none h = h
@@ -45,16 +45,19 @@ or_either (Some g) Later f h = inl (sym h)
 abbrev pub pushed : (List PackageFile → Option Fault) → List SourceFile → SourceFile → Option Fault
 pushed walk before s = source_fault walk (files_of before) s
 
--- sources come to one fault, or to none
-pub turn_one : (walk : List PackageFile → Option Fault) (before : List SourceFile) (turn : List Source) (reads : List Read) (x y : Option Fault) → TurnComesTo walk before turn reads x → TurnComesTo walk before turn reads y → x ≡ y
-turn_one walk before [] [] x y a b = a ∙ sym b
-turn_one walk before [] (r ∷ reads) x y a b = absurd a
-turn_one walk before (s ∷ turn) [] x y a b = absurd a
-turn_one walk before (s ∷ turn) (Stop f ∷ reads) x y a b = a.1 ∙ sym b.1
-turn_one walk before (s ∷ turn) (Tree tree ∷ reads) x y a b = or_one (pushed walk before tree) (TurnComesTo walk (before ++ tree ∷ []) turn reads) (turn_one walk (before ++ tree ∷ []) turn reads) x y a.1 b.1
+-- sources come to one fault, or to none, whichever they are: by what is read of them
+pub turn_one : (walk : List PackageFile → Option Fault) (before : List SourceFile) (turn other : List Source) (reads : List Read) (x y : Option Fault) → TurnComesTo walk before turn reads x → TurnComesTo walk before other reads y → x ≡ y
+turn_one walk before [] [] [] x y a b = a ∙ sym b
+turn_one walk before [] other (r ∷ reads) x y a b = absurd a
+turn_one walk before turn [] (r ∷ reads) x y a b = absurd b
+turn_one walk before (s ∷ turn) other [] x y a b = absurd a
+turn_one walk before turn (t ∷ other) [] x y a b = absurd b
+turn_one walk before (s ∷ turn) (t ∷ other) (Stop f ∷ reads) x y a b = a.1 ∙ sym b.1
+turn_one walk before (s ∷ turn) (t ∷ other) (Tree tree ∷ reads) x y a b =
+    or_two (pushed walk before tree) (TurnComesTo walk (before ++ tree ∷ []) turn reads) (TurnComesTo walk (before ++ tree ∷ []) other reads) (turn_one walk (before ++ tree ∷ []) turn other reads) x y a.1 b.1
 
 -- and they come to one of these
-or_comes : (o : Option Fault) (Later : Option Fault → Type 0) → (first : Option Fault) × Later first → (first : Option Fault) × IsOr o Later first
+pub or_comes : (o : Option Fault) (Later : Option Fault → Type 0) → (first : Option Fault) × Later first → (first : Option Fault) × IsOr o Later first
 or_comes None Later it = it
 or_comes (Some f) Later it = (Some f, refl)
 

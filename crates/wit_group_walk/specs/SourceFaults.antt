@@ -1,5 +1,5 @@
 -- The first fault of sources: each is read, and pushed before the next is read; and then that of the group that they make.
-use Rattle.std.specs.Prelude.{◌≡◌, ℕ, ◌+◌, List, [], ◌∷◌, ◌++◌, Option, None, Some, string_bytes}
+use Rattle.std.specs.Prelude.{◌≡◌, ℕ, ◌+◌, nat_lt, if◌then◌else◌, List, [], ◌∷◌, ◌++◌, length, Option, None, Some, string_bytes}
 use Rattle.std.specs.List.{AllZip}
 use Rattle.wit_tree.specs.declared.tree.PackageFile.{PackageFile}
 use Rattle.wit_tree.specs.declared.tree.SourceFile.{SourceFile}
@@ -7,12 +7,13 @@ use Rattle.wit_lex.specs.TextFaults.{rule_of}
 use Rattle.wit_lex.specs.declared.fault.ReadFault.{ReadFault}
 use Rattle.wit_lex.specs.declared.source.Source.{Source}
 use Rattle.wit_grammar.specs.Laws.{StopsAt}
+use Rattle.wit_grammar.specs.Seen.{see_file}
 use Rattle.wit_bundle.specs.SourcePaths.{IsByPath}
 use Rattle.wit_syntax.specs.Broken.{IsBroken, last_header}
 use Rattle.wit_syntax.specs.Fault.{Fault, fault}
 use Rattle.wit_first.specs.First.{IsOr}
 use Rattle.wit_nested.specs.Nested.{IsUnfit}
-use Rattle.wit_groups.specs.Groups.{IsTree}
+use Rattle.wit_groups.specs.Groups.{IsAlone, IsTree}
 use Rattle.wit_walk.specs.Walk.{earliest}
 use Rattle.wit_group_walk.specs.GroupFaults.{IsNamedTwice, joined_faults, nested_names}
 use Rattle.wit_group_walk.specs.PushFaults.{IsWalk, files_of, source_fault}
@@ -62,6 +63,20 @@ IsFirstOfSources sources reads f = SourcesComeTo sources reads (Some f)
 
 abbrev pub AreFaultless : List Source → List Read → Type 0
 AreFaultless sources reads = SourcesComeTo sources reads None
+
+-- two readings say the same: their trees do, but for addresses, or they stop at one fault
+abbrev pub AreAlike : Read → Read → Type 0
+AreAlike (Tree one) (Tree other) = see_file one ≡ see_file other
+AreAlike (Stop f) (Stop g) = f ≡ g
+AreAlike one other = ⊥
+
+-- a text is too large to be a source: E52
+abbrev pub size_fault : List ℕ → Option Fault
+size_fault text = if nat_lt 4294967295 (length text + 1) then Some (fault 52 (record { start = 0; end = 0 })) else None
+
+-- what a text under a path comes to: that, or what it comes to as the only source
+abbrev pub TextComesTo : (path text : List ℕ) → List Read → Option Fault → Type 0
+TextComesTo path text reads first = IsOr (size_fault text) (λ later. (sources : List Source) × IsAlone path text sources × SourcesComeTo sources reads later) first
 
 -- what is wrong with sources: one cannot be read, or its tree is unfit after the files of those before it; or the files of all break a rule, or a
 -- nested package has the name of the main one or of a nested one before it

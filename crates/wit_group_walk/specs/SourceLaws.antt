@@ -1,5 +1,5 @@
 -- What holds of the first fault of sources.
-use Rattle.std.specs.Prelude.{◌≡◌, ◌⊎◌, List, Option}
+use Rattle.std.specs.Prelude.{◌≡◌, ◌⊎◌, ℕ, List, Option, Some}
 use Rattle.std.specs.List.{AllZip}
 use Rattle.wit_type_tree.specs.declared.error.ParseError.{ParseError}
 use Rattle.wit_type_tree.specs.RefusalText.{IsAllocationFailure}
@@ -9,9 +9,16 @@ use Rattle.wit_model.specs.declared.unresolved.UnresolvedPackage.{UnresolvedPack
 use Rattle.wit_syntax.specs.Fault.{Fault}
 use Rattle.wit_arena.specs.Faithful.{IsMadeOf}
 use Rattle.wit_nested.specs.Nested.{IsMadeByNested}
-use Rattle.wit_groups.specs.Groups.{IsGroup, IsRefused}
+use Rattle.wit_groups.specs.Groups.{IsGroup, IsRefused, IsUnparsed}
 use Rattle.wit_group_walk.specs.PushFaults.{files_of, nested_of}
-use Rattle.wit_group_walk.specs.SourceFaults.{Read, IsRead, trees_of, SourcesComeTo, IsFirstOfSources, AreFaultless, AreBroken}
+use Rattle.wit_group_walk.specs.SourceFaults.{Read, IsRead, AreAlike, TextComesTo, trees_of, SourcesComeTo, IsFirstOfSources, AreFaultless, AreBroken}
+
+-- sources have one order by path, and what is read of each is one, but for addresses
+abbrev pub OneTurn : Type 0
+OneTurn = (sources turn other : List Source) → IsByPath sources turn → IsByPath sources other → turn ≡ other
+
+abbrev pub OneReading : Type 0
+OneReading = (s : Source) (one other : Read) → IsRead s one → IsRead s other → AreAlike one other
 
 -- where the same is read of them
 abbrev pub OneFirstOfSources : Type 0
@@ -32,5 +39,11 @@ abbrev pub FaultlessIsGroup : Type 0
 FaultlessIsGroup = (sources : List Source) (reads : List Read) (main : UnresolvedPackage) (nested : List UnresolvedPackage) → AreFaultless sources reads → IsMadeOf (files_of (trees_of reads)) main →
     AllZip IsMadeByNested (nested_of (trees_of reads)) nested → IsGroup sources main nested
 
+abbrev pub OneFirstOfText : Type 0
+OneFirstOfText = (path text : List ℕ) (reads : List Read) (first other : Option Fault) → TextComesTo path text reads first → TextComesTo path text reads other → first ≡ other
+
 abbrev pub RefusedHaveFirst : Type 0
 RefusedHaveFirst = (sources : List Source) (e : ParseError) → IsRefused sources e → IsAllocationFailure e ⊎ ((reads : List Read) × (f : Fault) × IsFirstOfSources sources reads f)
+
+abbrev pub RefusedTextHasFirst : Type 0
+RefusedTextHasFirst = (path text : List ℕ) (sources : List Source) (e : ParseError) → IsUnparsed path text sources e → IsAllocationFailure e ⊎ ((reads : List Read) × (f : Fault) × TextComesTo path text reads (Some f))

@@ -1,6 +1,6 @@
 //! What holds of the first fault of a group, and of sources.
 ghost use Rattle.wit_group_walk.specs.Laws.{FaultlessGroupIsLegal, FirstOfGroupIsBroken, LegalGroupIsFaultless, LegalGroupOrFirst, NamesAgree, OneFirstOfGroup};
-ghost use Rattle.wit_group_walk.specs.SourceLaws.{FaultlessIsGroup, FaultlessOrFirst, FirstOfSourcesIsBroken, GroupIsFaultless, OneFirstOfSources, RefusedHaveFirst};
+ghost use Rattle.wit_group_walk.specs.SourceLaws.{FaultlessIsGroup, FaultlessOrFirst, FirstOfSourcesIsBroken, GroupIsFaultless, OneFirstOfSources, OneFirstOfText, OneReading, OneTurn, RefusedHaveFirst, RefusedTextHasFirst};
 
 /// A group comes to one fault, or to none: two first faults are equal, and a group that has one is not
 /// without a fault.
@@ -35,6 +35,17 @@ pub fn names_agree()
     ensures { NamesAgree }
 {}
 
+/// Sources have one order by path.
+pub fn one_turn()
+    ensures { OneTurn }
+{}
+
+/// What is read of a source is one, but for addresses: the tree that it spells, or the fault at which
+/// reading stops.
+pub fn one_reading()
+    ensures { OneReading }
+{}
+
 /// Sources of which the same is read come to one fault, or to none.
 pub fn one_first_of_sources()
     ensures { OneFirstOfSources }
@@ -64,4 +75,14 @@ pub fn faultless_is_group()
 /// Sources that are refused have a first fault, unless an allocation failed.
 pub fn refused_have_first()
     ensures { RefusedHaveFirst }
+{}
+
+/// A text comes to one fault, or to none, where the same is read of it.
+pub fn one_first_of_text()
+    ensures { OneFirstOfText }
+{}
+
+/// A text that `parse` refuses has a first fault, unless an allocation failed.
+pub fn refused_text_has_first()
+    ensures { RefusedTextHasFirst }
 {}
