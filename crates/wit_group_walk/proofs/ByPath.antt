@@ -77,6 +77,6 @@ is_below s t = is_lt (slice_cmp nat_cmp (string_bytes s.path) (string_bytes t.pa
 path_order : IsStrictWeakOrder is_below
 path_order = ranks_by nat_list_cmp_total (λ (s : Source). string_bytes s.path)
 
-pub one_by_path : (sources turn other : List Source) → IsByPath sources turn → IsByPath sources other → turn ≡ other
-one_by_path sources turn other a b =
-    one_order is_below path_order turn other (sorted_far is_below path_order turn a.sorted) (sorted_far is_below path_order other b.sorted) (λ s. a.stable s ∙ sym (b.stable s))
+pub one_by_path : (sources ordered other : List Source) → IsByPath sources ordered → IsByPath sources other → ordered ≡ other
+one_by_path sources ordered other a b =
+    one_order is_below path_order ordered other (sorted_far is_below path_order ordered a.sorted) (sorted_far is_below path_order other b.sorted) (λ s. a.stable s ∙ sym (b.stable s))

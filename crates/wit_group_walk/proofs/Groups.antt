@@ -32,10 +32,10 @@ use Rattle.wit_text.specs.Files.IsFaultOf.{At, Wanted as FaultWanted}
 use Rattle.wit_walk.specs.Walk.{earliest}
 use Rattle.wit_group_walk.specs.GroupFaults.{joined_faults, names_fault, nested_names}
 use Rattle.wit_group_walk.specs.PushFaults.{IsWalk, files_of, nested_of, pushes_fault, source_fault}
-use Rattle.wit_group_walk.specs.SourceFaults.{Read, Tree, Stop, IsRead, IsStop, stop_fault, trees_of, TurnComesTo, SourcesComeTo, IsFirstOfSources, AreFaultless, AreBroken}
+use Rattle.wit_group_walk.specs.SourceFaults.{Read, Tree, Stop, IsRead, IsStop, stop_fault, trees_of, SequenceComesTo, SourcesComeTo, IsFirstOfSources, AreFaultless, AreBroken}
 use Rattle.wit_group_walk.proofs.Names.{made_names}
 use Rattle.wit_group_walk.proofs.Pushes.{a_walk, none_of, one_walk, some_of, source_agrees, walk_agrees}
-use Rattle.wit_group_walk.proofs.Turns.{or_here, pushed, turn_broken, turn_comes, turn_one, turn_prefix, turn_trees}
+use Rattle.wit_group_walk.proofs.Sequences.{or_here, pushed, sequence_broken, sequence_comes, sequence_one, sequence_prefix, sequence_trees}
 
 zip_append : {A B : Type 0} (R : A → B → Type 0) (xs us : List A) (ys vs : List B) → AllZip R xs ys → AllZip R us vs → AllZip R (xs ++ us) (ys ++ vs)
 zip_append R [] us [] vs a b = b
@@ -44,9 +44,9 @@ zip_append R (x ∷ xs) us [] vs a b = absurd a
 zip_append R (x ∷ xs) us (y ∷ ys) vs a b = (a.0, zip_append R xs us ys vs a.1 b)
 
 -- the trees of sources that are used: they can be pushed, and the nested packages are made of what is nested in them
-pub record HasTrees (walk : List PackageFile → Option Fault) (turn : List Source) (files : List PackageFile) (packages : List UnresolvedPackage) : Type 0 where
+pub record HasTrees (walk : List PackageFile → Option Fault) (ordered : List Source) (files : List PackageFile) (packages : List UnresolvedPackage) : Type 0 where
   pub trees : List SourceFile
-  pub each : AllZip IsTree turn trees
+  pub each : AllZip IsTree ordered trees
   pub files_are : files ≡ files_of trees
   pub none : pushes_fault walk trees ≡ None
   pub made : AllZip IsMadeByNested (nested_of trees) packages
@@ -55,7 +55,7 @@ module _ (walk : List PackageFile → Option Fault) (walks : IsWalk walk) where
   fits : (files : List PackageFile) (read : SourceFile) → ((f : Fault) → IsUnfit files read f → ⊥) → source_fault walk files read ≡ None
   fits files read fit = none_of (source_fault walk files read) (source_agrees walk walks files read) fit
 
-  used_trees : (turn : List Source) (files : List PackageFile) (packages : List UnresolvedPackage) → AreUsed turn files packages → HasTrees walk turn files packages
+  used_trees : (ordered : List Source) (files : List PackageFile) (packages : List UnresolvedPackage) → AreUsed ordered files packages → HasTrees walk ordered files packages
   used_trees _ _ _ NoneUsed = record { trees = []; each = tt; files_are = refl; none = refl; made = tt }
   used_trees _ _ _ (More sources files packages kept s read used tree fit grow) =
       let it = used_trees sources files packages used in
@@ -74,13 +74,13 @@ module _ (walk : List PackageFile → Option Fault) (walks : IsWalk walk) where
   joined_none trees files names = none_both files (or_none (names_fault (last_header (files_of trees)) (nested_names trees)) ∙ names)
 
   -- sources that make a group have no fault
-  group_turn : (turn : List Source) (files : List PackageFile) (main : UnresolvedPackage) (nested : List UnresolvedPackage) → AreUsed turn files nested → IsMadeOf files main → AreNamedApart main nested → (reads : List Read) × TurnComesTo walk [] turn reads None
-  group_turn turn files main nested used made apart =
-      let it = used_trees turn files nested used in
+  group_sequence : (ordered : List Source) (files : List PackageFile) (main : UnresolvedPackage) (nested : List UnresolvedPackage) → AreUsed ordered files nested → IsMadeOf files main → AreNamedApart main nested → (reads : List Read) × SequenceComesTo walk [] ordered reads None
+  group_sequence ordered files main nested used made apart =
+      let it = used_trees ordered files nested used in
       let made_of : IsMadeOf (files_of it.trees) main = subst (λ (fs : List PackageFile). IsMadeOf fs main) it.files_are made in
       let right : walk (files_of it.trees) ≡ None = none_of (walk (files_of it.trees)) (walk_agrees walk walks (files_of it.trees)) made_of.legal in
       let none = joined_none it.trees right ((made_names it.trees main nested made_of it.made).apart.1 apart) in
-      (map Tree it.trees ++ [], subst (λ (l : List Source). TurnComesTo walk [] l (map Tree it.trees ++ []) None) (append-nil turn) (turn_prefix walk [] turn it.trees [] [] None it.each it.none (sym none)))
+      (map Tree it.trees ++ [], subst (λ (l : List Source). SequenceComesTo walk [] l (map Tree it.trees ++ []) None) (append-nil ordered) (sequence_prefix walk [] ordered it.trees [] [] None it.each it.none (sym none)))
 
   -- one of two lists, in two parts
   zip_split : {A B : Type 0} (R : A → B → Type 0) (xs us : List A) (zs : List B) → AllZip R (xs ++ us) zs → (ys vs : List B) × (zs ≡ ys ++ vs) × AllZip R xs ys × AllZip R us vs
@@ -89,28 +89,28 @@ module _ (walk : List PackageFile → Option Fault) (walks : IsWalk walk) where
   zip_split R (x ∷ xs) us (z ∷ zs) all = (let it = zip_split R xs us zs all.1 in (z ∷ it.0, it.1, ap (λ (l : List _). z ∷ l) it.2, (all.0, it.3), it.4))
 
   -- trees that can be pushed are used
-  used_from : (done : List Source) (before : List SourceFile) (packages : List UnresolvedPackage) → AreUsed done (files_of before) packages → (turn : List Source) (trees : List SourceFile) (more : List UnresolvedPackage) →
-      AllZip IsTree turn trees → first_after (pushed walk) before trees ≡ None → AllZip IsMadeByNested (nested_of trees) more → AreUsed (done ++ turn) (files_of (before ++ trees)) (packages ++ more)
+  used_from : (done : List Source) (before : List SourceFile) (packages : List UnresolvedPackage) → AreUsed done (files_of before) packages → (ordered : List Source) (trees : List SourceFile) (more : List UnresolvedPackage) →
+      AllZip IsTree ordered trees → first_after (pushed walk) before trees ≡ None → AllZip IsMadeByNested (nested_of trees) more → AreUsed (done ++ ordered) (files_of (before ++ trees)) (packages ++ more)
   used_from done before packages used [] [] [] each none made =
       subst (λ (l : List Source). AreUsed l (files_of (before ++ [])) (packages ++ [])) (sym (append-nil done))
       (subst (λ (l : List SourceFile). AreUsed done (files_of l) (packages ++ [])) (sym (append-nil before)) (subst (λ (l : List UnresolvedPackage). AreUsed done (files_of before) l) (sym (append-nil packages)) used))
   used_from done before packages used [] [] (p ∷ more) each none made = absurd made
   used_from done before packages used [] (t ∷ trees) more each none made = absurd each
-  used_from done before packages used (s ∷ turn) [] more each none made = absurd each
-  used_from done before packages used (s ∷ turn) (t ∷ trees) more each none made =
+  used_from done before packages used (s ∷ ordered) [] more each none made = absurd each
+  used_from done before packages used (s ∷ ordered) (t ∷ trees) more each none made =
       let both = or_none_both (pushed walk before t) (first_after (pushed walk) (before ++ t ∷ []) trees) none in
       let it = zip_split IsMadeByNested t.nested.items (nested_of trees) more made in
       let grow : GrowByNested t.nested.items packages (packages ++ it.0) = record { made = it.0; each = it.3; extended = refl } in
       let one = More done (files_of before) packages (packages ++ it.0) s t used each.0 ((source_agrees walk walks (files_of before) t).unbroken both.0) grow in
       let next = subst (λ (l : List PackageFile). AreUsed (done ++ s ∷ []) l (packages ++ it.0)) (sym (map-append (λ (s : SourceFile). s.file) before (t ∷ []))) one in
-      let all = used_from (done ++ s ∷ []) (before ++ t ∷ []) (packages ++ it.0) next turn trees it.1 each.1 both.1 it.4 in
-      subst (λ (l : List Source). AreUsed l (files_of (before ++ t ∷ trees)) (packages ++ more)) (append_assoc done (s ∷ []) turn)
-      (subst (λ (l : List SourceFile). AreUsed ((done ++ s ∷ []) ++ turn) (files_of l) (packages ++ more)) (append_assoc before (t ∷ []) trees)
-      (subst (λ (l : List UnresolvedPackage). AreUsed ((done ++ s ∷ []) ++ turn) (files_of ((before ++ t ∷ []) ++ trees)) l) (append_assoc packages it.0 it.1 ∙ ap (λ (l : List UnresolvedPackage). packages ++ l) (sym it.2)) all))
+      let all = used_from (done ++ s ∷ []) (before ++ t ∷ []) (packages ++ it.0) next ordered trees it.1 each.1 both.1 it.4 in
+      subst (λ (l : List Source). AreUsed l (files_of (before ++ t ∷ trees)) (packages ++ more)) (append_assoc done (s ∷ []) ordered)
+      (subst (λ (l : List SourceFile). AreUsed ((done ++ s ∷ []) ++ ordered) (files_of l) (packages ++ more)) (append_assoc before (t ∷ []) trees)
+      (subst (λ (l : List UnresolvedPackage). AreUsed ((done ++ s ∷ []) ++ ordered) (files_of ((before ++ t ∷ []) ++ trees)) l) (append_assoc packages it.0 it.1 ∙ ap (λ (l : List UnresolvedPackage). packages ++ l) (sym it.2)) all))
 
   -- sources have a first fault, or an allocation failed
   abbrev HaveFirst : List Source → ParseError → Type 0
-  HaveFirst turn e = IsAllocationFailure e ⊎ ((reads : List Read) × (f : Fault) × TurnComesTo walk [] turn reads (Some f))
+  HaveFirst ordered e = IsAllocationFailure e ⊎ ((reads : List Read) × (f : Fault) × SequenceComesTo walk [] ordered reads (Some f))
 
   -- one that cannot be read
   unread_first : (prefix rest : List Source) (s : Source) (trees : List SourceFile) (e : ParseError) → AllZip IsTree prefix trees → pushes_fault walk trees ≡ None → IsFaultOf (string_bytes s.contents) s.offset e → HaveFirst (prefix ++ s ∷ rest) e
@@ -119,82 +119,82 @@ module _ (walk : List PackageFile → Option Fault) (walks : IsWalk walk) where
   unread_first prefix rest s trees e each none (At (Stopped stop from to) runs within refusal) =
       let f = stop_fault s.offset stop from to in
       let own : IsStop s f = (stop, from, to, runs, refl) in
-      inr (map Tree trees ++ Stop f ∷ [], f, turn_prefix walk [] prefix trees (s ∷ rest) (Stop f ∷ []) (Some f) each none (own, refl))
+      inr (map Tree trees ++ Stop f ∷ [], f, sequence_prefix walk [] prefix trees (s ∷ rest) (Stop f ∷ []) (Some f) each none (own, refl))
 
   -- one that cannot be pushed
   unfit_first : (prefix rest : List Source) (s : Source) (trees : List SourceFile) (read : SourceFile) (e : ParseError) (f : Fault) → AllZip IsTree prefix trees → pushes_fault walk trees ≡ None → IsTree s read → IsUnfit (files_of trees) read f → HaveFirst (prefix ++ s ∷ rest) e
   unfit_first prefix rest s trees read e f each none tree unfit =
       let it = some_of (source_fault walk (files_of trees) read) (source_agrees walk walks (files_of trees) read) f unfit in
-      let later = TurnComesTo walk (trees ++ read ∷ []) rest [] in
-      inr (map Tree trees ++ Tree read ∷ [], it.0, turn_prefix walk [] prefix trees (s ∷ rest) (Tree read ∷ []) (Some it.0) each none (tree, or_here (source_fault walk (files_of trees) read) later it.0 it.1))
+      let later = SequenceComesTo walk (trees ++ read ∷ []) rest [] in
+      inr (map Tree trees ++ Tree read ∷ [], it.0, sequence_prefix walk [] prefix trees (s ∷ rest) (Tree read ∷ []) (Some it.0) each none (tree, or_here (source_fault walk (files_of trees) read) later it.0 it.1))
 
   -- all are read and pushed
-  joined_first : (turn : List Source) (trees : List SourceFile) (e : ParseError) (f : Fault) → AllZip IsTree turn trees → pushes_fault walk trees ≡ None → earliest (joined_faults walk trees) ≡ Some f → HaveFirst turn e
-  joined_first turn trees e f each none is =
-      inr (map Tree trees ++ [], f, subst (λ (l : List Source). TurnComesTo walk [] l (map Tree trees ++ []) (Some f)) (append-nil turn) (turn_prefix walk [] turn trees [] [] (Some f) each none (sym is)))
+  joined_first : (ordered : List Source) (trees : List SourceFile) (e : ParseError) (f : Fault) → AllZip IsTree ordered trees → pushes_fault walk trees ≡ None → earliest (joined_faults walk trees) ≡ Some f → HaveFirst ordered e
+  joined_first ordered trees e f each none is =
+      inr (map Tree trees ++ [], f, subst (λ (l : List Source). SequenceComesTo walk [] l (map Tree trees ++ []) (Some f)) (append-nil ordered) (sequence_prefix walk [] ordered trees [] [] (Some f) each none (sym is)))
 
-  refused_first : (turn : List Source) (e : ParseError) → AreRefused turn e → HaveFirst turn e
-  refused_first turn e (Unread prefix rest s is files packages used unread) =
+  refused_first : (ordered : List Source) (e : ParseError) → AreRefused ordered e → HaveFirst ordered e
+  refused_first ordered e (Unread prefix rest s is files packages used unread) =
       let it = used_trees prefix files packages used in
       subst (λ (l : List Source). HaveFirst l e) (sym is) (unread_first prefix rest s it.trees e it.each it.none unread.fault)
-  refused_first turn e (Unfit prefix rest s is files packages read used tree (inl wanted)) = inl wanted
-  refused_first turn e (Unfit prefix rest s is files packages read used tree (inr unfit)) =
+  refused_first ordered e (Unfit prefix rest s is files packages read used tree (inl wanted)) = inl wanted
+  refused_first ordered e (Unfit prefix rest s is files packages read used tree (inr unfit)) =
       let it = used_trees prefix files packages used in
       subst (λ (l : List Source). HaveFirst l e) (sym is)
       (unfit_first prefix rest s it.trees read e (fault_of e) it.each it.none tree (subst (λ (fs : List PackageFile). IsUnfit fs read (fault_of e)) it.files_are unfit))
-  refused_first turn e (Illegal files packages used (inl wanted)) = inl wanted
-  refused_first turn e (Illegal files packages used (inr broken)) =
-      let it = used_trees turn files packages used in
+  refused_first ordered e (Illegal files packages used (inl wanted)) = inl wanted
+  refused_first ordered e (Illegal files packages used (inr broken)) =
+      let it = used_trees ordered files packages used in
       let own = some_of (walk (files_of it.trees)) (walk_agrees walk walks (files_of it.trees)) (fault_of e) (subst (λ (fs : List PackageFile). IsBroken fs (fault_of e)) it.files_are broken) in
-      joined_first turn it.trees e own.0 it.each it.none (ap (λ (o : Option Fault). option_or o (earliest (names_fault (last_header (files_of it.trees)) (nested_names it.trees) ∷ []))) own.1)
-  refused_first turn e (Repeated files packages main used made again) =
-      let it = used_trees turn files packages used in
+      joined_first ordered it.trees e own.0 it.each it.none (ap (λ (o : Option Fault). option_or o (earliest (names_fault (last_header (files_of it.trees)) (nested_names it.trees) ∷ []))) own.1)
+  refused_first ordered e (Repeated files packages main used made again) =
+      let it = used_trees ordered files packages used in
       let made_of : IsMadeOf (files_of it.trees) main = subst (λ (fs : List PackageFile). IsMadeOf fs main) it.files_are made in
       let right : walk (files_of it.trees) ≡ None = none_of (walk (files_of it.trees)) (walk_agrees walk walks (files_of it.trees)) made_of.legal in
       let names = ((made_names it.trees main packages made_of it.made).repeated (fault_of e)).1 again in
-      joined_first turn it.trees e (fault_of e) it.each it.none
+      joined_first ordered it.trees e (fault_of e) it.each it.none
       (ap (λ (o : Option Fault). option_or o (earliest (names_fault (last_header (files_of it.trees)) (nested_names it.trees) ∷ []))) right ∙ or_none (names_fault (last_header (files_of it.trees)) (nested_names it.trees)) ∙ names)
 
 pub one_first : (sources others : List Source) (reads : List Read) (first other : Option Fault) → SourcesComeTo sources reads first → SourcesComeTo others reads other → first ≡ other
 one_first sources others reads first other a b =
-    turn_one a.walk [] a.turn b.turn reads first other a.is (subst (λ (walk : List PackageFile → Option Fault). TurnComesTo walk [] b.turn reads other) (one_walk b.walk a.walk b.walks a.walks) b.is)
+    sequence_one a.walk [] a.ordered b.ordered reads first other a.is (subst (λ (walk : List PackageFile → Option Fault). SequenceComesTo walk [] b.ordered reads other) (one_walk b.walk a.walk b.walks a.walks) b.is)
 
 by_first : (sources : List Source) (reads : List Read) (first : Option Fault) → SourcesComeTo sources reads first → AreFaultless sources reads ⊎ ((f : Fault) × IsFirstOfSources sources reads f)
 by_first sources reads None it = inl it
 by_first sources reads (Some f) it = inr (f, it)
 
-pub decided : (sources turn : List Source) (reads : List Read) → IsByPath sources turn → AllZip IsRead turn reads → AreFaultless sources reads ⊎ ((f : Fault) × IsFirstOfSources sources reads f)
-decided sources turn reads by_path each =
-    let it = turn_comes a_walk.0 [] turn reads each in
-    by_first sources reads it.0 (record { turn = turn; by_path = by_path; walk = a_walk.0; walks = a_walk.1; is = it.1 })
+pub decided : (sources ordered : List Source) (reads : List Read) → IsByPath sources ordered → AllZip IsRead ordered reads → AreFaultless sources reads ⊎ ((f : Fault) × IsFirstOfSources sources reads f)
+decided sources ordered reads by_path each =
+    let it = sequence_comes a_walk.0 [] ordered reads each in
+    by_first sources reads it.0 (record { ordered = ordered; by_path = by_path; walk = a_walk.0; walks = a_walk.1; is = it.1 })
 
 pub broken : (sources : List Source) (reads : List Read) (f : Fault) → IsFirstOfSources sources reads f → AreBroken sources f
-broken sources reads f it = record { turn = it.turn; by_path = it.by_path; broken = turn_broken it.walk it.walks [] [] tt it.turn reads f it.is }
+broken sources reads f it = record { ordered = it.ordered; by_path = it.by_path; broken = sequence_broken it.walk it.walks [] [] tt it.ordered reads f it.is }
 
 pub faultless : (sources : List Source) (main : UnresolvedPackage) (nested : List UnresolvedPackage) → IsGroup sources main nested → (reads : List Read) × AreFaultless sources reads
 faultless sources main nested g =
-    let it = group_turn a_walk.0 a_walk.1 g.turn g.files main nested g.in_use g.made g.apart in
-    (it.0, record { turn = g.turn; by_path = g.by_path; walk = a_walk.0; walks = a_walk.1; is = it.1 })
+    let it = group_sequence a_walk.0 a_walk.1 g.turn g.files main nested g.in_use g.made g.apart in
+    (it.0, record { ordered = g.turn; by_path = g.by_path; walk = a_walk.0; walks = a_walk.1; is = it.1 })
 
 pub group : (sources : List Source) (reads : List Read) (main : UnresolvedPackage) (nested : List UnresolvedPackage) → AreFaultless sources reads → IsMadeOf (files_of (trees_of reads)) main →
     AllZip IsMadeByNested (nested_of (trees_of reads)) nested → IsGroup sources main nested
 group sources reads main nested it made each =
     let trees = trees_of reads in
-    let t = turn_trees it.walk [] it.turn reads it.is in
+    let t = sequence_trees it.walk [] it.ordered reads it.is in
     let names = names_fault (last_header (files_of trees)) (nested_names trees) in
     let both = or_none_both (it.walk (files_of trees)) (earliest (names ∷ [])) t.2 in
     record {
-      turn = it.turn;
+      turn = it.ordered;
       by_path = it.by_path;
       files = files_of trees;
-      in_use = used_from it.walk it.walks [] [] [] NoneUsed it.turn trees nested t.0 t.1 each;
+      in_use = used_from it.walk it.walks [] [] [] NoneUsed it.ordered trees nested t.0 t.1 each;
       made = made;
       apart = (made_names trees main nested made each).apart.0 (sym (or_none names) ∙ both.1);
     }
 
 pub first : (sources : List Source) (e : ParseError) → IsRefused sources e → IsAllocationFailure e ⊎ ((reads : List Read) × (f : Fault) × IsFirstOfSources sources reads f)
 first sources e (Wanted wanted) = inl wanted
-first sources e (InTurn turn by_path refused) = elim (refused_first a_walk.0 a_walk.1 turn e refused) [
+first sources e (InTurn ordered by_path refused) = elim (refused_first a_walk.0 a_walk.1 ordered e refused) [
   | inl wanted ↦ inl wanted
-  | inr it ↦ inr (it.0, it.1, record { turn = turn; by_path = by_path; walk = a_walk.0; walks = a_walk.1; is = it.2 })
+  | inr it ↦ inr (it.0, it.1, record { ordered = ordered; by_path = by_path; walk = a_walk.0; walks = a_walk.1; is = it.2 })
 ]

@@ -1,7 +1,7 @@
 pub mod Pushes
 pub mod Names
 pub mod Group
-pub mod Turns
+pub mod Sequences
 pub mod ByPath
 pub mod Groups
 pub mod Texts

@@ -42,20 +42,20 @@ trees_of (Tree tree ∷ reads) = tree ∷ trees_of reads
 trees_of (Stop f ∷ reads) = trees_of reads
 
 -- Sources come to a fault, or to none, after these trees, where this is read of them. Those after one that cannot be read or pushed are not looked at.
-abbrev pub TurnComesTo : (List PackageFile → Option Fault) → List SourceFile → List Source → List Read → Option Fault → Type 0
-TurnComesTo walk before [] [] first = first ≡ earliest (joined_faults walk before)
-TurnComesTo walk before [] (r ∷ reads) first = ⊥
-TurnComesTo walk before (s ∷ turn) [] first = ⊥
-TurnComesTo walk before (s ∷ turn) (Stop f ∷ reads) first = IsStop s f × (first ≡ Some f)
-TurnComesTo walk before (s ∷ turn) (Tree tree ∷ reads) first = IsTree s tree × IsOr (source_fault walk (files_of before) tree) (TurnComesTo walk (before ++ tree ∷ []) turn reads) first
+abbrev pub SequenceComesTo : (List PackageFile → Option Fault) → List SourceFile → List Source → List Read → Option Fault → Type 0
+SequenceComesTo walk before [] [] first = first ≡ earliest (joined_faults walk before)
+SequenceComesTo walk before [] (r ∷ reads) first = ⊥
+SequenceComesTo walk before (s ∷ rest) [] first = ⊥
+SequenceComesTo walk before (s ∷ rest) (Stop f ∷ reads) first = IsStop s f × (first ≡ Some f)
+SequenceComesTo walk before (s ∷ rest) (Tree tree ∷ reads) first = IsTree s tree × IsOr (source_fault walk (files_of before) tree) (SequenceComesTo walk (before ++ tree ∷ []) rest reads) first
 
--- so do sources that are taken by path
+-- so do sources, in the order of their paths
 pub record SourcesComeTo (sources : List Source) (reads : List Read) (first : Option Fault) : Type 0 where
-  pub turn : List Source
-  pub by_path : IsByPath sources turn
+  pub ordered : List Source
+  pub by_path : IsByPath sources ordered
   pub walk : List PackageFile → Option Fault
   pub walks : IsWalk walk
-  pub is : TurnComesTo walk [] turn reads first
+  pub is : SequenceComesTo walk [] ordered reads first
 
 -- a fault is the first of sources; and sources have none
 abbrev pub IsFirstOfSources : List Source → List Read → Fault → Type 0
@@ -80,15 +80,15 @@ TextComesTo path text reads first = IsOr (size_fault text) (λ later. (sources :
 
 -- what is wrong with sources: one cannot be read, or its tree is unfit after the files of those before it; or the files of all break a rule, or a
 -- nested package has the name of the main one or of a nested one before it
-pub data IsBrokenTurn (turn : List Source) (f : Fault) : Type 0 where
-  Unread : (prefix rest : List Source) (s : Source) → turn ≡ prefix ++ s ∷ rest → IsStop s f → IsBrokenTurn turn f
-  Unfit : (prefix rest : List Source) (s : Source) → turn ≡ prefix ++ s ∷ rest → (trees : List SourceFile) (tree : SourceFile) → AllZip IsTree prefix trees →
-      IsTree s tree → IsUnfit (files_of trees) tree f → IsBrokenTurn turn f
-  Illegal : (trees : List SourceFile) → AllZip IsTree turn trees → IsBroken (files_of trees) f → IsBrokenTurn turn f
-  NamedTwice : (trees : List SourceFile) → AllZip IsTree turn trees → IsNamedTwice (last_header (files_of trees)) (nested_names trees) f → IsBrokenTurn turn f
+pub data IsBrokenSequence (sources : List Source) (f : Fault) : Type 0 where
+  Unread : (prefix rest : List Source) (s : Source) → sources ≡ prefix ++ s ∷ rest → IsStop s f → IsBrokenSequence sources f
+  Unfit : (prefix rest : List Source) (s : Source) → sources ≡ prefix ++ s ∷ rest → (trees : List SourceFile) (tree : SourceFile) → AllZip IsTree prefix trees →
+      IsTree s tree → IsUnfit (files_of trees) tree f → IsBrokenSequence sources f
+  Illegal : (trees : List SourceFile) → AllZip IsTree sources trees → IsBroken (files_of trees) f → IsBrokenSequence sources f
+  NamedTwice : (trees : List SourceFile) → AllZip IsTree sources trees → IsNamedTwice (last_header (files_of trees)) (nested_names trees) f → IsBrokenSequence sources f
 
--- the same of sources that are taken by path
+-- the same, in the order of their paths
 pub record AreBroken (sources : List Source) (f : Fault) : Type 0 where
-  pub turn : List Source
-  pub by_path : IsByPath sources turn
-  pub broken : IsBrokenTurn turn f
+  pub ordered : List Source
+  pub by_path : IsByPath sources ordered
+  pub broken : IsBrokenSequence ordered f

@@ -13,9 +13,9 @@ use Rattle.wit_groups.specs.Groups.{IsGroup, IsRefused, IsUnparsed}
 use Rattle.wit_group_walk.specs.PushFaults.{files_of, nested_of}
 use Rattle.wit_group_walk.specs.SourceFaults.{Read, IsRead, AreAlike, TextComesTo, trees_of, SourcesComeTo, IsFirstOfSources, AreFaultless, AreBroken}
 
--- sources have one order by path, and what is read of each is one, but for addresses
-abbrev pub OneTurn : Type 0
-OneTurn = (sources turn other : List Source) → IsByPath sources turn → IsByPath sources other → turn ≡ other
+-- paths give sources one order, and what is read of each is one, but for addresses
+abbrev pub OnePathOrder : Type 0
+OnePathOrder = (sources ordered other : List Source) → IsByPath sources ordered → IsByPath sources other → ordered ≡ other
 
 abbrev pub OneReading : Type 0
 OneReading = (s : Source) (one other : Read) → IsRead s one → IsRead s other → AreAlike one other
@@ -27,9 +27,9 @@ OneFirstOfSources = (sources : List Source) (reads : List Read) (first other : O
 abbrev pub FirstOfSourcesIsBroken : Type 0
 FirstOfSourcesIsBroken = (sources : List Source) (reads : List Read) (f : Fault) → IsFirstOfSources sources reads f → AreBroken sources f
 
--- whatever is read of sources that are taken by path
+-- whatever is read of sources, in the order of their paths
 abbrev pub FaultlessOrFirst : Type 0
-FaultlessOrFirst = (sources turn : List Source) (reads : List Read) → IsByPath sources turn → AllZip IsRead turn reads → AreFaultless sources reads ⊎ ((f : Fault) × IsFirstOfSources sources reads f)
+FaultlessOrFirst = (sources ordered : List Source) (reads : List Read) → IsByPath sources ordered → AllZip IsRead ordered reads → AreFaultless sources reads ⊎ ((f : Fault) × IsFirstOfSources sources reads f)
 
 abbrev pub GroupIsFaultless : Type 0
 GroupIsFaultless = (sources : List Source) (main : UnresolvedPackage) (nested : List UnresolvedPackage) → IsGroup sources main nested → (reads : List Read) × AreFaultless sources reads

@@ -1,6 +1,6 @@
 //! What holds of the first fault of a group, and of sources.
 ghost use Rattle.wit_group_walk.specs.Laws.{FaultlessGroupIsLegal, FirstOfGroupIsBroken, LegalGroupIsFaultless, LegalGroupOrFirst, NamesAgree, OneFirstOfGroup};
-ghost use Rattle.wit_group_walk.specs.SourceLaws.{FaultlessIsGroup, FaultlessOrFirst, FirstOfSourcesIsBroken, GroupIsFaultless, OneFirstOfSources, OneFirstOfText, OneReading, OneTurn, RefusedHaveFirst, RefusedTextHasFirst};
+ghost use Rattle.wit_group_walk.specs.SourceLaws.{FaultlessIsGroup, FaultlessOrFirst, FirstOfSourcesIsBroken, GroupIsFaultless, OneFirstOfSources, OneFirstOfText, OneReading, OnePathOrder, RefusedHaveFirst, RefusedTextHasFirst};
 
 /// A group comes to one fault, or to none: two first faults are equal, and a group that has one is not
 /// without a fault.
@@ -35,9 +35,9 @@ pub fn names_agree()
     ensures { NamesAgree }
 {}
 
-/// Sources have one order by path.
-pub fn one_turn()
-    ensures { OneTurn }
+/// Paths give sources one order.
+pub fn one_path_order()
+    ensures { OnePathOrder }
 {}
 
 /// What is read of a source is one, but for addresses: the tree that it spells, or the fault at which

@@ -1,5 +1,5 @@
 use Rattle.wit_group_walk.proofs.ByPath.{one_by_path as law}
-use Rattle.wit_group_walk.proofs.laws.one_turn.Goals as goal
+use Rattle.wit_group_walk.proofs.laws.one_path_order.Goals as goal
 
 pub returns : goal.returns
 returns c = law
