@@ -5,3 +5,4 @@ pub mod Sequences
 pub mod ByPath
 pub mod Groups
 pub mod Texts
+pub mod Rows
