@@ -1,4 +1,4 @@
--- Interfaces that are found by their names, with one more, and their scopes.
+-- Items of an arena that are found by their names, with one more, and the scopes of interfaces and the addresses of worlds.
 use Rattle.std.proofs.Common.{◌≡◌, ◌≤◌, ℕ, zero, suc, true, cond, List, [], ◌∷◌, ◌++◌, length, Result, Ok, Err, Option, Some, inl, inr, refl, sym, ap, ◌∙◌, subst, nat_eq, arith}
 use Rattle.std.specs.Prelude.{OnErr, OnOk, slice_get}
 use Rattle.std.specs.Cmp.Lexicographic.{pointwise}
@@ -6,63 +6,83 @@ use Rattle.std.specs.Option.{option_and_then, option_map, unwrap_or}
 use Rattle.std.proofs.lemmas.List.{length-append}
 use Rattle.std.proofs.lemmas.Option.{slice_get-map}
 use Rattle.indexmap.specs.IndexMap.{insert_entry}
+use Rattle.wit_tree.specs.declared.tree.PackageFile.{PackageFile}
 use Rattle.wit_model.specs.declared.interface.Interface.{Interface}
-use Rattle.wit_syntax.specs.Address.{Address, InterfaceNamed}
+use Rattle.wit_model.specs.declared.world.World.{World}
+use Rattle.wit_syntax.specs.Address.{Address, InterfaceNamed, WorldNamed}
 use Rattle.wit_syntax.proofs.Lists.{at_prefix, at_seam}
 use Rattle.wit_syntax.proofs.Names.{name_cases, name_itself, lookup-insert_entry}
 use Rattle.wit_arena.specs.Resolving.{Names, resolved_scope, resolved_scope_at, resolved_scopes, env_of}
-use Rattle.wit_items.specs.Found.{AreFound, name_at}
+use Rattle.wit_arena.specs.ResolvedArenas.{worlds_at}
+use Rattle.wit_items.specs.Found.{AreFound, interface_name, name_at, world_name}
+use Rattle.wit_items.specs.BorrowedItems.{others_of}
 
--- the interface at a place, where one is that has a name
-pub named_at : (is : List Interface) (t : ℕ) (name : List ℕ) → name_at is t ≡ Some name → (i : Interface) × (slice_get is t ≡ Some i) × (i.name ≡ Some name)
-named_at [] t name at = absurd (let f : ⊥ = cc in f)
-named_at (i ∷ is) zero name at = (i, refl, at)
-named_at (i ∷ is) (suc t) name at = named_at is t name at
+module _ {X : Type 0} (called : X → Option (List ℕ)) where
+  -- what is at a place, where that has a name
+  pub named_at : (xs : List X) (t : ℕ) (name : List ℕ) → name_at called xs t ≡ Some name → (x : X) × (slice_get xs t ≡ Some x) × (called x ≡ Some name)
+  named_at [] t name at = absurd (let f : ⊥ = cc in f)
+  named_at (x ∷ xs) zero name at = (x, refl, at)
+  named_at (x ∷ xs) (suc t) name at = named_at xs t name at
 
--- it is there among more
-at_more : (is more : List Interface) (t : ℕ) (name : List ℕ) → name_at is t ≡ Some name → name_at (is ++ more) t ≡ Some name
-at_more is more t name at =
-    let i = named_at is t name at in
-    ap (option_and_then (λ (j : Interface). j.name)) (at_prefix is more t i.0 i.1) ∙ i.2
+  -- it is there among more
+  at_more : (xs more : List X) (t : ℕ) (name : List ℕ) → name_at called xs t ≡ Some name → name_at called (xs ++ more) t ≡ Some name
+  at_more xs more t name at =
+      let x = named_at xs t name at in
+      ap (option_and_then called) (at_prefix xs more t x.0 x.1) ∙ x.2
 
--- no name, nothing found
-pub found_none : (count : ℕ) (is : List Interface) (by_name : Names) → by_name ≡ [] → AreFound count is by_name
-found_none count is by_name none = subst (AreFound count is) (sym none) (λ n t here. absurd (let f : ⊥ = cc in f))
+  -- no name, nothing found
+  pub found_none : (count : ℕ) (xs : List X) (by_name : Names) → by_name ≡ [] → AreFound called count xs by_name
+  found_none count xs by_name none = subst (AreFound called count xs) (sym none) (λ n t here. absurd (let f : ⊥ = cc in f))
 
--- more interfaces
-pub prefix_wider : (count : ℕ) (is more : List Interface) → count ≤ length is → count ≤ length (is ++ more)
-prefix_wider count is more enough = omega (arith, length-append is more)
+  -- more of them, and no more names
+  pub found_wider : (count : ℕ) (xs more : List X) (by_name : Names) → AreFound called count xs by_name → AreFound called count (xs ++ more) by_name
+  found_wider count xs more by_name found = λ n t here. ((found n t here).0, at_more xs more t n (found n t here).1)
 
--- more interfaces, and no more names
-pub found_wider : (count : ℕ) (is more : List Interface) (by_name : Names) → AreFound count is by_name → AreFound count (is ++ more) by_name
-found_wider count is more by_name found = λ n t here. ((found n t here).0, at_more is more t n (found n t here).1)
+  -- one more, and its name
+  found_more : (count : ℕ) (xs : List X) (by_name : Names) (x : X) (name : List ℕ) → count ≤ length xs → AreFound called count xs by_name → called x ≡ Some name → AreFound called count (xs ++ x ∷ []) (insert_entry (pointwise nat_eq) by_name name (length xs))
+  found_more count xs by_name x name enough found is = λ n t here.
+      let said : cond (pointwise nat_eq n name) (Some (length xs)) (env_of by_name n) ≡ Some t = sym (lookup-insert_entry by_name name n (length xs)) ∙ here in
+      elim (name_cases n name) [
+        | inl same ↦ (
+            let hit : pointwise nat_eq n name ≡ true = ap (λ m. pointwise nat_eq m name) same ∙ name_itself name in
+            let both : Some (length xs) ≡ Some t = sym (ap (λ b. cond b (Some (length xs)) (env_of by_name n)) hit) ∙ said in
+            let at : length xs ≡ t = cc in
+            let last : name_at called (xs ++ x ∷ []) (length xs) ≡ Some n = ap (option_and_then called) (at_seam xs x) ∙ is ∙ ap Some (sym same) in
+            (subst (λ (k : ℕ). count ≤ k) at enough, subst (λ (k : ℕ). name_at called (xs ++ x ∷ []) k ≡ Some n) at last))
+        | inr other ↦ (
+            let was = found n t (sym (ap (λ b. cond b (Some (length xs)) (env_of by_name n)) other) ∙ said) in
+            (was.0, at_more xs (x ∷ []) t n was.1))
+      ]
 
--- one interface more, and its name
-found_more : (count : ℕ) (is : List Interface) (by_name : Names) (i : Interface) (name : List ℕ) → count ≤ length is → AreFound count is by_name → i.name ≡ Some name → AreFound count (is ++ i ∷ []) (insert_entry (pointwise nat_eq) by_name name (length is))
-found_more count is by_name i name enough found called = λ n t here.
-    let said : cond (pointwise nat_eq n name) (Some (length is)) (env_of by_name n) ≡ Some t = sym (lookup-insert_entry by_name name n (length is)) ∙ here in
-    elim (name_cases n name) [
-      | inl same ↦ (
-          let hit : pointwise nat_eq n name ≡ true = ap (λ m. pointwise nat_eq m name) same ∙ name_itself name in
-          let both : Some (length is) ≡ Some t = sym (ap (λ b. cond b (Some (length is)) (env_of by_name n)) hit) ∙ said in
-          let at : length is ≡ t = cc in
-          let last : name_at (is ++ i ∷ []) (length is) ≡ Some n = ap (option_and_then (λ (j : Interface). j.name)) (at_seam is i) ∙ called ∙ ap Some (sym same) in
-          (subst (λ (k : ℕ). count ≤ k) at enough, subst (λ (k : ℕ). name_at (is ++ i ∷ []) k ≡ Some n) at last))
-      | inr other ↦ (
-          let was = found n t (sym (ap (λ b. cond b (Some (length is)) (env_of by_name n)) other) ∙ said) in
-          (was.0, at_more is (i ∷ []) t n was.1))
-    ]
+  -- one more, where its name may have been refused
+  pub found_put : {Y E : Type 0} (r : Result Y E) (count : ℕ) (xs : List X) (by_name now : Names) (x : X) (name : List ℕ) → count ≤ length xs → AreFound called count xs by_name → called x ≡ Some name → OnOk r (now ≡ insert_entry (pointwise nat_eq) by_name name (length xs)) → OnErr r (now ≡ by_name) → AreFound called count (xs ++ x ∷ []) now
+  found_put (Ok y) count xs by_name now x name enough found is put kept = subst (AreFound called count (xs ++ x ∷ [])) (sym put) (found_more count xs by_name x name enough found is)
+  found_put (Err e) count xs by_name now x name enough found is put kept = subst (AreFound called count (xs ++ x ∷ [])) (sym kept) (found_wider count xs (x ∷ []) by_name found)
 
--- one more, where its name may have been refused
-pub found_put : {X E : Type 0} (r : Result X E) (count : ℕ) (is : List Interface) (by_name now : Names) (i : Interface) (name : List ℕ) → count ≤ length is → AreFound count is by_name → i.name ≡ Some name → OnOk r (now ≡ insert_entry (pointwise nat_eq) by_name name (length is)) → OnErr r (now ≡ by_name) → AreFound count (is ++ i ∷ []) now
-found_put (Ok x) count is by_name now i name enough found called put kept = subst (AreFound count (is ++ i ∷ [])) (sym put) (found_more count is by_name i name enough found called)
-found_put (Err e) count is by_name now i name enough found called put kept = subst (AreFound count (is ++ i ∷ [])) (sym kept) (found_wider count is (i ∷ []) by_name found)
+-- more of them
+pub prefix_wider : {X : Type 0} (count : ℕ) (xs more : List X) → count ≤ length xs → count ≤ length (xs ++ more)
+prefix_wider count xs more enough = omega (arith, length-append xs more)
 
 -- the scope of an interface that is after those at these addresses
-pub found_resolved_scope : (ss : List Address) (is : List Interface) (t : ℕ) (name : List ℕ) → length ss ≤ t → name_at is t ≡ Some name → (i : Interface) × (slice_get is t ≡ Some i) × (slice_get (resolved_scopes ss is) t ≡ Some (resolved_scope_at (InterfaceNamed name) i))
+pub found_resolved_scope : (ss : List Address) (is : List Interface) (t : ℕ) (name : List ℕ) → length ss ≤ t → name_at interface_name is t ≡ Some name → (i : Interface) × (slice_get is t ≡ Some i) × (slice_get (resolved_scopes ss is) t ≡ Some (resolved_scope_at (InterfaceNamed name) i))
 found_resolved_scope [] is t name enough at =
-    let i = named_at is t name at in
+    let i = named_at interface_name is t name at in
     (i.0, i.1, slice_get-map resolved_scope is t ∙ ap (option_map resolved_scope) i.1 ∙ ap (λ (n : Option (List ℕ)). Some (resolved_scope_at (InterfaceNamed (unwrap_or n [])) i.0)) i.2)
 found_resolved_scope (s ∷ ss) [] t name enough at = absurd (let f : ⊥ = cc in f)
 found_resolved_scope (s ∷ ss) (j ∷ is) zero name enough at = absurd (let f : ⊥ = omega arith in f)
 found_resolved_scope (s ∷ ss) (j ∷ is) (suc t) name enough at = found_resolved_scope ss is t name (omega arith) at
+
+-- the address of a world that is after those at these addresses
+found_place : (ss : List Address) (ws : List World) (t : ℕ) (name : List ℕ) → length ss ≤ t → name_at world_name ws t ≡ Some name → slice_get (worlds_at ss ws) t ≡ Some (WorldNamed name)
+found_place [] ws t name enough at =
+    let w = named_at world_name ws t name at in
+    slice_get-map (λ (x : World). WorldNamed x.name) ws t ∙ ap (option_map (λ (x : World). WorldNamed x.name)) w.1 ∙ ap (option_map WorldNamed) w.2
+found_place (s ∷ ss) [] t name enough at = absurd (let f : ⊥ = cc in f)
+found_place (s ∷ ss) (w ∷ ws) zero name enough at = absurd (let f : ⊥ = omega arith in f)
+found_place (s ∷ ss) (w ∷ ws) (suc t) name enough at = found_place ss ws t name (omega arith) at
+
+-- who is found has its address after those of other packages
+pub worlds_found : (files : List PackageFile) (ws : List World) (by_name : Names) → AreFound world_name (length (others_of files)) ws by_name → (name : List ℕ) (t : ℕ) → env_of by_name name ≡ Some t → slice_get (worlds_at (others_of files) ws) t ≡ Some (WorldNamed name)
+worlds_found files ws by_name found name t here =
+    let says = found name t here in
+    found_place (others_of files) ws t name says.0 says.1

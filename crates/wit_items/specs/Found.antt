@@ -1,13 +1,21 @@
--- Interfaces that are found by their names.
+-- Items of an arena that are found by their names.
 use Rattle.std.specs.Prelude.{◌≡◌, ◌≤◌, ℕ, List, Option, Some, slice_get}
 use Rattle.std.specs.Option.{option_and_then}
 use Rattle.wit_model.specs.declared.interface.Interface.{Interface}
+use Rattle.wit_model.specs.declared.world.World.{World}
 use Rattle.wit_arena.specs.Resolving.{Names, env_of}
 
--- the name of the interface at a place, if one is there and has one
-abbrev pub name_at : List Interface → ℕ → Option (List ℕ)
-name_at is place = option_and_then (λ (i : Interface). i.name) (slice_get is place)
+-- the name of an interface, if it has one, and that of a world
+abbrev pub interface_name : Interface → Option (List ℕ)
+interface_name i = i.name
 
--- each name that is found is the name of the interface at its place, after so many others
-abbrev pub AreFound : ℕ → List Interface → Names → Type 0
-AreFound count is by_name = (name : List ℕ) (place : ℕ) → env_of by_name name ≡ Some place → (count ≤ place) × (name_at is place ≡ Some name)
+abbrev pub world_name : World → Option (List ℕ)
+world_name w = Some w.name
+
+-- the name of what is at a place, if there is one
+abbrev pub name_at : {X : Type 0} → (X → Option (List ℕ)) → List X → ℕ → Option (List ℕ)
+name_at called xs place = option_and_then called (slice_get xs place)
+
+-- each name that is found is the name of what is at its place, after so many others
+abbrev pub AreFound : {X : Type 0} → (X → Option (List ℕ)) → ℕ → List X → Names → Type 0
+AreFound called count xs by_name = (name : List ℕ) (place : ℕ) → env_of by_name name ≡ Some place → (count ≤ place) × (name_at called xs place ≡ Some name)

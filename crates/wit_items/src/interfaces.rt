@@ -1,7 +1,7 @@
 //! The interfaces that are resolved, of this package and of other ones.
 ghost use Rattle.std.specs.Prelude.{◌≤◌, length};
 ghost use Rattle.wit_item_names.specs.ForeignAddresses.{prefix_of};
-ghost use Rattle.wit_items.specs.Found.{AreFound};
+ghost use Rattle.wit_items.specs.Found.{AreFound, interface_name};
 
 use wit_item_names::files::Files;
 use wit_maps::TextTable;
@@ -17,5 +17,5 @@ pub struct Interfaces<'n, 'e, 'f, 'a> {
     pub arena: Arena<Interface, InterfacePlace>,
     pub by_name: TextTable<InterfaceId>,
     pub ghost prefix: { length (prefix_of files) ≤ length arena },
-    pub ghost found: { AreFound (length (prefix_of files)) arena by_name },
+    pub ghost found: { AreFound interface_name (length (prefix_of files)) arena by_name },
 }

@@ -27,7 +27,7 @@ use Rattle.wit_externs.specs.declared.borrowed.BorrowedLink.{BorrowedLink}
 use Rattle.wit_externs.specs.declared.borrowed.BorrowedExtern.{BorrowedExtern}
 use Rattle.wit_externs.specs.declared.borrowed.BorrowedExtern.TheVariants as borrowed
 use Rattle.wit_item_names.proofs.Usable.{contains_one}
-use Rattle.wit_items.specs.Found.{AreFound}
+use Rattle.wit_items.specs.Found.{AreFound, interface_name}
 use Rattle.wit_items.proofs.Found.{found_resolved_scope}
 use Rattle.wit_rules.specs.declared.borrowed.BorrowedFunction.{BorrowedFunction}
 use Rattle.wit_scopes.specs.BorrowedNames.{source_view, IsPlaced}
@@ -64,7 +64,7 @@ addresses_count (s ∷ ss) [] enough = absurd (let f : ⊥ = omega arith in f)
 addresses_count (s ∷ ss) (i ∷ is) enough = ap suc (addresses_count ss is (omega arith))
 
 -- the address at the place of an interface is its own
-called_at : (prefix : List Address) (is : List Interface) (by_name : Names) (s : Address) (id : ℕ) → length prefix ≤ length is → AreFound (length prefix) is by_name → interface_place prefix by_name s ≡ Some id → slice_get (interfaces_at prefix is) id ≡ Some s
+called_at : (prefix : List Address) (is : List Interface) (by_name : Names) (s : Address) (id : ℕ) → length prefix ≤ length is → AreFound interface_name (length prefix) is by_name → interface_place prefix by_name s ≡ Some id → slice_get (interfaces_at prefix is) id ≡ Some s
 called_at prefix is by_name (InterfaceNamed name) id enough found at =
     let i = found_resolved_scope prefix is id name (found name id at).0 (found name id at).1 in
     slice_get-map (λ (d : ResolvedScope). d.address) (resolved_scopes prefix is) id ∙ ap (option_map (λ (d : ResolvedScope). d.address)) i.2
@@ -80,7 +80,7 @@ resolved_place : (files : List PackageFile) (prefix : List Address) (by_name : N
 resolved_place files prefix by_name top hs k l id are at lead = (subst (λ (d : PathTarget). IsPathTarget files prefix by_name top l.path.now d) lead (are.each l (contains_at hs k (borrowed.Link l) at))).1
 
 -- so they are placed
-pub links_placed : (files : List PackageFile) (prefix : List Address) (is : List Interface) (by_name : Names) (top : List TopName) (hs : List BorrowedExtern) → length prefix ≤ length is → AreFound (length prefix) is by_name → ArePathTargets files prefix by_name top hs → AreLinksPlaced (interfaces_at prefix is) top hs
+pub links_placed : (files : List PackageFile) (prefix : List Address) (is : List Interface) (by_name : Names) (top : List TopName) (hs : List BorrowedExtern) → length prefix ≤ length is → AreFound interface_name (length prefix) is by_name → ArePathTargets files prefix by_name top hs → AreLinksPlaced (interfaces_at prefix is) top hs
 links_placed files prefix is by_name top hs enough found are = record {
   place = λ s. unwrap_or (interface_place prefix by_name s) 0;
   present = λ k l id at lead. sym (ap (λ (o : Option ℕ). unwrap_or o 0) (resolved_place files prefix by_name top hs k l id are at lead));

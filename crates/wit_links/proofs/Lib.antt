@@ -1,4 +1,3 @@
 mod IncludePart
 pub mod Inlined
 pub mod Leading
-pub mod WorldsFound

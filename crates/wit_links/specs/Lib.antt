@@ -1,3 +1,2 @@
 pub mod Includes
 pub mod SideCounts
-pub mod NamedWorlds

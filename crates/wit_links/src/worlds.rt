@@ -1,7 +1,7 @@
 //! The worlds that are resolved, of this package and of other ones.
 ghost use Rattle.std.specs.Prelude.{◌≤◌, length};
+ghost use Rattle.wit_items.specs.Found.{AreFound, world_name};
 ghost use Rattle.wit_items.specs.BorrowedItems.{others_of};
-ghost use Rattle.wit_links.specs.NamedWorlds.{AreFound};
 
 use wit_items::interfaces::Interfaces;
 use wit_maps::TextTable;
@@ -17,5 +17,5 @@ pub struct Worlds<'i, 'n, 'e, 'f, 'a> {
     pub arena: Arena<World, WorldPlace>,
     pub by_name: TextTable<WorldId>,
     pub ghost prefix: { length (others_of interfaces.now.files) ≤ length arena },
-    pub ghost found: { AreFound (length (others_of interfaces.now.files)) arena by_name },
+    pub ghost found: { AreFound world_name (length (others_of interfaces.now.files)) arena by_name },
 }

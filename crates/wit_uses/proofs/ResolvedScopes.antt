@@ -5,7 +5,7 @@ use Rattle.std.proofs.lemmas.Option.{slice_get_within}
 use Rattle.wit_model.specs.declared.interface.Interface.{Interface}
 use Rattle.wit_syntax.specs.Address.{Address, InterfaceNamed}
 use Rattle.wit_arena.specs.Resolving.{Names, resolved_scope_at, resolved_scopes, env_of, IsFound}
-use Rattle.wit_items.specs.Found.{AreFound}
+use Rattle.wit_items.specs.Found.{AreFound, interface_name}
 use Rattle.wit_items.proofs.Found.{found_resolved_scope, named_at}
 
 -- the resolved scope of an interface in front
@@ -19,13 +19,13 @@ prefix_at (r ∷ ss) (j ∷ is) zero s i at there =
 prefix_at (r ∷ ss) (j ∷ is) (suc t) s i at there = prefix_at ss is t s i at there
 
 -- an interface that goes by a name is one of all
-pub named_within : (count : ℕ) (is : List Interface) (by_name : Names) (name : List ℕ) (t : ℕ) → AreFound count is by_name → env_of by_name name ≡ Some t → t < length is
+pub named_within : (count : ℕ) (is : List Interface) (by_name : Names) (name : List ℕ) (t : ℕ) → AreFound interface_name count is by_name → env_of by_name name ≡ Some t → t < length is
 named_within count is by_name name t found here =
-    let i = named_at is t name (found name t here).1 in
+    let i = named_at interface_name is t name (found name t here).1 in
     slice_get_within is t i.0 i.1
 
 -- and is found
-pub named_found : (ss : List Address) (is : List Interface) (by_name : Names) (name : List ℕ) (t : ℕ) (i : Interface) → AreFound (length ss) is by_name → env_of by_name name ≡ Some t → slice_get is t ≡ Some i → IsFound (resolved_scopes ss is) (InterfaceNamed name) (resolved_scope_at (InterfaceNamed name) i)
+pub named_found : (ss : List Address) (is : List Interface) (by_name : Names) (name : List ℕ) (t : ℕ) (i : Interface) → AreFound interface_name (length ss) is by_name → env_of by_name name ≡ Some t → slice_get is t ≡ Some i → IsFound (resolved_scopes ss is) (InterfaceNamed name) (resolved_scope_at (InterfaceNamed name) i)
 named_found ss is by_name name t i found here there =
     let says = found name t here in
     let j = found_resolved_scope ss is t name says.0 says.1 in

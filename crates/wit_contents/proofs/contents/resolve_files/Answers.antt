@@ -13,6 +13,7 @@ use Rattle.wit_arena.proofs.LegalScopes.{distinct_items}
 use Rattle.wit_arena.proofs.LegalIfDone.{broken_now, broken_world_now}
 use Rattle.wit_items.specs.BorrowedItems.{item_view, others_of}
 use Rattle.wit_items.proofs.Usable.{uses_broken, uses_sound}
+use Rattle.wit_items.specs.Found.{interface_name}
 use Rattle.wit_items.proofs.Found.{found_none}
 use Rattle.wit_items.proofs.Gathered.{items_of}
 use Rattle.wit_item_names.specs.ForeignAddresses.{prefix_of}
@@ -58,7 +59,7 @@ invariant_of-interfaces c =
     let prefix : IsPrefix files types a = prefix_used files c.foreign.result.now c.args.types.now c.in_ok-prefix.prefix c.in_ok-items.items.items c.deref_mut-lent.result.now c.foreign.ensures c.requires.empty c.in_ok-prefix.ensures.bare c.deref_mut-lent.ensures.value e.placed types a e.names e.inside c.in_ok-take_all.ensures.in_use in
     record {
       prefix = rw c.of-named.ensures (lent_enough files types a prefix);
-      found = found_none (length (prefix_of c.of-named.result)) a.interfaces c.new.result c.new.ensures;
+      found = found_none interface_name (length (prefix_of c.of-named.result)) a.interfaces c.new.result c.new.ensures;
     }
 
 pub resolve_interfaces-requires-clause-index : goal.resolve_interfaces-requires-clause-index

@@ -1,6 +1,7 @@
 use Rattle.std.proofs.Common.{[], ◌∷◌, length}
 use Rattle.wit_arena.proofs.Indexing.{index_interface}
 use Rattle.wit_item_names.specs.ForeignAddresses.{prefix_of}
+use Rattle.wit_items.specs.Found.{interface_name}
 use Rattle.wit_items.proofs.Found.{found_put, found_wider, prefix_wider}
 use Rattle.wit_contents.proofs.declared.add_interface.Goals as goal
 
@@ -14,7 +15,7 @@ invariant_of-interfaces-in-Break-branch-2 c =
     let is = c.args.interfaces.now in
     rw c.in_ok-place.ensures.ok (record {
       prefix = prefix_wider (length (prefix_of is.files)) is.arena (c.args.interface ∷ []) is.prefix;
-      found = found_wider (length (prefix_of is.files)) is.arena (c.args.interface ∷ []) is.by_name is.found;
+      found = found_wider interface_name (length (prefix_of is.files)) is.arena (c.args.interface ∷ []) is.by_name is.found;
     })
 
 pub invariant_of-interfaces-2 : goal.invariant_of-interfaces-2
@@ -23,7 +24,7 @@ invariant_of-interfaces-2 c =
     let put = rw (c.in_ok-name.ensures.ok, c.in_ok-place.ensures.id) at c.put.ensures.ok in
     rw c.in_ok-place.ensures.ok (record {
       prefix = prefix_wider (length (prefix_of is.files)) is.arena (c.args.interface ∷ []) is.prefix;
-      found = found_put c.put.result (length (prefix_of is.files)) is.arena is.by_name _ c.args.interface c.args.name.now is.prefix is.found c.requires.named put c.put.ensures.err;
+      found = found_put interface_name c.put.result (length (prefix_of is.files)) is.arena is.by_name _ c.args.interface c.args.name.now is.prefix is.found c.requires.named put c.put.ensures.err;
     })
 
 pub returns-clause-index : goal.returns-clause-index

@@ -1,9 +1,10 @@
-use Rattle.std.proofs.Common.{◌++◌, ◌∷◌, [], List, length, refl, ap, ◌∙◌}
+use Rattle.std.proofs.Common.{◌++◌, ◌∷◌, [], List, length, refl, ap, ◌∙◌, Some}
 use Rattle.wit_arena.proofs.Indexing.{index_world}
 use Rattle.wit_arena.specs.Resolving.{Required}
 use Rattle.wit_contents.specs.declared.world.WorldParts.{WorldParts}
 use Rattle.wit_items.specs.BorrowedItems.{others_of}
-use Rattle.wit_links.proofs.WorldsFound.{found_put, found_wider, prefix_wider}
+use Rattle.wit_items.specs.Found.{world_name}
+use Rattle.wit_items.proofs.Found.{found_put, found_wider, prefix_wider}
 use Rattle.wit_contents.proofs.world.add_world.Goals as goal
 
 pub invariant_of-worlds : goal.invariant_of-worlds
@@ -16,7 +17,7 @@ invariant_of-worlds-in-Break-branch-3 c =
     let ws = c.args.worlds.now in
     rw c.in_ok-place.ensures.ok (record {
       prefix = prefix_wider (length (others_of ws.interfaces.now.files)) ws.arena (_ ∷ []) ws.prefix;
-      found = found_wider (length (others_of ws.interfaces.now.files)) ws.arena (_ ∷ []) ws.by_name ws.found;
+      found = found_wider world_name (length (others_of ws.interfaces.now.files)) ws.arena (_ ∷ []) ws.by_name ws.found;
     })
 
 pub invariant_of-worlds-2 : goal.invariant_of-worlds-2
@@ -26,7 +27,7 @@ invariant_of-worlds-2 c =
     let put = rw (c.in_ok-from_str.ensures.ok, c.in_ok-place.ensures.id) at c.put.ensures.ok in
     rw c.in_ok-place.ensures.ok (record {
       prefix = prefix_wider (length (others_of ws.interfaces.now.files)) ws.arena (_ ∷ []) ws.prefix;
-      found = found_put c.put.result (length (others_of ws.interfaces.now.files)) ws.arena ws.by_name _ _ c.args.id.name.now ws.prefix ws.found name put c.put.ensures.err;
+      found = found_put world_name c.put.result (length (others_of ws.interfaces.now.files)) ws.arena ws.by_name _ _ c.args.id.name.now ws.prefix ws.found (ap Some name) put c.put.ensures.err;
     })
 
 pub returns-clause-required : goal.returns-clause-required

@@ -18,7 +18,8 @@ use Rattle.wit_syntax.proofs.Refusing.{refused_weaker}
 use Rattle.wit_uses.proofs.Telling.{stability_more}
 use Rattle.wit_items.specs.declared.items.Declared.{Declared as BorrowedDeclared}
 use Rattle.wit_items.specs.BorrowedItems.{declared_view, item_view, others_of}
-use Rattle.wit_links.proofs.WorldsFound.{found_none}
+use Rattle.wit_items.specs.Found.{world_name}
+use Rattle.wit_items.proofs.Found.{found_none}
 use Rattle.wit_contents.specs.BetweenWorlds.{arenas}
 use Rattle.wit_contents.proofs.Linking.{links_more}
 use Rattle.wit_contents.proofs.WorldsMore.{AreWorldsTo, addresses_in, sides_both, sounds_both, with_more, worlds_more, worlds_none}
@@ -43,7 +44,7 @@ loop-place-init c = rw (c.make_room.ensures.inside, c.make_room.ensures.worlds) 
 pub invariant_of-worlds : goal.invariant_of-worlds
 invariant_of-worlds c = record {
   prefix = rw c.make_room.ensures.worlds c.requires.prefix;
-  found = found_none (length (others_of c.args.interfaces.now.files)) c.make_room.new.worlds c.new.result c.new.ensures;
+  found = found_none world_name (length (others_of c.args.interfaces.now.files)) c.make_room.new.worlds c.new.result c.new.ensures;
 }
 
 pub resolve_world-requires-clause-sort : goal.resolve_world-requires-clause-sort

@@ -10,7 +10,7 @@ use Rattle.wit_first.proofs.Bridge.{refused_by, stability_agrees}
 use Rattle.wit_links.specs.Includes.{IsLost}
 use Rattle.wit_item_names.proofs.Others.{part_visited, world_missing, world_found}
 use Rattle.wit_files.specs.FileNames.{top_at}
-use Rattle.wit_links.proofs.WorldsFound.{worlds_found}
+use Rattle.wit_items.proofs.Found.{worlds_found}
 use Rattle.wit_links.proofs.includes.resolve_include.Goals as goal
 
 pub returns-in-None-clause-refused : goal.returns-in-None-clause-refused
