@@ -1,14 +1,14 @@
 pub mod Files
 mod Fronting
 pub mod Outer
-mod Counted
 mod Closing
 pub mod Linking
 mod Adding
-mod DoneSides
-mod InsideAt
-mod MembersOfItem
-mod NoSides
-mod WrongMembers
 mod WorldsMore
+mod Walking
+mod Walks
+mod PartItems
+mod Members
+mod ItemSides
+mod WrongWalk
 mod Parts

@@ -13,7 +13,7 @@ use Rattle.wit_syntax.proofs.Lists.{at_split}
 use Rattle.wit_arena.specs.Resolving.{Required}
 use Rattle.wit_arena.specs.ResolvedArenas.{AddsEach, AddsWorld, AddsWorlds, AreLegalSides, AreSoundScopes, prefix_worlds}
 use Rattle.wit_uses.specs.NewRequirements.{Appends}
-use Rattle.wit_contents.specs.BetweenWorlds.{arenas}
+use Rattle.wit_contents.specs.AddedWorlds.{arenas}
 
 -- what items add, and one after them
 module _ {X : Type 0} (Adds : List TypeDef → List TypeDef → X → X → List Required → Item → Type 0) where

@@ -1,4 +1,5 @@
 pub mod AddedFiles
+pub mod AddedInterfaces
+pub mod AddedWorlds
 pub mod Outer
-pub mod Members
-pub mod BetweenWorlds
+pub mod Walk

@@ -68,16 +68,8 @@ fn resolve_files<'f, 'a>(
         by_name: TextTable::new(alloc),
     };
     let mut required = Vec::new(alloc);
-    resolve_interfaces(alloc, lent, types, &mut required, &mut interfaces, order)?;
-    let made = resolve_worlds(
-        alloc,
-        lent,
-        types,
-        &mut required,
-        &interfaces,
-        worlds,
-        order,
-    )?;
+    resolve_interfaces(lent, types, &mut required, &mut interfaces, order)?;
+    let made = resolve_worlds(lent, types, &mut required, &interfaces, worlds, order)?;
     let (worlds, mut inside) = made;
     let mut interfaces = interfaces.arena;
     interfaces.append(&mut inside)?;

@@ -2,32 +2,22 @@
 ghost use Rattle.std.specs.Prelude.{◌≡◌, ◌<◌, ◌++◌, List, false, length, IfErr, IfOk, OnOk, map};
 ghost use Rattle.wit_types.specs.declared.types.TypeDef.{TypeDef};
 ghost use Rattle.wit_types.specs.declared.types.TypeOwner.{TypeOwner as Owner};
-ghost use Rattle.wit_types.specs.declared.types.TypeOwner.TheVariants.{Interface as InterfaceOwner};
-ghost use Rattle.wit_functions.specs.declared.function.Function.{Function as TheFunction};
 ghost use Rattle.wit_syntax.specs.Source.{is_world, scope_names as the_names, about};
-ghost use Rattle.wit_syntax.specs.Metadata.{IsBrokenStability};
 ghost use Rattle.wit_syntax.specs.Function.{functions as the_functions};
-ghost use Rattle.wit_syntax.specs.Sides.{IsBrokenSides};
 ghost use Rattle.wit_syntax.specs.SignatureRules.{IsUnpairedSetter};
 ghost use Rattle.wit_syntax.specs.Fault.{Fault};
-ghost use Rattle.wit_syntax.specs.Broken.{IsBrokenScope, Refused};
+ghost use Rattle.wit_syntax.specs.Broken.{Refused};
 ghost use Rattle.wit_entries.specs.Requiring.{IsExtended};
 ghost use Rattle.wit_rules.specs.BorrowedFunctions.{function_view};
 ghost use Rattle.wit_signatures.specs.ForeignName.{name_of_function, name_of_id};
-ghost use Rattle.wit_items.specs.BorrowedItems.{scope_item};
-ghost use Rattle.wit_arena.specs.SourceFunctions.{placed_functions};
-ghost use Rattle.wit_arena.specs.Resolving.{ResolvedScope, Names};
-ghost use Rattle.wit_arena.specs.ResolvedArenas.{AddsInterface, IsNameless, IsWrongInterface};
+ghost use Rattle.wit_items.specs.BorrowedItems.{declared_view, scope_item};
+ghost use Rattle.wit_arena.specs.Resolving.{ResolvedScope};
 ghost use Rattle.wit_item_names.specs.ForeignAddresses.{prefix_of};
-ghost use Rattle.wit_items.specs.ResolvedInterfaces.{resolved_scopes_of};
-ghost use Rattle.wit_uses.specs.NewRequirements.{Appends};
-ghost use Rattle.wit_item_entries.specs.AddedNames.{AddsTurn};
-ghost use Rattle.wit_item_entries.specs.Body.{AddsBody};
-ghost use Rattle.wit_scopes.specs.DefinitionOrder.{IsOfFunctions};
 ghost use Rattle.wit_scopes.specs.PlacedNames.{AreNamesPlaced};
 ghost use Rattle.wit_scopes.specs.BorrowedNames.{name_view};
+ghost use Rattle.wit_contents.specs.AddedInterfaces.{AddsAt, AddsTable, HasLegalSides, HasLegalStability, HasSoundNames, HasTurn, IsSoundScope, IsWrongAt, RefusesTable};
 
-use std::alloc::Global;
+use std::alloc::{AllocError, Global};
 use wit_entries::entries::Entries;
 use wit_entries::scope::Required;
 use wit_externs::in_use::check_setters;
@@ -36,18 +26,19 @@ use wit_item_entries::functions::function_table;
 use wit_item_entries::names::ResolvedNames;
 use wit_item_entries::required::add_required;
 use wit_items::interfaces::Interfaces;
-use wit_items::items::ItemScope;
+use wit_items::items::{Declared, ItemScope};
+use wit_links::inside::declared_name;
 use wit_maps::TextTable;
 use wit_model::{Function, Interface};
 use wit_refusals::NameScope;
 use wit_rules::borrowed::BorrowedFunction;
+use wit_tree::ParseResult;
 use wit_tree::tree::Id;
-use wit_tree::{ParseResult, Span};
 use wit_types::{InterfaceId, TypeOwner};
 use wit_values::Text;
 
 /// Refuses a setter that has no getter of its spelling, where these are the names and the functions,
-/// and they are taken if there is a function.
+/// and they are defined if there is a function.
 fn check_pairs(
     functions: &[BorrowedFunction<'_, '_>],
     in_use: &NameScope,
@@ -72,14 +63,14 @@ fn functions_of<'a>(
 ) -> ParseResult<TextTable<Function>>
     requires sort { is_world (scope_item item.now) ≡ false }
     requires named { map name_view item.now.names.now ≡ the_names (scope_item item.now) }
-    requires added { (old : List TypeDef) × (cs : List ResolvedScope) × (o : Owner) × AddsTurn old types.old cs o (the_names (scope_item item.now)) names.old.types names.old.turn.items names.old.required.items }
+    requires added { (old : List TypeDef) × (cs : List ResolvedScope) × (o : Owner) × HasTurn names.old types.old (scope_item item.now) old cs o }
     ensures types { OnOk result (names.new.types ≡ names.old.types) }
-    ensures adds { IfOk result (λ table. (old : List TypeDef) (cs : List ResolvedScope) (o : Owner) → AddsTurn old types.old cs o (the_names (scope_item item.now)) names.old.types names.old.turn.items names.old.required.items → (fs : List TheFunction) × AddsBody old types.new cs o (scope_item item.now) names.old.types names.old.turn.items fs names.new.required.items × (table ≡ placed_functions fs)) }
+    ensures adds { IfOk result (AddsTable names.old names.new types.old types.new (scope_item item.now)) }
     ensures paired { OnOk result ((f : Fault) → IsUnpairedSetter (the_functions (scope_item item.now)) f → ⊥) }
-    ensures sound { OnOk result (((f : Fault) → IsBrokenScope (the_names (scope_item item.now)) (the_functions (scope_item item.now)) f → IsOfFunctions (the_names (scope_item item.now)) (the_functions (scope_item item.now)) f) → (f : Fault) → IsBrokenScope (the_names (scope_item item.now)) (the_functions (scope_item item.now)) f → IsNameless (the_names (scope_item item.now)) (the_functions (scope_item item.now))) }
-    ensures sided { OnOk result ((f : Fault) → IsBrokenSides (scope_item item.now) f → ⊥) }
+    ensures sound { OnOk result (HasSoundNames (scope_item item.now) → IsSoundScope (scope_item item.now)) }
+    ensures sided { OnOk result (HasLegalSides (scope_item item.now)) }
     ensures extended { OnOk result (IsExtended types.old types.new) }
-    ensures refused { IfErr result (λ e. (old : List TypeDef) (cs : List ResolvedScope) (by_name : Names) (o : Owner) → AddsTurn old types.old cs o (the_names (scope_item item.now)) names.old.types names.old.turn.items names.old.required.items → Refused (IsWrongInterface old cs by_name o (scope_item item.now)) e) }
+    ensures refused { IfErr result (RefusesTable names.old types.old (scope_item item.now)) }
 {
     let own = resolve_item_functions(alloc, item.names, item.declared, types, names)?;
     check_pairs(&own.written, &own.in_use.imports, &names.turn)?;
@@ -89,30 +80,39 @@ fn functions_of<'a>(
     Ok(functions)
 }
 
+/// The name by which a declared item is found; an inline interface has none.
+fn called_name(alloc: Global, declared: &Declared<'_, '_>) -> Result<Option<Text>, AllocError>
+    ensures { IfOk result (λ name. name ≡ (about (declared_view declared.now)).called) }
+{
+    match declared {
+        Declared::Interface(interface) => Ok(Some(Text::from_str(alloc, interface.name.name)?)),
+        Declared::World(world) => Ok(Some(Text::from_str(alloc, world.name.name)?)),
+        Declared::Inline(_) => Ok(None),
+    }
+}
+
 /// The interface at a place, with what is stated of it, its names, and what is in them, and then its
-/// functions; it goes by this name, where it has one.
+/// functions.
 pub fn interface_of<'f, 'a>(
-    alloc: Global,
     item: &ItemScope<'f, 'a, '_>,
     types: &mut Entries,
     required: &mut Vec<Required>,
     interfaces: &Interfaces<'_, '_, 'f, 'a>,
     place: InterfaceId,
-    name: Option<Text>,
-    span: Span,
 ) -> ParseResult<Interface>
     requires sort { is_world (scope_item item.now) ≡ false }
-    requires called { name ≡ (about (scope_item item.now).declared).called }
-    requires present { span ≡ (about (scope_item item.now).declared).id.span }
     requires named { map name_view item.now.names.now ≡ the_names (scope_item item.now) }
     requires placed { AreNamesPlaced (prefix_of interfaces.now.files) item.now.names.now }
-    ensures adds { IfOk result (λ added. Appends required.old.items required.new.items (λ rs. AddsInterface (resolved_scopes_of interfaces.now) place types.old types.new added rs (scope_item item.now))) }
-    ensures stable { OnOk result ((f : Fault) → IsBrokenStability (about (scope_item item.now).declared).attributes f → ⊥) }
-    ensures sound { OnOk result ((f : Fault) → IsBrokenScope (the_names (scope_item item.now)) (the_functions (scope_item item.now)) f → IsNameless (the_names (scope_item item.now)) (the_functions (scope_item item.now))) }
-    ensures sided { OnOk result ((f : Fault) → IsBrokenSides (scope_item item.now) f → ⊥) }
+    ensures adds { IfOk result (λ added. AddsAt interfaces.now place types.old types.new added required.old.items required.new.items (scope_item item.now)) }
+    ensures stable { OnOk result (HasLegalStability (scope_item item.now)) }
+    ensures sound { OnOk result (IsSoundScope (scope_item item.now)) }
+    ensures sided { OnOk result (HasLegalSides (scope_item item.now)) }
     ensures extended { OnOk result (IsExtended types.old types.new) }
-    ensures refused { IfErr result (Refused (IsWrongInterface types.old (resolved_scopes_of interfaces.now) interfaces.now.by_name (InterfaceOwner place) (scope_item item.now))) }
+    ensures refused { IfErr result (Refused (IsWrongAt interfaces.now types.old place (scope_item item.now))) }
 {
+    let alloc = *interfaces.by_name.allocator();
+    let id = declared_name(&item.declared);
+    let name = called_name(alloc, &item.declared)?;
     let owner = TypeOwner::Interface(place);
     let head = resolve_head(alloc, item, types, interfaces, owner)?;
     let mut names = head.names;
@@ -125,7 +125,7 @@ pub fn interface_of<'f, 'a>(
         docs: head.metadata.docs,
         stability: head.metadata.stability,
         package: None,
-        span,
+        span: id.span,
         clone_of: None,
     })
 }

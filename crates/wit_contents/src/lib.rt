@@ -5,5 +5,6 @@
 pub mod contents;
 pub mod declared;
 pub mod interface;
-pub mod members;
+pub mod sides;
+pub mod walk;
 pub mod world;

@@ -1,182 +1,164 @@
 //! Declared worlds.
-ghost use Rattle.std.specs.Prelude.{◌≡◌, ◌<◌, ◌≤◌, ◌+◌, ◌++◌, [], List, All, true, length, IfOk, IfErr, OnOk, map};
+ghost use Rattle.std.specs.Prelude.{◌≡◌, ◌<◌, ◌≤◌, ◌+◌, ◌++◌, ◌∷◌, [], All, true, length, IfOk, IfErr, OnOk};
 ghost use Rattle.wit_type_tree.specs.RefusalText.{IsAllocationFailure};
-ghost use Rattle.wit_syntax.specs.Address.{Address};
-ghost use Rattle.wit_syntax.specs.Source.{address, is_world, about, declared_metadata};
-ghost use Rattle.wit_syntax.specs.ScopeTables.{in_order, part_includes, worlds_of};
-ghost use Rattle.wit_syntax.specs.Fault.{Fault};
+ghost use Rattle.wit_syntax.specs.Source.{is_world, about};
 ghost use Rattle.wit_syntax.specs.Sides.{inline_items, with_inline};
 ghost use Rattle.wit_syntax.specs.Broken.{Refused};
-ghost use Rattle.wit_types.specs.declared.types.TypeOwner.TheVariants.{World as WorldOwner};
+ghost use Rattle.wit_arena.specs.UnfoldedTypes.{IsWorld};
 ghost use Rattle.wit_arena.specs.Resolving.{IsWorldIndex};
-ghost use Rattle.wit_arena.specs.ResolvedArenas.{worlds_at, AddsWorld, AddsWorlds, AreLegalSides, AreSoundScopes, AreUsableLinks, HasUsableLinks, IsBrokenItemStability, HaveLegalStability, IsWrongWorld, IsWrongWorldNow, prefix_worlds};
-ghost use Rattle.wit_items.specs.declared.metadata.ItemMetadata.{ItemMetadata as TheMetadata};
+ghost use Rattle.wit_arena.specs.ResolvedArenas.{worlds_at, AreLegalSides, AreSoundScopes, AreUsableLinks, HaveLegalStability};
 ghost use Rattle.wit_items.specs.BorrowedItems.{declared_view, item_view, others_of};
-ghost use Rattle.wit_items.specs.SourceItems.{metadata_view, AreOf};
-ghost use Rattle.wit_item_names.specs.ForeignAddresses.{prefix_of};
-ghost use Rattle.wit_items.specs.ResolvedInterfaces.{resolved_scopes_of};
-ghost use Rattle.wit_uses.specs.NewRequirements.{Appends};
-ghost use Rattle.wit_links.specs.Includes.{AreStable};
+ghost use Rattle.wit_items.specs.SourceItems.{metadata_view};
 ghost use Rattle.std.specs.List.{flat_map};
-ghost use Rattle.wit_contents.specs.BetweenWorlds.{arenas, AreWorldParts, IsAddedWorld};
 ghost use Rattle.wit_items.specs.Gathered.{AreItemsOf, IsItemOf};
+ghost use Rattle.wit_contents.specs.AddedInterfaces.{HasLegalStability};
+ghost use Rattle.wit_contents.specs.AddedWorlds.{AddsContent, AddsTo, AddsWorldsTo, AreIndexed, IsRightWorld, IsWrongIn, IsWrongWorldInOrder, worlds_in};
 
-use crate::members::resolve_members;
+use crate::sides::walk_sides;
+use crate::walk::Walk;
 use std::alloc::{AllocError, Global};
 use wit_entries::entries::Entries;
 use wit_entries::scope::Required;
-use wit_externs::borrowed::BorrowedExtern;
+use wit_item_entries::functions::{world_functions, written_results};
 use wit_item_entries::names::resolve_names;
 use wit_item_entries::required::add_required;
 use wit_items::interfaces::Interfaces;
 use wit_items::items::{Declared, Item};
 use wit_items::metadata::{ItemMetadata, item_metadata};
-use wit_links::externs::declared_externs;
 use wit_links::includes::declared_includes;
-use wit_links::inside::declared_name;
+use wit_links::inside::{declared_name, declared_world};
 use wit_links::worlds::Worlds;
 use wit_maps::TextTable;
 use wit_model::{Interface, World, WorldInclude};
+use wit_rules::function_scope::FunctionScope;
 use wit_tree::ParseResult;
 use wit_tree::tree::Id;
 use wit_types::{Arena, InterfacePlace, TypeOwner, WorldPlace};
 use wit_values::{Row, Text, pair_with};
-use wit_world_sides::sides::{WorldSides, world_sides};
-use wit_world_sides::sides_setters::is_closed;
+use wit_world_sides::sides::WorldSides;
+use wit_world_sides::sides_setters::{is_closed, settle};
 
-/// What a world has but its name: what is stated of it, what its handles require of types of other
-/// packages, what it has on its sides, and its includes.
-#[derive(Drop)]
-pub struct WorldParts {
-    pub metadata: ItemMetadata,
-    pub required: Vec<Required>,
-    pub sides: WorldSides,
-    pub includes: Row<WorldInclude>,
-}
-
-/// What a world has but its name and what is stated of it.
+/// What a world has on its sides, and its includes.
 #[derive(Drop)]
 pub struct WorldContent {
-    pub required: Vec<Required>,
     pub sides: WorldSides,
     pub includes: Row<WorldInclude>,
 }
 
-/// Adds a world of this name with its parts, and what its handles require.
-fn add_world(
-    alloc: Global,
-    worlds: &mut Worlds<'_, '_, '_, '_, '_>,
-    required: &mut Vec<Required>,
-    id: Id<'_>,
-    parts: WorldParts,
-) -> ParseResult<()>
+/// Adds a declared world, under its name.
+fn add_world(worlds: &mut Worlds<'_, '_, '_, '_, '_>, name: &str, world: World) -> ParseResult<()>
+    requires index { AreIndexed worlds.old }
+    requires named { world.name ≡ name.now }
     ensures interfaces { OnOk result (worlds.new.interfaces ≡ worlds.old.interfaces) }
-    ensures required { OnOk result (required.new.items ≡ required.old.items ++ parts.required.items) }
-    ensures added { OnOk result (IsAddedWorld worlds.old.arena worlds.new.arena id.entry (metadata_view parts.metadata) parts.sides.imports parts.sides.exports parts.includes) }
-    ensures index { OnOk result ((others : List Address) → length others ≤ length worlds.old.arena → IsWorldIndex (worlds_at others worlds.old.arena) worlds.old.by_name → IsWorldIndex (worlds_at others worlds.new.arena) worlds.new.by_name) }
+    ensures added { OnOk result (worlds.new.arena ≡ worlds.old.arena ++ world ∷ []) }
+    ensures index { OnOk result (AreIndexed worlds.new) }
     ensures refused { IfErr result IsAllocationFailure }
 {
-    let name = Text::from_str(alloc, id.name);
-    let (parts, name) = pair_with(parts, name)?;
-    let world = World {
-        name,
-        imports: parts.sides.imports.shrunk(),
-        exports: parts.sides.exports.shrunk(),
-        package: None,
-        docs: parts.metadata.docs,
-        stability: parts.metadata.stability,
-        includes: parts.includes,
-        span: id.span,
-    };
+    let alloc = *worlds.by_name.allocator();
     let place = worlds.arena.alloc(world)?;
-    worlds
-        .by_name
-        .put(String::from_str(alloc, id.name)?, place)?;
-    add_required(required, &parts.required)?;
+    let name = String::from_str(alloc, name)?;
+    worlds.by_name.put(name, place)?;
     Ok(())
 }
 
-/// The names of a world and what is in them, its includes, the functions of its resources, and what it
-/// imports and exports.
+/// What a world has on its sides, after its names, and its includes.
 fn world_content<'f, 'a>(
-    alloc: Global,
     item: &Item<'f, 'a>,
     types: &mut Entries,
+    required: &mut Vec<Required>,
     inside: &mut Arena<Interface, InterfacePlace>,
     worlds: &Worlds<'_, '_, '_, 'f, 'a>,
 ) -> ParseResult<WorldContent>
     requires sort { is_world (item_view item.now) ≡ true }
     requires item { IsItemOf worlds.now.interfaces.now.files item.now }
-    ensures parts { IfOk result (λ content. (ss : List Address) (metadata : TheMetadata) → length ss ≡ length inside.old → AreOf (declared_metadata (item_view item.now).declared) metadata → AreWorldParts (prefix_of worlds.now.interfaces.now.files) (others_of worlds.now.interfaces.now.files) worlds.now.interfaces.now.arena types.old types.new worlds.now.arena inside.old inside.new ss (item_view item.now) (record { metadata = metadata; required = content.required; sides = content.sides; includes = content.includes })) }
-    ensures stable { OnOk result (AreStable (flat_map part_includes (about (declared_view item.now.declared)).parts)) }
-    ensures sound { OnOk result (AreSoundScopes (with_inline (item_view item.now))) }
-    ensures sided { OnOk result (AreLegalSides (with_inline (item_view item.now))) }
-    ensures linked { OnOk result (HasUsableLinks worlds.now.interfaces.now.files (item_view item.now)) }
-    ensures refused { IfErr result (Refused (IsWrongWorld worlds.now.interfaces.now.files types.old (resolved_scopes_of worlds.now.interfaces.now) (length worlds.now.interfaces.now.arena) inside.old worlds.now.interfaces.now.by_name worlds.now.by_name (WorldOwner (length worlds.now.arena)) (item_view item.now))) }
+    ensures adds { IfOk result (AddsContent worlds.now item.now types.old types.new inside.old inside.new required.old.items required.new.items) }
+    ensures extended { OnOk result (length inside.new ≡ length inside.old + length (inline_items (item_view item.now))) }
+    ensures right { OnOk result (HasLegalStability (item_view item.now) → IsRightWorld worlds.now.interfaces.now.files (item_view item.now)) }
+    ensures refused { IfErr result (Refused (IsWrongIn worlds.now types.old inside.old (item_view item.now))) }
 {
+    let alloc = *worlds.by_name.allocator();
     let owner = TypeOwner::World(worlds.arena.next_id());
-    let mut names = resolve_names(alloc, &item.names, types, worlds.interfaces, owner)?;
+    let names = resolve_names(alloc, &item.names, types, worlds.interfaces, owner)?;
     let includes = declared_includes(alloc, &item.declared, worlds, item.place)?;
-    let mut externs = declared_externs(alloc, &item.declared, worlds.interfaces, item.place)?;
-    let lent: &mut [BorrowedExtern<'_, '_>] = &mut externs;
+    let world = declared_world(&item.declared);
+    let functions = world_functions(alloc, world)?;
+    let results = written_results(alloc, &item.names)?;
     let closed = is_closed(includes.as_slice());
-    let members = resolve_members(
+    let walk = Walk {
         alloc,
         item,
-        lent,
-        types,
-        &mut names,
-        worlds.interfaces,
-        inside,
-        closed,
-    )?;
-    let sides = world_sides(
-        alloc,
-        lent,
-        &names.turn,
-        &names.types,
-        worlds.interfaces,
-        members,
-        closed,
-    )?;
-    Ok(WorldContent {
-        required: names.required,
-        sides,
-        includes,
+        world,
+        turn: &names.turn,
+        scope: FunctionScope {
+            names: &names.types,
+            results: &results,
+            functions: &functions,
+        },
+        interfaces: worlds.interfaces,
+    };
+    let walked = walk_sides(&walk, types, inside, closed)?;
+    add_required(required, &names.required)?;
+    add_required(required, &walked.required)?;
+    let members = walked.members;
+    let sides = settle(alloc, members.sides, closed)?;
+    Ok(WorldContent { sides, includes })
+}
+
+/// A world of this name, with what is stated of it and what it has.
+fn world_with(
+    alloc: Global,
+    id: Id<'_>,
+    metadata: ItemMetadata,
+    content: WorldContent,
+) -> Result<World, AllocError>
+    ensures says { IfOk result (IsWorld id.entry.name.now id.entry.span (metadata_view metadata)) }
+    ensures imports { IfOk result (λ w. w.imports ≡ content.sides.imports) }
+    ensures exports { IfOk result (λ w. w.exports ≡ content.sides.exports) }
+    ensures includes { IfOk result (λ w. w.includes ≡ content.includes) }
+{
+    let name = Text::from_str(alloc, id.name);
+    let (parts, name) = pair_with((metadata, content), name)?;
+    let (metadata, content) = parts;
+    Ok(World {
+        name,
+        imports: content.sides.imports.shrunk(),
+        exports: content.sides.exports.shrunk(),
+        package: None,
+        docs: metadata.docs,
+        stability: metadata.stability,
+        includes: content.includes,
+        span: id.span,
     })
 }
 
-/// What a world has, after its names, and what is in them.
-fn world_parts<'f, 'a>(
-    alloc: Global,
+/// The world of an item, with what is stated of it, its names, and what is in them, its includes, and what
+/// it imports and exports.
+fn world_of<'f, 'a>(
     item: &Item<'f, 'a>,
     types: &mut Entries,
+    required: &mut Vec<Required>,
     inside: &mut Arena<Interface, InterfacePlace>,
     worlds: &Worlds<'_, '_, '_, 'f, 'a>,
-) -> ParseResult<WorldParts>
+) -> ParseResult<World>
     requires sort { is_world (item_view item.now) ≡ true }
     requires item { IsItemOf worlds.now.interfaces.now.files item.now }
-    ensures parts { IfOk result (λ parts. (ss : List Address) → length ss ≡ length inside.old → AreWorldParts (prefix_of worlds.now.interfaces.now.files) (others_of worlds.now.interfaces.now.files) worlds.now.interfaces.now.arena types.old types.new worlds.now.arena inside.old inside.new ss (item_view item.now) parts) }
-    ensures stable { OnOk result ((f : Fault) → IsBrokenItemStability (item_view item.now) f → ⊥) }
-    ensures sound { OnOk result (AreSoundScopes (with_inline (item_view item.now))) }
-    ensures sided { OnOk result (AreLegalSides (with_inline (item_view item.now))) }
-    ensures linked { OnOk result (HasUsableLinks worlds.now.interfaces.now.files (item_view item.now)) }
-    ensures refused { IfErr result (Refused (IsWrongWorld worlds.now.interfaces.now.files types.old (resolved_scopes_of worlds.now.interfaces.now) (length worlds.now.interfaces.now.arena) inside.old worlds.now.interfaces.now.by_name worlds.now.by_name (WorldOwner (length worlds.now.arena)) (item_view item.now))) }
+    ensures named { IfOk result (λ w. w.name ≡ (about (declared_view item.now.declared)).id.name.now) }
+    ensures adds { IfOk result (λ w. AddsTo worlds.now (worlds.now.arena ++ w ∷ []) item.now types.old types.new inside.old inside.new required.old.items required.new.items) }
+    ensures extended { OnOk result (length inside.new ≡ length inside.old + length (inline_items (item_view item.now))) }
+    ensures right { OnOk result (IsRightWorld worlds.now.interfaces.now.files (item_view item.now)) }
+    ensures refused { IfErr result (Refused (IsWrongIn worlds.now types.old inside.old (item_view item.now))) }
 {
+    let alloc = *worlds.by_name.allocator();
     let as_stated = item_metadata(alloc, &item.declared)?;
-    let content = world_content(alloc, item, types, inside, worlds);
+    let content = world_content(item, types, required, inside, worlds);
     let (metadata, content) = pair_with(as_stated, content)?;
-    Ok(WorldParts {
-        metadata,
-        required: content.required,
-        sides: content.sides,
-        includes: content.includes,
-    })
+    let id = declared_name(&item.declared);
+    let world = world_with(alloc, id, metadata, content)?;
+    Ok(world)
 }
 
 /// Adds a world with what it has.
 fn resolve_world<'f, 'a>(
-    alloc: Global,
     item: &Item<'f, 'a>,
     types: &mut Entries,
     required: &mut Vec<Required>,
@@ -185,20 +167,17 @@ fn resolve_world<'f, 'a>(
 ) -> ParseResult<()>
     requires sort { is_world (item_view item.now) ≡ true }
     requires item { IsItemOf worlds.old.interfaces.now.files item.now }
-    requires worlds_index { IsWorldIndex (worlds_at (others_of worlds.old.interfaces.now.files) worlds.old.arena) worlds.old.by_name }
+    requires index { AreIndexed worlds.old }
     ensures interfaces { OnOk result (worlds.new.interfaces ≡ worlds.old.interfaces) }
-    ensures added { OnOk result ((ss : List Address) → length ss ≡ length inside.old → Appends required.old.items required.new.items (λ rs. AddsWorld (prefix_of worlds.old.interfaces.now.files) (others_of worlds.old.interfaces.now.files) worlds.old.interfaces.now.arena types.old types.new (arenas worlds.old.arena inside.old ss) (arenas worlds.new.arena inside.new (ss ++ map address (inline_items (item_view item.now)))) rs (item_view item.now))) }
+    ensures adds { OnOk result (AddsTo worlds.old worlds.new.arena item.now types.old types.new inside.old inside.new required.old.items required.new.items) }
     ensures extended { OnOk result (length inside.new ≡ length inside.old + length (inline_items (item_view item.now))) }
-    ensures index { OnOk result (IsWorldIndex (worlds_at (others_of worlds.old.interfaces.now.files) worlds.new.arena) worlds.new.by_name) }
-    ensures stable { OnOk result ((f : Fault) → IsBrokenItemStability (item_view item.now) f → ⊥) }
-    ensures sound { OnOk result (AreSoundScopes (with_inline (item_view item.now))) }
-    ensures sided { OnOk result (AreLegalSides (with_inline (item_view item.now))) }
-    ensures linked { OnOk result (HasUsableLinks worlds.old.interfaces.now.files (item_view item.now)) }
-    ensures refused { IfErr result (Refused (IsWrongWorld worlds.old.interfaces.now.files types.old (resolved_scopes_of worlds.old.interfaces.now) (length worlds.old.interfaces.now.arena) inside.old worlds.old.interfaces.now.by_name worlds.old.by_name (WorldOwner (length worlds.old.arena)) (item_view item.now))) }
+    ensures index { OnOk result (AreIndexed worlds.new) }
+    ensures right { OnOk result (IsRightWorld worlds.old.interfaces.now.files (item_view item.now)) }
+    ensures refused { IfErr result (Refused (IsWrongIn worlds.old types.old inside.old (item_view item.now))) }
 {
-    let parts = world_parts(alloc, item, types, inside, worlds)?;
-    let name = declared_name(&item.declared);
-    add_world(alloc, worlds, required, name, parts)?;
+    let world = world_of(item, types, required, inside, worlds)?;
+    let id = declared_name(&item.declared);
+    add_world(worlds, id.name, world)?;
     Ok(())
 }
 
@@ -223,7 +202,7 @@ fn inside_count(items: &[Item<'_, '_>]) -> usize {
     count
 }
 
-/// Makes room for the worlds among items, and for the interfaces that are written in them.
+/// Reserves capacity for the worlds among items, and for the interfaces that are written in them.
 #[inline(never)]
 fn make_room(
     items: &[Item<'_, '_>],
@@ -241,7 +220,6 @@ fn make_room(
 /// prefix; gives all worlds, and the interfaces that are written in them, in the order in which they are
 /// seen.
 pub fn resolve_worlds<'f, 'a>(
-    alloc: Global,
     items: &[Item<'f, 'a>],
     types: &mut Entries,
     required: &mut Vec<Required>,
@@ -253,13 +231,14 @@ pub fn resolve_worlds<'f, 'a>(
     requires items { AreItemsOf interfaces.now.files items.now }
     requires prefix { length (others_of interfaces.now.files) ≤ length prefix }
     requires index { IsWorldIndex (worlds_at (others_of interfaces.now.files) prefix) [] }
-    ensures added { IfOk result (λ made. Appends required.old.items required.new.items (λ rs. (ss : List Address) × AddsWorlds (prefix_of interfaces.now.files) (others_of interfaces.now.files) interfaces.now.arena types.old types.new (prefix_worlds prefix) (arenas made.0 made.1 ss) rs (worlds_of (in_order (map item_view items.now) places.now)))) }
-    ensures stable { OnOk result (HaveLegalStability (worlds_of (in_order (map item_view items.now) places.now))) }
-    ensures sound { OnOk result (AreSoundScopes (flat_map with_inline (worlds_of (in_order (map item_view items.now) places.now)))) }
-    ensures sided { OnOk result (AreLegalSides (flat_map with_inline (worlds_of (in_order (map item_view items.now) places.now)))) }
-    ensures linked { OnOk result (AreUsableLinks interfaces.now.files (worlds_of (in_order (map item_view items.now) places.now))) }
-    ensures refused { IfErr result (Refused (IsWrongWorldNow interfaces.now.files (prefix_of interfaces.now.files) (others_of interfaces.now.files) types.old interfaces.now.arena interfaces.now.by_name prefix (map item_view items.now) places.now)) }
+    ensures added { IfOk result (λ made. AddsWorldsTo interfaces.now prefix made.0 made.1 types.old types.new required.old.items required.new.items (worlds_in items.now places.now)) }
+    ensures stable { OnOk result (HaveLegalStability (worlds_in items.now places.now)) }
+    ensures sound { OnOk result (AreSoundScopes (flat_map with_inline (worlds_in items.now places.now))) }
+    ensures sided { OnOk result (AreLegalSides (flat_map with_inline (worlds_in items.now places.now))) }
+    ensures linked { OnOk result (AreUsableLinks interfaces.now.files (worlds_in items.now places.now)) }
+    ensures refused { IfErr result (Refused (IsWrongWorldInOrder interfaces.now prefix types.old items.now places.now)) }
 {
+    let alloc = *interfaces.by_name.allocator();
     let mut inside = Arena::new(alloc);
     let mut arena = prefix;
     make_room(items, &mut inside, &mut arena)?;
@@ -272,7 +251,7 @@ pub fn resolve_worlds<'f, 'a>(
         let item = &items[*place];
         match item.declared {
             Declared::World(_) => {
-                resolve_world(alloc, item, types, required, &mut inside, &mut worlds)?;
+                resolve_world(item, types, required, &mut inside, &mut worlds)?;
             }
             Declared::Interface(_) => {}
             Declared::Inline(_) => {}

@@ -47,7 +47,7 @@ pub types_more : (s : WorldSide) (old mid new ns ms : List Name) (n : Name) → 
 types_more Imported old mid new ns ms n more before after = after ∙ ap (λ (l : List Name). l ++ n ∷ []) before ∙ append_assoc old ns (n ∷ []) ∙ ap (λ (l : List Name). old ++ l) (sym more)
 types_more Exported old mid new ns ms n more before after = after ∙ append-nil mid ∙ before
 
--- the keys on a side differ where a name is defined on one that is not taken there
+-- the keys on a side differ where a name is defined on one that is not in use there
 one_side : (s side : WorldSide) (old new : WorldSide → List Name) (name : List ℕ) (span : Span) → new s ≡ old s ++ only_on s side (name, span) → (AreUsed (old side) name → ⊥) → AllDiffer (map name_key (old s)) → AllDiffer (map name_key (new s))
 one_side Imported Imported old new name span defined free d = subst (λ (l : List Name). AllDiffer (map name_key l)) (sym defined) (keys_more (old Imported) name span free d)
 one_side Exported Exported old new name span defined free d = subst (λ (l : List Name). AllDiffer (map name_key l)) (sym defined) (keys_more (old Exported) name span free d)
@@ -78,7 +78,7 @@ item_defined (Err e) x side old new name span there named defined = tt
 alone : (side : WorldSide) (x : SideItem) → item_side x ≡ side → items_on side (x ∷ []) ≡ x ∷ []
 alone side x there = cond-true (members_on side x) (x ∷ []) [] (ap (same_side side) there ∙ side_itself side)
 
--- an item whose name is taken on its side clashes
+-- an item whose name is in use on its side clashes
 pub clash_again : (x : SideItem) (side : WorldSide) (old : WorldSide → List Name) (name : List ℕ) (span : Span) (f : Fault) → item_side x ≡ side → item_names x ≡ (name, span) ∷ [] → IsDefinedAgain (old side) name span f → IsClash old (x ∷ []) f
 clash_again x side old name span f there named again =
     let names : (name, span) ∷ [] ≡ names_of_items (items_on side (x ∷ [])) = sym named ∙ sym (append-nil (item_names x)) ∙ ap names_of_items (sym (alone side x there)) in

@@ -1,5 +1,5 @@
 -- The functions among what is on the sides of a scope, one after the other, over their types.
-use Rattle.std.proofs.Common.{◌≡◌, ◌<◌, ◌≤◌, ◌+◌, ℕ, List, [], ◌∷◌, ◌++◌, length, map, take, drop, Some, All, IsTrue, inl, inr, sym, ap, ◌∙◌, subst, arith}
+use Rattle.std.proofs.Common.{◌≡◌, ◌<◌, ◌≤◌, ◌+◌, ℕ, List, [], ◌∷◌, ◌++◌, length, map, take, Some, All, IsTrue, inl, inr, sym, ap, ◌∙◌, subst, arith}
 use Rattle.std.specs.Prelude.{slice_get}
 use Rattle.std.specs.List.{flat_map}
 use Rattle.std.specs.Option.{option_map}
@@ -20,7 +20,7 @@ use Rattle.wit_syntax.specs.Source.{ScopeName}
 use Rattle.wit_syntax.specs.Fault.{Fault}
 use Rattle.wit_syntax.specs.Broken.{Refused}
 use Rattle.wit_syntax.specs.Function.{SourceFunction, written_types}
-use Rattle.wit_syntax.specs.Sides.{SideItem, SideFunction, item_function}
+use Rattle.wit_syntax.specs.Sides.{SideFunction}
 use Rattle.wit_syntax.specs.SignatureRules.{IsBrokenFunction}
 use Rattle.wit_arena.specs.Resolving.{Env, Required, env_of, AddsFunctions}
 use Rattle.wit_arena.specs.ResolvedArenas.{IsNameless}
@@ -34,7 +34,6 @@ use Rattle.wit_entries.specs.Requiring.{IsExtended, Requires}
 use Rattle.wit_rules.specs.Signatures.{functions_view, IsScopeOf, IsWrongFunction, IsWrongFunctionAmong}
 use Rattle.wit_signatures.specs.ForeignName.{name_of_function, name_of_made}
 use Rattle.wit_entries.proofs.Requiring.{extended_then, requires_types}
-use Rattle.wit_externs.proofs.Steps.{at_middle, flat_split, flat_next}
 
 -- the first functions of a scope are resolved
 pub record AreDone (first now : List TypeDef) (scope : FunctionScope) (fns : List SourceFunction) (fs : List Function) (before after : List Required) : Type 0 where
@@ -71,33 +70,14 @@ done_more first mid new scope fns gns fn fs gs f a b c in_use pushed adds named 
   extended = extended_then first mid new h.extended extended;
 }
 
--- the functions among the first items
-abbrev pub functions_to : ℕ → List SideItem → List SourceFunction
-functions_to i xs = flat_map item_function (take i xs)
-
--- one more item of which one more function is made, or none
-pub functions_more : (xs : List SideItem) (i : ℕ) (x : SideItem) (fns : List SourceFunction) → slice_get xs i ≡ Some x → item_function x ≡ fns → functions_to (i + 1) xs ≡ functions_to i xs ++ fns
-functions_more xs i x fns at is = flat_next item_function xs i x at ∙ ap (λ (l : List SourceFunction). functions_to i xs ++ l) is
-
-pub functions_kept : (xs : List SideItem) (i : ℕ) (x : SideItem) → slice_get xs i ≡ Some x → item_function x ≡ [] → functions_to i xs ≡ functions_to (i + 1) xs
-functions_kept xs i x at is = sym (functions_more xs i x [] at is ∙ append-nil (functions_to i xs))
-
--- where as many are made as come before it, the function that comes next is that of the item
-pub function_here : (xs : List SideItem) (i : ℕ) (x : SideItem) (fns : List SourceFunction) (fn : SourceFunction) (fs : List Function) → flat_map item_function xs ≡ fns → slice_get xs i ≡ Some x → item_function x ≡ fn ∷ [] → map name_of_made fs ≡ map name_of_function (functions_to i xs) → slice_get fns (length fs) ≡ Some fn
-function_here xs i x fns fn fs all at is named =
-    let rest_after = flat_map item_function (drop (i + 1) xs) in
-    let prefix = functions_to i xs in
-    let whole : prefix ++ (fn ∷ rest_after) ≡ fns = ap (λ (l : List SourceFunction). prefix ++ (l ++ rest_after)) (sym is) ∙ sym (flat_split item_function xs i x at) ∙ all in
-    ap (slice_get fns) (made_count prefix fs named) ∙ ap (λ (l : List SourceFunction). slice_get l (length prefix)) (sym whole) ∙ at_middle prefix fn rest_after
-
--- it is one of the scope
+-- a function at a place is one of the scope
 pub place_within : (scope : FunctionScope) (k : ℕ) (fn : SourceFunction) → slice_get (functions_view scope) k ≡ Some fn → k < length scope.functions.now
 place_within scope k fn at =
     let within = slice_get_within (functions_view scope) k fn at in
     let same = length-map scope.functions.now function_view in
     omega (arith, within, same)
 
--- where the functions of a scope are taken one after the other, the one that is read is the next of them
+-- where the functions of a scope are read one after the other, this one is the next of them
 pub scope_next : (scope : FunctionScope) (i : ℕ) (h : BorrowedFunction) → slice_get scope.functions.now i ≡ Some h → slice_get (functions_view scope) i ≡ Some (function_view h)
 scope_next scope i h at = slice_get-map function_view scope.functions.now i ∙ ap (option_map function_view) at
 
@@ -105,7 +85,7 @@ scope_next scope i h at = slice_get-map function_view scope.functions.now i ∙ 
 pub item_next : (fns : List SourceFunction) (i : ℕ) (fn : SourceFunction) → slice_get fns i ≡ Some fn → slice_get (map SideFunction fns) i ≡ Some (SideFunction fn)
 item_next fns i fn at = slice_get-map SideFunction fns i ∙ ap (option_map SideFunction) at
 
--- as many as are taken are made
+-- as many as are read are made
 pub made_to : (fns : List SourceFunction) (i : ℕ) (fn : SourceFunction) (fs : List Function) → slice_get fns i ≡ Some fn → map name_of_made fs ≡ map name_of_function (take i fns) → length fs ≡ i
 made_to fns i fn fs at named =
     let within = slice_get_within fns i fn at in

@@ -5,5 +5,4 @@ mod PairedNames
 pub mod Steps
 pub mod Clashing
 pub mod DoneFunctions
-pub mod BorrowedAt
 pub mod Linked

@@ -12,7 +12,7 @@ use Rattle.wit_syntax.proofs.Repeated.{differ_more}
 use Rattle.wit_refusals.specs.NameScopes.{Name, AreUsed, IsDefinedAgain}
 use Rattle.wit_signatures.specs.ForeignName.{name_key, IsTwiceAmong}
 
--- a name whose key is taken is twice among all
+-- a name whose key is in use is twice among all
 pub again_twice : (names : List Name) (name : List ℕ) (span : Span) (f : Fault) → IsDefinedAgain names name span f → IsTwiceAmong (names ++ (name, span) ∷ []) f
 again_twice names name span f h = (
   (name, span),
@@ -62,7 +62,7 @@ twice_whole name old xs i x f within is h =
     (twice_prefix (old ++ map name (take (i + 1) xs)) (map name (drop (i + 1) xs)) f
     (subst (λ ns. IsTwiceAmong ns f) (sym (names_more name old xs i x within is)) h))
 
--- the keys differ once a name is defined whose key is not taken
+-- the keys differ once a name is defined whose key is not in use
 pub keys_more : (names : List Name) (name : List ℕ) (span : Span) → (AreUsed names name → ⊥) → AllDiffer (map name_key names) → AllDiffer (map name_key (names ++ (name, span) ∷ []))
 keys_more names name span free d =
     subst AllDiffer (sym (map-append name_key names ((name, span) ∷ []))) (differ_more (map name_key names) (folded_key name) d (λ i at.

@@ -1,20 +1,17 @@
 -- Functions among which no setter is.
 use Rattle.std.proofs.Common.{◌≡◌, ◌||◌, List, [], ◌∷◌, false, true, map, refl, sym, ap, ◌∙◌}
-use Rattle.std.specs.List.{list_any, flat_map}
-use Rattle.std.proofs.lemmas.List.Folds.{list_any-append}
+use Rattle.std.specs.List.{list_any}
 use Rattle.wit_tree.specs.declared.tree.WorldSide.{WorldSide}
 use Rattle.wit_syntax.specs.ExternPart.{same_side}
 use Rattle.wit_syntax.specs.Fault.{Fault}
 use Rattle.wit_syntax.specs.Function.{SourceFunction}
-use Rattle.wit_syntax.specs.Sides.{item_function, on_side, role_side}
+use Rattle.wit_syntax.specs.Sides.{on_side, role_side}
 use Rattle.wit_syntax.specs.SignatureRules.{IsUnpairedSetter}
 use Rattle.wit_syntax.proofs.Found.{at_contains}
 use Rattle.wit_functions.proofs.InTurn.{list_any-filter_none}
 use Rattle.wit_functions.proofs.Walk.{list_any-found}
 use Rattle.wit_rules.specs.declared.borrowed.BorrowedFunction.{BorrowedFunction}
 use Rattle.wit_rules.specs.BorrowedFunctions.{function_view}
-use Rattle.wit_externs.specs.declared.borrowed.BorrowedExtern.{BorrowedExtern}
-use Rattle.wit_externs.specs.SideMembers.{extern_view, externs_view}
 use Rattle.wit_externs.specs.SetterFunctions.{is_form, sets}
 
 -- so none of them is one without its getter
@@ -28,12 +25,8 @@ pub any-borrowed : (hs : List BorrowedFunction) → list_any sets (map function_
 any-borrowed [] = refl
 any-borrowed (h ∷ hs) = ap (λ b. sets (function_view h) || b) (any-borrowed hs)
 
-any-there : (hs : List BorrowedExtern) → list_any sets (flat_map item_function (externs_view hs)) ≡ list_any (λ h. list_any sets (item_function (extern_view h))) hs
-any-there [] = refl
-any-there (h ∷ hs) = list_any-append sets (item_function (extern_view h)) (flat_map item_function (externs_view hs)) ∙ ap (λ b. list_any sets (item_function (extern_view h)) || b) (any-there hs)
-
 -- nor is one on a side
-pub none_there : (hs : List BorrowedExtern) → list_any (λ h. list_any sets (item_function (extern_view h))) hs ≡ false → (side : WorldSide) (f : Fault) → IsUnpairedSetter (on_side side (flat_map item_function (externs_view hs))) f → ⊥
+pub none_there : (hs : List BorrowedFunction) → list_any (λ h. sets (function_view h)) hs ≡ false → (side : WorldSide) (f : Fault) → IsUnpairedSetter (on_side side (map function_view hs)) f → ⊥
 none_there hs none side =
-    let fns = flat_map item_function (externs_view hs) in
-    none_alone (on_side side fns) (list_any-filter_none sets (λ fn. same_side side (role_side fn.role)) fns (any-there hs ∙ none))
+    let fns = map function_view hs in
+    none_alone (on_side side fns) (list_any-filter_none sets (λ fn. same_side side (role_side fn.role)) fns (any-borrowed hs ∙ none))

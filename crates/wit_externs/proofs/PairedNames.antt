@@ -9,7 +9,7 @@ use Rattle.wit_tree.specs.declared.tree.WorldSide.{WorldSide}
 use Rattle.wit_tree.specs.declared.tree.WorldSide.TheVariants.{Imported, Exported}
 use Rattle.wit_syntax.specs.ExternPart.{same_side}
 use Rattle.wit_syntax.specs.Function.{SourceFunction}
-use Rattle.wit_syntax.specs.Sides.{role_side, on_side, SideItem, SideFunction, SideLink, SideInline, Link, item_function, item_side, items_on, names_on}
+use Rattle.wit_syntax.specs.Sides.{role_side, on_side, SideItem, SideFunction, SideLink, SideInline, item_function, item_side, items_on, names_on}
 use Rattle.wit_syntax.proofs.Kept.{kept_at, kept_has}
 use Rattle.wit_syntax.proofs.Lists.{at_back, at_split, flat_map_at, flat_map_has, map_at}
 use Rattle.wit_refusals.specs.NameScopes.{Name}
@@ -17,9 +17,6 @@ use Rattle.wit_rules.specs.declared.borrowed.BorrowedFunction.{BorrowedFunction}
 use Rattle.wit_rules.specs.BorrowedFunctions.{function_view}
 use Rattle.wit_signatures.specs.ForeignName.{name_of_function, name_of_id}
 use Rattle.wit_externs.specs.Clash.{all_on, item_names, names_of_items}
-use Rattle.wit_externs.specs.SideMembers.{extern_view, externs_view}
-use Rattle.wit_externs.specs.declared.borrowed.BorrowedExtern.{BorrowedExtern}
-use Rattle.wit_externs.specs.declared.borrowed.BorrowedExtern.TheVariants as borrowed
 use Rattle.wit_externs.proofs.Paired.{AreNamed}
 
 -- the names of a scope of these types and functions
@@ -63,18 +60,9 @@ type_one : (side : WorldSide) (ids : List Id) (i : ℕ) (n : Name) → slice_get
 type_one Imported ids i n at = let id = map_at name_of_id ids i n at in (id.0, id.2)
 type_one Exported ids i n at = absurd (let f : ⊥ = cc in f)
 
--- a function that is there is borrowed
-borrowed_one : (h : BorrowedExtern) (x : SideItem) (fn : SourceFunction) → extern_view h ≡ x → x ≡ SideFunction fn → (g : BorrowedFunction) × (function_view g ≡ fn)
-borrowed_one (borrowed.Function g) x fn is same = (g, (let both : SideFunction (function_view g) ≡ SideFunction fn = is ∙ same in cc))
-borrowed_one (borrowed.Link l) x fn is same = absurd (let both = is ∙ same in let f : ⊥ = cc in f)
-borrowed_one (borrowed.Inline i) x fn is same = absurd (let both = is ∙ same in let f : ⊥ = cc in f)
-
-module _ (side : WorldSide) (ids : List Id) (hs : List BorrowedExtern) where
-  abbrev items : List SideItem
-  items = externs_view hs
-
+module _ (side : WorldSide) (ids : List Id) (items : List SideItem) (hs : List BorrowedFunction) (are : flat_map item_function items ≡ map function_view hs) where
   abbrev all : List SourceFunction
-  all = flat_map item_function items
+  all = map function_view hs
 
   abbrev there : SourceFunction → Bool
   there fn = same_side side (role_side fn.role)
@@ -86,7 +74,7 @@ module _ (side : WorldSide) (ids : List Id) (hs : List BorrowedExtern) where
   function_item : (j : ℕ) (fn : SourceFunction) → slice_get (on_side side all) j ≡ Some fn → (q : ℕ) × (slice_get items q ≡ Some (SideFunction fn)) × (there fn ≡ true)
   function_item j fn at =
       let k = kept_at there all j fn at in
-      let it = flat_map_at item_function items k.0 fn k.1 in
+      let it = flat_map_at item_function items k.0 fn (ap (λ (l : List SourceFunction). slice_get l k.0) are ∙ k.1) in
       (it.0, it.2 ∙ ap Some (function_one it.1 it.3.0 fn it.3.1), k.2)
 
   named_has : (j : ℕ) (fn : SourceFunction) → slice_get (on_side side all) j ≡ Some fn → (i : ℕ) × (slice_get (all_on side ids items) i ≡ Some (name_of_function fn))
@@ -101,7 +89,7 @@ module _ (side : WorldSide) (ids : List Id) (hs : List BorrowedExtern) where
       let k = kept_at (λ y. same_side side (item_side y)) items q x at in
       let pass : there fn ≡ true = ap (λ (y : SideItem). same_side side (item_side y)) (sym is) ∙ k.2 in
       let n = flat_map_has item_function items k.0 0 (SideFunction fn) fn (k.1 ∙ ap Some is) refl in
-      kept_has there all n.0 fn pass n.1
+      kept_has there all n.0 fn pass (ap (λ (l : List SourceFunction). slice_get l n.0) (sym are) ∙ n.1)
 
   named_from : (i : ℕ) (n : Name) → slice_get (all_on side ids items) i ≡ Some n → ((j : ℕ) × (fn : SourceFunction) × (slice_get (on_side side all) j ≡ Some fn) × (name_of_function fn ≡ n)) ⊎ ((id : Id) × (name_of_id id ≡ n))
   named_from i n at = elim (at_split prefix (names_of_items (items_on side items)) i n at) [
@@ -119,7 +107,7 @@ module _ (side : WorldSide) (ids : List Id) (hs : List BorrowedExtern) where
     has = named_has;
     from = named_from;
     borrowed = λ j fn at. (
-        let it = function_item j fn at in
-        let h = map_at extern_view hs it.0 (SideFunction fn) it.1 in
-        borrowed_one h.0 (SideFunction fn) fn h.2 refl);
+        let k = kept_at there all j fn at in
+        let h = map_at function_view hs k.0 fn k.1 in
+        (h.0, h.2));
   }

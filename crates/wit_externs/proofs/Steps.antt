@@ -1,4 +1,4 @@
--- A list of which one more item is taken, and what passes a test among those that are.
+-- A list that is read one element after another, and what passes a test among those that are read.
 use Rattle.std.proofs.Common.{◌≡◌, ℕ, ◌+◌, Bool, List, [], ◌∷◌, ◌++◌, length, take, drop, Some, inl, inr, refl, sym, ap, ◌∙◌, subst, append_assoc, add-zero}
 use Rattle.std.specs.Prelude.{slice_get, cond}
 use Rattle.std.specs.List.{filter, flat_map}

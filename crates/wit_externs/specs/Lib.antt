@@ -1,4 +1,3 @@
-pub mod SideMembers
 pub mod Clash
 pub mod Links
 pub mod Next

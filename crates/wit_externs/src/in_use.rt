@@ -1,20 +1,17 @@
 //! The names of types on the sides of a scope, and the setters of an interface and of the sides of a world.
 ghost use Rattle.std.specs.Prelude.{◌≡◌, ◌++◌, IfErr, OnOk, map};
-ghost use Rattle.std.specs.List.{flat_map, list_any};
+ghost use Rattle.std.specs.List.{list_any};
 ghost use Rattle.wit_tree.specs.declared.tree.WorldSide.{WorldSide};
-ghost use Rattle.wit_syntax.specs.Repeats.{AllDiffer};
-ghost use Rattle.wit_syntax.specs.Sides.{item_function, names_on, on_side};
+ghost use Rattle.wit_syntax.specs.Sides.{names_on, on_side};
 ghost use Rattle.wit_externs.specs.SetterFunctions.{sets};
 ghost use Rattle.wit_syntax.specs.Fault.{Fault};
 ghost use Rattle.wit_syntax.specs.Broken.{Refused};
 ghost use Rattle.wit_syntax.specs.SignatureRules.{IsUnpairedSetter};
 ghost use Rattle.wit_rules.specs.BorrowedFunctions.{function_view};
 ghost use Rattle.wit_sides.specs.SideNames.{defined_on};
-ghost use Rattle.wit_signatures.specs.ForeignName.{name_key, name_of_id, name_of_function, IsTwiceAmong};
-ghost use Rattle.wit_externs.specs.Clash.{all_on};
-ghost use Rattle.wit_externs.specs.SideMembers.{extern_view, externs_view};
+ghost use Rattle.wit_signatures.specs.ForeignName.{name_of_id, name_of_function, IsTwiceAmong};
+ghost use Rattle.wit_externs.specs.Clash.{AreNamesWith, StayApart};
 
-use crate::borrowed::BorrowedExtern;
 use wit_refusals::NameScope;
 use wit_rules::borrowed::BorrowedFunction;
 use wit_sides::Sides;
@@ -26,7 +23,7 @@ use wit_tree::tree::{FuncForm, Id, WorldSide};
 /// The refusal is E17 at a name whose folded key an earlier one has, or a failed allocation.
 pub fn define_names(in_use: &mut Sides, names: &[Id<'_>]) -> ParseResult<()>
     ensures defined { OnOk result ((s : WorldSide) → defined_on s in_use.new ≡ defined_on s in_use.old ++ names_on s (map name_of_id names.now)) }
-    ensures differ { OnOk result ((s : WorldSide) → AllDiffer (map name_key (defined_on s in_use.old)) → AllDiffer (map name_key (defined_on s in_use.new))) }
+    ensures differ { OnOk result (StayApart in_use.old in_use.new) }
     ensures refused { IfErr result (Refused (IsTwiceAmong (in_use.old.imports ++ map name_of_id names.now))) }
 {
     for name in names {
@@ -52,23 +49,6 @@ fn have_setter(functions: &[BorrowedFunction<'_, '_>]) -> bool
     functions.iter().any(|function| sets(function))
 }
 
-/// Whether a setter is there.
-fn sets_there(borrowed: &BorrowedExtern<'_, '_>) -> bool
-    ensures { result ≡ list_any sets (item_function (extern_view borrowed.now)) }
-{
-    match borrowed {
-        BorrowedExtern::Function(function) => sets(function),
-        BorrowedExtern::Link(_) | BorrowedExtern::Inline(_) => false,
-    }
-}
-
-/// Whether a setter is among what is on the sides of a world.
-fn sides_have_setter(externs: &[BorrowedExtern<'_, '_>]) -> bool
-    ensures { result ≡ list_any (λ h. list_any sets (item_function (extern_view h))) externs.now }
-{
-    externs.iter().any(|borrowed| sets_there(borrowed))
-}
-
 /// Refuses a setter of an interface that has no getter of its spelling, where these are its names
 /// and its functions.
 ///
@@ -88,20 +68,21 @@ pub fn check_setters(
     in_use.check_setters()
 }
 
-/// Refuses a setter of a world that has no getter of its spelling on its side, where these are the
-/// names of its types and what is on its sides: first one that is imported.
+/// Refuses a setter of a world that has no getter of its spelling on its side, where these are its
+/// functions, and the names of its types and of what is on its sides are defined: first one that is
+/// imported.
 ///
 /// The refusal is E18 at such a setter, or a failed allocation.
 pub fn check_sides(
-    externs: &[BorrowedExtern<'_, '_>],
+    functions: &[BorrowedFunction<'_, '_>],
     in_use: &Sides,
     names: &[Id<'_>],
 ) -> ParseResult<()>
-    requires { (s : WorldSide) → defined_on s in_use.now ≡ all_on s names.now (externs_view externs.now) }
-    ensures paired { OnOk result ((s : WorldSide) (f : Fault) → IsUnpairedSetter (on_side s (flat_map item_function (externs_view externs.now))) f → ⊥) }
-    ensures refused { IfErr result (Refused (λ f. (s : WorldSide) × IsUnpairedSetter (on_side s (flat_map item_function (externs_view externs.now))) f)) }
+    requires { AreNamesWith in_use.now names.now (map function_view functions.now) }
+    ensures paired { OnOk result ((s : WorldSide) (f : Fault) → IsUnpairedSetter (on_side s (map function_view functions.now)) f → ⊥) }
+    ensures refused { IfErr result (Refused (λ f. (s : WorldSide) × IsUnpairedSetter (on_side s (map function_view functions.now)) f)) }
 {
-    if !sides_have_setter(externs) {
+    if !have_setter(functions) {
         return Ok(());
     }
     in_use.imports.check_setters()?;

@@ -1,8 +1,8 @@
 //! Interfaces that are on the sides of a world by their paths alone.
-ghost use Rattle.std.specs.Prelude.{◌≡◌, ◌++◌, ◌∷◌, [], Contains, IfErr, IfOk, MatchBool, OnOk, OnErr};
+ghost use Rattle.std.specs.Prelude.{◌≡◌, ◌++◌, [], Contains, IfErr, IfOk, MatchBool, OnOk, OnErr};
 ghost use Rattle.std.specs.Map.{keys_of};
 ghost use Rattle.wit_syntax.specs.Broken.{Refused};
-ghost use Rattle.wit_externs.specs.Next.{IsLinked, linked_on, only_place};
+ghost use Rattle.wit_externs.specs.Next.{IsLinked, IsPutAfter, linked_on, only_place};
 ghost use Rattle.wit_externs.specs.SideWords.{repeated};
 
 use std::alloc::{AllocError, Global};
@@ -29,7 +29,7 @@ impl Drop for Links {
 
 /// Puts an interface after these, where it is none of them; says whether it was new.
 fn insert(links: &mut Table<usize, ()>, interface: usize) -> Result<bool, AllocError>
-    ensures as_stated { IfOk result (λ new. MatchBool new ((keys_of links.new ≡ keys_of links.old ++ interface ∷ []) × (Contains (keys_of links.old) interface → ⊥)) (Contains (keys_of links.old) interface)) }
+    ensures as_stated { IfOk result (λ new. MatchBool new (IsPutAfter (keys_of links.old) (keys_of links.new) interface) (Contains (keys_of links.old) interface)) }
     ensures unchanged { OnErr result (keys_of links.new ≡ keys_of links.old) }
 {
     Ok(links.insert(interface, ())?.is_none())

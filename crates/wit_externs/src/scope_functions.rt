@@ -32,8 +32,8 @@ use wit_tree::ParseResult;
 /// The functions of a scope over their types, in source order: the name of each is defined after those
 /// before it.
 ///
-/// A refusal is one of `resolve_function`; E44 where an earlier name of the side is spelled like that of
-/// an import or an export, E17 where an earlier one has the folded key; or a failed allocation.
+/// A refusal is one of `resolve_function`; E17 where an earlier name of the side has the folded key; or want
+/// of memory.
 pub fn resolve_functions(
     alloc: Global,
     scope: FunctionScope<'_, '_, '_>,
@@ -54,7 +54,7 @@ pub fn resolve_functions(
     let mut functions = Vec::with_capacity(alloc, scope.functions.len())?;
     for borrowed in scope.functions {
         let function = resolve_function(alloc, scope, types, required, functions.len())?;
-        define_alone(alloc, scope.names, *borrowed, in_use, &function)?;
+        define_alone(*borrowed, in_use, &function)?;
         functions.reserve(1)?;
         functions.push_reserved(function);
     }

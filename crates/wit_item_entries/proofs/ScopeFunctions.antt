@@ -1,5 +1,5 @@
 -- The functions of an item, added after its names.
-use Rattle.std.proofs.Common.{◌≡◌, ◌⊎◌, ℕ, List, [], ◌++◌, length, map, Some, inl, inr, sym, ap, ◌∙◌, subst, Contains}
+use Rattle.std.proofs.Common.{◌≡◌, ℕ, List, [], ◌++◌, length, map, Some, inl, inr, sym, ap, ◌∙◌, subst, Contains}
 use Rattle.std.specs.Prelude.{slice_get}
 use Rattle.std.specs.List.{flat_map}
 use Rattle.std.proofs.Math.Seq.{take-length}
@@ -9,16 +9,15 @@ use Rattle.wit_types.specs.declared.types.TypeDef.{TypeDef}
 use Rattle.wit_types.specs.declared.types.TypeOwner.{TypeOwner}
 use Rattle.wit_functions.specs.declared.function.Function.{Function}
 use Rattle.wit_syntax.specs.Address.{Address}
-use Rattle.wit_syntax.specs.Fault.{Fault, fault, item_word, missing_at}
+use Rattle.wit_syntax.specs.Fault.{Fault}
 use Rattle.wit_syntax.specs.Repeats.{AllDiffer}
 use Rattle.wit_syntax.specs.Shape.{all_handles}
-use Rattle.wit_syntax.specs.Source.{Item, address, ScopeName, scope_names, path_id}
+use Rattle.wit_syntax.specs.Source.{Item, address, ScopeName, scope_names}
 use Rattle.wit_syntax.specs.ScopeTables.{in_turn}
 use Rattle.wit_syntax.specs.Function.{SourceFunction, functions, name_types, written_types, item_types}
 use Rattle.wit_syntax.specs.SignatureRules.{IsBrokenFunction}
-use Rattle.wit_tree.specs.declared.tree.WorldSide.{WorldSide}
 use Rattle.wit_tree.specs.declared.tree.WorldSide.TheVariants.{Imported}
-use Rattle.wit_syntax.specs.Sides.{SideItem, SideFunction, names_on, on_side, side_items, IsFoldedTwice, IsCrossedTwice, FoldedTwice, CrossedTwice}
+use Rattle.wit_syntax.specs.Sides.{SideItem, SideFunction, on_side, side_items, IsFoldedTwice, IsCrossedTwice, FoldedTwice, CrossedTwice}
 use Rattle.wit_syntax.specs.Broken.{IsBrokenScope, Function as FunctionBroken}
 use Rattle.wit_arena.specs.Resolving.{Env, Names, env_of, ResolvedScope, Required, AreEnded, AddsFunctions, IsWrongHandle, WrongItself}
 use Rattle.wit_arena.specs.ResolvedArenas.{AddsAfter, IsNameless, IsWrongHandleNow}
@@ -30,14 +29,8 @@ use Rattle.wit_arena.proofs.Written.{all_handles-append}
 use Rattle.wit_refusals.specs.NameScopes.{Name}
 use Rattle.wit_entries.specs.Requiring.{IsExtended, Requires}
 use Rattle.wit_rules.specs.Signatures.{IsWrongFunctionAmong}
-use Rattle.wit_signatures.specs.ForeignName.{name_of_function, name_of_id, name_of_made, name_key}
-use Rattle.wit_externs.specs.SideMembers.{externs_view}
+use Rattle.wit_signatures.specs.ForeignName.{name_of_function, name_of_made, name_key}
 use Rattle.wit_externs.specs.Clash.{DifferOnSides, all_on}
-use Rattle.wit_externs.specs.Links.{IsWrongLink, WrongMetadata as NotedWrong, AtWorld, AtNothing, IsWrongAmong, Clashes, LinkedAgain, WrongLink, WrongInside, IsLinkedAgain}
-use Rattle.wit_externs.specs.declared.borrowed.BorrowedLink.{BorrowedLink}
-use Rattle.wit_externs.specs.declared.borrowed.BorrowedExtern.{BorrowedExtern}
-use Rattle.wit_externs.specs.declared.borrowed.BorrowedExtern.TheVariants as borrowed
-use Rattle.wit_scopes.specs.BorrowedNames.{Borrowed as BorrowedName}
 use Rattle.wit_scopes.specs.DefinitionOrder.{IsOfFunctions, OfFunction}
 use Rattle.wit_item_entries.specs.AddedNames.{AddsTurn}
 use Rattle.wit_uses.specs.NameOrder.{IsTurn}
@@ -45,9 +38,7 @@ use Rattle.wit_item_entries.specs.ScopeFunctionFaults.{IsWrongFunctions, BrokenF
 use Rattle.wit_item_entries.specs.Body.{AddsBody, IsWrongBody, WrongNames, WrongHandles, WrongSides}
 use Rattle.wit_item_entries.proofs.Handled.{handle_wider}
 use Rattle.wit_uses.proofs.NameOrder.{differ_called}
-use Rattle.wit_item_entries.proofs.FunctionFaults.{clash_broken, function_handle}
-use Rattle.wit_uses.proofs.ItemSides.{HasMembers, wrong_folded, wrong_crossed, wrong_noted, wrong_inside}
-use Rattle.wit_externs.specs.declared.borrowed.PathTarget.TheVariants as path_target
+use Rattle.wit_item_entries.proofs.FunctionFaults.{function_handle}
 
 -- the names of a scope that was added, in turn
 pub turn_added : (old mid : List TypeDef) (cs : List ResolvedScope) (o : TypeOwner) (xs : List ScopeName) (types : Names) (ids : List Id) (rs : List Required) → AddsTurn old mid cs o xs types ids rs → IsTurn xs ids
@@ -124,28 +115,6 @@ wrong_function old mid new cs by_name o item types ids required f n g h = elim h
   | inl broken ↦ WrongNames (WrongItself (FunctionBroken h.place h.fn h.at broken))
   | inr handle ↦ WrongHandles (wrong_handle_view old mid new cs o item types ids required f n g (function_handle (env_of types) new (functions item) h.place h.fn f h.at handle))
 ]
-
--- the path of one of these links leads to a world, to nothing, or where that of an earlier one does
-pub data IsWrongPath (hs : List BorrowedExtern) (f : Fault) : Type 0 where
-  LeadsToWorld : (l : BorrowedLink) → Contains hs (borrowed.Link l) → l.path_target ≡ path_target.World → f ≡ fault 10 (path_id l.path.now).span → IsWrongPath hs f
-  LeadsToNothing : (l : BorrowedLink) (id : Id) → Contains hs (borrowed.Link l) → l.path_target ≡ path_target.Nothing id → f ≡ missing_at 7 item_word id → IsWrongPath hs f
-  LeadsAgain : IsLinkedAgain hs f → IsWrongPath hs f
-
--- what is wrong with a link by itself is wrong with the item, or with its path
-wrong_link : (old : List TypeDef) (cs : List ResolvedScope) (by_name : Names) (o : TypeOwner) (item : Item) (names : List BorrowedName) (hs : List BorrowedExtern) (l : BorrowedLink) (f : Fault) → HasMembers item names hs → Contains hs (borrowed.Link l) → IsWrongLink l f → IsWrongBody old cs by_name o item f ⊎ IsWrongPath hs f
-wrong_link old cs by_name o item names hs l f own among (NotedWrong h) = inl (WrongSides (wrong_noted item names hs l f own among h))
-wrong_link old cs by_name o item names hs l f own among (AtWorld leads is) = inr (LeadsToWorld l among leads is)
-wrong_link old cs by_name o item names hs l f own among (AtNothing id leads is) = inr (LeadsToNothing l id among leads is)
-
--- what is wrong with what an item has on its sides is wrong with it, or with a path of a link
-pub wrong_among : (old : List TypeDef) (cs : List ResolvedScope) (by_name : Names) (o : TypeOwner) (item : Item) (names : List BorrowedName) (hs : List BorrowedExtern) (ids : List Id) (before : WorldSide → List Name) (f : Fault) → HasMembers item names hs → IsTurn (scope_names item) ids → ((side : WorldSide) → before side ≡ names_on side (map name_of_id ids)) → IsWrongAmong before hs f → IsWrongBody old cs by_name o item f ⊎ IsWrongPath hs f
-wrong_among old cs by_name o item names hs ids before f own t are (Clashes h) = elim (clash_broken (scope_names item) (externs_view hs) ids before f t are h) [
-  | inl folded ↦ inl (WrongSides (wrong_folded item names hs f own folded))
-  | inr crossed ↦ inl (WrongSides (wrong_crossed item names hs f own crossed))
-]
-wrong_among old cs by_name o item names hs ids before f own t are (LinkedAgain h) = inr (LeadsAgain h)
-wrong_among old cs by_name o item names hs ids before f own t are (WrongLink l among h) = wrong_link old cs by_name o item names hs l f own among h
-wrong_among old cs by_name o item names hs ids before f own t are (WrongInside i among h) = inl (WrongSides (wrong_inside item names hs i f own among h))
 
 -- the names of functions that are where imports do differ where nothing else is there, and the keys of what is taken do
 pub made_differ : (old new : List TypeDef) (cs : List ResolvedScope) (o : TypeOwner) (item : Item) (types : Names) (ids : List Id) (fs : List Function) (rs : List Required) → on_side Imported (functions item) ≡ functions item → side_items item ≡ map SideFunction (functions item) → AddsBody old new cs o item types ids fs rs → AllDiffer (map made_name fs)

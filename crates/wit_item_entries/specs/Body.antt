@@ -14,8 +14,6 @@ use Rattle.wit_arena.specs.Resolving.{Names, ResolvedScope, Required, IsWrongSco
 use Rattle.wit_arena.specs.ResolvedArenas.{AddsScope, AddsAfter, IsWrongHandleNow}
 use Rattle.wit_signatures.specs.ForeignName.{name_of_function, name_of_made}
 use Rattle.wit_externs.specs.Clash.{DifferOnSides}
-use Rattle.wit_externs.specs.declared.borrowed.PathTarget.TheVariants as path_target
-use Rattle.wit_externs.specs.declared.borrowed.BorrowedExtern.TheVariants as borrowed
 use Rattle.wit_scopes.specs.BorrowedNames.{name_view, Borrowed as BorrowedName}
 
 -- the item is this one, and these are its names

@@ -4,8 +4,8 @@ ghost use Rattle.std.specs.Cmp.Lexicographic.{pointwise};
 ghost use Rattle.std.specs.List.{flat_map};
 ghost use Rattle.indexmap.specs.IndexMap.{insert_entry};
 ghost use Rattle.wit_syntax.specs.Repeats.{AllDiffer};
-ghost use Rattle.wit_syntax.specs.Source.{interface_part, local_name, about};
-ghost use Rattle.wit_syntax.specs.Function.{definition_functions, part_functions};
+ghost use Rattle.wit_syntax.specs.Source.{interface_part, local_name, about, world_part};
+ghost use Rattle.wit_syntax.specs.Function.{definition_functions, extern_functions, part_functions};
 ghost use Rattle.wit_arena.specs.SourceFunctions.{placed_functions};
 ghost use Rattle.wit_rules.specs.BorrowedFunctions.{function_view};
 ghost use Rattle.wit_syntax.specs.SignatureRules.{body_ok};
@@ -20,7 +20,10 @@ use wit_model::Function;
 use wit_rules::borrowed::BorrowedFunction;
 use wit_scopes::scope_name::ScopeName;
 use wit_setters::interface_setters::setters_after_getters;
-use wit_tree::tree::{InterfaceItem, Type, TypeBody, TypeDef};
+use wit_top_names::declaration::world_items;
+use wit_tree::tree::{
+    Extern, ExternKind, InterfaceItem, Type, TypeBody, TypeDef, World, WorldItem,
+};
 use wit_values::{pair_with, push};
 
 /// Adds the functions of a definition: those of a resource.
@@ -36,6 +39,50 @@ fn add_definition<'t, 'a>(
         }
     }
     Ok(())
+}
+
+/// Adds the function that a world imports or exports, if it is one.
+fn add_extern_part<'t, 'a>(
+    functions: &mut Vec<BorrowedFunction<'t, 'a>>,
+    written: &'t Extern<'a>,
+) -> Result<(), AllocError>
+    ensures { OnOk result (map function_view functions.new.items ≡ map function_view functions.old.items ++ extern_functions written.now written.now.kind) }
+{
+    match &written.kind {
+        ExternKind::Func(name, func) => push(
+            functions,
+            BorrowedFunction::Across(
+                written.side,
+                &written.docs,
+                &written.attributes,
+                *name,
+                func,
+            ),
+        ),
+        ExternKind::Interface(_, _) => Ok(()),
+        ExternKind::Path(_) => Ok(()),
+        ExternKind::NamedPath(_, _) => Ok(()),
+    }
+}
+
+/// The functions of a world, in source order: those of its resources, and those that it imports and
+/// exports.
+pub fn world_functions<'t, 'a>(
+    alloc: Global,
+    world: &'t World<'a>,
+) -> Result<Vec<BorrowedFunction<'t, 'a>>, AllocError>
+    ensures { IfOk result (λ functions. map function_view functions.items ≡ flat_map part_functions (map world_part world.now.items.items)) }
+{
+    let mut functions = Vec::new(alloc);
+    for part in world_items(world) {
+        match part {
+            WorldItem::TypeDef(definition) => add_definition(&mut functions, definition)?,
+            WorldItem::Use(_) => {}
+            WorldItem::Include(_) => {}
+            WorldItem::Extern(written) => add_extern_part(&mut functions, written)?,
+        }
+    }
+    Ok(functions)
 }
 
 /// The functions of an interface with these items, in source order.

@@ -1,3 +1,4 @@
 mod IncludePart
+mod Counted
 pub mod Inlined
 pub mod Leading

@@ -1,2 +1,3 @@
 pub mod Includes
 pub mod SideCounts
+pub mod Links

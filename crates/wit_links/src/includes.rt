@@ -1,5 +1,5 @@
 //! Includes of worlds.
-ghost use Rattle.std.specs.Prelude.{◌≡◌, ◌<◌, ◌⊎◌, ◌++◌, IfErr, IfOk, OnOk, length, map, true, codes, string_bytes};
+ghost use Rattle.std.specs.Prelude.{◌≡◌, ◌<◌, ◌++◌, IfErr, IfOk, OnOk, length, map, true, codes, string_bytes};
 ghost use Rattle.std.specs.List.{flat_map};
 ghost use Rattle.std.specs.Option.{option_copied};
 ghost use Rattle.wit_syntax.specs.Source.{leads, TheWorld, IncludePart, world_part, about};
@@ -8,12 +8,9 @@ ghost use Rattle.wit_syntax.specs.Metadata.{IsBrokenStability};
 ghost use Rattle.wit_syntax.specs.Fault.{Fault};
 ghost use Rattle.wit_syntax.specs.Broken.{Refused};
 ghost use Rattle.wit_arena.specs.Whole.{renamed, IsInclude, AreIncludes};
-ghost use Rattle.wit_arena.specs.Resolving.{IsLostInclude};
-ghost use Rattle.wit_arena.specs.ResolvedArenas.{worlds_at, IsBrokenItemStability};
-ghost use Rattle.wit_files.specs.FileNames.{top_at};
 ghost use Rattle.wit_item_names.specs.ItemPaths.{HasItem, HasPart, world_entry, world_at};
-ghost use Rattle.wit_items.specs.BorrowedItems.{declared_view, others_of};
-ghost use Rattle.wit_links.specs.Includes.{IsLost, AreStable};
+ghost use Rattle.wit_items.specs.BorrowedItems.{declared_view};
+ghost use Rattle.wit_links.specs.Includes.{AreStable, HasWrongInclude, IsWrongInclude, addresses_of, item_in, top_of};
 
 use crate::worlds::Worlds;
 use std::alloc::{AllocError, Global};
@@ -69,7 +66,7 @@ fn included_world<'f, 'a>(
     path: &'f UsePath<'a>,
 ) -> Option<WorldId>
     requires within { place < length worlds.now.interfaces.now.files }
-    ensures { result ≡ world_at worlds.now.interfaces.now.files worlds.now.by_name (leads (top_at worlds.now.interfaces.now.files place) path.now) }
+    ensures { result ≡ world_at worlds.now.interfaces.now.files worlds.now.by_name (leads (top_of worlds.now place) path.now) }
 {
     match worlds.interfaces.files.target(place, path) {
         Target::Local(id) => match worlds.by_name.get(id.name) {
@@ -89,9 +86,9 @@ fn resolve_include<'f, 'a>(
     include: &'f tree::Include<'a>,
 ) -> ParseResult<WorldInclude>
     requires part { HasPart worlds.now.interfaces.now.files place (IncludePart include.now) }
-    ensures is { IfOk result (λ i. IsInclude (worlds_at (others_of worlds.now.interfaces.now.files) worlds.now.arena) (top_at worlds.now.interfaces.now.files place) include.now i) }
+    ensures is { IfOk result (λ i. IsInclude (addresses_of worlds.now) (top_of worlds.now place) include.now i) }
     ensures stable { OnOk result ((f : Fault) → IsBrokenStability include.now.attributes.items f → ⊥) }
-    ensures refused { IfErr result (Refused (λ f. IsBrokenStability include.now.attributes.items f ⊎ IsLost worlds.now.interfaces.now.files worlds.now.by_name (top_at worlds.now.interfaces.now.files place) include.now f)) }
+    ensures refused { IfErr result (Refused (IsWrongInclude worlds.now place include.now)) }
 {
     check_stability(alloc, &include.attributes)?;
     let path = path_id(&include.from);
@@ -131,9 +128,9 @@ fn resolve_includes<'f, 'a>(
     place: usize,
 ) -> ParseResult<Row<WorldInclude>>
     requires item { HasItem worlds.now.interfaces.now.files place (TheWorld world.now) }
-    ensures are { IfOk result (λ includes. AreIncludes (worlds_at (others_of worlds.now.interfaces.now.files) worlds.now.arena) (record { top = top_at worlds.now.interfaces.now.files place; declared = TheWorld world.now }) includes) }
+    ensures are { IfOk result (λ includes. AreIncludes (addresses_of worlds.now) (item_in worlds.now place (TheWorld world.now)) includes) }
     ensures stable { OnOk result (AreStable (flat_map part_includes (map world_part world.now.items.items))) }
-    ensures refused { IfErr result (Refused (λ f. IsBrokenItemStability (record { top = top_at worlds.now.interfaces.now.files place; declared = TheWorld world.now }) f ⊎ IsLostInclude worlds.now.interfaces.now.files worlds.now.by_name (record { top = top_at worlds.now.interfaces.now.files place; declared = TheWorld world.now }) f)) }
+    ensures refused { IfErr result (Refused (HasWrongInclude worlds.now (item_in worlds.now place (TheWorld world.now)))) }
 {
     let mut includes = Vec::with_capacity(alloc, include_count(world))?;
     for part in world_items(world) {
@@ -154,9 +151,9 @@ pub fn declared_includes<'f, 'a>(
 ) -> ParseResult<Row<WorldInclude>>
     requires sort { (about (declared_view declared.now)).is_world ≡ true }
     requires item { HasItem worlds.now.interfaces.now.files place (declared_view declared.now) }
-    ensures are { IfOk result (λ includes. AreIncludes (worlds_at (others_of worlds.now.interfaces.now.files) worlds.now.arena) (record { top = top_at worlds.now.interfaces.now.files place; declared = declared_view declared.now }) includes) }
+    ensures are { IfOk result (λ includes. AreIncludes (addresses_of worlds.now) (item_in worlds.now place (declared_view declared.now)) includes) }
     ensures stable { OnOk result (AreStable (flat_map part_includes (about (declared_view declared.now)).parts)) }
-    ensures refused { IfErr result (Refused (λ f. IsBrokenItemStability (record { top = top_at worlds.now.interfaces.now.files place; declared = declared_view declared.now }) f ⊎ IsLostInclude worlds.now.interfaces.now.files worlds.now.by_name (record { top = top_at worlds.now.interfaces.now.files place; declared = declared_view declared.now }) f)) }
+    ensures refused { IfErr result (Refused (HasWrongInclude worlds.now (item_in worlds.now place (declared_view declared.now)))) }
 {
     match declared {
         Declared::World(world) => resolve_includes(alloc, *world, worlds, place),

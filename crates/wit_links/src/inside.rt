@@ -1,20 +1,19 @@
 //! The interfaces that are written in a world, each as an item of its own.
-ghost use Rattle.std.specs.Prelude.{◌≡◌, ◌<◌, ◌+◌, ◌++◌, ◌∷◌, [], List, Some, length, map, slice_get, true};
+ghost use Rattle.std.specs.Prelude.{◌≡◌, ◌<◌, ◌+◌, ◌++◌, ◌∷◌, [], IfOk, List, Some, false, length, map, slice_get, true};
 ghost use Rattle.wit_tree.specs.declared.tree.WorldSide.{WorldSide as TheSide};
 ghost use Rattle.wit_syntax.specs.Address.{Address};
-ghost use Rattle.wit_syntax.specs.Source.{TheWorld, item_name, about};
-ghost use Rattle.std.specs.List.{filter};
-ghost use Rattle.wit_syntax.specs.Sides.{SideItem, inline_item, is_interface, item_inline};
-ghost use Rattle.wit_externs.specs.declared.borrowed.BorrowedExtern.TheVariants.{Inline as TheBorrowed};
-ghost use Rattle.wit_externs.specs.SideMembers.{extern_view};
+ghost use Rattle.wit_syntax.specs.ExternPart.{same_side};
+ghost use Rattle.wit_syntax.specs.Function.{SourceFunction};
+ghost use Rattle.wit_syntax.specs.Source.{TheWorld, about};
+ghost use Rattle.wit_syntax.specs.Sides.{SideFunction, SideItem};
 ghost use Rattle.wit_scopes.specs.PlacedNames.{AreNamesPlaced};
 ghost use Rattle.wit_scopes.specs.BorrowedNames.{name_view};
 ghost use Rattle.wit_items.specs.PlacedItems.{AreItemsPlaced};
 ghost use Rattle.wit_items.specs.InlineNames.{inside_view};
 ghost use Rattle.wit_items.specs.BorrowedItems.{declared_view, item_view, scope_item};
-ghost use Rattle.wit_links.specs.SideCounts.{IsSeen, seen_on};
+ghost use Rattle.wit_links.specs.SideCounts.{IsInterfaceOn, IsSeen, inline_of, seen_on};
 
-use wit_externs::borrowed::{BorrowedExtern, BorrowedInline};
+use std::alloc::AllocError;
 use wit_items::items::{Declared, InlineInterface, Item, ItemScope};
 use wit_scopes::scope_name::ScopeName;
 use wit_tree::tree::{Id, World, WorldSide};
@@ -31,7 +30,7 @@ pub fn declared_name<'a>(declared: &Declared<'_, 'a>) -> Id<'a>
 }
 
 /// The world that a declared item is.
-pub(crate) fn declared_world<'f, 'a>(declared: &Declared<'f, 'a>) -> &'f World<'a>
+pub fn declared_world<'f, 'a>(declared: &Declared<'f, 'a>) -> &'f World<'a>
     requires { (about (declared_view declared.now)).is_world ≡ true }
     ensures { declared_view declared.now ≡ TheWorld result.now }
 {
@@ -50,25 +49,25 @@ pub struct Counts {
     pub inline: usize,
 }
 
+/// So many and some more; what a `usize` cannot count fits into no memory.
+fn plus(count: usize, more: usize) -> Result<usize, AllocError>
+    ensures { IfOk result (λ all. all ≡ count + more) }
+{
+    match count.checked_add(more) {
+        Some(all) => Ok(all),
+        None => Err(AllocError),
+    }
+}
+
 impl Counts {
-    /// With one more.
-    fn with(self, borrowed: &BorrowedExtern<'_, '_>) -> Counts
-        requires interfaces { self.interfaces < usize.MAX }
-        requires inline { self.inline < usize.MAX }
-        ensures interfaces { result.interfaces ≡ self.interfaces + length (filter is_interface (extern_view borrowed.now ∷ [])) }
-        ensures inline { result.inline ≡ self.inline + length (item_inline (extern_view borrowed.now)) }
+    /// With one interface more, of which so many are written there: one or none.
+    fn with(self, inline: usize) -> Result<Counts, AllocError>
+        ensures interfaces { IfOk result (λ counts. counts.interfaces ≡ self.interfaces + 1) }
+        ensures inline { IfOk result (λ counts. counts.inline ≡ self.inline + inline) }
     {
-        match borrowed {
-            BorrowedExtern::Function(_) => self,
-            BorrowedExtern::Link(_) => Counts {
-                interfaces: self.interfaces + 1,
-                inline: self.inline,
-            },
-            BorrowedExtern::Inline(_) => Counts {
-                interfaces: self.interfaces + 1,
-                inline: self.inline + 1,
-            },
-        }
+        let interfaces = plus(self.interfaces, 1)?;
+        let inline = plus(self.inline, inline)?;
+        Ok(Counts { interfaces, inline })
     }
 }
 
@@ -79,6 +78,8 @@ pub struct Seen {
     pub imports: Counts,
     /// What occurred among the exports.
     pub exports: Counts,
+    /// How many functions occurred.
+    pub functions: usize,
 }
 
 impl Seen {
@@ -93,6 +94,7 @@ impl Seen {
         Seen {
             imports: none,
             exports: none,
+            functions: 0,
         }
     }
 
@@ -106,22 +108,44 @@ impl Seen {
         }
     }
 
-    /// With one more.
-    pub fn with(self, borrowed: &BorrowedExtern<'_, '_>) -> Seen
-        requires interfaces { (side : TheSide) → (seen_on side self).interfaces < usize.MAX }
-        requires inline { (side : TheSide) → (seen_on side self).inline < usize.MAX }
-        ensures { (xs : List SideItem) → IsSeen xs self → IsSeen (xs ++ extern_view borrowed.now ∷ []) result }
+    /// With this on a side.
+    fn set(self, side: WorldSide, counts: Counts) -> Seen
+        ensures own { seen_on side result ≡ counts }
+        ensures other { (s : TheSide) → same_side s side ≡ false → seen_on s result ≡ seen_on s self }
+        ensures functions { result.functions ≡ self.functions }
     {
-        match borrowed.side() {
+        match side {
             WorldSide::Imported => Seen {
-                imports: self.imports.with(borrowed),
+                imports: counts,
                 exports: self.exports,
+                functions: self.functions,
             },
             WorldSide::Exported => Seen {
                 imports: self.imports,
-                exports: self.exports.with(borrowed),
+                exports: counts,
+                functions: self.functions,
             },
         }
+    }
+
+    /// With one function more.
+    pub fn with_function(self) -> Result<Seen, AllocError>
+        ensures { IfOk result (λ seen. (xs : List SideItem) (fn : SourceFunction) → IsSeen xs self → IsSeen (xs ++ SideFunction fn ∷ []) seen) }
+    {
+        let functions = plus(self.functions, 1)?;
+        Ok(Seen {
+            imports: self.imports,
+            exports: self.exports,
+            functions,
+        })
+    }
+
+    /// With one interface more on a side, of which so many are written there: one or none.
+    pub fn with_interface(self, side: WorldSide, inline: usize) -> Result<Seen, AllocError>
+        ensures { IfOk result (λ seen. (xs : List SideItem) (x : SideItem) → IsInterfaceOn side inline x → IsSeen xs self → IsSeen (xs ++ x ∷ []) seen) }
+    {
+        let counts = self.on(side).with(inline)?;
+        Ok(self.set(side, counts))
     }
 }
 
@@ -141,28 +165,21 @@ fn names_at<'i, 'f, 'a>(
     }
 }
 
-/// The interface that is written in a world of this name, where that occurred before it on its side.
+/// An interface that is written in an item, with its names, where so many are written before it on its
+/// side.
 pub fn inside_scope<'i, 'f, 'a>(
     item: &'i Item<'f, 'a>,
-    world: &'a str,
-    inline: &BorrowedInline<'f, 'a>,
-    before: Counts,
+    inline: InlineInterface<'f, 'a>,
+    before: usize,
 ) -> ItemScope<'f, 'a, 'i>
-    requires called { item_name (item_view item.now) ≡ world.now }
-    requires within { before.inline < length (inside_view inline.now.written.now.side item.now) }
-    ensures item { inline_item (item_view item.now) before.interfaces (extern_view (TheBorrowed inline.now)) ≡ scope_item result ∷ [] }
-    ensures named { slice_get (inside_view inline.now.written.now.side item.now) before.inline ≡ Some (map name_view result.names.now) }
+    requires within { before < length (inside_view inline.written.now.side item.now) }
+    ensures item { scope_item result ≡ inline_of (item_view item.now) inline.entry }
+    ensures named { slice_get (inside_view inline.entry.written.now.side item.now) before ≡ Some (map name_view result.names.now) }
     ensures placed { (prefix : List Address) → AreItemsPlaced prefix (item.now ∷ []) → AreNamesPlaced prefix result.names.now }
 {
     ItemScope {
         file: item.file,
-        declared: Declared::Inline(InlineInterface {
-            world,
-            place: before.interfaces,
-            written: inline.written,
-            name: inline.name,
-            items: inline.items,
-        }),
-        names: names_at(item, inline.written.side, before.inline),
+        declared: Declared::Inline(inline),
+        names: names_at(item, inline.written.side, before),
     }
 }

@@ -3,5 +3,3 @@ mod ResolvedScopes
 pub mod Telling
 pub mod Emitting
 pub mod NameOrder
-pub mod Linked
-pub mod ItemSides

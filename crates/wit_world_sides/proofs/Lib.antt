@@ -1,5 +1,5 @@
 mod Importing
-mod Entries
-pub mod SideKeys
+mod Keyed
+mod SideKeys
 mod SideCalled
-pub mod SideEntries
+pub mod Putting

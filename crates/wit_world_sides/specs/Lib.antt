@@ -1,3 +1,4 @@
-pub mod Links
+pub mod Members
 pub mod Settled
 pub mod FilledSides
+pub mod Words

@@ -1,11 +1,8 @@
-//! What a world has on its sides: the names of its scope as imports, and then functions, interfaces by
-//! their paths, and interfaces that are written there.
-ghost use Rattle.std.specs.Prelude.{◌≡◌, ◌<◌, ◌++◌, List, IfOk, OnOk, length, map};
-ghost use Rattle.std.specs.List.{flat_map};
+//! What a world has on its sides: the names of its scope as imports, and what is put there.
+ghost use Rattle.std.specs.Prelude.{◌≡◌, ◌<◌, List, IfOk, OnOk, map};
 ghost use Rattle.indexmap.specs.IndexMap.{insert_entry};
 ghost use Rattle.wit_type_tree.specs.Attributes.{stated_text};
 ghost use Rattle.wit_type_tree.specs.declared.attribute_kind.AttributeKind.TheVariants.{ExternalId};
-ghost use Rattle.wit_tree.specs.declared.tree.Include.{Include};
 ghost use Rattle.wit_tree.specs.declared.tree.WorldSide.{WorldSide as TheSide};
 ghost use Rattle.wit_tree.specs.declared.tree.WorldSide.TheVariants.{Imported, Exported};
 ghost use Rattle.wit_model.specs.declared.world.WorldKey.TheVariants.{Name};
@@ -13,29 +10,20 @@ ghost use Rattle.wit_model.specs.declared.world.WorldItem.TheVariants.{Interface
 ghost use Rattle.wit_model.specs.contracts.world.WorldKeyPartialEq.TheImpl.{eq-value as key_test};
 ghost use Rattle.wit_syntax.specs.Metadata.{stability_of};
 ghost use Rattle.wit_syntax.specs.Repeats.{AllDiffer};
-ghost use Rattle.wit_syntax.specs.Sides.{item_function, item_inline};
 ghost use Rattle.wit_syntax.specs.Source.{ScopeName, local_id};
 ghost use Rattle.wit_arena.specs.SourceFunctions.{function_item};
-ghost use Rattle.wit_arena.specs.SideItems.{settled, inline_entry, link_item, link_key as the_link_key, link_span as the_link_span};
+ghost use Rattle.wit_arena.specs.SideItems.{inline_entry, link_item, link_span as the_link_span};
 ghost use Rattle.wit_arena.specs.Whole.{type_imports as the_imports};
-ghost use Rattle.wit_signatures.specs.ForeignName.{name_of_function, name_of_made};
-ghost use Rattle.wit_externs.specs.Clash.{DifferOnSides};
-ghost use Rattle.wit_externs.specs.SideMembers.{externs_view, borrowed_on, link_view};
-ghost use Rattle.wit_externs.specs.Links.{AreRightLinks, bare_places};
-ghost use Rattle.wit_arena.specs.Resolving.{names_in};
-ghost use Rattle.wit_world_sides.specs.Links.{AreWithin};
-ghost use Rattle.wit_world_sides.specs.Settled.{none_of};
-ghost use Rattle.wit_world_sides.specs.FilledSides.{entries_of, entries_on, inserted_on};
+ghost use Rattle.wit_world_sides.specs.Members.{path_link};
+ghost use Rattle.wit_world_sides.specs.FilledSides.{entries_of, inserted_on};
 
-use crate::sides_setters::settle;
+use crate::members::PathExtern;
 use std::alloc::{AllocError, Global};
-use wit_externs::borrowed::{BorrowedExtern, BorrowedInline, BorrowedLink, PathTarget};
-use wit_items::interfaces::Interfaces;
 use wit_maps::{Table, TextTable};
 use wit_model::{Function, WorldItem, WorldKey};
 use wit_notes::{docs, path_id, stated_metadata};
 use wit_tree::Span;
-use wit_tree::tree::{Attribute, Id, UsePath, WorldSide};
+use wit_tree::tree::{Attribute, Extern, Id, UsePath, WorldSide};
 use wit_types::{Docs, InterfaceId, Stability, TypeId};
 use wit_values::{Rare, Text};
 
@@ -59,7 +47,7 @@ fn add_import(
 
 /// The names of a scope as imports of a world: each with the type that it means. After them is room
 /// for so many more.
-fn type_imports(
+pub(crate) fn type_imports(
     alloc: Global,
     turn: &[Id<'_>],
     types: &TextTable<TypeId>,
@@ -68,23 +56,14 @@ fn type_imports(
     requires distinct { AllDiffer (map (λ id. id.name.now) turn.now) }
     ensures { IfOk result (λ imports. (xs : List ScopeName) → turn.now ≡ map local_id xs → imports ≡ the_imports xs types.now) }
 {
-    let room = turn.len().saturating_add(more);
-    let mut imports = Table::with_capacity(alloc, room)?;
+    let capacity = turn.len().saturating_add(more);
+    let mut imports = Table::with_capacity(alloc, capacity)?;
     for (place, id) in turn.iter().enumerate() {
         if let Some((_, ty)) = types.get_index(place) {
             add_import(alloc, &mut imports, *id, *ty)?;
         }
     }
     Ok(imports)
-}
-
-/// What is on the sides of a world, over its types.
-#[derive(Drop)]
-pub struct Members {
-    /// The functions, in source order.
-    pub functions: Vec<Function>,
-    /// The interfaces that are written there, in source order.
-    pub inside: Vec<InterfaceId>,
 }
 
 /// What a world imports and exports.
@@ -97,7 +76,7 @@ pub struct WorldSides {
 }
 
 /// Puts an item at a key of a side.
-fn add_item(
+pub(crate) fn add_item(
     sides: &mut WorldSides,
     side: WorldSide,
     key: WorldKey,
@@ -117,7 +96,7 @@ fn add_item(
 }
 
 /// Puts a function at its name on a side.
-fn add_function(
+pub(crate) fn add_function(
     sides: &mut WorldSides,
     side: WorldSide,
     function: Function,
@@ -129,14 +108,19 @@ fn add_function(
     Ok(())
 }
 
-/// The key of an interface: the name of its own, or else its place.
-fn link_key(alloc: Global, name: Option<Id<'_>>, id: InterfaceId) -> Result<WorldKey, AllocError>
-    ensures { IfOk result (λ key. key ≡ the_link_key name.entry id) }
+/// Puts an item at a name of a side.
+pub(crate) fn add_named(
+    alloc: Global,
+    sides: &mut WorldSides,
+    side: WorldSide,
+    name: &str,
+    item: WorldItem,
+) -> Result<(), AllocError>
+    ensures { OnOk result ((s : TheSide) → entries_of s sides.new ≡ inserted_on s side (Name name.now, item) (entries_of s sides.old)) }
 {
-    match name {
-        Some(name) => Ok(WorldKey::Name(Text::from_str(alloc, name.name)?)),
-        None => Ok(WorldKey::Interface(id)),
-    }
+    let key = WorldKey::Name(Text::from_str(alloc, name)?);
+    add_item(sides, side, key, item)?;
+    Ok(())
 }
 
 /// Where an interface is: where the name of its own does, or else its path.
@@ -178,121 +162,29 @@ fn interface_item(
     })
 }
 
-/// Puts an interface on its side, with what is stated of it there. Its attributes were checked.
-fn add_link<'f, 'a>(
+/// An interface that is imported or exported by its path, with what is stated of it there.
+pub(crate) fn path_item(
     alloc: Global,
-    link: &BorrowedLink<'f, 'a>,
-    interfaces: &Interfaces<'_, '_, 'f, 'a>,
-    sides: &mut WorldSides,
-    place: usize,
-) -> Result<(), AllocError>
-    requires { place < length interfaces.now.arena }
-    ensures { OnOk result ((s : TheSide) → entries_of s sides.new ≡ inserted_on s link.now.side (link_item (link_view link.now) place) (entries_of s sides.old)) }
-{
-    let id = interfaces.arena.id_at(place);
-    let key = link_key(alloc, link.name, id)?;
-    let docs = docs(alloc, link.docs)?;
-    let span = link_span(link.name, link.path);
-    let item = interface_item(alloc, id, link.attributes, docs, span)?;
-    add_item(sides, link.side, key, item)?;
-    Ok(())
-}
-
-/// Puts an interface that is written in a world on its side, under its name, with what is stated of it
-/// there. Its attributes were checked.
-fn add_inline(
-    alloc: Global,
-    inline: &BorrowedInline<'_, '_>,
-    sides: &mut WorldSides,
+    link: PathExtern<'_, '_>,
     id: InterfaceId,
-) -> Result<(), AllocError>
-    ensures { OnOk result ((s : TheSide) → entries_of s sides.new ≡ inserted_on s inline.now.written.now.side (inline_entry inline.now.written.now inline.now.name id) (entries_of s sides.old)) }
+) -> Result<WorldItem, AllocError>
+    ensures { IfOk result (λ item. item ≡ (link_item (path_link link.entry) id).1) }
 {
-    let key = WorldKey::Name(Text::from_str(alloc, inline.name.name)?);
-    let attributes = &inline.written.attributes;
-    let item = interface_item(alloc, id, attributes, Docs::default(), inline.name.span)?;
-    add_item(sides, inline.written.side, key, item)?;
-    Ok(())
+    let docs = docs(alloc, &link.written.docs)?;
+    let span = link_span(link.name, link.path);
+    let attributes = &link.written.attributes;
+    interface_item(alloc, id, attributes, docs, span)
 }
 
-/// Puts on the sides what is written, where its keys differ from one another and from those that are
-/// there; `members` is what was made of it.
-fn add_externs<'f, 'a>(
+/// An inline interface, with what is stated of it where it is imported or exported under a name.
+pub(crate) fn inline_item(
     alloc: Global,
-    externs: &[BorrowedExtern<'f, 'a>],
-    interfaces: &Interfaces<'_, '_, 'f, 'a>,
-    sides: &mut WorldSides,
-    members: Members,
-) -> Result<(), AllocError>
-    requires within { AreWithin (length interfaces.now.arena) externs.now }
-    requires differ { (s : TheSide) → AllDiffer (map (λ i. i.0) (entries_of s sides.old ++ entries_on s externs.now members.functions.items members.inside.items)) }
-    ensures { OnOk result ((s : TheSide) → entries_of s sides.new ≡ entries_of s sides.old ++ entries_on s externs.now members.functions.items members.inside.items) }
+    written: &Extern<'_>,
+    name: Id<'_>,
+    id: InterfaceId,
+) -> Result<WorldItem, AllocError>
+    ensures { IfOk result (λ item. item ≡ (inline_entry written.now name.entry id).1) }
 {
-    let Members { functions, inside } = members;
-    let mut made = functions.into_iter();
-    let mut ids = inside.into_iter();
-    for borrowed in externs {
-        match borrowed {
-            BorrowedExtern::Function(written) => {
-                if let Some(function) = made.next() {
-                    add_function(sides, written.side(), function)?;
-                }
-            }
-            BorrowedExtern::Link(link) => {
-                if let PathTarget::Interface(place) = link.path_target {
-                    add_link(alloc, link, interfaces, sides, place)?;
-                }
-            }
-            BorrowedExtern::Inline(inline) => {
-                if let Some(id) = ids.next() {
-                    add_inline(alloc, inline, sides, id)?;
-                }
-            }
-        }
-    }
-    Ok(())
-}
-
-/// How much of what is written is imported; the rest is exported.
-fn import_count(externs: &[BorrowedExtern<'_, '_>]) -> usize {
-    let mut count: usize = 0;
-    for borrowed in externs {
-        match borrowed.side() {
-            WorldSide::Imported => count = count.saturating_add(1),
-            WorldSide::Exported => {}
-        }
-    }
-    count
-}
-
-/// What a world imports, the names of its scope and then what is written, and what it exports;
-/// `members` is what was made of that. Of a world that includes nothing, which is `closed`, each setter
-/// comes after its getter.
-pub fn world_sides<'f, 'a>(
-    alloc: Global,
-    externs: &[BorrowedExtern<'f, 'a>],
-    turn: &[Id<'_>],
-    types: &TextTable<TypeId>,
-    interfaces: &Interfaces<'_, '_, 'f, 'a>,
-    members: Members,
-    closed: bool,
-) -> Result<WorldSides, AllocError>
-    requires distinct { AllDiffer (map (λ id. id.name.now) turn.now) }
-    requires listed { names_in types.now ≡ map (λ id. id.name.now) turn.now }
-    requires named { map name_of_made members.functions.items ≡ map name_of_function (flat_map item_function (externs_view externs.now)) }
-    requires counted { length members.inside.items ≡ length (flat_map item_inline (externs_view externs.now)) }
-    requires differ { DifferOnSides turn.now (externs_view externs.now) }
-    requires right { AreRightLinks externs.now }
-    requires within { AreWithin (length interfaces.now.arena) externs.now }
-    requires apart { (s : TheSide) → AllDiffer (bare_places (borrowed_on s externs.now)) }
-    ensures imports { IfOk result (λ sides. (xs : List ScopeName) (is : List Include) → turn.now ≡ map local_id xs → closed ≡ none_of is → sides.imports ≡ settled is (the_imports xs types.now ++ entries_on Imported externs.now members.functions.items members.inside.items)) }
-    ensures exports { IfOk result (λ sides. (is : List Include) → closed ≡ none_of is → sides.exports ≡ settled is (entries_on Exported externs.now members.functions.items members.inside.items)) }
-{
-    let imported = import_count(externs);
-    let imports = type_imports(alloc, turn, types, imported)?;
-    let exported = externs.len().saturating_sub(imported);
-    let exports = Table::with_capacity(alloc, exported)?;
-    let mut sides = WorldSides { imports, exports };
-    add_externs(alloc, externs, interfaces, &mut sides, members)?;
-    settle(alloc, sides, closed)
+    let attributes = &written.attributes;
+    interface_item(alloc, id, attributes, Docs::default(), name.span)
 }

@@ -1,25 +1,23 @@
 //! Setters of a world that includes nothing: each has its getter on its side, and comes after it.
 ghost use Rattle.std.specs.Prelude.{◌≡◌, true, List, IfErr, IfOk, OnOk, length, map};
-ghost use Rattle.std.specs.List.{flat_map};
 ghost use Rattle.wit_tree.specs.declared.tree.Include.{Include};
 ghost use Rattle.wit_tree.specs.declared.tree.WorldSide.{WorldSide as TheSide};
 ghost use Rattle.wit_syntax.specs.Broken.{Refused};
 ghost use Rattle.wit_syntax.specs.Fault.{Fault};
 ghost use Rattle.wit_syntax.specs.Repeats.{AllDiffer};
-ghost use Rattle.wit_syntax.specs.Sides.{item_function, on_side};
+ghost use Rattle.wit_syntax.specs.Sides.{on_side};
 ghost use Rattle.wit_syntax.specs.SignatureRules.{IsUnpairedSetter};
 ghost use Rattle.wit_arena.specs.SideItems.{settled as settled_side};
-ghost use Rattle.wit_sides.specs.SideNames.{defined_on};
-ghost use Rattle.wit_externs.specs.Clash.{all_on};
-ghost use Rattle.wit_externs.specs.SideMembers.{externs_view};
+ghost use Rattle.wit_rules.specs.BorrowedFunctions.{function_view};
+ghost use Rattle.wit_externs.specs.Clash.{AreNamesWith};
 ghost use Rattle.wit_world_sides.specs.Settled.{none_of, AreCalled};
 ghost use Rattle.wit_world_sides.specs.FilledSides.{entries_of};
 
 use crate::sides::WorldSides;
 use std::alloc::{AllocError, Global};
-use wit_externs::borrowed::BorrowedExtern;
 use wit_externs::in_use::check_sides;
 use wit_model::WorldInclude;
+use wit_rules::borrowed::BorrowedFunction;
 use wit_setters::side_setters::place_setters;
 use wit_sides::Sides;
 use wit_tree::ParseResult;
@@ -34,19 +32,19 @@ pub fn is_closed(includes: &[WorldInclude]) -> bool
 }
 
 /// Refuses a setter of a closed world that has no getter of its spelling on its side, where these are
-/// the names of its types and what is on its sides.
+/// its functions, and the names of its types and of what is on its sides are defined.
 pub fn check_closed(
     closed: bool,
-    externs: &[BorrowedExtern<'_, '_>],
+    functions: &[BorrowedFunction<'_, '_>],
     in_use: &Sides,
     names: &[Id<'_>],
 ) -> ParseResult<()>
-    requires { (s : TheSide) → defined_on s in_use.now ≡ all_on s names.now (externs_view externs.now) }
-    ensures paired { OnOk result (closed ≡ true → (s : TheSide) (f : Fault) → IsUnpairedSetter (on_side s (flat_map item_function (externs_view externs.now))) f → ⊥) }
-    ensures refused { IfErr result (Refused (λ f. (closed ≡ true) × ((s : TheSide) × IsUnpairedSetter (on_side s (flat_map item_function (externs_view externs.now))) f))) }
+    requires { AreNamesWith in_use.now names.now (map function_view functions.now) }
+    ensures paired { OnOk result (closed ≡ true → (s : TheSide) (f : Fault) → IsUnpairedSetter (on_side s (map function_view functions.now)) f → ⊥) }
+    ensures refused { IfErr result (Refused (λ f. (closed ≡ true) × ((s : TheSide) × IsUnpairedSetter (on_side s (map function_view functions.now)) f))) }
 {
     if closed {
-        check_sides(externs, in_use, names)?;
+        check_sides(functions, in_use, names)?;
     }
     Ok(())
 }

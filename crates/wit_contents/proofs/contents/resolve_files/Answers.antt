@@ -21,7 +21,7 @@ use Rattle.wit_front.specs.ForeignPrefix.{IsPrefix}
 use Rattle.wit_uses.specs.NewRequirements.{Appends}
 use Rattle.wit_contents.specs.Outer.{AreOuter}
 use Rattle.wit_contents.proofs.Outer.{all_outer}
-use Rattle.wit_contents.specs.BetweenWorlds.{arenas}
+use Rattle.wit_contents.specs.AddedWorlds.{arenas}
 use Rattle.wit_uses.proofs.Telling.{stability_both}
 use Rattle.wit_contents.proofs.Files.{sided_both, sound_both, uses_usable, borrowed_within}
 use Rattle.wit_contents.proofs.Fronting.{prefix_started, prefix_used, lent_enough, lent_index, worlds_enough, worlds_index}

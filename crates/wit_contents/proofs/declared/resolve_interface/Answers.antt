@@ -16,21 +16,22 @@ use Rattle.wit_contents.proofs.declared.resolve_interface.Goals as goal
 pub interface_of-requires-clause-sort : goal.interface_of-requires-clause-sort
 interface_of-requires-clause-sort c = ap is_world c.scope-scope.ensures.item ∙ c.requires.sort
 
-pub interface_of-requires-clause-called : goal.interface_of-requires-clause-called
-interface_of-requires-clause-called c = ap Some c.in_ok-from_str.ensures ∙ c.requires.id.1 ∙ ap (λ (i : Item). (about i.declared).called) (sym c.scope-scope.ensures.item)
-
-pub interface_of-requires-clause-present : goal.interface_of-requires-clause-present
-interface_of-requires-clause-present c = ap (λ (i : Id). i.span) c.requires.id.0 ∙ ap (λ (i : Item). (about i.declared).id.span) (sym c.scope-scope.ensures.item)
-
 pub interface_of-requires-clause-named : goal.interface_of-requires-clause-named
 interface_of-requires-clause-named c = c.scope-scope.ensures.names ∙ c.requires.item.named ∙ ap scope_names (sym c.scope-scope.ensures.item)
 
 pub interface_of-requires-clause-placed : goal.interface_of-requires-clause-placed
 interface_of-requires-clause-placed c = rw c.scope-scope.ensures.borrowed (c.requires.item.placed.each 0 c.args.item.now refl)
 
+pub add_interface-requires-clause-named : goal.add_interface-requires-clause-named
+add_interface-requires-clause-named c =
+    c.in_ok-interface.ensures.adds.holds.says.0
+    ∙ ap (λ (i : Item). (about i.declared).called) c.scope-scope.ensures.item
+    ∙ c.requires.called
+    ∙ ap (λ (id : Id). Some id.name.now) (sym c.declared_name-id.ensures)
+
 pub returns-in_err-interface-clause-refused : goal.returns-in_err-interface-clause-refused
 returns-in_err-interface-clause-refused c =
-    let p = err_from_is_err_and c.from_residual-in_err-interface.result c.from_residual-in_err-interface.ensures.1 in
+    let p = err_from_is_err_and c.from_residual.result c.from_residual.ensures.1 in
     rw (p.1, p.2) (rw (c.next_id-place.ensures, c.scope-scope.ensures.item) at c.in_err-interface.ensures.refused)
 
 pub returns-in_err-add_interface-clause-refused : goal.returns-in_err-add_interface-clause-refused

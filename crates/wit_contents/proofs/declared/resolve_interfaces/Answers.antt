@@ -1,4 +1,4 @@
-use Rattle.std.proofs.Common.{◌≡◌, ℕ, ◌<◌, ◌+◌, ◌++◌, ◌∷◌, List, [], All, take, length, get_or, true, false, not, Some, ap, sym, ◌∙◌}
+use Rattle.std.proofs.Common.{◌≡◌, ℕ, ◌<◌, ◌+◌, ◌++◌, ◌∷◌, List, [], All, take, length, get_or, true, false, not, Some, refl, ap, sym, ◌∙◌, subst}
 use Rattle.std.specs.Prelude.{slice_get, map}
 use Rattle.std.proofs.lemmas.Option.{slice_get-get_or}
 use Rattle.std.proofs.lemmas.Result.{err_from_is_err_and}
@@ -26,6 +26,9 @@ item_at items places k x within lt is = slice_get-get_or items (get_or places k 
 
 pub resolve_interface-requires-clause-sort : goal.resolve_interface-requires-clause-sort
 resolve_interface-requires-clause-sort c = ap (λ (d : BorrowedDeclared). (about (declared_view d)).is_world) c.in-Interface.is
+
+pub resolve_interface-requires-clause-called : goal.resolve_interface-requires-clause-called
+resolve_interface-requires-clause-called c = subst (λ (d : BorrowedDeclared). (about (declared_view d)).called ≡ Some (about (declared_view d)).id.name.now) (sym c.in-Interface.is) refl
 
 pub resolve_interface-requires-clause-item : goal.resolve_interface-requires-clause-item
 resolve_interface-requires-clause-item c =

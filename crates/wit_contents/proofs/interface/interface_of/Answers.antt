@@ -1,7 +1,7 @@
-use Rattle.std.proofs.Common.{◌≡◌, List, ◌++◌, inl, refl, sym, ap, ◌∙◌, subst}
+use Rattle.std.proofs.Common.{List, ◌++◌, inl, refl, sym, ap, ◌∙◌, subst}
 use Rattle.std.proofs.lemmas.Result.{err_from_is_err_and}
+use Rattle.wit_type_tree.specs.declared.leaves.Id.{Id}
 use Rattle.wit_types.specs.declared.types.TypeOwner.TheVariants.{Interface as OfInterface}
-use Rattle.wit_syntax.specs.Source.{about, declared_metadata}
 use Rattle.wit_syntax.specs.Function.{functions}
 use Rattle.wit_syntax.proofs.Refusing.{refused_weaker}
 use Rattle.wit_arena.specs.Resolving.{Names, Required}
@@ -15,7 +15,7 @@ use Rattle.wit_contents.proofs.interface.interface_of.Goals as goal
 
 pub returns-in_err-head-clause-refused : goal.returns-in_err-head-clause-refused
 returns-in_err-head-clause-refused c =
-    let p = err_from_is_err_and c.from_residual.result c.from_residual.ensures.1 in
+    let p = err_from_is_err_and c.from_residual-in_err-head.result c.from_residual-in_err-head.ensures.1 in
     let cs = resolved_scopes_of c.args.interfaces.now in
     let by_name = c.args.interfaces.now.by_name in
     let o = OfInterface c.args.place in
@@ -57,7 +57,7 @@ returns-clause-adds c =
       own = all;
       list = c.in_ok-add_required.ensures ∙ ap (λ (l : List Required). c.args.required.now.items ++ l) c.deref.ensures.value;
       holds = record {
-        says = (c.requires.called, c.requires.present, c.in_ok-head.ensures.as_stated.docs, c.in_ok-head.ensures.as_stated.stability, refl, refl);
+        says = (c.in_ok-name.ensures, ap (λ (id : Id). id.span) c.declared_name-id.ensures, c.in_ok-head.ensures.as_stated.docs, c.in_ok-head.ensures.as_stated.stability, refl, refl);
         middle = b.middle;
         adds = b.adds;
         functions = made.0;

@@ -20,7 +20,7 @@ use Rattle.wit_items.specs.declared.items.Declared.{Declared as BorrowedDeclared
 use Rattle.wit_items.specs.BorrowedItems.{declared_view, item_view, others_of}
 use Rattle.wit_items.specs.Found.{world_name}
 use Rattle.wit_items.proofs.Found.{found_none}
-use Rattle.wit_contents.specs.BetweenWorlds.{arenas}
+use Rattle.wit_contents.specs.AddedWorlds.{arenas}
 use Rattle.wit_contents.proofs.Linking.{links_more}
 use Rattle.wit_contents.proofs.WorldsMore.{AreWorldsTo, addresses_in, sides_both, sounds_both, with_more, worlds_more, worlds_none}
 use Rattle.wit_contents.proofs.world.resolve_worlds.Goals.{in-World+in_ok-resolve_world-in-World, in-Interface, in-Inline}
@@ -55,8 +55,8 @@ resolve_world-requires-clause-item c =
     let there = item_at c.args.items.now c.args.places.now c.loop-place.place-index c.index-items-place.result c.requires.within c.loop-place-test.true c.index-items-place.is in
     rw c.loop-place.invariant.interfaces (c.requires.items.each _ c.index-items-place.result there)
 
-pub resolve_world-requires-clause-worlds_index : goal.resolve_world-requires-clause-worlds_index
-resolve_world-requires-clause-worlds_index c = rw c.loop-place.invariant.interfaces c.loop-place.invariant.index
+pub resolve_world-requires-clause-index : goal.resolve_world-requires-clause-index
+resolve_world-requires-clause-index c = rw c.loop-place.invariant.interfaces c.loop-place.invariant.index
 
 pub returns-in_err-resolve_world-in-World-clause-refused : goal.returns-in_err-resolve_world-in-World-clause-refused
 returns-in_err-resolve_world-in-World-clause-refused c =
@@ -111,6 +111,7 @@ loop-place-preserved c =
           let sort : is_world w ≡ true = ap (λ (d : BorrowedDeclared). (about (declared_view d)).is_world) b.in-World.is in
           let more : worlds_of (in_order ws (take (i + 1) places)) ≡ prefix ++ w ∷ [] = kept_next is_world ws places i p w at there sort in
           let e = b.in_ok-resolve_world-in-World.ensures in
+          let right = rw was.interfaces at e.right in
           let new = b.resolve_world.new.worlds.arena in
           let types = b.resolve_world.new.types in
           let required = b.resolve_world.new.required.items in
@@ -119,12 +120,12 @@ loop-place-preserved c =
           let all : flat_map with_inline (worlds_of (in_order ws (take (i + 1) places))) ≡ flat_map with_inline prefix ++ with_inline w = ap (flat_map with_inline) more ∙ with_more prefix w in
           rw (b.worlds-is, b.types-is, b.required-is, b.inside-is) (record {
             interfaces = ap (λ r. r.now) e.interfaces ∙ was.interfaces;
-            added = rw more (worlds_more foreign others is c.args.types.now c.loop-place.types types c.args.prefix before new c.loop-place.inside b.resolve_world.new.inside c.args.required.now.items c.loop-place.required.items required prefix w was.added (rw was.interfaces at e.added) e.extended);
-            index = rw was.interfaces at e.index;
-            sound = rw all (sounds_both (flat_map with_inline prefix) (with_inline w) was.sound e.sound);
-            stable = rw more (stability_more prefix w was.stable e.stable);
-            sided = rw all (sides_both (flat_map with_inline prefix) (with_inline w) was.sided e.sided);
-            linked = rw more (links_more c.args.interfaces.now.files prefix w was.linked (rw was.interfaces at e.linked));
+            added = rw more (worlds_more foreign others is c.args.types.now c.loop-place.types types c.args.prefix before new c.loop-place.inside b.resolve_world.new.inside c.args.required.now.items c.loop-place.required.items required prefix w was.added (rw was.interfaces at e.adds) e.extended);
+            index = rw (ap (λ r. r.now) e.interfaces ∙ was.interfaces) at e.index;
+            sound = rw all (sounds_both (flat_map with_inline prefix) (with_inline w) was.sound right.sound);
+            stable = rw more (stability_more prefix w was.stable right.stable);
+            sided = rw all (sides_both (flat_map with_inline prefix) (with_inline w) was.sided right.sided);
+            linked = rw more (links_more c.args.interfaces.now.files prefix w was.linked right.linked);
           }))
       | in-Interface b ↦ (
           let sort : is_world w ≡ false = ap (λ (d : BorrowedDeclared). (about (declared_view d)).is_world) b.in-Interface.is in

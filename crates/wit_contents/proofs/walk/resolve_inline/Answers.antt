@@ -1,0 +1,25 @@
+use Rattle.std.proofs.Common.{ℕ, List, subst}
+use Rattle.std.proofs.lemmas.Result.{err_from_is_err_and}
+use Rattle.wit_arena.specs.Resolving.{Required}
+use Rattle.wit_arena.specs.ResolvedArenas.{AddsInterface}
+use Rattle.wit_items.specs.BorrowedItems.{scope_item}
+use Rattle.wit_uses.specs.NewRequirements.{Appends}
+use Rattle.wit_items.specs.ResolvedInterfaces.{resolved_scopes_of}
+use Rattle.wit_contents.proofs.walk.resolve_inline.Goals as goal
+
+pub returns-in_err-interface-clause-refused : goal.returns-in_err-interface-clause-refused
+returns-in_err-interface-clause-refused c =
+    let p = err_from_is_err_and c.from_residual-in_err-interface.result c.from_residual-in_err-interface.ensures.1 in
+    rw (p.1, p.2) (rw c.in_ok-id.ensures at c.in_err-interface.ensures.refused)
+
+pub returns-clause-adds : goal.returns-clause-adds
+returns-clause-adds c =
+    let cs = resolved_scopes_of c.args.walk.now.interfaces.now in
+    let added = c.in_ok-interface.interface in
+    let before = c.args.required.now.items in
+    let after = c.interface_of.new.required.items in
+    record {
+      added = added;
+      last = c.in_ok-alloc.ensures.ok;
+      appends = subst (λ (n : ℕ). Appends before after (λ (rs : List Required). AddsInterface cs n c.args.types.now c.interface_of.new.types added rs (scope_item c.args.scope.now))) c.in_ok-id.ensures c.in_ok-interface.ensures.adds;
+    }

@@ -1,0 +1,105 @@
+use Rattle.std.proofs.Common.{◌≡◌, ◌∷◌, [], List, length, map, refl, sym, ap, ◌∙◌, subst, inl}
+use Rattle.std.specs.List.{flat_map}
+use Rattle.std.proofs.lemmas.Result.{err_from_is_err_and}
+use Rattle.wit_syntax.specs.Fault.{Fault}
+use Rattle.wit_syntax.specs.Metadata.{IsBrokenMetadata}
+use Rattle.wit_syntax.specs.Sides.{IsBrokenSides, inline_after, inline_item, item_inline, items_on}
+use Rattle.wit_syntax.specs.Source.{Item, TheInline, is_world}
+use Rattle.wit_syntax.proofs.Refusing.{refused_weaker}
+use Rattle.wit_first.proofs.Bridge.{metadata_agree, refused_by}
+use Rattle.wit_externs.specs.Clash.{IsClashAfter}
+use Rattle.wit_item_names.specs.ForeignAddresses.{prefix_of}
+use Rattle.wit_scopes.specs.BorrowedNames.{name_view}
+use Rattle.wit_items.specs.InlineNames.{inside_view}
+use Rattle.wit_items.specs.BorrowedItems.{scope_item}
+use Rattle.wit_links.specs.declared.inside.Counts.{Counts}
+use Rattle.wit_links.specs.SideCounts.{inline_of, inline_side}
+use Rattle.wit_links.proofs.Inlined.{names_own, names_within}
+use Rattle.wit_contents.specs.Walk.{AddsInside, IsSoundScope, IsWrongAmong, IsWrongInline, WrongClash, WrongInside, WrongMetadata, stage, walk_item}
+use Rattle.wit_contents.proofs.Members.{inline_here, member_inline}
+use Rattle.wit_contents.proofs.Walking.{wrong_one}
+use Rattle.wit_contents.proofs.walk.walk_inline.Goals as goal
+
+pub inside_scope-scope-requires : goal.inside_scope-scope-requires
+inside_scope-scope-requires c =
+    let n = c.requires.next in
+    let x = c.args.inline in
+    let side = x.written.now.side in
+    let i = c.args.walk.now.item.now in
+    let count : c.on-counts.result.inline ≡ length (flat_map item_inline (items_on side n.prefix)) = ap (λ (k : Counts). k.inline) c.on-counts.ensures ∙ n.seen.inline side in
+    record { within = names_within (inside_view side i) (walk_item c.args.walk.now) n.prefix n.rest x.written.now x.name x.items.now c.on-counts.result.inline (n.walk.item.written side) n.sides count }
+
+pub resolve_inline-requires-clause-sort : goal.resolve_inline-requires-clause-sort
+resolve_inline-requires-clause-sort c = ap is_world c.inside_scope-scope.ensures.item
+
+pub resolve_inline-requires-clause-named : goal.resolve_inline-requires-clause-named
+resolve_inline-requires-clause-named c =
+    let n = c.requires.next in
+    let x = c.args.inline in
+    let side = x.written.now.side in
+    let borrowed = c.args.walk.now.item.now in
+    let i = walk_item c.args.walk.now in
+    let scope = c.inside_scope-scope.result in
+    let count : c.on-counts.result.inline ≡ length (flat_map item_inline (items_on side n.prefix)) = ap (λ (k : Counts). k.inline) c.on-counts.ensures ∙ n.seen.inline side in
+    let own : inline_item i x.place (inline_side x) ≡ scope_item scope ∷ [] = ap (λ (world : List _). record { top = i.top; declared = TheInline world x.place x.written.now x.name x.items.now } ∷ []) (sym c.requires.world) ∙ ap (λ (u : Item). u ∷ []) (sym c.inside_scope-scope.ensures.item) in
+    names_own (inside_view side borrowed) i (scope_item scope) n.prefix n.rest x.written.now x.name x.items.now c.on-counts.result.inline x.place (map name_view scope.names.now) (n.walk.item.written side) n.sides count own c.inside_scope-scope.ensures.named
+
+pub resolve_inline-requires-clause-placed : goal.resolve_inline-requires-clause-placed
+resolve_inline-requires-clause-placed c = c.inside_scope-scope.ensures.placed (prefix_of c.args.walk.now.interfaces.now.files) c.requires.next.walk.item.placed
+
+pub put_inline-requires : goal.put_inline-requires
+put_inline-requires c = c.requires.next.keyed
+
+pub returns-in_err-id-clause-refused : goal.returns-in_err-id-clause-refused
+returns-in_err-id-clause-refused c =
+    let p = err_from_is_err_and c.from_residual.result c.from_residual.ensures.1 in
+    let w = c.args.walk.now in
+    let x = c.args.inline in
+    let side = x.written.now.side in
+    let u = inline_of (walk_item w) x in
+    let a = stage c.args.types.now c.args.inside.now c.args.walked.now in
+    let wrong = IsWrongInline w c.args.types.now c.args.inside.now in
+    rw (p.1, p.2) (λ n.
+    let here : inline_after (walk_item w) n.prefix (inline_side x ∷ []) ≡ u ∷ [] = inline_here (walk_item w) n.prefix x c.requires.world (c.requires.place ∙ n.seen.interfaces side) in
+    refused_weaker (wrong (scope_item c.inside_scope-scope.result)) (IsWrongAmong w n.prefix (inline_side x ∷ []) a) _ (λ f h. wrong_one w n.prefix (inline_side x) a f n.keyed (WrongInside u here (subst (λ (i : Item). wrong i f) c.inside_scope-scope.ensures.item h))) c.in_err-id.ensures.refused)
+
+pub returns-in_err-check_metadata-clause-refused : goal.returns-in_err-check_metadata-clause-refused
+returns-in_err-check_metadata-clause-refused c =
+    let p = err_from_is_err_and c.from_residual-in_err-check_metadata.result c.from_residual-in_err-check_metadata.ensures.1 in
+    let w = c.args.walk.now in
+    let x = c.args.inline in
+    let a = stage c.args.types.now c.args.inside.now c.args.walked.now in
+    rw (p.1, p.2) (λ n. refused_weaker (IsBrokenMetadata x.written.now.attributes.items) (IsWrongAmong w n.prefix (inline_side x ∷ []) a) _ (λ f broken. wrong_one w n.prefix (inline_side x) a f n.keyed (WrongMetadata broken)) (rw c.deref.ensures.value at (refused_by (metadata_agree c.deref.result.now) c.in_err-check_metadata.ensures)))
+
+pub returns-in_err-put_inline-clause-refused : goal.returns-in_err-put_inline-clause-refused
+returns-in_err-put_inline-clause-refused c =
+    let p = err_from_is_err_and c.from_residual-in_err-put_inline.result c.from_residual-in_err-put_inline.ensures.1 in
+    let w = c.args.walk.now in
+    let x = c.args.inline in
+    let m = c.args.walked.now in
+    let a = stage c.args.types.now c.args.inside.now m in
+    rw (p.1, p.2) (λ n. refused_weaker (IsClashAfter m.members.in_use (inline_side x ∷ [])) (IsWrongAmong w n.prefix (inline_side x ∷ []) a) _ (λ f clash. wrong_one w n.prefix (inline_side x) a f n.keyed (WrongClash clash)) (c.in_err-put_inline.ensures.refused x.items.now))
+
+pub returns-in_err-seen-clause-refused : goal.returns-in_err-seen-clause-refused
+returns-in_err-seen-clause-refused c =
+    let p = err_from_is_err_and c.from_residual-in_err-seen.result c.from_residual-in_err-seen.ensures.1 in
+    rw p.1 (λ n. inl p.2)
+
+pub returns-clause-adds : goal.returns-clause-adds
+returns-clause-adds c = λ n.
+    let w = c.args.walk.now in
+    let x = c.args.inline in
+    let side = x.written.now.side in
+    let u = inline_of (walk_item w) x in
+    let same = c.inside_scope-scope.ensures.item in
+    let says = c.in_ok-id.ensures in
+    let m = c.args.walked.now in
+    let types = c.resolve_inline.new.types in
+    let inside = c.resolve_inline.new.inside in
+    let here : inline_after (walk_item w) n.prefix (inline_side x ∷ []) ≡ u ∷ [] = inline_here (walk_item w) n.prefix x c.requires.world (c.requires.place ∙ n.seen.interfaces side) in
+    let step = subst (AddsInside w c.args.types.now types c.args.inside.now inside m.required.items c.resolve_inline.new.required.items) same says.adds in
+    let sound : IsSoundScope u = subst IsSoundScope same says.sound in
+    let sided : (f : Fault) → IsBrokenSides u f → ⊥ = subst (λ (i : Item). (f : Fault) → IsBrokenSides i f → ⊥) same says.sided in
+    let noted = rw c.deref.ensures.value at ((metadata_agree c.deref.result.now).unbroken c.in_ok-check_metadata.ensures) in
+    let put = rw says.id at (c.in_ok-put_inline.ensures.puts x.items.now) in
+    member_inline w n.prefix (stage c.args.types.now c.args.inside.now m) x u types inside _ here step says.extended noted sound sided put (λ ys seen. c.in_ok-seen.ensures ys (inline_side x) (refl, refl, refl) seen)

@@ -1,0 +1,98 @@
+use Rattle.std.proofs.Common.{◌≡◌, ◌<◌, ◌∷◌, [], ℕ, List, Some, length, refl, sym, ap, ◌∙◌, subst, inl, inr}
+use Rattle.std.specs.Prelude.{slice_get}
+use Rattle.std.proofs.lemmas.Option.{slice_get_within}
+use Rattle.std.proofs.lemmas.Result.{err_from_is_err_and}
+use Rattle.wit_syntax.specs.Metadata.{IsBrokenMetadata}
+use Rattle.wit_syntax.specs.Sides.{SideItem, SideLink, side_items}
+use Rattle.wit_syntax.specs.Source.{TopName, path_scope}
+use Rattle.wit_syntax.proofs.Refusing.{refused_weaker}
+use Rattle.wit_first.proofs.Bridge.{metadata_agree, refused_by}
+use Rattle.wit_arena.specs.ResolvedArenas.{interfaces_at}
+use Rattle.wit_externs.proofs.Steps.{at_middle}
+use Rattle.wit_files.specs.FileNames.{names_at_top, top_at}
+use Rattle.wit_item_names.specs.ForeignAddresses.{prefix_of}
+use Rattle.wit_items.specs.BorrowedItems.{declared_view}
+use Rattle.wit_items.proofs.Usable.{filed_item}
+use Rattle.wit_world_sides.specs.Members.{IsWrongPut, path_link}
+use Rattle.wit_links.specs.Links.{IsLinkedTo, IsWrongLink}
+use Rattle.wit_links.proofs.Leading.{addresses_count, called_at}
+use Rattle.wit_contents.specs.Walk.{IsWrongAmong, WrongAgain, WrongClash, WrongMetadata, WrongPath, stage, walk_item}
+use Rattle.wit_contents.proofs.Linking.{link_path}
+use Rattle.wit_contents.proofs.Members.{member_link}
+use Rattle.wit_contents.proofs.Walking.{wrong_one}
+use Rattle.wit_contents.proofs.walk.walk_link.Goals as goal
+
+pub linked_place-requires : goal.linked_place-requires
+linked_place-requires c =
+    let w = c.args.walk.now in
+    let n = c.requires in
+    let link = path_link c.args.link in
+    let at : slice_get (side_items (walk_item w)) (length n.prefix) ≡ Some (SideLink link) = ap (λ (l : List SideItem). slice_get l (length n.prefix)) n.sides ∙ at_middle n.prefix (SideLink link) n.rest in
+    record { path = record { declared = declared_view w.item.now.declared; item = filed_item w.interfaces.now.files w.item.now n.walk.item.filed; among = link_path (walk_item w) (length n.prefix) link at } }
+
+pub id_at-id-requires : goal.id_at-id-requires
+id_at-id-requires c =
+    let is = c.args.walk.now.interfaces.now in
+    let prefix = prefix_of is.files in
+    let present = called_at prefix is.arena is.by_name _ c.in_ok-place.place is.prefix is.found c.in_ok-place.ensures.leads.1 in
+    let lt : c.in_ok-place.place < length (interfaces_at prefix is.arena) = slice_get_within (interfaces_at prefix is.arena) c.in_ok-place.place _ present in
+    subst (λ (k : ℕ). c.in_ok-place.place < k) (addresses_count prefix is.arena is.prefix) lt
+
+pub put_link-requires : goal.put_link-requires
+put_link-requires c = c.requires.keyed
+
+pub returns-in_err-check_metadata-clause-refused : goal.returns-in_err-check_metadata-clause-refused
+returns-in_err-check_metadata-clause-refused c =
+    let p = err_from_is_err_and c.from_residual.result c.from_residual.ensures.1 in
+    let w = c.args.walk.now in
+    let link = path_link c.args.link in
+    rw (p.1, p.2) (λ ts inside n.
+    let a = stage ts inside c.args.walked.now in
+    refused_weaker (IsBrokenMetadata link.attributes) (IsWrongAmong w n.prefix (SideLink link ∷ []) a) _ (λ f broken. wrong_one w n.prefix (SideLink link) a f n.keyed (WrongMetadata broken)) (rw c.deref.ensures.value at (refused_by (metadata_agree c.deref.result.now) c.in_err-check_metadata.ensures)))
+
+pub returns-in_err-place-clause-refused : goal.returns-in_err-place-clause-refused
+returns-in_err-place-clause-refused c =
+    let p = err_from_is_err_and c.from_residual-in_err-place.result c.from_residual-in_err-place.ensures.1 in
+    let w = c.args.walk.now in
+    let files = w.interfaces.now.files in
+    let by_name = w.interfaces.now.by_name in
+    let link = path_link c.args.link in
+    rw (p.1, p.2) (λ ts inside n.
+    let a = stage ts inside c.args.walked.now in
+    let top : top_at files w.item.now.place ≡ (walk_item w).top = ap names_at_top n.walk.item.filed.file in
+    refused_weaker (IsWrongLink files by_name (top_at files w.item.now.place) link.path) (IsWrongAmong w n.prefix (SideLink link ∷ []) a) _ (λ f wrong. wrong_one w n.prefix (SideLink link) a f n.keyed (WrongPath link refl (subst (λ (t : List TopName). IsWrongLink files by_name t link.path f) top wrong))) c.in_err-place.ensures.refused)
+
+pub returns-in_err-put_link-clause-refused : goal.returns-in_err-put_link-clause-refused
+returns-in_err-put_link-clause-refused c =
+    let p = err_from_is_err_and c.from_residual-in_err-put_link.result c.from_residual-in_err-put_link.ensures.1 in
+    let w = c.args.walk.now in
+    let files = w.interfaces.now.files in
+    let by_name = w.interfaces.now.by_name in
+    let link = path_link c.args.link in
+    let m = c.args.walked.now in
+    let id = c.id_at-id.result in
+    rw (p.1, p.2) (λ ts inside n.
+    let a = stage ts inside m in
+    let top : top_at files w.item.now.place ≡ (walk_item w).top = ap names_at_top n.walk.item.filed.file in
+    let leads : IsLinkedTo files by_name (walk_item w).top link.path id = subst (λ (k : ℕ). IsLinkedTo files by_name (walk_item w).top link.path k) (sym c.id_at-id.ensures) (subst (λ (t : List TopName). IsLinkedTo files by_name t link.path c.in_ok-place.place) top c.in_ok-place.ensures.leads) in
+    refused_weaker (IsWrongPut m.members link id) (IsWrongAmong w n.prefix (SideLink link ∷ []) a) _ (λ f wrong. wrong_one w n.prefix (SideLink link) a f n.keyed (elim wrong [
+      | inl clash ↦ WrongClash clash
+      | inr again ↦ WrongAgain link id refl again.0 leads again.1
+    ])) c.in_err-put_link.ensures.refused)
+
+pub returns-in_err-seen-clause-refused : goal.returns-in_err-seen-clause-refused
+returns-in_err-seen-clause-refused c =
+    let p = err_from_is_err_and c.from_residual-in_err-seen.result c.from_residual-in_err-seen.ensures.1 in
+    rw p.1 (λ ts inside n. inl p.2)
+
+pub returns-clause-adds : goal.returns-clause-adds
+returns-clause-adds c = λ ts inside n.
+    let w = c.args.walk.now in
+    let is = w.interfaces.now in
+    let link = path_link c.args.link in
+    let id = c.id_at-id.result in
+    let top : top_at is.files w.item.now.place ≡ (walk_item w).top = ap names_at_top n.walk.item.filed.file in
+    let leads : IsLinkedTo is.files is.by_name (walk_item w).top link.path id = subst (λ (k : ℕ). IsLinkedTo is.files is.by_name (walk_item w).top link.path k) (sym c.id_at-id.ensures) (subst (λ (t : List TopName). IsLinkedTo is.files is.by_name t link.path c.in_ok-place.place) top c.in_ok-place.ensures.leads) in
+    let present = called_at (prefix_of is.files) is.arena is.by_name (path_scope (walk_item w).top link.path) id is.prefix is.found leads.1 in
+    let noted = rw c.deref.ensures.value at ((metadata_agree c.deref.result.now).unbroken c.in_ok-check_metadata.ensures) in
+    member_link w n.prefix (stage ts inside c.args.walked.now) link id _ noted leads present refl c.in_ok-put_link.ensures.puts (λ ys seen. c.in_ok-seen.ensures ys (SideLink link) (refl, refl, refl) seen)

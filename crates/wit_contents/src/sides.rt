@@ -1,0 +1,86 @@
+//! What a world has on its sides: the names of its scope, and after them what it imports and exports.
+ghost use Rattle.std.specs.Prelude.{◌≡◌, IfErr, IfOk, OnOk};
+ghost use Rattle.wit_syntax.specs.Broken.{IsSetterAlone, Refused};
+ghost use Rattle.wit_syntax.specs.Fault.{Fault};
+ghost use Rattle.wit_syntax.specs.ScopeTables.{includes};
+ghost use Rattle.wit_world_sides.specs.Settled.{none_of};
+ghost use Rattle.wit_contents.specs.Walk.{AddsAll, IsWalk, IsWrongWalk, walk_item};
+
+use crate::walk::{Walk, Walked, walk_parts};
+use wit_entries::entries::Entries;
+use wit_links::inside::Seen;
+use wit_model::Interface;
+use wit_notes::is_same_side;
+use wit_rules::borrowed::BorrowedFunction;
+use wit_top_names::declaration::world_items;
+use wit_tree::ParseResult;
+use wit_tree::tree::{Extern, ExternKind, World, WorldItem, WorldSide};
+use wit_types::{Arena, InterfacePlace};
+use wit_world_sides::members::named_members;
+use wit_world_sides::sides_setters::check_closed;
+
+/// How many of these functions are on a side.
+fn function_count(functions: &[BorrowedFunction<'_, '_>], side: WorldSide) -> usize {
+    let mut count: usize = 0;
+    for borrowed in functions {
+        if is_same_side(borrowed.side(), side) {
+            count = count.saturating_add(1);
+        }
+    }
+    count
+}
+
+/// Whether it is an interface that is imported or exported on a side.
+fn is_interface_on(written: &Extern<'_>, side: WorldSide) -> bool {
+    match &written.kind {
+        ExternKind::Func(_, _) => false,
+        ExternKind::Interface(_, _) | ExternKind::Path(_) | ExternKind::NamedPath(_, _) => {
+            is_same_side(written.side, side)
+        }
+    }
+}
+
+/// How much a world has on a side, after the names of its types.
+fn side_room(world: &World<'_>, functions: &[BorrowedFunction<'_, '_>], side: WorldSide) -> usize {
+    let mut count = function_count(functions, side);
+    for part in world_items(world) {
+        if let WorldItem::Extern(written) = part {
+            if is_interface_on(written, side) {
+                count = count.saturating_add(1);
+            }
+        }
+    }
+    count
+}
+
+/// What is on the sides of a world, after the names of its scope, which are resolved. Where the world
+/// includes nothing, it is `closed`, each setter has its getter on its side.
+///
+/// A refusal is E17 at a name of a type whose folded key an earlier one has, one of what is there, or
+/// E18 at a setter without its getter.
+pub fn walk_sides<'f, 'a>(
+    walk: &Walk<'f, 'a, '_, '_, '_>,
+    types: &mut Entries,
+    inside: &mut Arena<Interface, InterfacePlace>,
+    closed: bool,
+) -> ParseResult<Walked>
+    requires walk { IsWalk walk.now }
+    requires closed { closed ≡ none_of (includes (walk_item walk.now)) }
+    ensures adds { IfOk result (AddsAll walk.now types.old types.new inside.old inside.new) }
+    ensures paired { OnOk result ((f : Fault) → IsSetterAlone (walk_item walk.now) f → ⊥) }
+    ensures refused { IfErr result (Refused (IsWrongWalk walk.now types.old inside.old)) }
+{
+    let alloc = walk.alloc;
+    let functions = walk.scope.functions;
+    let imports = side_room(walk.world, functions, WorldSide::Imported);
+    let exports = side_room(walk.world, functions, WorldSide::Exported);
+    let members = named_members(alloc, walk.turn, walk.scope.names, imports, exports)?;
+    let mut walked = Walked {
+        members,
+        required: Vec::new(alloc),
+        seen: Seen::none(),
+    };
+    walk_parts(walk, types, inside, &mut walked)?;
+    check_closed(closed, functions, &walked.members.in_use, walk.turn)?;
+    Ok(walked)
+}

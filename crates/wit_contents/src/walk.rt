@@ -1,0 +1,322 @@
+//! What a world imports and exports, in source order: each is resolved, checked and put on its side.
+ghost use Rattle.std.specs.Prelude.{◌≡◌, ◌+◌, ◌∷◌, [], IfErr, IfOk, List, OnOk, false, length, map};
+ghost use Rattle.wit_types.specs.declared.types.TypeDef.{TypeDef as TheType};
+ghost use Rattle.wit_syntax.specs.Broken.{Refused};
+ghost use Rattle.wit_syntax.specs.Function.{side_function};
+ghost use Rattle.wit_syntax.specs.Sides.{SideFunction, SideInline, SideLink, extern_items, part_items, side_items};
+ghost use Rattle.wit_syntax.specs.Source.{DefinitionPart, is_world, item_name, scope_names as the_names};
+ghost use Rattle.wit_entries.specs.Requiring.{IsExtended};
+ghost use Rattle.wit_rules.specs.BorrowedFunctions.{function_view};
+ghost use Rattle.wit_item_names.specs.ForeignAddresses.{prefix_of};
+ghost use Rattle.wit_items.specs.BorrowedItems.{scope_item};
+ghost use Rattle.wit_scopes.specs.PlacedNames.{AreNamesPlaced};
+ghost use Rattle.wit_scopes.specs.BorrowedNames.{name_view};
+ghost use Rattle.wit_world_sides.specs.Members.{path_link};
+ghost use Rattle.wit_links.specs.SideCounts.{inline_side, seen_on};
+ghost use Rattle.wit_contents.specs.AddedInterfaces.{HasLegalSides, IsSoundScope};
+ghost use Rattle.wit_contents.specs.Walk.{AddsInside, AddsNext, AddsTyped, IsNext, IsWrongInline, RefusesNext, RefusesTyped, next_place, resource_items, stage, walk_item};
+
+use crate::interface::interface_of;
+use std::alloc::{AllocError, Global};
+use wit_entries::entries::Entries;
+use wit_entries::scope::Required;
+use wit_items::interfaces::Interfaces;
+use wit_items::items::{InlineInterface, Item, ItemScope};
+use wit_links::inside::{Seen, inside_scope};
+use wit_links::links::linked_place;
+use wit_model::Interface;
+use wit_notes::check_metadata;
+use wit_rules::borrowed::BorrowedFunction;
+use wit_rules::function_scope::FunctionScope;
+use wit_signatures::functions::resolve_function;
+use wit_top_names::declaration::world_items;
+use wit_tree::ParseResult;
+use wit_tree::tree::{
+    Extern, ExternKind, Func, Id, InterfaceItem, ResourceFunc, TypeBody, TypeDef, World, WorldItem,
+};
+use wit_types::{Arena, InterfaceId, InterfacePlace};
+use wit_world_sides::members::{Members, PathExtern, put_function, put_inline, put_link};
+
+/// What the imports and exports of a world are resolved in.
+pub struct Walk<'f, 'a, 'w, 'n, 'e> {
+    pub alloc: Global,
+    pub item: &'w Item<'f, 'a>,
+    pub world: &'f World<'a>,
+    /// The names of its scope in the order in which they were resolved.
+    pub turn: &'w [Id<'a>],
+    /// What its functions are read in.
+    pub scope: FunctionScope<'w, 'f, 'a>,
+    pub interfaces: &'w Interfaces<'n, 'e, 'f, 'a>,
+}
+
+impl Drop for Walk<'_, '_, '_, '_, '_> {
+    fn drop(self) {
+        let Walk {
+            alloc: _,
+            item: _,
+            world: _,
+            turn: _,
+            scope: _,
+            interfaces: _,
+        } = self;
+    }
+}
+
+/// What is on the sides of a world so far.
+#[derive(Drop)]
+pub struct Walked {
+    pub members: Members,
+    /// What its handles require of types of other packages.
+    pub required: Vec<Required>,
+    /// How many functions and interfaces there are.
+    pub seen: Seen,
+}
+
+/// The id of the next inline interface: after all declared ones, and those before it.
+fn next_inside(
+    interfaces: &Interfaces<'_, '_, '_, '_>,
+    inside: &Arena<Interface, InterfacePlace>,
+) -> Result<InterfaceId, AllocError>
+    ensures { IfOk result (λ id. id ≡ length interfaces.now.arena + length inside.now) }
+{
+    match interfaces.arena.id_after(inside.len()) {
+        Some(id) => Ok(id),
+        None => Err(AllocError),
+    }
+}
+
+/// Adds an inline interface; `inside` are those before it, which come after all declared ones.
+fn resolve_inline<'f, 'a>(
+    walk: &Walk<'f, 'a, '_, '_, '_>,
+    scope: &ItemScope<'f, 'a, '_>,
+    types: &mut Entries,
+    required: &mut Vec<Required>,
+    inside: &mut Arena<Interface, InterfacePlace>,
+) -> ParseResult<InterfaceId>
+    requires sort { is_world (scope_item scope.now) ≡ false }
+    requires named { map name_view scope.now.names.now ≡ the_names (scope_item scope.now) }
+    requires placed { AreNamesPlaced (prefix_of walk.now.interfaces.now.files) scope.now.names.now }
+    ensures id { IfOk result (λ id. id ≡ next_place walk.now inside.old) }
+    ensures adds { OnOk result (AddsInside walk.now types.old types.new inside.old inside.new required.old.items required.new.items (scope_item scope.now)) }
+    ensures extended { OnOk result (IsExtended types.old types.new) }
+    ensures sound { OnOk result (IsSoundScope (scope_item scope.now)) }
+    ensures sided { OnOk result (HasLegalSides (scope_item scope.now)) }
+    ensures refused { IfErr result (Refused (IsWrongInline walk.now types.old inside.old (scope_item scope.now))) }
+{
+    let id = next_inside(walk.interfaces, inside)?;
+    let interface = interface_of(scope, types, required, walk.interfaces, id)?;
+    inside.alloc(interface)?;
+    Ok(id)
+}
+
+/// Resolves the next function, and puts it on its side.
+///
+/// A refusal is one of `resolve_function` or of `put_function`.
+fn walk_function<'f, 'a>(
+    walk: &Walk<'f, 'a, '_, '_, '_>,
+    borrowed: BorrowedFunction<'f, 'a>,
+    types: &mut Entries,
+    walked: &mut Walked,
+) -> ParseResult<()>
+    requires { IsNext walk.now (SideFunction (function_view borrowed) ∷ []) walked.old }
+    ensures adds { OnOk result (AddsTyped walk.now (SideFunction (function_view borrowed.entry) ∷ []) types.old types.new walked.old walked.new) }
+    ensures refused { IfErr result (RefusesTyped walk.now (SideFunction (function_view borrowed.entry) ∷ []) types.old walked.old) }
+{
+    let alloc = walk.alloc;
+    let place = walked.seen.functions;
+    let function = resolve_function(alloc, walk.scope, types, &mut walked.required, place)?;
+    put_function(&mut walked.members, borrowed, function)?;
+    let seen = walked.seen.with_function()?;
+    walked.seen = seen;
+    Ok(())
+}
+
+/// Checks the next import or export of an interface by its path, and puts it on its side.
+///
+/// A refusal is E30 to E35, where its attributes break a rule, one of `linked_place`, or of `put_link`.
+fn walk_link<'f, 'a>(
+    walk: &Walk<'f, 'a, '_, '_, '_>,
+    link: PathExtern<'f, 'a>,
+    walked: &mut Walked,
+) -> ParseResult<()>
+    requires { IsNext walk.now (SideLink (path_link link) ∷ []) walked.old }
+    ensures adds { OnOk result ((ts : List TheType) → AddsTyped walk.now (SideLink (path_link link.entry) ∷ []) ts ts walked.old walked.new) }
+    ensures refused { IfErr result (λ e. (ts : List TheType) → RefusesTyped walk.now (SideLink (path_link link.entry) ∷ []) ts walked.old e) }
+{
+    let alloc = walk.alloc;
+    check_metadata(alloc, &link.written.attributes)?;
+    let place = linked_place(alloc, walk.interfaces, walk.item.place, link.path)?;
+    let id = walk.interfaces.arena.id_at(place);
+    put_link(alloc, &mut walked.members, link, id)?;
+    let seen = walked.seen.with_interface(link.written.side, 0)?;
+    walked.seen = seen;
+    Ok(())
+}
+
+/// Resolves the next inline interface, and puts it on its side, under its name.
+///
+/// A refusal is one of `interface_of`; E30 to E35, where its attributes break a rule; or one of
+/// `put_inline`.
+fn walk_inline<'f, 'a>(
+    walk: &Walk<'f, 'a, '_, '_, '_>,
+    inline: InlineInterface<'f, 'a>,
+    types: &mut Entries,
+    inside: &mut Arena<Interface, InterfacePlace>,
+    walked: &mut Walked,
+) -> ParseResult<()>
+    requires next { IsNext walk.now (inline_side inline ∷ []) walked.old }
+    requires world { inline.world.now ≡ item_name (walk_item walk.now) }
+    requires place { inline.place ≡ (seen_on inline.written.now.side walked.old.seen).interfaces }
+    ensures adds { OnOk result (AddsNext walk.now (inline_side inline.entry ∷ []) (stage types.old inside.old walked.old) (stage types.new inside.new walked.new)) }
+    ensures refused { IfErr result (RefusesNext walk.now (inline_side inline.entry ∷ []) (stage types.old inside.old walked.old)) }
+{
+    let alloc = walk.alloc;
+    let side = inline.written.side;
+    let counts = walked.seen.on(side);
+    let scope = inside_scope(walk.item, inline, counts.inline);
+    let id = resolve_inline(walk, &scope, types, &mut walked.required, inside)?;
+    check_metadata(alloc, &inline.written.attributes)?;
+    put_inline(alloc, &mut walked.members, inline.written, inline.name, id)?;
+    let seen = walked.seen.with_interface(side, 1)?;
+    walked.seen = seen;
+    Ok(())
+}
+
+/// A function that a world imports or exports.
+fn extern_part_function<'f, 'a>(
+    written: &'f Extern<'a>,
+    name: Id<'a>,
+    func: &'f Func<'a>,
+) -> BorrowedFunction<'f, 'a>
+    ensures { function_view result ≡ side_function written.now.side written.now.docs written.now.attributes.items name.entry func.now }
+{
+    BorrowedFunction::Across(written.side, &written.docs, &written.attributes, name, func)
+}
+
+/// An interface that is written in a world, where so many come before it on its side.
+fn inline_at<'f, 'a>(
+    world: &'f World<'a>,
+    place: usize,
+    written: &'f Extern<'a>,
+    name: Id<'a>,
+    items: &'f [InterfaceItem<'a>],
+) -> InlineInterface<'f, 'a>
+    ensures side { inline_side result ≡ SideInline written.now name.entry items.now }
+    ensures world { result.world.now ≡ world.now.name.name.now }
+    ensures place { result.place ≡ place }
+{
+    InlineInterface {
+        world: world.name.name,
+        place,
+        written,
+        name,
+        items,
+    }
+}
+
+/// Resolves what a world imports or exports next, by its kind.
+fn walk_extern<'f, 'a>(
+    walk: &Walk<'f, 'a, '_, '_, '_>,
+    written: &'f Extern<'a>,
+    types: &mut Entries,
+    inside: &mut Arena<Interface, InterfacePlace>,
+    walked: &mut Walked,
+) -> ParseResult<()>
+    requires { IsNext walk.now (extern_items written.now written.now.kind) walked.old }
+    ensures adds { OnOk result (AddsNext walk.now (extern_items written.now written.now.kind) (stage types.old inside.old walked.old) (stage types.new inside.new walked.new)) }
+    ensures refused { IfErr result (RefusesNext walk.now (extern_items written.now written.now.kind) (stage types.old inside.old walked.old)) }
+{
+    match &written.kind {
+        ExternKind::Interface(name, items) => {
+            let counts = walked.seen.on(written.side);
+            let inline = inline_at(walk.world, counts.interfaces, written, *name, items);
+            walk_inline(walk, inline, types, inside, walked)
+        }
+        ExternKind::Func(name, func) => {
+            let borrowed = extern_part_function(written, *name, func);
+            walk_function(walk, borrowed, types, walked)
+        }
+        ExternKind::Path(path) => {
+            let name = None;
+            let link = PathExtern {
+                written,
+                name,
+                path,
+            };
+            walk_link(walk, link, walked)
+        }
+        ExternKind::NamedPath(name, path) => {
+            let name = Some(*name);
+            let link = PathExtern {
+                written,
+                name,
+                path,
+            };
+            walk_link(walk, link, walked)
+        }
+    }
+}
+
+/// Resolves the functions of a resource of this name, which come next.
+fn walk_functions<'f, 'a>(
+    walk: &Walk<'f, 'a, '_, '_, '_>,
+    resource: Id<'a>,
+    functions: &'f [ResourceFunc<'a>],
+    types: &mut Entries,
+    walked: &mut Walked,
+) -> ParseResult<()>
+    requires { IsNext walk.now (resource_items resource functions.now) walked.old }
+    ensures adds { OnOk result (AddsTyped walk.now (resource_items resource.entry functions.now) types.old types.new walked.old walked.new) }
+    ensures refused { IfErr result (RefusesTyped walk.now (resource_items resource.entry functions.now) types.old walked.old) }
+{
+    for function in functions {
+        walk_function(
+            walk,
+            BorrowedFunction::Of(resource, function),
+            types,
+            walked,
+        )?;
+    }
+    Ok(())
+}
+
+/// Resolves the functions of a definition, which come next: those of a resource.
+fn walk_definition<'f, 'a>(
+    walk: &Walk<'f, 'a, '_, '_, '_>,
+    definition: &'f TypeDef<'a>,
+    types: &mut Entries,
+    walked: &mut Walked,
+) -> ParseResult<()>
+    requires { IsNext walk.now (part_items (DefinitionPart definition.now)) walked.old }
+    ensures adds { OnOk result (AddsTyped walk.now (part_items (DefinitionPart definition.now)) types.old types.new walked.old walked.new) }
+    ensures refused { IfErr result (RefusesTyped walk.now (part_items (DefinitionPart definition.now)) types.old walked.old) }
+{
+    match &definition.body {
+        TypeBody::Resource { funcs } => {
+            walk_functions(walk, definition.name, funcs, types, walked)
+        }
+        _ => Ok(()),
+    }
+}
+
+/// Resolves all that is on the sides of a world, in source order.
+pub(crate) fn walk_parts<'f, 'a>(
+    walk: &Walk<'f, 'a, '_, '_, '_>,
+    types: &mut Entries,
+    inside: &mut Arena<Interface, InterfacePlace>,
+    walked: &mut Walked,
+) -> ParseResult<()>
+    requires { IsNext walk.now (side_items (walk_item walk.now)) walked.old }
+    ensures adds { OnOk result (AddsNext walk.now (side_items (walk_item walk.now)) (stage types.old inside.old walked.old) (stage types.new inside.new walked.new)) }
+    ensures refused { IfErr result (RefusesNext walk.now (side_items (walk_item walk.now)) (stage types.old inside.old walked.old)) }
+{
+    for part in world_items(walk.world) {
+        match part {
+            WorldItem::TypeDef(definition) => walk_definition(walk, definition, types, walked)?,
+            WorldItem::Use(_) => {}
+            WorldItem::Include(_) => {}
+            WorldItem::Extern(written) => walk_extern(walk, written, types, inside, walked)?,
+        }
+    }
+    Ok(())
+}

@@ -1,0 +1,39 @@
+use Rattle.std.proofs.Common.{◌≡◌, ◌++◌, List, map, sym, ap, ◌∙◌, subst}
+use Rattle.std.proofs.lemmas.Result.{err_from_is_err_and}
+use Rattle.wit_type_tree.specs.declared.leaves.Id.{Id}
+use Rattle.wit_tree.specs.declared.tree.WorldSide.{WorldSide}
+use Rattle.wit_tree.specs.declared.tree.WorldSide.TheVariants.{Imported}
+use Rattle.wit_syntax.specs.Repeats.{AllDiffer}
+use Rattle.wit_syntax.specs.ScopeTables.{local_names}
+use Rattle.wit_syntax.specs.Sides.{names_on}
+use Rattle.wit_syntax.specs.Source.{local_id}
+use Rattle.wit_syntax.proofs.Lists.{map_map}
+use Rattle.wit_syntax.proofs.Refusing.{refused_weaker}
+use Rattle.wit_syntax.proofs.Repeated.{differ_none}
+use Rattle.wit_arena.specs.Resolving.{names_in}
+use Rattle.wit_refusals.specs.NameScopes.{Name}
+use Rattle.wit_signatures.specs.ForeignName.{IsTwiceAmong, name_key, name_of_id}
+use Rattle.wit_world_sides.proofs.Putting.{begun}
+use Rattle.wit_world_sides.proofs.SideKeys.{names_of}
+use Rattle.wit_world_sides.proofs.members.named_members.Goals as goal
+
+pub returns-in_err-define_names-clause-refused : goal.returns-in_err-define_names-clause-refused
+returns-in_err-define_names-clause-refused c =
+    let p = err_from_is_err_and c.from_residual.result c.from_residual.ensures.1 in
+    let own = map name_of_id c.args.turn.now in
+    let before = c.new-in_use.result.imports in
+    let same : before ++ own ≡ own = ap (λ (l : List Name). l ++ own) (c.new-in_use.ensures Imported) in
+    rw (p.1, p.2) (refused_weaker (IsTwiceAmong (before ++ own)) (IsTwiceAmong own) _ (λ f h. subst (λ (l : List Name). IsTwiceAmong l f) same h) c.in_err-define_names.ensures.refused)
+
+pub returns-clause-in_use : goal.returns-clause-in_use
+returns-clause-in_use c = λ s. c.in_ok-define_names.ensures.defined s ∙ ap (λ (l : List Name). l ++ names_on s (map name_of_id c.args.turn.now)) (c.new-in_use.ensures s)
+
+pub returns-clause-keyed : goal.returns-clause-keyed
+returns-clause-keyed c =
+    let ids = c.args.turn.now in
+    let types = c.args.types.now in
+    let own = names_of ids in
+    let listed : names_in types ≡ local_names own.0 = c.requires.listed ∙ ap (map (λ (id : Id). id.name.now)) own.1 ∙ map_map (λ (id : Id). id.name.now) local_id own.0 in
+    let in_use = λ (s : WorldSide). c.in_ok-define_names.ensures.defined s ∙ ap (λ (l : List Name). l ++ names_on s (map name_of_id ids)) (c.new-in_use.ensures s) in
+    let differ = λ (s : WorldSide). c.in_ok-define_names.ensures.differ s (subst (λ (l : List Name). AllDiffer (map name_key l)) (sym (c.new-in_use.ensures s)) differ_none) in
+    begun _ own.0 types ids own.1 listed (c.in_ok-imports.ensures own.0 own.1) c.in_ok-exports.ensures in_use differ c.new.ensures

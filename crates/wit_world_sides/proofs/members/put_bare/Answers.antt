@@ -1,0 +1,45 @@
+use Rattle.std.proofs.Common.{◌≡◌, ◌++◌, ◌∷◌, [], List, ℕ, map, refl, sym, ap, ◌∙◌, subst, inr}
+use Rattle.std.proofs.lemmas.List.{append-nil}
+use Rattle.std.proofs.lemmas.Result.{err_from_is_err_and}
+use Rattle.wit_type_tree.specs.declared.leaves.Id.{Id}
+use Rattle.wit_tree.specs.declared.tree.WorldSide.{WorldSide}
+use Rattle.wit_model.specs.ItemsOfWorlds.{function_of}
+use Rattle.wit_model.specs.declared.world.WorldKey.TheVariants as key
+use Rattle.wit_syntax.specs.ExternPart.{same_side}
+use Rattle.wit_syntax.specs.Sides.{SideLink, item_side}
+use Rattle.wit_syntax.proofs.Refusing.{refused_weaker}
+use Rattle.wit_refusals.specs.NameScopes.{Name}
+use Rattle.wit_sides.specs.SideNames.{defined_on}
+use Rattle.wit_externs.specs.Clash.{item_names}
+use Rattle.wit_externs.specs.Next.{IsLinked, linked_on, only_place}
+use Rattle.wit_externs.proofs.Linked.{places_differ}
+use Rattle.wit_externs.proofs.Steps.{kept_nothing}
+use Rattle.wit_world_sides.specs.Members.{IsWrongPut, path_link, text}
+use Rattle.wit_world_sides.proofs.Putting.{names_itself, put_itself, puts}
+use Rattle.wit_world_sides.proofs.SideCalled.{other_called}
+use Rattle.wit_world_sides.proofs.members.put_bare.Goals as goal
+
+pub returns-in_err-define-clause-refused : goal.returns-in_err-define-clause-refused
+returns-in_err-define-clause-refused c =
+    let p = err_from_is_err_and c.from_residual.result c.from_residual.ensures.1 in
+    let m = c.args.members.now in
+    let link = path_link c.args.link in
+    let id = c.args.id in
+    let ids = linked_on link.side m.links in
+    let again = IsLinked ids c.index.result c.path_id-path.result.span in
+    rw (p.1, p.2) (refused_weaker again (IsWrongPut m link id) _ (λ f h. inr (c.requires.bare, subst (λ (n : Id). IsLinked ids id n.span f) c.path_id-path.ensures (subst (λ (n : ℕ). IsLinked ids n c.path_id-path.result.span f) c.index.ensures h))) c.in_err-define.ensures.refused)
+
+pub returns-clause-puts : goal.returns-clause-puts
+returns-clause-puts c =
+    let m = c.args.members.now in
+    let link = path_link c.args.link in
+    let x = SideLink link in
+    let id = c.args.id in
+    let item = c.args.item in
+    let keyed = c.requires.keyed in
+    let named : item_names x ≡ [] = names_itself link c.requires.bare in
+    let new = c.define.new.self in
+    let more = λ (s : WorldSide). subst (λ (n : ℕ). linked_on s new ≡ linked_on s m.links ++ only_place s link.side n) c.index.ensures (c.in_ok-define.ensures.defined s) in
+    let apart = λ (s : WorldSide). places_differ link.side (λ t. linked_on t m.links) (λ t. linked_on t new) c.index.result c.in_ok-define.ensures.defined c.in_ok-define.ensures.free s (keyed.apart s) in
+    let same = λ (s : WorldSide). sym (append-nil (defined_on s m.in_use)) ∙ ap (λ (l : List Name). defined_on s m.in_use ++ l) (kept_nothing item_names (λ y. same_side s (item_side y)) x named) in
+    put_itself m _ link id item c.requires.bare c.requires.interface (puts m _ x (id ∷ []) (key.Interface id, item) keyed same keyed.differ more apart (sym (ap (map text) named)) refl (other_called (key.Interface id, item) (ap function_of c.requires.interface)) c.in_ok-add_item.ensures)

@@ -1,0 +1,22 @@
+use Rattle.std.proofs.Common.{◌∷◌, [], refl, ap, ◌∙◌}
+use Rattle.wit_tree.specs.declared.tree.WorldSide.{WorldSide}
+use Rattle.wit_syntax.specs.ExternPart.{same_side}
+use Rattle.wit_syntax.specs.Sides.{SideFunction, role_side}
+use Rattle.wit_arena.specs.SourceFunctions.{function_item}
+use Rattle.wit_refusals.specs.NameScopes.{Name}
+use Rattle.wit_rules.specs.BorrowedFunctions.{function_view}
+use Rattle.wit_externs.specs.Next.{linked_on}
+use Rattle.wit_world_sides.specs.FilledSides.{entries_of, inserted_on}
+use Rattle.wit_world_sides.proofs.Putting.{puts}
+use Rattle.wit_world_sides.proofs.SideCalled.{function_called}
+use Rattle.wit_world_sides.proofs.SideKeys.{nothing_more}
+use Rattle.wit_world_sides.proofs.members.put_function.Goals as goal
+
+pub returns-clause-puts : goal.returns-clause-puts
+returns-clause-puts c =
+    let m = c.args.members.now in
+    let fn = function_view c.args.borrowed in
+    let f = c.args.function in
+    let keyed = c.requires.keyed in
+    let put = λ (s : WorldSide). c.in_ok-add_function.ensures s ∙ ap (λ (own : WorldSide). inserted_on s own (function_item f) (entries_of s m.sides)) c.side.ensures in
+    puts m _ (SideFunction fn) [] (function_item f) keyed c.in_ok-define_function.ensures.defined (λ s. c.in_ok-define_function.ensures.differ s (keyed.differ s)) (λ s. nothing_more (same_side s (role_side fn.role)) (linked_on s m.links)) keyed.apart (ap (λ (n : Name). n.0 ∷ []) c.requires.borrowed) refl (function_called f) put

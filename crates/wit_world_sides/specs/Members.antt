@@ -1,0 +1,79 @@
+-- What is on the sides of a world so far, with the names and the interfaces there, and one more of it.
+use Rattle.std.specs.Prelude.{◌≡◌, ◌⊎◌, ◌++◌, ℕ, List, [], ◌∷◌, Option, None, map, if◌then◌else◌}
+use Rattle.std.specs.List.{flat_map}
+use Rattle.std.specs.Option.{option_map_or}
+use Rattle.wit_type_tree.specs.declared.leaves.Id.{Id}
+use Rattle.wit_tree.specs.declared.tree.WorldSide.{WorldSide}
+use Rattle.wit_model.specs.declared.world.WorldKey.{WorldKey}
+use Rattle.wit_model.specs.declared.world.WorldKey.TheVariants as key
+use Rattle.wit_model.specs.declared.world.WorldItem.{WorldItem}
+use Rattle.wit_syntax.specs.ExternPart.{same_side}
+use Rattle.wit_syntax.specs.Fault.{Fault}
+use Rattle.wit_syntax.specs.Repeats.{AllDiffer}
+use Rattle.wit_syntax.specs.Sides.{IsExternPart, Link, SideItem, SideLink, extern_link, item_side, items_on}
+use Rattle.wit_syntax.specs.Source.{path_id}
+use Rattle.wit_arena.specs.SideItems.{put_on}
+use Rattle.wit_refusals.specs.NameScopes.{Name}
+use Rattle.wit_sides.specs.SideNames.{defined_on}
+use Rattle.wit_signatures.specs.ForeignName.{name_key, name_of_id}
+use Rattle.wit_externs.specs.Clash.{IsClashAfter, item_names, names_of_items}
+use Rattle.wit_externs.specs.Next.{IsLinked, linked_on}
+use Rattle.wit_world_sides.specs.Settled.{AreCalled}
+use Rattle.wit_world_sides.specs.FilledSides.{entries_of}
+use Rattle.wit_world_sides.specs.declared.members.Members.{Members}
+use Rattle.wit_world_sides.specs.declared.members.PathExtern.{PathExtern}
+
+-- what is at a key of a side
+abbrev pub Entry : Type 0
+Entry = WorldKey × WorldItem
+
+-- the name that a key is, or the place
+abbrev pub key_names : WorldKey → List (List ℕ)
+key_names (key.Name n) = n ∷ []
+key_names (key.Interface i) = []
+
+abbrev pub key_places : WorldKey → List ℕ
+key_places (key.Name n) = []
+key_places (key.Interface i) = i ∷ []
+
+abbrev pub text : Name → List ℕ
+text n = n.0
+
+-- those of the keys of entries
+abbrev pub names_among : List Entry → List (List ℕ)
+names_among es = flat_map key_names (map (λ e. e.0) es)
+
+abbrev pub places_among : List Entry → List ℕ
+places_among es = flat_map key_places (map (λ e. e.0) es)
+
+-- the keys on each side are the names and the interfaces that are there, in order, of which no two are one; and functions are at
+-- their names
+pub record AreKeyed (m : Members) : Type 0 where
+  pub names : (s : WorldSide) → names_among (entries_of s m.sides) ≡ map text (defined_on s m.in_use)
+  pub places : (s : WorldSide) → places_among (entries_of s m.sides) ≡ linked_on s m.links
+  pub differ : (s : WorldSide) → AllDiffer (map name_key (defined_on s m.in_use))
+  pub apart : (s : WorldSide) → AllDiffer (linked_on s m.links)
+  pub called : (s : WorldSide) → AreCalled (entries_of s m.sides)
+
+-- one more was put on its side, as this entry: its name is there, or else the interface at this place
+pub record Puts (m m' : Members) (x : SideItem) (ids : List ℕ) (e : Entry) : Type 0 where
+  pub in_use : (s : WorldSide) → defined_on s m'.in_use ≡ defined_on s m.in_use ++ names_of_items (items_on s (x ∷ []))
+  pub linked : (s : WorldSide) → linked_on s m'.links ≡ linked_on s m.links ++ (if same_side s (item_side x) then ids else [])
+  pub put : (s : WorldSide) → entries_of s m'.sides ≡ entries_of s m.sides ++ put_on s (item_side x) e []
+  pub keyed : AreKeyed m'
+
+-- it is an interface on a side under this name
+abbrev pub IsNamedOn : WorldSide → Id → SideItem → Type 0
+IsNamedOn side name x = (item_side x ≡ side) × (item_names x ≡ name_of_id name ∷ []) × IsExternPart x
+
+-- the interface that is imported or exported by its path
+abbrev pub path_link : PathExtern → Link
+path_link p = extern_link p.written.now p.name p.path.now
+
+-- the place of an interface that has no name of its own
+abbrev pub bare_id : Option Id → ℕ → List ℕ
+bare_id name id = option_map_or (λ own. []) name (id ∷ [])
+
+-- an interface cannot be put on its side: its name clashes, or it is there already without one
+abbrev pub IsWrongPut : Members → Link → ℕ → Fault → Type 0
+IsWrongPut m link id f = IsClashAfter m.in_use (SideLink link ∷ []) f ⊎ ((link.name ≡ None) × IsLinked (linked_on link.side m.links) id (path_id link.path).span f)
