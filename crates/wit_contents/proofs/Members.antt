@@ -40,7 +40,8 @@ use Rattle.wit_links.specs.SideCounts.{IsSeen, inline_of, inline_side}
 use Rattle.wit_links.specs.Links.{IsLinkedTo}
 use Rattle.wit_contents.specs.declared.walk.Walk.{Walk}
 use Rattle.wit_contents.specs.declared.walk.Walked.{Walked}
-use Rattle.wit_contents.specs.Walk.{AddsInside, AddsMembers, IsRight, IsSoundScope, Stage, lead, next_place, stage, walk_item}
+use Rattle.wit_item_entries.specs.Body.{IsSoundScope}
+use Rattle.wit_contents.specs.Walk.{AddsInside, AddsMembers, IsRight, Stage, lead, next_place, stage, walk_item}
 use Rattle.wit_contents.proofs.Adding.{sides_function, sides_inline, sides_link}
 
 -- nothing on one side or the other

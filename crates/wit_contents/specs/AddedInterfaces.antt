@@ -6,25 +6,22 @@ use Rattle.wit_types.specs.declared.types.TypeOwner.{TypeOwner}
 use Rattle.wit_types.specs.declared.types.TypeOwner.TheVariants as owner
 use Rattle.wit_functions.specs.declared.function.Function.{Function}
 use Rattle.wit_model.specs.declared.interface.Interface.{Interface}
-use Rattle.wit_syntax.specs.Broken.{IsBrokenScope, Refused}
+use Rattle.wit_syntax.specs.Broken.{Refused}
 use Rattle.wit_syntax.specs.Fault.{Fault}
 use Rattle.wit_syntax.specs.Function.{functions}
 use Rattle.wit_syntax.specs.Metadata.{IsBrokenStability}
 use Rattle.wit_syntax.specs.ScopeTables.{in_order, interfaces_of}
-use Rattle.wit_syntax.specs.Sides.{IsBrokenSides}
-use Rattle.wit_syntax.specs.Source.{Item, about, scope_names}
+use Rattle.wit_syntax.specs.Source.{Item, about}
 use Rattle.wit_arena.specs.SourceFunctions.{placed_functions}
 use Rattle.wit_arena.specs.Resolving.{IsIndex, Names, Required, ResolvedScope}
-use Rattle.wit_arena.specs.ResolvedArenas.{AddsDeclared, AddsInterface, AddsInterfaces, IsNameless, IsWrongInterface, IsWrongNow}
-use Rattle.wit_scopes.specs.DefinitionOrder.{IsOfFunctions}
+use Rattle.wit_arena.specs.ResolvedArenas.{AddsDeclared, AddsInterface, AddsInterfaces, IsWrongInterface, IsWrongNow}
 use Rattle.wit_item_names.specs.ForeignAddresses.{prefix_of}
 use Rattle.wit_items.specs.ResolvedInterfaces.{resolved_scopes_of}
 use Rattle.wit_items.specs.BorrowedItems.{item_view}
 use Rattle.wit_items.specs.declared.interfaces.Interfaces.{Interfaces}
 use Rattle.wit_items.specs.declared.items.Item.{Item as BorrowedItem}
 use Rattle.wit_uses.specs.NewRequirements.{Appends}
-use Rattle.wit_item_entries.specs.AddedNames.{AddsTurn}
-use Rattle.wit_item_entries.specs.Body.{AddsBody}
+use Rattle.wit_item_entries.specs.Body.{AddsBody, HasTurn}
 use Rattle.wit_item_entries.specs.declared.names.ResolvedNames.{ResolvedNames}
 
 -- the interfaces among items, in the order of their places
@@ -35,23 +32,7 @@ interfaces_in items places = interfaces_of (in_order (map item_view items) place
 abbrev pub HasLegalStability : Item → Type 0
 HasLegalStability i = (f : Fault) → IsBrokenStability (about i.declared).attributes f → ⊥
 
--- no rule is broken on the sides of an item
-abbrev pub HasLegalSides : Item → Type 0
-HasLegalSides i = (f : Fault) → IsBrokenSides i f → ⊥
-
--- the scope of an item is not broken by itself, but where a name in a signature means nothing
-abbrev pub IsSoundScope : Item → Type 0
-IsSoundScope i = (f : Fault) → IsBrokenScope (scope_names i) (functions i) f → IsNameless (scope_names i) (functions i)
-
--- or by its functions
-abbrev pub HasSoundNames : Item → Type 0
-HasSoundNames i = (f : Fault) → IsBrokenScope (scope_names i) (functions i) f → IsOfFunctions (scope_names i) (functions i) f
-
--- the names of an item were resolved, in turn, over these types
-abbrev pub HasTurn : ResolvedNames → List TypeDef → Item → List TypeDef → List ResolvedScope → TypeOwner → Type 0
-HasTurn n now i old cs o = AddsTurn old now cs o (scope_names i) n.types n.turn.items n.required.items
-
--- and then its functions, which are at these names
+-- after the names of an item its functions were added, which are at these names
 abbrev pub AddsTable : ResolvedNames → ResolvedNames → List TypeDef → List TypeDef → Item → List (List ℕ × Function) → Type 0
 AddsTable n n' now new i table = (old : List TypeDef) (cs : List ResolvedScope) (o : TypeOwner) → HasTurn n now i old cs o → (fs : List Function) × AddsBody old new cs o i n.types n.turn.items fs n'.required.items × (table ≡ placed_functions fs)
 

@@ -7,7 +7,8 @@ ghost use Rattle.wit_items.specs.BorrowedItems.{item_view};
 ghost use Rattle.wit_arena.specs.ResolvedArenas.{AreLegalSides, AreSoundScopes, HaveLegalStability};
 ghost use Rattle.wit_contents.specs.Outer.{AreOuter};
 ghost use Rattle.wit_items.specs.Gathered.{AreItemsOf, IsItemOf};
-ghost use Rattle.wit_contents.specs.AddedInterfaces.{AddsAllTo, AddsOneTo, HasLegalSides, HasLegalStability, IsIndexed, IsSoundScope, IsWrongAt, IsWrongInOrder, interfaces_in};
+ghost use Rattle.wit_item_entries.specs.Body.{HasLegalSides, IsSoundScope};
+ghost use Rattle.wit_contents.specs.AddedInterfaces.{AddsAllTo, AddsOneTo, HasLegalStability, IsIndexed, IsWrongAt, IsWrongInOrder, interfaces_in};
 
 use crate::interface::interface_of;
 use wit_entries::entries::Entries;

@@ -15,7 +15,8 @@ ghost use Rattle.wit_arena.specs.Resolving.{ResolvedScope};
 ghost use Rattle.wit_item_names.specs.ForeignAddresses.{prefix_of};
 ghost use Rattle.wit_scopes.specs.PlacedNames.{AreNamesPlaced};
 ghost use Rattle.wit_scopes.specs.BorrowedNames.{name_view};
-ghost use Rattle.wit_contents.specs.AddedInterfaces.{AddsAt, AddsTable, HasLegalSides, HasLegalStability, HasSoundNames, HasTurn, IsSoundScope, IsWrongAt, RefusesTable};
+ghost use Rattle.wit_item_entries.specs.Body.{HasLegalSides, HasSoundNames, HasTurn, IsSoundScope};
+ghost use Rattle.wit_contents.specs.AddedInterfaces.{AddsAt, AddsTable, HasLegalStability, IsWrongAt, RefusesTable};
 
 use std::alloc::{AllocError, Global};
 use wit_entries::entries::Entries;

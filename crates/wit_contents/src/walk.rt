@@ -13,7 +13,7 @@ ghost use Rattle.wit_scopes.specs.PlacedNames.{AreNamesPlaced};
 ghost use Rattle.wit_scopes.specs.BorrowedNames.{name_view};
 ghost use Rattle.wit_world_sides.specs.Members.{path_link};
 ghost use Rattle.wit_links.specs.SideCounts.{inline_side, seen_on};
-ghost use Rattle.wit_contents.specs.AddedInterfaces.{HasLegalSides, IsSoundScope};
+ghost use Rattle.wit_item_entries.specs.Body.{HasLegalSides, IsSoundScope};
 ghost use Rattle.wit_contents.specs.Walk.{AddsInside, AddsNext, AddsTyped, IsNext, IsWrongInline, RefusesNext, RefusesTyped, next_place, resource_items, stage, walk_item};
 
 use crate::interface::interface_of;

@@ -231,7 +231,7 @@ pub fn resolve_worlds<'f, 'a>(
     requires items { AreItemsOf interfaces.now.files items.now }
     requires prefix { length (others_of interfaces.now.files) ≤ length prefix }
     requires index { IsWorldIndex (worlds_at (others_of interfaces.now.files) prefix) [] }
-    ensures added { IfOk result (λ made. AddsWorldsTo interfaces.now prefix made.0 made.1 types.old types.new required.old.items required.new.items (worlds_in items.now places.now)) }
+    ensures added { IfOk result (λ m. AddsWorldsTo interfaces.now prefix m.0 m.1 types.old types.new required.old.items required.new.items (worlds_in items.now places.now)) }
     ensures stable { OnOk result (HaveLegalStability (worlds_in items.now places.now)) }
     ensures sound { OnOk result (AreSoundScopes (flat_map with_inline (worlds_in items.now places.now))) }
     ensures sided { OnOk result (AreLegalSides (flat_map with_inline (worlds_in items.now places.now))) }

@@ -36,9 +36,13 @@ DefinesNames old new items = (side : WorldSide) → defined_on side new ≡ defi
 abbrev pub StayApart : Sides → Sides → Type 0
 StayApart old new = (side : WorldSide) → AllDiffer (map name_key (defined_on side old)) → AllDiffer (map name_key (defined_on side new))
 
--- the names on the sides are those of types, and then those of what has these functions
+-- the names on the sides are those of types, and then those of what comes after them
+abbrev pub AreNamesOf : Sides → List Id → List SideItem → Type 0
+AreNamesOf names ids items = (side : WorldSide) → defined_on side names ≡ all_on side ids items
+
+-- and of what comes after them these are the functions
 abbrev pub AreNamesWith : Sides → List Id → List SourceFunction → Type 0
-AreNamesWith names ids fns = (items : List SideItem) × (flat_map item_function items ≡ fns) × ((side : WorldSide) → defined_on side names ≡ all_on side ids items)
+AreNamesWith names ids fns = (items : List SideItem) × (flat_map item_function items ≡ fns) × AreNamesOf names ids items
 
 -- on each side no two names have one key
 abbrev pub DifferOnSides : List Id → List SideItem → Type 0

@@ -1,5 +1,6 @@
 pub mod Clash
 pub mod Links
 pub mod Next
+pub mod ScopeFunctions
 pub mod SetterFunctions
 pub mod SideWords

@@ -116,7 +116,7 @@ wrong_function old mid new cs by_name o item types ids required f n g h = elim h
   | inr handle ↦ WrongHandles (wrong_handle_view old mid new cs o item types ids required f n g (function_handle (env_of types) new (functions item) h.place h.fn f h.at handle))
 ]
 
--- the names of functions that are where imports do differ where nothing else is there, and the keys of what is taken do
+-- where functions alone are on the sides, and all of them are where imports are, their names differ if their keys do
 pub made_differ : (old new : List TypeDef) (cs : List ResolvedScope) (o : TypeOwner) (item : Item) (types : Names) (ids : List Id) (fs : List Function) (rs : List Required) → on_side Imported (functions item) ≡ functions item → side_items item ≡ map SideFunction (functions item) → AddsBody old new cs o item types ids fs rs → AllDiffer (map made_name fs)
 made_differ old new cs o item types ids fs rs imported alone b =
     let xs = scope_names item in

@@ -1,32 +1,23 @@
 //! What is stated of an item and its names, the same of an interface and of a world, and the functions of an
 //! interface.
-ghost use Rattle.std.specs.Prelude.{◌≡◌, ◌<◌, List, IfErr, IfOk, OnOk, false, length, map};
-ghost use Rattle.std.specs.List.{flat_map};
-ghost use Rattle.wit_tree.specs.declared.tree.WorldSide.{WorldSide};
-ghost use Rattle.wit_types.specs.declared.types.TypeDef.{TypeDef};
-ghost use Rattle.wit_types.specs.declared.types.TypeOwner.{TypeOwner as Owner};
-ghost use Rattle.wit_syntax.specs.Broken.{IsBrokenScope, Refused};
+ghost use Rattle.std.specs.Prelude.{◌≡◌, ◌<◌, IfErr, IfOk, OnOk, false, length, map};
+ghost use Rattle.wit_syntax.specs.Broken.{Refused};
 ghost use Rattle.wit_syntax.specs.Fault.{Fault};
-ghost use Rattle.wit_syntax.specs.Function.{SourceFunction, functions as the_functions, part_functions};
 ghost use Rattle.wit_syntax.specs.Metadata.{IsBrokenStability};
-ghost use Rattle.wit_syntax.specs.Sides.{IsBrokenSides, SideFunction};
+ghost use Rattle.wit_syntax.specs.Sides.{SideFunction};
 ghost use Rattle.wit_syntax.specs.Source.{Item as TheItem, scope_names as the_names, about, declared_metadata};
-ghost use Rattle.wit_arena.specs.Resolving.{ResolvedScope, Names};
-ghost use Rattle.wit_arena.specs.ResolvedArenas.{IsNameless};
 ghost use Rattle.wit_entries.specs.Requiring.{IsExtended};
-ghost use Rattle.wit_sides.specs.SideNames.{defined_on};
 ghost use Rattle.wit_rules.specs.BorrowedFunctions.{function_view};
-ghost use Rattle.wit_externs.specs.Clash.{all_on};
-ghost use Rattle.wit_scopes.specs.DefinitionOrder.{IsOfFunctions};
 ghost use Rattle.wit_scopes.specs.BorrowedNames.{name_view};
 ghost use Rattle.wit_scopes.specs.PlacedNames.{AreNamesPlaced};
 ghost use Rattle.wit_items.specs.BorrowedItems.{declared_view, scope_item};
 ghost use Rattle.wit_items.specs.SourceItems.{AreOf};
 ghost use Rattle.wit_uses.specs.NameOrder.{IsTurn};
-ghost use Rattle.wit_item_entries.specs.AddedNames.{AddsTurn};
-ghost use Rattle.wit_item_entries.specs.Body.{AddsBody, HasNames, IsWrongBody};
 ghost use Rattle.wit_item_names.specs.ForeignAddresses.{prefix_of};
 ghost use Rattle.wit_items.specs.ResolvedInterfaces.{resolved_scopes_of};
+ghost use Rattle.wit_externs.specs.Clash.{AreNamesOf};
+ghost use Rattle.wit_item_entries.specs.AddedNames.{AreSoundNames};
+ghost use Rattle.wit_item_entries.specs.Body.{AddsMade, HasLegalSides, HasSoundNames, HasTurn, IsOf, IsSoundScope, IsWrongBody, RefusesBody, functions_in};
 
 use crate::functions::interface_functions;
 use crate::names::{ResolvedNames, resolve_names};
@@ -57,7 +48,7 @@ pub struct ItemFunctions<'t, 'a> {
     pub written: Vec<BorrowedFunction<'t, 'a>>,
     /// Over their types.
     pub functions: Vec<Function>,
-    /// Where it has some, the names that are taken, of them too.
+    /// Where it has some, the names of its types, and then those of the functions.
     pub in_use: Sides,
 }
 
@@ -73,8 +64,8 @@ pub fn resolve_head<'a>(
     requires placed { AreNamesPlaced (prefix_of interfaces.now.files) item.now.names.now }
     ensures as_stated { IfOk result (λ head. AreOf (declared_metadata (scope_item item.now).declared) head.metadata) }
     ensures stable { OnOk result ((f : Fault) → IsBrokenStability (about (scope_item item.now).declared).attributes f → ⊥) }
-    ensures adds { IfOk result (λ head. AddsTurn types.old types.new (resolved_scopes_of interfaces.now) owner (the_names (scope_item item.now)) head.names.types head.names.turn.items head.names.required.items) }
-    ensures legal { OnOk result ((fns : List SourceFunction) (f : Fault) → IsBrokenScope (the_names (scope_item item.now)) fns f → IsOfFunctions (the_names (scope_item item.now)) fns f) }
+    ensures adds { IfOk result (λ head. HasTurn head.names types.new (scope_item item.now) types.old (resolved_scopes_of interfaces.now) owner) }
+    ensures legal { OnOk result (AreSoundNames (the_names (scope_item item.now))) }
     ensures extended { OnOk result (IsExtended types.old types.new) }
     ensures refused { IfErr result (Refused (IsWrongBody types.old (resolved_scopes_of interfaces.now) interfaces.now.by_name owner (scope_item item.now))) }
 {
@@ -92,21 +83,21 @@ pub fn resolve_item_functions<'t, 'a>(
     names: &mut ResolvedNames<'a>,
 ) -> ParseResult<ItemFunctions<'t, 'a>>
     requires sort { (about (declared_view declared)).is_world ≡ false }
-    requires of { (i : TheItem) × HasNames i (declared_view declared) borrowed.now }
+    requires of { (i : TheItem) × IsOf declared borrowed.now i }
     requires turn { IsTurn (map name_view borrowed.now) names.old.turn.items }
     ensures types { OnOk result (names.new.types ≡ names.old.types) }
     ensures turn { OnOk result (names.new.turn ≡ names.old.turn) }
-    ensures written { IfOk result (λ own. map function_view own.written.items ≡ flat_map part_functions (about (declared_view declared.entry)).parts) }
-    ensures adds { IfOk result (λ own. (i : TheItem) → HasNames i (declared_view declared.entry) borrowed.now → (old : List TypeDef) (cs : List ResolvedScope) (o : Owner) → AddsTurn old types.old cs o (the_names i) names.old.types names.old.turn.items names.old.required.items → AddsBody old types.new cs o i names.old.types names.old.turn.items own.functions.items names.new.required.items) }
-    ensures in_use { IfOk result (λ own. 0 < length own.written.items → (s : WorldSide) → defined_on s own.in_use ≡ all_on s names.old.turn.items (map SideFunction (map function_view own.written.items))) }
-    ensures sound { OnOk result ((i : TheItem) → HasNames i (declared_view declared.entry) borrowed.now → ((f : Fault) → IsBrokenScope (the_names i) (the_functions i) f → IsOfFunctions (the_names i) (the_functions i) f) → (f : Fault) → IsBrokenScope (the_names i) (the_functions i) f → IsNameless (the_names i) (the_functions i)) }
-    ensures sided { OnOk result ((i : TheItem) → HasNames i (declared_view declared.entry) borrowed.now → (f : Fault) → IsBrokenSides i f → ⊥) }
+    ensures written { IfOk result (λ own. map function_view own.written.items ≡ functions_in (declared_view declared.entry)) }
+    ensures adds { IfOk result (λ own. (i : TheItem) → IsOf declared.entry borrowed.now i → AddsMade names.old names.new types.old types.new i own.functions.items) }
+    ensures in_use { IfOk result (λ own. 0 < length own.written.items → AreNamesOf own.in_use names.old.turn.items (map SideFunction (map function_view own.written.items))) }
+    ensures sound { OnOk result ((i : TheItem) → IsOf declared.entry borrowed.now i → HasSoundNames i → IsSoundScope i) }
+    ensures sided { OnOk result ((i : TheItem) → IsOf declared.entry borrowed.now i → HasLegalSides i) }
     ensures extended { OnOk result (IsExtended types.old types.new) }
-    ensures refused { IfErr result (λ e. (i : TheItem) → HasNames i (declared_view declared.entry) borrowed.now → (old : List TypeDef) (cs : List ResolvedScope) (by_name : Names) (o : Owner) → AddsTurn old types.old cs o (the_names i) names.old.types names.old.turn.items names.old.required.items → Refused (IsWrongBody old cs by_name o i) e) }
+    ensures refused { IfErr result (λ e. (i : TheItem) → IsOf declared.entry borrowed.now i → RefusesBody names.old types.old i e) }
 {
     let written = interface_functions(alloc, &declared)?;
     let mut in_use = Sides::new(alloc);
-    let functions = resolve_signatures(alloc, borrowed, types, names, &written, &mut in_use)?;
+    let functions = resolve_signatures(borrowed, types, names, &written, &mut in_use)?;
     Ok(ItemFunctions {
         written,
         functions,

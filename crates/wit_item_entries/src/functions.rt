@@ -12,6 +12,7 @@ ghost use Rattle.wit_syntax.specs.SignatureRules.{body_ok};
 ghost use Rattle.wit_rules.specs.Signatures.{stated_ok, AreResults};
 ghost use Rattle.wit_items.specs.BorrowedItems.{declared_view};
 ghost use Rattle.wit_scopes.specs.BorrowedNames.{name_view};
+ghost use Rattle.wit_item_entries.specs.Body.{functions_in};
 
 use std::alloc::{AllocError, Global};
 use wit_items::items::Declared;
@@ -111,7 +112,7 @@ pub fn interface_functions<'t, 'a>(
     alloc: Global,
     declared: &Declared<'t, 'a>,
 ) -> Result<Vec<BorrowedFunction<'t, 'a>>, AllocError>
-    ensures { IfOk result (λ functions. (about (declared_view declared.now)).is_world ≡ false → map function_view functions.items ≡ flat_map part_functions (about (declared_view declared.now)).parts) }
+    ensures { IfOk result (λ functions. (about (declared_view declared.now)).is_world ≡ false → map function_view functions.items ≡ functions_in (declared_view declared.now)) }
 {
     match declared {
         Declared::Interface(interface) => items_functions(alloc, &interface.items),

@@ -1,21 +1,16 @@
 //! The names of a scope as entries: those that it uses, and then its definitions.
-ghost use Rattle.std.specs.Prelude.{◌≡◌, ◌⊎◌, ◌++◌, List, IfOk, IfErr, OnOk, map};
-ghost use Rattle.std.specs.List.{flat_map};
-ghost use Rattle.wit_syntax.specs.Address.{Address};
+ghost use Rattle.std.specs.Prelude.{◌≡◌, ◌++◌, IfOk, IfErr, OnOk, map};
 ghost use Rattle.wit_syntax.specs.ScopeTables.{used, local_names};
-ghost use Rattle.wit_syntax.specs.Fault.{Fault};
-ghost use Rattle.wit_syntax.specs.Broken.{IsBrokenScope, Refused};
+ghost use Rattle.wit_syntax.specs.Broken.{Refused};
 ghost use Rattle.wit_syntax.specs.Repeats.{AllDiffer};
-ghost use Rattle.wit_syntax.specs.Shape.{all_handles};
-ghost use Rattle.wit_syntax.specs.Function.{SourceFunction, name_types};
-ghost use Rattle.wit_entries.specs.Requiring.{IsExtended, Requires};
+ghost use Rattle.wit_entries.specs.Requiring.{IsExtended};
 ghost use Rattle.wit_scopes.specs.BorrowedNames.{name_view, use_view, definition_view};
 ghost use Rattle.wit_item_names.specs.ForeignAddresses.{prefix_of};
 ghost use Rattle.wit_items.specs.ResolvedInterfaces.{resolved_scopes_of};
 ghost use Rattle.wit_scopes.specs.PlacedNames.{AreNamesPlaced};
-ghost use Rattle.wit_scopes.specs.DefinitionOrder.{AreInTurn, IsBrokenAmong, IsOfFunctions};
-ghost use Rattle.wit_item_entries.specs.AddedNames.{IsWrongHandleIn, IsWrongHandleTurn, IsWrongNames, DefinesTurn, AddsTurn};
-ghost use Rattle.wit_arena.specs.Resolving.{ResolvedScope, env_of, Defines, AreLegalBodies, AreLegalMetadata, HasNames, names_in};
+ghost use Rattle.wit_scopes.specs.DefinitionOrder.{AreInTurn};
+ghost use Rattle.wit_arena.specs.Resolving.{env_of, AreLegalBodies, AreLegalMetadata, HasNames, names_in};
+ghost use Rattle.wit_item_entries.specs.AddedNames.{AddsTurn, AreSoundNames, DefinesAfter, DefinesIn, DefinitionsRequire, HasWrongDefinition, HasWrongName, IsWrongNames};
 
 use std::alloc::Global;
 use wit_definitions::definitions::define;
@@ -52,14 +47,14 @@ fn define_all(
 ) -> ParseResult<()>
     requires turn { AreInTurn (env_of scope.old.names) (map definition_view definitions.now) }
     requires differ { AllDiffer (names_in scope.old.names ++ local_names (map definition_view definitions.now)) }
-    ensures defines { OnOk result ((cs : List ResolvedScope) (s : Address) → Defines types.old types.new cs scope.old.owner s scope.old.names scope.new.names (map definition_view definitions.now)) }
+    ensures defines { OnOk result (DefinesAfter scope.old scope.new types.old types.new (map definition_view definitions.now)) }
     ensures owner { OnOk result (scope.new.owner ≡ scope.old.owner) }
     ensures listed { OnOk result (names_in scope.new.names ≡ names_in scope.old.names ++ local_names (map definition_view definitions.now)) }
     ensures noted { OnOk result (AreLegalMetadata (map definition_view definitions.now)) }
     ensures legal { OnOk result (AreLegalBodies (map definition_view definitions.now)) }
-    ensures handled { OnOk result (Requires (env_of scope.new.names) types.new (all_handles (flat_map name_types (map definition_view definitions.now))) scope.old.required.items scope.new.required.items) }
+    ensures handled { OnOk result (DefinitionsRequire scope.old scope.new types.new (map definition_view definitions.now)) }
     ensures extended { OnOk result (IsExtended types.old types.new) }
-    ensures refused { IfErr result (Refused (λ f. IsBrokenAmong (map definition_view definitions.now) f ⊎ IsWrongHandleIn types.old scope.old.owner scope.old.names (map definition_view definitions.now) f)) }
+    ensures refused { IfErr result (Refused (HasWrongDefinition scope.old types.old (map definition_view definitions.now))) }
 {
     for definition in definitions {
         define(alloc, types, scope, definition.definition)?;
@@ -79,10 +74,10 @@ fn resolve_types<'t, 'a>(
     requires uses { map use_view uses.now ≡ used (map name_view names.now) }
     requires has { HasNames (env_of scope.old.names) (used (map name_view names.now)) }
     requires listed { names_in scope.old.names ≡ local_names (used (map name_view names.now)) }
-    ensures defines { IfOk result (λ turn. DefinesTurn types.old types.new scope.old.owner scope.old.names scope.new.names (map name_view names.now) turn.items scope.old.required.items scope.new.required.items) }
-    ensures legal { OnOk result ((fns : List SourceFunction) (f : Fault) → IsBrokenScope (map name_view names.now) fns f → IsOfFunctions (map name_view names.now) fns f) }
+    ensures defines { IfOk result (λ turn. DefinesIn scope.old scope.new types.old types.new (map name_view names.now) turn.items) }
+    ensures legal { OnOk result (AreSoundNames (map name_view names.now)) }
     ensures extended { OnOk result (IsExtended types.old types.new) }
-    ensures refused { IfErr result (Refused (λ f. ((fns : List SourceFunction) → IsBrokenScope (map name_view names.now) fns f) ⊎ IsWrongHandleTurn types.old scope.old.owner scope.old.names (map name_view names.now) f)) }
+    ensures refused { IfErr result (Refused (HasWrongName scope.old types.old (map name_view names.now))) }
 {
     let written = written_turn(alloc, names, uses)?;
     check_unique_names(alloc, &written.ids)?;
@@ -103,7 +98,7 @@ pub fn resolve_names<'f, 'a>(
 ) -> ParseResult<ResolvedNames<'a>>
     requires placed { AreNamesPlaced (prefix_of interfaces.now.files) names.now }
     ensures adds { IfOk result (λ r. AddsTurn types.old types.new (resolved_scopes_of interfaces.now) owner (map name_view names.now) r.types r.turn.items r.required.items) }
-    ensures legal { OnOk result ((fns : List SourceFunction) (f : Fault) → IsBrokenScope (map name_view names.now) fns f → IsOfFunctions (map name_view names.now) fns f) }
+    ensures legal { OnOk result (AreSoundNames (map name_view names.now)) }
     ensures extended { OnOk result (IsExtended types.old types.new) }
     ensures refused { IfErr result (Refused (IsWrongNames types.old (resolved_scopes_of interfaces.now) interfaces.now.by_name owner (map name_view names.now))) }
 {

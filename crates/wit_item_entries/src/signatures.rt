@@ -1,25 +1,20 @@
 //! The functions of an interface over their types, after its names.
-ghost use Rattle.std.specs.Prelude.{◌≡◌, ◌<◌, ℕ, [], Some, IfErr, IfOk, OnOk, length, map, slice_get};
-ghost use Rattle.std.specs.List.{flat_map};
+ghost use Rattle.std.specs.Prelude.{◌≡◌, ◌<◌, [], IfErr, IfOk, OnOk, length, map};
 ghost use Rattle.wit_syntax.specs.Address.{Address};
 ghost use Rattle.wit_tree.specs.declared.tree.WorldSide.{WorldSide};
 ghost use Rattle.wit_syntax.specs.Sides.{SideFunction};
 ghost use Rattle.wit_sides.specs.SideNames.{defined_on};
-ghost use Rattle.wit_syntax.specs.Shape.{all_handles};
-ghost use Rattle.wit_syntax.specs.Fault.{Fault};
 ghost use Rattle.wit_syntax.specs.Broken.{Refused};
-ghost use Rattle.wit_syntax.specs.Function.{SourceFunction, written_types};
-ghost use Rattle.wit_syntax.specs.SignatureRules.{IsBrokenFunction};
 ghost use Rattle.wit_arena.specs.Resolving.{env_of, AddsFunctions};
-ghost use Rattle.wit_arena.specs.ResolvedArenas.{IsNameless};
 ghost use Rattle.wit_rules.specs.BorrowedFunctions.{function_view};
-ghost use Rattle.wit_entries.specs.Requiring.{IsExtended, Requires};
+ghost use Rattle.wit_entries.specs.Requiring.{IsExtended};
 ghost use Rattle.wit_rules.specs.Signatures.{HaveOwners};
 ghost use Rattle.wit_signatures.specs.ForeignName.{name_of_function, name_of_made};
-ghost use Rattle.wit_externs.specs.Clash.{DifferOnSides, all_on};
 ghost use Rattle.wit_uses.specs.NameOrder.{IsTurn};
 ghost use Rattle.wit_item_entries.specs.ScopeFunctionFaults.{IsWrongFunctions};
 ghost use Rattle.wit_scopes.specs.BorrowedNames.{name_view};
+ghost use Rattle.wit_externs.specs.Clash.{AreNamesOf, DifferOnSides};
+ghost use Rattle.wit_externs.specs.ScopeFunctions.{AreSoundFunctions, SignaturesRequire};
 
 use crate::functions::written_results;
 use crate::names::ResolvedNames;
@@ -36,9 +31,8 @@ use wit_sides::Sides;
 use wit_tree::ParseResult;
 
 /// The functions of an interface over their types, after its names `borrowed`, which are resolved; these are
-/// `written`. Where it has some, its names and then those of the functions are taken.
+/// `written`. Where it has some, its names and then those of the functions are defined.
 pub fn resolve_signatures<'t, 'a>(
-    alloc: Global,
     borrowed: &[ScopeName<'t, 'a>],
     types: &mut Entries,
     names: &mut ResolvedNames<'a>,
@@ -52,13 +46,14 @@ pub fn resolve_signatures<'t, 'a>(
     ensures turn { OnOk result (names.new.turn ≡ names.old.turn) }
     ensures adds { IfOk result (λ fs. (s : Address) → AddsFunctions types.old types.new s names.old.types (map function_view written.now) fs.items) }
     ensures named { IfOk result (λ fs. map name_of_made fs.items ≡ map name_of_function (map function_view written.now)) }
-    ensures handled { OnOk result (Requires (env_of names.old.types) types.new (all_handles (flat_map written_types (map function_view written.now))) names.old.required.items names.new.required.items) }
-    ensures in_use { OnOk result (0 < length written.now → (s : WorldSide) → defined_on s in_use.new ≡ all_on s names.old.turn.items (map SideFunction (map function_view written.now))) }
+    ensures handled { OnOk result (SignaturesRequire names.old.types types.new (map function_view written.now) names.old.required.items names.new.required.items) }
+    ensures in_use { OnOk result (0 < length written.now → AreNamesOf in_use.new names.old.turn.items (map SideFunction (map function_view written.now))) }
     ensures differ { OnOk result (DifferOnSides names.old.turn.items (map SideFunction (map function_view written.now))) }
-    ensures sound { OnOk result ((k : ℕ) (fn : SourceFunction) → slice_get (map function_view written.now) k ≡ Some fn → (f : Fault) → IsBrokenFunction (map name_view borrowed.now) (map function_view written.now) k fn f → IsNameless (map name_view borrowed.now) (map function_view written.now)) }
+    ensures sound { OnOk result (AreSoundFunctions (map name_view borrowed.now) (map function_view written.now)) }
     ensures extended { IsExtended types.old types.new }
     ensures refused { IfErr result (Refused (IsWrongFunctions (env_of names.old.types) types.new (map name_view borrowed.now) (map function_view written.now))) }
 {
+    let alloc = *names.types.allocator();
     if written.len() == 0 {
         if !have_upper_case(&names.turn) {
             return Ok(Vec::new(alloc));

@@ -1,2 +1,3 @@
 pub mod NewRequirements
 pub mod NameOrder
+pub mod Uses

@@ -2,20 +2,19 @@
 ghost use Rattle.std.specs.Prelude.{◌≡◌, ◌↔◌, [], ◌++◌, List, Contains, map, OnOk, IfOk, IfErr, IsTrue, codes, string_bytes};
 ghost use Rattle.std.specs.List.{flat_map};
 ghost use Rattle.std.specs.Option.{option_copied, option_to_list};
-ghost use Rattle.wit_type_tree.specs.RefusalText.{IsAllocationFailure};
 ghost use Rattle.wit_type_tree.specs.declared.leaves.Id.{Id as TheId};
-ghost use Rattle.wit_syntax.specs.Address.{Address, InterfaceNamed};
+ghost use Rattle.wit_syntax.specs.Address.{InterfaceNamed};
 ghost use Rattle.wit_syntax.specs.Source.{ScopeName};
 ghost use Rattle.wit_syntax.specs.ScopeTables.{used, local_names};
 ghost use Rattle.wit_syntax.specs.Broken.{Refused};
-ghost use Rattle.wit_syntax.specs.Function.{SourceFunction};
 ghost use Rattle.wit_arena.specs.SourceFunctions.{freestanding_names};
 ghost use Rattle.wit_scopes.specs.DefinitionOrder.{IsUnstated};
 ghost use Rattle.wit_entries.specs.Requiring.{IsExtended};
 ghost use Rattle.wit_scopes.specs.BorrowedNames.{source_view, use_view, IsPlaced, ArePlaced};
 ghost use Rattle.wit_item_names.specs.ForeignAddresses.{prefix_of};
 ghost use Rattle.wit_items.specs.ResolvedInterfaces.{resolved_scopes_of};
-ghost use Rattle.wit_arena.specs.Resolving.{resolved_scope_at, env_of, free_functions, Defines, HasNames, IsFound, IsUnresolved, IsUsed, IsWrongUse, IsWrongScope, names_in};
+ghost use Rattle.wit_arena.specs.Resolving.{resolved_scope_at, env_of, free_functions, HasNames, IsFound, IsUnresolved, names_in};
+ghost use Rattle.wit_uses.specs.Uses.{AddsAllUsed, AddsUsed, HasWrongUse, IsWrongUsed};
 
 use std::alloc::{AllocError, Global};
 use wit_entries::entries::Entries;
@@ -120,11 +119,11 @@ fn resolve_use<'f, 'a>(
     scope: &mut Scope,
 ) -> ParseResult<()>
     requires placed { IsPlaced (prefix_of interfaces.now.files) used.now.from }
-    ensures used { OnOk result (IsUsed types.old types.new (resolved_scopes_of interfaces.now) scope.old.owner scope.old.names scope.new.names (source_view used.now.from) used.now.attributes.now used.now.name.now) }
+    ensures used { OnOk result (AddsUsed interfaces.now scope.old scope.new types.old types.new used.now) }
     ensures owner { OnOk result (scope.new.owner ≡ scope.old.owner) }
     ensures required { scope.new.required ≡ scope.old.required }
     ensures extended { OnOk result (IsExtended types.old types.new) }
-    ensures refused { IfErr result (Refused (IsWrongUse (resolved_scopes_of interfaces.now) interfaces.now.by_name scope.old.names (source_view used.now.from) used.now.attributes.now used.now.name.now)) }
+    ensures refused { IfErr result (Refused (IsWrongUsed interfaces.now scope.old used.now)) }
 {
     let name = used.name;
     let interface = used_interface(alloc, &used.from, interfaces)?;
@@ -153,13 +152,13 @@ pub fn resolve_uses<'f, 'a>(
 ) -> ParseResult<()>
     requires placed { ArePlaced (prefix_of interfaces.now.files) uses.now }
     requires empty { scope.old.names ≡ [] }
-    ensures defines { OnOk result ((s : Address) → Defines types.old types.new (resolved_scopes_of interfaces.now) scope.old.owner s scope.old.names scope.new.names (map use_view uses.now)) }
+    ensures defines { OnOk result (AddsAllUsed interfaces.now scope.old scope.new types.old types.new (map use_view uses.now)) }
     ensures owner { OnOk result (scope.new.owner ≡ scope.old.owner) }
     ensures listed { OnOk result (names_in scope.new.names ≡ local_names (map use_view uses.now)) }
     ensures required { scope.new.required ≡ scope.old.required }
     ensures has { OnOk result (HasNames (env_of scope.new.names) (map use_view uses.now)) }
     ensures extended { OnOk result (IsExtended types.old types.new) }
-    ensures refused { IfErr result (λ e. (xs : List ScopeName) → map use_view uses.now ≡ used xs → Refused (λ f. (fns : List SourceFunction) → IsWrongScope (resolved_scopes_of interfaces.now) interfaces.now.by_name xs fns f) e) }
+    ensures refused { IfErr result (λ e. (xs : List ScopeName) → map use_view uses.now ≡ used xs → Refused (HasWrongUse interfaces.now xs) e) }
 {
     for name in uses {
         resolve_use(alloc, name, types, interfaces, scope)?;

@@ -15,7 +15,8 @@ use Rattle.wit_items.specs.BorrowedItems.{scope_item}
 use Rattle.wit_links.specs.declared.inside.Counts.{Counts}
 use Rattle.wit_links.specs.SideCounts.{inline_of, inline_side}
 use Rattle.wit_links.proofs.Inlined.{names_own, names_within}
-use Rattle.wit_contents.specs.Walk.{AddsInside, IsSoundScope, IsWrongAmong, IsWrongInline, WrongClash, WrongInside, WrongMetadata, stage, walk_item}
+use Rattle.wit_item_entries.specs.Body.{IsSoundScope}
+use Rattle.wit_contents.specs.Walk.{AddsInside, IsWrongAmong, IsWrongInline, WrongClash, WrongInside, WrongMetadata, stage, walk_item}
 use Rattle.wit_contents.proofs.Members.{inline_here, member_inline}
 use Rattle.wit_contents.proofs.Walking.{wrong_one}
 use Rattle.wit_contents.proofs.walk.walk_inline.Goals as goal
