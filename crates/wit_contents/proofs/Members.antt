@@ -38,10 +38,9 @@ use Rattle.wit_items.specs.ResolvedInterfaces.{resolved_scopes_of}
 use Rattle.wit_world_sides.specs.Members.{Puts, bare_id}
 use Rattle.wit_links.specs.SideCounts.{IsSeen, inline_of, inline_side}
 use Rattle.wit_links.specs.Links.{IsLinkedTo}
-use Rattle.wit_contents.specs.declared.walk.Walk.{Walk}
 use Rattle.wit_contents.specs.declared.walk.Walked.{Walked}
 use Rattle.wit_item_entries.specs.Body.{IsSoundScope}
-use Rattle.wit_contents.specs.Walk.{AddsInside, AddsMembers, IsRight, Stage, lead, next_place, stage, walk_item}
+use Rattle.wit_contents.specs.Walk.{AddsInside, AddsMembers, IsRight, ItemWalk, Stage, lead, next_place, stage, walk_item}
 use Rattle.wit_contents.proofs.Adding.{sides_function, sides_inline, sides_link}
 
 -- nothing on one side or the other
@@ -70,12 +69,12 @@ inline_here i prefix x world place =
     ap (λ (n : ℕ). record { top = i.top; declared = TheInline (item_name i) n x.written.now x.name x.items.now } ∷ []) (sym place)
     ∙ ap (λ (n : List ℕ). record { top = i.top; declared = TheInline n x.place x.written.now x.name x.items.now } ∷ []) (sym world)
 
-module _ (w : Walk) (prefix : List SideItem) (a : Stage) where
+module _ (w : ItemWalk) (prefix : List SideItem) (a : Stage) where
   -- a function
-  pub member_function : (fn : SourceFunction) (made : Function) (place : ℕ) (types : List TypeDef) (m : Walked) → place ≡ length (flat_map item_function prefix) → ((s : Address) → AddsFunctions a.types types s w.scope.names.now (fn ∷ []) (made ∷ [])) → (made.name ≡ fn.name) × (made.span ≡ fn.span) → Requires (env_of w.scope.names.now) types (all_handles (written_types fn)) a.walked.required.items m.required.items → IsExtended a.types types → ((f : Fault) → IsBrokenFunction (scope_names (walk_item w)) (functions (walk_item w)) place fn f → IsNameless (scope_names (walk_item w)) (functions (walk_item w))) → Puts a.walked.members m.members (SideFunction fn) [] (function_item made) → ((ys : List SideItem) → IsSeen ys a.walked.seen → IsSeen (ys ++ SideFunction fn ∷ []) m.seen) → AddsMembers w prefix (SideFunction fn ∷ []) a (stage types a.inside m)
+  pub member_function : (fn : SourceFunction) (made : Function) (place : ℕ) (types : List TypeDef) (m : Walked) → place ≡ length (flat_map item_function prefix) → ((s : Address) → AddsFunctions a.types types s w.walk.scope.names.now (fn ∷ []) (made ∷ [])) → (made.name ≡ fn.name) × (made.span ≡ fn.span) → Requires (env_of w.walk.scope.names.now) types (all_handles (written_types fn)) a.walked.required.items m.required.items → IsExtended a.types types → ((f : Fault) → IsBrokenFunction (scope_names (walk_item w)) (functions (walk_item w)) place fn f → IsNameless (scope_names (walk_item w)) (functions (walk_item w))) → Puts a.walked.members m.members (SideFunction fn) [] (function_item made) → ((ys : List SideItem) → IsSeen ys a.walked.seen → IsSeen (ys ++ SideFunction fn ∷ []) m.seen) → AddsMembers w prefix (SideFunction fn ∷ []) a (stage types a.inside m)
   member_function fn made place types m count adds named handled extended legal put seen = record {
     functions = made ∷ [];
-    adds = record { own = handled.list; list = handled.added; holds = λ s. sides_function (resolved_scopes_of w.interfaces.now) (length w.interfaces.now.arena) s w.scope.names.now a.types types a.inside fn made handled.list (record { adds = adds s; ended = handled.ended }) };
+    adds = record { own = handled.list; list = handled.added; holds = λ s. sides_function (resolved_scopes_of w.walk.interfaces.now) (length w.walk.interfaces.now.arena) s w.walk.scope.names.now a.types types a.inside fn made handled.list (record { adds = adds s; ended = handled.ended }) };
     extended = extended;
     more = sym (add-zero (length a.inside));
     named = ap (λ n. n ∷ []) (same_name made fn named);
@@ -91,10 +90,10 @@ module _ (w : Walk) (prefix : List SideItem) (a : Stage) where
   }
 
   -- an interface by its path
-  pub member_link : (link : Link) (id : ℕ) (m : Walked) → ((f : Fault) → IsBrokenMetadata link.attributes f → ⊥) → IsLinkedTo w.interfaces.now.files w.interfaces.now.by_name (walk_item w).top link.path id → slice_get (interfaces_at (prefix_of w.interfaces.now.files) w.interfaces.now.arena) id ≡ Some (path_scope (walk_item w).top link.path) → m.required.items ≡ a.walked.required.items → Puts a.walked.members m.members (SideLink link) (bare_id link.name id) (link_item link id) → ((ys : List SideItem) → IsSeen ys a.walked.seen → IsSeen (ys ++ SideLink link ∷ []) m.seen) → AddsMembers w prefix (SideLink link ∷ []) a (stage a.types a.inside m)
+  pub member_link : (link : Link) (id : ℕ) (m : Walked) → ((f : Fault) → IsBrokenMetadata link.attributes f → ⊥) → IsLinkedTo w.walk.interfaces.now.files w.walk.interfaces.now.by_name (walk_item w).top link.path id → slice_get (interfaces_at (prefix_of w.walk.interfaces.now.files) w.walk.interfaces.now.arena) id ≡ Some (path_scope (walk_item w).top link.path) → m.required.items ≡ a.walked.required.items → Puts a.walked.members m.members (SideLink link) (bare_id link.name id) (link_item link id) → ((ys : List SideItem) → IsSeen ys a.walked.seen → IsSeen (ys ++ SideLink link ∷ []) m.seen) → AddsMembers w prefix (SideLink link ∷ []) a (stage a.types a.inside m)
   member_link link id m noted leads present required put seen = record {
     functions = [];
-    adds = record { own = []; list = required ∙ sym (append-nil a.walked.required.items); holds = λ s. sides_link (resolved_scopes_of w.interfaces.now) (length w.interfaces.now.arena) s w.scope.names.now a.types a.inside link };
+    adds = record { own = []; list = required ∙ sym (append-nil a.walked.required.items); holds = λ s. sides_link (resolved_scopes_of w.walk.interfaces.now) (length w.walk.interfaces.now.arena) s w.walk.scope.names.now a.types a.inside link };
     extended = record { more = []; is = sym (append-nil a.types) };
     more = sym (add-zero (length a.inside));
     named = refl;
@@ -104,22 +103,22 @@ module _ (w : Walk) (prefix : List SideItem) (a : Stage) where
     keyed = put.keyed;
     are_present = λ all places s. record { more = put_on s link.side (link_item link id) []; put = put.put s; are = (id, [], places.interfaces id _ present, refl, refl) };
     legal = λ k fn at f broken. absurd (let wrong : ⊥ = cc in wrong);
-    right = λ x among. subst (IsRight w) (contains_one (SideLink link) x among) (record { noted = noted; leads = λ l is. (id, subst (λ (k : Link). IsLinkedTo w.interfaces.now.files w.interfaces.now.by_name (walk_item w).top k.path id) (let same : link ≡ l = cc in same) leads) });
+    right = λ x among. subst (IsRight w) (contains_one (SideLink link) x among) (record { noted = noted; leads = λ l is. (id, subst (λ (k : Link). IsLinkedTo w.walk.interfaces.now.files w.walk.interfaces.now.by_name (walk_item w).top k.path id) (let same : link ≡ l = cc in same) leads) });
     sound = record { sound = λ k u f at broken. absurd (let wrong : ⊥ = cc in wrong) };
     sided = record { legal = λ k u f at broken. (let wrong : ⊥ = cc in wrong) };
   }
 
   -- an inline interface
-  pub member_inline : (x : InlineInterface) (u : Item) (types : List TypeDef) (inside : List Interface) (m : Walked) → inline_after (walk_item w) prefix (inline_side x ∷ []) ≡ u ∷ [] → AddsInside w a.types types a.inside inside a.walked.required.items m.required.items u → IsExtended a.types types → ((f : Fault) → IsBrokenMetadata x.written.now.attributes.items f → ⊥) → IsSoundScope u → ((f : Fault) → IsBrokenSides u f → ⊥) → Puts a.walked.members m.members (inline_side x) [] (inline_entry x.written.now x.name (next_place w a.inside)) → ((ys : List SideItem) → IsSeen ys a.walked.seen → IsSeen (ys ++ inline_side x ∷ []) m.seen) → AddsMembers w prefix (inline_side x ∷ []) a (stage types inside m)
+  pub member_inline : (x : InlineInterface) (u : Item) (types : List TypeDef) (inside : List Interface) (m : Walked) → inline_after (walk_item w) prefix (inline_side x ∷ []) ≡ u ∷ [] → AddsInside w.walk.interfaces.now a.types types a.inside inside a.walked.required.items m.required.items u → IsExtended a.types types → ((f : Fault) → IsBrokenMetadata x.written.now.attributes.items f → ⊥) → IsSoundScope u → ((f : Fault) → IsBrokenSides u f → ⊥) → Puts a.walked.members m.members (inline_side x) [] (inline_entry x.written.now x.name (next_place w.walk.interfaces.now a.inside)) → ((ys : List SideItem) → IsSeen ys a.walked.seen → IsSeen (ys ++ inline_side x ∷ []) m.seen) → AddsMembers w prefix (inline_side x ∷ []) a (stage types inside m)
   member_inline x u types inside m own step extended noted sound sided put seen = record {
     functions = [];
     adds = record {
       own = step.appends.own;
       list = step.appends.list;
       holds = λ s.
-          let cs = resolved_scopes_of w.interfaces.now in
-          let count = length w.interfaces.now.arena in
-          let names = w.scope.names.now in
+          let cs = resolved_scopes_of w.walk.interfaces.now in
+          let count = length w.walk.interfaces.now.arena in
+          let names = w.walk.scope.names.now in
           let one = sides_inline cs count s names a.types types a.inside step.added step.appends.own x.written.now x.name x.items.now u step.appends.holds in
           subst (λ (us : List Item). AddsSides cs count s names a.types types a.inside inside [] step.appends.own (inline_side x ∷ []) us) (sym own) (
           subst (λ (l : List Interface). AddsSides cs count s names a.types types a.inside l [] step.appends.own (inline_side x ∷ []) (u ∷ [])) (sym step.last) one);
@@ -132,7 +131,7 @@ module _ (w : Walk) (prefix : List SideItem) (a : Stage) where
     linked = λ s. put.linked s ∙ ap (λ (l : List ℕ). linked_on s a.walked.members.links ++ l) (none_either [] (same_side s (item_side (inline_side x))) ∙ kept_nothing (bare_place (lead w)) (λ y. same_side s (item_side y)) (inline_side x) refl);
     keyed = put.keyed;
     are_present = λ all places s.
-        let id = next_place w a.inside in
+        let id = next_place w.walk.interfaces.now a.inside in
         let e = inline_entry x.written.now x.name id in
         let there : slice_get all (id + 0) ≡ Some (address u) = places.inline 0 (address u) (ap (λ (us : List Item). slice_get (map address us) 0) own) in
         let at : slice_get all id ≡ Some (address u) = subst (λ (n : ℕ). slice_get all n ≡ Some (address u)) (add-zero id) there in

@@ -8,21 +8,22 @@ use Rattle.wit_type_tree.specs.declared.leaves.Id.{Id}
 use Rattle.wit_type_tree.specs.declared.types.ResourceFunc.{ResourceFunc}
 use Rattle.wit_type_tree.specs.declared.types.TypeBody.{TypeBody}
 use Rattle.wit_type_tree.specs.declared.types.TypeBody.TheVariants as body
+use Rattle.wit_tree.specs.declared.tree.World.{World}
 use Rattle.wit_tree.specs.declared.tree.WorldItem.{WorldItem}
 use Rattle.wit_syntax.specs.Function.{definition_functions, resource_function}
 use Rattle.wit_syntax.specs.Sides.{SideItem, SideFunction, part_items, side_items}
-use Rattle.wit_syntax.specs.Source.{Declared, about, world_part}
+use Rattle.wit_syntax.specs.Source.{Declared, TheWorld, about, world_part}
+use Rattle.wit_items.specs.BorrowedItems.{declared_view}
 use Rattle.wit_externs.proofs.Steps.{split_at, used_next}
-use Rattle.wit_contents.specs.declared.walk.Walk.{Walk}
-use Rattle.wit_contents.specs.Walk.{IsWalk, resource_items, walk_item}
+use Rattle.wit_contents.specs.Walk.{ItemWalk, resource_items, walk_item}
 
 -- what parts of a world are on its sides
 abbrev pub world_sides : List WorldItem → List SideItem
 world_sides xs = flat_map part_items (map world_part xs)
 
 -- those of the world are what the item has on its sides
-pub all_sides : (w : Walk) (xs : List WorldItem) → IsWalk w → xs ≡ w.world.now.items.items → side_items (walk_item w) ≡ world_sides xs
-all_sides w xs is same = ap (λ (d : Declared). flat_map part_items (about d).parts) is.world ∙ ap world_sides (sym same)
+pub all_sides : (w : ItemWalk) (world : World) (xs : List WorldItem) → declared_view w.item.declared ≡ TheWorld world → xs ≡ world.items.items → side_items (walk_item w) ≡ world_sides xs
+all_sides w world xs is same = ap (λ (d : Declared). flat_map part_items (about d).parts) is ∙ ap world_sides (sym same)
 
 -- those before a part, its own, and those after it
 pub parts_split : (xs : List WorldItem) (k : ℕ) (x : WorldItem) → slice_get xs k ≡ Some x → world_sides xs ≡ world_sides (take k xs) ++ (part_items (world_part x) ++ world_sides (drop (k + 1) xs))

@@ -37,9 +37,8 @@ use Rattle.wit_links.proofs.Leading.{addresses_count}
 use Rattle.wit_item_entries.specs.AddedNames.{AddsTurn}
 use Rattle.wit_item_entries.proofs.ScopeFunctions.{scope_sound}
 use Rattle.wit_contents.specs.AddedWorlds.{IsRightWorld, arenas}
-use Rattle.wit_contents.specs.declared.walk.Walk.{Walk}
 use Rattle.wit_contents.specs.declared.walk.Walked.{Walked}
-use Rattle.wit_contents.specs.Walk.{AddsAll, HavePlaces, IsWalk, lead, walk_item}
+use Rattle.wit_contents.specs.Walk.{AddsAll, HavePlaces, IsWalk, ItemWalk, lead, walk_item}
 use Rattle.wit_contents.proofs.ItemSides.{sides_legal}
 use Rattle.wit_contents.proofs.Linking.{links_usable}
 
@@ -79,18 +78,18 @@ world_stable w own stable f (OwnStability h) = own f h
 world_stable w own stable f (OfInclude i among h) = stable.each i among f h
 
 -- what a world adds, where its names and what is on its sides were added
-module _ (w : Walk) (others : List Address) (ws : List World) (old middle new : List TypeDef) (inside now : List Interface) (required : List Required) (m : Walked) (is : IsWalk w) (n : AddsTurn old middle (resolved_scopes_of w.interfaces.now) (owner.World (length ws)) (scope_names (walk_item w)) w.scope.names.now w.turn.now required) (all : AddsAll w middle new inside now m) where
+module _ (w : ItemWalk) (others : List Address) (ws : List World) (old middle new : List TypeDef) (inside now : List Interface) (required : List Required) (m : Walked) (is : IsWalk w) (n : AddsTurn old middle (resolved_scopes_of w.walk.interfaces.now) (owner.World (length ws)) (scope_names (walk_item w)) w.walk.scope.names.now w.walk.turn.now required) (all : AddsAll w middle new inside now m) where
   abbrev item : Item
   item = walk_item w
 
   abbrev foreign : List Address
-  foreign = prefix_of w.interfaces.now.files
+  foreign = prefix_of w.walk.interfaces.now.files
 
   abbrev interfaces : List Interface
-  interfaces = w.interfaces.now.arena
+  interfaces = w.walk.interfaces.now.arena
 
   -- the names on its sides differ
-  differ : DifferOnSides w.turn.now (side_items item)
+  differ : DifferOnSides w.walk.turn.now (side_items item)
   differ side = subst (λ (l : List Name). AllDiffer (map name_key l)) (all.adds.in_use side ∙ ap (λ (l : List Name). l ++ names_of_items (items_on side (side_items item))) (all.is.in_use side)) (all.adds.keyed.differ side)
 
   pub extended : length now ≡ length inside + length (inline_items item)
@@ -103,12 +102,12 @@ module _ (w : Walk) (others : List Address) (ws : List World) (old middle new : 
       all.adds.legal k fn (ap (λ (l : List SourceFunction). slice_get l k) (sym (functions_items item)) ∙ at) f (subst (λ (j : ℕ). IsBrokenFunction (scope_names item) (functions item) j fn f) place broken)
 
   -- no rule is broken there, nor in what is written there
-  pub right_world : ((f : Fault) → IsBrokenItemStability item f → ⊥) → ((f : Fault) → IsBrokenScope (scope_names item) (functions item) f → IsOfFunctions (scope_names item) (functions item) f) → IsRightWorld w.interfaces.now.files item
+  pub right_world : ((f : Fault) → IsBrokenItemStability item f → ⊥) → ((f : Fault) → IsBrokenScope (scope_names item) (functions item) f → IsOfFunctions (scope_names item) (functions item) f) → IsRightWorld w.walk.interfaces.now.files item
   right_world stable legal = record {
     stable = stable;
     sound = sounds_all item (inline_items item) (scope_sound (scope_names item) (functions item) legal legal_at) all.adds.sound;
-    sided = sides_all item (inline_items item) (sides_legal item w.turn.now is.turn differ (λ x among. (all.adds.right x among).noted)) all.adds.sided;
-    linked = links_usable w.interfaces.now.files interfaces w.interfaces.now.by_name w.interfaces.now.prefix w.interfaces.now.found item (λ link among. (all.adds.right (SideLink link) among).leads link refl) (λ side. subst AllDiffer (all.adds.linked side ∙ ap (λ (l : List ℕ). l ++ bare_places (lead w) (items_on side (side_items item))) (all.is.linked side)) (all.adds.keyed.apart side));
+    sided = sides_all item (inline_items item) (sides_legal item w.walk.turn.now is.turn differ (λ x among. (all.adds.right x among).noted)) all.adds.sided;
+    linked = links_usable w.walk.interfaces.now.files interfaces w.walk.interfaces.now.by_name w.walk.interfaces.now.prefix w.walk.interfaces.now.found item (λ link among. (all.adds.right (SideLink link) among).leads link refl) (λ side. subst AllDiffer (all.adds.linked side ∙ ap (λ (l : List ℕ). l ++ bare_places (lead w) (items_on side (side_items item))) (all.is.linked side)) (all.adds.keyed.apart side));
   }
 
   pub content_adds : (added : World) (ss : List Address) → length ss ≡ length inside → IsWorld (about item.declared).id.name.now (about item.declared).id.span (declared_metadata item.declared) added → added.imports ≡ settled (includes item) m.members.sides.imports → added.exports ≡ settled (includes item) m.members.sides.exports → AreIncludes (worlds_at others ws) item added.includes → ((f : Fault) → IsSetterAlone item f → ⊥) → AddsWorld foreign others interfaces old new (arenas ws inside ss) (arenas (ws ++ added ∷ []) now (ss ++ map address (inline_items item))) (required ++ m.required.items) item
@@ -116,7 +115,7 @@ module _ (w : Walk) (others : List Address) (ws : List World) (old middle new : 
       let order = n.adds.order in
       let us = map address (inline_items item) in
       let total = interfaces_at foreign interfaces ++ (ss ++ us) in
-      let counted = addresses_count foreign interfaces w.interfaces.now.prefix in
+      let counted = addresses_count foreign interfaces w.walk.interfaces.now.prefix in
       let places : HavePlaces w inside (inline_items item) total = record {
         interfaces = λ p s at. at_prefix (interfaces_at foreign interfaces) (ss ++ us) p s at;
         inline = inline_present foreign interfaces inside ss item counted known;
@@ -129,7 +128,7 @@ module _ (w : Walk) (others : List Address) (ws : List World) (old middle new : 
         last = refl;
         more = refl;
         says = says;
-        types = w.scope.names.now;
+        types = w.walk.scope.names.now;
         middle = middle;
         adds = n.adds;
         own = n.handled.list;

@@ -31,8 +31,7 @@ use Rattle.wit_items.specs.ResolvedInterfaces.{resolved_scopes_of}
 use Rattle.wit_world_sides.specs.Members.{AreKeyed, Entry}
 use Rattle.wit_world_sides.specs.FilledSides.{entries_of}
 use Rattle.wit_links.specs.SideCounts.{IsSeen}
-use Rattle.wit_contents.specs.declared.walk.Walk.{Walk}
-use Rattle.wit_contents.specs.Walk.{AddsMembers, HasMore, HavePlaces, IsNext, IsWrongAmong, IsWrongMember, Stage, lead, next_place, walk_item}
+use Rattle.wit_contents.specs.Walk.{AddsMembers, HasMore, HavePlaces, IsNext, IsWrongAmong, IsWrongMember, ItemWalk, Stage, lead, next_place, walk_item}
 use Rattle.wit_contents.proofs.Adding.{sides_none, sides_then}
 use Rattle.wit_contents.proofs.WorldsMore.{sides_both, sounds_both}
 
@@ -72,7 +71,7 @@ items_then is top side (SideInline x name items ∷ xs) ys fs gs (s ∷ ss) ts a
 names_then : (s : WorldSide) (xs ys : List SideItem) → names_of_items (items_on s (xs ++ ys)) ≡ names_of_items (items_on s xs) ++ names_of_items (items_on s ys)
 names_then s xs ys = ap names_of_items (filter-append (λ x. same_side s (item_side x)) xs ys) ∙ flat_map-append item_names (items_on s xs) (items_on s ys)
 
-module _ (w : Walk) where
+module _ (w : ItemWalk) where
   places_then : (s : WorldSide) (xs ys : List SideItem) → bare_places (lead w) (items_on s (xs ++ ys)) ≡ bare_places (lead w) (items_on s xs) ++ bare_places (lead w) (items_on s ys)
   places_then s xs ys = ap (bare_places (lead w)) (filter-append (λ x. same_side s (item_side x)) xs ys) ∙ flat_map-append (bare_place (lead w)) (items_on s xs) (items_on s ys)
 
@@ -80,7 +79,7 @@ module _ (w : Walk) where
   pub members_none : (prefix : List SideItem) (a : Stage) → AreKeyed a.walked.members → AddsMembers w prefix [] a a
   members_none prefix a keyed = record {
     functions = [];
-    adds = record { own = []; list = sym (append-nil a.walked.required.items); holds = λ s. sides_none (resolved_scopes_of w.interfaces.now) (length w.interfaces.now.arena) s w.scope.names.now a.types a.inside [] };
+    adds = record { own = []; list = sym (append-nil a.walked.required.items); holds = λ s. sides_none (resolved_scopes_of w.walk.interfaces.now) (length w.walk.interfaces.now.arena) s w.walk.scope.names.now a.types a.inside [] };
     extended = record { more = []; is = sym (append-nil a.types) };
     more = sym (add-zero (length a.inside));
     named = refl;
@@ -120,10 +119,10 @@ module _ (w : Walk) where
     functions_both : flat_map item_function (xs ++ ys) ≡ flat_map item_function xs ++ flat_map item_function ys
     functions_both = flat_map-append item_function xs ys
 
-    adds_both : (s : Address) → AddsSides (resolved_scopes_of w.interfaces.now) (length w.interfaces.now.arena) s w.scope.names.now a.types c.types a.inside c.inside (p.functions ++ q.functions) (p.adds.own ++ q.adds.own) (xs ++ ys) all_inline
+    adds_both : (s : Address) → AddsSides (resolved_scopes_of w.walk.interfaces.now) (length w.walk.interfaces.now.arena) s w.walk.scope.names.now a.types c.types a.inside c.inside (p.functions ++ q.functions) (p.adds.own ++ q.adds.own) (xs ++ ys) all_inline
     adds_both s =
-        let both = sides_then (resolved_scopes_of w.interfaces.now) (length w.interfaces.now.arena) s w.scope.names.now a.types b.types c.types a.inside b.inside c.inside p.functions q.functions p.adds.own q.adds.own xs ys us vs given (p.adds.holds s) (q.adds.holds s) in
-        subst (λ (l : List Item). AddsSides (resolved_scopes_of w.interfaces.now) (length w.interfaces.now.arena) s w.scope.names.now a.types c.types a.inside c.inside (p.functions ++ q.functions) (p.adds.own ++ q.adds.own) (xs ++ ys) l) (sym inline_both) both
+        let both = sides_then (resolved_scopes_of w.walk.interfaces.now) (length w.walk.interfaces.now.arena) s w.walk.scope.names.now a.types b.types c.types a.inside b.inside c.inside p.functions q.functions p.adds.own q.adds.own xs ys us vs given (p.adds.holds s) (q.adds.holds s) in
+        subst (λ (l : List Item). AddsSides (resolved_scopes_of w.walk.interfaces.now) (length w.walk.interfaces.now.arena) s w.walk.scope.names.now a.types c.types a.inside c.inside (p.functions ++ q.functions) (p.adds.own ++ q.adds.own) (xs ++ ys) l) (sym inline_both) both
 
     present_both : (all : List Address) → HavePlaces w a.inside all_inline all → (s : WorldSide) → HasMore all w s (xs ++ ys) (p.functions ++ q.functions) all_inline (entries_of s a.walked.members.sides) (entries_of s c.walked.members.sides)
     present_both all places s =
@@ -137,7 +136,7 @@ module _ (w : Walk) where
           inline = λ k r at. (
               let there = places.inline (length (map address us) + k) r (ap (λ (l : List Address). slice_get l (length (map address us) + k)) named ∙ at_back (map address us) (map address vs) k r at) in
               let long : length (map address us) ≡ length us = length-map us address in
-              let place : next_place w a.inside + (length (map address us) + k) ≡ next_place w b.inside + k = omega (arith, long, given, p.more) in
+              let place : next_place w.walk.interfaces.now a.inside + (length (map address us) + k) ≡ next_place w.walk.interfaces.now b.inside + k = omega (arith, long, given, p.more) in
               subst (λ (n : ℕ). slice_get all n ≡ Some r) place there);
         }) s in
         let count : length (map address us) ≡ length (flat_map item_inline xs) = length-map us address ∙ given in

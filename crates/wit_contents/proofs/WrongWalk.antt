@@ -33,12 +33,11 @@ use Rattle.wit_item_entries.specs.AddedNames.{AddsTurn}
 use Rattle.wit_item_entries.proofs.FunctionFaults.{clash_broken, prefix_folded}
 use Rattle.wit_item_entries.proofs.ScopeFunctions.{wrong_function}
 use Rattle.wit_item_entries.proofs.WrongNames.{wrong_world}
-use Rattle.wit_contents.specs.declared.walk.Walk.{Walk}
 use Rattle.wit_contents.specs.declared.walk.Walked.{Walked}
-use Rattle.wit_contents.specs.Walk.{IsStart, IsWalk, IsWrongAmong, IsWrongInline, IsWrongMember, IsWrongWalk, WrongAgain, WrongClash, WrongFunction, WrongInside, WrongNames, WrongMetadata, WrongPath, WrongSetter, WrongSides, lead, stage, walk_item}
+use Rattle.wit_contents.specs.Walk.{IsStart, IsWalk, IsWrongAmong, IsWrongInline, IsWrongMember, IsWrongWalk, ItemWalk, WrongAgain, WrongClash, WrongFunction, WrongInside, WrongMetadata, WrongNames, WrongPath, WrongSetter, WrongSides, lead, stage, walk_item}
 use Rattle.wit_contents.proofs.Linking.{linked_twice, wrong_path}
 
-module _ (w : Walk) (old middle : List TypeDef) (inside : List Interface) (worlds : Names) (o : TypeOwner) (required : List Required) (is : IsWalk w) (n : AddsTurn old middle (resolved_scopes_of w.interfaces.now) o (scope_names (walk_item w)) w.scope.names.now w.turn.now required) where
+module _ (w : ItemWalk) (old middle : List TypeDef) (inside : List Interface) (worlds : Names) (o : TypeOwner) (required : List Required) (is : IsWalk w) (n : AddsTurn old middle (resolved_scopes_of w.walk.interfaces.now) o (scope_names (walk_item w)) w.walk.scope.names.now w.walk.turn.now required) where
   abbrev item : Item
   item = walk_item w
 
@@ -47,7 +46,7 @@ module _ (w : Walk) (old middle : List TypeDef) (inside : List Interface) (world
 
   -- what is wrong with the world
   abbrev Wrong : Fault → Type 0
-  Wrong f = IsWrongWorld w.interfaces.now.files old (resolved_scopes_of w.interfaces.now) (length w.interfaces.now.arena) inside w.interfaces.now.by_name worlds o item f
+  Wrong f = IsWrongWorld w.walk.interfaces.now.files old (resolved_scopes_of w.walk.interfaces.now) (length w.walk.interfaces.now.arena) inside w.walk.interfaces.now.by_name worlds o item f
 
   module _ (start : Walked) (begun : IsStart w start) (f : Fault) (h : IsWrongAmong w [] all (stage middle inside start) f) where
     at : slice_get all (length h.done) ≡ Some h.x
@@ -62,13 +61,13 @@ module _ (w : Walk) (old middle : List TypeDef) (inside : List Interface) (world
         let first : WorldSide → List Name = λ s. defined_on s start.members.in_use in
         let now : WorldSide → List Name = λ s. defined_on s h.now.walked.members.in_use in
         let before : (s : WorldSide) → now s ≡ first s ++ names_of_items (items_on s (take (length h.done) all)) = λ s. h.adds.in_use s ∙ ap (λ (l : List SideItem). first s ++ names_of_items (items_on s l)) (sym prefix) in
-        elim (clash_broken (scope_names item) all w.turn.now first f is.turn begun.in_use (clash_whole first now all (length h.done) h.x f at before clash)) [
+        elim (clash_broken (scope_names item) all w.walk.turn.now first f is.turn begun.in_use (clash_whole first now all (length h.done) h.x f at before clash)) [
           | inl folded ↦ WrongWorldSides (FoldedTwice folded)
           | inr crossed ↦ WrongWorldSides (CrossedTwice crossed)
         ]
 
     -- its interface is on its side
-    wrong_again : (link : Link) (id : ℕ) → h.x ≡ SideLink link → link.name ≡ None → IsLinkedTo w.interfaces.now.files w.interfaces.now.by_name item.top link.path id → IsLinked (linked_on link.side h.now.walked.members.links) id (path_id link.path).span f → Wrong f
+    wrong_again : (link : Link) (id : ℕ) → h.x ≡ SideLink link → link.name ≡ None → IsLinkedTo w.walk.interfaces.now.files w.walk.interfaces.now.by_name item.top link.path id → IsLinked (linked_on link.side h.now.walked.members.links) id (path_id link.path).span f → Wrong f
     wrong_again link id same bare leads linked =
         let side = link.side in
         let before = items_on side h.done in
@@ -92,13 +91,13 @@ module _ (w : Walk) (old middle : List TypeDef) (inside : List Interface) (world
           among = subst (λ (l : List SideItem). Contains (bare_places (lead w) l) id) (sym in_use) (subst (λ (l : List ℕ). Contains l id) there linked.among);
           is = linked.is;
         } in
-        WrongLinks (linked_twice w.interfaces.now.files w.interfaces.now.arena w.interfaces.now.by_name w.interfaces.now.prefix w.interfaces.now.found item f again leads.0)
+        WrongLinks (linked_twice w.walk.interfaces.now.files w.walk.interfaces.now.arena w.walk.interfaces.now.by_name w.walk.interfaces.now.prefix w.walk.interfaces.now.found item f again leads.0)
 
     -- it is an inline interface that is wrong
-    wrong_inside : (u : Item) → inline_after item ([] ++ h.done) (h.x ∷ []) ≡ u ∷ [] → IsWrongInline w h.now.types h.now.inside u f → Wrong f
+    wrong_inside : (u : Item) → inline_after item ([] ++ h.done) (h.x ∷ []) ≡ u ∷ [] → IsWrongInline w.walk.interfaces.now h.now.types h.now.inside u f → Wrong f
     wrong_inside u own wrong =
-        let cs = resolved_scopes_of w.interfaces.now in
-        let count = length w.interfaces.now.arena in
+        let cs = resolved_scopes_of w.walk.interfaces.now in
+        let count = length w.walk.interfaces.now.arena in
         let before = inline_after item [] h.done in
         let rest_after = inline_after item (h.done ++ h.x ∷ []) h.rest in
         let long : length before ≡ length (flat_map item_inline h.done) = length-inline_after item [] h.done in
@@ -109,8 +108,8 @@ module _ (w : Walk) (old middle : List TypeDef) (inside : List Interface) (world
         ∙ ap (λ (l : List Item). before ++ (l ++ rest_after)) own
         in
         let in_use : take (length before) (inline_items item) ≡ before = ap (take (length before)) split ∙ take_seam before (u ∷ rest_after) in
-        let sides = subst (λ (us : List Item). AddsSides cs count (address item) w.scope.names.now middle h.now.types inside h.now.inside h.adds.functions h.adds.adds.own (take (length h.done) all) us) (sym in_use) (subst (λ (xs : List SideItem). AddsSides cs count (address item) w.scope.names.now middle h.now.types inside h.now.inside h.adds.functions h.adds.adds.own xs before) (sym prefix) (h.adds.adds.holds (address item))) in
-        let inner : IsWrongInside middle cs count inside w.interfaces.now.by_name w.scope.names.now (address item) all (inline_items item) f = record {
+        let sides = subst (λ (us : List Item). AddsSides cs count (address item) w.walk.scope.names.now middle h.now.types inside h.now.inside h.adds.functions h.adds.adds.own (take (length h.done) all) us) (sym in_use) (subst (λ (xs : List SideItem). AddsSides cs count (address item) w.walk.scope.names.now middle h.now.types inside h.now.inside h.adds.functions h.adds.adds.own xs before) (sym prefix) (h.adds.adds.holds (address item))) in
+        let inner : IsWrongInside middle cs count inside w.walk.interfaces.now.by_name w.walk.scope.names.now (address item) all (inline_items item) f = record {
           place = length h.done;
           done = length before;
           mid = h.now.types;
@@ -123,12 +122,12 @@ module _ (w : Walk) (old middle : List TypeDef) (inside : List Interface) (world
           next = ap (λ (l : List Item). slice_get l (length before)) split ∙ at_middle before u rest_after;
           wrong = wrong;
         } in
-        WrongInline (record { types = w.scope.names.now; middle = middle; adds = n.adds; wrong = inner })
+        WrongInline (record { types = w.walk.scope.names.now; middle = middle; adds = n.adds; wrong = inner })
 
     wrong_member : IsWrongMember w ([] ++ h.done) h.x h.now f → Wrong f
-    wrong_member (WrongFunction mid extended wrong) = wrong_world w.interfaces.now.files old (resolved_scopes_of w.interfaces.now) (length w.interfaces.now.arena) inside w.interfaces.now.by_name worlds o item f (wrong_function old middle mid (resolved_scopes_of w.interfaces.now) w.interfaces.now.by_name o item w.scope.names.now w.turn.now required f n (extended_then middle h.now.types mid h.adds.extended extended) wrong)
+    wrong_member (WrongFunction mid extended wrong) = wrong_world w.walk.interfaces.now.files old (resolved_scopes_of w.walk.interfaces.now) (length w.walk.interfaces.now.arena) inside w.walk.interfaces.now.by_name worlds o item f (wrong_function old middle mid (resolved_scopes_of w.walk.interfaces.now) w.walk.interfaces.now.by_name o item w.walk.scope.names.now w.walk.turn.now required f n (extended_then middle h.now.types mid h.adds.extended extended) wrong)
     wrong_member (WrongMetadata broken) = WrongWorldSides (InterfaceMetadata h.x (contains_at all (length h.done) h.x at) broken)
-    wrong_member (WrongPath link same wrong) = wrong_path w.interfaces.now.files old (resolved_scopes_of w.interfaces.now) (length w.interfaces.now.arena) inside w.interfaces.now.by_name worlds o item (length h.done) link f (at ∙ ap Some same) wrong
+    wrong_member (WrongPath link same wrong) = wrong_path w.walk.interfaces.now.files old (resolved_scopes_of w.walk.interfaces.now) (length w.walk.interfaces.now.arena) inside w.walk.interfaces.now.by_name worlds o item (length h.done) link f (at ∙ ap Some same) wrong
     wrong_member (WrongClash clash) = wrong_clash clash
     wrong_member (WrongAgain link id same bare leads linked) = wrong_again link id same bare leads linked
     wrong_member (WrongInside u own wrong) = wrong_inside u own wrong
@@ -137,6 +136,6 @@ module _ (w : Walk) (old middle : List TypeDef) (inside : List Interface) (world
     wrong_among = wrong_member h.wrong
 
   pub wrong_walk : (f : Fault) → IsWrongWalk w middle inside f → Wrong f
-  wrong_walk f (WrongNames twice) = WrongWorldSides (FoldedTwice (prefix_folded (scope_names item) all w.turn.now f is.turn twice))
+  wrong_walk f (WrongNames twice) = WrongWorldSides (FoldedTwice (prefix_folded (scope_names item) all w.walk.turn.now f is.turn twice))
   wrong_walk f (WrongSides start begun h) = wrong_among start begun f h
   wrong_walk f (WrongSetter alone) = UnpairedOnSide alone

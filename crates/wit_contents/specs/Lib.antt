@@ -3,3 +3,4 @@ pub mod AddedInterfaces
 pub mod AddedWorlds
 pub mod Outer
 pub mod Walk
+pub mod WorldWalk

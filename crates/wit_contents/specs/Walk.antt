@@ -1,5 +1,5 @@
 -- What the imports and exports of a world add, one after another after its names, and what may be wrong with one of them.
-use Rattle.std.specs.Prelude.{◌≡◌, ◌+◌, ◌++◌, ◌∷◌, [], ℕ, Contains, List, None, Option, length, map, slice_get, Some}
+use Rattle.std.specs.Prelude.{◌≡◌, ◌+◌, ◌++◌, ◌∷◌, [], ℕ, Contains, List, None, Option, length, map, slice_get, Some, true}
 use Rattle.std.specs.List.{flat_map}
 use Rattle.wit_type_tree.specs.declared.error.ParseError.{ParseError}
 use Rattle.wit_type_tree.specs.declared.leaves.Id.{Id}
@@ -17,7 +17,7 @@ use Rattle.wit_syntax.specs.Function.{SourceFunction, functions as the_functions
 use Rattle.wit_syntax.specs.Metadata.{IsBrokenMetadata}
 use Rattle.wit_syntax.specs.SignatureRules.{IsBrokenFunction}
 use Rattle.wit_syntax.specs.Sides.{Link, SideFunction, SideItem, SideLink, inline_after, interface_attributes, item_function, item_inline, items_on, names_on, side_items}
-use Rattle.wit_syntax.specs.Source.{Item, ScopeName, TheWorld, address, local_id, path_id, scope_names}
+use Rattle.wit_syntax.specs.Source.{Item, ScopeName, address, is_world, local_id, path_id, scope_names}
 use Rattle.wit_arena.specs.Resolving.{Required, env_of, names_in}
 use Rattle.wit_arena.specs.ResolvedArenas.{AddsInterface, AddsSides, AreLegalSides, AreSoundScopes, IsNameless, IsWrongInterface, interfaces_at}
 use Rattle.wit_arena.specs.SideItems.{AreSideItems}
@@ -32,7 +32,9 @@ use Rattle.wit_externs.specs.Next.{IsLinked, linked_on}
 use Rattle.wit_item_names.specs.ForeignAddresses.{prefix_of}
 use Rattle.wit_items.specs.Gathered.{IsItemOf}
 use Rattle.wit_items.specs.ResolvedInterfaces.{resolved_scopes_of}
-use Rattle.wit_items.specs.BorrowedItems.{declared_view, item_view}
+use Rattle.wit_items.specs.BorrowedItems.{item_view}
+use Rattle.wit_items.specs.declared.interfaces.Interfaces.{Interfaces}
+use Rattle.wit_items.specs.declared.items.Item.{Item as BorrowedItem}
 use Rattle.wit_world_sides.specs.Members.{AreKeyed, Entry}
 use Rattle.wit_world_sides.specs.FilledSides.{entries_of}
 use Rattle.wit_links.specs.SideCounts.{IsSeen}
@@ -42,27 +44,35 @@ use Rattle.wit_uses.specs.NewRequirements.{Appends}
 use Rattle.wit_contents.specs.declared.walk.Walk.{Walk}
 use Rattle.wit_contents.specs.declared.walk.Walked.{Walked}
 
+-- an item, and what its imports and exports are resolved in
+pub record ItemWalk : Type 0 where
+  pub item : BorrowedItem
+  pub walk : Walk
+
+abbrev pub walk_of : BorrowedItem → Walk → ItemWalk
+walk_of item walk = record { item = item; walk = walk }
+
 -- the item whose imports and exports are resolved
-abbrev pub walk_item : Walk → Item
-walk_item w = item_view w.item.now
+abbrev pub walk_item : ItemWalk → Item
+walk_item w = item_view w.item
 
 -- the place of the interface that a path of it leads to
-abbrev pub lead : Walk → UsePath → Option ℕ
-lead w = path_place w.interfaces.now.files w.interfaces.now.by_name (walk_item w).top
+abbrev pub lead : ItemWalk → UsePath → Option ℕ
+lead w = path_place w.walk.interfaces.now.files w.walk.interfaces.now.by_name (walk_item w).top
 
 -- the first place of an inline interface after so many
-abbrev pub next_place : Walk → List Interface → ℕ
-next_place w inside = length w.interfaces.now.arena + length inside
+abbrev pub next_place : Interfaces → List Interface → ℕ
+next_place is inside = length is.arena + length inside
 
--- it is this world, an item of the files whose interfaces are resolved, and its functions are those of a scope of its names, which are these in turn
-pub record IsWalk (w : Walk) : Type 0 where
-  pub item : IsItemOf w.interfaces.now.files w.item.now
-  pub world : declared_view w.item.now.declared ≡ TheWorld w.world.now
-  pub functions : functions_view w.scope ≡ the_functions (walk_item w)
-  pub owners : HaveOwners (env_of w.scope.names.now) (functions_view w.scope)
-  pub scoped : IsScopeOf w.scope (scope_names (walk_item w))
-  pub turn : IsTurn (scope_names (walk_item w)) w.turn.now
-  pub listed : names_in w.scope.names.now ≡ map (λ id. id.name.now) w.turn.now
+-- it is a world, an item of the files whose interfaces are resolved, and its functions are those of a scope of its names, which are these in turn
+pub record IsWalk (w : ItemWalk) : Type 0 where
+  pub item : IsItemOf w.walk.interfaces.now.files w.item
+  pub sort : is_world (walk_item w) ≡ true
+  pub functions : functions_view w.walk.scope ≡ the_functions (walk_item w)
+  pub owners : HaveOwners (env_of w.walk.scope.names.now) (functions_view w.walk.scope)
+  pub scoped : IsScopeOf w.walk.scope (scope_names (walk_item w))
+  pub turn : IsTurn (scope_names (walk_item w)) w.walk.turn.now
+  pub listed : names_in w.walk.scope.names.now ≡ map (λ id. id.name.now) w.walk.turn.now
 
 -- the arena of types, the inline interfaces, and what is on the sides so far
 pub record Stage : Type 0 where
@@ -74,7 +84,7 @@ abbrev pub stage : List TypeDef → List Interface → Walked → Stage
 stage types inside walked = record { types = types; inside = inside; walked = walked }
 
 -- these come next of what is on the sides
-pub record IsNext (w : Walk) (xs : List SideItem) (m : Walked) : Type 0 where
+pub record IsNext (w : ItemWalk) (xs : List SideItem) (m : Walked) : Type 0 where
   pub walk : IsWalk w
   pub prefix : List SideItem
   pub rest : List SideItem
@@ -83,25 +93,25 @@ pub record IsNext (w : Walk) (xs : List SideItem) (m : Walked) : Type 0 where
   pub keyed : AreKeyed m.members
 
 -- among these addresses are those of the interfaces that are resolved, at their places, and of these inline ones, from the next place on
-pub record HavePlaces (w : Walk) (inside : List Interface) (us : List Item) (all : List Address) : Type 0 where
-  pub interfaces : (p : ℕ) (s : Address) → slice_get (interfaces_at (prefix_of w.interfaces.now.files) w.interfaces.now.arena) p ≡ Some s → slice_get all p ≡ Some s
-  pub inline : (k : ℕ) (s : Address) → slice_get (map address us) k ≡ Some s → slice_get all (next_place w inside + k) ≡ Some s
+pub record HavePlaces (w : ItemWalk) (inside : List Interface) (us : List Item) (all : List Address) : Type 0 where
+  pub interfaces : (p : ℕ) (s : Address) → slice_get (interfaces_at (prefix_of w.walk.interfaces.now.files) w.walk.interfaces.now.arena) p ≡ Some s → slice_get all p ≡ Some s
+  pub inline : (k : ℕ) (s : Address) → slice_get (map address us) k ≡ Some s → slice_get all (next_place w.walk.interfaces.now inside + k) ≡ Some s
 
 -- after what was on a side these do, where these functions were made
-pub record HasMore (all : List Address) (w : Walk) (s : WorldSide) (xs : List SideItem) (fs : List Function) (us : List Item) (before after : List Entry) : Type 0 where
+pub record HasMore (all : List Address) (w : ItemWalk) (s : WorldSide) (xs : List SideItem) (fs : List Function) (us : List Item) (before after : List Entry) : Type 0 where
   pub more : List Entry
   pub put : after ≡ before ++ more
   pub are : AreSideItems all (walk_item w).top s xs fs (map address us) more
 
 -- the attributes of an interface on a side break no rule, and its path leads to one
-pub record IsRight (w : Walk) (x : SideItem) : Type 0 where
+pub record IsRight (w : ItemWalk) (x : SideItem) : Type 0 where
   pub noted : (f : Fault) → IsBrokenMetadata (interface_attributes x) f → ⊥
-  pub leads : (link : Link) → x ≡ SideLink link → (id : ℕ) × IsLinkedTo w.interfaces.now.files w.interfaces.now.by_name (walk_item w).top link.path id
+  pub leads : (link : Link) → x ≡ SideLink link → (id : ℕ) × IsLinkedTo w.walk.interfaces.now.files w.walk.interfaces.now.by_name (walk_item w).top link.path id
 
 -- after a prefix, these were resolved, and put on their sides
-pub record AddsMembers (w : Walk) (prefix xs : List SideItem) (a b : Stage) : Type 0 where
+pub record AddsMembers (w : ItemWalk) (prefix xs : List SideItem) (a b : Stage) : Type 0 where
   pub functions : List Function
-  pub adds : Appends a.walked.required.items b.walked.required.items (λ rs. (s : Address) → AddsSides (resolved_scopes_of w.interfaces.now) (length w.interfaces.now.arena) s w.scope.names.now a.types b.types a.inside b.inside functions rs xs (inline_after (walk_item w) prefix xs))
+  pub adds : Appends a.walked.required.items b.walked.required.items (λ rs. (s : Address) → AddsSides (resolved_scopes_of w.walk.interfaces.now) (length w.walk.interfaces.now.arena) s w.walk.scope.names.now a.types b.types a.inside b.inside functions rs xs (inline_after (walk_item w) prefix xs))
   pub extended : IsExtended a.types b.types
   pub more : length b.inside ≡ length a.inside + length (flat_map item_inline xs)
   pub named : map name_of_made functions ≡ map name_of_function (flat_map item_function xs)
@@ -116,20 +126,20 @@ pub record AddsMembers (w : Walk) (prefix xs : List SideItem) (a b : Stage) : Ty
   pub sided : AreLegalSides (inline_after (walk_item w) prefix xs)
 
 -- what is wrong with an inline interface, where it comes next
-abbrev pub IsWrongInline : Walk → List TypeDef → List Interface → Item → Fault → Type 0
-IsWrongInline w old inside = IsWrongInterface old (resolved_scopes_of w.interfaces.now) w.interfaces.now.by_name (owner.Interface (next_place w inside))
+abbrev pub IsWrongInline : Interfaces → List TypeDef → List Interface → Item → Fault → Type 0
+IsWrongInline is old inside = IsWrongInterface old (resolved_scopes_of is) is.by_name (owner.Interface (next_place is inside))
 
 -- what is wrong with the next that is put on a side
-pub data IsWrongMember (w : Walk) (prefix : List SideItem) (x : SideItem) (a : Stage) (f : Fault) : Type 0 where
-  WrongFunction : (mid : List TypeDef) → IsExtended a.types mid → IsWrongFunctionAmong (env_of w.scope.names.now) mid (scope_names (walk_item w)) (the_functions (walk_item w)) f → IsWrongMember w prefix x a f
+pub data IsWrongMember (w : ItemWalk) (prefix : List SideItem) (x : SideItem) (a : Stage) (f : Fault) : Type 0 where
+  WrongFunction : (mid : List TypeDef) → IsExtended a.types mid → IsWrongFunctionAmong (env_of w.walk.scope.names.now) mid (scope_names (walk_item w)) (the_functions (walk_item w)) f → IsWrongMember w prefix x a f
   WrongMetadata : IsBrokenMetadata (interface_attributes x) f → IsWrongMember w prefix x a f
-  WrongPath : (link : Link) → x ≡ SideLink link → IsWrongLink w.interfaces.now.files w.interfaces.now.by_name (walk_item w).top link.path f → IsWrongMember w prefix x a f
+  WrongPath : (link : Link) → x ≡ SideLink link → IsWrongLink w.walk.interfaces.now.files w.walk.interfaces.now.by_name (walk_item w).top link.path f → IsWrongMember w prefix x a f
   WrongClash : IsClashAfter a.walked.members.in_use (x ∷ []) f → IsWrongMember w prefix x a f
-  WrongAgain : (link : Link) (id : ℕ) → x ≡ SideLink link → link.name ≡ None → IsLinkedTo w.interfaces.now.files w.interfaces.now.by_name (walk_item w).top link.path id → IsLinked (linked_on link.side a.walked.members.links) id (path_id link.path).span f → IsWrongMember w prefix x a f
-  WrongInside : (u : Item) → inline_after (walk_item w) prefix (x ∷ []) ≡ u ∷ [] → IsWrongInline w a.types a.inside u f → IsWrongMember w prefix x a f
+  WrongAgain : (link : Link) (id : ℕ) → x ≡ SideLink link → link.name ≡ None → IsLinkedTo w.walk.interfaces.now.files w.walk.interfaces.now.by_name (walk_item w).top link.path id → IsLinked (linked_on link.side a.walked.members.links) id (path_id link.path).span f → IsWrongMember w prefix x a f
+  WrongInside : (u : Item) → inline_after (walk_item w) prefix (x ∷ []) ≡ u ∷ [] → IsWrongInline w.walk.interfaces.now a.types a.inside u f → IsWrongMember w prefix x a f
 
 -- once some of these were added, the next one is wrong
-pub record IsWrongAmong (w : Walk) (prefix xs : List SideItem) (a : Stage) (f : Fault) : Type 0 where
+pub record IsWrongAmong (w : ItemWalk) (prefix xs : List SideItem) (a : Stage) (f : Fault) : Type 0 where
   pub done : List SideItem
   pub x : SideItem
   pub rest : List SideItem
@@ -139,46 +149,46 @@ pub record IsWrongAmong (w : Walk) (prefix xs : List SideItem) (a : Stage) (f : 
   pub wrong : IsWrongMember w (prefix ++ done) x now f
 
 -- the next of what is on the sides are added, or one of them is wrong
-abbrev pub AddsNext : Walk → List SideItem → Stage → Stage → Type 0
+abbrev pub AddsNext : ItemWalk → List SideItem → Stage → Stage → Type 0
 AddsNext w xs a b = (n : IsNext w xs a.walked) → AddsMembers w n.prefix xs a b
 
-abbrev pub RefusesNext : Walk → List SideItem → Stage → ParseError → Type 0
+abbrev pub RefusesNext : ItemWalk → List SideItem → Stage → ParseError → Type 0
 RefusesNext w xs a e = (n : IsNext w xs a.walked) → Refused (IsWrongAmong w n.prefix xs a) e
 
 -- so without inline interfaces, whatever these are so far
-abbrev pub AddsTyped : Walk → List SideItem → List TypeDef → List TypeDef → Walked → Walked → Type 0
+abbrev pub AddsTyped : ItemWalk → List SideItem → List TypeDef → List TypeDef → Walked → Walked → Type 0
 AddsTyped w xs old new a b = (inside : List Interface) → AddsNext w xs (stage old inside a) (stage new inside b)
 
-abbrev pub RefusesTyped : Walk → List SideItem → List TypeDef → Walked → ParseError → Type 0
+abbrev pub RefusesTyped : ItemWalk → List SideItem → List TypeDef → Walked → ParseError → Type 0
 RefusesTyped w xs old a e = (inside : List Interface) → RefusesNext w xs (stage old inside a) e
 
 -- at first the names of the scope are imported, and nothing is exported
-pub record IsStart (w : Walk) (m : Walked) : Type 0 where
+pub record IsStart (w : ItemWalk) (m : Walked) : Type 0 where
   pub required : m.required.items ≡ []
   pub seen : IsSeen [] m.seen
   pub keyed : AreKeyed m.members
-  pub in_use : (s : WorldSide) → defined_on s m.members.in_use ≡ names_on s (map name_of_id w.turn.now)
+  pub in_use : (s : WorldSide) → defined_on s m.members.in_use ≡ names_on s (map name_of_id w.walk.turn.now)
   pub linked : (s : WorldSide) → linked_on s m.members.links ≡ []
-  pub imports : (xs : List ScopeName) → w.turn.now ≡ map local_id xs → m.members.sides.imports ≡ type_imports xs w.scope.names.now
+  pub imports : (xs : List ScopeName) → w.walk.turn.now ≡ map local_id xs → m.members.sides.imports ≡ type_imports xs w.walk.scope.names.now
   pub exports : m.members.sides.exports ≡ []
 
 -- all that is on the sides was added
-pub record AddsAll (w : Walk) (old new : List TypeDef) (inside now : List Interface) (m : Walked) : Type 0 where
+pub record AddsAll (w : ItemWalk) (old new : List TypeDef) (inside now : List Interface) (m : Walked) : Type 0 where
   pub start : Walked
   pub is : IsStart w start
   pub adds : AddsMembers w [] (side_items (walk_item w)) (stage old inside start) (stage new now m)
 
 -- what is wrong with what is on the sides of a world, after its names
-pub data IsWrongWalk (w : Walk) (old : List TypeDef) (inside : List Interface) (f : Fault) : Type 0 where
-  WrongNames : IsTwiceAmong (map name_of_id w.turn.now) f → IsWrongWalk w old inside f
+pub data IsWrongWalk (w : ItemWalk) (old : List TypeDef) (inside : List Interface) (f : Fault) : Type 0 where
+  WrongNames : IsTwiceAmong (map name_of_id w.walk.turn.now) f → IsWrongWalk w old inside f
   WrongSides : (start : Walked) → IsStart w start → IsWrongAmong w [] (side_items (walk_item w)) (stage old inside start) f → IsWrongWalk w old inside f
   WrongSetter : IsSetterAlone (walk_item w) f → IsWrongWalk w old inside f
 
 -- an inline interface was added after those before it, which come after all declared ones
-pub record AddsInside (w : Walk) (old new : List TypeDef) (inside now : List Interface) (before after : List Required) (item : Item) : Type 0 where
+pub record AddsInside (is : Interfaces) (old new : List TypeDef) (inside now : List Interface) (before after : List Required) (item : Item) : Type 0 where
   pub added : Interface
   pub last : now ≡ inside ++ added ∷ []
-  pub appends : Appends before after (λ rs. AddsInterface (resolved_scopes_of w.interfaces.now) (next_place w inside) old new added rs item)
+  pub appends : Appends before after (λ rs. AddsInterface (resolved_scopes_of is) (next_place is inside) old new added rs item)
 
 -- what the functions of a resource are on the sides of a world
 abbrev pub resource_items : Id → List ResourceFunc → List SideItem

@@ -3,12 +3,14 @@ ghost use Rattle.std.specs.Prelude.{◌≡◌, IfErr, IfOk, OnOk};
 ghost use Rattle.wit_syntax.specs.Broken.{IsSetterAlone, Refused};
 ghost use Rattle.wit_syntax.specs.Fault.{Fault};
 ghost use Rattle.wit_syntax.specs.ScopeTables.{includes};
+ghost use Rattle.wit_items.specs.BorrowedItems.{item_view};
 ghost use Rattle.wit_world_sides.specs.Settled.{none_of};
-ghost use Rattle.wit_contents.specs.Walk.{AddsAll, IsWalk, IsWrongWalk, walk_item};
+ghost use Rattle.wit_contents.specs.Walk.{AddsAll, IsWalk, IsWrongWalk, walk_of};
 
 use crate::walk::{Walk, Walked, walk_parts};
 use wit_entries::entries::Entries;
-use wit_links::inside::Seen;
+use wit_items::items::Item;
+use wit_links::inside::{Seen, declared_world};
 use wit_model::Interface;
 use wit_notes::is_same_side;
 use wit_rules::borrowed::BorrowedFunction;
@@ -59,28 +61,30 @@ fn side_room(world: &World<'_>, functions: &[BorrowedFunction<'_, '_>], side: Wo
 /// A refusal is E17 at a name of a type whose folded key an earlier one has, one of what is there, or
 /// E18 at a setter without its getter.
 pub fn walk_sides<'f, 'a>(
+    item: &Item<'f, 'a>,
     walk: &Walk<'f, 'a, '_, '_, '_>,
     types: &mut Entries,
     inside: &mut Arena<Interface, InterfacePlace>,
     closed: bool,
 ) -> ParseResult<Walked>
-    requires walk { IsWalk walk.now }
-    requires closed { closed ≡ none_of (includes (walk_item walk.now)) }
-    ensures adds { IfOk result (AddsAll walk.now types.old types.new inside.old inside.new) }
-    ensures paired { OnOk result ((f : Fault) → IsSetterAlone (walk_item walk.now) f → ⊥) }
-    ensures refused { IfErr result (Refused (IsWrongWalk walk.now types.old inside.old)) }
+    requires walk { IsWalk (walk_of item.now walk.now) }
+    requires closed { closed ≡ none_of (includes (item_view item.now)) }
+    ensures adds { IfOk result (AddsAll (walk_of item.now walk.now) types.old types.new inside.old inside.new) }
+    ensures paired { OnOk result ((f : Fault) → IsSetterAlone (item_view item.now) f → ⊥) }
+    ensures refused { IfErr result (Refused (IsWrongWalk (walk_of item.now walk.now) types.old inside.old)) }
 {
-    let alloc = walk.alloc;
+    let alloc = *walk.interfaces.by_name.allocator();
+    let world = declared_world(&item.declared);
     let functions = walk.scope.functions;
-    let imports = side_room(walk.world, functions, WorldSide::Imported);
-    let exports = side_room(walk.world, functions, WorldSide::Exported);
+    let imports = side_room(world, functions, WorldSide::Imported);
+    let exports = side_room(world, functions, WorldSide::Exported);
     let members = named_members(alloc, walk.turn, walk.scope.names, imports, exports)?;
     let mut walked = Walked {
         members,
         required: Vec::new(alloc),
         seen: Seen::none(),
     };
-    walk_parts(walk, types, inside, &mut walked)?;
+    walk_parts(item, walk, types, inside, &mut walked)?;
     check_closed(closed, functions, &walked.members.in_use, walk.turn)?;
     Ok(walked)
 }

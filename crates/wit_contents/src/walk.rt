@@ -8,21 +8,21 @@ ghost use Rattle.wit_syntax.specs.Source.{DefinitionPart, is_world, item_name, s
 ghost use Rattle.wit_entries.specs.Requiring.{IsExtended};
 ghost use Rattle.wit_rules.specs.BorrowedFunctions.{function_view};
 ghost use Rattle.wit_item_names.specs.ForeignAddresses.{prefix_of};
-ghost use Rattle.wit_items.specs.BorrowedItems.{scope_item};
+ghost use Rattle.wit_items.specs.BorrowedItems.{item_view, scope_item};
 ghost use Rattle.wit_scopes.specs.PlacedNames.{AreNamesPlaced};
 ghost use Rattle.wit_scopes.specs.BorrowedNames.{name_view};
 ghost use Rattle.wit_world_sides.specs.Members.{path_link};
 ghost use Rattle.wit_links.specs.SideCounts.{inline_side, seen_on};
 ghost use Rattle.wit_item_entries.specs.Body.{HasLegalSides, IsSoundScope};
-ghost use Rattle.wit_contents.specs.Walk.{AddsInside, AddsNext, AddsTyped, IsNext, IsWrongInline, RefusesNext, RefusesTyped, next_place, resource_items, stage, walk_item};
+ghost use Rattle.wit_contents.specs.Walk.{AddsInside, AddsNext, AddsTyped, IsNext, IsWrongInline, RefusesNext, RefusesTyped, next_place, resource_items, stage, walk_of};
 
 use crate::interface::interface_of;
-use std::alloc::{AllocError, Global};
+use std::alloc::AllocError;
 use wit_entries::entries::Entries;
 use wit_entries::scope::Required;
 use wit_items::interfaces::Interfaces;
 use wit_items::items::{InlineInterface, Item, ItemScope};
-use wit_links::inside::{Seen, inside_scope};
+use wit_links::inside::{Seen, declared_world, inside_scope};
 use wit_links::links::linked_place;
 use wit_model::Interface;
 use wit_notes::check_metadata;
@@ -37,29 +37,14 @@ use wit_tree::tree::{
 use wit_types::{Arena, InterfaceId, InterfacePlace};
 use wit_world_sides::members::{Members, PathExtern, put_function, put_inline, put_link};
 
-/// What the imports and exports of a world are resolved in.
+/// What the imports and exports of an item are resolved in, which is a world.
+#[derive(Clone, Copy)]
 pub struct Walk<'f, 'a, 'w, 'n, 'e> {
-    pub alloc: Global,
-    pub item: &'w Item<'f, 'a>,
-    pub world: &'f World<'a>,
     /// The names of its scope in the order in which they were resolved.
     pub turn: &'w [Id<'a>],
     /// What its functions are read in.
     pub scope: FunctionScope<'w, 'f, 'a>,
     pub interfaces: &'w Interfaces<'n, 'e, 'f, 'a>,
-}
-
-impl Drop for Walk<'_, '_, '_, '_, '_> {
-    fn drop(self) {
-        let Walk {
-            alloc: _,
-            item: _,
-            world: _,
-            turn: _,
-            scope: _,
-            interfaces: _,
-        } = self;
-    }
 }
 
 /// What is on the sides of a world so far.
@@ -87,24 +72,24 @@ fn next_inside(
 
 /// Adds an inline interface; `inside` are those before it, which come after all declared ones.
 fn resolve_inline<'f, 'a>(
-    walk: &Walk<'f, 'a, '_, '_, '_>,
     scope: &ItemScope<'f, 'a, '_>,
     types: &mut Entries,
     required: &mut Vec<Required>,
+    interfaces: &Interfaces<'_, '_, 'f, 'a>,
     inside: &mut Arena<Interface, InterfacePlace>,
 ) -> ParseResult<InterfaceId>
     requires sort { is_world (scope_item scope.now) ≡ false }
     requires named { map name_view scope.now.names.now ≡ the_names (scope_item scope.now) }
-    requires placed { AreNamesPlaced (prefix_of walk.now.interfaces.now.files) scope.now.names.now }
-    ensures id { IfOk result (λ id. id ≡ next_place walk.now inside.old) }
-    ensures adds { OnOk result (AddsInside walk.now types.old types.new inside.old inside.new required.old.items required.new.items (scope_item scope.now)) }
+    requires placed { AreNamesPlaced (prefix_of interfaces.now.files) scope.now.names.now }
+    ensures id { IfOk result (λ id. id ≡ next_place interfaces.now inside.old) }
+    ensures adds { OnOk result (AddsInside interfaces.now types.old types.new inside.old inside.new required.old.items required.new.items (scope_item scope.now)) }
     ensures extended { OnOk result (IsExtended types.old types.new) }
     ensures sound { OnOk result (IsSoundScope (scope_item scope.now)) }
     ensures sided { OnOk result (HasLegalSides (scope_item scope.now)) }
-    ensures refused { IfErr result (Refused (IsWrongInline walk.now types.old inside.old (scope_item scope.now))) }
+    ensures refused { IfErr result (Refused (IsWrongInline interfaces.now types.old inside.old (scope_item scope.now))) }
 {
-    let id = next_inside(walk.interfaces, inside)?;
-    let interface = interface_of(scope, types, required, walk.interfaces, id)?;
+    let id = next_inside(interfaces, inside)?;
+    let interface = interface_of(scope, types, required, interfaces, id)?;
     inside.alloc(interface)?;
     Ok(id)
 }
@@ -113,16 +98,17 @@ fn resolve_inline<'f, 'a>(
 ///
 /// A refusal is one of `resolve_function` or of `put_function`.
 fn walk_function<'f, 'a>(
+    item: &Item<'f, 'a>,
     walk: &Walk<'f, 'a, '_, '_, '_>,
     borrowed: BorrowedFunction<'f, 'a>,
     types: &mut Entries,
     walked: &mut Walked,
 ) -> ParseResult<()>
-    requires { IsNext walk.now (SideFunction (function_view borrowed) ∷ []) walked.old }
-    ensures adds { OnOk result (AddsTyped walk.now (SideFunction (function_view borrowed.entry) ∷ []) types.old types.new walked.old walked.new) }
-    ensures refused { IfErr result (RefusesTyped walk.now (SideFunction (function_view borrowed.entry) ∷ []) types.old walked.old) }
+    requires { IsNext (walk_of item.now walk.now) (SideFunction (function_view borrowed) ∷ []) walked.old }
+    ensures adds { OnOk result (AddsTyped (walk_of item.now walk.now) (SideFunction (function_view borrowed.entry) ∷ []) types.old types.new walked.old walked.new) }
+    ensures refused { IfErr result (RefusesTyped (walk_of item.now walk.now) (SideFunction (function_view borrowed.entry) ∷ []) types.old walked.old) }
 {
-    let alloc = walk.alloc;
+    let alloc = *walk.interfaces.by_name.allocator();
     let place = walked.seen.functions;
     let function = resolve_function(alloc, walk.scope, types, &mut walked.required, place)?;
     put_function(&mut walked.members, borrowed, function)?;
@@ -135,17 +121,18 @@ fn walk_function<'f, 'a>(
 ///
 /// A refusal is E30 to E35, where its attributes break a rule, one of `linked_place`, or of `put_link`.
 fn walk_link<'f, 'a>(
+    item: &Item<'f, 'a>,
     walk: &Walk<'f, 'a, '_, '_, '_>,
     link: PathExtern<'f, 'a>,
     walked: &mut Walked,
 ) -> ParseResult<()>
-    requires { IsNext walk.now (SideLink (path_link link) ∷ []) walked.old }
-    ensures adds { OnOk result ((ts : List TheType) → AddsTyped walk.now (SideLink (path_link link.entry) ∷ []) ts ts walked.old walked.new) }
-    ensures refused { IfErr result (λ e. (ts : List TheType) → RefusesTyped walk.now (SideLink (path_link link.entry) ∷ []) ts walked.old e) }
+    requires { IsNext (walk_of item.now walk.now) (SideLink (path_link link) ∷ []) walked.old }
+    ensures adds { OnOk result ((ts : List TheType) → AddsTyped (walk_of item.now walk.now) (SideLink (path_link link.entry) ∷ []) ts ts walked.old walked.new) }
+    ensures refused { IfErr result (λ e. (ts : List TheType) → RefusesTyped (walk_of item.now walk.now) (SideLink (path_link link.entry) ∷ []) ts walked.old e) }
 {
-    let alloc = walk.alloc;
+    let alloc = *walk.interfaces.by_name.allocator();
     check_metadata(alloc, &link.written.attributes)?;
-    let place = linked_place(alloc, walk.interfaces, walk.item.place, link.path)?;
+    let place = linked_place(alloc, walk.interfaces, item.place, link.path)?;
     let id = walk.interfaces.arena.id_at(place);
     put_link(alloc, &mut walked.members, link, id)?;
     let seen = walked.seen.with_interface(link.written.side, 0)?;
@@ -158,23 +145,24 @@ fn walk_link<'f, 'a>(
 /// A refusal is one of `interface_of`; E30 to E35, where its attributes break a rule; or one of
 /// `put_inline`.
 fn walk_inline<'f, 'a>(
+    item: &Item<'f, 'a>,
     walk: &Walk<'f, 'a, '_, '_, '_>,
     inline: InlineInterface<'f, 'a>,
     types: &mut Entries,
     inside: &mut Arena<Interface, InterfacePlace>,
     walked: &mut Walked,
 ) -> ParseResult<()>
-    requires next { IsNext walk.now (inline_side inline ∷ []) walked.old }
-    requires world { inline.world.now ≡ item_name (walk_item walk.now) }
+    requires next { IsNext (walk_of item.now walk.now) (inline_side inline ∷ []) walked.old }
+    requires world { inline.world.now ≡ item_name (item_view item.now) }
     requires place { inline.place ≡ (seen_on inline.written.now.side walked.old.seen).interfaces }
-    ensures adds { OnOk result (AddsNext walk.now (inline_side inline.entry ∷ []) (stage types.old inside.old walked.old) (stage types.new inside.new walked.new)) }
-    ensures refused { IfErr result (RefusesNext walk.now (inline_side inline.entry ∷ []) (stage types.old inside.old walked.old)) }
+    ensures adds { OnOk result (AddsNext (walk_of item.now walk.now) (inline_side inline.entry ∷ []) (stage types.old inside.old walked.old) (stage types.new inside.new walked.new)) }
+    ensures refused { IfErr result (RefusesNext (walk_of item.now walk.now) (inline_side inline.entry ∷ []) (stage types.old inside.old walked.old)) }
 {
-    let alloc = walk.alloc;
+    let alloc = *walk.interfaces.by_name.allocator();
     let side = inline.written.side;
     let counts = walked.seen.on(side);
-    let scope = inside_scope(walk.item, inline, counts.inline);
-    let id = resolve_inline(walk, &scope, types, &mut walked.required, inside)?;
+    let scope = inside_scope(item, inline, counts.inline);
+    let id = resolve_inline(&scope, types, &mut walked.required, walk.interfaces, inside)?;
     check_metadata(alloc, &inline.written.attributes)?;
     put_inline(alloc, &mut walked.members, inline.written, inline.name, id)?;
     let seen = walked.seen.with_interface(side, 1)?;
@@ -216,25 +204,27 @@ fn inline_at<'f, 'a>(
 
 /// Resolves what a world imports or exports next, by its kind.
 fn walk_extern<'f, 'a>(
+    item: &Item<'f, 'a>,
     walk: &Walk<'f, 'a, '_, '_, '_>,
     written: &'f Extern<'a>,
     types: &mut Entries,
     inside: &mut Arena<Interface, InterfacePlace>,
     walked: &mut Walked,
 ) -> ParseResult<()>
-    requires { IsNext walk.now (extern_items written.now written.now.kind) walked.old }
-    ensures adds { OnOk result (AddsNext walk.now (extern_items written.now written.now.kind) (stage types.old inside.old walked.old) (stage types.new inside.new walked.new)) }
-    ensures refused { IfErr result (RefusesNext walk.now (extern_items written.now written.now.kind) (stage types.old inside.old walked.old)) }
+    requires { IsNext (walk_of item.now walk.now) (extern_items written.now written.now.kind) walked.old }
+    ensures adds { OnOk result (AddsNext (walk_of item.now walk.now) (extern_items written.now written.now.kind) (stage types.old inside.old walked.old) (stage types.new inside.new walked.new)) }
+    ensures refused { IfErr result (RefusesNext (walk_of item.now walk.now) (extern_items written.now written.now.kind) (stage types.old inside.old walked.old)) }
 {
     match &written.kind {
         ExternKind::Interface(name, items) => {
             let counts = walked.seen.on(written.side);
-            let inline = inline_at(walk.world, counts.interfaces, written, *name, items);
-            walk_inline(walk, inline, types, inside, walked)
+            let world = declared_world(&item.declared);
+            let inline = inline_at(world, counts.interfaces, written, *name, items);
+            walk_inline(item, walk, inline, types, inside, walked)
         }
         ExternKind::Func(name, func) => {
             let borrowed = extern_part_function(written, *name, func);
-            walk_function(walk, borrowed, types, walked)
+            walk_function(item, walk, borrowed, types, walked)
         }
         ExternKind::Path(path) => {
             let name = None;
@@ -243,7 +233,7 @@ fn walk_extern<'f, 'a>(
                 name,
                 path,
             };
-            walk_link(walk, link, walked)
+            walk_link(item, walk, link, walked)
         }
         ExternKind::NamedPath(name, path) => {
             let name = Some(*name);
@@ -252,25 +242,27 @@ fn walk_extern<'f, 'a>(
                 name,
                 path,
             };
-            walk_link(walk, link, walked)
+            walk_link(item, walk, link, walked)
         }
     }
 }
 
 /// Resolves the functions of a resource of this name, which come next.
 fn walk_functions<'f, 'a>(
+    item: &Item<'f, 'a>,
     walk: &Walk<'f, 'a, '_, '_, '_>,
     resource: Id<'a>,
     functions: &'f [ResourceFunc<'a>],
     types: &mut Entries,
     walked: &mut Walked,
 ) -> ParseResult<()>
-    requires { IsNext walk.now (resource_items resource functions.now) walked.old }
-    ensures adds { OnOk result (AddsTyped walk.now (resource_items resource.entry functions.now) types.old types.new walked.old walked.new) }
-    ensures refused { IfErr result (RefusesTyped walk.now (resource_items resource.entry functions.now) types.old walked.old) }
+    requires { IsNext (walk_of item.now walk.now) (resource_items resource functions.now) walked.old }
+    ensures adds { OnOk result (AddsTyped (walk_of item.now walk.now) (resource_items resource.entry functions.now) types.old types.new walked.old walked.new) }
+    ensures refused { IfErr result (RefusesTyped (walk_of item.now walk.now) (resource_items resource.entry functions.now) types.old walked.old) }
 {
     for function in functions {
         walk_function(
+            item,
             walk,
             BorrowedFunction::Of(resource, function),
             types,
@@ -282,18 +274,19 @@ fn walk_functions<'f, 'a>(
 
 /// Resolves the functions of a definition, which come next: those of a resource.
 fn walk_definition<'f, 'a>(
+    item: &Item<'f, 'a>,
     walk: &Walk<'f, 'a, '_, '_, '_>,
     definition: &'f TypeDef<'a>,
     types: &mut Entries,
     walked: &mut Walked,
 ) -> ParseResult<()>
-    requires { IsNext walk.now (part_items (DefinitionPart definition.now)) walked.old }
-    ensures adds { OnOk result (AddsTyped walk.now (part_items (DefinitionPart definition.now)) types.old types.new walked.old walked.new) }
-    ensures refused { IfErr result (RefusesTyped walk.now (part_items (DefinitionPart definition.now)) types.old walked.old) }
+    requires { IsNext (walk_of item.now walk.now) (part_items (DefinitionPart definition.now)) walked.old }
+    ensures adds { OnOk result (AddsTyped (walk_of item.now walk.now) (part_items (DefinitionPart definition.now)) types.old types.new walked.old walked.new) }
+    ensures refused { IfErr result (RefusesTyped (walk_of item.now walk.now) (part_items (DefinitionPart definition.now)) types.old walked.old) }
 {
     match &definition.body {
         TypeBody::Resource { funcs } => {
-            walk_functions(walk, definition.name, funcs, types, walked)
+            walk_functions(item, walk, definition.name, funcs, types, walked)
         }
         _ => Ok(()),
     }
@@ -301,21 +294,25 @@ fn walk_definition<'f, 'a>(
 
 /// Resolves all that is on the sides of a world, in source order.
 pub(crate) fn walk_parts<'f, 'a>(
+    item: &Item<'f, 'a>,
     walk: &Walk<'f, 'a, '_, '_, '_>,
     types: &mut Entries,
     inside: &mut Arena<Interface, InterfacePlace>,
     walked: &mut Walked,
 ) -> ParseResult<()>
-    requires { IsNext walk.now (side_items (walk_item walk.now)) walked.old }
-    ensures adds { OnOk result (AddsNext walk.now (side_items (walk_item walk.now)) (stage types.old inside.old walked.old) (stage types.new inside.new walked.new)) }
-    ensures refused { IfErr result (RefusesNext walk.now (side_items (walk_item walk.now)) (stage types.old inside.old walked.old)) }
+    requires { IsNext (walk_of item.now walk.now) (side_items (item_view item.now)) walked.old }
+    ensures adds { OnOk result (AddsNext (walk_of item.now walk.now) (side_items (item_view item.now)) (stage types.old inside.old walked.old) (stage types.new inside.new walked.new)) }
+    ensures refused { IfErr result (RefusesNext (walk_of item.now walk.now) (side_items (item_view item.now)) (stage types.old inside.old walked.old)) }
 {
-    for part in world_items(walk.world) {
+    let world = declared_world(&item.declared);
+    for part in world_items(world) {
         match part {
-            WorldItem::TypeDef(definition) => walk_definition(walk, definition, types, walked)?,
+            WorldItem::TypeDef(definition) => walk_definition(
+                item, walk, definition, types, walked,
+            )?,
             WorldItem::Use(_) => {}
             WorldItem::Include(_) => {}
-            WorldItem::Extern(written) => walk_extern(walk, written, types, inside, walked)?,
+            WorldItem::Extern(written) => walk_extern(item, walk, written, types, inside, walked)?,
         }
     }
     Ok(())

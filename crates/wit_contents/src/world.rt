@@ -3,7 +3,8 @@ ghost use Rattle.std.specs.Prelude.{◌≡◌, ◌<◌, ◌≤◌, ◌+◌, ◌+
 ghost use Rattle.wit_type_tree.specs.RefusalText.{IsAllocationFailure};
 ghost use Rattle.wit_syntax.specs.Source.{is_world, about};
 ghost use Rattle.wit_syntax.specs.Sides.{inline_items, with_inline};
-ghost use Rattle.wit_syntax.specs.Broken.{Refused};
+ghost use Rattle.wit_syntax.specs.Broken.{IsSetterAlone, Refused};
+ghost use Rattle.wit_syntax.specs.Fault.{Fault};
 ghost use Rattle.wit_arena.specs.UnfoldedTypes.{IsWorld};
 ghost use Rattle.wit_arena.specs.Resolving.{IsWorldIndex};
 ghost use Rattle.wit_arena.specs.ResolvedArenas.{worlds_at, AreLegalSides, AreSoundScopes, AreUsableLinks, HaveLegalStability};
@@ -13,14 +14,15 @@ ghost use Rattle.std.specs.List.{flat_map};
 ghost use Rattle.wit_items.specs.Gathered.{AreItemsOf, IsItemOf};
 ghost use Rattle.wit_contents.specs.AddedInterfaces.{HasLegalStability};
 ghost use Rattle.wit_contents.specs.AddedWorlds.{AddsContent, AddsTo, AddsWorldsTo, AreIndexed, IsRightWorld, IsWrongIn, IsWrongWorldInOrder, worlds_in};
+ghost use Rattle.wit_contents.specs.WorldWalk.{AddsSidesOf, IsScopeOfWorld, RefusesSidesOf};
 
 use crate::sides::walk_sides;
-use crate::walk::Walk;
+use crate::walk::{Walk, Walked};
 use std::alloc::{AllocError, Global};
 use wit_entries::entries::Entries;
 use wit_entries::scope::Required;
 use wit_item_entries::functions::{world_functions, written_results};
-use wit_item_entries::names::resolve_names;
+use wit_item_entries::names::{ResolvedNames, resolve_names};
 use wit_item_entries::required::add_required;
 use wit_items::interfaces::Interfaces;
 use wit_items::items::{Declared, Item};
@@ -30,9 +32,10 @@ use wit_links::inside::{declared_name, declared_world};
 use wit_links::worlds::Worlds;
 use wit_maps::TextTable;
 use wit_model::{Interface, World, WorldInclude};
+use wit_rules::borrowed::BorrowedFunction;
 use wit_rules::function_scope::FunctionScope;
 use wit_tree::ParseResult;
-use wit_tree::tree::Id;
+use wit_tree::tree::{Id, Type};
 use wit_types::{Arena, InterfacePlace, TypeOwner, WorldPlace};
 use wit_values::{Row, Text, pair_with};
 use wit_world_sides::sides::WorldSides;
@@ -43,6 +46,17 @@ use wit_world_sides::sides_setters::{is_closed, settle};
 pub struct WorldContent {
     pub sides: WorldSides,
     pub includes: Row<WorldInclude>,
+}
+
+/// What the functions of a world are read in: its names, which are resolved, the definitions that are
+/// written as results, and its functions as they are written. Where it includes nothing, it is
+/// `closed`.
+#[derive(Drop)]
+pub struct WorldScope<'f, 'a> {
+    pub names: ResolvedNames<'a>,
+    pub results: TextTable<&'f Type<'a>>,
+    pub functions: Vec<BorrowedFunction<'f, 'a>>,
+    pub closed: bool,
 }
 
 /// Adds a declared world, under its name.
@@ -59,6 +73,44 @@ fn add_world(worlds: &mut Worlds<'_, '_, '_, '_, '_>, name: &str, world: World) 
     let name = String::from_str(alloc, name)?;
     worlds.by_name.put(name, place)?;
     Ok(())
+}
+
+/// What its functions are read in.
+fn function_scope<'s, 'f, 'a>(scope: &'s WorldScope<'f, 'a>) -> FunctionScope<'s, 'f, 'a>
+    ensures names { result.names.now ≡ scope.now.names.types }
+    ensures results { result.results.now ≡ scope.now.results }
+    ensures functions { result.functions.now ≡ scope.now.functions.items }
+{
+    FunctionScope {
+        names: &scope.names.types,
+        results: &scope.results,
+        functions: &scope.functions,
+    }
+}
+
+/// What is on the sides of a world, after its names, which are resolved.
+fn walked_sides<'f, 'a>(
+    item: &Item<'f, 'a>,
+    scope: &WorldScope<'f, 'a>,
+    interfaces: &Interfaces<'_, '_, 'f, 'a>,
+    types: &mut Entries,
+    inside: &mut Arena<Interface, InterfacePlace>,
+) -> ParseResult<Walked>
+    requires sort { is_world (item_view item.now) ≡ true }
+    requires item { IsItemOf interfaces.now.files item.now }
+    requires scope { IsScopeOfWorld scope.now item.now }
+    ensures adds { IfOk result (AddsSidesOf item.now interfaces.now scope.now.names types.old types.new inside.old inside.new) }
+    ensures paired { OnOk result ((f : Fault) → IsSetterAlone (item_view item.now) f → ⊥) }
+    ensures refused { IfErr result (RefusesSidesOf item.now interfaces.now scope.now.names types.old inside.old) }
+{
+    let functions = function_scope(scope);
+    let walk = Walk {
+        turn: &scope.names.turn,
+        scope: functions,
+        interfaces,
+    };
+    let walked = walk_sides(item, &walk, types, inside, scope.closed)?;
+    Ok(walked)
 }
 
 /// What a world has on its sides, after its names, and its includes.
@@ -84,20 +136,14 @@ fn world_content<'f, 'a>(
     let functions = world_functions(alloc, world)?;
     let results = written_results(alloc, &item.names)?;
     let closed = is_closed(includes.as_slice());
-    let walk = Walk {
-        alloc,
-        item,
-        world,
-        turn: &names.turn,
-        scope: FunctionScope {
-            names: &names.types,
-            results: &results,
-            functions: &functions,
-        },
-        interfaces: worlds.interfaces,
+    let scope = WorldScope {
+        names,
+        results,
+        functions,
+        closed,
     };
-    let walked = walk_sides(&walk, types, inside, closed)?;
-    add_required(required, &names.required)?;
+    let walked = walked_sides(item, &scope, worlds.interfaces, types, inside)?;
+    add_required(required, &scope.names.required)?;
     add_required(required, &walked.required)?;
     let members = walked.members;
     let sides = settle(alloc, members.sides, closed)?;

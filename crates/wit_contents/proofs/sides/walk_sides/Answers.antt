@@ -15,16 +15,19 @@ use Rattle.wit_signatures.specs.ForeignName.{IsTwiceAmong, name_of_id}
 use Rattle.wit_externs.specs.Clash.{names_of_items}
 use Rattle.wit_item_entries.proofs.FunctionFaults.{turn_texts}
 use Rattle.wit_contents.specs.declared.walk.Walked.{Walked}
-use Rattle.wit_contents.specs.Walk.{IsNext, IsStart, IsWrongAmong, IsWrongWalk, WrongNames, WrongSetter, WrongSides, stage, walk_item}
+use Rattle.wit_contents.specs.Walk.{IsNext, IsStart, IsWrongAmong, IsWrongWalk, WrongNames, WrongSetter, WrongSides, stage, walk_item, walk_of}
 use Rattle.wit_contents.proofs.Closing.{alone_closed, none_alone}
 use Rattle.wit_contents.proofs.sides.walk_sides.Goals as goal
 
+pub declared_world-world-requires : goal.declared_world-world-requires
+declared_world-world-requires c = c.requires.walk.sort
+
 pub named_members-requires-clause-distinct : goal.named_members-requires-clause-distinct
 named_members-requires-clause-distinct c =
-    let w = c.args.walk.now in
+    let w = walk_of c.args.item.now c.args.walk.now in
     let xs = scope_names (walk_item w) in
     let t = c.requires.walk.turn in
-    subst AllDiffer (sym (turn_texts xs t.order w.turn.now t.are)) (in_turn_distinct xs t.order t.least t.distinct)
+    subst AllDiffer (sym (turn_texts xs t.order w.walk.turn.now t.are)) (in_turn_distinct xs t.order t.least t.distinct)
 
 pub named_members-requires-clause-listed : goal.named_members-requires-clause-listed
 named_members-requires-clause-listed c = c.requires.walk.listed
@@ -34,14 +37,14 @@ walk_parts-requires c = record {
   walk = c.requires.walk;
   prefix = [];
   rest = [];
-  sides = sym (append-nil (side_items (walk_item c.args.walk.now)));
+  sides = sym (append-nil (side_items (walk_item (walk_of c.args.item.now c.args.walk.now))));
   seen = c.none.ensures;
   keyed = c.in_ok-members.ensures.keyed;
 }
 
 pub check_closed-requires : goal.check_closed-requires
 check_closed-requires c =
-    let w = c.args.walk.now in
+    let w = walk_of c.args.item.now c.args.walk.now in
     let all = side_items (walk_item w) in
     let start : Walked = record { members = c.in_ok-members.members; required = c.new.result; seen = c.none.result } in
     let next : IsNext w all start = record { walk = c.requires.walk; prefix = []; rest = []; sides = sym (append-nil all); seen = c.none.ensures; keyed = c.in_ok-members.ensures.keyed } in
@@ -50,13 +53,13 @@ check_closed-requires c =
 pub returns-in_err-members-clause-refused : goal.returns-in_err-members-clause-refused
 returns-in_err-members-clause-refused c =
     let p = err_from_is_err_and c.from_residual.result c.from_residual.ensures.1 in
-    let w = c.args.walk.now in
-    rw (p.1, p.2) (refused_weaker (IsTwiceAmong (map name_of_id w.turn.now)) (IsWrongWalk w c.args.types.now c.args.inside.now) _ (λ f twice. WrongNames twice) c.in_err-members.ensures.refused)
+    let w = walk_of c.args.item.now c.args.walk.now in
+    rw (p.1, p.2) (refused_weaker (IsTwiceAmong (map name_of_id w.walk.turn.now)) (IsWrongWalk w c.args.types.now c.args.inside.now) _ (λ f twice. WrongNames twice) c.in_err-members.ensures.refused)
 
 pub returns-in_err-walk_parts-clause-refused : goal.returns-in_err-walk_parts-clause-refused
 returns-in_err-walk_parts-clause-refused c =
     let p = err_from_is_err_and c.from_residual-in_err-walk_parts.result c.from_residual-in_err-walk_parts.ensures.1 in
-    let w = c.args.walk.now in
+    let w = walk_of c.args.item.now c.args.walk.now in
     let all = side_items (walk_item w) in
     let e = c.in_ok-members.ensures in
     let start : Walked = record { members = c.in_ok-members.members; required = c.new.result; seen = c.none.result } in
@@ -68,13 +71,13 @@ returns-in_err-walk_parts-clause-refused c =
 pub returns-in_err-check_closed-clause-refused : goal.returns-in_err-check_closed-clause-refused
 returns-in_err-check_closed-clause-refused c =
     let p = err_from_is_err_and c.from_residual-in_err-check_closed.result c.from_residual-in_err-check_closed.ensures.1 in
-    let w = c.args.walk.now in
-    let fns = map function_view w.scope.functions.now in
+    let w = walk_of c.args.item.now c.args.walk.now in
+    let fns = map function_view w.walk.scope.functions.now in
     rw (p.1, p.2) (refused_weaker (λ f. (c.args.closed ≡ true) × ((s : WorldSide) × IsUnpairedSetter (on_side s fns) f)) (IsWrongWalk w c.args.types.now c.args.inside.now) _ (λ f h. WrongSetter (alone_closed (walk_item w) fns c.requires.walk.functions c.args.closed c.requires.closed h.1.0 f h.0 h.1.1)) c.in_err-check_closed.ensures.refused)
 
 pub returns-clause-adds : goal.returns-clause-adds
 returns-clause-adds c =
-    let w = c.args.walk.now in
+    let w = walk_of c.args.item.now c.args.walk.now in
     let all = side_items (walk_item w) in
     let e = c.in_ok-members.ensures in
     let start : Walked = record { members = c.in_ok-members.members; required = c.new.result; seen = c.none.result } in
@@ -87,5 +90,5 @@ returns-clause-adds c =
 
 pub returns-clause-paired : goal.returns-clause-paired
 returns-clause-paired c =
-    let w = c.args.walk.now in
-    none_alone (walk_item w) (map function_view w.scope.functions.now) c.requires.walk.functions c.args.closed c.requires.closed c.in_ok-check_closed.ensures.paired
+    let w = walk_of c.args.item.now c.args.walk.now in
+    none_alone (walk_item w) (map function_view w.walk.scope.functions.now) c.requires.walk.functions c.args.closed c.requires.closed c.in_ok-check_closed.ensures.paired

@@ -14,7 +14,7 @@ returns-in_err-interface-clause-refused c =
 
 pub returns-clause-adds : goal.returns-clause-adds
 returns-clause-adds c =
-    let cs = resolved_scopes_of c.args.walk.now.interfaces.now in
+    let cs = resolved_scopes_of c.args.interfaces.now in
     let added = c.in_ok-interface.interface in
     let before = c.args.required.now.items in
     let after = c.interface_of.new.required.items in

@@ -7,13 +7,13 @@ use Rattle.wit_type_tree.specs.declared.types.ResourceFunc.{ResourceFunc}
 use Rattle.wit_syntax.specs.Function.{resource_function}
 use Rattle.wit_syntax.specs.Sides.{SideItem, SideFunction}
 use Rattle.wit_syntax.proofs.Refusing.{refused_weaker}
-use Rattle.wit_contents.specs.Walk.{AddsMembers, IsWrongAmong, resource_items, stage}
+use Rattle.wit_contents.specs.Walk.{AddsMembers, IsWrongAmong, resource_items, stage, walk_of}
 use Rattle.wit_contents.proofs.PartItems.{resource_more, resource_split}
 use Rattle.wit_contents.proofs.Walking.{members_none, members_then, next_then, wrong_later}
 use Rattle.wit_contents.proofs.walk.walk_functions.Goals as goal
 
 pub loop-function-init : goal.loop-function-init
-loop-function-init c = λ i n. members_none c.args.walk.now n.prefix (stage c.args.types.now i c.args.walked.now) n.keyed
+loop-function-init c = λ i n. members_none (walk_of c.args.item.now c.args.walk.now) n.prefix (stage c.args.types.now i c.args.walked.now) n.keyed
 
 pub walk_function-requires : goal.walk_function-requires
 walk_function-requires c =
@@ -22,12 +22,12 @@ walk_function-requires c =
     let f = c.function-item.result in
     let r = c.args.resource in
     let at : slice_get fs k ≡ Some f = slice_get_read fs _ k f refl c.loop-function-test.true c.function-item.is in
-    next_then c.args.walk.now (resource_items r fs) (resource_items r (take k fs)) (SideFunction (resource_function r f) ∷ []) (resource_items r (drop (k + 1) fs)) (stage c.args.types.now [] c.args.walked.now) (stage c.loop-function.types [] c.loop-function.walked) c.requires (resource_split r fs k f at) (c.loop-function.invariant [] c.requires)
+    next_then (walk_of c.args.item.now c.args.walk.now) (resource_items r fs) (resource_items r (take k fs)) (SideFunction (resource_function r f) ∷ []) (resource_items r (drop (k + 1) fs)) (stage c.args.types.now [] c.args.walked.now) (stage c.loop-function.types [] c.loop-function.walked) c.requires (resource_split r fs k f at) (c.loop-function.invariant [] c.requires)
 
 pub returns-in_err-walk_function-clause-refused : goal.returns-in_err-walk_function-clause-refused
 returns-in_err-walk_function-clause-refused c =
     let p = err_from_is_err_and c.from_residual.result c.from_residual.ensures.1 in
-    let w = c.args.walk.now in
+    let w = walk_of c.args.item.now c.args.walk.now in
     let fs = c.args.functions.now in
     let k = c.loop-function.function-index in
     let f = c.function-item.result in
@@ -46,7 +46,7 @@ returns-in_err-walk_function-clause-refused c =
 
 pub loop-function-preserved : goal.loop-function-preserved
 loop-function-preserved c =
-    let w = c.args.walk.now in
+    let w = walk_of c.args.item.now c.args.walk.now in
     let fs = c.args.functions.now in
     let k = c.loop-function.function-index in
     let f = c.function-item.result in
@@ -67,4 +67,4 @@ loop-function-preserved c =
 pub returns-clause-adds : goal.returns-clause-adds
 returns-clause-adds c = λ i n.
     let fs = c.args.functions.now in
-    subst (λ (l : List ResourceFunc). AddsMembers c.args.walk.now n.prefix (resource_items c.args.resource l) (stage c.args.types.now i c.args.walked.now) (stage c.loop-function.types i c.loop-function.walked)) (take_all c.loop-function.function-index fs c.loop-function-test.false) (c.loop-function.invariant i n)
+    subst (λ (l : List ResourceFunc). AddsMembers (walk_of c.args.item.now c.args.walk.now) n.prefix (resource_items c.args.resource l) (stage c.args.types.now i c.args.walked.now) (stage c.loop-function.types i c.loop-function.walked)) (take_all c.loop-function.function-index fs c.loop-function-test.false) (c.loop-function.invariant i n)

@@ -1,7 +1,7 @@
 use Rattle.std.proofs.Common.{List, take}
 use Rattle.wit_model.specs.declared.interface.Interface.{Interface}
-use Rattle.wit_contents.specs.Walk.{AddsMembers, IsNext, resource_items, stage}
+use Rattle.wit_contents.specs.Walk.{AddsMembers, IsNext, resource_items, stage, walk_of}
 use Rattle.wit_contents.proofs.walk.walk_functions.Given as goal
 
 abbrev pub invariant-loop-function : goal.invariant-loop-function
-invariant-loop-function l = (i : List Interface) (n : IsNext l.walk (resource_items l.resource l.functions) l.fn.walked) → AddsMembers l.walk n.prefix (resource_items l.resource (take l.function-index l.functions)) (stage l.fn.types i l.fn.walked) (stage l.types i l.walked)
+invariant-loop-function l = (i : List Interface) (n : IsNext (walk_of l.item l.walk) (resource_items l.resource l.functions) l.fn.walked) → AddsMembers (walk_of l.item l.walk) n.prefix (resource_items l.resource (take l.function-index l.functions)) (stage l.fn.types i l.fn.walked) (stage l.types i l.walked)

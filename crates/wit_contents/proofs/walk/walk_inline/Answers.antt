@@ -16,7 +16,7 @@ use Rattle.wit_links.specs.declared.inside.Counts.{Counts}
 use Rattle.wit_links.specs.SideCounts.{inline_of, inline_side}
 use Rattle.wit_links.proofs.Inlined.{names_own, names_within}
 use Rattle.wit_item_entries.specs.Body.{IsSoundScope}
-use Rattle.wit_contents.specs.Walk.{AddsInside, IsWrongAmong, IsWrongInline, WrongClash, WrongInside, WrongMetadata, stage, walk_item}
+use Rattle.wit_contents.specs.Walk.{AddsInside, IsWrongAmong, IsWrongInline, WrongClash, WrongInside, WrongMetadata, stage, walk_item, walk_of}
 use Rattle.wit_contents.proofs.Members.{inline_here, member_inline}
 use Rattle.wit_contents.proofs.Walking.{wrong_one}
 use Rattle.wit_contents.proofs.walk.walk_inline.Goals as goal
@@ -26,9 +26,9 @@ inside_scope-scope-requires c =
     let n = c.requires.next in
     let x = c.args.inline in
     let side = x.written.now.side in
-    let i = c.args.walk.now.item.now in
+    let i = c.args.item.now in
     let count : c.on-counts.result.inline ≡ length (flat_map item_inline (items_on side n.prefix)) = ap (λ (k : Counts). k.inline) c.on-counts.ensures ∙ n.seen.inline side in
-    record { within = names_within (inside_view side i) (walk_item c.args.walk.now) n.prefix n.rest x.written.now x.name x.items.now c.on-counts.result.inline (n.walk.item.written side) n.sides count }
+    record { within = names_within (inside_view side i) (walk_item (walk_of c.args.item.now c.args.walk.now)) n.prefix n.rest x.written.now x.name x.items.now c.on-counts.result.inline (n.walk.item.written side) n.sides count }
 
 pub resolve_inline-requires-clause-sort : goal.resolve_inline-requires-clause-sort
 resolve_inline-requires-clause-sort c = ap is_world c.inside_scope-scope.ensures.item
@@ -38,8 +38,8 @@ resolve_inline-requires-clause-named c =
     let n = c.requires.next in
     let x = c.args.inline in
     let side = x.written.now.side in
-    let borrowed = c.args.walk.now.item.now in
-    let i = walk_item c.args.walk.now in
+    let borrowed = c.args.item.now in
+    let i = walk_item (walk_of c.args.item.now c.args.walk.now) in
     let scope = c.inside_scope-scope.result in
     let count : c.on-counts.result.inline ≡ length (flat_map item_inline (items_on side n.prefix)) = ap (λ (k : Counts). k.inline) c.on-counts.ensures ∙ n.seen.inline side in
     let own : inline_item i x.place (inline_side x) ≡ scope_item scope ∷ [] = ap (λ (world : List _). record { top = i.top; declared = TheInline world x.place x.written.now x.name x.items.now } ∷ []) (sym c.requires.world) ∙ ap (λ (u : Item). u ∷ []) (sym c.inside_scope-scope.ensures.item) in
@@ -54,12 +54,12 @@ put_inline-requires c = c.requires.next.keyed
 pub returns-in_err-id-clause-refused : goal.returns-in_err-id-clause-refused
 returns-in_err-id-clause-refused c =
     let p = err_from_is_err_and c.from_residual.result c.from_residual.ensures.1 in
-    let w = c.args.walk.now in
+    let w = walk_of c.args.item.now c.args.walk.now in
     let x = c.args.inline in
     let side = x.written.now.side in
     let u = inline_of (walk_item w) x in
     let a = stage c.args.types.now c.args.inside.now c.args.walked.now in
-    let wrong = IsWrongInline w c.args.types.now c.args.inside.now in
+    let wrong = IsWrongInline w.walk.interfaces.now c.args.types.now c.args.inside.now in
     rw (p.1, p.2) (λ n.
     let here : inline_after (walk_item w) n.prefix (inline_side x ∷ []) ≡ u ∷ [] = inline_here (walk_item w) n.prefix x c.requires.world (c.requires.place ∙ n.seen.interfaces side) in
     refused_weaker (wrong (scope_item c.inside_scope-scope.result)) (IsWrongAmong w n.prefix (inline_side x ∷ []) a) _ (λ f h. wrong_one w n.prefix (inline_side x) a f n.keyed (WrongInside u here (subst (λ (i : Item). wrong i f) c.inside_scope-scope.ensures.item h))) c.in_err-id.ensures.refused)
@@ -67,7 +67,7 @@ returns-in_err-id-clause-refused c =
 pub returns-in_err-check_metadata-clause-refused : goal.returns-in_err-check_metadata-clause-refused
 returns-in_err-check_metadata-clause-refused c =
     let p = err_from_is_err_and c.from_residual-in_err-check_metadata.result c.from_residual-in_err-check_metadata.ensures.1 in
-    let w = c.args.walk.now in
+    let w = walk_of c.args.item.now c.args.walk.now in
     let x = c.args.inline in
     let a = stage c.args.types.now c.args.inside.now c.args.walked.now in
     rw (p.1, p.2) (λ n. refused_weaker (IsBrokenMetadata x.written.now.attributes.items) (IsWrongAmong w n.prefix (inline_side x ∷ []) a) _ (λ f broken. wrong_one w n.prefix (inline_side x) a f n.keyed (WrongMetadata broken)) (rw c.deref.ensures.value at (refused_by (metadata_agree c.deref.result.now) c.in_err-check_metadata.ensures)))
@@ -75,7 +75,7 @@ returns-in_err-check_metadata-clause-refused c =
 pub returns-in_err-put_inline-clause-refused : goal.returns-in_err-put_inline-clause-refused
 returns-in_err-put_inline-clause-refused c =
     let p = err_from_is_err_and c.from_residual-in_err-put_inline.result c.from_residual-in_err-put_inline.ensures.1 in
-    let w = c.args.walk.now in
+    let w = walk_of c.args.item.now c.args.walk.now in
     let x = c.args.inline in
     let m = c.args.walked.now in
     let a = stage c.args.types.now c.args.inside.now m in
@@ -88,7 +88,7 @@ returns-in_err-seen-clause-refused c =
 
 pub returns-clause-adds : goal.returns-clause-adds
 returns-clause-adds c = λ n.
-    let w = c.args.walk.now in
+    let w = walk_of c.args.item.now c.args.walk.now in
     let x = c.args.inline in
     let side = x.written.now.side in
     let u = inline_of (walk_item w) x in
@@ -98,7 +98,7 @@ returns-clause-adds c = λ n.
     let types = c.resolve_inline.new.types in
     let inside = c.resolve_inline.new.inside in
     let here : inline_after (walk_item w) n.prefix (inline_side x ∷ []) ≡ u ∷ [] = inline_here (walk_item w) n.prefix x c.requires.world (c.requires.place ∙ n.seen.interfaces side) in
-    let step = subst (AddsInside w c.args.types.now types c.args.inside.now inside m.required.items c.resolve_inline.new.required.items) same says.adds in
+    let step = subst (AddsInside w.walk.interfaces.now c.args.types.now types c.args.inside.now inside m.required.items c.resolve_inline.new.required.items) same says.adds in
     let sound : IsSoundScope u = subst IsSoundScope same says.sound in
     let sided : (f : Fault) → IsBrokenSides u f → ⊥ = subst (λ (i : Item). (f : Fault) → IsBrokenSides i f → ⊥) same says.sided in
     let noted = rw c.deref.ensures.value at ((metadata_agree c.deref.result.now).unbroken c.in_ok-check_metadata.ensures) in

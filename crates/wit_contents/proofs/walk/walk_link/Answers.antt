@@ -16,7 +16,7 @@ use Rattle.wit_items.proofs.Usable.{filed_item}
 use Rattle.wit_world_sides.specs.Members.{IsWrongPut, path_link}
 use Rattle.wit_links.specs.Links.{IsLinkedTo, IsWrongLink}
 use Rattle.wit_links.proofs.Leading.{addresses_count, called_at}
-use Rattle.wit_contents.specs.Walk.{IsWrongAmong, WrongAgain, WrongClash, WrongMetadata, WrongPath, stage, walk_item}
+use Rattle.wit_contents.specs.Walk.{IsWrongAmong, WrongAgain, WrongClash, WrongMetadata, WrongPath, stage, walk_item, walk_of}
 use Rattle.wit_contents.proofs.Linking.{link_path}
 use Rattle.wit_contents.proofs.Members.{member_link}
 use Rattle.wit_contents.proofs.Walking.{wrong_one}
@@ -24,11 +24,11 @@ use Rattle.wit_contents.proofs.walk.walk_link.Goals as goal
 
 pub linked_place-requires : goal.linked_place-requires
 linked_place-requires c =
-    let w = c.args.walk.now in
+    let w = walk_of c.args.item.now c.args.walk.now in
     let n = c.requires in
     let link = path_link c.args.link in
     let at : slice_get (side_items (walk_item w)) (length n.prefix) ≡ Some (SideLink link) = ap (λ (l : List SideItem). slice_get l (length n.prefix)) n.sides ∙ at_middle n.prefix (SideLink link) n.rest in
-    record { path = record { declared = declared_view w.item.now.declared; item = filed_item w.interfaces.now.files w.item.now n.walk.item.filed; among = link_path (walk_item w) (length n.prefix) link at } }
+    record { path = record { declared = declared_view w.item.declared; item = filed_item w.walk.interfaces.now.files w.item n.walk.item.filed; among = link_path (walk_item w) (length n.prefix) link at } }
 
 pub id_at-id-requires : goal.id_at-id-requires
 id_at-id-requires c =
@@ -44,7 +44,7 @@ put_link-requires c = c.requires.keyed
 pub returns-in_err-check_metadata-clause-refused : goal.returns-in_err-check_metadata-clause-refused
 returns-in_err-check_metadata-clause-refused c =
     let p = err_from_is_err_and c.from_residual.result c.from_residual.ensures.1 in
-    let w = c.args.walk.now in
+    let w = walk_of c.args.item.now c.args.walk.now in
     let link = path_link c.args.link in
     rw (p.1, p.2) (λ ts inside n.
     let a = stage ts inside c.args.walked.now in
@@ -53,27 +53,27 @@ returns-in_err-check_metadata-clause-refused c =
 pub returns-in_err-place-clause-refused : goal.returns-in_err-place-clause-refused
 returns-in_err-place-clause-refused c =
     let p = err_from_is_err_and c.from_residual-in_err-place.result c.from_residual-in_err-place.ensures.1 in
-    let w = c.args.walk.now in
-    let files = w.interfaces.now.files in
-    let by_name = w.interfaces.now.by_name in
+    let w = walk_of c.args.item.now c.args.walk.now in
+    let files = w.walk.interfaces.now.files in
+    let by_name = w.walk.interfaces.now.by_name in
     let link = path_link c.args.link in
     rw (p.1, p.2) (λ ts inside n.
     let a = stage ts inside c.args.walked.now in
-    let top : top_at files w.item.now.place ≡ (walk_item w).top = ap names_at_top n.walk.item.filed.file in
-    refused_weaker (IsWrongLink files by_name (top_at files w.item.now.place) link.path) (IsWrongAmong w n.prefix (SideLink link ∷ []) a) _ (λ f wrong. wrong_one w n.prefix (SideLink link) a f n.keyed (WrongPath link refl (subst (λ (t : List TopName). IsWrongLink files by_name t link.path f) top wrong))) c.in_err-place.ensures.refused)
+    let top : top_at files w.item.place ≡ (walk_item w).top = ap names_at_top n.walk.item.filed.file in
+    refused_weaker (IsWrongLink files by_name (top_at files w.item.place) link.path) (IsWrongAmong w n.prefix (SideLink link ∷ []) a) _ (λ f wrong. wrong_one w n.prefix (SideLink link) a f n.keyed (WrongPath link refl (subst (λ (t : List TopName). IsWrongLink files by_name t link.path f) top wrong))) c.in_err-place.ensures.refused)
 
 pub returns-in_err-put_link-clause-refused : goal.returns-in_err-put_link-clause-refused
 returns-in_err-put_link-clause-refused c =
     let p = err_from_is_err_and c.from_residual-in_err-put_link.result c.from_residual-in_err-put_link.ensures.1 in
-    let w = c.args.walk.now in
-    let files = w.interfaces.now.files in
-    let by_name = w.interfaces.now.by_name in
+    let w = walk_of c.args.item.now c.args.walk.now in
+    let files = w.walk.interfaces.now.files in
+    let by_name = w.walk.interfaces.now.by_name in
     let link = path_link c.args.link in
     let m = c.args.walked.now in
     let id = c.id_at-id.result in
     rw (p.1, p.2) (λ ts inside n.
     let a = stage ts inside m in
-    let top : top_at files w.item.now.place ≡ (walk_item w).top = ap names_at_top n.walk.item.filed.file in
+    let top : top_at files w.item.place ≡ (walk_item w).top = ap names_at_top n.walk.item.filed.file in
     let leads : IsLinkedTo files by_name (walk_item w).top link.path id = subst (λ (k : ℕ). IsLinkedTo files by_name (walk_item w).top link.path k) (sym c.id_at-id.ensures) (subst (λ (t : List TopName). IsLinkedTo files by_name t link.path c.in_ok-place.place) top c.in_ok-place.ensures.leads) in
     refused_weaker (IsWrongPut m.members link id) (IsWrongAmong w n.prefix (SideLink link ∷ []) a) _ (λ f wrong. wrong_one w n.prefix (SideLink link) a f n.keyed (elim wrong [
       | inl clash ↦ WrongClash clash
@@ -87,11 +87,11 @@ returns-in_err-seen-clause-refused c =
 
 pub returns-clause-adds : goal.returns-clause-adds
 returns-clause-adds c = λ ts inside n.
-    let w = c.args.walk.now in
-    let is = w.interfaces.now in
+    let w = walk_of c.args.item.now c.args.walk.now in
+    let is = w.walk.interfaces.now in
     let link = path_link c.args.link in
     let id = c.id_at-id.result in
-    let top : top_at is.files w.item.now.place ≡ (walk_item w).top = ap names_at_top n.walk.item.filed.file in
+    let top : top_at is.files w.item.place ≡ (walk_item w).top = ap names_at_top n.walk.item.filed.file in
     let leads : IsLinkedTo is.files is.by_name (walk_item w).top link.path id = subst (λ (k : ℕ). IsLinkedTo is.files is.by_name (walk_item w).top link.path k) (sym c.id_at-id.ensures) (subst (λ (t : List TopName). IsLinkedTo is.files is.by_name t link.path c.in_ok-place.place) top c.in_ok-place.ensures.leads) in
     let present = called_at (prefix_of is.files) is.arena is.by_name (path_scope (walk_item w).top link.path) id is.prefix is.found leads.1 in
     let noted = rw c.deref.ensures.value at ((metadata_agree c.deref.result.now).unbroken c.in_ok-check_metadata.ensures) in

@@ -1,7 +1,6 @@
 use Rattle.std.proofs.Common.{◌≡◌, ◌⊎◌, ◌++◌, List, length, map, inl, inr, sym, ap, ◌∙◌, subst, refl, append_assoc}
 use Rattle.std.proofs.lemmas.Result.{err_from_is_err_and}
 use Rattle.std.specs.List.{flat_map}
-use Rattle.wit_type_tree.specs.declared.leaves.Id.{Id}
 use Rattle.wit_tree.specs.declared.tree.WorldSide.{WorldSide}
 use Rattle.wit_tree.specs.declared.tree.WorldSide.TheVariants.{Imported, Exported}
 use Rattle.wit_types.specs.declared.types.TypeOwner.TheVariants.{World as OfWorld}
@@ -12,24 +11,24 @@ use Rattle.wit_syntax.specs.Source.{Declared, about, local_name, scope_names}
 use Rattle.wit_syntax.proofs.Refusing.{refused_weaker}
 use Rattle.wit_arena.specs.ResolvedArenas.{IsBrokenItemStability, IsWrongWorld, WrongWorldStability, LostInclude}
 use Rattle.wit_arena.specs.Resolving.{IsLostInclude, Required}
-use Rattle.wit_rules.specs.BorrowedFunctions.{function_view}
 use Rattle.wit_rules.specs.Signatures.{AreResults}
 use Rattle.wit_files.specs.FileNames.{names_at_top}
 use Rattle.wit_items.specs.BorrowedItems.{item_view, others_of}
 use Rattle.wit_items.proofs.Usable.{filed_item}
 use Rattle.wit_item_names.specs.ForeignAddresses.{prefix_of}
 use Rattle.wit_items.specs.ResolvedInterfaces.{resolved_scopes_of}
-use Rattle.wit_item_entries.specs.AddedNames.{AddsTurn, IsWrongNames}
+use Rattle.wit_item_entries.specs.AddedNames.{IsWrongNames}
 use Rattle.wit_item_entries.proofs.ScopeFunctions.{turn_added}
 use Rattle.wit_item_entries.proofs.WrongNames.{wrong_names, wrong_world}
 use Rattle.wit_scopes.specs.PlacedNames.{AreNamesPlaced}
 use Rattle.wit_scopes.specs.BorrowedNames.{name_view}
 use Rattle.wit_uses.specs.NameOrder.{IsTurn}
 use Rattle.wit_world_sides.proofs.Putting.{keyed_differ}
-use Rattle.wit_contents.specs.Walk.{IsWrongWalk}
+use Rattle.wit_contents.specs.Walk.{IsWrongWalk, walk_of}
+use Rattle.wit_contents.specs.WorldWalk.{IsWalkOf}
 use Rattle.wit_contents.specs.AddedWorlds.{IsWrongIn}
 use Rattle.wit_contents.proofs.Parts.{content_adds, extended, right_world, world_stable}
-use Rattle.wit_contents.proofs.Walks.{is_walk, refused_of, walk_of}
+use Rattle.wit_contents.proofs.Walks.{turn_of}
 use Rattle.wit_contents.proofs.WrongWalk.{wrong_walk}
 use Rattle.wit_contents.proofs.world.world_content.Goals as goal
 
@@ -81,28 +80,28 @@ written_results-requires c =
     let turn : IsTurn (scope_names item) names.turn.items = turn_added _ _ _ _ _ _ _ _ n in
     subst (λ l. AllDiffer (map local_name l)) (sym (ap (map name_view) c.deref-2.ensures.value ∙ c.requires.item.named)) turn.distinct
 
-pub walk_sides-requires-clause-walk : goal.walk_sides-requires-clause-walk
-walk_sides-requires-clause-walk c =
+pub walked_sides-requires-clause-item : goal.walked_sides-requires-clause-item
+walked_sides-requires-clause-item c = c.requires.item
+
+pub walked_sides-requires-clause-scope : goal.walked_sides-requires-clause-scope
+walked_sides-requires-clause-scope c =
     let item = item_view c.args.item.now in
     let names = c.in_ok-names.names in
     let same : map name_view c.deref.result.now ≡ scope_names item = ap (map name_view) c.deref.ensures.value ∙ c.requires.item.named in
     let n = rw (c.next_id.ensures, same) at c.in_ok-names.ensures.adds in
-    let turn : IsTurn (scope_names item) names.turn.items = turn_added _ _ _ _ _ _ _ _ n in
-    let lent : c.deref-3.result.now ≡ names.turn.items = c.deref-3.ensures.value in
-    let fns : map function_view c.deref-4.result.now ≡ functions item = ap (map function_view) c.deref-4.ensures.value ∙ c.in_ok-functions.ensures ∙ ap (λ (d : Declared). flat_map part_functions (about d).parts) (sym c.declared_world-world.ensures) in
-    let results : AreResults c.in_ok-results.results (scope_names item) = subst (AreResults c.in_ok-results.results) (ap (map name_view) c.deref-2.ensures.value ∙ c.requires.item.named) c.in_ok-results.ensures in
-    is_walk _ names.turn.items c.requires.item c.declared_world-world.ensures fns results turn names.listed lent
-
-pub walk_sides-requires-clause-closed : goal.walk_sides-requires-clause-closed
-walk_sides-requires-clause-closed c =
     let are = rw (ap names_at_top c.requires.item.filed.file) at c.in_ok-includes.ensures.are in
-    c.is_closed-closed.ensures (written_includes (item_view c.args.item.now)) (ap length c.as_slice.ensures ∙ are.count)
+    record {
+      functions = c.in_ok-functions.ensures ∙ ap (λ (d : Declared). flat_map part_functions (about d).parts) (sym c.declared_world-world.ensures);
+      results = subst (AreResults c.in_ok-results.results) (ap (map name_view) c.deref-2.ensures.value ∙ c.requires.item.named) c.in_ok-results.ensures;
+      turn = turn_added _ _ _ _ _ _ _ _ n;
+      closed = c.is_closed-closed.ensures (written_includes item) (ap length c.as_slice.ensures ∙ are.count);
+    }
 
 pub settle-requires-clause-differ : goal.settle-requires-clause-differ
-settle-requires-clause-differ c = keyed_differ c.in_ok-walked.walked.members c.in_ok-walked.ensures.adds.adds.keyed
+settle-requires-clause-differ c = keyed_differ c.in_ok-walked.walked.members c.in_ok-walked.ensures.adds.2.adds.keyed
 
 pub settle-requires-clause-called : goal.settle-requires-clause-called
-settle-requires-clause-called c = c.in_ok-walked.ensures.adds.adds.keyed.called
+settle-requires-clause-called c = c.in_ok-walked.ensures.adds.2.adds.keyed.called
 
 pub returns-in_err-functions-clause-refused : goal.returns-in_err-functions-clause-refused
 returns-in_err-functions-clause-refused c =
@@ -129,38 +128,42 @@ returns-in_err-sides-clause-refused c =
     let p = err_from_is_err_and c.from_residual-in_err-sides.result c.from_residual-in_err-sides.ensures.1 in
     rw p.1 (inl p.2)
 
--- the walk, with its names
+-- the walk, after its names
 pub returns-in_err-walked-clause-refused : goal.returns-in_err-walked-clause-refused
 returns-in_err-walked-clause-refused c =
     let p = err_from_is_err_and c.from_residual-in_err-walked.result c.from_residual-in_err-walked.ensures.1 in
     let ws = c.args.worlds.now in
+    let is = ws.interfaces.now in
     let item = item_view c.args.item.now in
     let names = c.in_ok-names.names in
     let same : map name_view c.deref.result.now ≡ scope_names item = ap (map name_view) c.deref.ensures.value ∙ c.requires.item.named in
     let n = rw (c.next_id.ensures, same) at c.in_ok-names.ensures.adds in
-    let turn : IsTurn (scope_names item) names.turn.items = turn_added _ _ _ _ _ _ _ _ n in
-    let lent : c.deref-3.result.now ≡ names.turn.items = c.deref-3.ensures.value in
-    let fns : map function_view c.deref-4.result.now ≡ functions item = ap (map function_view) c.deref-4.ensures.value ∙ c.in_ok-functions.ensures ∙ ap (λ (d : Declared). flat_map part_functions (about d).parts) (sym c.declared_world-world.ensures) in
-    let results : AreResults c.in_ok-results.results (scope_names item) = subst (AreResults c.in_ok-results.results) (ap (map name_view) c.deref-2.ensures.value ∙ c.requires.item.named) c.in_ok-results.ensures in
-    let is = refused_of _ _ _ _ c.in_err-walked.ensures.refused (is_walk _ names.turn.items c.requires.item c.declared_world-world.ensures fns results turn names.listed lent) in
-    let added = subst (λ (l : List Id). AddsTurn c.args.types.now c.resolve_names.new.types (resolved_scopes_of ws.interfaces.now) (OfWorld (length ws.arena)) (scope_names item) names.types l names.required.items) (sym lent) n in
-    rw (p.1, p.2) (refused_weaker (IsWrongWalk _ c.resolve_names.new.types c.args.inside.now) (IsWrongIn ws c.args.types.now c.args.inside.now item) _ (wrong_walk _ c.args.types.now c.resolve_names.new.types c.args.inside.now ws.by_name (OfWorld (length ws.arena)) names.required.items is added) c.in_err-walked.ensures.refused)
+    let o = OfWorld (length ws.arena) in
+    let old = c.args.types.now in
+    let middle = c.resolve_names.new.types in
+    let inside = c.args.inside.now in
+    let h = c.in_err-walked.ensures.refused in
+    let w = h.0 in
+    let of : IsWalkOf w c.args.item.now is names = h.1 in
+    let added = turn_of w c.args.item.now is names of old middle o n in
+    rw (p.1, p.2) (refused_weaker (IsWrongWalk (walk_of c.args.item.now w) middle inside) (IsWrongIn ws old inside item) _ (λ f wrong. rw of.interfaces at (wrong_walk (walk_of c.args.item.now w) old middle inside ws.by_name o names.required.items of.walk added f wrong)) h.2)
 
 pub returns-clause-adds : goal.returns-clause-adds
 returns-clause-adds c = λ world has ss known.
     let ws = c.args.worlds.now in
+    let is = ws.interfaces.now in
     let item = item_view c.args.item.now in
     let names = c.in_ok-names.names in
     let same : map name_view c.deref.result.now ≡ scope_names item = ap (map name_view) c.deref.ensures.value ∙ c.requires.item.named in
     let n = rw (c.next_id.ensures, same) at c.in_ok-names.ensures.adds in
-    let turn : IsTurn (scope_names item) names.turn.items = turn_added _ _ _ _ _ _ _ _ n in
-    let lent : c.deref-3.result.now ≡ names.turn.items = c.deref-3.ensures.value in
-    let fns : map function_view c.deref-4.result.now ≡ functions item = ap (map function_view) c.deref-4.ensures.value ∙ c.in_ok-functions.ensures ∙ ap (λ (d : Declared). flat_map part_functions (about d).parts) (sym c.declared_world-world.ensures) in
-    let results : AreResults c.in_ok-results.results (scope_names item) = subst (AreResults c.in_ok-results.results) (ap (map name_view) c.deref-2.ensures.value ∙ c.requires.item.named) c.in_ok-results.ensures in
-    let is = walk_of _ _ _ _ _ _ c.in_ok-walked.ensures.adds (is_walk _ names.turn.items c.requires.item c.declared_world-world.ensures fns results turn names.listed lent) in
-    let added = subst (λ (l : List Id). AddsTurn c.args.types.now c.resolve_names.new.types (resolved_scopes_of ws.interfaces.now) (OfWorld (length ws.arena)) (scope_names item) names.types l names.required.items) (sym lent) n in
+    let o = OfWorld (length ws.arena) in
+    let old = c.args.types.now in
+    let middle = c.resolve_names.new.types in
     let m = c.in_ok-walked.walked in
-    let all = c.in_ok-walked.ensures.adds in
+    let h = c.in_ok-walked.ensures.adds in
+    let w = h.0 in
+    let of : IsWalkOf w c.args.item.now is names = h.1 in
+    let added = turn_of w c.args.item.now is names of old middle o n in
     let are = rw (ap names_at_top c.requires.item.filed.file) at c.in_ok-includes.ensures.are in
     let closed = c.is_closed-closed.ensures (written_includes item) (ap length c.as_slice.ensures ∙ are.count) in
     let settled = λ (s : WorldSide). c.in_ok-sides.ensures s (written_includes item) closed in
@@ -168,39 +171,39 @@ returns-clause-adds c = λ world has ss known.
       own = names.required.items ++ m.required.items;
       list =
           c.in_ok-add_required-2.ensures
-          ∙ ap (λ (l : List Required). l ++ c.deref-6.result.now) c.in_ok-add_required.ensures
-          ∙ ap (λ (l : List Required). (c.args.required.now.items ++ c.deref-5.result.now) ++ l) c.deref-6.ensures.value
-          ∙ ap (λ (l : List Required). (c.args.required.now.items ++ l) ++ m.required.items) c.deref-5.ensures.value
+          ∙ ap (λ (l : List Required). l ++ c.deref-4.result.now) c.in_ok-add_required.ensures
+          ∙ ap (λ (l : List Required). (c.args.required.now.items ++ c.deref-3.result.now) ++ l) c.deref-4.ensures.value
+          ∙ ap (λ (l : List Required). (c.args.required.now.items ++ l) ++ m.required.items) c.deref-3.ensures.value
           ∙ append_assoc c.args.required.now.items names.required.items m.required.items;
-      holds = content_adds _ (others_of ws.interfaces.now.files) ws.arena c.args.types.now c.resolve_names.new.types c.walk_sides.new.types c.args.inside.now c.walk_sides.new.inside names.required.items m is added all world ss known has.says (has.imports ∙ settled Imported) (has.exports ∙ settled Exported) (rw has.includes are) c.in_ok-walked.ensures.paired;
+      holds = rw of.interfaces at (content_adds (walk_of c.args.item.now w) (others_of is.files) ws.arena old middle c.walked_sides.new.types c.args.inside.now c.walked_sides.new.inside names.required.items m of.walk added h.2 world ss known has.says (has.imports ∙ settled Imported) (has.exports ∙ settled Exported) (rw has.includes are) c.in_ok-walked.ensures.paired);
     }
 
 pub returns-clause-extended : goal.returns-clause-extended
 returns-clause-extended c =
     let ws = c.args.worlds.now in
+    let is = ws.interfaces.now in
     let item = item_view c.args.item.now in
     let names = c.in_ok-names.names in
     let same : map name_view c.deref.result.now ≡ scope_names item = ap (map name_view) c.deref.ensures.value ∙ c.requires.item.named in
     let n = rw (c.next_id.ensures, same) at c.in_ok-names.ensures.adds in
-    let turn : IsTurn (scope_names item) names.turn.items = turn_added _ _ _ _ _ _ _ _ n in
-    let lent : c.deref-3.result.now ≡ names.turn.items = c.deref-3.ensures.value in
-    let fns : map function_view c.deref-4.result.now ≡ functions item = ap (map function_view) c.deref-4.ensures.value ∙ c.in_ok-functions.ensures ∙ ap (λ (d : Declared). flat_map part_functions (about d).parts) (sym c.declared_world-world.ensures) in
-    let results : AreResults c.in_ok-results.results (scope_names item) = subst (AreResults c.in_ok-results.results) (ap (map name_view) c.deref-2.ensures.value ∙ c.requires.item.named) c.in_ok-results.ensures in
-    let is = walk_of _ _ _ _ _ _ c.in_ok-walked.ensures.adds (is_walk _ names.turn.items c.requires.item c.declared_world-world.ensures fns results turn names.listed lent) in
-    let added = subst (λ (l : List Id). AddsTurn c.args.types.now c.resolve_names.new.types (resolved_scopes_of ws.interfaces.now) (OfWorld (length ws.arena)) (scope_names item) names.types l names.required.items) (sym lent) n in
-    extended _ (others_of ws.interfaces.now.files) ws.arena c.args.types.now c.resolve_names.new.types c.walk_sides.new.types c.args.inside.now c.walk_sides.new.inside names.required.items c.in_ok-walked.walked is added c.in_ok-walked.ensures.adds
+    let h = c.in_ok-walked.ensures.adds in
+    let w = h.0 in
+    let of : IsWalkOf w c.args.item.now is names = h.1 in
+    let added = turn_of w c.args.item.now is names of c.args.types.now c.resolve_names.new.types (OfWorld (length ws.arena)) n in
+    extended (walk_of c.args.item.now w) (others_of is.files) ws.arena c.args.types.now c.resolve_names.new.types c.walked_sides.new.types c.args.inside.now c.walked_sides.new.inside names.required.items c.in_ok-walked.walked of.walk added h.2
 
 pub returns-clause-right : goal.returns-clause-right
 returns-clause-right c = λ legal.
     let ws = c.args.worlds.now in
+    let is = ws.interfaces.now in
     let item = item_view c.args.item.now in
     let names = c.in_ok-names.names in
     let same : map name_view c.deref.result.now ≡ scope_names item = ap (map name_view) c.deref.ensures.value ∙ c.requires.item.named in
     let n = rw (c.next_id.ensures, same) at c.in_ok-names.ensures.adds in
-    let turn : IsTurn (scope_names item) names.turn.items = turn_added _ _ _ _ _ _ _ _ n in
-    let lent : c.deref-3.result.now ≡ names.turn.items = c.deref-3.ensures.value in
-    let fns : map function_view c.deref-4.result.now ≡ functions item = ap (map function_view) c.deref-4.ensures.value ∙ c.in_ok-functions.ensures ∙ ap (λ (d : Declared). flat_map part_functions (about d).parts) (sym c.declared_world-world.ensures) in
-    let results : AreResults c.in_ok-results.results (scope_names item) = subst (AreResults c.in_ok-results.results) (ap (map name_view) c.deref-2.ensures.value ∙ c.requires.item.named) c.in_ok-results.ensures in
-    let is = walk_of _ _ _ _ _ _ c.in_ok-walked.ensures.adds (is_walk _ names.turn.items c.requires.item c.declared_world-world.ensures fns results turn names.listed lent) in
-    let added = subst (λ (l : List Id). AddsTurn c.args.types.now c.resolve_names.new.types (resolved_scopes_of ws.interfaces.now) (OfWorld (length ws.arena)) (scope_names item) names.types l names.required.items) (sym lent) n in
-    right_world _ (others_of ws.interfaces.now.files) ws.arena c.args.types.now c.resolve_names.new.types c.walk_sides.new.types c.args.inside.now c.walk_sides.new.inside names.required.items c.in_ok-walked.walked is added c.in_ok-walked.ensures.adds (world_stable item legal c.in_ok-includes.ensures.stable) (rw same at (c.in_ok-names.ensures.legal (functions item)))
+    let h = c.in_ok-walked.ensures.adds in
+    let w = h.0 in
+    let of : IsWalkOf w c.args.item.now is names = h.1 in
+    let added = turn_of w c.args.item.now is names of c.args.types.now c.resolve_names.new.types (OfWorld (length ws.arena)) n in
+    let stable = world_stable item legal c.in_ok-includes.ensures.stable in
+    let sound = rw same at (c.in_ok-names.ensures.legal (functions item)) in
+    rw of.interfaces at (right_world (walk_of c.args.item.now w) (others_of is.files) ws.arena c.args.types.now c.resolve_names.new.types c.walked_sides.new.types c.args.inside.now c.walked_sides.new.inside names.required.items c.in_ok-walked.walked of.walk added h.2 stable sound)

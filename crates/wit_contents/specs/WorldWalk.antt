@@ -1,0 +1,43 @@
+-- The walk of a world of the files, after its names: what it adds, or what is wrong.
+use Rattle.std.specs.Prelude.{◌≡◌, List, map}
+use Rattle.wit_type_tree.specs.declared.error.ParseError.{ParseError}
+use Rattle.wit_types.specs.declared.types.TypeDef.{TypeDef}
+use Rattle.wit_model.specs.declared.interface.Interface.{Interface}
+use Rattle.wit_syntax.specs.Broken.{Refused}
+use Rattle.wit_syntax.specs.Function.{functions as the_functions}
+use Rattle.wit_syntax.specs.ScopeTables.{includes}
+use Rattle.wit_syntax.specs.Source.{scope_names}
+use Rattle.wit_rules.specs.BorrowedFunctions.{function_view}
+use Rattle.wit_rules.specs.Signatures.{AreResults}
+use Rattle.wit_items.specs.BorrowedItems.{item_view}
+use Rattle.wit_items.specs.declared.interfaces.Interfaces.{Interfaces}
+use Rattle.wit_items.specs.declared.items.Item.{Item as BorrowedItem}
+use Rattle.wit_world_sides.specs.Settled.{none_of}
+use Rattle.wit_uses.specs.NameOrder.{IsTurn}
+use Rattle.wit_item_entries.specs.declared.names.ResolvedNames.{ResolvedNames}
+use Rattle.wit_contents.specs.declared.walk.Walk.{Walk}
+use Rattle.wit_contents.specs.declared.walk.Walked.{Walked}
+use Rattle.wit_contents.specs.declared.world.WorldScope.{WorldScope}
+use Rattle.wit_contents.specs.Walk.{AddsAll, IsWalk, IsWrongWalk, walk_of}
+
+-- its functions, and the definitions that are written as results, are those of the world, whose names are these in turn
+pub record IsScopeOfWorld (s : WorldScope) (i : BorrowedItem) : Type 0 where
+  pub functions : map function_view s.functions.items ≡ the_functions (item_view i)
+  pub results : AreResults s.results (scope_names (item_view i))
+  pub turn : IsTurn (scope_names (item_view i)) s.names.turn.items
+  pub closed : s.closed ≡ none_of (includes (item_view i))
+
+-- the world is walked over after these names
+pub record IsWalkOf (w : Walk) (i : BorrowedItem) (is : Interfaces) (names : ResolvedNames) : Type 0 where
+  pub walk : IsWalk (walk_of i w)
+  pub interfaces : w.interfaces.now ≡ is
+  pub types : w.scope.names.now ≡ names.types
+  pub turn : w.turn.now ≡ names.turn.items
+
+-- all that is on the sides of the world was added
+abbrev pub AddsSidesOf : BorrowedItem → Interfaces → ResolvedNames → List TypeDef → List TypeDef → List Interface → List Interface → Walked → Type 0
+AddsSidesOf i is names old new inside now m = (w : Walk) × IsWalkOf w i is names × AddsAll (walk_of i w) old new inside now m
+
+-- or something there is wrong
+abbrev pub RefusesSidesOf : BorrowedItem → Interfaces → ResolvedNames → List TypeDef → List Interface → ParseError → Type 0
+RefusesSidesOf i is names old inside e = (w : Walk) × IsWalkOf w i is names × Refused (IsWrongWalk (walk_of i w) old inside) e
