@@ -152,6 +152,9 @@ pub record IsWrongAmong (w : ItemWalk) (prefix xs : List SideItem) (a : Stage) (
 abbrev pub AddsNext : ItemWalk → List SideItem → Stage → Stage → Type 0
 AddsNext w xs a b = (n : IsNext w xs a.walked) → AddsMembers w n.prefix xs a b
 
+abbrev pub AddsItems : ItemWalk → List SideItem → List TypeDef → List Interface → Walked → List TypeDef → List Interface → Walked → Type 0
+AddsItems w xs old inside a new now b = AddsNext w xs (stage old inside a) (stage new now b)
+
 abbrev pub RefusesNext : ItemWalk → List SideItem → Stage → ParseError → Type 0
 RefusesNext w xs a e = (n : IsNext w xs a.walked) → Refused (IsWrongAmong w n.prefix xs a) e
 

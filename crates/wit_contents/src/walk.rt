@@ -14,7 +14,7 @@ ghost use Rattle.wit_scopes.specs.BorrowedNames.{name_view};
 ghost use Rattle.wit_world_sides.specs.Members.{path_link};
 ghost use Rattle.wit_links.specs.SideCounts.{inline_side, seen_on};
 ghost use Rattle.wit_item_entries.specs.Body.{HasLegalSides, IsSoundScope};
-ghost use Rattle.wit_contents.specs.Walk.{AddsInside, AddsNext, AddsTyped, IsNext, IsWrongInline, RefusesNext, RefusesTyped, next_place, resource_items, stage, walk_of};
+ghost use Rattle.wit_contents.specs.Walk.{AddsInside, AddsItems, AddsTyped, IsNext, IsWrongInline, RefusesNext, RefusesTyped, next_place, resource_items, stage, walk_of};
 
 use crate::interface::interface_of;
 use std::alloc::AllocError;
@@ -155,7 +155,7 @@ fn walk_inline<'f, 'a>(
     requires next { IsNext (walk_of item.now walk.now) (inline_side inline ∷ []) walked.old }
     requires world { inline.world.now ≡ item_name (item_view item.now) }
     requires place { inline.place ≡ (seen_on inline.written.now.side walked.old.seen).interfaces }
-    ensures adds { OnOk result (AddsNext (walk_of item.now walk.now) (inline_side inline.entry ∷ []) (stage types.old inside.old walked.old) (stage types.new inside.new walked.new)) }
+    ensures adds { OnOk result (AddsItems (walk_of item.now walk.now) (inline_side inline.entry ∷ []) types.old inside.old walked.old types.new inside.new walked.new) }
     ensures refused { IfErr result (RefusesNext (walk_of item.now walk.now) (inline_side inline.entry ∷ []) (stage types.old inside.old walked.old)) }
 {
     let alloc = *walk.interfaces.by_name.allocator();
@@ -212,7 +212,7 @@ fn walk_extern<'f, 'a>(
     walked: &mut Walked,
 ) -> ParseResult<()>
     requires { IsNext (walk_of item.now walk.now) (extern_items written.now written.now.kind) walked.old }
-    ensures adds { OnOk result (AddsNext (walk_of item.now walk.now) (extern_items written.now written.now.kind) (stage types.old inside.old walked.old) (stage types.new inside.new walked.new)) }
+    ensures adds { OnOk result (AddsItems (walk_of item.now walk.now) (extern_items written.now written.now.kind) types.old inside.old walked.old types.new inside.new walked.new) }
     ensures refused { IfErr result (RefusesNext (walk_of item.now walk.now) (extern_items written.now written.now.kind) (stage types.old inside.old walked.old)) }
 {
     match &written.kind {
@@ -301,7 +301,7 @@ pub(crate) fn walk_parts<'f, 'a>(
     walked: &mut Walked,
 ) -> ParseResult<()>
     requires { IsNext (walk_of item.now walk.now) (side_items (item_view item.now)) walked.old }
-    ensures adds { OnOk result (AddsNext (walk_of item.now walk.now) (side_items (item_view item.now)) (stage types.old inside.old walked.old) (stage types.new inside.new walked.new)) }
+    ensures adds { OnOk result (AddsItems (walk_of item.now walk.now) (side_items (item_view item.now)) types.old inside.old walked.old types.new inside.new walked.new) }
     ensures refused { IfErr result (RefusesNext (walk_of item.now walk.now) (side_items (item_view item.now)) (stage types.old inside.old walked.old)) }
 {
     let world = declared_world(&item.declared);
