@@ -1,9 +1,12 @@
 -- Names of scopes, and the interfaces of other packages at their places.
-use Rattle.std.proofs.Common.{◌≡◌, List, [], ◌∷◌, ◌++◌, inl, inr, sym, subst}
+use Rattle.std.proofs.Common.{◌≡◌, ℕ, zero, suc, List, [], ◌∷◌, ◌++◌, Some, inl, inr, sym, subst}
+use Rattle.std.specs.Prelude.{slice_get}
+use Rattle.std.specs.List.{flat_map}
 use Rattle.wit_syntax.specs.Address.{Address}
-use Rattle.wit_syntax.proofs.Lists.{at_either}
+use Rattle.wit_syntax.proofs.Lists.{at_either, flat_map_at}
 use Rattle.wit_scopes.specs.declared.scope_name.UsedName.{UsedName}
-use Rattle.wit_scopes.specs.BorrowedNames.{Borrowed, IsPlaced, ArePlaced}
+use Rattle.wit_scopes.specs.declared.scope_name.Named.TheVariants as borrowed
+use Rattle.wit_scopes.specs.BorrowedNames.{Borrowed, own_use, IsPlaced, ArePlaced}
 use Rattle.wit_scopes.specs.PlacedNames.{IsNamePlaced, AreNamesPlaced}
 
 -- one name more
@@ -15,14 +18,15 @@ names_more prefix names new x extended placed one = rw extended (record {
   ];
 })
 
-pub uses_none : (prefix : List Address) → ArePlaced prefix []
-uses_none prefix = record { each = λ k u at. absurd (let f : ⊥ = cc in f) }
-
--- one used name more
-pub uses_more : (prefix : List Address) (uses new : List UsedName) (u : UsedName) → new ≡ uses ++ u ∷ [] → ArePlaced prefix uses → IsPlaced prefix u.from → ArePlaced prefix new
-uses_more prefix uses new u extended placed one = rw extended (record {
-  each = λ k v at. elim (at_either uses u k v at) [
-    | inl early ↦ placed.each k v early
-    | inr last ↦ subst (λ (w : UsedName). IsPlaced prefix w.from) (sym last.1) one
-  ];
-})
+-- so are the used names of placed names
+pub uses_placed : (prefix : List Address) (names : List Borrowed) → AreNamesPlaced prefix names → ArePlaced prefix (flat_map own_use names)
+uses_placed prefix names placed = record {
+  each = λ k u at. (
+      let it = flat_map_at own_use names k u at in
+      use_placed prefix it.1 it.3.0 u (placed.each it.0 it.1 it.2) it.3.1);
+}
+  where
+    use_placed : (prefix : List Address) (x : Borrowed) (j : ℕ) (u : UsedName) → IsNamePlaced prefix x → slice_get (own_use x) j ≡ Some u → IsPlaced prefix u.from
+    use_placed prefix (borrowed.Used v) zero u placed at = (let same : v ≡ u = cc in subst (λ (w : UsedName). IsPlaced prefix w.from) same placed)
+    use_placed prefix (borrowed.Used v) (suc j) u placed at = absurd (let f : ⊥ = cc in f)
+    use_placed prefix (borrowed.Defined d) j u placed at = absurd (let f : ⊥ = cc in f)

@@ -1,8 +1,10 @@
 -- Used names that are among those of a scope.
-use Rattle.std.proofs.Common.{◌≡◌, ◌++◌, ◌+◌, ◌∷◌, [], not, ℕ, List, take, Some, None, IsSome, sym, ap, ◌∙◌}
+use Rattle.std.proofs.Common.{◌≡◌, ◌++◌, ◌+◌, ◌∷◌, [], ℕ, List, take, Some, None, IsSome, refl, sym, ap, ◌∙◌}
 use Rattle.std.specs.Prelude.{slice_get, map}
+use Rattle.std.specs.List.{flat_map}
 use Rattle.std.specs.Option.{option_map}
-use Rattle.std.proofs.lemmas.List.{map-append}
+use Rattle.std.proofs.lemmas.Grind.{flat_map-append}
+use Rattle.std.proofs.lemmas.List.{append-nil, map-append}
 use Rattle.std.proofs.lemmas.List.Elements.{filter-append}
 use Rattle.std.proofs.lemmas.Option.{slice_get-map}
 use Rattle.wit_type_tree.specs.declared.leaves.Attribute.{Attribute}
@@ -15,7 +17,8 @@ use Rattle.wit_syntax.specs.Function.{SourceFunction}
 use Rattle.wit_syntax.specs.Bodies.{IsRepeated}
 use Rattle.wit_syntax.specs.Broken.{DefinedTwice}
 use Rattle.wit_arena.specs.Resolving.{Names, ResolvedScope, env_of, IsFound, IsWrongName, Unstated, OfFunction, IsWrongUse, Wrong, ForeignName, IsWrongScope, WrongName, WrongItself}
-use Rattle.wit_scopes.specs.BorrowedNames.{Borrowed, name_view}
+use Rattle.wit_scopes.specs.BorrowedNames.{Borrowed, name_view, own_use, use_view}
+use Rattle.wit_scopes.specs.declared.scope_name.Named.TheVariants as borrowed
 use Rattle.wit_scopes.specs.DefinitionOrder.{IsUnstated, AtFunction, AtNothing}
 use Rattle.wit_syntax.proofs.Orders.{take_next}
 use Rattle.wit_syntax.proofs.Lists.{at_prefix, at_take, map_at}
@@ -52,10 +55,16 @@ pub wrong_used : (cs : List ResolvedScope) (by_name names : Names) (xs : List Sc
 wrong_used cs by_name names xs i from attributes n at listed f (Wrong w) fns = (let p = used_at xs i (Used from attributes n) at in WrongName from attributes n (contains_at xs p.0 (Used from attributes n) p.1) w)
 wrong_used cs by_name names xs i from attributes n at listed f (ForeignName some says) fns = WrongItself (DefinedTwice (Used from attributes n, repeated_used xs names i from attributes n at listed some, says))
 
--- the used ones of some names, one name more
-pub used_more : (xs : List Borrowed) (i : ℕ) (x : Borrowed) → slice_get xs i ≡ Some x → used (map name_view (take (i + 1) xs)) ≡ used (map name_view (take i xs)) ++ used (name_view x ∷ [])
-used_more xs i x at = ap (λ (l : List Borrowed). used (map name_view l)) (take_next xs i x at) ∙ ap used (map-append name_view (take i xs) (x ∷ [])) ∙ filter-append (λ (y : ScopeName). not (is_defined y)) (map name_view (take i xs)) (name_view x ∷ [])
+-- the used ones of some names, as they are borrowed
+pub uses_viewed : (xs : List Borrowed) → map use_view (flat_map own_use xs) ≡ used (map name_view xs)
+uses_viewed [] = refl
+uses_viewed (borrowed.Used u ∷ xs) = ap (λ l. use_view u ∷ l) (uses_viewed xs)
+uses_viewed (borrowed.Defined d ∷ xs) = uses_viewed xs
 
--- and the definitions
+-- one name more
+pub uses_more : (xs : List Borrowed) (i : ℕ) (x : Borrowed) → slice_get xs i ≡ Some x → flat_map own_use (take (i + 1) xs) ≡ flat_map own_use (take i xs) ++ own_use x
+uses_more xs i x at = ap (flat_map own_use) (take_next xs i x at) ∙ flat_map-append own_use (take i xs) (x ∷ []) ∙ ap (λ l. flat_map own_use (take i xs) ++ l) (append-nil (own_use x))
+
+-- the definitions among some names, one name more
 pub defined_more : (xs : List Borrowed) (i : ℕ) (x : Borrowed) → slice_get xs i ≡ Some x → defined (map name_view (take (i + 1) xs)) ≡ defined (map name_view (take i xs)) ++ defined (name_view x ∷ [])
 defined_more xs i x at = ap (λ (l : List Borrowed). defined (map name_view l)) (take_next xs i x at) ∙ ap defined (map-append name_view (take i xs) (x ∷ [])) ∙ filter-append is_defined (map name_view (take i xs)) (name_view x ∷ [])

@@ -1,5 +1,5 @@
 -- What the resolver holds by reference: names of a scope, used names and definitions, and interfaces of other packages.
-use Rattle.std.specs.Prelude.{◌≡◌, ℕ, List, Some, ⊤, slice_get}
+use Rattle.std.specs.Prelude.{◌≡◌, ◌∷◌, [], ℕ, List, Some, ⊤, slice_get}
 use Rattle.wit_scopes.specs.declared.scope_name.UsedName.{UsedName}
 use denote.Ref.{Bor}
 use Rattle.wit_type_tree.specs.declared.types.TypeDef.{TypeDef}
@@ -36,6 +36,11 @@ Borrowed = Named UsedName DefinedName
 abbrev pub name_view : Borrowed → ScopeName
 name_view (borrowed.Used u) = use_view u
 name_view (borrowed.Defined d) = definition_view d
+
+-- the used name that it is, if it is one
+abbrev pub own_use : Borrowed → List UsedName
+own_use (borrowed.Used u) = u ∷ []
+own_use (borrowed.Defined d) = []
 
 -- a used name comes from a declared interface, or from the one of another package at its place
 abbrev pub IsPlaced : List Address → BorrowedSource → Type 0

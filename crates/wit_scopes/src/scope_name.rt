@@ -1,10 +1,11 @@
 //! The names of a scope: those that it uses, and its definitions.
 ghost use Rattle.std.specs.Prelude.{◌≡◌, ◌++◌, List, map, IfOk, OnOk};
+ghost use Rattle.std.specs.List.{flat_map};
 ghost use Rattle.std.specs.Option.{unwrap_or};
 ghost use Rattle.wit_syntax.specs.Address.{Address};
 ghost use Rattle.wit_syntax.specs.Source.{Used, local_id as the_local_id};
-ghost use Rattle.wit_syntax.specs.ScopeTables.{used, defined};
-ghost use Rattle.wit_scopes.specs.BorrowedNames.{source_view, name_view, use_view, definition_view, IsPlaced, ArePlaced};
+ghost use Rattle.wit_syntax.specs.ScopeTables.{defined};
+ghost use Rattle.wit_scopes.specs.BorrowedNames.{source_view, name_view, definition_view, own_use, IsPlaced};
 ghost use Rattle.wit_scopes.specs.PlacedNames.{AreNamesPlaced};
 
 use std::alloc::{AllocError, Global};
@@ -76,13 +77,12 @@ pub fn add_used_names<'t, 'a>(
     Ok(())
 }
 
-/// The used ones of some names.
+/// The used ones of some names, in their order.
 pub fn used_names<'t, 'a>(
     alloc: Global,
     names: &[ScopeName<'t, 'a>],
 ) -> Result<Vec<UsedName<'t, 'a>>, AllocError>
-    ensures uses { IfOk result (λ uses. map use_view uses.items ≡ used (map name_view names.now)) }
-    ensures placed { IfOk result (λ uses. (prefix : List Address) → AreNamesPlaced prefix names.now → ArePlaced prefix uses.items) }
+    ensures { IfOk result (λ uses. uses.items ≡ flat_map own_use names.now) }
 {
     let mut uses = Vec::new(alloc);
     for name in names {
