@@ -1,5 +1,6 @@
 pub mod One
 pub mod TypeFaults
+pub mod SameTypes
 pub mod FileFaults
 pub mod ScopeFaults
 pub mod FunctionFaults

@@ -61,7 +61,7 @@ not_both : (rs : List Row) (i k j l : ℕ) → IsFirstMissing rs i k → IsFirst
 not_both rs i k j l m c = not_missing (target rs m.id) (c.complete i k m.id m.first.is) m.first.holds
 
 -- a table has one outcome
-outcome_one : (rs : List Row) (a b : Outcome) → IsOutcome rs a → IsOutcome rs b → a ≡ b
+pub outcome_one : (rs : List Row) (a b : Outcome) → IsOutcome rs a → IsOutcome rs b → a ≡ b
 outcome_one rs (InOrder p) (InOrder q) x y = ap InOrder ((one_answer rs).one p q x y)
 outcome_one rs (InOrder p) (AtMissing b) x y = absurd ((one_answer rs).never_both (p, x) (missing_refused rs y.0 y.1 y.2))
 outcome_one rs (InOrder p) (AtCycle b) x y = absurd ((one_answer rs).never_both (p, x) (cyclic_refused rs y.0 y.1 y.2))

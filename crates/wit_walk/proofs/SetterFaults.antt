@@ -1,9 +1,9 @@
 -- What the first setter without its getter breaks.
-use Rattle.std.proofs.Common.{◌≡◌, ℕ, true, false, ◌&&◌, not, List, [], ◌∷◌, Some, inl, inr, refl, sym, ap, ◌∙◌}
-use Rattle.std.specs.Prelude.{slice_get}
+use Rattle.std.proofs.Common.{◌≡◌, ℕ, Bool, true, false, ◌&&◌, not, List, [], ◌∷◌, Some, None, inl, inr, refl, sym, ap, ◌∙◌, Contains}
+use Rattle.std.specs.Prelude.{if◌then◌else◌, slice_get}
 use Rattle.std.specs.List.{list_any}
 use Rattle.std.specs.Str.{bytes_eq}
-use Rattle.std.proofs.lemmas.Bool.{and_parts, not-true}
+use Rattle.std.proofs.lemmas.Bool.{and_parts, false_from_ne_true, not-true}
 use Rattle.wit_names.specs.Setter.{getter_of}
 use Rattle.wit_type_tree.specs.declared.types.FuncForm.{FuncForm}
 use Rattle.wit_type_tree.specs.declared.types.FuncForm.TheVariants as form
@@ -18,8 +18,8 @@ use Rattle.wit_syntax.specs.Sides.{on_side}
 use Rattle.wit_syntax.specs.SignatureRules.{IsUnpairedSetter}
 use Rattle.wit_syntax.specs.Source.{Item}
 use Rattle.wit_syntax.proofs.Found.{at_contains, contains_at}
-use Rattle.wit_syntax.proofs.Names.{name_itself}
-use Rattle.wit_first.proofs.Bridge.{in_some, or_some}
+use Rattle.wit_syntax.proofs.Names.{name_equal, name_itself}
+use Rattle.wit_first.proofs.Bridge.{any_found, in_some, or_some}
 use Rattle.wit_first.proofs.First.{any_some}
 use Rattle.wit_walk.specs.Setters.{is_setter, setter_fault, setters_beside, setters_fault, side_setters_fault}
 use Rattle.wit_walk.proofs.ScopeFaults.{if_some}
@@ -30,23 +30,43 @@ form_is form.Plain h = absurd (let f : ⊥ = cc in f)
 form_is form.Async h = absurd (let f : ⊥ = cc in f)
 form_is form.Getter h = absurd (let f : ⊥ = cc in f)
 
-setter_wrong : (fns : List SourceFunction) (k : ℕ) (fn : SourceFunction) (f : Fault) → slice_get fns k ≡ Some fn → setter_fault fns fn ≡ Some f → IsUnpairedSetter fns f
-setter_wrong fns k fn f at h =
+-- a setter, and no function is its getter
+pub record IsAlone (fns : List SourceFunction) (fn : SourceFunction) : Type 0 where
+  pub setter : fn.func.form ≡ form.Setter
+  pub none : (other : SourceFunction) → Contains fns other → other.name ≡ getter_of fn.name → ⊥
+
+-- what it is that is wrong
+pub setter_alone_at : (fns : List SourceFunction) (fn : SourceFunction) (f : Fault) → setter_fault fns fn ≡ Some f → IsAlone fns fn × (f ≡ fault 18 fn.span)
+setter_alone_at fns fn f h =
     let getters = list_any (λ (g : SourceFunction). bytes_eq g.name (getter_of fn.name)) fns in
     let found = if_some (is_setter fn.func.form && not getters) (fault 18 fn.span) f h in
     let parts = and_parts (is_setter fn.func.form) (not getters) found.0 in
     let alone = not-true getters parts.1 in (
-      fn,
-      contains_at fns k fn at,
-      form_is fn.func.form parts.0,
-      (λ g among name. (
-          let j = at_contains fns g among in
-          let passes : bytes_eq g.name (getter_of fn.name) ≡ true = ap (λ n. bytes_eq n (getter_of fn.name)) name ∙ name_itself (getter_of fn.name) in
-          let wrong : false ≡ true = sym alone ∙ any_some (λ (g : SourceFunction). bytes_eq g.name (getter_of fn.name)) fns j.0 g j.1 passes in
-          let e : ⊥ = cc in
-          e)),
+      record {
+        setter = form_is fn.func.form parts.0;
+        none = λ g among name. (
+            let j = at_contains fns g among in
+            let passes : bytes_eq g.name (getter_of fn.name) ≡ true = ap (λ n. bytes_eq n (getter_of fn.name)) name ∙ name_itself (getter_of fn.name) in
+            let wrong : false ≡ true = sym alone ∙ any_some (λ (g : SourceFunction). bytes_eq g.name (getter_of fn.name)) fns j.0 g j.1 passes in
+            let e : ⊥ = cc in
+            e);
+      },
       found.1,
     )
+
+-- and where it is
+pub setter_found : (fns : List SourceFunction) (fn : SourceFunction) → IsAlone fns fn → setter_fault fns fn ≡ Some (fault 18 fn.span)
+setter_found fns fn alone =
+    let test = λ (g : SourceFunction). bytes_eq g.name (getter_of fn.name) in
+    let miss : list_any test fns ≡ false = false_from_ne_true (list_any test fns) (λ hit. (
+    let it = any_found test fns hit in
+    alone.none it.1 (contains_at fns it.0 it.1 it.2) (name_equal it.1.name (getter_of fn.name) it.3))) in
+    ap (λ (it : FuncForm). if is_setter it && not (list_any test fns) then Some (fault 18 fn.span) else None) alone.setter ∙ ap (λ (b : Bool). if true && not b then Some (fault 18 fn.span) else None) miss
+
+pub setter_wrong : (fns : List SourceFunction) (k : ℕ) (fn : SourceFunction) (f : Fault) → slice_get fns k ≡ Some fn → setter_fault fns fn ≡ Some f → IsUnpairedSetter fns f
+setter_wrong fns k fn f at h =
+    let it = setter_alone_at fns fn f h in
+    (fn, contains_at fns k fn at, it.0.setter, it.0.none, it.1)
 
 side_wrong : (i : Item) (side : WorldSide) (f : Fault) → side_setters_fault i side ≡ Some f → IsUnpairedSetter (on_side side (functions i)) f
 side_wrong i side f h =

@@ -37,7 +37,7 @@ handles_among [] k t at id h = absurd (let f : ⊥ = cc in f)
 handles_among (u ∷ ts) zero t at id h = (let same : u ≡ t = cc in Contains-append_left (handles u) (all_handles ts) id (rw same h))
 handles_among (u ∷ ts) (suc k) t at id h = Contains-append_right (handles u) (all_handles ts) id (handles_among ts k t at id h)
 
-words_among : (ts : List Written) (k : ℕ) (t : Written) → slice_get ts k ≡ Some t → (id : Id) → Contains (words (shape_of t)) id → Contains (all_words (all_shapes ts)) id
+pub words_among : (ts : List Written) (k : ℕ) (t : Written) → slice_get ts k ≡ Some t → (id : Id) → Contains (words (shape_of t)) id → Contains (all_words (all_shapes ts)) id
 words_among [] k t at id h = absurd (let f : ⊥ = cc in f)
 words_among (u ∷ ts) zero t at id h = (let same : u ≡ t = cc in Contains-append_left (words (shape_of u)) (all_words (all_shapes ts)) id (rw same h))
 words_among (u ∷ ts) (suc k) t at id h = Contains-append_right (words (shape_of u)) (all_words (all_shapes ts)) id (words_among ts k t at id h)
@@ -50,7 +50,7 @@ pub row_words : {m : _} (ts : Row_of-Type m) → all_words (all_shapes (row_type
 row_words end_of-Type = refl
 row_words (more_of-Type t rest) = ap (λ (l : List Id). words (shape_of t) ++ l) (row_words rest)
 
-words_inside : (t : Written) (id : Id) → Contains (all_words (all_shapes (part_types t))) id → Contains (words (shape_of t)) id
+pub words_inside : (t : Written) (id : Id) → Contains (all_words (all_shapes (part_types t))) id → Contains (words (shape_of t)) id
 words_inside (written.Name word) id h = absurd (nothing id h)
 words_inside (written.Own span word) id h = absurd (nothing id h)
 words_inside (written.Borrow span word) id h = absurd (nothing id h)
