@@ -3,3 +3,4 @@ mod ResolvedScopes
 pub mod Telling
 pub mod Emitting
 pub mod NameOrder
+mod UseFaults

@@ -1,3 +1,4 @@
 pub mod NewRequirements
 pub mod NameOrder
 pub mod Uses
+pub mod UseFaults

@@ -1,11 +1,11 @@
--- What the names that a scope uses add to it, over the interfaces that are resolved, and what may be wrong with one.
+-- What the names that a scope uses add to it, over the interfaces that are resolved, and a scope that is wrong by one.
 use Rattle.std.specs.Prelude.{List}
 use Rattle.wit_types.specs.declared.types.TypeDef.{TypeDef}
 use Rattle.wit_syntax.specs.Address.{Address}
 use Rattle.wit_syntax.specs.Fault.{Fault}
 use Rattle.wit_syntax.specs.Function.{SourceFunction}
 use Rattle.wit_syntax.specs.Source.{ScopeName}
-use Rattle.wit_arena.specs.Resolving.{Defines, IsUsed, IsWrongScope, IsWrongUse}
+use Rattle.wit_arena.specs.Resolving.{Defines, IsUsed, IsWrongScope}
 use Rattle.wit_entries.specs.declared.scope.Scope.{Scope}
 use Rattle.wit_scopes.specs.BorrowedNames.{source_view}
 use Rattle.wit_scopes.specs.declared.scope_name.UsedName.{UsedName}
@@ -15,10 +15,6 @@ use Rattle.wit_items.specs.declared.interfaces.Interfaces.{Interfaces}
 -- a used name was added to a scope
 abbrev pub AddsUsed : Interfaces → Scope → Scope → List TypeDef → List TypeDef → UsedName → Type 0
 AddsUsed is a b old new u = IsUsed old new (resolved_scopes_of is) a.owner a.names b.names (source_view u.from) u.attributes.now u.name.now
-
--- or is wrong
-abbrev pub IsWrongUsed : Interfaces → Scope → UsedName → Fault → Type 0
-IsWrongUsed is a u = IsWrongUse (resolved_scopes_of is) is.by_name a.names (source_view u.from) u.attributes.now u.name.now
 
 -- used names were added to a scope
 abbrev pub AddsAllUsed : Interfaces → Scope → Scope → List TypeDef → List TypeDef → List ScopeName → Type 0

@@ -1,20 +1,19 @@
 //! Names that a scope uses from interfaces.
-ghost use Rattle.std.specs.Prelude.{◌≡◌, ◌↔◌, [], ◌++◌, List, Contains, map, OnOk, IfOk, IfErr, IsTrue, codes, string_bytes};
+ghost use Rattle.std.specs.Prelude.{◌≡◌, ◌↔◌, [], ◌++◌, List, Contains, Some, map, OnOk, IfOk, IfErr, IsTrue, codes, string_bytes};
 ghost use Rattle.std.specs.List.{flat_map};
-ghost use Rattle.std.specs.Option.{option_copied, option_to_list};
-ghost use Rattle.wit_type_tree.specs.declared.leaves.Id.{Id as TheId};
-ghost use Rattle.wit_syntax.specs.Address.{InterfaceNamed};
-ghost use Rattle.wit_syntax.specs.Source.{ScopeName};
+ghost use Rattle.std.specs.Option.{option_copied, option_or, option_to_list};
+ghost use Rattle.wit_syntax.specs.Source.{ScopeName, local_id};
 ghost use Rattle.wit_syntax.specs.ScopeTables.{used, local_names};
 ghost use Rattle.wit_syntax.specs.Broken.{Refused};
+ghost use Rattle.wit_first.specs.First.{Finds, Reports};
 ghost use Rattle.wit_arena.specs.SourceFunctions.{freestanding_names};
-ghost use Rattle.wit_scopes.specs.DefinitionOrder.{IsUnstated};
 ghost use Rattle.wit_entries.specs.Requiring.{IsExtended};
 ghost use Rattle.wit_scopes.specs.BorrowedNames.{source_view, use_view, IsPlaced, ArePlaced};
 ghost use Rattle.wit_item_names.specs.ForeignAddresses.{prefix_of};
 ghost use Rattle.wit_items.specs.ResolvedInterfaces.{resolved_scopes_of};
-ghost use Rattle.wit_arena.specs.Resolving.{resolved_scope_at, env_of, free_functions, HasNames, IsFound, IsUnresolved, names_in};
-ghost use Rattle.wit_uses.specs.Uses.{AddsAllUsed, AddsUsed, HasWrongUse, IsWrongUsed};
+ghost use Rattle.wit_arena.specs.Resolving.{resolved_scope_at, env_of, free_functions, HasNames, IsFound, names_in};
+ghost use Rattle.wit_uses.specs.UseFaults.{interface_of, local_faults, lost_name, source_fault, spelled_fault, used_fault};
+ghost use Rattle.wit_uses.specs.Uses.{AddsAllUsed, AddsUsed, HasWrongUse};
 
 use std::alloc::{AllocError, Global};
 use wit_entries::entries::Entries;
@@ -39,7 +38,8 @@ fn used_interface<'i>(
 ) -> ParseResult<&'i Interface>
     requires placed { IsPlaced (prefix_of interfaces.now.files) from.now }
     ensures found { IfOk result (λ i. IsFound (resolved_scopes_of interfaces.now) (source_view from.now) (resolved_scope_at (source_view from.now) i.now)) }
-    ensures refused { IfErr result (Refused (λ f. (path : TheId) × (source_view from.now ≡ InterfaceNamed path.name.now) × IsUnresolved interfaces.now.by_name path f)) }
+    ensures at { IfOk result (λ i. interface_of interfaces.now from.now ≡ Some i.now) }
+    ensures first { Finds (source_fault interfaces.now.by_name from.now) result }
 {
     match from {
         Source::Declared(path) => match interfaces.by_name.get(path.name) {
@@ -102,7 +102,7 @@ fn function_used(alloc: Global, name: &str) -> Result<String, AllocError>
 #[cold]
 #[inline(never)]
 fn refuse_used(alloc: Global, interface: &Interface, name: Id<'_>) -> ParseError
-    ensures { Refused (IsUnstated (free_functions interface.now) name.entry) result }
+    ensures { Reports (Some (lost_name (free_functions interface.now) name.entry)) result }
 {
     if has_function(&interface.functions, name.name) {
         return refuse_in(13, name.span, function_used(alloc, name.name));
@@ -123,7 +123,7 @@ fn resolve_use<'f, 'a>(
     ensures owner { OnOk result (scope.new.owner ≡ scope.old.owner) }
     ensures required { scope.new.required ≡ scope.old.required }
     ensures extended { OnOk result (IsExtended types.old types.new) }
-    ensures refused { IfErr result (Refused (IsWrongUsed interfaces.now scope.old used.now)) }
+    ensures first { Finds (option_or (used_fault interfaces.now used.now) (spelled_fault scope.old.names (local_id (use_view used.now)))) result }
 {
     let name = used.name;
     let interface = used_interface(alloc, &used.from, interfaces)?;
@@ -158,6 +158,7 @@ pub fn resolve_uses<'f, 'a>(
     ensures required { scope.new.required ≡ scope.old.required }
     ensures has { OnOk result (HasNames (env_of scope.new.names) (map use_view uses.now)) }
     ensures extended { OnOk result (IsExtended types.old types.new) }
+    ensures first { Finds (local_faults interfaces.now uses.now) result }
     ensures refused { IfErr result (λ e. (xs : List ScopeName) → map use_view uses.now ≡ used xs → Refused (HasWrongUse interfaces.now xs) e) }
 {
     for name in uses {

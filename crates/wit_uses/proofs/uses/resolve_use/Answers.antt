@@ -1,30 +1,28 @@
+use Rattle.std.proofs.Common.{◌≡◌, None, Some, sym, ap, ◌∙◌, rules}
+use Rattle.std.specs.Option.{option_map_or}
 use Rattle.std.proofs.lemmas.Result.{err_from_is_err_and}
-use Rattle.std.proofs.Common.{◌≡◌, rules, None}
-use Rattle.wit_type_tree.specs.declared.leaves.Id.{Id}
-use Rattle.wit_syntax.proofs.Refusing.{refused_weaker}
-use Rattle.wit_syntax.specs.Address.{InterfaceNamed}
-use Rattle.wit_arena.specs.Resolving.{resolved_scope_at, env_of, IsUnresolved, IsWrongUse, Unresolved, Wrong}
-use Rattle.wit_scopes.specs.BorrowedNames.{source_view}
-use Rattle.wit_items.specs.ResolvedInterfaces.{resolved_scopes_of}
-use Rattle.wit_scopes.specs.DefinitionOrder.{IsUnstated}
-use Rattle.wit_scopes.proofs.UsedNames.{unstated_name}
+use Rattle.wit_syntax.specs.Source.{local_id}
+use Rattle.wit_first.proofs.First.{reports_prefix, reports_same}
+use Rattle.wit_arena.specs.Resolving.{env_of, free_functions}
+use Rattle.wit_entries.specs.EntryFaults.{unless_found}
+use Rattle.wit_scopes.specs.BorrowedNames.{use_view}
+use Rattle.wit_uses.specs.UseFaults.{interface_of, asked_fault, lost_name, used_fault, spelled_fault}
+use Rattle.wit_uses.proofs.UseFaults.{used_from}
 use Rattle.wit_uses.proofs.uses.resolve_use.Goals as goal
 
-pub returns-in-None-clause-refused : goal.returns-in-None-clause-refused
-returns-in-None-clause-refused c =
-    let used = c.args.used.now in
-    let from = source_view used.from in
-    let cs = resolved_scopes_of c.args.interfaces.now in
-    let by_name = c.args.interfaces.now.by_name in
-    let target = resolved_scope_at from c.in_ok-interface.interface.now in
-    let free : env_of target.types used.name.now.name.name.now ≡ None = search rules in
-    refused_weaker (IsUnstated target.functions used.name.now.name) (IsWrongUse cs by_name c.args.scope.now.names from used.attributes.now used.name.now) _ (λ f h. Wrong (unstated_name cs by_name from used.name.now target f c.in_ok-interface.ensures.found free h)) c.refuse_used.ensures
-
-pub returns-in_err-interface-clause-refused : goal.returns-in_err-interface-clause-refused
-returns-in_err-interface-clause-refused c =
+pub returns-in_err-interface-clause-first : goal.returns-in_err-interface-clause-first
+returns-in_err-interface-clause-first c =
     let p = err_from_is_err_and c.from_residual.result c.from_residual.ensures.1 in
-    let cs = resolved_scopes_of c.args.interfaces.now in
-    let by_name = c.args.interfaces.now.by_name in
-    let used = c.args.used.now in
-    let from = source_view used.from in
-    rw (p.1, p.2) (refused_weaker (λ f. (path : Id) × (from ≡ InterfaceNamed path.name.now) × IsUnresolved by_name path f) (IsWrongUse cs by_name c.args.scope.now.names from used.attributes.now used.name.now) _ (λ f h. Wrong (Unresolved h.0 h.1 h.2)) c.in_err-interface.ensures.refused)
+    let is = c.args.interfaces.now in
+    let u = c.args.used.now in
+    rw (p.1, p.2) (reports_prefix (spelled_fault c.args.scope.now.names (local_id (use_view u))) (reports_prefix (option_map_or (asked_fault u.name.now.name) (interface_of is u.from) None) c.in_err-interface.ensures.first))
+
+pub returns-in-None-clause-first : goal.returns-in-None-clause-first
+returns-in-None-clause-first c =
+    let is = c.args.interfaces.now in
+    let u = c.args.used.now in
+    let i = c.in_ok-interface.interface.now in
+    let id = u.name.now.name in
+    let free : env_of i.types id.name.now ≡ None = search rules in
+    let lost : used_fault is u ≡ Some (lost_name (free_functions i) id) = used_from is u i c.in_ok-interface.ensures.first c.in_ok-interface.ensures.at ∙ ap (unless_found (lost_name (free_functions i) id)) free in
+    reports_prefix (spelled_fault c.args.scope.now.names (local_id (use_view u))) (reports_same (sym lost) c.refuse_used.ensures)

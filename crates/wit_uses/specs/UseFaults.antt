@@ -1,0 +1,50 @@
+-- The first fault of the names that a scope uses, by the interfaces that are resolved: E7, E12, E13 and E14.
+use Rattle.std.specs.Prelude.{ℕ, if◌then◌else◌, List, [], Option, None, Some, is_some, slice_get}
+use Rattle.std.specs.List.{list_any}
+use Rattle.std.specs.Option.{option_and_then, option_map_or, option_or}
+use Rattle.std.specs.Str.{bytes_eq}
+use Rattle.wit_type_tree.specs.declared.leaves.Id.{Id}
+use Rattle.wit_model.specs.declared.interface.Interface.{Interface}
+use Rattle.wit_syntax.specs.Fault.{Fault, fault, missing_at, item_word, name_word}
+use Rattle.wit_syntax.specs.Source.{local_id, local_name}
+use Rattle.wit_first.specs.First.{first_after, repeat_of}
+use Rattle.wit_arena.specs.Resolving.{Names, env_of, free_functions}
+use Rattle.wit_entries.specs.EntryFaults.{unless_found}
+use Rattle.wit_scopes.specs.BorrowedNames.{use_view}
+use Rattle.wit_scopes.specs.declared.scope_name.UsedName.{UsedName}
+use Rattle.wit_scopes.specs.declared.scope_name.Source.{Source as BorrowedSource}
+use Rattle.wit_scopes.specs.declared.scope_name.Source.TheVariants as borrowed_source
+use Rattle.wit_items.specs.declared.interfaces.Interfaces.{Interfaces}
+
+-- the interface that a name comes from, where it is resolved
+abbrev pub interface_of : Interfaces → BorrowedSource → Option Interface
+interface_of is (borrowed_source.Declared path) = option_and_then (slice_get is.arena) (env_of is.by_name path.name.now)
+interface_of is (borrowed_source.Foreign place of name) = slice_get is.arena place
+
+-- a declared one is not
+abbrev pub source_fault : Names → BorrowedSource → Option Fault
+source_fault by_name (borrowed_source.Declared path) = unless_found (missing_at 7 item_word path) (env_of by_name path.name.now)
+source_fault by_name (borrowed_source.Foreign place of name) = None
+
+-- a name that means no type of an interface is that of one of its functions, or of nothing
+abbrev pub lost_name : List (List ℕ) → Id → Fault
+lost_name fns id = if list_any (bytes_eq id.name.now) fns then fault 13 id.span else missing_at 12 name_word id
+
+abbrev pub asked_fault : Id → Interface → Option Fault
+asked_fault id i = unless_found (lost_name (free_functions i) id) (env_of i.types id.name.now)
+
+-- of a used name by itself: its interface, and then what it means there
+abbrev pub used_fault : Interfaces → UsedName → Option Fault
+used_fault is u = option_or (source_fault is.by_name u.from) (option_map_or (asked_fault u.name.now.name) (interface_of is u.from) None)
+
+-- a name of a scope is spelled alike
+abbrev pub spelled_fault : Names → Id → Option Fault
+spelled_fault names id = if is_some (env_of names id.name.now) then Some (fault 14 id.span) else None
+
+-- of a used name, and then an earlier one is spelled alike
+abbrev pub local_fault : Interfaces → List UsedName → UsedName → Option Fault
+local_fault is before u = option_or (used_fault is u) (repeat_of (λ (v : UsedName). local_name (use_view v)) (λ (v : UsedName). fault 14 (local_id (use_view v)).span) before u)
+
+-- of used names, in their order
+abbrev pub local_faults : Interfaces → List UsedName → Option Fault
+local_faults is us = first_after (local_fault is) [] us
