@@ -1,31 +1,21 @@
 -- Includes of a world, one more.
-use Rattle.std.proofs.Common.{◌≡◌, ℕ, ◌+◌, List, [], ◌∷◌, ◌++◌, length, take, Some, map, inl, inr, refl, sym, ap, ◌∙◌, subst, arith, Contains}
+use Rattle.std.proofs.Common.{◌≡◌, ℕ, ◌+◌, List, [], ◌∷◌, ◌++◌, length, take, Some, map, inl, inr, refl, sym, ap, ◌∙◌, subst, arith}
 use Rattle.std.specs.Prelude.{slice_get}
 use Rattle.std.specs.List.{flat_map}
-use Rattle.std.specs.Option.{option_map}
 use Rattle.std.proofs.lemmas.Grind.{flat_map-append}
 use Rattle.std.proofs.lemmas.List.{append-nil, map-append, length-append}
-use Rattle.std.proofs.lemmas.List.Elements.{Contains-append_cases}
-use Rattle.std.proofs.lemmas.Option.{slice_get-map, slice_get_within}
+use Rattle.std.proofs.lemmas.Option.{slice_get_within}
 use Rattle.wit_tree.specs.declared.tree.Include.{Include}
 use Rattle.wit_tree.specs.declared.tree.World.{World as Written}
 use Rattle.wit_tree.specs.declared.tree.WorldItem.{WorldItem}
 use Rattle.wit_tree.specs.declared.tree.WorldItem.TheVariants as world_item
-use Rattle.wit_tree.specs.declared.tree.PackageFile.{PackageFile}
 use Rattle.wit_model.specs.declared.world.WorldInclude.{WorldInclude}
 use Rattle.wit_syntax.specs.Address.{Address}
-use Rattle.wit_syntax.specs.Source.{TopName, TheWorld, IncludePart, world_part}
-use Rattle.wit_syntax.specs.ScopeTables.{part_includes, include_path}
-use Rattle.wit_syntax.specs.Fault.{Fault}
-use Rattle.wit_syntax.specs.Metadata.{IsBrokenStability}
+use Rattle.wit_syntax.specs.Source.{TopName, TheWorld, world_part}
+use Rattle.wit_syntax.specs.ScopeTables.{part_includes}
 use Rattle.wit_arena.specs.Whole.{IsInclude, AreIncludes}
-use Rattle.wit_arena.specs.Resolving.{Names, IsLostInclude}
 use Rattle.wit_syntax.proofs.Lists.{at_either}
 use Rattle.wit_syntax.proofs.Orders.{take_next}
-use Rattle.wit_syntax.proofs.Found.{contains_at}
-use Rattle.wit_top_names.proofs.Lost.{at_flat}
-use Rattle.wit_links.specs.Includes.{IsLost, AreStable}
-use Rattle.wit_item_names.proofs.Usable.{contains_one}
 
 -- the includes among parts of a world
 abbrev pub included : List WorldItem → List Include
@@ -76,29 +66,3 @@ included_more worlds top ws is w i are one = record {
 -- the includes of a world are those of its item
 pub includes_are : (worlds : List Address) (top : List TopName) (w : Written) (is : List WorldInclude) → AreIncluded worlds top (included w.items.items) is → AreIncludes worlds (record { top = top; declared = TheWorld w }) is
 includes_are worlds top w is are = record { count = are.count; each = are.each }
-
--- no include, or one more, whose attributes break no rule
-pub stable_none : AreStable []
-stable_none = record { each = λ i among. absurd (let lt = among.1 in let f : ⊥ = omega arith in f) }
-
-pub stable_more : (is : List Include) (i : Include) → AreStable is → ((f : Fault) → IsBrokenStability i.attributes.items f → ⊥) → AreStable (is ++ i ∷ [])
-stable_more is i stable one = record {
-  each = λ j among. elim (Contains-append_cases is (i ∷ []) j among) [
-    | inl early ↦ stable.each j early
-    | inr last ↦ subst (λ (x : Include). (f : Fault) → IsBrokenStability x.attributes.items f → ⊥) (contains_one i j last) one
-  ];
-}
-
--- an include among the parts of a world is one of its includes
-pub included_among : (w : Written) (k : ℕ) (i : Include) → slice_get w.items.items k ≡ Some (world_item.Include i) → Contains (included w.items.items) i
-included_among w k i at =
-    let ps = map world_part w.items.items in
-    let p = at_flat part_includes ps k 0 (IncludePart i) i (slice_get-map world_part w.items.items k ∙ ap (option_map world_part) at) refl in
-    contains_at (included w.items.items) p.0 i p.1
-
--- an include of a world that leads to no world is one of its item
-pub lost_among : (files : List PackageFile) (by_name : Names) (top : List TopName) (w : Written) (k : ℕ) (i : Include) (f : Fault) → slice_get w.items.items k ≡ Some (world_item.Include i) → IsLost files by_name top i f → IsLostInclude files by_name (record { top = top; declared = TheWorld w }) f
-lost_among files by_name top w k i f at lost =
-    let ps = map world_part w.items.items in
-    let p = at_flat include_path ps k 0 (IncludePart i) i.from (slice_get-map world_part w.items.items k ∙ ap (option_map world_part) at) refl in
-    record { path = i.from; among = contains_at (flat_map include_path ps) p.0 i.from p.1; lost = lost.lost; is = lost.is }

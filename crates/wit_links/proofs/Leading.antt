@@ -1,5 +1,5 @@
 -- Where the paths lead by which a world imports and exports interfaces: to places in the arena.
-use Rattle.std.proofs.Common.{◌≡◌, ◌≤◌, ℕ, zero, suc, false, List, [], ◌∷◌, length, Some, None, inr, refl, sym, ap, ◌∙◌, arith}
+use Rattle.std.proofs.Common.{◌≡◌, ◌≤◌, ℕ, zero, suc, Bool, false, List, [], ◌∷◌, length, Option, Some, None, inr, refl, sym, ap, ◌∙◌, arith}
 use Rattle.std.specs.Prelude.{slice_get}
 use Rattle.std.specs.Option.{option_map}
 use Rattle.std.proofs.lemmas.List.{length-map}
@@ -11,9 +11,11 @@ use Rattle.wit_tree.specs.declared.tree.PackageFile.{PackageFile}
 use Rattle.wit_model.specs.declared.interface.Interface.{Interface}
 use Rattle.wit_syntax.specs.Address.{Address, InterfaceNamed, WorldNamed, InlineAt, ForeignNamed, package_of, same_address, is_foreign}
 use Rattle.wit_syntax.specs.Broken.{is_world_at}
-use Rattle.wit_syntax.specs.Source.{Target, Local, leads, path_scope, TopName, target_scope}
+use Rattle.wit_syntax.specs.Source.{Target, Local, Foreign, leads, path_id, path_scope, TopName, target_scope, all_items}
 use Rattle.wit_syntax.proofs.Addresses.{same_address-equal}
-use Rattle.wit_arena.specs.Resolving.{ResolvedScope, Names, resolved_scopes}
+use Rattle.wit_first.specs.FileFaults.{lost_fault}
+use Rattle.wit_first.specs.UseFaults.{path_fault, reached_fault}
+use Rattle.wit_arena.specs.Resolving.{ResolvedScope, Names, env_of, resolved_scopes}
 use Rattle.wit_arena.specs.ResolvedArenas.{interfaces_at}
 use Rattle.wit_arena.proofs.Interfaces.{place_at-found}
 use Rattle.wit_arena.proofs.Visits.{interfaces_differ}
@@ -23,7 +25,7 @@ use Rattle.wit_items.proofs.Found.{found_resolved_scope}
 use Rattle.wit_scopes.specs.BorrowedNames.{source_view, IsPlaced}
 use Rattle.wit_scopes.specs.declared.scope_name.Source.{Source as BorrowedSource}
 use Rattle.wit_scopes.specs.declared.scope_name.Source.TheVariants as borrowed_source
-use Rattle.wit_links.specs.Links.{IsLostAt, interface_place, source_place}
+use Rattle.wit_links.specs.Links.{IsLostAt, interface_place, source_place, unresolved_fault}
 
 -- the place of an interface that is borrowed is that of its address
 pub source_placed : (files : List PackageFile) (by_name : Names) (source : BorrowedSource) → IsPlaced (prefix_of files) source → interface_place (prefix_of files) by_name (source_view source) ≡ source_place by_name source
@@ -38,6 +40,31 @@ source_local by_name (borrowed_source.Foreign p of name) none = absurd (let f : 
 -- a path to an interface that is not resolved
 pub resolved_lost : (files : List PackageFile) (prefix : List Address) (by_name : Names) (top : List TopName) (path : UsePath) (id : Id) → leads top path ≡ Local id → is_world_at files (leads top path) ≡ Some false → interface_place prefix by_name (path_scope top path) ≡ None → IsLostAt files by_name top path id
 resolved_lost files prefix by_name top path id local usable none = (local, inr (ap (is_world_at files) (sym local) ∙ usable, ap (λ (t : Target). interface_place prefix by_name (target_scope InterfaceNamed t)) (sym local) ∙ none))
+
+-- a path to an interface leads to an item, and to no world
+pub path_usable : (files : List PackageFile) (top : List TopName) (path : UsePath) → is_world_at files (leads top path) ≡ Some false → path_fault files top path ≡ None
+path_usable files top path usable = ap (λ (o : Option Bool). reached_fault o (path_id path).span (lost_fault (all_items files) (leads top path))) usable
+
+-- one that is resolved, and one that is not
+resolved_at : (by_name : Names) (source : BorrowedSource) (t : Target) (place : ℕ) → source_view source ≡ target_scope InterfaceNamed t → source_place by_name source ≡ Some place → unresolved_fault by_name t ≡ None
+resolved_at by_name source (Foreign p id) place is at = refl
+resolved_at by_name (borrowed_source.Declared own) (Local id) place is at =
+    let same : own.name.now ≡ id.name.now = cc in
+    let found : env_of by_name id.name.now ≡ Some place = ap (env_of by_name) (sym same) ∙ at in
+    rw found refl
+resolved_at by_name (borrowed_source.Foreign p of name) (Local id) place is at = absurd (let f : ⊥ = cc in f)
+
+unresolved_at : (by_name : Names) (source : BorrowedSource) (id : Id) → source_view source ≡ InterfaceNamed id.name.now → source_place by_name source ≡ None → env_of by_name id.name.now ≡ None
+unresolved_at by_name (borrowed_source.Declared own) id is none =
+    let same : own.name.now ≡ id.name.now = cc in
+    ap (env_of by_name) (sym same) ∙ none
+unresolved_at by_name (borrowed_source.Foreign p of name) id is none = absurd (let f : ⊥ = cc in f)
+
+pub resolved_none : (by_name : Names) (top : List TopName) (path : UsePath) (source : BorrowedSource) (place : ℕ) → source_view source ≡ path_scope top path → source_place by_name source ≡ Some place → unresolved_fault by_name (leads top path) ≡ None
+resolved_none by_name top path source place is at = resolved_at by_name source (leads top path) place is at
+
+pub unresolved_none : (by_name : Names) (top : List TopName) (path : UsePath) (source : BorrowedSource) (id : Id) → leads top path ≡ Local id → source_view source ≡ path_scope top path → source_place by_name source ≡ None → env_of by_name id.name.now ≡ None
+unresolved_none by_name top path source id local is none = unresolved_at by_name source id (is ∙ ap (target_scope InterfaceNamed) local) none
 
 -- the interfaces of other packages come first
 at_prefix : (ss : List Address) (is : List Interface) (t : ℕ) (s : Address) → length ss ≤ length is → slice_get ss t ≡ Some s → slice_get (interfaces_at ss is) t ≡ Some s

@@ -1,4 +1,5 @@
 mod IncludePart
+mod IncludeFaults
 mod Counted
 pub mod Inlined
 pub mod Leading

@@ -1,14 +1,18 @@
--- Includes that lead to no world, and includes whose attributes break no rule.
-use Rattle.std.specs.Prelude.{◌≡◌, ◌⊎◌, ℕ, List, Contains}
+-- The first fault of includes, E30 to E34 and E11, and includes whose attributes break no rule.
+use Rattle.std.specs.Prelude.{◌⊎◌, ℕ, if◌then◌else◌, List, Option, None, Some, is_none, Contains}
+use Rattle.std.specs.Option.{option_or}
 use Rattle.wit_tree.specs.declared.tree.Include.{Include}
-use Rattle.wit_tree.specs.declared.tree.PackageFile.{PackageFile}
 use Rattle.wit_syntax.specs.Address.{Address}
 use Rattle.wit_syntax.specs.Source.{Declared, Item, TopName, leads, path_id}
 use Rattle.wit_syntax.specs.Fault.{Fault, fault}
 use Rattle.wit_syntax.specs.Metadata.{IsBrokenStability}
-use Rattle.wit_arena.specs.Resolving.{IsLostInclude, IsNoWorld, Names}
+use Rattle.wit_syntax.specs.ScopeTables.{includes}
+use Rattle.wit_first.specs.AttributeFaults.{stability_fault}
+use Rattle.wit_first.specs.First.{first_in}
+use Rattle.wit_arena.specs.Resolving.{IsLostInclude}
 use Rattle.wit_arena.specs.ResolvedArenas.{IsBrokenItemStability, worlds_at}
 use Rattle.wit_files.specs.FileNames.{top_at}
+use Rattle.wit_item_names.specs.ItemPaths.{world_at}
 use Rattle.wit_items.specs.BorrowedItems.{others_of}
 use Rattle.wit_links.specs.declared.worlds.Worlds.{Worlds}
 
@@ -24,15 +28,15 @@ top_of ws place = top_at ws.interfaces.now.files place
 abbrev pub item_in : Worlds → ℕ → Declared → Item
 item_in ws place declared = record { top = top_of ws place; declared = declared }
 
--- an include leads to no world
-pub record IsLost (files : List PackageFile) (by_name : Names) (top : List TopName) (i : Include) (f : Fault) : Type 0 where
-  pub lost : IsNoWorld files by_name (leads top i.from)
-  pub is : f ≡ fault 11 (path_id i.from).span
+-- the first fault of an include: its attributes, and then that its path leads to no world that is resolved
+abbrev pub included_fault : Worlds → List TopName → Include → Option Fault
+included_fault ws top n = option_or (stability_fault n.attributes.items) (if is_none (world_at ws.interfaces.now.files ws.by_name (leads top n.from)) then Some (fault 11 (path_id n.from).span) else None)
 
--- what is wrong with an include, and with those of an item
-abbrev pub IsWrongInclude : Worlds → ℕ → Include → Fault → Type 0
-IsWrongInclude ws place i = λ f. IsBrokenStability i.attributes.items f ⊎ IsLost ws.interfaces.now.files ws.by_name (top_of ws place) i f
+-- of the includes of an item
+abbrev pub includes_fault : Worlds → Item → Option Fault
+includes_fault ws i = first_in (included_fault ws i.top) (includes i)
 
+-- what is wrong with them
 abbrev pub HasWrongInclude : Worlds → Item → Fault → Type 0
 HasWrongInclude ws i = λ f. IsBrokenItemStability i f ⊎ IsLostInclude ws.interfaces.now.files ws.by_name i f
 

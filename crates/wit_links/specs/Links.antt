@@ -1,12 +1,14 @@
 -- Where the paths lead by which a world imports and exports interfaces, once all interfaces are resolved.
-use Rattle.std.specs.Prelude.{◌≡◌, ◌⊎◌, ℕ, false, true, List, Option, Some, None}
+use Rattle.std.specs.Prelude.{◌≡◌, ◌⊎◌, ℕ, false, true, if◌then◌else◌, List, Option, Some, None, is_none}
+use Rattle.std.specs.Option.{option_or}
 use Rattle.wit_type_tree.specs.declared.leaves.Id.{Id}
 use Rattle.wit_tree.specs.declared.tree.UsePath.{UsePath}
 use Rattle.wit_tree.specs.declared.tree.PackageFile.{PackageFile}
 use Rattle.wit_syntax.specs.Address.{Address, InterfaceNamed, WorldNamed, InlineAt, ForeignNamed}
 use Rattle.wit_syntax.specs.Broken.{is_world_at}
 use Rattle.wit_syntax.specs.Fault.{Fault, fault, missing_at, item_word}
-use Rattle.wit_syntax.specs.Source.{Local, leads, path_id, path_scope, TopName, item_named, all_items}
+use Rattle.wit_syntax.specs.Source.{Target, Local, Foreign, leads, path_id, path_scope, TopName, item_named, all_items}
+use Rattle.wit_first.specs.UseFaults.{path_fault}
 use Rattle.wit_arena.specs.Whole.{place_at}
 use Rattle.wit_arena.specs.Resolving.{Names, env_of}
 use Rattle.wit_item_names.specs.ForeignAddresses.{prefix_of}
@@ -41,3 +43,11 @@ IsLinkedTo files by_name top path id = (is_world_at files (leads top path) ≡ S
 pub data IsWrongLink (files : List PackageFile) (by_name : Names) (top : List TopName) (path : UsePath) (f : Fault) : Type 0 where
   AtWorld : is_world_at files (leads top path) ≡ Some true → f ≡ fault 10 (path_id path).span → IsWrongLink files by_name top path f
   AtNothing : (id : Id) → IsLostAt files by_name top path id → f ≡ missing_at 7 item_word id → IsWrongLink files by_name top path f
+
+-- the first fault of such a path: it leads to nothing or to a world, and then to an interface that is not resolved
+abbrev pub unresolved_fault : Names → Target → Option Fault
+unresolved_fault by_name (Local id) = if is_none (env_of by_name id.name.now) then Some (missing_at 7 item_word id) else None
+unresolved_fault by_name (Foreign p id) = None
+
+abbrev pub linked_fault : List PackageFile → Names → List TopName → UsePath → Option Fault
+linked_fault files by_name top path = option_or (path_fault files top path) (unresolved_fault by_name (leads top path))

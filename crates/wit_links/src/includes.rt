@@ -2,15 +2,14 @@
 ghost use Rattle.std.specs.Prelude.{◌≡◌, ◌<◌, ◌++◌, IfErr, IfOk, OnOk, length, map, true, codes, string_bytes};
 ghost use Rattle.std.specs.List.{flat_map};
 ghost use Rattle.std.specs.Option.{option_copied};
-ghost use Rattle.wit_syntax.specs.Source.{leads, TheWorld, IncludePart, world_part, about};
+ghost use Rattle.wit_syntax.specs.Source.{leads, TheWorld, IncludePart, about};
 ghost use Rattle.wit_syntax.specs.ScopeTables.{part_includes};
-ghost use Rattle.wit_syntax.specs.Metadata.{IsBrokenStability};
-ghost use Rattle.wit_syntax.specs.Fault.{Fault};
 ghost use Rattle.wit_syntax.specs.Broken.{Refused};
+ghost use Rattle.wit_first.specs.First.{Finds};
 ghost use Rattle.wit_arena.specs.Whole.{renamed, IsInclude, AreIncludes};
 ghost use Rattle.wit_item_names.specs.ItemPaths.{HasItem, HasPart, world_entry, world_at};
 ghost use Rattle.wit_items.specs.BorrowedItems.{declared_view};
-ghost use Rattle.wit_links.specs.Includes.{AreStable, HasWrongInclude, IsWrongInclude, addresses_of, item_in, top_of};
+ghost use Rattle.wit_links.specs.Includes.{AreStable, HasWrongInclude, addresses_of, included_fault, includes_fault, item_in, top_of};
 
 use crate::worlds::Worlds;
 use std::alloc::{AllocError, Global};
@@ -87,8 +86,7 @@ fn resolve_include<'f, 'a>(
 ) -> ParseResult<WorldInclude>
     requires part { HasPart worlds.now.interfaces.now.files place (IncludePart include.now) }
     ensures is { IfOk result (λ i. IsInclude (addresses_of worlds.now) (top_of worlds.now place) include.now i) }
-    ensures stable { OnOk result ((f : Fault) → IsBrokenStability include.now.attributes.items f → ⊥) }
-    ensures refused { IfErr result (Refused (IsWrongInclude worlds.now place include.now)) }
+    ensures first { Finds (included_fault worlds.now (top_of worlds.now place) include.now) result }
 {
     check_stability(alloc, &include.attributes)?;
     let path = path_id(&include.from);
@@ -129,8 +127,7 @@ fn resolve_includes<'f, 'a>(
 ) -> ParseResult<Row<WorldInclude>>
     requires item { HasItem worlds.now.interfaces.now.files place (TheWorld world.now) }
     ensures are { IfOk result (λ includes. AreIncludes (addresses_of worlds.now) (item_in worlds.now place (TheWorld world.now)) includes) }
-    ensures stable { OnOk result (AreStable (flat_map part_includes (map world_part world.now.items.items))) }
-    ensures refused { IfErr result (Refused (HasWrongInclude worlds.now (item_in worlds.now place (TheWorld world.now)))) }
+    ensures first { Finds (includes_fault worlds.now (item_in worlds.now place (TheWorld world.now))) result }
 {
     let mut includes = Vec::with_capacity(alloc, include_count(world))?;
     for part in world_items(world) {
@@ -152,6 +149,7 @@ pub fn declared_includes<'f, 'a>(
     requires sort { (about (declared_view declared.now)).is_world ≡ true }
     requires item { HasItem worlds.now.interfaces.now.files place (declared_view declared.now) }
     ensures are { IfOk result (λ includes. AreIncludes (addresses_of worlds.now) (item_in worlds.now place (declared_view declared.now)) includes) }
+    ensures first { Finds (includes_fault worlds.now (item_in worlds.now place (declared_view declared.now))) result }
     ensures stable { OnOk result (AreStable (flat_map part_includes (about (declared_view declared.now)).parts)) }
     ensures refused { IfErr result (Refused (HasWrongInclude worlds.now (item_in worlds.now place (declared_view declared.now)))) }
 {

@@ -1,22 +1,24 @@
-use Rattle.std.proofs.Common.{◌≡◌, ◌⊎◌, ◌+◌, ℕ, List, [], ◌∷◌, ◌++◌, ◌<◌, length, get_or, take, Some, inl, inr, refl, sym, ap, ◌∙◌, subst, arith}
+use Rattle.std.proofs.Common.{◌≡◌, ◌+◌, ℕ, List, [], ◌∷◌, ◌++◌, ◌<◌, length, get_or, take, Some, refl, sym, ap, ◌∙◌, subst, arith}
 use Rattle.std.specs.Prelude.{slice_get, map}
 use Rattle.std.specs.Option.{option_map}
 use Rattle.std.proofs.lemmas.List.{take_all}
 use Rattle.std.proofs.lemmas.Option.{slice_get-get_or, slice_get-map}
 use Rattle.std.proofs.lemmas.Result.{err_from_is_err_and}
+use Rattle.wit_tree.specs.declared.tree.Include.{Include}
 use Rattle.wit_tree.specs.declared.tree.WorldItem.{WorldItem}
 use Rattle.wit_tree.specs.declared.tree.WorldItem.TheVariants as world_item
-use Rattle.wit_syntax.specs.Metadata.{IsBrokenStability}
-use Rattle.wit_syntax.specs.Source.{Item, TheWorld, IncludePart, world_part}
-use Rattle.wit_arena.specs.Resolving.{IsLostInclude}
-use Rattle.wit_arena.specs.ResolvedArenas.{worlds_at, IsBrokenItemStability, OfInclude}
-use Rattle.wit_syntax.proofs.Refusing.{refused_weaker}
+use Rattle.wit_syntax.specs.Source.{TopName, TheWorld, IncludePart, world_part}
 use Rattle.wit_syntax.proofs.Found.{contains_at}
-use Rattle.wit_items.specs.BorrowedItems.{others_of}
-use Rattle.wit_links.specs.Includes.{IsLost, AreStable}
-use Rattle.wit_links.proofs.IncludePart.{included, AreIncluded, included_none, included_next, no_include, included_past, included_more, includes_are, included_among, lost_among, stable_none, stable_more}
-use Rattle.wit_links.proofs.includes.resolve_includes.Goals.{in-Include+in_ok-include+in_ok-push, in_default}
+use Rattle.wit_first.specs.First.{first_in}
+use Rattle.wit_first.proofs.First.{in-following, or_none, reports-in, reports_same}
+use Rattle.wit_arena.specs.ResolvedArenas.{worlds_at}
 use Rattle.wit_files.specs.FileNames.{top_at}
+use Rattle.wit_items.specs.BorrowedItems.{others_of}
+use Rattle.wit_links.specs.Includes.{included_fault}
+use Rattle.wit_links.specs.declared.worlds.Worlds.{Worlds}
+use Rattle.wit_links.proofs.IncludeFaults.{part_fault, parts_fault}
+use Rattle.wit_links.proofs.IncludePart.{included, AreIncluded, included_none, included_next, no_include, included_past, included_more, includes_are}
+use Rattle.wit_links.proofs.includes.resolve_includes.Goals.{in-Include+in_ok-include+in_ok-push, in_default}
 use Rattle.wit_links.proofs.includes.resolve_includes.Goals as goal
 
 -- the part at hand
@@ -26,7 +28,7 @@ part_at items xs k x y all lt is same = ap (λ (l : List WorldItem). slice_get l
 pub loop-part-init : goal.loop-part-init
 loop-part-init c = record {
   are = rw c.in_ok-includes.ensures.items (included_none (worlds_at (others_of c.args.worlds.now.interfaces.now.files) c.args.worlds.now.arena) (top_at c.args.worlds.now.interfaces.now.files c.args.place));
-  stable = stable_none;
+  first = refl;
 }
 
 pub resolve_include-requires : goal.resolve_include-requires
@@ -38,42 +40,47 @@ resolve_include-requires c =
     let there = slice_get-map world_part w.items.items k ∙ ap (option_map world_part) at in
     record { part = record { declared = TheWorld w; item = c.requires.item; among = contains_at (map world_part w.items.items) k (IncludePart i) there } }
 
-pub returns-in_err-include-clause-refused : goal.returns-in_err-include-clause-refused
-returns-in_err-include-clause-refused c =
-    let files = c.args.worlds.now.interfaces.now.files in
-    let top = top_at files c.args.place in
+-- the fault of a part that is an include
+include_fault : (ws : Worlds) (top : List TopName) (x : WorldItem) (n : Include) → x ≡ world_item.Include n → part_fault ws top x ≡ included_fault ws top n
+include_fault ws top x n is = ap (part_fault ws top) is ∙ or_none (included_fault ws top n)
+
+pub returns-in_err-include-clause-first : goal.returns-in_err-include-clause-first
+returns-in_err-include-clause-first c =
+    let ws = c.args.worlds.now in
+    let top = top_at ws.interfaces.now.files c.args.place in
     let p = err_from_is_err_and c.from_residual-in_err-include.result c.from_residual-in_err-include.ensures.1 in
-    let by_name = c.args.worlds.now.by_name in
     let w = c.args.world.now in
     let k = c.loop-part.part-index in
-    let i = c.in-Include.include in
-    let at = part_at w.items.items c.world_items-part-items.result.now k c.part-item.result (world_item.Include i) c.world_items-part-items.ensures c.loop-part-test.true c.part-item.is c.in-Include.is in
-    let item : Item = record { top = top; declared = TheWorld w } in
-    rw (p.1, p.2) (refused_weaker (λ f. IsBrokenStability i.attributes.items f ⊎ IsLost files by_name top i f) (λ f. IsBrokenItemStability item f ⊎ IsLostInclude files by_name item f) _ (λ f h. elim h [
-      | inl unstable ↦ inl (OfInclude i (included_among w k i at) unstable)
-      | inr lost ↦ inr (lost_among files by_name top w k i f at lost)
-    ]) c.in_err-include.ensures.refused)
+    let x = c.part-item.result in
+    let at : slice_get w.items.items k ≡ Some x = part_at w.items.items c.world_items-part-items.result.now k x x c.world_items-part-items.ensures c.loop-part-test.true c.part-item.is refl in
+    let own = reports_same (sym (include_fault ws top x c.in-Include.include c.in-Include.is)) c.in_err-include.ensures.first in
+    rw (p.1, p.2) (reports_same (parts_fault ws c.args.place w) (reports-in (part_fault ws top) w.items.items k x _ at c.loop-part.invariant.first own))
 
 pub loop-part-preserved : goal.loop-part-preserved
 loop-part-preserved c =
-    let worlds = worlds_at (others_of c.args.worlds.now.interfaces.now.files) c.args.worlds.now.arena in
+    let ws = c.args.worlds.now in
+    let top = top_at ws.interfaces.now.files c.args.place in
+    let worlds = worlds_at (others_of ws.interfaces.now.files) ws.arena in
     let items = c.args.world.now.items.items in
     let k = c.loop-part.part-index in
     let x = c.part-item.result in
     let at : slice_get items k ≡ Some x = part_at items c.world_items-part-items.result.now k x x c.world_items-part-items.ensures c.loop-part-test.true c.part-item.is refl in
     let was = c.loop-part.invariant in
-    elim c.match-part.branch [
-      | in-Include+in_ok-include+in_ok-push b ↦ (
-          let i = b.in-Include.include in
-          let next : included (take (k + 1) items) ≡ included (take k items) ++ i ∷ [] = included_next items k i (at ∙ ap Some b.in-Include.is) in
-          rw (b.includes-is, next, b.in_ok-push.ensures.items) (record {
-            are = included_more worlds (top_at c.args.worlds.now.interfaces.now.files c.args.place) (included (take k items)) c.loop-part.includes.items i _ was.are b.in_ok-include.ensures.is;
-            stable = stable_more (included (take k items)) i was.stable b.in_ok-include.ensures.stable;
-          }))
-      | in_default b ↦ (
-          let past : included (take (k + 1) items) ≡ included (take k items) = included_past items k x at (no_include x b.in_default.not-Include) in
-          rw (b.includes-is, past) was)
-    ]
+    record {
+      are = elim c.match-part.branch [
+        | in-Include+in_ok-include+in_ok-push b ↦ (
+            let n = b.in-Include.include in
+            let next : included (take (k + 1) items) ≡ included (take k items) ++ n ∷ [] = included_next items k n (at ∙ ap Some b.in-Include.is) in
+            rw (b.includes-is, next, b.in_ok-push.ensures.items) (included_more worlds top (included (take k items)) c.loop-part.includes.items n _ was.are b.in_ok-include.ensures.is))
+        | in_default b ↦ (
+            let past : included (take (k + 1) items) ≡ included (take k items) = included_past items k x at (no_include x b.in_default.not-Include) in
+            rw (b.includes-is, past) was.are)
+      ];
+      first = in-following (part_fault ws top) items k x at was.first (elim c.match-part.branch [
+        | in-Include+in_ok-include+in_ok-push b ↦ include_fault ws top x b.in-Include.include b.in-Include.is ∙ b.in_ok-include.ensures.first
+        | in_default b ↦ ap (first_in (included_fault ws top)) (no_include x b.in_default.not-Include)
+      ]);
+    }
 
 pub returns-clause-are : goal.returns-clause-are
 returns-clause-are c =
@@ -86,10 +93,11 @@ returns-clause-are c =
     let all : take k w.items.items ≡ w.items.items = ap (take k) (sym c.world_items-part-items.ensures) ∙ take_all k xs (omega arith) ∙ c.world_items-part-items.ensures in
     rw c.from.ensures (includes_are worlds top w c.loop-part.includes.items (subst (λ (l : List WorldItem). AreIncluded worlds top (included l) c.loop-part.includes.items) all c.loop-part.invariant.are))
 
-pub returns-clause-stable : goal.returns-clause-stable
-returns-clause-stable c =
+pub returns-clause-first : goal.returns-clause-first
+returns-clause-first c =
+    let ws = c.args.worlds.now in
     let w = c.args.world.now in
     let xs = c.world_items-part-items.result.now in
     let k = c.loop-part.part-index in
     let all : take k w.items.items ≡ w.items.items = ap (take k) (sym c.world_items-part-items.ensures) ∙ take_all k xs (omega arith) ∙ c.world_items-part-items.ensures in
-    subst (λ (l : List WorldItem). AreStable (included l)) all c.loop-part.invariant.stable
+    sym (parts_fault ws c.args.place w) ∙ ap (first_in (part_fault ws (top_at ws.interfaces.now.files c.args.place))) (sym all) ∙ c.loop-part.invariant.first

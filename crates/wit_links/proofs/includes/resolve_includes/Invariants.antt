@@ -1,13 +1,14 @@
-use Rattle.std.proofs.Common.{take}
+use Rattle.std.proofs.Common.{◌≡◌, None, take}
+use Rattle.wit_first.specs.First.{first_in}
 use Rattle.wit_arena.specs.ResolvedArenas.{worlds_at}
 use Rattle.wit_items.specs.BorrowedItems.{others_of}
-use Rattle.wit_links.specs.Includes.{AreStable}
-use Rattle.wit_links.proofs.IncludePart.{included, AreIncluded}
 use Rattle.wit_files.specs.FileNames.{top_at}
+use Rattle.wit_links.proofs.IncludeFaults.{part_fault}
+use Rattle.wit_links.proofs.IncludePart.{included, AreIncluded}
 use Rattle.wit_links.proofs.includes.resolve_includes.Given as goal
 
 abbrev pub invariant-loop-part : goal.invariant-loop-part
 invariant-loop-part l = record {
   are : AreIncluded (worlds_at (others_of l.worlds.interfaces.now.files) l.worlds.arena) (top_at l.worlds.interfaces.now.files l.place) (included (take l.part-index l.world.items.items)) l.includes.items;
-  stable : AreStable (included (take l.part-index l.world.items.items));
+  first : first_in (part_fault l.worlds (top_at l.worlds.interfaces.now.files l.place)) (take l.part-index l.world.items.items) ≡ None;
 }
