@@ -6,3 +6,5 @@ pub mod Steps
 pub mod Clashing
 pub mod DoneFunctions
 pub mod Linked
+pub mod AloneFaults
+pub mod FirstSetters

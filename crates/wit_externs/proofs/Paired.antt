@@ -1,9 +1,8 @@
 -- Setters whose names are among those of a scope or of a side, and the getters that go with them.
-use Rattle.std.proofs.Common.{◌≡◌, ℕ, ◌⊎◌, Bool, List, Some, false, true, inl, inr, sym, ap, ◌∙◌, subst}
+use Rattle.std.proofs.Common.{◌≡◌, ℕ, ◌⊎◌, Bool, List, Some, false, true, inl, inr, sym, ap, ◌∙◌, subst, Contains}
 use Rattle.std.specs.Prelude.{slice_get}
 use Rattle.wit_names.specs.Label.{is_label}
 use Rattle.wit_names.specs.Setter.{getter_of, is_setter}
-use Rattle.wit_values.specs.declared.span.Span.{Span}
 use Rattle.wit_type_tree.specs.declared.leaves.Id.{Id}
 use Rattle.wit_type_tree.specs.declared.types.FuncForm.TheVariants as form
 use Rattle.wit_syntax.specs.Fault.{Fault, fault}
@@ -24,7 +23,7 @@ both_tests b h k = (let wrong : false ≡ true = sym h ∙ k in cc)
 getter_no_id : (id : Id) (name : List ℕ) → is_setter name ≡ true → id.name.now ≡ getter_of name → ⊥
 getter_no_id id name sets same = both_tests (is_label (getter_of name)) (no_label-getter_of name sets) (subst (λ n. is_label n ≡ true) same id.label)
 
-setter_no_id : (id : Id) (name : List ℕ) → is_setter name ≡ true → id.name.now ≡ name → ⊥
+pub setter_no_id : (id : Id) (name : List ℕ) → is_setter name ≡ true → id.name.now ≡ name → ⊥
 setter_no_id id name sets same = both_tests (is_setter name) (no_setter-label name (subst (λ n. is_label n ≡ true) same id.label)) sets
 
 -- the names are those of functions, which are borrowed, and labels
@@ -40,22 +39,30 @@ module _ (names : List Name) (fns : List SourceFunction) (are : AreNamed names f
       let h = are.borrowed j fn at in
       subst (λ (g : SourceFunction). is_setter g.name ≡ true) h.1 (sets_view h.0 (subst (λ (g : SourceFunction). g.func.form ≡ form.Setter) (sym h.1) setter))
 
-  setter_at : (j : ℕ) (fn : SourceFunction) → slice_get fns j ≡ Some fn → is_setter fn.name ≡ true → fn.func.form ≡ form.Setter
+  pub setter_at : (j : ℕ) (fn : SourceFunction) → slice_get fns j ≡ Some fn → is_setter fn.name ≡ true → fn.func.form ≡ form.Setter
   setter_at j fn at sets =
       let h = are.borrowed j fn at in
       subst (λ (g : SourceFunction). g.func.form ≡ form.Setter) h.1 (setter_view h.0 (subst (λ (g : SourceFunction). is_setter g.name ≡ true) (sym h.1) sets))
 
-  -- a setter without its getter among the functions is one among all names
+  -- a setter without its getter among the functions is one among all names, where its name is
+  pub lone_at : (j : ℕ) (fn : SourceFunction) → slice_get fns j ≡ Some fn → fn.func.form ≡ form.Setter → ((other : SourceFunction) → Contains fns other → other.name ≡ getter_of fn.name → ⊥) → (i : ℕ) → slice_get names i ≡ Some (name_of_function fn) → IsLoneSetter names i
+  lone_at j fn at setter none i here =
+      let sets = sets_at j fn at setter in
+      record {
+        setter = name_of_function fn;
+        at = here;
+        sets = sets;
+        none = λ k span there. elim (are.from k (getter_of fn.name, span) there) [
+          | inl g ↦ none g.1 (contains_at fns g.0 g.1 g.2) (ap (λ (n : Name). n.0) g.3)
+          | inr id ↦ getter_no_id id.0 fn.name sets (ap (λ (n : Name). n.0) id.1)
+        ];
+      }
+
   pub lone_setter : (f : Fault) → IsUnpairedSetter fns f → (i : ℕ) × IsLoneSetter names i
   lone_setter f u =
       let there = at_contains fns u.0 u.1 in
-      let sets = sets_at there.0 u.0 there.1 u.2 in
       let own = are.has there.0 u.0 there.1 in
-      let none : (i : ℕ) (span : Span) → slice_get names i ≡ Some (getter_of u.0.name, span) → ⊥ = λ i span at. elim (are.from i (getter_of u.0.name, span) at) [
-        | inl g ↦ u.3 g.1 (contains_at fns g.0 g.1 g.2) (ap (λ (n : Name). n.0) g.3)
-        | inr id ↦ getter_no_id id.0 u.0.name sets (ap (λ (n : Name). n.0) id.1)
-      ] in
-      (own.0, record { setter = name_of_function u.0; at = own.1; sets = sets; none = none })
+      (own.0, lone_at there.0 u.0 there.1 u.2 u.3 own.0 own.1)
 
   -- and the first one among all names is one among the functions
   pub unpaired_setter : (f : Fault) → IsFirstLoneSetter names f → IsUnpairedSetter fns f

@@ -1,3 +1,4 @@
+pub mod AloneFaults
 pub mod Clash
 pub mod Links
 pub mod Next

@@ -3,8 +3,10 @@ ghost use Rattle.std.specs.Prelude.{◌≡◌, ◌∷◌, [], IfErr, IsTrue, OnO
 ghost use Rattle.wit_names.specs.Mangled.{is_mangled};
 ghost use Rattle.wit_syntax.specs.Broken.{Refused};
 ghost use Rattle.wit_syntax.specs.Sides.{SideFunction};
+ghost use Rattle.wit_first.specs.First.{Finds};
 ghost use Rattle.wit_rules.specs.BorrowedFunctions.{function_view};
 ghost use Rattle.wit_signatures.specs.ForeignName.{name_of_made, name_of_function};
+ghost use Rattle.wit_externs.specs.AloneFaults.{next_fault};
 ghost use Rattle.wit_externs.specs.Clash.{DefinesNames, IsClashAfter, StayApart};
 
 use wit_functions::Function;
@@ -25,6 +27,7 @@ pub fn define_alone(
     requires borrowed { name_of_made function.now ≡ name_of_function (function_view borrowed) }
     ensures defined { OnOk result (DefinesNames in_use.old in_use.new (SideFunction (function_view borrowed.entry) ∷ [])) }
     ensures differ { OnOk result (StayApart in_use.old in_use.new) }
+    ensures first { Finds (next_fault in_use.old (function_view borrowed.entry)) result }
     ensures refused { IfErr result (Refused (IsClashAfter in_use.old (SideFunction (function_view borrowed.entry) ∷ []))) }
 {
     let name = function.name.as_str();

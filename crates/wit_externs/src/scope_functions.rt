@@ -9,7 +9,7 @@ ghost use Rattle.wit_entries.specs.Requiring.{IsExtended};
 ghost use Rattle.wit_rules.specs.Signatures.{functions_view, HaveOwners, IsScopeOf};
 ghost use Rattle.wit_signatures.specs.ForeignName.{name_of_function, name_of_made};
 ghost use Rattle.wit_externs.specs.Clash.{DefinesNames, StayApart};
-ghost use Rattle.wit_externs.specs.ScopeFunctions.{AreSoundFunctions, HasWrongFunction, SignaturesRequire};
+ghost use Rattle.wit_externs.specs.ScopeFunctions.{AreSoundFunctions, FindsAlone, HasWrongFunction, SignaturesRequire};
 
 use crate::defining::define_alone;
 use std::alloc::Global;
@@ -41,6 +41,7 @@ pub fn resolve_functions(
     ensures legal { OnOk result ((xs : List ScopeName) → IsScopeOf scope.entry xs → AreSoundFunctions xs (functions_view scope.entry)) }
     ensures handled { OnOk result (SignaturesRequire scope.entry.names.now types.new (functions_view scope.entry) required.old.items required.new.items) }
     ensures extended { IsExtended types.old types.new }
+    ensures first { (xs : List ScopeName) → IsScopeOf scope.entry xs → FindsAlone scope.entry types.new in_use.old xs result }
     ensures refused { IfErr result (λ e. (xs : List ScopeName) → IsScopeOf scope.entry xs → Refused (HasWrongFunction scope.entry types.new in_use.old xs) e) }
 {
     let mut functions = Vec::with_capacity(alloc, scope.functions.len())?;

@@ -1,13 +1,17 @@
-use Rattle.std.proofs.Common.{◌≡◌, ◌∷◌, [], List, ℕ, ap, sym, ◌∙◌}
+use Rattle.std.proofs.Common.{◌≡◌, ◌∷◌, [], List, ℕ, ap, sym, ◌∙◌, subst}
 use Rattle.std.proofs.lemmas.Result.{IfErr-weaker}
 use Rattle.wit_tree.specs.declared.tree.WorldSide.{WorldSide}
 use Rattle.wit_syntax.specs.Broken.{Refused}
-use Rattle.wit_syntax.specs.Sides.{SideFunction}
+use Rattle.wit_syntax.specs.Sides.{SideFunction, role_side}
+use Rattle.wit_first.specs.First.{Finds}
 use Rattle.wit_syntax.proofs.Refusing.{refused_weaker}
 use Rattle.wit_refusals.specs.NameScopes.{Name, IsDefinedAgain}
 use Rattle.wit_sides.specs.SideNames.{defined_on}
 use Rattle.wit_rules.specs.BorrowedFunctions.{function_view}
+use Rattle.wit_signatures.specs.ForeignName.{name_of_function}
+use Rattle.wit_externs.specs.AloneFaults.{again_fault}
 use Rattle.wit_externs.specs.Clash.{item_names, IsClash}
+use Rattle.wit_externs.proofs.AloneFaults.{again_by}
 use Rattle.wit_externs.proofs.Clashing.{item_defined, name_differs, clash_again}
 use Rattle.wit_externs.proofs.defining.define_alone.Goals as goal
 
@@ -33,3 +37,13 @@ returns-clause-refused c =
     let again = IsDefinedAgain (old side) name span in
     let clash = IsClash old (SideFunction fn ∷ []) in
     IfErr-weaker c.define.result (Refused again) (Refused clash) (λ e. refused_weaker again clash e (λ f h. clash_again (SideFunction fn) side old name span f (sym c.side.ensures) called h)) c.define.ensures.refused
+
+pub returns-clause-first : goal.returns-clause-first
+returns-clause-first c =
+    let fn = function_view c.args.borrowed in
+    let name = c.as_str-name.result.now in
+    let span = c.args.function.now.span in
+    let old : WorldSide → List Name = λ s. defined_on s c.args.in_use.now in
+    let called : (name, span) ≡ name_of_function fn = ap (λ (n : List ℕ). (n, span)) c.as_str-name.ensures ∙ c.requires.borrowed in
+    let own = again_by c.define.result (old c.side.result) name span c.define.ensures.free c.define.ensures.refused in
+    subst (λ (n : Name). Finds (again_fault (old (role_side fn.role)) n) c.define.result) called (subst (λ (s : WorldSide). Finds (again_fault (old s) (name, span)) c.define.result) c.side.ensures own)

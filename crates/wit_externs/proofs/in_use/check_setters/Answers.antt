@@ -5,6 +5,8 @@ use Rattle.wit_syntax.specs.SignatureRules.{IsUnpairedSetter}
 use Rattle.wit_syntax.proofs.Refusing.{refused_weaker}
 use Rattle.wit_refusals.specs.NameScopes.{IsFirstLoneSetter}
 use Rattle.wit_rules.specs.BorrowedFunctions.{function_view}
+use Rattle.wit_signatures.specs.ForeignName.{name_of_function}
+use Rattle.wit_externs.proofs.FirstSetters.{lone_by, merged_after, merged_functions, none_lone}
 use Rattle.wit_externs.proofs.NoSetters.{any-borrowed, none_alone}
 use Rattle.wit_externs.proofs.PairedNames.{all_names, scope_named}
 use Rattle.wit_externs.proofs.Paired.{lone_setter, unpaired_setter}
@@ -27,3 +29,18 @@ returns-clause-refused c = IfErr-weaker c.check_setters.result (Refused (IsFirst
     let ids = c.args.names.now in
     let hs = c.args.functions.now in
     unpaired_setter (all_names ids (map function_view hs)) (map function_view hs) (scope_named ids hs) f (rw c.requires at first))) c.check_setters.ensures.refused
+
+pub returns-then-not-have_setter-clause-first : goal.returns-then-not-have_setter-clause-first
+returns-then-not-have_setter-clause-first c =
+    let hs = c.args.functions.now in
+    none_lone (map function_view hs) (none_alone (map function_view hs) (any-borrowed hs ∙ sym c.have_setter.ensures ∙ c.if-not-have_setter.true))
+
+pub returns-clause-first : goal.returns-clause-first
+returns-clause-first c =
+    let ids = c.args.names.now in
+    let hs = c.args.functions.now in
+    let fns = map function_view hs in
+    let names = all_names ids fns in
+    let paired = rw c.requires at c.check_setters.ensures.paired in
+    let refused = rw c.requires at c.check_setters.ensures.refused in
+    lone_by names fns (scope_named ids hs) c.check_setters.result (merged_after ids (map name_of_function fns) fns (merged_functions fns)) paired refused

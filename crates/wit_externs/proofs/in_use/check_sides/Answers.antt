@@ -1,9 +1,19 @@
-use Rattle.std.proofs.Common.{List, map, subst, sym, ◌∙◌}
+use Rattle.std.proofs.Common.{◌≡◌, ℕ, List, Result, Ok, Err, map, subst, sym, ◌∙◌}
+use Rattle.std.specs.Prelude.{IfErr, OnOk}
+use Rattle.std.specs.List.{flat_map}
+use Rattle.wit_type_tree.specs.declared.error.ParseError.{ParseError}
+use Rattle.wit_type_tree.specs.declared.leaves.Id.{Id}
+use Rattle.wit_syntax.specs.Broken.{Refused}
+use Rattle.wit_first.specs.First.{Finds}
+use Rattle.wit_first.proofs.First.{none_both, reports_back, reports_prefix}
+use Rattle.wit_rules.specs.declared.borrowed.BorrowedFunction.{BorrowedFunction}
+use Rattle.wit_externs.specs.AloneFaults.{lone_setters}
+use Rattle.wit_externs.proofs.FirstSetters.{AreMerged, lone_by, merged_side, none_lone}
 use Rattle.std.proofs.lemmas.Result.{err_from_is_err_and}
 use Rattle.wit_tree.specs.declared.tree.WorldSide.{WorldSide}
 use Rattle.wit_tree.specs.declared.tree.WorldSide.TheVariants.{Imported, Exported}
 use Rattle.wit_syntax.specs.Fault.{Fault}
-use Rattle.wit_syntax.specs.Sides.{on_side}
+use Rattle.wit_syntax.specs.Sides.{SideItem, item_function, on_side}
 use Rattle.wit_syntax.specs.SignatureRules.{IsUnpairedSetter}
 use Rattle.wit_syntax.proofs.Refusing.{refused_weaker}
 use Rattle.wit_refusals.specs.NameScopes.{Name, IsFirstLoneSetter, IsLoneSetter}
@@ -11,7 +21,7 @@ use Rattle.wit_rules.specs.BorrowedFunctions.{function_view}
 use Rattle.wit_externs.specs.Clash.{all_on}
 use Rattle.wit_externs.proofs.NoSetters.{none_there}
 use Rattle.wit_externs.proofs.PairedNames.{side_named}
-use Rattle.wit_externs.proofs.Paired.{lone_setter, unpaired_setter}
+use Rattle.wit_externs.proofs.Paired.{AreNamed, lone_setter, unpaired_setter}
 use Rattle.wit_externs.proofs.in_use.check_sides.Goals as goal
 
 pub returns-in_err-check_setters-clause-refused : goal.returns-in_err-check_setters-clause-refused
@@ -53,3 +63,37 @@ returns-clause-paired c = on
         let items = c.requires.0 in
         let lone = lone_setter (all_on Exported ids items) (on_side Exported (map function_view hs)) (side_named Exported ids items hs c.requires.1) f alone in
         c.in_ok-check_setters-2.ensures.paired lone.0 (subst (λ (l : List Name). IsLoneSetter l lone.0) (sym (c.requires.2 Exported)) lone.1)
+
+pub returns-then-not-have_setter-clause-first : goal.returns-then-not-have_setter-clause-first
+returns-then-not-have_setter-clause-first c =
+    let hs = c.args.functions.now in
+    let none = none_there hs (sym c.have_setter.ensures ∙ c.if-not-have_setter.true) in
+    none_both (none_lone (on_side Imported (map function_view hs)) (none Imported)) (none_lone (on_side Exported (map function_view hs)) (none Exported))
+
+-- what is found on a side
+side_finds : {T : Type 0} (side : WorldSide) (ids : List Id) (items : List SideItem) (hs : List BorrowedFunction) (names : List Name) (r : Result T ParseError) → flat_map item_function items ≡ map function_view hs → names ≡ all_on side ids items → OnOk r ((i : ℕ) → IsLoneSetter names i → ⊥) → IfErr r (Refused (IsFirstLoneSetter names)) → Finds (lone_setters (on_side side (map function_view hs))) r
+side_finds side ids items hs names r are same paired refused =
+    let fns = map function_view hs in
+    lone_by names (on_side side fns) (subst (λ (l : List Name). AreNamed l (on_side side fns)) (sym same) (side_named side ids items hs are)) r (subst (λ (l : List Name). AreMerged l (on_side side fns)) (sym same) (merged_side side ids items fns are)) paired refused
+
+pub returns-in_err-check_setters-clause-first : goal.returns-in_err-check_setters-clause-first
+returns-in_err-check_setters-clause-first c =
+    let p = err_from_is_err_and c.from_residual.result c.from_residual.ensures.1 in
+    let hs = c.args.functions.now in
+    let own = side_finds {T = Unit {0}} Imported c.args.names.now c.requires.0 hs c.args.in_use.now.imports (Err _) c.requires.1 (c.requires.2 Imported) tt c.in_err-check_setters.ensures.refused in
+    rw (p.1, p.2) (reports_prefix (lone_setters (on_side Exported (map function_view hs))) own)
+
+pub returns-in_err-check_setters-2-clause-first : goal.returns-in_err-check_setters-2-clause-first
+returns-in_err-check_setters-2-clause-first c =
+    let p = err_from_is_err_and c.from_residual-in_err-check_setters-2.result c.from_residual-in_err-check_setters-2.ensures.1 in
+    let hs = c.args.functions.now in
+    let before = side_finds {T = Unit {0}} Imported c.args.names.now c.requires.0 hs c.args.in_use.now.imports (Ok tt) c.requires.1 (c.requires.2 Imported) c.in_ok-check_setters.ensures.paired tt in
+    let own = side_finds {T = Unit {0}} Exported c.args.names.now c.requires.0 hs c.args.in_use.now.exports (Err _) c.requires.1 (c.requires.2 Exported) tt c.in_err-check_setters-2.ensures.refused in
+    rw (p.1, p.2) (reports_back before own)
+
+pub returns-clause-first : goal.returns-clause-first
+returns-clause-first c =
+    let hs = c.args.functions.now in
+    let imports = side_finds {T = Unit {0}} Imported c.args.names.now c.requires.0 hs c.args.in_use.now.imports (Ok tt) c.requires.1 (c.requires.2 Imported) c.in_ok-check_setters.ensures.paired tt in
+    let exports = side_finds {T = Unit {0}} Exported c.args.names.now c.requires.0 hs c.args.in_use.now.exports (Ok tt) c.requires.1 (c.requires.2 Exported) c.in_ok-check_setters-2.ensures.paired tt in
+    none_both imports exports

@@ -1,12 +1,18 @@
-use Rattle.std.proofs.Common.{◌≡◌, ◌∷◌, [], ◌++◌, List, length, ◌+◌, ◌<◌, map, take, ap, sym, ◌∙◌, subst, arith}
-use Rattle.std.proofs.lemmas.List.{map-append, take_more}
+use Rattle.std.proofs.Common.{◌≡◌, ◌∷◌, [], ◌++◌, List, length, ◌+◌, ◌<◌, Some, map, take, ap, sym, ◌∙◌, subst, arith}
+use Rattle.std.specs.Prelude.{slice_get}
+use Rattle.std.proofs.lemmas.List.{length-map, map-append, take-map, take_all, take_more}
 use Rattle.std.proofs.lemmas.Result.{err_from_is_err_and}
 use Rattle.wit_type_tree.specs.declared.leaves.Id.{Id}
 use Rattle.wit_tree.specs.declared.tree.WorldSide.TheVariants.{Imported}
+use Rattle.wit_syntax.proofs.Lists.{read_map}
+use Rattle.wit_syntax.proofs.Orders.{take_next}
 use Rattle.wit_syntax.proofs.Refusing.{refused_weaker}
+use Rattle.wit_first.proofs.First.{after-more, reports-after, reports_same}
 use Rattle.wit_sides.specs.SideNames.{defined_on}
 use Rattle.wit_refusals.specs.NameScopes.{Name, IsDefinedAgain}
 use Rattle.wit_signatures.specs.ForeignName.{name_of_id, IsTwiceAmong}
+use Rattle.wit_externs.specs.AloneFaults.{again_fault, defined_fault}
+use Rattle.wit_externs.proofs.AloneFaults.{again_free, again_report}
 use Rattle.wit_externs.proofs.Clashing.{sides_differ, types_more}
 use Rattle.wit_externs.proofs.Named.{again_twice, twice_whole}
 use Rattle.wit_externs.proofs.in_use.define_names.Goals as goal
@@ -21,6 +27,18 @@ returns-in_err-define-clause-refused c =
     let within : c.loop-name.name-index < length names = omega arith in
     rw (p.1, p.2) (refused_weaker (IsDefinedAgain now item.name.now item.span) (IsTwiceAmong (old ++ map name_of_id names)) _ (λ f again. twice_whole name_of_id old names c.loop-name.name-index item f within c.name-item.is (subst (λ (ns : List Name). IsTwiceAmong (ns ++ name_of_id item ∷ []) f) (c.loop-name.invariant.defined Imported) (again_twice now item.name.now item.span f again))) c.in_err-define.ensures.refused)
 
+pub returns-in_err-define-clause-first : goal.returns-in_err-define-clause-first
+returns-in_err-define-clause-first c =
+    let p = err_from_is_err_and c.from_residual.result c.from_residual.ensures.1 in
+    let old = c.args.in_use.now.imports in
+    let now = c.loop-name.in_use.imports in
+    let names = c.args.names.now in
+    let i = c.loop-name.name-index in
+    let item = c.name-item.result in
+    let at : slice_get (map name_of_id names) i ≡ Some (name_of_id item) = read_map name_of_id names i item c.loop-name-test.true c.name-item.is in
+    let own = ap (λ (l : List Name). again_fault l (name_of_id item)) (c.loop-name.invariant.defined Imported ∙ ap (λ (l : List Name). old ++ l) (sym (take-map name_of_id i names))) in
+    rw (p.1, p.2) (reports-after (λ (earlier : List Name). again_fault (old ++ earlier)) (map name_of_id names) i (name_of_id item) _ at c.loop-name.invariant.first (reports_same own (again_report now item.name.now item.span _ c.in_err-define.ensures.refused)))
+
 pub loop-name-preserved : goal.loop-name-preserved
 loop-name-preserved c =
     let i = c.loop-name.name-index in
@@ -31,7 +49,15 @@ loop-name-preserved c =
     let old = c.args.in_use.now in
     let mid = c.loop-name.in_use in
     let new = c.define.new.self in
+    let at : slice_get (map name_of_id names) i ≡ Some (name_of_id item) = read_map name_of_id names i item c.loop-name-test.true c.name-item.is in
+    let own = ap (λ (l : List Name). again_fault l (name_of_id item)) (c.loop-name.invariant.defined Imported ∙ ap (λ (l : List Name). old.imports ++ l) (sym (take-map name_of_id i names))) in
     record {
       defined = λ s. types_more s (defined_on s old) (defined_on s mid) (defined_on s new) (map name_of_id (take i names)) (map name_of_id (take (i + 1) names)) (name_of_id item) more (c.loop-name.invariant.defined s) (c.in_ok-define.ensures.defined s);
+      first = ap (defined_fault old.imports) (take_next (map name_of_id names) i (name_of_id item) at) ∙ after-more (λ (earlier : List Name). again_fault (old.imports ++ earlier)) (take i (map name_of_id names)) (name_of_id item) c.loop-name.invariant.first ∙ sym own ∙ again_free mid.imports item.name.now item.span c.in_ok-define.ensures.free;
       differ = λ s d. sides_differ Imported (λ t. defined_on t mid) (λ t. defined_on t new) item.name.now item.span c.in_ok-define.ensures.defined c.in_ok-define.ensures.free s (c.loop-name.invariant.differ s d);
     }
+
+pub returns-clause-first : goal.returns-clause-first
+returns-clause-first c =
+    let names = map name_of_id c.args.names.now in
+    ap (defined_fault c.args.in_use.now.imports) (sym (take_all c.loop-name.name-index names (omega (arith, length-map c.args.names.now name_of_id)))) ∙ c.loop-name.invariant.first

@@ -1,9 +1,10 @@
-use Rattle.std.proofs.Common.{◌≡◌, ◌++◌, take, map}
+use Rattle.std.proofs.Common.{◌≡◌, ◌++◌, None, take, map}
 use Rattle.wit_tree.specs.declared.tree.WorldSide.{WorldSide}
 use Rattle.wit_syntax.specs.Repeats.{AllDiffer}
 use Rattle.wit_syntax.specs.Sides.{names_on}
 use Rattle.wit_sides.specs.SideNames.{defined_on}
 use Rattle.wit_signatures.specs.ForeignName.{name_key, name_of_id}
+use Rattle.wit_externs.specs.AloneFaults.{defined_fault}
 use Rattle.wit_externs.proofs.in_use.define_names.Given as goal
 
 -- the names up to here are defined, and they differ on each side where those before did
@@ -11,4 +12,5 @@ abbrev pub invariant-loop-name : goal.invariant-loop-name
 invariant-loop-name l = record {
   defined : (s : WorldSide) → defined_on s l.in_use ≡ defined_on s l.initial.in_use ++ names_on s (map name_of_id (take l.name-index l.names));
   differ : (s : WorldSide) → AllDiffer (map name_key (defined_on s l.initial.in_use)) → AllDiffer (map name_key (defined_on s l.in_use));
+  first : defined_fault l.initial.in_use.imports (take l.name-index (map name_of_id l.names)) ≡ None;
 }

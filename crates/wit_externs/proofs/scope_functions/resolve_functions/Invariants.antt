@@ -1,10 +1,15 @@
-use Rattle.std.proofs.Common.{◌≡◌, ◌++◌, map, take}
+use Rattle.std.proofs.Common.{◌≡◌, ◌++◌, List, Option, None, map, take}
+use Rattle.wit_type_tree.specs.declared.leaves.Id.{Id}
 use Rattle.wit_tree.specs.declared.tree.WorldSide.{WorldSide}
+use Rattle.wit_syntax.specs.Fault.{Fault}
 use Rattle.wit_syntax.specs.Repeats.{AllDiffer}
+use Rattle.wit_syntax.specs.Source.{ScopeName}
+use Rattle.wit_arena.specs.Resolving.{env_of}
 use Rattle.wit_syntax.specs.Sides.{SideFunction, items_on}
 use Rattle.wit_sides.specs.SideNames.{defined_on}
-use Rattle.wit_rules.specs.Signatures.{functions_view}
+use Rattle.wit_rules.specs.Signatures.{IsScopeOf, functions_view}
 use Rattle.wit_signatures.specs.ForeignName.{name_key}
+use Rattle.wit_externs.specs.AloneFaults.{IsSafe, alone_faults, words_in}
 use Rattle.wit_externs.specs.Clash.{names_of_items}
 use Rattle.wit_externs.proofs.DoneFunctions.{AreDone}
 use Rattle.wit_externs.proofs.scope_functions.resolve_functions.Given as goal
@@ -15,4 +20,5 @@ invariant-loop-borrowed l = record {
   done : AreDone l.fn.types l.types l.scope (take l.borrowed-index (functions_view l.scope)) l.functions.items l.fn.required.items l.required.items;
   defined : (s : WorldSide) → defined_on s l.in_use ≡ defined_on s l.fn.in_use ++ names_of_items (items_on s (take l.borrowed-index (map SideFunction (functions_view l.scope))));
   differ : (s : WorldSide) → AllDiffer (map name_key (defined_on s l.fn.in_use)) → AllDiffer (map name_key (defined_on s l.in_use));
+  first : (xs : List ScopeName) → IsScopeOf l.scope xs → (handle : Id → Option Fault) → IsSafe (env_of l.scope.names.now) l.types handle → alone_faults (words_in (env_of l.scope.names.now)) handle xs (λ s. defined_on s l.fn.in_use) (take l.borrowed-index (functions_view l.scope)) ≡ None;
 }

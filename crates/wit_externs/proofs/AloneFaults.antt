@@ -1,0 +1,133 @@
+-- The first fault of functions where nothing else is on the sides of a scope: names again, and tests of names in handles in an arena that grows.
+use Rattle.std.proofs.Common.{◌≡◌, ℕ, suc, Bool, true, false, List, [], ◌∷◌, ◌++◌, map, take, Option, Some, None, Result, Ok, Err, inl, inr, refl, sym, ap, ◌∙◌, add-one}
+use Rattle.std.specs.Prelude.{IfErr, OnOk, if◌then◌else◌, slice_get}
+use Rattle.std.specs.List.{list_any}
+use Rattle.std.specs.Option.{option_or}
+use Rattle.std.specs.Str.{bytes_eq}
+use Rattle.std.proofs.lemmas.Bool.{false_from_ne_true}
+use mathlib.Core.Path.{fun_ext}
+use Rattle.wit_names.specs.Folded.{folded_key}
+use Rattle.wit_values.specs.declared.span.Span.{Span}
+use Rattle.wit_type_tree.specs.declared.error.ParseError.{ParseError}
+use Rattle.wit_type_tree.specs.declared.leaves.Id.{Id}
+use Rattle.wit_type_tree.specs.declared.types.Param.{Param}
+use Rattle.wit_type_tree.specs.declared.types.«Type».{«Type» as Written}
+use Rattle.wit_type_tree.specs.declared.types.«Type».TheVariants as written
+use Rattle.wit_types.specs.declared.types.TypeDef.{TypeDef}
+use Rattle.wit_syntax.specs.Bodies.{folded}
+use Rattle.wit_syntax.specs.Broken.{Refused}
+use Rattle.wit_syntax.specs.Fault.{Fault, fault}
+use Rattle.wit_syntax.specs.Function.{SourceFunction, SourceParam, written_param}
+use Rattle.wit_syntax.specs.Source.{ScopeName}
+use Rattle.wit_syntax.proofs.Names.{name_equal, name_itself}
+use Rattle.wit_first.specs.AttributeFaults.{metadata_fault}
+use Rattle.wit_first.specs.First.{Finds, Reports, first_after, repeat_of}
+use Rattle.wit_first.specs.FunctionFaults.{given_fault, gives_fault}
+use Rattle.wit_first.specs.TypeFaults.{type_fault}
+use Rattle.wit_first.proofs.Bridge.{any_found, or_none_both}
+use Rattle.wit_first.proofs.First.{any_some, none_both}
+use Rattle.wit_first.proofs.Repeats.{after_kept}
+use Rattle.wit_first.proofs.TypeFaults.{type_kept}
+use Rattle.wit_walk.specs.Functions.{function_fault, lost_word, param_fault, return_fault}
+use Rattle.wit_arena.specs.Resolving.{Env}
+use Rattle.wit_refusals.specs.NameScopes.{Name, AreUsed, IsDefinedAgain}
+use Rattle.wit_entries.specs.EntryFaults.{handle_fault, handled_fault, name_fault, unless_found}
+use Rattle.wit_entries.specs.Requiring.{IsExtended}
+use Rattle.wit_entries.proofs.Faults.{written_extended}
+use Rattle.wit_signatures.specs.ForeignName.{name_key}
+use Rattle.wit_signatures.specs.SignatureFaults.{function_fault as signature_function_fault}
+use Rattle.wit_externs.specs.AloneFaults.{EndsIn, IsSafe, again_fault, signed_by, words_in}
+use Rattle.wit_externs.proofs.Steps.{used_next}
+
+-- a name that is defined again, and one that is not
+pub again_report : (names : List Name) (name : List ℕ) (span : Span) (e : ParseError) → Refused (IsDefinedAgain names name span) e → Reports (again_fault names (name, span)) e
+again_report names name span e h = elim h [
+  | inl memory ↦ inl memory
+  | inr again ↦ (
+      let old = again.in_use in
+      let same : bytes_eq (name_key old.earlier) (name_key (name, span)) ≡ true = ap (λ (k : List ℕ). bytes_eq k (folded_key name)) old.same ∙ name_itself (folded_key name) in
+      let hit = any_some (λ (m : Name). bytes_eq (name_key m) (name_key (name, span))) names old.place old.earlier old.at same in
+      inr (ap (λ (b : Bool). if b then Some (fault 17 span) else None) hit ∙ ap Some (sym again.is)))
+]
+
+pub again_free : (names : List Name) (name : List ℕ) (span : Span) → (AreUsed names name → ⊥) → again_fault names (name, span) ≡ None
+again_free names name span free =
+    let test = λ (m : Name). bytes_eq (name_key m) (name_key (name, span)) in
+    let miss : list_any test names ≡ false = false_from_ne_true (list_any test names) (λ hit. (
+    let it = any_found test names hit in
+    free (record { place = it.0; earlier = it.1; at = it.2; same = name_equal (name_key it.1) (name_key (name, span)) it.3 }))) in
+    ap (λ (b : Bool). if b then Some (fault 17 span) else None) miss
+
+pub again_by : {T : Type 0} (r : Result T ParseError) (names : List Name) (name : List ℕ) (span : Span) → OnOk r (AreUsed names name → ⊥) → IfErr r (Refused (IsDefinedAgain names name span)) → Finds (again_fault names (name, span)) r
+again_by (Ok x) names name span free refused = again_free names name span free
+again_by (Err e) names name span free refused = again_report names name span e refused
+
+-- a test that is right of an arena finds nothing where the end of a name in it is right
+pub safe_of : (env : Env) (es : List TypeDef) (handle : Id → Option Fault) → EndsIn env es handle → IsSafe env es handle
+safe_of env es handle ends id place present none = ends id place present ∙ none
+
+-- so it was before the arena grew, and with fewer names
+pub safe_arena : (env : Env) (old new : List TypeDef) (handle : Id → Option Fault) → IsExtended old new → IsSafe env new handle → IsSafe env old handle
+safe_arena env old new handle g safe id place present none = safe id place present (written_extended (λ name. Some place) old new (written.Own id.span id) g none)
+
+pub safe_names : (env env' : Env) (es : List TypeDef) (handle : Id → Option Fault) → ((name : List ℕ) (i : ℕ) → env name ≡ Some i → env' name ≡ Some i) → IsSafe env' es handle → IsSafe env es handle
+safe_names env env' es handle keep safe id place present none = safe id place (keep id.name.now place present) none
+
+-- a function in which nothing is wrong by one test of types, and so by another
+module _ (wrong wrong' : Written → Option Fault) (kept : (t : Written) → wrong t ≡ None → wrong' t ≡ None) (xs : List ScopeName) (fn : SourceFunction) where
+  return_kept : (t : Option Written) → return_fault wrong xs fn t ≡ None → return_fault wrong' xs fn t ≡ None
+  return_kept None h = h
+  return_kept (Some t) h =
+      let all = or_none_both (wrong t) (gives_fault xs fn t) h in
+      none_both (kept t all.0) all.1
+
+  abbrev given_repeat : List Param → Param → Option Fault
+  given_repeat before p = repeat_of (λ (q : SourceParam). folded q.name) (λ (q : SourceParam). fault 38 q.span) (fn.given ++ map written_param before) (written_param p)
+
+  param_kept : (before : List Param) (p : Param) → param_fault wrong fn before p ≡ None → param_fault wrong' fn before p ≡ None
+  param_kept before p h =
+      let all = or_none_both (given_repeat before p) (wrong p.ty) h in
+      none_both all.0 (kept p.ty all.1)
+
+  function_kept : function_fault wrong xs fn ≡ None → function_fault wrong' xs fn ≡ None
+  function_kept h =
+      let params = first_after (param_fault wrong fn) [] fn.func.params.items in
+      let returns = return_fault wrong xs fn fn.func.result in
+      let a = or_none_both (metadata_fault fn.attributes) (option_or (given_fault fn) (option_or params returns)) h in
+      let b = or_none_both (given_fault fn) (option_or params returns) a.1 in
+      let c = or_none_both params returns b.1 in
+      none_both a.0 (none_both b.0 (none_both (after_kept (param_fault wrong fn) (param_fault wrong' fn) param_kept [] fn.func.params.items c.0) (return_kept fn.func.result c.1)))
+
+module _ (env : Env) (es : List TypeDef) (handle : Id → Option Fault) (xs : List ScopeName) where
+  -- a name in a handle, in a signature
+  signed_handle : (lost : Id → Fault) → EndsIn env es handle → (id : Id) → handle_fault lost env es id ≡ option_or (name_fault lost env id) (handle id)
+  signed_handle lost ends id = by (env id.name.now) refl
+    where
+      by : (o : Option ℕ) → env id.name.now ≡ o → handled_fault lost es id o ≡ option_or (unless_found (lost id) o) (handle id)
+      by None free = refl
+      by (Some place) present = sym (ends id place present)
+
+  signed_safe : (lost : Id → Fault) → IsSafe env es handle → (id : Id) → handle_fault lost env es id ≡ None → option_or (name_fault lost env id) (handle id) ≡ None
+  signed_safe lost safe id h = by (env id.name.now) refl h
+    where
+      by : (o : Option ℕ) → env id.name.now ≡ o → handled_fault lost es id o ≡ None → option_or (unless_found (lost id) o) (handle id) ≡ None
+      by None free none = none
+      by (Some place) present none = safe id place present none
+
+  upto : (fns : List SourceFunction) (k : ℕ) (fn : SourceFunction) → slice_get fns k ≡ Some fn → take (suc k) fns ≡ take k fns ++ fn ∷ []
+  upto fns k fn at = ap (λ (n : ℕ). take n fns) (sym (add-one k)) ∙ used_next fns k fn at
+
+  -- the fault of a function by an arena, and by a test that is right of it
+  pub function_same : EndsIn env es handle → (fns : List SourceFunction) (k : ℕ) (fn : SourceFunction) → slice_get fns k ≡ Some fn → signature_function_fault env es xs fns k fn ≡ function_fault (signed_by (words_in env) handle (take k fns ++ fn ∷ [])) xs fn
+  function_same ends fns k fn at =
+      let lost = lost_word (take (suc k) fns) in
+      let handles : handle_fault lost env es ≡ (λ (id : Id). option_or (name_fault lost env id) (handle id)) = fun_ext (signed_handle lost ends) in
+      ap (λ (h : Id → Option Fault). function_fault (type_fault (name_fault lost env) h) xs fn) handles
+      ∙ ap (λ (l : List SourceFunction). function_fault (signed_by (words_in env) handle l) xs fn) (upto fns k fn at)
+
+  pub function_safe : IsSafe env es handle → (fns : List SourceFunction) (k : ℕ) (fn : SourceFunction) → slice_get fns k ≡ Some fn → signature_function_fault env es xs fns k fn ≡ None → function_fault (signed_by (words_in env) handle (take k fns ++ fn ∷ [])) xs fn ≡ None
+  function_safe safe fns k fn at none =
+      let lost = lost_word (take (suc k) fns) in
+      let wrong = type_fault (name_fault lost env) (handle_fault lost env es) in
+      ap (λ (l : List SourceFunction). function_fault (signed_by (words_in env) handle l) xs fn) (sym (upto fns k fn at))
+      ∙ function_kept wrong (signed_by (words_in env) handle (take (suc k) fns)) (type_kept (name_fault lost env) (handle_fault lost env es) (name_fault lost env) (λ (id : Id). option_or (name_fault lost env id) (handle id)) (λ id h. h) (signed_safe lost safe)) xs fn none
