@@ -1,15 +1,17 @@
 -- Names that clash after those of a scope, and handles in its functions: what is wrong with them is wrong with the functions of the item.
-use Rattle.std.proofs.Common.{◌≡◌, ◌⊎◌, ℕ, List, [], ◌++◌, map, take, Some, inl, inr, refl, sym, ap, ◌∙◌, subst, Contains}
+use Rattle.std.proofs.Common.{◌≡◌, ◌⊎◌, ℕ, true, List, [], ◌++◌, map, take, Option, Some, None, inl, inr, refl, sym, ap, ◌∙◌, subst, Contains}
 use Rattle.std.specs.Prelude.{slice_get}
 use Rattle.std.specs.List.{flat_map}
 use Rattle.std.specs.Option.{option_map}
+use Rattle.std.specs.Str.{bytes_eq}
 use Rattle.std.proofs.lemmas.Option.{slice_get-map}
+use mathlib.Core.Path.{fun_ext}
 use Rattle.wit_type_tree.specs.declared.leaves.Id.{Id}
 use Rattle.wit_types.specs.declared.types.TypeDef.{TypeDef}
 use Rattle.wit_syntax.specs.Fault.{Fault}
 use Rattle.wit_syntax.specs.Bodies.{IsRepeated}
 use Rattle.wit_syntax.specs.Shape.{all_handles}
-use Rattle.wit_syntax.specs.Source.{ScopeName, local_id}
+use Rattle.wit_syntax.specs.Source.{ScopeName, local_id, local_name, meaning}
 use Rattle.wit_syntax.specs.ScopeTables.{in_turn, local_names}
 use Rattle.wit_syntax.specs.Function.{SourceFunction, written_types}
 use Rattle.wit_syntax.specs.SignatureRules.{Called, name_called}
@@ -17,8 +19,12 @@ use Rattle.wit_tree.specs.declared.tree.WorldSide.{WorldSide}
 use Rattle.wit_tree.specs.declared.tree.WorldSide.TheVariants.{Imported}
 use Rattle.wit_syntax.specs.Sides.{SideItem, SideFunction, item_called, items_on, names_on, IsFoldedTwice, IsCrossedTwice}
 use Rattle.wit_arena.specs.Resolving.{Env, Names, env_of, IsWrongHandle, names_in}
-use Rattle.wit_syntax.proofs.Lists.{at_prefix, map_map, flat_map_has}
-use Rattle.wit_syntax.proofs.Found.{contains_at}
+use Rattle.wit_syntax.proofs.Lists.{at_prefix, map_at, map_map, flat_map_has}
+use Rattle.wit_syntax.proofs.Found.{contains_at, find_some}
+use Rattle.wit_syntax.proofs.Names.{lookup-place, name_itself}
+use Rattle.wit_syntax.proofs.Turns.{in_turn_among}
+use Rattle.wit_walk.specs.Functions.{lost_word, word_fault}
+use Rattle.wit_walk.specs.Names.{unless_meant}
 use Rattle.wit_arena.proofs.Meant.{free_unmeant}
 use Rattle.wit_arena.proofs.Required.{handle_of}
 use Rattle.wit_arena.proofs.Written.{handles_at}
@@ -26,7 +32,9 @@ use Rattle.wit_refusals.specs.NameScopes.{Name}
 use Rattle.wit_sides.specs.SideNames.{defined_on}
 use Rattle.wit_sides.specs.declared.sides.Sides.{Sides}
 use Rattle.wit_rules.specs.Signatures.{AreAllNames, IsWrongFunctionAmong}
+use Rattle.wit_entries.specs.EntryFaults.{unless_found}
 use Rattle.wit_signatures.specs.ForeignName.{name_of_id, name_key, IsTwiceAmong}
+use Rattle.wit_externs.specs.AloneFaults.{words_in}
 use Rattle.wit_externs.specs.Clash.{names_of_items, all_on, IsCrossedAmong, IsClash, Folded, Crossed}
 use Rattle.wit_uses.specs.NameOrder.{IsTurn}
 use Rattle.wit_item_entries.specs.ScopeFunctionFaults.{IsWrongFunctions, BrokenFunction, BrokenNames, CrossedNames, HandleOfOther}
@@ -111,6 +119,24 @@ turn_texts xs order ids are = ap (map (λ (id : Id). id.name.now)) are ∙ map_m
 -- where a table has just the names of a scope, what it lacks is none of them
 pub all_names : (xs : List ScopeName) (ids : List Id) (types : Names) → IsTurn xs ids → names_in types ≡ map (λ (id : Id). id.name.now) ids → AreAllNames (env_of types) xs
 all_names xs ids types t listed = record { unmeant = λ name free. free_unmeant xs t.order types name t.least (listed ∙ turn_texts xs t.order ids t.are) free }
+
+-- and what it has is one of them
+has_meaning : (xs : List ScopeName) (ids : List Id) (types : Names) (name : List ℕ) (place : ℕ) → IsTurn xs ids → names_in types ≡ map (λ (id : Id). id.name.now) ids → env_of types name ≡ Some place → (x : ScopeName) × (meaning xs name ≡ Some x)
+has_meaning xs ids types name place t listed present =
+    let p = lookup-place types name place present in
+    let at : slice_get (names_in types) p.0 ≡ Some name = slice_get-map (λ (q : List ℕ × ℕ). q.0) types p.0 ∙ ap (option_map (λ (q : List ℕ × ℕ). q.0)) p.1 in
+    let own = map_at local_name (in_turn xs t.order) p.0 name (ap (λ (l : List (List ℕ)). slice_get l p.0) (sym (listed ∙ turn_texts xs t.order ids t.are)) ∙ at) in
+    let there = in_turn_among xs t.order t.least p.0 own.0 own.1 in
+    let passes : bytes_eq (local_name own.0) name ≡ true = ap (λ (n : List ℕ). bytes_eq n name) own.2 ∙ name_itself name in
+    find_some (λ (x : ScopeName). bytes_eq (local_name x) name) xs there.0 own.0 there.1 passes
+
+-- so a name means nothing by the table where it does in the scope
+pub words_same : (xs : List ScopeName) (ids : List Id) (types : Names) → IsTurn xs ids → names_in types ≡ map (λ (id : Id). id.name.now) ids → words_in (env_of types) ≡ word_fault xs
+words_same xs ids types t listed = fun_ext (λ fns. fun_ext (λ id. by fns id (env_of types id.name.now) refl))
+  where
+    by : (fns : List SourceFunction) (id : Id) (o : Option ℕ) → env_of types id.name.now ≡ o → unless_found (lost_word fns id) o ≡ word_fault xs fns id
+    by fns id None free = sym (ap (λ (m : Option ScopeName). unless_meant m (lost_word fns id)) ((all_names xs ids types t listed).unmeant id.name.now free))
+    by fns id (Some place) present = (let x = has_meaning xs ids types id.name.now place t listed present in sym (ap (λ (m : Option ScopeName). unless_meant m (lost_word fns id)) x.1))
 
 -- a handle in one function is in them all
 handles_in : (fns : List SourceFunction) (k : ℕ) (fn : SourceFunction) (id : Id) → slice_get fns k ≡ Some fn → Contains (all_handles (written_types fn)) id → Contains (all_handles (flat_map written_types fns)) id

@@ -134,7 +134,7 @@ wrong_handle_next old mid new o names now ds i d f at defines g wrong =
       wrong = subst (λ (es : List TypeDef). IsWrongHandle (env_of now) es all f) g.is (handle_wider (env_of now) new (all_handles (body_types d.body)) all f (λ id h. handles_named ds i (Defined d) id at h) wrong);
     }
 
-take_after : {X : Type 0} (xs ys : List X) (n : ℕ) → take (length xs + n) (xs ++ ys) ≡ xs ++ take n ys
+pub take_after : {X : Type 0} (xs ys : List X) (n : ℕ) → take (length xs + n) (xs ++ ys) ≡ xs ++ take n ys
 take_after [] ys n = ap (λ (k : ℕ). take k ys) (zero-add n)
 take_after (x ∷ xs) ys n = ap (λ (k : ℕ). take k (x ∷ xs ++ ys)) (suc-add (length xs) n) ∙ ap (λ l. x ∷ l) (take_after xs ys n)
 

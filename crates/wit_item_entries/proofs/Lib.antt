@@ -1,4 +1,5 @@
 mod Handled
+pub mod ReachedFaults
 pub mod WrongNames
 mod Results
 mod SettersPlaced

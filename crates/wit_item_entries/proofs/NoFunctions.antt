@@ -1,5 +1,5 @@
 -- Scopes that have no functions, and nothing else, on their sides.
-use Rattle.std.proofs.Common.{◌≡◌, List, [], ◌++◌, length, map, false, sym, subst, arith, Contains}
+use Rattle.std.proofs.Common.{◌≡◌, List, [], ◌++◌, length, map, false, sym, ap, subst, arith, Contains}
 use Rattle.std.specs.Char.{is_ascii_uppercase}
 use Rattle.std.specs.List.{list_any}
 use Rattle.std.proofs.lemmas.List.{nil_from_length}
@@ -22,6 +22,9 @@ use Rattle.wit_item_entries.proofs.OwnKeys.{turn_keys}
 
 none_in : (fn : SourceFunction) → Contains [] fn → ⊥
 none_in fn (k, lt, is) = omega arith
+
+pub no_functions : (hs : List BorrowedFunction) → length hs ≡ 0 → map function_view hs ≡ []
+no_functions hs none = ap (map function_view) (nil_from_length hs none)
 
 -- none of them is a setter without its getter
 pub none_unpaired : (hs : List BorrowedFunction) → length hs ≡ 0 → (f : Fault) → IsUnpairedSetter (map function_view hs) f → ⊥

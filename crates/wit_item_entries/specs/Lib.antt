@@ -1,3 +1,4 @@
 pub mod AddedNames
 pub mod ScopeFunctionFaults
 pub mod Body
+pub mod ReachedFaults

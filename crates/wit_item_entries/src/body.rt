@@ -18,6 +18,8 @@ ghost use Rattle.wit_items.specs.ResolvedInterfaces.{resolved_scopes_of};
 ghost use Rattle.wit_externs.specs.Clash.{AreNamesOf};
 ghost use Rattle.wit_item_entries.specs.AddedNames.{AreSoundNames};
 ghost use Rattle.wit_item_entries.specs.Body.{AddsMade, HasLegalSides, HasSoundNames, HasTurn, IsOf, IsSoundScope, IsWrongBody, RefusesBody, functions_in};
+ghost use Rattle.wit_item_entries.specs.ScopeFunctionFaults.{FindsSigned};
+ghost use Rattle.wit_item_entries.specs.ReachedFaults.{FindsAt, HasHead, IsHeadFault};
 
 use crate::functions::interface_functions;
 use crate::names::{ResolvedNames, resolve_names};
@@ -67,6 +69,7 @@ pub fn resolve_head<'a>(
     ensures adds { IfOk result (λ head. HasTurn head.names types.new (scope_item item.now) types.old (resolved_scopes_of interfaces.now) owner) }
     ensures legal { OnOk result (AreSoundNames (the_names (scope_item item.now))) }
     ensures extended { OnOk result (IsExtended types.old types.new) }
+    ensures first { FindsAt (λ head. HasHead interfaces.now item.now head.names.types types.new) (IsHeadFault interfaces.now owner types.old item.now) result }
     ensures refused { IfErr result (Refused (IsWrongBody types.old (resolved_scopes_of interfaces.now) interfaces.now.by_name owner (scope_item item.now))) }
 {
     let metadata = item_metadata(alloc, &item.declared)?;
@@ -92,7 +95,8 @@ pub fn resolve_item_functions<'t, 'a>(
     ensures in_use { IfOk result (λ own. 0 < length own.written.items → AreNamesOf own.in_use names.old.turn.items (map SideFunction (map function_view own.written.items))) }
     ensures sound { OnOk result ((i : TheItem) → IsOf declared.entry borrowed.now i → HasSoundNames i → IsSoundScope i) }
     ensures sided { OnOk result ((i : TheItem) → IsOf declared.entry borrowed.now i → HasLegalSides i) }
-    ensures extended { OnOk result (IsExtended types.old types.new) }
+    ensures extended { IsExtended types.old types.new }
+    ensures first { FindsSigned names.old.types types.new (map name_view borrowed.now) names.old.turn.items (functions_in (declared_view declared.entry)) result }
     ensures refused { IfErr result (λ e. (i : TheItem) → IsOf declared.entry borrowed.now i → RefusesBody names.old types.old i e) }
 {
     let written = interface_functions(alloc, &declared)?;

@@ -1,5 +1,5 @@
 //! The names of a scope as entries: those that it uses, and then its definitions.
-ghost use Rattle.std.specs.Prelude.{◌≡◌, ◌++◌, IfOk, IfErr, OnOk, map};
+ghost use Rattle.std.specs.Prelude.{◌≡◌, ◌++◌, None, IfOk, IfErr, OnOk, map};
 ghost use Rattle.wit_syntax.specs.ScopeTables.{used, local_names};
 ghost use Rattle.wit_syntax.specs.Broken.{Refused};
 ghost use Rattle.wit_syntax.specs.Repeats.{AllDiffer};
@@ -11,6 +11,7 @@ ghost use Rattle.wit_scopes.specs.PlacedNames.{AreNamesPlaced};
 ghost use Rattle.wit_scopes.specs.DefinitionOrder.{AreInTurn};
 ghost use Rattle.wit_arena.specs.Resolving.{env_of, AreLegalBodies, AreLegalMetadata, HasNames, names_in};
 ghost use Rattle.wit_item_entries.specs.AddedNames.{AddsTurn, AreSoundNames, DefinesAfter, DefinesIn, DefinitionsRequire, HasWrongDefinition, HasWrongName, IsWrongNames};
+ghost use Rattle.wit_item_entries.specs.ReachedFaults.{FindsAt, FindsDefinitions, FindsOrdered, HaveNames, IsNamesFault};
 
 use std::alloc::Global;
 use wit_definitions::definitions::define;
@@ -54,6 +55,7 @@ fn define_all(
     ensures legal { OnOk result (AreLegalBodies (map definition_view definitions.now)) }
     ensures handled { OnOk result (DefinitionsRequire scope.old scope.new types.new (map definition_view definitions.now)) }
     ensures extended { OnOk result (IsExtended types.old types.new) }
+    ensures first { FindsDefinitions scope.old scope.new types.old types.new (map definition_view definitions.now) result }
     ensures refused { IfErr result (Refused (HasWrongDefinition scope.old types.old (map definition_view definitions.now))) }
 {
     for definition in definitions {
@@ -77,6 +79,7 @@ fn resolve_types<'t, 'a>(
     ensures defines { IfOk result (λ turn. DefinesIn scope.old scope.new types.old types.new (map name_view names.now) turn.items) }
     ensures legal { OnOk result (AreSoundNames (map name_view names.now)) }
     ensures extended { OnOk result (IsExtended types.old types.new) }
+    ensures first { FindsOrdered scope.old scope.new types.old types.new (map name_view names.now) result }
     ensures refused { IfErr result (Refused (HasWrongName scope.old types.old (map name_view names.now))) }
 {
     let written = written_turn(alloc, names, uses)?;
@@ -100,6 +103,7 @@ pub fn resolve_names<'f, 'a>(
     ensures adds { IfOk result (λ r. AddsTurn types.old types.new (resolved_scopes_of interfaces.now) owner (map name_view names.now) r.types r.turn.items r.required.items) }
     ensures legal { OnOk result (AreSoundNames (map name_view names.now)) }
     ensures extended { OnOk result (IsExtended types.old types.new) }
+    ensures first { FindsAt (λ r. HaveNames None interfaces.now names.now r.types types.new) (IsNamesFault None interfaces.now owner types.old names.now) result }
     ensures refused { IfErr result (Refused (IsWrongNames types.old (resolved_scopes_of interfaces.now) interfaces.now.by_name owner (map name_view names.now))) }
 {
     let uses = used_names(alloc, names)?;

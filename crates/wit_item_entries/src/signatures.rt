@@ -11,7 +11,7 @@ ghost use Rattle.wit_entries.specs.Requiring.{IsExtended};
 ghost use Rattle.wit_rules.specs.Signatures.{HaveOwners};
 ghost use Rattle.wit_signatures.specs.ForeignName.{name_of_function, name_of_made};
 ghost use Rattle.wit_uses.specs.NameOrder.{IsTurn};
-ghost use Rattle.wit_item_entries.specs.ScopeFunctionFaults.{IsWrongFunctions};
+ghost use Rattle.wit_item_entries.specs.ScopeFunctionFaults.{FindsSigned, IsWrongFunctions};
 ghost use Rattle.wit_scopes.specs.BorrowedNames.{name_view};
 ghost use Rattle.wit_externs.specs.Clash.{AreNamesOf, DifferOnSides};
 ghost use Rattle.wit_externs.specs.ScopeFunctions.{AreSoundFunctions, SignaturesRequire};
@@ -51,6 +51,7 @@ pub fn resolve_signatures<'t, 'a>(
     ensures differ { OnOk result (DifferOnSides names.old.turn.items (map SideFunction (map function_view written.now))) }
     ensures sound { OnOk result (AreSoundFunctions (map name_view borrowed.now) (map function_view written.now)) }
     ensures extended { IsExtended types.old types.new }
+    ensures first { FindsSigned names.old.types types.new (map name_view borrowed.now) names.old.turn.items (map function_view written.now) result }
     ensures refused { IfErr result (Refused (IsWrongFunctions (env_of names.old.types) types.new (map name_view borrowed.now) (map function_view written.now))) }
 {
     let alloc = *names.types.allocator();

@@ -1,4 +1,4 @@
-use Rattle.std.proofs.Common.{◌≡◌, List, map, inl, sym, ap, ◌∙◌, subst}
+use Rattle.std.proofs.Common.{◌≡◌, List, map, inl, inr, sym, ap, ◌∙◌, subst}
 use Rattle.std.proofs.lemmas.Result.{err_from_is_err_and}
 use Rattle.wit_syntax.specs.Source.{ScopeName, scope_names}
 use Rattle.wit_syntax.specs.Function.{functions}
@@ -6,14 +6,16 @@ use Rattle.wit_syntax.specs.Sides.{SideFunction, side_items}
 use Rattle.wit_syntax.proofs.Refusing.{refused_weaker}
 use Rattle.wit_syntax.proofs.Sides.{side_items_functions}
 use Rattle.wit_arena.specs.Resolving.{env_of}
+use Rattle.wit_item_entries.proofs.ReachedFaults.{extended_same}
 use Rattle.wit_rules.specs.BorrowedFunctions.{function_view}
 use Rattle.wit_rules.specs.Signatures.{HaveOwners}
 use Rattle.wit_signatures.specs.ForeignName.{name_of_function}
 use Rattle.wit_externs.specs.Clash.{DifferOnSides}
 use Rattle.wit_items.specs.BorrowedItems.{declared_view}
+use Rattle.wit_scopes.specs.BorrowedNames.{name_view}
 use Rattle.wit_uses.specs.NameOrder.{IsTurn}
-use Rattle.wit_item_entries.specs.ScopeFunctionFaults.{IsWrongFunctions}
-use Rattle.wit_item_entries.specs.Body.{IsWrongBody}
+use Rattle.wit_item_entries.specs.ScopeFunctionFaults.{IsWrongFunctions, functions_fault}
+use Rattle.wit_item_entries.specs.Body.{IsWrongBody, functions_in}
 use Rattle.wit_item_entries.proofs.InterfaceSides.{declared_functions, declared_interface, sides_sound}
 use Rattle.wit_item_entries.proofs.Owners.{owners, turn_has}
 use Rattle.wit_item_entries.proofs.ScopeFunctions.{body_added, scope_sound, wrong_view}
@@ -62,3 +64,23 @@ returns-clause-sided c = λ item own.
     let fns : map function_view c.deref.result.now ≡ functions item = declared_functions item (declared_view c.args.declared) c.args.borrowed.now c.in_ok-written.written.items c.deref.result.now own c.deref.ensures.value (c.in_ok-written.ensures c.requires.sort) in
     let turn : IsTurn (scope_names item) ids = subst (λ (xs : List ScopeName). IsTurn xs ids) (sym own.names) c.requires.turn in
     sides_sound item sort ids turn (subst (DifferOnSides ids) (sym (side_items_functions item sort)) (rw fns at c.in_ok-functions.ensures.differ))
+
+pub returns-in_err-functions-clause-first : goal.returns-in_err-functions-clause-first
+returns-in_err-functions-clause-first c =
+    let p = err_from_is_err_and c.from_residual-in_err-functions.result c.from_residual-in_err-functions.ensures.1 in
+    let xs = map name_view c.args.borrowed.now in
+    let ids = c.args.names.now.turn.items in
+    let fns : map function_view c.deref.result.now ≡ functions_in (declared_view c.args.declared) = ap (map function_view) c.deref.ensures.value ∙ c.in_ok-written.ensures c.requires.sort in
+    rw (p.1, p.2) (elim c.in_err-functions.ensures.first [
+      | inl memory ↦ inl memory
+      | inr wrong ↦ inr (λ handle ends. ap (functions_fault handle xs ids) (sym fns) ∙ wrong handle ends)
+    ])
+
+pub returns-clause-first : goal.returns-clause-first
+returns-clause-first c = λ handle safe.
+    let xs = map name_view c.args.borrowed.now in
+    let fns : map function_view c.deref.result.now ≡ functions_in (declared_view c.args.declared) = ap (map function_view) c.deref.ensures.value ∙ c.in_ok-written.ensures c.requires.sort in
+    ap (functions_fault handle xs c.args.names.now.turn.items) (sym fns) ∙ c.in_ok-functions.ensures.first handle safe
+
+pub returns-in_err-written-clause-extended : goal.returns-in_err-written-clause-extended
+returns-in_err-written-clause-extended c = extended_same c.args.types.now

@@ -1,7 +1,8 @@
-use Rattle.std.proofs.Common.{◌≡◌, ◌⊎◌, ◌+◌, ◌++◌, ◌∷◌, [], take, Some, None, inl, inr, refl, sym, ◌∙◌, subst}
+use Rattle.std.proofs.Common.{◌≡◌, ◌⊎◌, ◌+◌, ◌++◌, ◌∷◌, List, [], take, Some, None, inl, inr, refl, sym, ◌∙◌, subst, arith}
 use Rattle.std.specs.Prelude.{slice_get, map}
-use Rattle.std.proofs.lemmas.List.{append-nil}
+use Rattle.std.proofs.lemmas.List.{append-nil, length-map}
 use Rattle.std.proofs.lemmas.Result.{err_from_is_err_and}
+use Rattle.wit_types.specs.declared.types.TypeDef.{TypeDef}
 use Rattle.wit_types.specs.declared.types.TypeOwner.{TypeOwner}
 use Rattle.wit_syntax.specs.Source.{Defined}
 use Rattle.wit_syntax.specs.Metadata.{IsBrokenMetadata}
@@ -12,14 +13,18 @@ use Rattle.wit_syntax.proofs.Refusing.{refused_weaker}
 use Rattle.wit_arena.proofs.DefinitionPart.{defines_none, defines_more}
 use Rattle.wit_arena.proofs.Scoping.{names_none, names_kept, names_more, legal_none, legal_more, noted_none, noted_more}
 use Rattle.wit_syntax.proofs.Found.{contains_at}
-use Rattle.wit_first.proofs.First.{refused_as}
+use Rattle.wit_first.proofs.First.{in-all, in-at, in-following, refused_as}
+use Rattle.wit_walk.specs.Definitions.{definition_fault}
 use Rattle.wit_entries.proofs.Faults.{definition_broken, definition_legal, definition_noted}
 use Rattle.wit_entries.proofs.Requiring.{extended_then}
 use Rattle.wit_scopes.specs.BorrowedNames.{definition_view}
 use Rattle.wit_scopes.specs.DefinitionOrder.{IsBrokenAmong}
 use Rattle.wit_item_entries.specs.AddedNames.{IsWrongHandleIn}
+use Rattle.wit_externs.specs.AloneFaults.{EndsIn}
+use Rattle.wit_externs.proofs.AloneFaults.{safe_arena, safe_names, safe_of}
 use Rattle.wit_scopes.proofs.Turning.{none_unknown}
-use Rattle.wit_item_entries.proofs.Handled.{requires_none, next_free, listed_next, requires_next, wrong_handle_next}
+use Rattle.wit_item_entries.proofs.Handled.{requires_none, next_free, listed_next, requires_next, stored_kept, wrong_handle_next}
+use Rattle.wit_item_entries.proofs.ReachedFaults.{definition_safe, definition_same, meant_in}
 use Rattle.wit_item_entries.proofs.names.define_all.Goals as goal
 
 pub loop-definition-init : goal.loop-definition-init
@@ -30,6 +35,7 @@ loop-definition-init c = record {
   handled = requires_none (env_of c.args.scope.now.names) c.args.types.now c.args.scope.now.required.items;
   noted = noted_none;
   legal = legal_none;
+  first = λ handle safe. refl;
   kept = λ xs h. h;
   has = names_none (env_of c.args.scope.now.names);
   extended = record { more = []; is = sym (append-nil c.args.types.now) };
@@ -60,6 +66,35 @@ returns-in_err-define-clause-refused c =
       ]
     ]) (refused_as (definition_broken (env_of now) new d) c.in_err-define.ensures.first))
 
+pub returns-in_err-define-clause-first : goal.returns-in_err-define-clause-first
+returns-in_err-define-clause-first c =
+    let q = err_from_is_err_and c.from_residual.result c.from_residual.ensures.1 in
+    let ds = map definition_view c.args.definitions.now in
+    let i = c.loop-definition.definition-index in
+    let d = c.definition-item.result.definition.now in
+    let mid = c.loop-definition.types in
+    let new = c.define.new.types in
+    let old = env_of c.args.scope.now.names in
+    let now = c.loop-definition.scope.names in
+    let before = c.loop-definition.invariant in
+    let g = c.in_err-define.ensures.extended in
+    let at : slice_get ds i ≡ Some (Defined d) = read_map definition_view c.args.definitions.now i c.definition-item.result c.loop-definition-test.true c.definition-item.is in
+    rw (q.1, q.2) (elim c.in_err-define.ensures.first [
+      | inl memory ↦ inl memory
+      | inr wrong ↦ inr (λ cs. record {
+        count = i;
+        mid = mid;
+        now = now;
+        defines = λ s. before.defines cs s;
+        more = g.more;
+        is = λ handle right. (
+            let ends : EndsIn (env_of now) new handle = subst (λ (es : List TypeDef). EndsIn (env_of now) es handle) (sym g.is) right in
+            let none = before.first handle (safe_arena (env_of now) mid new handle g (safe_of (env_of now) new handle ends)) in
+            let own = definition_same (env_of now) new handle ends d (meant_in old (env_of now) new handle ds i d c.requires.turn at before.kept before.has) in
+            in-at (definition_fault handle) ds i (Defined d) _ at none (sym own ∙ wrong));
+      })
+    ])
+
 pub loop-definition-preserved : goal.loop-definition-preserved
 loop-definition-preserved c =
     let ds = map definition_view c.args.definitions.now in
@@ -81,7 +116,15 @@ loop-definition-preserved c =
       handled = rw more (requires_next old new c.loop-definition.types c.define.new.types (take i ds) d _ _ _ e.stored free e.extended before.handled e.handled);
       noted = rw more (noted_more (take i ds) d before.noted (definition_noted (env_of old) c.define.new.types d e.first));
       legal = rw more (legal_more (take i ds) d before.legal (definition_legal (env_of old) c.define.new.types d e.first));
+      first = λ handle safe. (
+          let before_names = safe_names (env_of old) (env_of new) c.define.new.types handle (stored_kept old new d.name.name.now e.stored free) safe in
+          in-following (definition_fault handle) ds i (Defined d) at (before.first handle (safe_arena (env_of old) c.loop-definition.types c.define.new.types handle e.extended before_names)) (definition_safe (env_of old) c.define.new.types handle before_names d e.first));
       kept = λ xs h. names_kept old new xs d.name.name.now (before.kept xs h) e.stored;
       has = rw more (names_more old new (take i ds) (Defined d) before.has e.stored);
       extended = extended_then c.args.types.now c.loop-definition.types c.define.new.types before.extended e.extended;
     }
+
+pub returns-clause-first : goal.returns-clause-first
+returns-clause-first c = λ handle safe.
+    let ds = map definition_view c.args.definitions.now in
+    in-all (definition_fault handle) ds c.loop-definition.definition-index (omega (arith, length-map c.args.definitions.now definition_view)) (c.loop-definition.invariant.first handle safe)

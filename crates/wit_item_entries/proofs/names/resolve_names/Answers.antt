@@ -1,4 +1,4 @@
-use Rattle.std.proofs.Common.{◌≡◌, ◌⊎◌, ◌++◌, List, [], map, inl, inr, sym, ap, ◌∙◌, subst}
+use Rattle.std.proofs.Common.{◌≡◌, ◌⊎◌, ◌++◌, List, [], None, map, inl, inr, sym, ap, ◌∙◌, subst}
 use Rattle.std.specs.List.{flat_map}
 use Rattle.std.proofs.lemmas.List.{map-append}
 use Rattle.std.proofs.lemmas.Result.{err_from_is_err_and}
@@ -14,12 +14,43 @@ use Rattle.wit_syntax.proofs.Refusing.{refused_weaker}
 use Rattle.wit_arena.proofs.DefinitionPart.{defines_more}
 use Rattle.wit_entries.specs.Requiring.{Requires}
 use Rattle.wit_entries.proofs.Requiring.{extended_then}
-use Rattle.wit_scopes.specs.BorrowedNames.{name_view, use_view}
+use Rattle.wit_scopes.specs.BorrowedNames.{name_view, own_use, use_view}
+use Rattle.wit_scopes.proofs.Placed.{uses_placed}
+use Rattle.wit_scopes.proofs.UsedNames.{uses_viewed}
+use Rattle.wit_item_names.specs.ForeignAddresses.{prefix_of}
 use Rattle.wit_items.specs.ResolvedInterfaces.{resolved_scopes_of}
+use Rattle.wit_uses.specs.UseFaults.{local_faults}
+use Rattle.wit_item_entries.specs.ReachedFaults.{IsNamesFault, IsOrderedFault}
+use Rattle.wit_item_entries.proofs.ReachedFaults.{by_weaker, types_first, types_none, used_first}
 use Rattle.wit_item_entries.specs.AddedNames.{DefinesTurn, IsWrongHandleTurn, IsWrongNames, WrongScopeNames, WrongHandleNames}
 use Rattle.wit_item_entries.proofs.FunctionFaults.{turn_texts}
 use Rattle.wit_item_entries.proofs.Handled.{types-in_turn, wrong_handle_turn}
 use Rattle.wit_item_entries.proofs.names.resolve_names.Goals as goal
+
+pub resolve_uses-requires-clause-placed : goal.resolve_uses-requires-clause-placed
+resolve_uses-requires-clause-placed c = rw (c.deref.ensures.value, c.in_ok-uses.ensures) (uses_placed (prefix_of c.args.interfaces.now.files) c.args.names.now c.requires.placed)
+
+pub returns-in_err-resolve_uses-clause-first : goal.returns-in_err-resolve_uses-clause-first
+returns-in_err-resolve_uses-clause-first c =
+    let p = err_from_is_err_and c.from_residual-in_err-resolve_uses.result c.from_residual-in_err-resolve_uses.ensures.1 in
+    let is = c.args.interfaces.now in
+    rw (p.1, p.2) (elim c.in_err-resolve_uses.ensures.first [
+      | inl memory ↦ inl memory
+      | inr wrong ↦ inr (used_first is c.args.owner c.args.types.now c.args.names.now _ (ap (local_faults is) (sym (c.deref.ensures.value ∙ c.in_ok-uses.ensures)) ∙ wrong))
+    ])
+
+pub resolve_types-requires-clause-uses : goal.resolve_types-requires-clause-uses
+resolve_types-requires-clause-uses c = ap (map use_view) (c.deref-2.ensures.value ∙ c.in_ok-uses.ensures) ∙ uses_viewed c.args.names.now
+
+pub resolve_types-requires-clause-has : goal.resolve_types-requires-clause-has
+resolve_types-requires-clause-has c =
+    let names : map use_view c.deref.result.now ≡ used (map name_view c.args.names.now) = ap (map use_view) (c.deref.ensures.value ∙ c.in_ok-uses.ensures) ∙ uses_viewed c.args.names.now in
+    rw names at c.in_ok-resolve_uses.ensures.has
+
+pub resolve_types-requires-clause-listed : goal.resolve_types-requires-clause-listed
+resolve_types-requires-clause-listed c =
+    let names : map use_view c.deref.result.now ≡ used (map name_view c.args.names.now) = ap (map use_view) (c.deref.ensures.value ∙ c.in_ok-uses.ensures) ∙ uses_viewed c.args.names.now in
+    c.in_ok-resolve_uses.ensures.listed ∙ ap local_names names
 
 pub returns-in_err-resolve_uses-clause-refused : goal.returns-in_err-resolve_uses-clause-refused
 returns-in_err-resolve_uses-clause-refused c =
@@ -27,7 +58,7 @@ returns-in_err-resolve_uses-clause-refused c =
     let cs = resolved_scopes_of c.args.interfaces.now in
     let by_name = c.args.interfaces.now.by_name in
     let xs = map name_view c.args.names.now in
-    let uses : map use_view c.deref.result.now ≡ used xs = ap (map use_view) c.deref.ensures.value ∙ c.in_ok-uses.ensures.uses in
+    let uses : map use_view c.deref.result.now ≡ used xs = ap (map use_view) (c.deref.ensures.value ∙ c.in_ok-uses.ensures) ∙ uses_viewed c.args.names.now in
     rw (p.1, p.2) (refused_weaker (λ f. (fns : List SourceFunction) → IsWrongScope cs by_name xs fns f) (IsWrongNames c.args.types.now cs by_name c.args.owner xs) _ (λ f h. WrongScopeNames h) (c.in_err-resolve_uses.ensures.refused xs uses))
 
 pub returns-in_err-turn-clause-refused : goal.returns-in_err-turn-clause-refused
@@ -38,7 +69,7 @@ returns-in_err-turn-clause-refused c =
     let o = c.args.owner in
     let old = c.args.types.now in
     let xs = map name_view c.args.names.now in
-    let names : map use_view c.deref.result.now ≡ used xs = ap (map use_view) c.deref.ensures.value ∙ c.in_ok-uses.ensures.uses in
+    let names : map use_view c.deref.result.now ≡ used xs = ap (map use_view) (c.deref.ensures.value ∙ c.in_ok-uses.ensures) ∙ uses_viewed c.args.names.now in
     let first = c.resolve_uses.new.types in
     let scope = c.resolve_uses.new.scope in
     let uses : (s : Address) → Defines old first cs o s [] scope.names (used xs) = rw (names, c.in_ok-with_capacity.ensures) at c.in_ok-resolve_uses.ensures.defines in
@@ -52,7 +83,7 @@ returns-clause-adds c =
     let cs = resolved_scopes_of c.args.interfaces.now in
     let o = c.args.owner in
     let xs = map name_view c.args.names.now in
-    let names : map use_view c.deref.result.now ≡ used xs = ap (map use_view) c.deref.ensures.value ∙ c.in_ok-uses.ensures.uses in
+    let names : map use_view c.deref.result.now ≡ used xs = ap (map use_view) (c.deref.ensures.value ∙ c.in_ok-uses.ensures) ∙ uses_viewed c.args.names.now in
     let scope = c.resolve_uses.new.scope in
     let after = c.resolve_types.new.scope in
     let now = after.names in
@@ -81,7 +112,7 @@ returns-clause-extended c = extended_then c.args.types.now c.resolve_uses.new.ty
 pub invariant_of-result : goal.invariant_of-result
 invariant_of-result c =
     let xs = map name_view c.args.names.now in
-    let names : map use_view c.deref.result.now ≡ used xs = ap (map use_view) c.deref.ensures.value ∙ c.in_ok-uses.ensures.uses in
+    let names : map use_view c.deref.result.now ≡ used xs = ap (map use_view) (c.deref.ensures.value ∙ c.in_ok-uses.ensures) ∙ uses_viewed c.args.names.now in
     let scope = c.resolve_uses.new.scope in
     let after = c.resolve_types.new.scope in
     let turn : DefinesTurn c.resolve_uses.new.types c.resolve_types.new.types scope.owner scope.names after.names xs c.in_ok-turn.turn.items scope.required.items after.required.items = c.in_ok-turn.ensures.defines in
@@ -89,3 +120,24 @@ invariant_of-result c =
     let ds = defined (in_order xs order) in
     let listed : names_in scope.names ≡ local_names (used xs) = rw names at c.in_ok-resolve_uses.ensures.listed in
     record { listed = turn.listed ∙ ap (λ l. l ++ local_names ds) listed ∙ sym (map-append local_name (used xs) ds) ∙ sym (turn_texts xs order c.in_ok-turn.turn.items turn.turn) }
+
+pub returns-in_err-turn-clause-first : goal.returns-in_err-turn-clause-first
+returns-in_err-turn-clause-first c =
+    let p = err_from_is_err_and c.from_residual-in_err-turn.result c.from_residual-in_err-turn.ensures.1 in
+    let is = c.args.interfaces.now in
+    let cs = resolved_scopes_of is in
+    let o = c.args.owner in
+    let old = c.args.types.now in
+    let xs = map name_view c.args.names.now in
+    let names : map use_view c.deref.result.now ≡ used xs = ap (map use_view) (c.deref.ensures.value ∙ c.in_ok-uses.ensures) ∙ uses_viewed c.args.names.now in
+    let first = c.resolve_uses.new.types in
+    let scope = c.resolve_uses.new.scope in
+    let uses : (s : Address) → Defines old first cs o s [] scope.names (used xs) = rw (names, c.in_ok-with_capacity.ensures) at c.in_ok-resolve_uses.ensures.defines in
+    let none : local_faults is (flat_map own_use c.args.names.now) ≡ None = ap (local_faults is) (sym (c.deref.ensures.value ∙ c.in_ok-uses.ensures)) ∙ c.in_ok-resolve_uses.ensures.first in
+    rw (p.1, p.2) (by_weaker (IsOrderedFault scope first xs) (IsNamesFault None is o old c.args.names.now) _ (types_first is scope o old first c.args.names.now _ none c.in_ok-resolve_uses.ensures.owner uses) c.in_err-turn.ensures.first)
+
+pub returns-clause-first : goal.returns-clause-first
+returns-clause-first c =
+    let is = c.args.interfaces.now in
+    let none : local_faults is (flat_map own_use c.args.names.now) ≡ None = ap (local_faults is) (sym (c.deref.ensures.value ∙ c.in_ok-uses.ensures)) ∙ c.in_ok-resolve_uses.ensures.first in
+    types_none is c.args.names.now c.resolve_types.new.scope.names c.resolve_types.new.types none c.in_ok-turn.ensures.first

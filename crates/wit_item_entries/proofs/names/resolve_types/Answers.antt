@@ -1,4 +1,4 @@
-use Rattle.std.proofs.Common.{◌≡◌, ◌⊎◌, ◌++◌, List, map, inl, inr, ap, sym, ◌∙◌, subst}
+use Rattle.std.proofs.Common.{◌≡◌, ◌⊎◌, ◌++◌, List, Some, map, inl, inr, ap, sym, ◌∙◌, subst}
 use Rattle.std.proofs.lemmas.Result.{err_from_is_err_and}
 use Rattle.wit_type_tree.specs.declared.leaves.Id.{Id}
 use Rattle.wit_syntax.specs.Source.{local_id}
@@ -9,11 +9,15 @@ use Rattle.wit_syntax.specs.Fault.{missing_type_at, type_word}
 use Rattle.wit_arena.specs.Resolving.{env_of, AreLegalBodies, AreLegalMetadata, names_in}
 use Rattle.wit_syntax.proofs.Refusing.{refused_weaker}
 use Rattle.wit_syntax.proofs.Turns.{distinct_names}
+use Rattle.wit_first.specs.NameFaults.{local_names_fault}
+use Rattle.wit_first.specs.OrderFaults.{IsTypeOrderFault}
 use Rattle.wit_first.proofs.Bridge.{local_names_agree, local_names_differ, refused_by}
 use Rattle.wit_first.proofs.OrderFaults.{order_broken}
 use Rattle.wit_scopes.specs.BorrowedNames.{name_view, definition_view}
 use Rattle.wit_scopes.specs.DefinitionOrder.{AreOrdered, IsBrokenAmong, IsRepeatedId}
 use Rattle.wit_item_entries.specs.AddedNames.{IsWrongHandleIn, IsWrongHandleTurn}
+use Rattle.wit_item_entries.specs.ReachedFaults.{IsDefinitionsFault, IsOrderedFault}
+use Rattle.wit_item_entries.proofs.ReachedFaults.{by_weaker, definitions_first, definitions_none, twice_first, unordered_first}
 use Rattle.wit_scopes.proofs.Turning.{in_their_turn, own_borrowed, broken_twice, broken_definition, differ_names, turn_differs, legal_unfolded}
 use Rattle.wit_item_entries.proofs.names.resolve_types.Goals as goal
 
@@ -102,3 +106,37 @@ returns-clause-defines c =
       listed = rw (c.deref-2.ensures.value, o.are) at c.in_ok-define_all.ensures.listed;
       handled = rw (c.deref-2.ensures.value, o.are) at c.in_ok-define_all.ensures.handled;
     }
+
+pub returns-in_err-check_unique_names-clause-first : goal.returns-in_err-check_unique_names-clause-first
+returns-in_err-check_unique_names-clause-first c =
+    let p = err_from_is_err_and c.from_residual-in_err-check_unique_names.result c.from_residual-in_err-check_unique_names.ensures.1 in
+    let xs = map name_view c.args.names.now in
+    let are : c.deref.result.now ≡ map local_id (used xs ++ defined xs) = c.deref.ensures.value ∙ c.in_ok-written.ensures.names in
+    rw (p.1, p.2) (elim c.in_err-check_unique_names.ensures [
+      | inl memory ↦ inl memory
+      | inr twice ↦ inr (twice_first c.args.scope.now c.args.types.now xs _ (ap local_names_fault (sym are) ∙ twice))
+    ])
+
+pub returns-in_err-turn-clause-first : goal.returns-in_err-turn-clause-first
+returns-in_err-turn-clause-first c =
+    let p = err_from_is_err_and c.from_residual-in_err-turn.result c.from_residual-in_err-turn.ensures.1 in
+    let xs = map name_view c.args.names.now in
+    let are : c.deref.result.now ≡ map local_id (used xs ++ defined xs) = c.deref.ensures.value ∙ c.in_ok-written.ensures.names in
+    rw (p.1, p.2) (by_weaker (λ f. IsTypeOrderFault xs (Some f)) (IsOrderedFault c.args.scope.now c.args.types.now xs) _ (unordered_first c.args.scope.now c.args.types.now xs _ (ap local_names_fault (sym are) ∙ c.in_ok-check_unique_names.ensures)) c.in_err-turn.ensures.first)
+
+pub returns-in_err-define_all-clause-first : goal.returns-in_err-define_all-clause-first
+returns-in_err-define_all-clause-first c =
+    let p = err_from_is_err_and c.from_residual-in_err-define_all.result c.from_residual-in_err-define_all.ensures.1 in
+    let xs = map name_view c.args.names.now in
+    let ds = map definition_view c.deref-2.result.now in
+    let o : AreOrdered xs ds = subst (λ l. AreOrdered xs (map definition_view l)) (sym c.deref-2.ensures.value) c.in_ok-turn.ensures.turn.ordered in
+    let are : c.deref.result.now ≡ map local_id (used xs ++ defined xs) = c.deref.ensures.value ∙ c.in_ok-written.ensures.names in
+    rw (p.1, p.2) (by_weaker (IsDefinitionsFault c.args.scope.now c.args.types.now ds) (IsOrderedFault c.args.scope.now c.args.types.now xs) _ (definitions_first c.args.scope.now c.args.types.now xs ds o.order _ (ap local_names_fault (sym are) ∙ c.in_ok-check_unique_names.ensures) o.least o.are) c.in_err-define_all.ensures.first)
+
+pub returns-clause-first : goal.returns-clause-first
+returns-clause-first c =
+    let xs = map name_view c.args.names.now in
+    let ds = map definition_view c.deref-2.result.now in
+    let o : AreOrdered xs ds = subst (λ l. AreOrdered xs (map definition_view l)) (sym c.deref-2.ensures.value) c.in_ok-turn.ensures.turn.ordered in
+    let are : c.deref.result.now ≡ map local_id (used xs ++ defined xs) = c.deref.ensures.value ∙ c.in_ok-written.ensures.names in
+    definitions_none xs ds o.order c.define_all.new.scope.names c.define_all.new.types (ap local_names_fault (sym are) ∙ c.in_ok-check_unique_names.ensures) o.least o.are c.in_ok-define_all.ensures.first

@@ -1,24 +1,36 @@
-use Rattle.std.proofs.Common.{◌≡◌, ◌⊎◌, ◌++◌, List, map, inl, inr, sym, ap, ◌∙◌, subst, arith, false}
+use Rattle.std.proofs.Common.{◌≡◌, ◌⊎◌, ◌++◌, List, [], Option, map, inl, inr, sym, ap, ◌∙◌, subst, arith, false}
 use Rattle.std.specs.Char.{is_ascii_uppercase}
 use Rattle.std.specs.List.{list_any}
+use Rattle.std.specs.Option.{option_or}
+use Rattle.std.proofs.lemmas.List.{append-nil}
 use Rattle.std.proofs.lemmas.Result.{err_from_is_err_and}
+use mathlib.Core.Path.{fun_ext}
 use Rattle.wit_type_tree.specs.declared.leaves.Id.{Id}
+use Rattle.wit_tree.specs.declared.tree.WorldSide.{WorldSide}
 use Rattle.wit_tree.specs.declared.tree.WorldSide.TheVariants.{Imported}
+use Rattle.wit_syntax.specs.Fault.{Fault, fault}
+use Rattle.wit_syntax.specs.Function.{SourceFunction}
+use Rattle.wit_syntax.specs.Source.{ScopeName}
+use Rattle.wit_first.proofs.First.{no_repeats, none_both}
+use Rattle.wit_walk.specs.Functions.{word_fault}
 use Rattle.wit_syntax.specs.Repeats.{AllDiffer}
 use Rattle.wit_syntax.specs.Sides.{SideFunction, items_on, names_on}
 use Rattle.wit_syntax.proofs.Repeated.{differ_none}
 use Rattle.wit_sides.specs.SideNames.{defined_on}
-use Rattle.wit_arena.specs.Resolving.{env_of}
+use Rattle.wit_arena.specs.Resolving.{Names, env_of, names_in}
 use Rattle.wit_syntax.proofs.Refusing.{refused_weaker}
 use Rattle.wit_refusals.specs.NameScopes.{Name}
 use Rattle.wit_rules.specs.BorrowedFunctions.{function_view}
 use Rattle.wit_rules.specs.Signatures.{IsWrongFunctionAmong}
 use Rattle.wit_signatures.specs.ForeignName.{name_key, name_of_id, IsTwiceAmong}
+use Rattle.wit_externs.specs.AloneFaults.{alone_faults, defined_fault, words_in}
 use Rattle.wit_externs.specs.Clash.{IsClash, all_on, names_of_items}
 use Rattle.wit_item_entries.specs.ScopeFunctionFaults.{IsWrongFunctions, BrokenNames}
 use Rattle.wit_scopes.specs.BorrowedNames.{name_view}
-use Rattle.wit_item_entries.proofs.FunctionFaults.{all_names, prefix_folded, used_before, wrong_clash, wrong_functions}
-use Rattle.wit_item_entries.proofs.NoFunctions.{names_alone}
+use Rattle.wit_uses.specs.NameOrder.{IsTurn}
+use Rattle.wit_item_entries.proofs.FunctionFaults.{all_names, prefix_folded, used_before, words_same, wrong_clash, wrong_functions}
+use Rattle.wit_item_entries.proofs.NoFunctions.{names_alone, no_functions}
+use Rattle.wit_item_entries.proofs.OwnKeys.{turn_keys}
 use Rattle.wit_item_entries.proofs.signatures.resolve_signatures.Goals as goal
 
 pub returns-then-not-have_upper_case-clause-differ : goal.returns-then-not-have_upper_case-clause-differ
@@ -74,3 +86,63 @@ returns-in_err-functions-clause-refused c =
       | inl wrong ↦ wrong_functions env es xs fns f wrong
       | inr clash ↦ wrong_clash env es xs fns ids (λ s. defined_on s in_use) f c.requires.turn (λ s. used_before s c.args.in_use.now in_use c.deref-2.result.now ids c.requires.nothing c.in_ok-define_names.ensures.defined c.deref-2.ensures.value) clash
     ]) (c.in_err-functions.ensures.refused xs (record { names = are; results = c.in_ok-results.ensures })))
+
+-- the faults of functions by a table of names are those by what its scope means
+by_scope : (xs : List ScopeName) (ids : List Id) (types : Names) (handle : Id → Option Fault) (a b : WorldSide → List Name) (fns : List SourceFunction) → IsTurn xs ids → names_in types ≡ map (λ (id : Id). id.name.now) ids → ((s : WorldSide) → a s ≡ b s) → alone_faults (words_in (env_of types)) handle xs a fns ≡ alone_faults (word_fault xs) handle xs b fns
+by_scope xs ids types handle a b fns turn listed same =
+    ap (λ (names : WorldSide → List Name). alone_faults (words_in (env_of types)) handle xs names fns) (fun_ext same)
+    ∙ ap (λ (word : List SourceFunction → Id → Option Fault). alone_faults word handle xs b fns) (words_same xs ids types turn listed)
+
+-- names that are defined where none is
+first_defined : (ids now : List Id) (before : List Name) → before ≡ [] → now ≡ ids → defined_fault before (map name_of_id now) ≡ defined_fault [] (map name_of_id ids)
+first_defined ids now before none same = ap (λ (l : List Name). defined_fault l (map name_of_id now)) none ∙ ap (λ (l : List Id). defined_fault [] (map name_of_id l)) same
+
+pub returns-then-not-have_upper_case-clause-first : goal.returns-then-not-have_upper_case-clause-first
+returns-then-not-have_upper_case-clause-first c = λ handle safe.
+    let xs = map name_view c.args.borrowed.now in
+    let ids = c.args.names.now.turn.items in
+    let lower : list_any (λ (id : Id). list_any is_ascii_uppercase id.name.now) ids ≡ false = ap (list_any (λ (id : Id). list_any is_ascii_uppercase id.name.now)) (sym c.deref.ensures.value) ∙ sym c.have_upper_case.ensures ∙ c.if-not-have_upper_case.true in
+    let apart : AllDiffer (map name_key (map name_of_id ids)) = subst (λ (l : List Name). AllDiffer (map name_key l)) (append-nil (map name_of_id ids)) (turn_keys xs ids c.requires.turn lower) in
+    let none : map function_view c.args.written.now ≡ [] = no_functions c.args.written.now (omega (arith, c.if-written-eq0.true)) in
+    none_both (no_repeats name_key (λ (m : Name). fault 17 m.1) (map name_of_id ids) apart) (ap (alone_faults (word_fault xs) handle xs (λ side. names_on side (map name_of_id ids))) none)
+
+pub returns-in_err-define_names-clause-first : goal.returns-in_err-define_names-clause-first
+returns-in_err-define_names-clause-first c =
+    let p = err_from_is_err_and c.from_residual-in_err-define_names.result c.from_residual-in_err-define_names.ensures.1 in
+    let xs = map name_view c.args.borrowed.now in
+    let fns = map function_view c.args.written.now in
+    let ids = c.args.names.now.turn.items in
+    let same = first_defined ids c.deref-2.result.now c.args.in_use.now.imports (c.requires.nothing Imported) c.deref-2.ensures.value in
+    rw (p.1, p.2) (elim c.in_err-define_names.ensures.first [
+      | inl memory ↦ inl memory
+      | inr wrong ↦ inr (λ handle ends. ap (λ (o : Option Fault). option_or o (alone_faults (word_fault xs) handle xs (λ side. names_on side (map name_of_id ids)) fns)) (sym same ∙ wrong))
+    ])
+
+pub returns-in_err-functions-clause-first : goal.returns-in_err-functions-clause-first
+returns-in_err-functions-clause-first c =
+    let p = err_from_is_err_and c.from_residual-in_err-functions.result c.from_residual-in_err-functions.ensures.1 in
+    let xs = map name_view c.args.borrowed.now in
+    let fns = map function_view c.args.written.now in
+    let names = c.args.names.now in
+    let ids = names.turn.items in
+    let are = all_names xs ids names.types c.requires.turn names.listed in
+    let in_use = c.define_names.new.in_use in
+    let same = first_defined ids c.deref-2.result.now c.args.in_use.now.imports (c.requires.nothing Imported) c.deref-2.ensures.value in
+    rw (p.1, p.2) (elim (c.in_err-functions.ensures.first xs (record { names = are; results = c.in_ok-results.ensures })) [
+      | inl memory ↦ inl memory
+      | inr wrong ↦ inr (λ handle ends. (
+          let sides = by_scope xs ids names.types handle (λ s. defined_on s in_use) (λ s. names_on s (map name_of_id ids)) fns c.requires.turn names.listed (λ s. used_before s c.args.in_use.now in_use c.deref-2.result.now ids c.requires.nothing c.in_ok-define_names.ensures.defined c.deref-2.ensures.value) in
+          ap (λ (o : Option Fault). option_or o (alone_faults (word_fault xs) handle xs (λ side. names_on side (map name_of_id ids)) fns)) (sym same ∙ c.in_ok-define_names.ensures.first) ∙ sym sides ∙ wrong handle ends))
+    ])
+
+pub returns-clause-first : goal.returns-clause-first
+returns-clause-first c = λ handle safe.
+    let xs = map name_view c.args.borrowed.now in
+    let fns = map function_view c.args.written.now in
+    let names = c.args.names.now in
+    let ids = names.turn.items in
+    let are = all_names xs ids names.types c.requires.turn names.listed in
+    let in_use = c.define_names.new.in_use in
+    let same = first_defined ids c.deref-2.result.now c.args.in_use.now.imports (c.requires.nothing Imported) c.deref-2.ensures.value in
+    let sides = by_scope xs ids names.types handle (λ s. defined_on s in_use) (λ s. names_on s (map name_of_id ids)) fns c.requires.turn names.listed (λ s. used_before s c.args.in_use.now in_use c.deref-2.result.now ids c.requires.nothing c.in_ok-define_names.ensures.defined c.deref-2.ensures.value) in
+    none_both (sym same ∙ c.in_ok-define_names.ensures.first) (sym sides ∙ c.in_ok-functions.ensures.first xs (record { names = are; results = c.in_ok-results.ensures }) handle safe)
