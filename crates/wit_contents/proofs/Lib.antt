@@ -12,3 +12,5 @@ mod Members
 mod ItemSides
 mod WrongWalk
 mod Parts
+mod InterfaceFaults
+pub mod WalkedInterface

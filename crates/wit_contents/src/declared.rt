@@ -9,6 +9,7 @@ ghost use Rattle.wit_contents.specs.Outer.{AreOuter};
 ghost use Rattle.wit_items.specs.Gathered.{AreItemsOf, IsItemOf};
 ghost use Rattle.wit_item_entries.specs.Body.{HasLegalSides, IsSoundScope};
 ghost use Rattle.wit_contents.specs.AddedInterfaces.{AddsAllTo, AddsOneTo, HasLegalStability, IsIndexed, IsWrongAt, IsWrongInOrder, interfaces_in};
+ghost use Rattle.wit_contents.specs.InterfaceFaults.{FindsAmong, FindsOne};
 
 use crate::interface::interface_of;
 use wit_entries::entries::Entries;
@@ -57,6 +58,7 @@ fn resolve_interface<'f, 'a>(
     ensures stable { OnOk result (HasLegalStability (item_view item.now)) }
     ensures sound { OnOk result (IsSoundScope (item_view item.now)) }
     ensures sided { OnOk result (HasLegalSides (item_view item.now)) }
+    ensures first { FindsOne interfaces.old types.old (item_view item.now) result }
     ensures refused { IfErr result (Refused (IsWrongAt interfaces.old types.old (length interfaces.old.arena) (item_view item.now))) }
 {
     let place = interfaces.arena.next_id();
@@ -85,6 +87,7 @@ pub fn resolve_interfaces<'f, 'a>(
     ensures stable { OnOk result (HaveLegalStability (interfaces_in items.now places.now)) }
     ensures sound { OnOk result (AreSoundScopes (interfaces_in items.now places.now)) }
     ensures sided { OnOk result (AreLegalSides (interfaces_in items.now places.now)) }
+    ensures first { FindsAmong interfaces.old types.old items.now places.now result }
     ensures refused { IfErr result (Refused (IsWrongInOrder interfaces.old types.old items.now places.now)) }
 {
     for place in places {

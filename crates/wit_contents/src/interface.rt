@@ -11,11 +11,15 @@ ghost use Rattle.wit_entries.specs.Requiring.{IsExtended};
 ghost use Rattle.wit_rules.specs.BorrowedFunctions.{function_view};
 ghost use Rattle.wit_signatures.specs.ForeignName.{name_of_function, name_of_id};
 ghost use Rattle.wit_items.specs.BorrowedItems.{declared_view, scope_item};
-ghost use Rattle.wit_arena.specs.Resolving.{ResolvedScope};
+ghost use Rattle.wit_first.specs.First.{Finds};
+ghost use Rattle.wit_arena.specs.Resolving.{ResolvedScope, env_of};
+ghost use Rattle.wit_externs.specs.AloneFaults.{FindsIn, lone_setters};
 ghost use Rattle.wit_item_names.specs.ForeignAddresses.{prefix_of};
 ghost use Rattle.wit_scopes.specs.PlacedNames.{AreNamesPlaced};
 ghost use Rattle.wit_scopes.specs.BorrowedNames.{name_view};
 ghost use Rattle.wit_item_entries.specs.Body.{HasLegalSides, HasSoundNames, HasTurn, IsSoundScope};
+ghost use Rattle.wit_item_entries.specs.ReachedFaults.{FindsAt};
+ghost use Rattle.wit_contents.specs.InterfaceFaults.{HasNoFault, IsInterfaceFault, rest_fault};
 ghost use Rattle.wit_contents.specs.AddedInterfaces.{AddsAt, AddsTable, HasLegalStability, IsWrongAt, RefusesTable};
 
 use std::alloc::{AllocError, Global};
@@ -46,6 +50,7 @@ fn check_pairs(
     names: &[Id<'_>],
 ) -> ParseResult<()>
     requires { 0 < length functions.now → in_use.now ≡ map name_of_id names.now ++ map name_of_function (map function_view functions.now) }
+    ensures first { Finds (lone_setters (map function_view functions.now)) result }
     ensures paired { OnOk result ((f : Fault) → IsUnpairedSetter (map function_view functions.now) f → ⊥) }
     ensures refused { IfErr result (Refused (IsUnpairedSetter (map function_view functions.now))) }
 {
@@ -70,7 +75,8 @@ fn functions_of<'a>(
     ensures paired { OnOk result ((f : Fault) → IsUnpairedSetter (the_functions (scope_item item.now)) f → ⊥) }
     ensures sound { OnOk result (HasSoundNames (scope_item item.now) → IsSoundScope (scope_item item.now)) }
     ensures sided { OnOk result (HasLegalSides (scope_item item.now)) }
-    ensures extended { OnOk result (IsExtended types.old types.new) }
+    ensures extended { IsExtended types.old types.new }
+    ensures first { FindsIn (env_of names.old.types) types.new (rest_fault item.now names.old.turn.items) result }
     ensures refused { IfErr result (RefusesTable names.old types.old (scope_item item.now)) }
 {
     let own = resolve_item_functions(alloc, item.names, item.declared, types, names)?;
@@ -109,6 +115,7 @@ pub fn interface_of<'f, 'a>(
     ensures sound { OnOk result (IsSoundScope (scope_item item.now)) }
     ensures sided { OnOk result (HasLegalSides (scope_item item.now)) }
     ensures extended { OnOk result (IsExtended types.old types.new) }
+    ensures first { FindsAt (HasNoFault interfaces.now item.now types.new) (IsInterfaceFault interfaces.now place types.old item.now) result }
     ensures refused { IfErr result (Refused (IsWrongAt interfaces.now types.old place (scope_item item.now))) }
 {
     let alloc = *interfaces.by_name.allocator();

@@ -1,4 +1,4 @@
-use Rattle.std.proofs.Common.{Some, length, inl, refl, sym, ap, ◌∙◌, subst}
+use Rattle.std.proofs.Common.{Some, length, inl, inr, refl, sym, ap, ◌∙◌, subst}
 use Rattle.std.proofs.lemmas.Result.{err_from_is_err_and}
 use Rattle.wit_type_tree.specs.declared.leaves.Id.{Id}
 use Rattle.wit_syntax.specs.Broken.{IsBrokenScope}
@@ -11,6 +11,7 @@ use Rattle.wit_arena.specs.ResolvedArenas.{AddsInterface, IsNameless}
 use Rattle.wit_items.specs.BorrowedItems.{item_view}
 use Rattle.wit_items.specs.ResolvedInterfaces.{resolved_scopes_of}
 use Rattle.wit_uses.specs.NewRequirements.{Appends}
+use Rattle.wit_contents.specs.InterfaceFaults.{IsLent}
 use Rattle.wit_contents.proofs.declared.resolve_interface.Goals as goal
 
 pub interface_of-requires-clause-sort : goal.interface_of-requires-clause-sort
@@ -58,3 +59,36 @@ returns-clause-sound c = subst (λ (i : Item). (f : Fault) → IsBrokenScope (sc
 
 pub returns-clause-sided : goal.returns-clause-sided
 returns-clause-sided c = subst (λ (i : Item). (f : Fault) → IsBrokenSides i f → ⊥) c.scope-scope.ensures.item c.in_ok-interface.ensures.sided
+
+pub returns-in_err-interface-clause-first : goal.returns-in_err-interface-clause-first
+returns-in_err-interface-clause-first c =
+    let p = err_from_is_err_and c.from_residual.result c.from_residual.ensures.1 in
+    let is = c.args.interfaces.now in
+    let s = c.scope-scope.result in
+    let lent : IsLent s is.files (item_view c.args.item.now) = record {
+      item = c.scope-scope.ensures.item;
+      named = c.scope-scope.ensures.names ∙ c.requires.item.named;
+      placed = rw c.scope-scope.ensures.borrowed (c.requires.item.placed.each 0 c.args.item.now refl);
+    } in
+    rw (p.1, p.2) (λ test right. elim c.in_err-interface.ensures.first [
+      | inl memory ↦ inl memory
+      | inr wrong ↦ inr (right.fault s _ lent (rw c.next_id-place.ensures at wrong))
+    ])
+
+pub returns-in_err-add_interface-clause-first : goal.returns-in_err-add_interface-clause-first
+returns-in_err-add_interface-clause-first c =
+    let p = err_from_is_err_and c.from_residual-in_err-add_interface.result c.from_residual-in_err-add_interface.ensures.1 in
+    rw (p.1, p.2) (λ test right. inl c.in_err-add_interface.ensures.refused)
+
+pub returns-clause-first : goal.returns-clause-first
+returns-clause-first c = λ test right.
+    let is = c.args.interfaces.now in
+    let s = c.scope-scope.result in
+    let item = item_view c.args.item.now in
+    let lent : IsLent s is.files item = record {
+      item = c.scope-scope.ensures.item;
+      named = c.scope-scope.ensures.names ∙ c.requires.item.named;
+      placed = rw c.scope-scope.ensures.borrowed (c.requires.item.placed.each 0 c.args.item.now refl);
+    } in
+    let one : Appends c.args.required.now.items c.interface_of.new.required.items (λ rs. AddsInterface (resolved_scopes_of is) (length is.arena) c.args.types.now c.interface_of.new.types c.in_ok-interface.interface rs item) = rw (c.next_id-place.ensures, c.scope-scope.ensures.item) at c.in_ok-interface.ensures.adds in
+    right.none s c.interface_of.new.types c.in_ok-interface.interface one.own lent one.holds c.in_ok-interface.ensures.first

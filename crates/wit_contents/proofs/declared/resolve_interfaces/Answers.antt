@@ -1,11 +1,16 @@
-use Rattle.std.proofs.Common.{◌≡◌, ℕ, ◌<◌, ◌+◌, ◌++◌, ◌∷◌, List, [], All, take, length, get_or, true, false, not, Some, refl, ap, sym, ◌∙◌, subst}
+use Rattle.std.proofs.Common.{◌≡◌, ℕ, ◌<◌, ◌+◌, ◌++◌, ◌∷◌, List, [], All, drop, take, length, get_or, true, false, not, Some, refl, ap, sym, ◌∙◌, subst, arith}
 use Rattle.std.specs.Prelude.{slice_get, map}
+use Rattle.std.specs.List.{filter}
+use Rattle.std.proofs.lemmas.List.{take-append-drop, take_all}
+use Rattle.std.proofs.lemmas.List.Elements.{filter-append, filter_map-append}
 use Rattle.std.proofs.lemmas.Option.{slice_get-get_or}
 use Rattle.std.proofs.lemmas.Result.{err_from_is_err_and}
-use Rattle.wit_syntax.specs.Source.{is_world, about}
+use Rattle.wit_syntax.specs.Source.{Item, is_world, about}
 use Rattle.wit_syntax.specs.ScopeTables.{in_order, interfaces_of}
 use Rattle.wit_arena.specs.Resolving.{resolved_scopes}
-use Rattle.wit_arena.specs.ResolvedArenas.{AddsDeclared, IsWrongInterface, IsWrongNow}
+use Rattle.wit_first.specs.First.{first_in}
+use Rattle.wit_first.proofs.First.{in-append, in-more, reports_prefix, reports_same}
+use Rattle.wit_arena.specs.ResolvedArenas.{AddsDeclared, IsNext, IsWrongInterface, IsWrongNow}
 use Rattle.wit_types.specs.declared.types.TypeOwner.TheVariants.{Interface as OfInterface}
 use Rattle.wit_item_names.specs.ForeignAddresses.{prefix_of}
 use Rattle.wit_uses.specs.NewRequirements.{Appends}
@@ -70,6 +75,39 @@ returns-in_err-resolve_interface-in-Interface-clause-refused c =
       wrong = h;
     }) (rw c.loop-place.invariant.files at c.in_err-resolve_interface-in-Interface.ensures.refused))
 
+-- the interfaces in an order, up to one, that one, and those after it
+split_interfaces : (ws : List Item) (places : List ℕ) (k p : ℕ) (w : Item) → slice_get places k ≡ Some p → slice_get ws p ≡ Some w → is_world w ≡ false → interfaces_of (in_order ws places) ≡ (interfaces_of (in_order ws (take k places)) ++ w ∷ []) ++ interfaces_of (in_order ws (drop (k + 1) places))
+split_interfaces ws places k p w next at sort =
+    let test = λ (v : Item). not (is_world v) in
+    let front = take (k + 1) places in
+    let back = drop (k + 1) places in
+    ap (λ (l : List ℕ). filter test (in_order ws l)) (sym (take-append-drop (k + 1) places))
+    ∙ ap (filter test) (filter_map-append (slice_get ws) front back)
+    ∙ filter-append test (in_order ws front) (in_order ws back)
+    ∙ ap (λ (l : List Item). l ++ filter test (in_order ws back)) (kept_next test ws places k p w next at (ap not sort))
+
+pub returns-in_err-resolve_interface-in-Interface-clause-first : goal.returns-in_err-resolve_interface-in-Interface-clause-first
+returns-in_err-resolve_interface-in-Interface-clause-first c =
+    let q = err_from_is_err_and c.from_residual.result c.from_residual.ensures.1 in
+    let ws = map item_view c.args.items.now in
+    let places = c.args.places.now in
+    let i = c.loop-place.place-index in
+    let p = get_or places i 0 in
+    let x = c.index-items-place.result in
+    let w = item_view x in
+    let was = c.loop-place.invariant in
+    let now = c.loop-place.interfaces in
+    let at : slice_get places i ≡ Some p = slice_get-get_or places i 0 c.loop-place-test.true in
+    let within : p < length c.args.items.now = c.requires.within i 0 c.loop-place-test.true in
+    let there : slice_get ws p ≡ Some w = read_map item_view c.args.items.now p x within c.index-items-place.is in
+    let sort : is_world w ≡ false = ap (λ (d : BorrowedDeclared). (about (declared_view d)).is_world) c.in-Interface.is in
+    let next : IsNext ws places i w = record { place = p; next = at; at = there } in
+    let prefix = interfaces_of (in_order ws (take i places)) in
+    let rest = interfaces_of (in_order ws (drop (i + 1) places)) in
+    rw (q.1, q.2) (λ test right.
+    let own = c.in_err-resolve_interface-in-Interface.ensures.first test (right now c.loop-place.types was.added.own i w was.files next sort was.added.holds (rw was.files was.index)) in
+    reports_same (sym (ap (first_in test) (split_interfaces ws places i p w at there sort) ∙ in-append test (prefix ++ w ∷ []) rest)) (reports_prefix (first_in test rest) (reports_same (sym (in-more test prefix w (was.first test right))) own)))
+
 pub loop-place-preserved : goal.loop-place-preserved
 loop-place-preserved c =
     let ws = map item_view c.args.items.now in
@@ -103,10 +141,18 @@ loop-place-preserved c =
             sound = rw more (sounds_more prefix w was.sound e.sound);
             stable = rw more (stability_more prefix w was.stable (interface_stable w own e.stable));
             sided = rw more (sides_more prefix w was.sided e.sided);
+            first = λ test right. rw more (in-more test prefix w (was.first test right) ∙ e.first test (right c.loop-place.interfaces c.loop-place.types was.added.own i w was.files (record { place = p; next = at; at = there }) own was.added.holds (rw was.files was.index)));
           }))
       | in-World b ↦ (
           let sort : not (is_world w) ≡ false = ap (λ (d : BorrowedDeclared). not (about (declared_view d)).is_world) b.in-World.is in
           let past : interfaces_of (in_order ws (take (i + 1) places)) ≡ prefix = kept_past (λ v. not (is_world v)) ws places i p w at there sort in
-          rw (b.interfaces-is, b.types-is, b.required-is) (record { files = was.files; added = rw past was.added; index = was.index; sound = rw past was.sound; stable = rw past was.stable; sided = rw past was.sided }))
+          rw (b.interfaces-is, b.types-is, b.required-is) (record { files = was.files; added = rw past was.added; index = was.index; sound = rw past was.sound; stable = rw past was.stable; sided = rw past was.sided; first = λ test right. rw past (was.first test right) }))
       | in-Inline b ↦ absurd (c.requires.outer.outer p w _ _ _ _ _ there (ap declared_view b.in-Inline.is))
     ]
+
+pub returns-clause-first : goal.returns-clause-first
+returns-clause-first c = λ test right.
+    let ws = map item_view c.args.items.now in
+    let places = c.args.places.now in
+    let i = c.loop-place.place-index in
+    ap (λ (l : List ℕ). first_in test (interfaces_of (in_order ws l))) (sym (take_all i places (omega arith))) ∙ c.loop-place.invariant.first test right

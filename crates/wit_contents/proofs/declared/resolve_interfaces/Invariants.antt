@@ -1,10 +1,14 @@
-use Rattle.std.proofs.Common.{◌≡◌, map, take}
+use Rattle.std.proofs.Common.{◌≡◌, None, Option, map, take}
+use Rattle.wit_syntax.specs.Fault.{Fault}
 use Rattle.wit_syntax.specs.ScopeTables.{in_order, interfaces_of}
+use Rattle.wit_syntax.specs.Source.{Item}
+use Rattle.wit_first.specs.First.{first_in}
 use Rattle.wit_arena.specs.Resolving.{resolved_scopes, IsIndex}
 use Rattle.wit_arena.specs.ResolvedArenas.{AddsInterfaces, AreLegalSides, AreSoundScopes, HaveLegalStability}
 use Rattle.wit_item_names.specs.ForeignAddresses.{prefix_of}
 use Rattle.wit_items.specs.BorrowedItems.{item_view}
 use Rattle.wit_uses.specs.NewRequirements.{Appends}
+use Rattle.wit_contents.specs.InterfaceFaults.{AreRightOf}
 use Rattle.wit_contents.proofs.declared.resolve_interfaces.Given as goal
 
 abbrev pub invariant-loop-place : goal.invariant-loop-place
@@ -15,4 +19,5 @@ invariant-loop-place l = record {
   sound : AreSoundScopes (interfaces_of (in_order (map item_view l.items) (take l.place-index l.places)));
   stable : HaveLegalStability (interfaces_of (in_order (map item_view l.items) (take l.place-index l.places)));
   sided : AreLegalSides (interfaces_of (in_order (map item_view l.items) (take l.place-index l.places)));
+  first : (wrong : Item → Option Fault) → AreRightOf wrong l.fn.interfaces l.fn.types l.items l.places → first_in wrong (interfaces_of (in_order (map item_view l.items) (take l.place-index l.places))) ≡ None;
 }

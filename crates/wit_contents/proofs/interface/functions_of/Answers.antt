@@ -1,19 +1,25 @@
-use Rattle.std.proofs.Common.{◌≡◌, List, ◌++◌, map, inl, refl, sym, ap, ◌∙◌, subst}
+use Rattle.std.proofs.Common.{◌≡◌, List, ◌++◌, Option, map, inl, inr, refl, sym, ap, ◌∙◌, subst}
+use Rattle.std.specs.Option.{option_or}
 use Rattle.std.proofs.lemmas.Result.{err_from_is_err_and}
 use Rattle.wit_tree.specs.declared.tree.WorldSide.TheVariants.{Imported}
+use Rattle.wit_syntax.specs.Fault.{Fault}
 use Rattle.wit_syntax.specs.Source.{ScopeName}
 use Rattle.wit_syntax.specs.Function.{SourceFunction, functions}
 use Rattle.wit_syntax.specs.Sides.{SideFunction}
 use Rattle.wit_syntax.specs.SignatureRules.{IsUnpairedSetter}
 use Rattle.wit_syntax.proofs.Refusing.{refused_weaker}
 use Rattle.wit_syntax.proofs.Sides.{side_items_functions}
+use Rattle.wit_first.proofs.First.{none_both}
+use Rattle.wit_arena.specs.Resolving.{env_of}
 use Rattle.wit_arena.specs.ResolvedArenas.{IsWrongInterface, Unpaired}
 use Rattle.wit_rules.specs.BorrowedFunctions.{function_view}
 use Rattle.wit_signatures.specs.ForeignName.{name_of_id, name_of_function}
+use Rattle.wit_externs.specs.AloneFaults.{lone_setters}
+use Rattle.wit_externs.proofs.AloneFaults.{safe_of}
 use Rattle.wit_externs.specs.Clash.{all_on}
 use Rattle.wit_items.specs.BorrowedItems.{scope_item, declared_view}
 use Rattle.wit_uses.specs.NameOrder.{IsTurn}
-use Rattle.wit_item_entries.specs.Body.{HasNames, IsWrongBody}
+use Rattle.wit_item_entries.specs.Body.{HasNames, IsWrongBody, functions_in}
 use Rattle.wit_item_entries.proofs.InterfaceSides.{all_imported, names_imported}
 use Rattle.wit_item_entries.proofs.WrongNames.{wrong_interface}
 use Rattle.wit_item_entries.proofs.ScopeFunctions.{turn_added, made_differ}
@@ -82,3 +88,29 @@ returns-clause-sound c =
 
 pub returns-clause-sided : goal.returns-clause-sided
 returns-clause-sided c = c.in_ok-own.ensures.sided (scope_item c.args.item.now) (record { declared = refl; names = sym c.requires.named })
+
+pub returns-in_err-own-clause-first : goal.returns-in_err-own-clause-first
+returns-in_err-own-clause-first c =
+    let p = err_from_is_err_and c.from_residual.result c.from_residual.ensures.1 in
+    let fns = functions_in (declared_view c.args.item.now.declared) in
+    rw (p.1, p.2) (elim c.in_err-own.ensures.first [
+      | inl memory ↦ inl memory
+      | inr wrong ↦ inr (λ handle ends. ap (λ (o : Option Fault). option_or o (lone_setters fns)) (wrong handle ends))
+    ])
+
+pub returns-in_err-check_pairs-clause-first : goal.returns-in_err-check_pairs-clause-first
+returns-in_err-check_pairs-clause-first c =
+    let p = err_from_is_err_and c.from_residual-in_err-check_pairs.result c.from_residual-in_err-check_pairs.ensures.1 in
+    let item = c.args.item.now in
+    let names = c.args.names.now in
+    let fns = functions_in (declared_view item.declared) in
+    let written : map function_view c.deref.result.now ≡ fns = ap (map function_view) c.deref.ensures.value ∙ c.in_ok-own.ensures.written in
+    rw (p.1, p.2) (elim c.in_err-check_pairs.ensures.first [
+      | inl memory ↦ inl memory
+      | inr wrong ↦ inr (λ handle ends. ap (λ (o : Option Fault). option_or o (lone_setters fns)) (c.in_ok-own.ensures.first handle (safe_of (env_of names.types) c.resolve_item_functions.new.types handle ends)) ∙ ap lone_setters (sym written) ∙ wrong)
+    ])
+
+pub returns-clause-first : goal.returns-clause-first
+returns-clause-first c = λ handle safe.
+    let written : map function_view c.deref.result.now ≡ functions_in (declared_view c.args.item.now.declared) = ap (map function_view) c.deref.ensures.value ∙ c.in_ok-own.ensures.written in
+    none_both (c.in_ok-own.ensures.first handle safe) (ap lone_setters (sym written) ∙ c.in_ok-check_pairs.ensures.first)

@@ -1,0 +1,82 @@
+-- The first fault of an interface: of its names, or, once they are resolved, of what comes after them.
+use Rattle.std.proofs.Common.{◌≡◌, ℕ, List, [], length, map, take, Option, Some, None, sym, ap, ◌∙◌, subst, arith}
+use Rattle.std.specs.Option.{option_or}
+use Rattle.std.proofs.lemmas.List.{take_all}
+use Rattle.wit_type_tree.specs.declared.leaves.Id.{Id}
+use Rattle.wit_types.specs.declared.types.TypeDef.{TypeDef}
+use Rattle.wit_types.specs.declared.types.TypeOwner.{TypeOwner}
+use Rattle.wit_types.specs.declared.types.TypeOwner.TheVariants as owner
+use Rattle.wit_graph.specs.Table.{IsOrder}
+use Rattle.wit_syntax.specs.Address.{Address}
+use Rattle.wit_syntax.specs.Fault.{Fault}
+use Rattle.wit_syntax.specs.ScopeTables.{in_turn, rows_of}
+use Rattle.wit_syntax.specs.Source.{ScopeName, local_id, scope_names}
+use Rattle.wit_first.proofs.First.{none_both}
+use Rattle.wit_walk.specs.Orders.{Outcome, InOrder, IsOutcome, order_of}
+use Rattle.wit_walk.proofs.One.{outcome_one}
+use Rattle.wit_arena.specs.Resolving.{Defines, Names, env_of}
+use Rattle.wit_entries.specs.Requiring.{IsExtended}
+use Rattle.wit_externs.specs.AloneFaults.{EndsIn, IsSafe}
+use Rattle.wit_externs.proofs.AloneFaults.{safe_arena, safe_of}
+use Rattle.wit_items.specs.BorrowedItems.{scope_item}
+use Rattle.wit_items.specs.ResolvedInterfaces.{resolved_scopes_of}
+use Rattle.wit_items.specs.declared.interfaces.Interfaces.{Interfaces}
+use Rattle.wit_items.specs.declared.items.ItemScope.{ItemScope}
+use Rattle.wit_item_entries.specs.Body.{HasTurn}
+use Rattle.wit_item_entries.specs.ReachedFaults.{HasHead, IsFaultless, IsHeadFault}
+use Rattle.wit_item_entries.specs.declared.names.ResolvedNames.{ResolvedNames}
+use Rattle.wit_contents.specs.InterfaceFaults.{IsInterfaceFault, interface_fault, names_of, rest_fault}
+
+-- its names are wrong
+pub head_first : (is : Interfaces) (place : ℕ) (old : List TypeDef) (i : ItemScope) (f : Fault) → IsHeadFault is (owner.Interface place) old i f → IsInterfaceFault is place old i f
+head_first is place old i f h outcome right =
+    let r = h outcome right in
+    record {
+      count = r.count;
+      mid = r.mid;
+      now = r.now;
+      defines = r.defines;
+      more = r.more;
+      is = λ handle ends. ap (λ (x : Option Fault). option_or x (rest_fault i (map local_id (in_turn (names_of i) (order_of outcome))) handle)) (r.is handle ends);
+    }
+
+-- they are resolved, and in the arena
+module _ (is : Interfaces) (o : TypeOwner) (old mid : List TypeDef) (i : ItemScope) (n : ResolvedNames) (named : names_of i ≡ scope_names (scope_item i)) (turn : HasTurn n mid (scope_item i) old (resolved_scopes_of is) o) (outcome : Outcome) (right : IsOutcome (rows_of (names_of i)) outcome) where
+  abbrev xs : List ScopeName
+  xs = names_of i
+
+  ordered : outcome ≡ InOrder turn.adds.order
+  ordered = outcome_one (rows_of xs) outcome (InOrder turn.adds.order) right (subst (λ (ys : List ScopeName). IsOrder (rows_of ys) turn.adds.order) (sym named) turn.adds.least)
+
+  in_turn_is : in_turn xs (order_of outcome) ≡ in_turn (scope_names (scope_item i)) turn.adds.order
+  in_turn_is = ap (λ (p : Outcome). in_turn xs (order_of p)) ordered ∙ ap (λ (ys : List ScopeName). in_turn ys turn.adds.order) named
+
+  turned : n.turn.items ≡ map local_id (in_turn xs (order_of outcome))
+  turned = turn.turn ∙ ap (map local_id) (sym in_turn_is)
+
+  all_defined : (s : Address) → Defines old mid (resolved_scopes_of is) o s [] n.types (take (length (in_turn xs (order_of outcome))) (in_turn xs (order_of outcome)))
+  all_defined s =
+      let ys = in_turn xs (order_of outcome) in
+      subst (λ (zs : List ScopeName). Defines old mid (resolved_scopes_of is) o s [] n.types zs) (sym in_turn_is ∙ sym (take_all (length ys) ys (omega arith))) (turn.adds.defines s)
+
+-- so what comes after them is wrong
+pub rest_first : (is : Interfaces) (place : ℕ) (old mid new : List TypeDef) (i : ItemScope) (n : ResolvedNames) (f : Fault) → names_of i ≡ scope_names (scope_item i) → HasTurn n mid (scope_item i) old (resolved_scopes_of is) (owner.Interface place) → HasHead is i n.types mid → IsExtended mid new → ((handle : Id → Option Fault) → EndsIn (env_of n.types) new handle → rest_fault i n.turn.items handle ≡ Some f) → IsInterfaceFault is place old i f
+rest_first is place old mid new i n f named turn head g wrong outcome right = record {
+  count = length (in_turn (names_of i) (order_of outcome));
+  mid = mid;
+  now = n.types;
+  defines = all_defined is (owner.Interface place) old mid i n named turn outcome right;
+  more = g.more;
+  is = λ handle ends. (
+      let now : EndsIn (env_of n.types) new handle = subst (λ (es : List TypeDef). EndsIn (env_of n.types) es handle) (sym g.is) ends in
+      let none = head outcome right handle (safe_arena (env_of n.types) mid new handle g (safe_of (env_of n.types) new handle now)) in
+      ap (λ (x : Option Fault). option_or x (rest_fault i (map local_id (in_turn (names_of i) (order_of outcome))) handle)) none
+      ∙ ap (λ (ids : List Id). rest_fault i ids handle) (sym (turned is (owner.Interface place) old mid i n named turn outcome right))
+      ∙ wrong handle now);
+}
+
+-- or nothing is
+pub rest_none : (is : Interfaces) (o : TypeOwner) (old mid new : List TypeDef) (i : ItemScope) (n : ResolvedNames) (types : Names) → types ≡ n.types → names_of i ≡ scope_names (scope_item i) → HasTurn n mid (scope_item i) old (resolved_scopes_of is) o → HasHead is i n.types mid → IsExtended mid new → ((handle : Id → Option Fault) → IsSafe (env_of n.types) new handle → rest_fault i n.turn.items handle ≡ None) → (outcome : Outcome) → IsOutcome (rows_of (names_of i)) outcome → IsFaultless types new (interface_fault is i outcome)
+rest_none is o old mid new i n types same named turn head g rest outcome right handle safe =
+    let own : IsSafe (env_of n.types) new handle = subst (λ (ns : Names). IsSafe (env_of ns) new handle) same safe in
+    none_both (head outcome right handle (safe_arena (env_of n.types) mid new handle g own)) (ap (λ (ids : List Id). rest_fault i ids handle) (sym (turned is o old mid i n named turn outcome right)) ∙ rest handle own)

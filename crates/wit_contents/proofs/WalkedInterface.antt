@@ -1,0 +1,261 @@
+-- The first fault of an interface by tables is that of the walk of files, where the tables say what the files do.
+use Rattle.std.proofs.Common.{◌≡◌, ℕ, zero, suc, Bool, true, false, ◌||◌, List, [], ◌∷◌, ◌++◌, map, Option, Some, None, refl, sym, ap, ◌∙◌, subst}
+use Rattle.std.specs.Prelude.{if◌then◌else◌, slice_get}
+use Rattle.std.specs.List.{flat_map, list_any}
+use Rattle.std.specs.Option.{option_or}
+use Rattle.std.specs.Str.{bytes_eq}
+use Rattle.std.proofs.lemmas.List.{map-append}
+use Rattle.wit_names.specs.Folded.{folded_key}
+use Rattle.wit_type_tree.specs.declared.leaves.Id.{Id}
+use Rattle.wit_type_tree.specs.declared.types.TypeBody.{TypeBody}
+use Rattle.wit_type_tree.specs.declared.types.TypeBody.TheVariants as body
+use Rattle.wit_type_tree.specs.declared.types.ResourceFunc.{ResourceFunc}
+use Rattle.wit_type_tree.specs.declared.types.ResourceFunc.TheVariants as resource
+use Rattle.wit_tree.specs.declared.tree.InterfaceItem.{InterfaceItem}
+use Rattle.wit_tree.specs.declared.tree.InterfaceItem.TheVariants as interface_item
+use Rattle.wit_tree.specs.declared.tree.PackageFile.{PackageFile}
+use Rattle.wit_tree.specs.declared.tree.WorldSide.{WorldSide}
+use Rattle.wit_tree.specs.declared.tree.WorldSide.TheVariants.{Imported, Exported}
+use Rattle.wit_syntax.specs.ExternPart.{same_side}
+use Rattle.wit_syntax.specs.Fault.{Fault, fault, missing_type_at, cyclic_at, type_word}
+use Rattle.wit_syntax.specs.Function.{SourceFunction, functions, part_functions, definition_functions, free_function, resource_function}
+use Rattle.wit_syntax.specs.ScopeTables.{defined, in_order, in_turn, includes, part_includes, used}
+use Rattle.wit_syntax.specs.Sides.{SideItem, SideFunction, item_called, item_function, items_on, names_on, on_side, role_side, side_called, side_items}
+use Rattle.wit_syntax.specs.SignatureRules.{Called, name_called}
+use Rattle.wit_syntax.specs.Source.{Declared, TheInterface, TheWorld, TheInline, Item, ScopeName, Used, Defined, ForeignName, about, address, interface_part, is_world, local_id, local_name, scope_names}
+use Rattle.wit_syntax.proofs.Lists.{flat_map_at, map_at}
+use Rattle.wit_syntax.proofs.Sides.{functions_imported, kept_all, kept_none, side_items_functions}
+use Rattle.wit_first.specs.First.{first_after, first_in, repeat_of}
+use Rattle.wit_first.specs.NameFaults.{local_names_fault}
+use Rattle.wit_first.proofs.First.{after-append, or_none, repeat-map}
+use Rattle.wit_first.proofs.Repeats.{after_kept}
+use Rattle.wit_first.proofs.Bridge.{or_none_both}
+use Rattle.wit_walk.specs.Definitions.{handle_fault}
+use Rattle.wit_walk.specs.Functions.{function_fault, signed_fault, word_fault}
+use Rattle.wit_walk.specs.Members.{called_fault, is_on_side, member_fault}
+use Rattle.wit_walk.specs.Names.{folded_fault, name_fault, use_fault}
+use Rattle.wit_walk.specs.Orders.{Outcome, order_fault, order_of}
+use Rattle.wit_walk.specs.Paths.{include_fault}
+use Rattle.wit_walk.specs.Setters.{setters_beside, setters_fault, side_setters_fault}
+use Rattle.wit_walk.specs.Walk.{scope_fault}
+use Rattle.wit_refusals.specs.NameScopes.{Name}
+use Rattle.wit_signatures.specs.ForeignName.{name_key, name_of_function, name_of_id}
+use Rattle.wit_externs.specs.AloneFaults.{again_fault, alone_fault, alone_faults, defined_fault, lone_setters}
+use Rattle.wit_externs.specs.Clash.{names_of_items}
+use Rattle.wit_scopes.specs.BorrowedNames.{own_use, use_view}
+use Rattle.wit_scopes.specs.declared.scope_name.UsedName.{UsedName}
+use Rattle.wit_scopes.proofs.UsedNames.{uses_viewed}
+use Rattle.wit_items.specs.BorrowedItems.{scope_item}
+use Rattle.wit_items.specs.declared.interfaces.Interfaces.{Interfaces}
+use Rattle.wit_items.specs.declared.items.ItemScope.{ItemScope}
+use Rattle.wit_uses.specs.UseFaults.{local_fault, local_faults, used_fault}
+use Rattle.wit_uses.proofs.NameOrder.{all_used, called}
+use Rattle.wit_item_entries.specs.ReachedFaults.{definitions_fault, item_stability, ordered_fault}
+use Rattle.wit_item_entries.specs.ScopeFunctionFaults.{functions_fault}
+use Rattle.wit_contents.specs.InterfaceFaults.{interface_fault, names_of}
+
+-- an item that is made of another
+any-made : {X Y : Type 0} (p : Y → Bool) (f : X → Y) (xs : List X) → list_any p (map f xs) ≡ list_any (λ (x : X). p (f x)) xs
+any-made p f [] = refl
+any-made p f (x ∷ xs) = ap (λ (b : Bool). p (f x) || b) (any-made p f xs)
+
+repeat-made : {X Y : Type 0} (key : Y → List ℕ) (as_fault : Y → Fault) (f : X → Y) (before : List X) (x : X) → repeat_of key as_fault (map f before) (f x) ≡ repeat_of (λ (y : X). key (f y)) (λ (y : X). as_fault (f y)) before x
+repeat-made key as_fault f before x = ap (λ (b : Bool). if b then Some (as_fault (f x)) else None) (any-made (λ y. bytes_eq (key y) (key (f x))) f before)
+
+-- a name of a scope that an earlier one is, spelled alike
+abbrev spelled : List ScopeName → ScopeName → Option Fault
+spelled before x = repeat_of local_name (λ (y : ScopeName). fault 14 (local_id y).span) before x
+
+-- the interfaces that are resolved say of used names what files do
+pub record AreAsWalked (files : List PackageFile) (is : Interfaces) (us : List UsedName) : Type 0 where
+  pub each : (k : ℕ) (u : UsedName) → slice_get us k ≡ Some u → used_fault is u ≡ use_fault files (use_view u)
+
+uses_walked : (files : List PackageFile) (is : Interfaces) (before us : List UsedName) → AreAsWalked files is us → first_after (local_fault is) before us ≡ first_after (name_fault files) (map use_view before) (map use_view us)
+uses_walked files is before [] say = refl
+uses_walked files is before (u ∷ us) say =
+    let rest = first_after (local_fault is) (before ++ u ∷ []) us in
+    let one : local_fault is before u ≡ name_fault files (map use_view before) (use_view u) =
+    ap (λ (o : Option Fault). option_or o (repeat_of (λ (v : UsedName). local_name (use_view v)) (λ (v : UsedName). fault 14 (local_id (use_view v)).span) before u)) (say.each 0 u refl)
+    ∙ ap (option_or (use_fault files (use_view u))) (sym (repeat-made local_name (λ (y : ScopeName). fault 14 (local_id y).span) use_view before u)) in
+    let more : AreAsWalked files is us = record { each = λ k v at. say.each (suc k) v at } in
+    ap (λ (o : Option Fault). option_or o rest) one
+    ∙ ap (option_or (name_fault files (map use_view before) (use_view u))) (uses_walked files is (before ++ u ∷ []) us more ∙ ap (λ (l : List ScopeName). first_after (name_fault files) l (map use_view us)) (map-append use_view before (u ∷ [])))
+
+-- a definition is used from nowhere
+defined_walked : (files : List PackageFile) (before xs : List ScopeName) → first_after (name_fault files) before (defined xs) ≡ first_after spelled before (defined xs)
+defined_walked files before [] = refl
+defined_walked files before (Used from attributes n ∷ xs) = defined_walked files before xs
+defined_walked files before (ForeignName attributes id ∷ xs) = defined_walked files before xs
+defined_walked files before (Defined d ∷ xs) = ap (option_or (spelled before (Defined d))) (defined_walked files (before ++ Defined d ∷ []) xs)
+
+-- where nothing is wrong with names by themselves and beside earlier ones, none is spelled like one
+spelled_kept : (files : List PackageFile) (before : List ScopeName) (x : ScopeName) → name_fault files before x ≡ None → spelled before x ≡ None
+spelled_kept files before x h = (or_none_both (use_fault files x) (spelled before x) h).1
+
+either_first : (a b c : Option Fault) → (a ≡ None → b ≡ None) → option_or a (option_or b c) ≡ option_or a c
+either_first None b c only = ap (λ (o : Option Fault). option_or o c) (only refl)
+either_first (Some f) b c only = refl
+
+names_walked : (files : List PackageFile) (is : Interfaces) (us : List UsedName) (xs : List ScopeName) → map use_view us ≡ used xs → AreAsWalked files is us → option_or (local_faults is us) (local_names_fault (map local_id (used xs ++ defined xs))) ≡ first_after (name_fault files) [] (used xs ++ defined xs)
+names_walked files is us xs view say =
+    let a = first_after (name_fault files) [] (used xs) in
+    let b = first_after spelled [] (used xs) in
+    let c = first_after spelled (used xs) (defined xs) in
+    let own : local_faults is us ≡ a = uses_walked files is [] us say ∙ ap (first_after (name_fault files) []) view in
+    let twice : local_names_fault (map local_id (used xs ++ defined xs)) ≡ option_or b c = repeat-map (λ (id : Id). id.name.now) (λ (id : Id). fault 14 id.span) local_id (used xs ++ defined xs) ∙ after-append spelled [] (used xs) (defined xs) in
+    ap (λ (o : Option Fault). option_or o (local_names_fault (map local_id (used xs ++ defined xs)))) own
+    ∙ ap (option_or a) twice
+    ∙ either_first a b c (after_kept (name_fault files) spelled (spelled_kept files) [] (used xs))
+    ∙ sym (after-append (name_fault files) [] (used xs) (defined xs) ∙ ap (option_or a) (defined_walked files (used xs) xs))
+
+-- names in turn, once case is folded
+turn_walked : (ys : List ScopeName) → defined_fault [] (map name_of_id (map local_id ys)) ≡ first_after folded_fault [] (map name_called ys)
+turn_walked ys =
+    repeat-map name_key (λ (m : Name). fault 17 m.1) name_of_id (map local_id ys)
+    ∙ repeat-map (λ (id : Id). name_key (name_of_id id)) (λ (id : Id). fault 17 id.span) local_id ys
+    ∙ sym (repeat-map (λ (c : Called). folded_key c.name) (λ (c : Called). fault 17 c.span) name_called ys)
+
+-- no function of an interface is what a world imports or exports
+resource_free : (r : Id) (g : ResourceFunc) → is_on_side (resource_function r g).role ≡ false
+resource_free r (resource.Method f) = refl
+resource_free r (resource.Static f) = refl
+resource_free r (resource.Constructor docs attributes span params result) = refl
+
+definition_free : (r : Id) (b : TypeBody) (k : ℕ) (fn : SourceFunction) → slice_get (definition_functions r b) k ≡ Some fn → is_on_side fn.role ≡ false
+definition_free r (body.Resource funcs) k fn at =
+    let g = map_at (resource_function r) funcs.items k fn at in
+    subst (λ (x : SourceFunction). is_on_side x.role ≡ false) g.2 (resource_free r g.0)
+definition_free r (body.Record span fields) k fn at = absurd (let f : ⊥ = cc in f)
+definition_free r (body.Flags span flags) k fn at = absurd (let f : ⊥ = cc in f)
+definition_free r (body.Variant span cases) k fn at = absurd (let f : ⊥ = cc in f)
+definition_free r (body.Enum span cases) k fn at = absurd (let f : ⊥ = cc in f)
+definition_free r (body.Plain t) k fn at = absurd (let f : ⊥ = cc in f)
+
+item_free : (i : InterfaceItem) (k : ℕ) (fn : SourceFunction) → slice_get (part_functions (interface_part i)) k ≡ Some fn → is_on_side fn.role ≡ false
+item_free (interface_item.TypeDef d) k fn at = definition_free d.name d.body k fn at
+item_free (interface_item.Use u) k fn at = absurd (let f : ⊥ = cc in f)
+item_free (interface_item.Func g) zero fn at = let same : free_function g ≡ fn = cc in subst (λ (x : SourceFunction). is_on_side x.role ≡ false) same refl
+item_free (interface_item.Func g) (suc k) fn at = absurd (let f : ⊥ = cc in f)
+
+items_free : (items : List InterfaceItem) (k : ℕ) (fn : SourceFunction) → slice_get (flat_map part_functions (map interface_part items)) k ≡ Some fn → is_on_side fn.role ≡ false
+items_free items k fn at =
+    let it = flat_map_at part_functions (map interface_part items) k fn at in
+    let p = map_at interface_part items it.0 it.1 it.2 in
+    item_free p.0 it.3.0 fn (ap (λ x. slice_get (part_functions x) it.3.0) p.2 ∙ it.3.1)
+
+declared_free : (d : Declared) → (about d).is_world ≡ false → (k : ℕ) (fn : SourceFunction) → slice_get (flat_map part_functions (about d).parts) k ≡ Some fn → is_on_side fn.role ≡ false
+declared_free (TheInterface i) own k fn at = items_free i.items.items k fn at
+declared_free (TheWorld w) own k fn at = absurd (let f : ⊥ = cc in f)
+declared_free (TheInline world place x name items) own k fn at = items_free items k fn at
+
+-- it includes nothing
+items_include : (items : List InterfaceItem) → flat_map part_includes (map interface_part items) ≡ []
+items_include [] = refl
+items_include (interface_item.TypeDef d ∷ items) = items_include items
+items_include (interface_item.Use u ∷ items) = items_include items
+items_include (interface_item.Func g ∷ items) = items_include items
+
+declared_include : (d : Declared) → (about d).is_world ≡ false → flat_map part_includes (about d).parts ≡ []
+declared_include (TheInterface i) own = items_include i.items.items
+declared_include (TheWorld w) own = absurd (let f : ⊥ = cc in f)
+declared_include (TheInline world place x name items) own = items_include items
+
+-- one function of it, after others
+functions_back : (fns : List SourceFunction) → flat_map item_function (map SideFunction fns) ≡ fns
+functions_back [] = refl
+functions_back (fn ∷ fns) = ap (λ (l : List SourceFunction). fn ∷ l) (functions_back fns)
+
+module _ (files : List PackageFile) (steps : ℕ) (inside : Item → Option Fault) (i : Item) (order : List ℕ) where
+  abbrev xs : List ScopeName
+  xs = scope_names i
+
+  abbrev handle : Id → Option Fault
+  handle = handle_fault files steps (address i)
+
+  abbrev ids : List Id
+  ids = map local_id (in_turn xs order)
+
+  abbrev taken : WorldSide → List Name
+  taken side = names_on side (map name_of_id ids)
+
+  abbrev member : List SideItem → SideItem → Option Fault
+  member = member_fault files steps inside i order
+
+  abbrev alone : List SourceFunction → SourceFunction → Option Fault
+  alone = alone_fault (word_fault xs) handle xs taken
+
+  called_free : (extern : Bool) (before : List Called) (c : Called) → extern ≡ false → called_fault extern before c ≡ folded_fault before c
+  called_free true before c own = absurd (let f : ⊥ = cc in f)
+  called_free false before c own = refl
+
+  member_walked : (before : List SourceFunction) (fn : SourceFunction) → is_on_side fn.role ≡ false → alone before fn ≡ member (map SideFunction before) (SideFunction fn)
+  member_walked before fn own =
+      let side = role_side fn.role in
+      let there = items_on side (map SideFunction before) in
+      let c : Called = record { name = fn.name; span = fn.span } in
+      let names = taken side ++ names_of_items there in
+      let signed : function_fault (signed_fault xs (before ++ fn ∷ []) handle) xs fn ≡ function_fault (signed_fault xs (flat_map item_function (map SideFunction before) ++ fn ∷ []) handle) xs fn = ap (λ (l : List SourceFunction). function_fault (signed_fault xs (l ++ fn ∷ []) handle) xs fn) (sym (functions_back before)) in
+      let again : again_fault names (name_of_function fn) ≡ folded_fault (side_called side xs there order) c = sym (repeat-made (λ (d : Called). folded_key d.name) (λ (d : Called). fault 17 d.span) called names (name_of_function fn)) ∙ ap (λ (l : List Called). folded_fault l c) (all_used side xs there order ids refl) in
+      let one : again_fault names (name_of_function fn) ≡ first_in (called_fault (is_on_side fn.role) (side_called side xs there order)) (item_called (SideFunction fn)) = again ∙ sym (called_free (is_on_side fn.role) (side_called side xs there order) c own) ∙ sym (or_none (called_fault (is_on_side fn.role) (side_called side xs there order) c)) in
+      ap (λ (o : Option Fault). option_or o (again_fault names (name_of_function fn))) signed ∙ ap (option_or (function_fault (signed_fault xs (flat_map item_function (map SideFunction before) ++ fn ∷ []) handle) xs fn)) one
+
+  members_walked : (before fns : List SourceFunction) → ((k : ℕ) (fn : SourceFunction) → slice_get fns k ≡ Some fn → is_on_side fn.role ≡ false) → first_after alone before fns ≡ first_after member (map SideFunction before) (map SideFunction fns)
+  members_walked before [] own = refl
+  members_walked before (fn ∷ fns) own =
+      ap (λ (o : Option Fault). option_or o (first_after alone (before ++ fn ∷ []) fns)) (member_walked before fn (own 0 fn refl))
+      ∙ ap (option_or (member (map SideFunction before) (SideFunction fn))) (members_walked (before ++ fn ∷ []) fns (λ k g at. own (suc k) g at) ∙ ap (λ (l : List SideItem). first_after member l (map SideFunction fns)) (map-append SideFunction before (fn ∷ [])))
+
+-- setters of an interface are where imports are
+setters_walked : (i : Item) → is_world i ≡ false → lone_setters (functions i) ≡ setters_fault i
+setters_walked i sort =
+    let fns = functions i in
+    let on : on_side Imported fns ≡ fns = kept_all (λ fn. same_side Imported (role_side fn.role)) fns (λ k fn at. ap (same_side Imported) (functions_imported i sort k fn at)) in
+    let off : on_side Exported fns ≡ [] = kept_none (λ fn. same_side Exported (role_side fn.role)) fns (λ k fn at. ap (same_side Exported) (functions_imported i sort k fn at)) in
+    sym (ap (setters_beside i) (declared_include i.declared sort)
+    ∙ ap (λ (l : List SourceFunction). option_or (lone_setters l) (side_setters_fault i Exported)) on
+    ∙ ap (λ (l : List SourceFunction). option_or (lone_setters fns) (lone_setters l)) off
+    ∙ or_none (lone_setters fns))
+
+-- the steps of an interface, one after another
+regroup : (a b c d e g h k : Option Fault) → option_or (option_or a (option_or b (option_or c (option_or d e)))) (option_or (option_or g h) k) ≡ option_or a (option_or (option_or b c) (option_or d (option_or e (option_or g (option_or h (option_or k None))))))
+regroup (Some x) b c d e g h k = refl
+regroup None (Some x) c d e g h k = refl
+regroup None None (Some x) d e g h k = refl
+regroup None None None (Some x) e g h k = refl
+regroup None None None None (Some x) g h k = refl
+regroup None None None None None (Some x) h k = refl
+regroup None None None None None None (Some x) k = refl
+regroup None None None None None None None k = sym (or_none k)
+
+-- the first fault of an interface
+pub interface_walked : (files : List PackageFile) (steps : ℕ) (inside : Item → Option Fault) (is : Interfaces) (s : ItemScope) (outcome : Outcome) → is_world (scope_item s) ≡ false → names_of s ≡ scope_names (scope_item s) → AreAsWalked files is (flat_map own_use s.names.now) → interface_fault is s outcome (handle_fault files steps (address (scope_item s))) ≡ scope_fault files steps inside (scope_item s) outcome
+interface_walked files steps inside is s outcome sort named say =
+    let i = scope_item s in
+    let xs = scope_names i in
+    let order = order_of outcome in
+    let fns = functions i in
+    let us = flat_map own_use s.names.now in
+    let handle = handle_fault files steps (address i) in
+    let stable = item_stability i in
+    let uses = local_faults is us in
+    let twice = local_names_fault (map local_id (used xs ++ defined xs)) in
+    let round = order_fault missing_type_at (cyclic_at 16 type_word) outcome in
+    let definitions = definitions_fault handle (defined (in_order xs order)) in
+    let folded = defined_fault [] (map name_of_id (map local_id (in_turn xs order))) in
+    let own = alone_faults (word_fault xs) handle xs (λ side. names_on side (map name_of_id (map local_id (in_turn xs order)))) fns in
+    let setters = lone_setters fns in
+    let by_tables : interface_fault is s outcome handle ≡ option_or (option_or stable (option_or uses (option_or twice (option_or round definitions)))) (option_or (option_or folded own) setters) =
+    ap (λ (ys : List ScopeName). option_or (option_or stable (option_or uses (ordered_fault ys outcome handle))) (option_or (functions_fault handle ys (map local_id (in_turn ys order)) fns) setters)) named in
+    let names = first_after (name_fault files) [] (used xs ++ defined xs) in
+    let called_names = first_after folded_fault [] (map name_called (in_turn xs order)) in
+    let members = first_after (member_fault files steps inside i order) [] (side_items i) in
+    let names_are : option_or uses twice ≡ names = names_walked files is us xs (uses_viewed s.names.now ∙ ap used named) say in
+    let members_are : own ≡ members = members_walked files steps inside i order [] fns (declared_free i.declared sort) ∙ ap (first_after (member_fault files steps inside i order) []) (sym (side_items_functions i sort)) in
+    let nothing : None ≡ first_in (include_fault files i.top) (includes i) = sym (ap (first_in (include_fault files i.top)) (declared_include i.declared sort)) in
+    by_tables
+    ∙ regroup stable uses twice round definitions folded own setters
+    ∙ ap (λ (o : Option Fault). option_or stable (option_or o (option_or round (option_or definitions (option_or folded (option_or own (option_or setters None))))))) names_are
+    ∙ ap (λ (o : Option Fault). option_or stable (option_or names (option_or round (option_or definitions (option_or o (option_or own (option_or setters None))))))) (turn_walked (in_turn xs order))
+    ∙ ap (λ (o : Option Fault). option_or stable (option_or names (option_or round (option_or definitions (option_or called_names (option_or o (option_or setters None))))))) members_are
+    ∙ ap (λ (o : Option Fault). option_or stable (option_or names (option_or round (option_or definitions (option_or called_names (option_or members (option_or o None))))))) (setters_walked i sort)
+    ∙ ap (λ (o : Option Fault). option_or stable (option_or names (option_or round (option_or definitions (option_or o (option_or called_names (option_or members (option_or (setters_fault i) None)))))))) nothing
