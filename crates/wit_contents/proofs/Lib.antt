@@ -14,3 +14,6 @@ mod WrongWalk
 mod Parts
 mod InterfaceFaults
 pub mod WalkedInterface
+pub mod UsesWalked
+pub mod EndsWalked
+pub mod ReachedEnds

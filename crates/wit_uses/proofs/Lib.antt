@@ -1,6 +1,6 @@
 mod Calling
-mod ResolvedScopes
+pub mod ResolvedScopes
 pub mod Telling
 pub mod Emitting
 pub mod NameOrder
-mod UseFaults
+pub mod UseFaults

@@ -1,0 +1,256 @@
+-- Interfaces that are resolved say of used names what files do.
+use Rattle.std.proofs.Common.{◌≡◌, ℕ, ◌+◌, Bool, true, false, List, ◌++◌, length, map, Option, Some, None, ◌⊎◌, IsSome, inl, inr, refl, sym, ap, ◌∙◌, subst, arith, Contains}
+use Rattle.std.specs.Prelude.{slice_get}
+use Rattle.std.specs.Option.{option_and_then, option_map, option_map_or}
+use Rattle.std.specs.List.{list_any}
+use Rattle.std.specs.Str.{bytes_eq}
+use Rattle.std.proofs.lemmas.Bool.{cases_Bool}
+use Rattle.std.proofs.lemmas.List.{length-map}
+use Rattle.std.proofs.lemmas.Option.{slice_get-map, slice_get_within}
+use Rattle.wit_type_tree.specs.declared.leaves.Attribute.{Attribute}
+use Rattle.wit_type_tree.specs.declared.leaves.Id.{Id}
+use Rattle.wit_tree.specs.declared.tree.UseName.{UseName}
+use Rattle.wit_tree.specs.declared.tree.PackageFile.{PackageFile}
+use Rattle.wit_types.specs.declared.types.TypeDef.{TypeDef}
+use Rattle.wit_model.specs.declared.interface.Interface.{Interface}
+use Rattle.wit_model.specs.declared.world.World.{World}
+use Rattle.wit_graph.specs.Table.{IsOrder}
+use Rattle.wit_syntax.specs.Address.{Address, InterfaceNamed, is_foreign, same_address}
+use Rattle.wit_syntax.specs.Fault.{Fault, missing_at, item_word}
+use Rattle.wit_syntax.specs.Foreign.{visited, foreign_interfaces}
+use Rattle.wit_syntax.specs.Function.{SourceFunction, functions}
+use Rattle.wit_syntax.specs.Repeats.{AllDiffer}
+use Rattle.wit_syntax.specs.ScopeTables.{item_rows}
+use Rattle.wit_syntax.specs.ScopesOfTrees.{scope}
+use Rattle.wit_syntax.specs.Source.{Declared, TheInterface, TheWorld, TheInline, Item, ScopeName, Used, about, address, all_items, item_at, item_name, is_world, local_name, meaning, scope_names, foreign_uses, same_foreign_use, use_of_foreign}
+use Rattle.wit_syntax.proofs.Addresses.{same_address-equal}
+use Rattle.wit_syntax.proofs.Firsts.{firsts_has}
+use Rattle.wit_syntax.proofs.Found.{at_contains, contains_at, find_passes, find_some, some_of}
+use Rattle.wit_syntax.proofs.Lists.{at_back, at_prefix, at_split, at_within, map_at}
+use Rattle.wit_syntax.proofs.Names.{lookup-place, name_equal, name_itself}
+use Rattle.wit_syntax.proofs.Scopes.{all_declared, first_named}
+use Rattle.wit_first.proofs.Bridge.{any_found}
+use Rattle.wit_first.proofs.First.{any_some}
+use Rattle.wit_walk.specs.Names.{lost_use, unless_meant, use_fault}
+use Rattle.wit_arena.specs.Occurrences.{Def, keys}
+use Rattle.wit_arena.specs.Resolving.{Names, Required, ResolvedScope, env_of, free_functions, resolved_scope, resolved_scope_at, resolved_scopes, IsFound, IsIndex}
+use Rattle.wit_arena.specs.ResolvedArenas.{AddsForeign, AreUsableUses}
+use Rattle.wit_arena.specs.SourceFunctions.{AreFunctions}
+use Rattle.wit_arena.specs.Whole.{Turned}
+use Rattle.wit_arena.proofs.Added.{InterfacesDone}
+use Rattle.wit_arena.proofs.ForeignUses.{foreign_use_key, use_of_foreign-from, use_of_foreign-equal}
+use Rattle.wit_arena.proofs.FreeNames.{free_of, AreStated, free_stated, stated_free, free_names}
+use Rattle.wit_arena.proofs.Indexing.{prefix_resolved_scope, resolved_scopes-append}
+use Rattle.wit_arena.proofs.Interfaces.{interface_address, item_scopes, scope_of}
+use Rattle.wit_arena.proofs.Leading.{IsForeignUse, option_cases}
+use Rattle.wit_arena.proofs.LegalIfDone.{IsResolvedUse, are_interfaces, interfaces, unstated, worlds}
+use Rattle.wit_arena.proofs.Members.{resolved_scope_of}
+use Rattle.wit_arena.proofs.Prefix.{prefix_scopes, used_listed}
+use Rattle.wit_arena.proofs.ScopesInTurn.{ordered_at, scope_at}
+use Rattle.wit_arena.proofs.Turns.{item_of}
+use Rattle.wit_arena.proofs.Visits.{visited_foreign}
+use Rattle.wit_entries.specs.EntryFaults.{unless_found}
+use Rattle.wit_scopes.specs.BorrowedNames.{IsPlaced, source_view, use_view}
+use Rattle.wit_scopes.specs.declared.scope_name.UsedName.{UsedName}
+use Rattle.wit_scopes.specs.declared.scope_name.Source.{Source as BorrowedSource}
+use Rattle.wit_scopes.specs.declared.scope_name.Source.TheVariants as borrowed_source
+use Rattle.wit_items.specs.declared.interfaces.Interfaces.{Interfaces}
+use Rattle.wit_uses.specs.UseFaults.{asked_fault, interface_of, lost_name, source_fault, used_fault}
+use Rattle.wit_uses.proofs.ResolvedScopes.{named_within}
+use Rattle.wit_uses.proofs.UseFaults.{found_of, of_function, of_nothing, used_from}
+use Rattle.wit_contents.proofs.WalkedInterface.{AreAsWalked}
+
+-- names that are the same say the same of one that means nothing
+lost_same : (fns gns : List (List ℕ)) (id : Id) → (Contains gns id.name.now → Contains fns id.name.now) → (Contains fns id.name.now → Contains gns id.name.now) → lost_name fns id ≡ lost_name gns id
+lost_same fns gns id there back = elim (cases_Bool (list_any (bytes_eq id.name.now) gns)) [
+  | inl hit ↦ (
+      let it = any_found (bytes_eq id.name.now) gns hit in
+      let among = contains_at gns it.0 id.name.now (it.2 ∙ ap Some (sym (name_equal id.name.now it.1 it.3))) in
+      of_function fns id (there among) ∙ sym (of_function gns id among))
+  | inr miss ↦ (
+      let none : Contains gns id.name.now → ⊥ = λ among. (
+      let k = at_contains gns id.name.now among in
+      let wrong : false ≡ true = sym miss ∙ any_some (bytes_eq id.name.now) gns k.0 id.name.now k.1 (name_itself id.name.now) in
+      let f : ⊥ = cc in
+      f) in
+      of_nothing fns id (λ among. none (back among)) ∙ sym (of_nothing gns id none))
+]
+
+-- the item at an address has a name where the interface there does, once it is resolved
+record IsItemAt (files : List PackageFile) (from : Address) (name : List ℕ) (c : ResolvedScope) : Type 0 where
+  item : Item
+  found : item_at (all_items files) from ≡ Some item
+  missing : env_of c.types name ≡ None → meaning (scope_names item) name ≡ None
+  meant : (place : ℕ) → env_of c.types name ≡ Some place → (x : ScopeName) × (meaning (scope_names item) name ≡ Some x)
+  free : Contains (free_names item) name → Contains c.functions name
+  stated : Contains c.functions name → Contains (free_names item) name
+
+-- what files say of a name that is used, by the item at its address
+abbrev said_at : UseName → Option Item → Option Fault
+said_at n o = option_map_or (λ (target : Item). unless_meant (meaning (scope_names target) n.name.name.now) (lost_use target n.name)) o None
+
+asked_same : (files : List PackageFile) (from : Address) (attributes : List Attribute) (n : UseName) (i : Interface) → IsItemAt files from n.name.name.now (resolved_scope_at from i) → asked_fault n.name i ≡ use_fault files (Used from attributes n)
+asked_same files from attributes n i t = by (env_of i.types n.name.name.now) refl ∙ sym (ap (said_at n) t.found)
+  where
+    lost : lost_name (free_functions i) n.name ≡ lost_use t.item n.name
+    lost = lost_same (free_functions i) (free_names t.item) n.name t.free t.stated
+
+    by : (o : Option ℕ) → env_of i.types n.name.name.now ≡ o → unless_found (lost_name (free_functions i) n.name) o ≡ unless_meant (meaning (scope_names t.item) n.name.name.now) (lost_use t.item n.name)
+    by None free = ap Some lost ∙ sym (ap (λ (m : Option ScopeName). unless_meant m (lost_use t.item n.name)) (t.missing free))
+    by (Some place) present = sym (ap (λ (m : Option ScopeName). unless_meant m (lost_use t.item n.name)) (t.meant place present).1)
+
+-- no item is where a name leads to another package
+declared_near : (d : Declared) → is_foreign (about d).address ≡ false
+declared_near (TheInterface i) = refl
+declared_near (TheWorld w) = refl
+declared_near (TheInline world place x name items) = refl
+
+none_far : (files : List PackageFile) (from : Address) → is_foreign from ≡ true → item_at (all_items files) from ≡ None
+none_far files from far = option_cases (item_at (all_items files) from) (item_at (all_items files) from ≡ None) (λ w found. absurd (
+    let same : address w ≡ from = same_address-equal (address w) from (find_passes (λ (v : Item). same_address (address v) from) (all_items files) w found) in
+    let wrong : true ≡ false = sym far ∙ ap is_foreign (sym same) ∙ declared_near w.declared in
+    let f : ⊥ = cc in
+    f)) (λ none. none)
+
+-- what is meant in the same names
+means_in : (xs ys : List ScopeName) (name : List ℕ) → xs ≡ ys → (x : ScopeName) × (meaning ys name ≡ Some x) → (x : ScopeName) × (meaning xs name ≡ Some x)
+means_in xs ys name same m = (m.0, ap (λ (zs : List ScopeName). meaning zs name) same ∙ m.1)
+
+-- an interface that has a name has no fault of it
+asked_none : (id : Id) (i : Interface) → IsSome (env_of i.types id.name.now) → asked_fault id i ≡ None
+asked_none id i present = (let p = some_of (env_of i.types id.name.now) present in ap (unless_found (lost_name (free_functions i) id)) p.1)
+
+module _ (files : List PackageFile) (places : List ℕ) (order : IsOrder (item_rows files) places) (differ : AllDiffer (map item_name (all_items files))) (uses : AreUsableUses files (all_items files)) (es : List TypeDef) (prefix : List Interface) (wprefix : List World) (foreign : AddsForeign files es prefix wprefix) where
+  abbrev ss : List Address
+  ss = map visited (foreign_interfaces files)
+
+  abbrev is_items : List Item
+  is_items = interfaces files places order differ
+
+  as_many : length prefix ≡ length ss
+  as_many = foreign.interfaces.count ∙ sym (length-map (foreign_interfaces files) visited)
+
+  all_scopes_of : (own : List Interface) → resolved_scopes ss (prefix ++ own) ≡ resolved_scopes ss prefix ++ map resolved_scope own
+  all_scopes_of own = resolved_scopes-append ss prefix own as_many
+
+  module _ (vs : List Item) (mid : List TypeDef) (own : List Interface) (rs : List Required) (d : InterfacesDone files is_items (worlds files places order differ) prefix vs mid own rs) where
+    -- an interface of this package
+    item_there : (name : List ℕ) (j : ℕ) (c : ResolvedScope) → slice_get (map resolved_scope own) j ≡ Some c → IsItemAt files c.address name c
+    item_there name j c at =
+        let are = are_interfaces files places order differ in
+        let e = map_at resolved_scope_of d.scopes j c (ap (λ (x : List ResolvedScope). slice_get x j) d.laid.types ∙ at) in
+        let o = ordered_at d.laid j e.0 e.1 in
+        let v = o.0.item in
+        let there = d.laid.prefix j o.0 o.1 in
+        let same : address v ≡ e.0.address = ap (λ (x : Turned). x.address) o.2 in
+        let here : address v ≡ c.address = same ∙ ap (λ (x : ResolvedScope). x.address) e.2 in
+        let names : scope_names v ≡ scope files e.0.address = sym (scope_of files is_items (item_scopes files is_items are) j v there) ∙ ap (scope files) same in
+        let place = length (prefix_scopes files prefix) + j in
+        let e_at = at_back (prefix_scopes files prefix) d.scopes j e.0 e.1 in
+        let done = d.done.each place e.0 e_at in
+        let ks = keys d.done.seen in
+        let made : AreFunctions ks e.0.address (functions v) e.0.made = subst (λ (l : List SourceFunction). AreFunctions ks e.0.address l e.0.made) (sym (ap (λ (x : Turned). x.functions) o.2)) (d.done.made place e.0 e_at) in
+        let says : AreStated (functions v) e.0.made e.0.stated = subst (λ (l : List SourceFunction). AreStated l e.0.made e.0.stated) (sym (ap (λ (x : Turned). x.functions) o.2)) done.stated in
+        let present : free_of e.0.stated ≡ c.functions = ap (λ (x : ResolvedScope). x.functions) e.2 in
+        let types : e.0.types ≡ c.types = ap (λ (x : ResolvedScope). x.types) e.2 in
+        record {
+          item = v;
+          found = subst (λ (s : Address). item_at (all_items files) s ≡ Some v) here (first_named (all_items files) v (all_declared files) differ (are.found j v there));
+          missing = λ lacks. ap (λ (xs : List ScopeName). meaning xs name) names ∙ unstated files e.0 name done (ap (λ (t : Names). env_of t name) types ∙ lacks);
+          meant = λ place has. (
+              let p = lookup-place e.0.types name place (ap (λ (t : Names). env_of t name) types ∙ has) in
+              let x = map_at local_name e.0.names p.0 name (ap (λ (l : List (List ℕ)). slice_get l p.0) (sym done.listed) ∙ slice_get-map (λ (q : List ℕ × ℕ). q.0) e.0.types p.0 ∙ ap (option_map (λ (q : List ℕ × ℕ). q.0)) p.1) in
+              let k = done.turn.among p.0 x.0 x.1 in
+              let passes : bytes_eq (local_name x.0) name ≡ true = ap (λ (m : List ℕ). bytes_eq m name) x.2 ∙ name_itself name in
+              means_in (scope_names v) (scope files e.0.address) name names (find_some (λ (z : ScopeName). bytes_eq (local_name z) name) (scope files e.0.address) k.0 x.0 k.1 passes));
+          free = λ h. subst (λ (l : List (List ℕ)). Contains l name) present (free_stated ks e.0.address v e.0.made e.0.stated made says name h);
+          stated = λ h. stated_free ks e.0.address v e.0.made e.0.stated made says name (subst (λ (l : List (List ℕ)). Contains l name) (sym present) h);
+        }
+
+    -- an interface of another package has the names that are used from it
+    far_has : (from : Address) (n : UseName) (t : ℕ) (s : Address) (i : Interface) → IsForeignUse files from n → slice_get ss t ≡ Some s → slice_get prefix t ≡ Some i → from ≡ s → IsSome (env_of i.types n.name.name.now)
+    far_has from n t s i u at there same =
+        let v = map_at visited (foreign_interfaces files) t s at in
+        let x = firsts_has same_foreign_use foreign_use_key use_of_foreign-from use_of_foreign-equal (foreign_uses files) u.index (use_of_foreign from u.attributes n) u.in_use in
+        let key : foreign_use_key x.1 ≡ Def from n.name.name.now = x.3 in
+        let scope : x.1.from ≡ from = cc in
+        let called : x.1.id.name.now ≡ n.name.name.now = cc in
+        subst (λ m. IsSome (env_of i.types m)) called (used_listed files uses es prefix wprefix foreign t v.0 i v.1 there x.0 x.1 x.2 (scope ∙ same ∙ sym v.2))
+
+    -- a name that an interface is asked for
+    asked_walked : (from : Address) (attributes : List Attribute) (n : UseName) (i : Interface) → IsFound (resolved_scopes ss (prefix ++ own)) from (resolved_scope_at from i) → IsResolvedUse files places order differ vs from ⊎ IsForeignUse files from n → asked_fault n.name i ≡ use_fault files (Used from attributes n)
+    asked_walked from attributes n i f earlier =
+        let c = resolved_scope_at from i in
+        elim (at_split (resolved_scopes ss prefix) (map resolved_scope own) f.place c (ap (λ (l : List ResolvedScope). slice_get l f.place) (sym (all_scopes_of own)) ∙ f.at)) [
+          | inl h ↦ (
+              let v = prefix_resolved_scope ss prefix f.place c as_many h in
+              let here : from ≡ v.0 = ap (λ (x : ResolvedScope). x.address) v.4 in
+              let far : is_foreign from ≡ true = ap is_foreign here ∙ visited_foreign (foreign_interfaces files) f.place v.0 v.2 in
+              elim earlier [
+                | inl u ↦ absurd (
+                    let wrong : true ≡ false = sym far ∙ ap is_foreign u.is in
+                    let g : ⊥ = cc in
+                    g)
+                | inr u ↦ (
+                    let types : v.1.types ≡ i.types = ap (λ (x : ResolvedScope). x.types) (sym v.4) in
+                    let has : IsSome (env_of i.types n.name.name.now) = subst (λ (t : Names). IsSome (env_of t n.name.name.now)) types (far_has from n f.place v.0 v.1 u v.2 v.3 here) in
+                    asked_none n.name i has ∙ sym (ap (said_at n) (none_far files from far)))
+              ])
+          | inr h ↦ asked_same files from attributes n i (item_there n.name.name.now h.0 c h.2)
+        ]
+
+    module _ (is : Interfaces) (same_files : is.files ≡ files) (arena : is.arena ≡ prefix ++ own) (index : IsIndex (resolved_scopes ss (prefix ++ own)) is.by_name) where
+      -- one of this package has a place by its name
+      near_has : (from : Address) (name : List ℕ) → IsResolvedUse files places order differ vs from → from ≡ InterfaceNamed name → IsSome (env_of is.by_name name)
+      near_has from name u same =
+          let v = u.item in
+          let o = map_at item_of d.ordered u.place v (ap (λ (x : List Item). slice_get x u.place) d.all ∙ u.at) in
+          let c = scope_at d.laid u.place o.0 o.1 in
+          let there : slice_get (map resolved_scope own) u.place ≡ Some (resolved_scope_of c.0) = ap (λ (x : List ResolvedScope). slice_get x u.place) (sym d.laid.types) ∙ slice_get-map resolved_scope_of d.scopes u.place ∙ ap (option_map resolved_scope_of) c.1 in
+          let place = length (resolved_scopes ss prefix) + u.place in
+          let declared : address o.0.item ≡ InterfaceNamed (item_name o.0.item) = interface_address files is_items (are_interfaces files places order differ) u.place o.0.item (d.laid.prefix u.place o.0 o.1) (ap is_world o.2 ∙ u.sort) in
+          let called : c.0.address ≡ InterfaceNamed name = ap (λ (x : Turned). x.address) c.2 ∙ declared ∙ ap (λ (i : Item). InterfaceNamed (item_name i)) o.2 ∙ sym u.is ∙ same in
+          index.has place (resolved_scope_of c.0) name (ap (λ (x : List ResolvedScope). slice_get x place) (all_scopes_of own) ∙ at_back (resolved_scopes ss prefix) (map resolved_scope own) u.place (resolved_scope_of c.0) there) called
+
+      -- so the interface that a name comes from is resolved
+      record IsResolved (from : BorrowedSource) : Type 0 where
+        interface : Interface
+        none : source_fault is.by_name from ≡ None
+        at : interface_of is from ≡ Some interface
+
+      resolved : (from : BorrowedSource) (n : UseName) → IsPlaced ss from → IsResolvedUse files places order differ vs (source_view from) ⊎ IsForeignUse files (source_view from) n → IsResolved from
+      resolved (borrowed_source.Declared path) n placed (inl u) =
+          let t = some_of (env_of is.by_name path.name.now) (near_has (InterfaceNamed path.name.now) path.name.now u refl) in
+          let i = at_within is.arena t.0 (named_within (length (map visited (foreign_interfaces is.files))) is.arena is.by_name path.name.now t.0 is.found t.1) in
+          record {
+            interface = i.0;
+            none = ap (unless_found (missing_at 7 item_word path)) t.1;
+            at = ap (option_and_then (slice_get is.arena)) t.1 ∙ i.1;
+          }
+      resolved (borrowed_source.Declared path) n placed (inr u) = absurd (
+          let far : is_foreign (visited u.v) ≡ true = visited_foreign (foreign_interfaces files) u.place (visited u.v) (slice_get-map visited (foreign_interfaces files) u.place ∙ ap (option_map visited) u.at) in
+          let wrong : true ≡ false = sym far ∙ ap is_foreign u.is in
+          let g : ⊥ = cc in
+          g)
+      resolved (borrowed_source.Foreign place of name) n placed earlier =
+          let within = slice_get_within ss place _ placed in
+          let count = as_many in
+          let i = at_within prefix place (omega arith) in
+          record {
+            interface = i.0;
+            none = refl;
+            at = ap (λ (l : List Interface). slice_get l place) arena ∙ at_prefix prefix own place i.0 i.1;
+          }
+
+      -- each used name
+      walked : (u : UsedName) → IsPlaced ss u.from → IsResolvedUse files places order differ vs (source_view u.from) ⊎ IsForeignUse files (source_view u.from) u.name.now → used_fault is u ≡ use_fault files (use_view u)
+      walked u placed earlier =
+          let r = resolved u.from u.name.now placed earlier in
+          let own_placed : IsPlaced (map visited (foreign_interfaces is.files)) u.from = subst (λ (fs : List PackageFile). IsPlaced (map visited (foreign_interfaces fs)) u.from) (sym same_files) placed in
+          let found = found_of is u.from r.interface own_placed r.at in
+          let scopes : resolved_scopes (map visited (foreign_interfaces is.files)) is.arena ≡ resolved_scopes ss (prefix ++ own) = ap (λ (fs : List PackageFile). resolved_scopes (map visited (foreign_interfaces fs)) is.arena) same_files ∙ ap (resolved_scopes ss) arena in
+          let there : IsFound (resolved_scopes ss (prefix ++ own)) (source_view u.from) (resolved_scope_at (source_view u.from) r.interface) = subst (λ (cs : List ResolvedScope). IsFound cs (source_view u.from) (resolved_scope_at (source_view u.from) r.interface)) scopes found in
+          used_from is u r.interface r.none r.at ∙ asked_walked (source_view u.from) u.attributes.now u.name.now r.interface there earlier
+
+      pub uses_as_walked : (us : List UsedName) → ((k : ℕ) (u : UsedName) → slice_get us k ≡ Some u → IsPlaced ss u.from) → ((k : ℕ) (u : UsedName) → slice_get us k ≡ Some u → IsResolvedUse files places order differ vs (source_view u.from) ⊎ IsForeignUse files (source_view u.from) u.name.now) → AreAsWalked files is us
+      uses_as_walked us placed earlier = record { each = λ k u at. walked u (placed k u at) (earlier k u at) }
