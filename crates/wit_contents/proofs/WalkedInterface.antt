@@ -37,7 +37,7 @@ use Rattle.wit_walk.specs.Names.{folded_fault, name_fault, use_fault}
 use Rattle.wit_walk.specs.Orders.{IsOutcome, Outcome, order_fault, order_of}
 use Rattle.wit_walk.specs.Paths.{include_fault}
 use Rattle.wit_walk.specs.Setters.{setters_beside, setters_fault, side_setters_fault}
-use Rattle.wit_walk.specs.Walk.{scope_fault}
+use Rattle.wit_walk.specs.Walk.{earliest, scope_faults}
 use Rattle.wit_types.specs.declared.types.TypeDef.{TypeDef}
 use Rattle.wit_model.specs.declared.interface.Interface.{Interface}
 use Rattle.wit_arena.specs.Resolving.{env_of}
@@ -231,7 +231,7 @@ regroup None None None None None None (Some x) k = refl
 regroup None None None None None None None k = sym (or_none k)
 
 -- the first fault of an interface
-pub interface_walked : (files : List PackageFile) (steps : ℕ) (inside : Item → Option Fault) (is : Interfaces) (s : ItemScope) (outcome : Outcome) → is_world (scope_item s) ≡ false → names_of s ≡ scope_names (scope_item s) → AreAsWalked files is (flat_map own_use s.names.now) → interface_fault is s outcome (handle_fault files steps (address (scope_item s))) ≡ scope_fault files steps inside (scope_item s) outcome
+pub interface_walked : (files : List PackageFile) (steps : ℕ) (inside : Item → Option Fault) (is : Interfaces) (s : ItemScope) (outcome : Outcome) → is_world (scope_item s) ≡ false → names_of s ≡ scope_names (scope_item s) → AreAsWalked files is (flat_map own_use s.names.now) → interface_fault is s outcome (handle_fault files steps (address (scope_item s))) ≡ earliest (scope_faults files steps inside (scope_item s) outcome)
 interface_walked files steps inside is s outcome sort named say =
     let i = scope_item s in
     let xs = scope_names i in
@@ -264,9 +264,9 @@ interface_walked files steps inside is s outcome sort named say =
     ∙ ap (λ (o : Option Fault). option_or stable (option_or names (option_or round (option_or definitions (option_or o (option_or called_names (option_or members (option_or (setters_fault i) None)))))))) nothing
 
 -- so what is found of it is its first fault by files, where the walk's test of names in handles is right of the arena
-pub fault_walked : (files : List PackageFile) (steps : ℕ) (inside : Item → Option Fault) (is : Interfaces) (s : ItemScope) (place : ℕ) (old : List TypeDef) (f : Fault) (outcome : Outcome) → is_world (scope_item s) ≡ false → names_of s ≡ scope_names (scope_item s) → AreAsWalked files is (flat_map own_use s.names.now) → (right : IsOutcome (rows_of (names_of s)) outcome) (h : IsInterfaceFault is place old s f) → EndsIn (env_of (h outcome right).now) ((h outcome right).mid ++ (h outcome right).more) (handle_fault files steps (address (scope_item s))) → scope_fault files steps inside (scope_item s) outcome ≡ Some f
+pub fault_walked : (files : List PackageFile) (steps : ℕ) (inside : Item → Option Fault) (is : Interfaces) (s : ItemScope) (place : ℕ) (old : List TypeDef) (f : Fault) (outcome : Outcome) → is_world (scope_item s) ≡ false → names_of s ≡ scope_names (scope_item s) → AreAsWalked files is (flat_map own_use s.names.now) → (right : IsOutcome (rows_of (names_of s)) outcome) (h : IsInterfaceFault is place old s f) → EndsIn (env_of (h outcome right).now) ((h outcome right).mid ++ (h outcome right).more) (handle_fault files steps (address (scope_item s))) → earliest (scope_faults files steps inside (scope_item s) outcome) ≡ Some f
 fault_walked files steps inside is s place old f outcome sort named say right h ends = sym (interface_walked files steps inside is s outcome sort named say) ∙ (h outcome right).is (handle_fault files steps (address (scope_item s))) ends
 
 -- and where nothing is found there is none
-pub none_walked : (files : List PackageFile) (steps : ℕ) (inside : Item → Option Fault) (is : Interfaces) (s : ItemScope) (es : List TypeDef) (added : Interface) (outcome : Outcome) → is_world (scope_item s) ≡ false → names_of s ≡ scope_names (scope_item s) → AreAsWalked files is (flat_map own_use s.names.now) → IsOutcome (rows_of (names_of s)) outcome → HasNoFault is s es added → IsSafe (env_of added.types) es (handle_fault files steps (address (scope_item s))) → scope_fault files steps inside (scope_item s) outcome ≡ None
+pub none_walked : (files : List PackageFile) (steps : ℕ) (inside : Item → Option Fault) (is : Interfaces) (s : ItemScope) (es : List TypeDef) (added : Interface) (outcome : Outcome) → is_world (scope_item s) ≡ false → names_of s ≡ scope_names (scope_item s) → AreAsWalked files is (flat_map own_use s.names.now) → IsOutcome (rows_of (names_of s)) outcome → HasNoFault is s es added → IsSafe (env_of added.types) es (handle_fault files steps (address (scope_item s))) → earliest (scope_faults files steps inside (scope_item s) outcome) ≡ None
 none_walked files steps inside is s es added outcome sort named say right h safe = sym (interface_walked files steps inside is s outcome sort named say) ∙ h outcome right (handle_fault files steps (address (scope_item s))) safe
