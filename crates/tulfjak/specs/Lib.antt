@@ -56,6 +56,7 @@ pub use Rattle.wit_first.specs.First
 pub use Rattle.wit_first.specs.HeaderFaults
 pub use Rattle.wit_first.specs.ListFaults
 pub use Rattle.wit_first.specs.OrderFaults
+pub use Rattle.wit_walk.specs.Walk
 pub use Rattle.wit_refusals.specs.NameScopes as ScopeNames
 pub use Rattle.wit_refusals.specs.KeyedNames as NameScopes
 pub use Rattle.wit_top_names.specs.Tops
@@ -67,7 +68,10 @@ pub use Rattle.wit_parser.specs.Marks
 pub use Rattle.wit_parser.specs.Stray
 pub use Rattle.wit_nested.specs.PackageNames as NestedNames
 pub use Rattle.wit_nested.specs.Nested
+pub use Rattle.wit_nested.specs.PushFaults
+pub use Rattle.wit_nested.specs.GroupFaults
 pub use Rattle.wit_groups.specs.Groups
+pub use Rattle.wit_groups.specs.SourceFaults
 pub use Rattle.wit_resolved.specs.AliasEnds
 pub use Rattle.wit_resolved.specs.Left
 pub use Rattle.wit_resolved.specs.Lookups

@@ -13,7 +13,22 @@ mod ItemSides
 mod WrongWalk
 mod Parts
 mod InterfaceFaults
+mod WorldFaults
 pub mod WalkedInterface
 pub mod UsesWalked
 pub mod EndsWalked
 pub mod ReachedEnds
+pub mod AddedEnds
+pub mod WorldEnds
+pub mod FoundBy
+pub mod WalkedWorld
+pub mod IncludesWalked
+pub mod NamesWalked
+pub mod LinksWalked
+pub mod MembersWalked
+pub mod RightWorld
+pub mod RightWorlds
+mod MemberFaults
+pub mod RightInterface
+pub mod RightInterfaces
+pub mod FileFaults

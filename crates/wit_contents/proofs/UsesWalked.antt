@@ -201,7 +201,7 @@ module _ (files : List PackageFile) (places : List ℕ) (order : IsOrder (item_r
 
     module _ (is : Interfaces) (same_files : is.files ≡ files) (arena : is.arena ≡ prefix ++ own) (index : IsIndex (resolved_scopes ss (prefix ++ own)) is.by_name) where
       -- one of this package has a place by its name
-      near_has : (from : Address) (name : List ℕ) → IsResolvedUse files places order differ vs from → from ≡ InterfaceNamed name → IsSome (env_of is.by_name name)
+      pub near_has : (from : Address) (name : List ℕ) → IsResolvedUse files places order differ vs from → from ≡ InterfaceNamed name → IsSome (env_of is.by_name name)
       near_has from name u same =
           let v = u.item in
           let o = map_at item_of d.ordered u.place v (ap (λ (x : List Item). slice_get x u.place) d.all ∙ u.at) in

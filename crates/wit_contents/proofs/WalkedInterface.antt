@@ -62,7 +62,7 @@ any-made : {X Y : Type 0} (p : Y → Bool) (f : X → Y) (xs : List X) → list_
 any-made p f [] = refl
 any-made p f (x ∷ xs) = ap (λ (b : Bool). p (f x) || b) (any-made p f xs)
 
-repeat-made : {X Y : Type 0} (key : Y → List ℕ) (as_fault : Y → Fault) (f : X → Y) (before : List X) (x : X) → repeat_of key as_fault (map f before) (f x) ≡ repeat_of (λ (y : X). key (f y)) (λ (y : X). as_fault (f y)) before x
+pub repeat-made : {X Y : Type 0} (key : Y → List ℕ) (as_fault : Y → Fault) (f : X → Y) (before : List X) (x : X) → repeat_of key as_fault (map f before) (f x) ≡ repeat_of (λ (y : X). key (f y)) (λ (y : X). as_fault (f y)) before x
 repeat-made key as_fault f before x = ap (λ (b : Bool). if b then Some (as_fault (f x)) else None) (any-made (λ y. bytes_eq (key y) (key (f x))) f before)
 
 -- a name of a scope that an earlier one is, spelled alike
@@ -99,7 +99,7 @@ either_first : (a b c : Option Fault) → (a ≡ None → b ≡ None) → option
 either_first None b c only = ap (λ (o : Option Fault). option_or o c) (only refl)
 either_first (Some f) b c only = refl
 
-names_walked : (files : List PackageFile) (is : Interfaces) (us : List UsedName) (xs : List ScopeName) → map use_view us ≡ used xs → AreAsWalked files is us → option_or (local_faults is us) (local_names_fault (map local_id (used xs ++ defined xs))) ≡ first_after (name_fault files) [] (used xs ++ defined xs)
+pub names_walked : (files : List PackageFile) (is : Interfaces) (us : List UsedName) (xs : List ScopeName) → map use_view us ≡ used xs → AreAsWalked files is us → option_or (local_faults is us) (local_names_fault (map local_id (used xs ++ defined xs))) ≡ first_after (name_fault files) [] (used xs ++ defined xs)
 names_walked files is us xs view say =
     let a = first_after (name_fault files) [] (used xs) in
     let b = first_after spelled [] (used xs) in
@@ -112,7 +112,7 @@ names_walked files is us xs view say =
     ∙ sym (after-append (name_fault files) [] (used xs) (defined xs) ∙ ap (option_or a) (defined_walked files (used xs) xs))
 
 -- names in turn, once case is folded
-turn_walked : (ys : List ScopeName) → defined_fault [] (map name_of_id (map local_id ys)) ≡ first_after folded_fault [] (map name_called ys)
+pub turn_walked : (ys : List ScopeName) → defined_fault [] (map name_of_id (map local_id ys)) ≡ first_after folded_fault [] (map name_called ys)
 turn_walked ys =
     repeat-map name_key (λ (m : Name). fault 17 m.1) name_of_id (map local_id ys)
     ∙ repeat-map (λ (id : Id). name_key (name_of_id id)) (λ (id : Id). fault 17 id.span) local_id ys
@@ -164,7 +164,7 @@ declared_include (TheWorld w) own = absurd (let f : ⊥ = cc in f)
 declared_include (TheInline world place x name items) own = items_include items
 
 -- one function of it, after others
-functions_back : (fns : List SourceFunction) → flat_map item_function (map SideFunction fns) ≡ fns
+pub functions_back : (fns : List SourceFunction) → flat_map item_function (map SideFunction fns) ≡ fns
 functions_back [] = refl
 functions_back (fn ∷ fns) = ap (λ (l : List SourceFunction). fn ∷ l) (functions_back fns)
 

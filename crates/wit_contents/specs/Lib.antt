@@ -1,7 +1,10 @@
 pub mod AddedFiles
 pub mod AddedInterfaces
 pub mod AddedWorlds
+pub mod FileFaults
 pub mod InterfaceFaults
+pub mod MemberFaults
 pub mod Outer
 pub mod Walk
+pub mod WorldFaults
 pub mod WorldWalk

@@ -5,6 +5,7 @@ ghost use Rattle.wit_syntax.specs.Fault.{Fault};
 ghost use Rattle.wit_syntax.specs.Source.{first_foreign_uses};
 ghost use Rattle.wit_syntax.specs.Broken.{IsBrokenNames, IsBroken, Refused};
 ghost use Rattle.wit_contents.specs.AddedFiles.{AddsFiles, MakeContents};
+ghost use Rattle.wit_contents.specs.FileFaults.{FindsAfter};
 ghost use Rattle.wit_syntax.specs.Foreign.{foreign_packages};
 ghost use Rattle.wit_arena.specs.Whole.{dep};
 
@@ -48,6 +49,7 @@ fn resolve_files<'f, 'a>(
     requires legal { (f : Fault) → IsBrokenNames names.now f → ⊥ }
     ensures added { IfOk result (λ r. AddsFiles names.now types.new r.interfaces r.worlds r.required.items) }
     ensures unknown { IfOk result (λ r. r.unknown_type_spans.items ≡ map (λ t. t.id.span) (first_foreign_uses names.now)) }
+    ensures first { FindsAfter 6 names.now result }
     ensures refused { IfErr result (Refused (IsBroken names.now)) }
 {
     let order = names.item_order();
@@ -144,6 +146,7 @@ fn resolve_named<'f, 'a>(
     requires files { names.now ≡ files.now }
     requires legal { (f : Fault) → IsBrokenNames names.now f → ⊥ }
     ensures made { IfOk result (λ made. MakeContents names.now types.new made.interfaces made.worlds made.foreign) }
+    ensures first { FindsAfter 6 names.now result }
     ensures refused { IfErr result (Refused (IsBroken names.now)) }
 {
     let resolved = resolve_files(alloc, names, files, types)?;
@@ -159,6 +162,7 @@ fn resolve_gathered<'f, 'a>(
 ) -> ParseResult<Made>
     requires empty { types.old ≡ [] }
     ensures made { IfOk result (λ made. MakeContents files.now types.new made.interfaces made.worlds made.foreign) }
+    ensures first { FindsAfter 1 files.now result }
     ensures refused { IfErr result (Refused (IsBroken files.now)) }
 {
     let names = FileNames::gather(alloc, files)?;
@@ -183,6 +187,7 @@ pub struct Contents {
 /// What files make, and what they name of other packages. No arena has more room than it needs.
 pub fn resolve_contents(alloc: Global, files: &[PackageFile<'_>]) -> ParseResult<Contents>
     ensures made { IfOk result (λ c. MakeContents files.now c.arenas.types c.arenas.interfaces c.arenas.worlds c.foreign) }
+    ensures first { FindsAfter 1 files.now result }
     ensures refused { IfErr result (Refused (IsBroken files.now)) }
 {
     let mut begun = Entries::new(alloc);

@@ -6,6 +6,7 @@ ghost use Rattle.wit_syntax.specs.ScopeTables.{includes};
 ghost use Rattle.wit_items.specs.BorrowedItems.{item_view};
 ghost use Rattle.wit_world_sides.specs.Settled.{none_of};
 ghost use Rattle.wit_contents.specs.Walk.{AddsAll, IsWalk, IsWrongWalk, walk_of};
+ghost use Rattle.wit_contents.specs.WorldFaults.{FindsWalk};
 
 use crate::walk::{Walk, Walked, walk_parts};
 use wit_entries::entries::Entries;
@@ -71,6 +72,7 @@ pub fn walk_sides<'f, 'a>(
     requires closed { closed ≡ none_of (includes (item_view item.now)) }
     ensures adds { IfOk result (AddsAll (walk_of item.now walk.now) types.old types.new inside.old inside.new) }
     ensures paired { OnOk result ((f : Fault) → IsSetterAlone (item_view item.now) f → ⊥) }
+    ensures first { FindsWalk (walk_of item.now walk.now) types.old inside.old result }
     ensures refused { IfErr result (Refused (IsWrongWalk (walk_of item.now walk.now) types.old inside.old)) }
 {
     let alloc = *walk.interfaces.by_name.allocator();

@@ -14,6 +14,7 @@ ghost use Rattle.wit_scopes.specs.BorrowedNames.{name_view};
 ghost use Rattle.wit_world_sides.specs.Members.{path_link};
 ghost use Rattle.wit_links.specs.SideCounts.{inline_side, seen_on};
 ghost use Rattle.wit_item_entries.specs.Body.{HasLegalSides, IsSoundScope};
+ghost use Rattle.wit_contents.specs.MemberFaults.{FindsInside, FindsNext, FindsTyped};
 ghost use Rattle.wit_contents.specs.Walk.{AddsInside, AddsItems, AddsTyped, IsNext, IsWrongInline, RefusesNext, RefusesTyped, next_place, resource_items, stage, walk_of};
 
 use crate::interface::interface_of;
@@ -86,6 +87,7 @@ fn resolve_inline<'f, 'a>(
     ensures extended { OnOk result (IsExtended types.old types.new) }
     ensures sound { OnOk result (IsSoundScope (scope_item scope.now)) }
     ensures sided { OnOk result (HasLegalSides (scope_item scope.now)) }
+    ensures first { FindsInside interfaces.now types.old types.new inside.old scope.now result }
     ensures refused { IfErr result (Refused (IsWrongInline interfaces.now types.old inside.old (scope_item scope.now))) }
 {
     let id = next_inside(interfaces, inside)?;
@@ -106,6 +108,7 @@ fn walk_function<'f, 'a>(
 ) -> ParseResult<()>
     requires { IsNext (walk_of item.now walk.now) (SideFunction (function_view borrowed) ∷ []) walked.old }
     ensures adds { OnOk result (AddsTyped (walk_of item.now walk.now) (SideFunction (function_view borrowed.entry) ∷ []) types.old types.new walked.old walked.new) }
+    ensures first { FindsTyped (walk_of item.now walk.now) (SideFunction (function_view borrowed.entry) ∷ []) types.old walked.old result }
     ensures refused { IfErr result (RefusesTyped (walk_of item.now walk.now) (SideFunction (function_view borrowed.entry) ∷ []) types.old walked.old) }
 {
     let alloc = *walk.interfaces.by_name.allocator();
@@ -128,6 +131,7 @@ fn walk_link<'f, 'a>(
 ) -> ParseResult<()>
     requires { IsNext (walk_of item.now walk.now) (SideLink (path_link link) ∷ []) walked.old }
     ensures adds { OnOk result ((ts : List TheType) → AddsTyped (walk_of item.now walk.now) (SideLink (path_link link.entry) ∷ []) ts ts walked.old walked.new) }
+    ensures first { (ts : List TheType) → FindsTyped (walk_of item.now walk.now) (SideLink (path_link link.entry) ∷ []) ts walked.old result }
     ensures refused { IfErr result (λ e. (ts : List TheType) → RefusesTyped (walk_of item.now walk.now) (SideLink (path_link link.entry) ∷ []) ts walked.old e) }
 {
     let alloc = *walk.interfaces.by_name.allocator();
@@ -156,6 +160,7 @@ fn walk_inline<'f, 'a>(
     requires world { inline.world.now ≡ item_name (item_view item.now) }
     requires place { inline.place ≡ (seen_on inline.written.now.side walked.old.seen).interfaces }
     ensures adds { OnOk result (AddsItems (walk_of item.now walk.now) (inline_side inline.entry ∷ []) types.old inside.old walked.old types.new inside.new walked.new) }
+    ensures first { FindsNext (walk_of item.now walk.now) (inline_side inline.entry ∷ []) (stage types.old inside.old walked.old) result }
     ensures refused { IfErr result (RefusesNext (walk_of item.now walk.now) (inline_side inline.entry ∷ []) (stage types.old inside.old walked.old)) }
 {
     let alloc = *walk.interfaces.by_name.allocator();
@@ -213,6 +218,7 @@ fn walk_extern<'f, 'a>(
 ) -> ParseResult<()>
     requires { IsNext (walk_of item.now walk.now) (extern_items written.now written.now.kind) walked.old }
     ensures adds { OnOk result (AddsItems (walk_of item.now walk.now) (extern_items written.now written.now.kind) types.old inside.old walked.old types.new inside.new walked.new) }
+    ensures first { FindsNext (walk_of item.now walk.now) (extern_items written.now written.now.kind) (stage types.old inside.old walked.old) result }
     ensures refused { IfErr result (RefusesNext (walk_of item.now walk.now) (extern_items written.now written.now.kind) (stage types.old inside.old walked.old)) }
 {
     match &written.kind {
@@ -258,6 +264,7 @@ fn walk_functions<'f, 'a>(
 ) -> ParseResult<()>
     requires { IsNext (walk_of item.now walk.now) (resource_items resource functions.now) walked.old }
     ensures adds { OnOk result (AddsTyped (walk_of item.now walk.now) (resource_items resource.entry functions.now) types.old types.new walked.old walked.new) }
+    ensures first { FindsTyped (walk_of item.now walk.now) (resource_items resource.entry functions.now) types.old walked.old result }
     ensures refused { IfErr result (RefusesTyped (walk_of item.now walk.now) (resource_items resource.entry functions.now) types.old walked.old) }
 {
     for function in functions {
@@ -282,6 +289,7 @@ fn walk_definition<'f, 'a>(
 ) -> ParseResult<()>
     requires { IsNext (walk_of item.now walk.now) (part_items (DefinitionPart definition.now)) walked.old }
     ensures adds { OnOk result (AddsTyped (walk_of item.now walk.now) (part_items (DefinitionPart definition.now)) types.old types.new walked.old walked.new) }
+    ensures first { FindsTyped (walk_of item.now walk.now) (part_items (DefinitionPart definition.now)) types.old walked.old result }
     ensures refused { IfErr result (RefusesTyped (walk_of item.now walk.now) (part_items (DefinitionPart definition.now)) types.old walked.old) }
 {
     match &definition.body {
@@ -302,6 +310,7 @@ pub(crate) fn walk_parts<'f, 'a>(
 ) -> ParseResult<()>
     requires { IsNext (walk_of item.now walk.now) (side_items (item_view item.now)) walked.old }
     ensures adds { OnOk result (AddsItems (walk_of item.now walk.now) (side_items (item_view item.now)) types.old inside.old walked.old types.new inside.new walked.new) }
+    ensures first { FindsNext (walk_of item.now walk.now) (side_items (item_view item.now)) (stage types.old inside.old walked.old) result }
     ensures refused { IfErr result (RefusesNext (walk_of item.now walk.now) (side_items (item_view item.now)) (stage types.old inside.old walked.old)) }
 {
     let world = declared_world(&item.declared);

@@ -1,5 +1,5 @@
 //! Declared worlds.
-ghost use Rattle.std.specs.Prelude.{◌≡◌, ◌<◌, ◌≤◌, ◌+◌, ◌++◌, ◌∷◌, [], All, true, length, IfOk, IfErr, OnOk};
+ghost use Rattle.std.specs.Prelude.{◌≡◌, ◌<◌, ◌≤◌, ◌+◌, ◌++◌, ◌∷◌, [], All, None, true, length, IfOk, IfErr, OnOk};
 ghost use Rattle.wit_type_tree.specs.RefusalText.{IsAllocationFailure};
 ghost use Rattle.wit_syntax.specs.Source.{is_world, about};
 ghost use Rattle.wit_syntax.specs.Sides.{inline_items, with_inline};
@@ -12,8 +12,10 @@ ghost use Rattle.wit_items.specs.BorrowedItems.{declared_view, item_view, others
 ghost use Rattle.wit_items.specs.SourceItems.{metadata_view};
 ghost use Rattle.std.specs.List.{flat_map};
 ghost use Rattle.wit_items.specs.Gathered.{AreItemsOf, IsItemOf};
+ghost use Rattle.wit_item_entries.specs.ReachedFaults.{item_stability};
 ghost use Rattle.wit_contents.specs.AddedInterfaces.{HasLegalStability};
 ghost use Rattle.wit_contents.specs.AddedWorlds.{AddsContent, AddsTo, AddsWorldsTo, AreIndexed, IsRightWorld, IsWrongIn, IsWrongWorldInOrder, worlds_in};
+ghost use Rattle.wit_contents.specs.WorldFaults.{FindsSides, FindsWorld, FindsWorlds};
 ghost use Rattle.wit_contents.specs.WorldWalk.{AddsSidesOf, IsScopeOfWorld, RefusesSidesOf};
 
 use crate::sides::walk_sides;
@@ -101,6 +103,7 @@ fn walked_sides<'f, 'a>(
     requires scope { IsScopeOfWorld scope.now item.now }
     ensures adds { IfOk result (AddsSidesOf item.now interfaces.now scope.now.names types.old types.new inside.old inside.new) }
     ensures paired { OnOk result ((f : Fault) → IsSetterAlone (item_view item.now) f → ⊥) }
+    ensures first { FindsSides item.now interfaces.now scope.now.names types.old inside.old result }
     ensures refused { IfErr result (RefusesSidesOf item.now interfaces.now scope.now.names types.old inside.old) }
 {
     let functions = function_scope(scope);
@@ -126,6 +129,7 @@ fn world_content<'f, 'a>(
     ensures adds { IfOk result (AddsContent worlds.now item.now types.old types.new inside.old inside.new required.old.items required.new.items) }
     ensures extended { OnOk result (length inside.new ≡ length inside.old + length (inline_items (item_view item.now))) }
     ensures right { OnOk result (HasLegalStability (item_view item.now) → IsRightWorld worlds.now.interfaces.now.files (item_view item.now)) }
+    ensures first { item_stability (item_view item.now) ≡ None → FindsWorld worlds.now types.old inside.old item.now result }
     ensures refused { IfErr result (Refused (IsWrongIn worlds.now types.old inside.old (item_view item.now))) }
 {
     let alloc = *worlds.by_name.allocator();
@@ -192,6 +196,7 @@ fn world_of<'f, 'a>(
     ensures adds { IfOk result (λ w. AddsTo worlds.now (worlds.now.arena ++ w ∷ []) item.now types.old types.new inside.old inside.new required.old.items required.new.items) }
     ensures extended { OnOk result (length inside.new ≡ length inside.old + length (inline_items (item_view item.now))) }
     ensures right { OnOk result (IsRightWorld worlds.now.interfaces.now.files (item_view item.now)) }
+    ensures first { FindsWorld worlds.now types.old inside.old item.now result }
     ensures refused { IfErr result (Refused (IsWrongIn worlds.now types.old inside.old (item_view item.now))) }
 {
     let alloc = *worlds.by_name.allocator();
@@ -219,6 +224,7 @@ fn resolve_world<'f, 'a>(
     ensures extended { OnOk result (length inside.new ≡ length inside.old + length (inline_items (item_view item.now))) }
     ensures index { OnOk result (AreIndexed worlds.new) }
     ensures right { OnOk result (IsRightWorld worlds.old.interfaces.now.files (item_view item.now)) }
+    ensures first { FindsWorld worlds.old types.old inside.old item.now result }
     ensures refused { IfErr result (Refused (IsWrongIn worlds.old types.old inside.old (item_view item.now))) }
 {
     let world = world_of(item, types, required, inside, worlds)?;
@@ -282,6 +288,7 @@ pub fn resolve_worlds<'f, 'a>(
     ensures sound { OnOk result (AreSoundScopes (flat_map with_inline (worlds_in items.now places.now))) }
     ensures sided { OnOk result (AreLegalSides (flat_map with_inline (worlds_in items.now places.now))) }
     ensures linked { OnOk result (AreUsableLinks interfaces.now.files (worlds_in items.now places.now)) }
+    ensures first { FindsWorlds interfaces.now prefix types.old items.now places.now result }
     ensures refused { IfErr result (Refused (IsWrongWorldInOrder interfaces.now prefix types.old items.now places.now)) }
 {
     let alloc = *interfaces.by_name.allocator();

@@ -3,7 +3,6 @@ use Rattle.std.proofs.Common.{◌≡◌, ◌⊎◌, List, [], ◌∷◌, ◌++�
 use Rattle.std.specs.Prelude.{string_bytes}
 use Rattle.std.specs.List.{AllZip}
 use Rattle.std.specs.Option.{option_or}
-use Rattle.std.proofs.lemmas.Grind.{flat_map-append}
 use Rattle.std.proofs.lemmas.List.{append-nil, map-append}
 use Rattle.wit_tree.specs.declared.tree.NestedPackage.{NestedPackage}
 use Rattle.wit_tree.specs.declared.tree.PackageFile.{PackageFile}
@@ -19,10 +18,9 @@ use Rattle.wit_syntax.specs.Fault.{Fault, fault_of}
 use Rattle.wit_arena.specs.Faithful.{IsMadeOf}
 use Rattle.wit_first.specs.First.{first_after}
 use Rattle.wit_first.proofs.Bridge.{or_none_both}
-use Rattle.wit_first.proofs.First.{after-more, none_both, or_none}
+use Rattle.wit_first.proofs.First.{or_none}
 use Rattle.wit_nested.specs.Nested.{GrowByNested, IsMadeByNested, IsUnfit}
 use Rattle.wit_nested.specs.PackageNames.{AreNamedApart}
-use Rattle.wit_nested.proofs.Making.{zip_more}
 use Rattle.wit_groups.specs.Groups.{AreRefused, AreUsed, IsGroup, IsRefused, IsTree}
 use Rattle.wit_groups.specs.Groups.AreRefused.{Unread, Unfit, Illegal, Repeated}
 use Rattle.wit_groups.specs.Groups.AreUsed.{None as NoneUsed, More}
@@ -30,58 +28,15 @@ use Rattle.wit_groups.specs.Groups.IsRefused.{InTurn, Wanted}
 use Rattle.wit_text.specs.Files.{IsFaultOf}
 use Rattle.wit_text.specs.Files.IsFaultOf.{At, Wanted as FaultWanted}
 use Rattle.wit_walk.specs.Walk.{earliest}
-use Rattle.wit_group_walk.specs.GroupFaults.{joined_faults, names_fault, nested_names}
-use Rattle.wit_group_walk.specs.PushFaults.{IsWalk, files_of, nested_of, pushes_fault, source_fault}
-use Rattle.wit_group_walk.specs.SourceFaults.{Read, Tree, Stop, IsRead, IsStop, stop_fault, trees_of, SequenceComesTo, SourcesComeTo, IsFirstOfSources, AreFaultless, AreBroken}
-use Rattle.wit_group_walk.proofs.Names.{made_names}
-use Rattle.wit_group_walk.proofs.Pushes.{a_walk, none_of, one_walk, some_of, source_agrees, walk_agrees}
-use Rattle.wit_group_walk.proofs.Sequences.{or_here, pushed, sequence_broken, sequence_comes, sequence_one, sequence_prefix, sequence_trees}
-
-zip_append : {A B : Type 0} (R : A → B → Type 0) (xs us : List A) (ys vs : List B) → AllZip R xs ys → AllZip R us vs → AllZip R (xs ++ us) (ys ++ vs)
-zip_append R [] us [] vs a b = b
-zip_append R [] us (y ∷ ys) vs a b = absurd a
-zip_append R (x ∷ xs) us [] vs a b = absurd a
-zip_append R (x ∷ xs) us (y ∷ ys) vs a b = (a.0, zip_append R xs us ys vs a.1 b)
-
--- the trees of sources that are used: they can be pushed, and the nested packages are made of what is nested in them
-pub record HasTrees (walk : List PackageFile → Option Fault) (ordered : List Source) (files : List PackageFile) (packages : List UnresolvedPackage) : Type 0 where
-  pub trees : List SourceFile
-  pub each : AllZip IsTree ordered trees
-  pub files_are : files ≡ files_of trees
-  pub none : pushes_fault walk trees ≡ None
-  pub made : AllZip IsMadeByNested (nested_of trees) packages
+use Rattle.wit_nested.specs.GroupFaults.{joined_faults, names_fault, nested_names}
+use Rattle.wit_nested.specs.PushFaults.{IsWalk, files_of, nested_of, pushes_fault, source_fault}
+use Rattle.wit_groups.specs.SourceFaults.{Read, Tree, Stop, IsRead, IsStop, stop_fault, trees_of, SequenceComesTo, SourcesComeTo, IsFirstOfSources, AreFaultless, AreBroken}
+use Rattle.wit_nested.proofs.Names.{made_names}
+use Rattle.wit_nested.proofs.Pushes.{a_walk, none_of, one_walk, some_of, source_agrees, walk_agrees}
+use Rattle.wit_groups.proofs.Used.{group_sequence, used_trees}
+use Rattle.wit_groups.proofs.Sequences.{or_here, pushed, sequence_broken, sequence_comes, sequence_one, sequence_prefix, sequence_trees}
 
 module _ (walk : List PackageFile → Option Fault) (walks : IsWalk walk) where
-  fits : (files : List PackageFile) (read : SourceFile) → ((f : Fault) → IsUnfit files read f → ⊥) → source_fault walk files read ≡ None
-  fits files read fit = none_of (source_fault walk files read) (source_agrees walk walks files read) fit
-
-  used_trees : (ordered : List Source) (files : List PackageFile) (packages : List UnresolvedPackage) → AreUsed ordered files packages → HasTrees walk ordered files packages
-  used_trees _ _ _ NoneUsed = record { trees = []; each = tt; files_are = refl; none = refl; made = tt }
-  used_trees _ _ _ (More sources files packages kept s read used tree fit grow) =
-      let it = used_trees sources files packages used in
-      let nested : nested_of (it.trees ++ read ∷ []) ≡ nested_of it.trees ++ read.nested.items = flat_map-append (λ (s : SourceFile). s.nested.items) it.trees (read ∷ []) ∙ ap (λ (l : List NestedPackage). nested_of it.trees ++ l) (append-nil read.nested.items) in
-      let all = zip_append IsMadeByNested (nested_of it.trees) read.nested.items packages grow.made it.made grow.each in
-      record {
-        trees = it.trees ++ read ∷ [];
-        each = zip_more IsTree sources it.trees s read it.each tree;
-        files_are = ap (λ (l : List PackageFile). l ++ read.file ∷ []) it.files_are ∙ sym (map-append (λ (s : SourceFile). s.file) it.trees (read ∷ []));
-        none = after-more (pushed walk) it.trees read it.none ∙ fits (files_of it.trees) read (subst (λ (l : List PackageFile). (f : Fault) → IsUnfit l read f → ⊥) it.files_are fit);
-        made = subst (λ (ps : List UnresolvedPackage). AllZip IsMadeByNested (nested_of (it.trees ++ read ∷ [])) ps) (sym grow.extended) (subst (λ (ns : List NestedPackage). AllZip IsMadeByNested ns (packages ++ grow.made)) (sym nested) all);
-      }
-
-  -- nothing is wrong with the files of all, nor with the names
-  joined_none : (trees : List SourceFile) → walk (files_of trees) ≡ None → names_fault (last_header (files_of trees)) (nested_names trees) ≡ None → earliest (joined_faults walk trees) ≡ None
-  joined_none trees files names = none_both files (or_none (names_fault (last_header (files_of trees)) (nested_names trees)) ∙ names)
-
-  -- sources that make a group have no fault
-  group_sequence : (ordered : List Source) (files : List PackageFile) (main : UnresolvedPackage) (nested : List UnresolvedPackage) → AreUsed ordered files nested → IsMadeOf files main → AreNamedApart main nested → (reads : List Read) × SequenceComesTo walk [] ordered reads None
-  group_sequence ordered files main nested used made apart =
-      let it = used_trees ordered files nested used in
-      let made_of : IsMadeOf (files_of it.trees) main = subst (λ (fs : List PackageFile). IsMadeOf fs main) it.files_are made in
-      let right : walk (files_of it.trees) ≡ None = none_of (walk (files_of it.trees)) (walk_agrees walk walks (files_of it.trees)) made_of.legal in
-      let none = joined_none it.trees right ((made_names it.trees main nested made_of it.made).apart.1 apart) in
-      (map Tree it.trees ++ [], subst (λ (l : List Source). SequenceComesTo walk [] l (map Tree it.trees ++ []) None) (append-nil ordered) (sequence_prefix walk [] ordered it.trees [] [] None it.each it.none (sym none)))
-
   -- one of two lists, in two parts
   zip_split : {A B : Type 0} (R : A → B → Type 0) (xs us : List A) (zs : List B) → AllZip R (xs ++ us) zs → (ys vs : List B) × (zs ≡ ys ++ vs) × AllZip R xs ys × AllZip R us vs
   zip_split R [] us zs all = ([], zs, refl, tt, all)
@@ -135,20 +90,20 @@ module _ (walk : List PackageFile → Option Fault) (walks : IsWalk walk) where
 
   refused_first : (ordered : List Source) (e : ParseError) → AreRefused ordered e → HaveFirst ordered e
   refused_first ordered e (Unread prefix rest s is files packages used unread) =
-      let it = used_trees prefix files packages used in
+      let it = used_trees walk walks prefix files packages used in
       subst (λ (l : List Source). HaveFirst l e) (sym is) (unread_first prefix rest s it.trees e it.each it.none unread.fault)
   refused_first ordered e (Unfit prefix rest s is files packages read used tree (inl wanted)) = inl wanted
   refused_first ordered e (Unfit prefix rest s is files packages read used tree (inr unfit)) =
-      let it = used_trees prefix files packages used in
+      let it = used_trees walk walks prefix files packages used in
       subst (λ (l : List Source). HaveFirst l e) (sym is)
       (unfit_first prefix rest s it.trees read e (fault_of e) it.each it.none tree (subst (λ (fs : List PackageFile). IsUnfit fs read (fault_of e)) it.files_are unfit))
   refused_first ordered e (Illegal files packages used (inl wanted)) = inl wanted
   refused_first ordered e (Illegal files packages used (inr broken)) =
-      let it = used_trees ordered files packages used in
+      let it = used_trees walk walks ordered files packages used in
       let own = some_of (walk (files_of it.trees)) (walk_agrees walk walks (files_of it.trees)) (fault_of e) (subst (λ (fs : List PackageFile). IsBroken fs (fault_of e)) it.files_are broken) in
       joined_first ordered it.trees e own.0 it.each it.none (ap (λ (o : Option Fault). option_or o (earliest (names_fault (last_header (files_of it.trees)) (nested_names it.trees) ∷ []))) own.1)
   refused_first ordered e (Repeated files packages main used made again) =
-      let it = used_trees ordered files packages used in
+      let it = used_trees walk walks ordered files packages used in
       let made_of : IsMadeOf (files_of it.trees) main = subst (λ (fs : List PackageFile). IsMadeOf fs main) it.files_are made in
       let right : walk (files_of it.trees) ≡ None = none_of (walk (files_of it.trees)) (walk_agrees walk walks (files_of it.trees)) made_of.legal in
       let names = ((made_names it.trees main packages made_of it.made).repeated (fault_of e)).1 again in

@@ -20,7 +20,7 @@ use Rattle.wit_graph.specs.Table.{Row}
 use Rattle.wit_syntax.specs.Fault.{Fault, fault}
 use Rattle.wit_walk.specs.Orders.{Outcome, InOrder}
 use Rattle.wit_walk.specs.Walk.{first_fault}
-use Rattle.wit_group_walk.specs.GroupFaults.{group_fault}
+use Rattle.wit_nested.specs.GroupFaults.{group_fault}
 
 abbrev at : ℕ → ℕ → Span
 at from to = record { start = from; end = to }

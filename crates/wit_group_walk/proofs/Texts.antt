@@ -15,9 +15,9 @@ use Rattle.wit_syntax.specs.Fault.{Fault, fault}
 use Rattle.wit_first.specs.First.{IsOr}
 use Rattle.wit_groups.specs.Groups.{IsAlone, IsUnparsed}
 use Rattle.wit_groups.specs.Groups.IsUnparsed.{TooLarge, Alone}
-use Rattle.wit_group_walk.specs.SourceFaults.{Read, Tree, Stop, IsRead, AreAlike, SourcesComeTo, TextComesTo, size_fault}
+use Rattle.wit_groups.specs.SourceFaults.{Read, Tree, Stop, IsRead, AreAlike, SourcesComeTo, TextComesTo, size_fault}
 use Rattle.wit_group_walk.proofs.Groups.{first, one_first}
-use Rattle.wit_group_walk.proofs.Sequences.{or_here, or_two}
+use Rattle.wit_groups.proofs.Sequences.{or_here, or_two}
 
 pub one_reading : (s : Source) (one other : Read) → IsRead s one → IsRead s other → AreAlike one other
 one_reading s (Tree a) (Tree b) x y = one_tree (string_bytes s.contents) s.offset (see_file a) (see_file b) x y

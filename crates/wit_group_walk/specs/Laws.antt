@@ -1,5 +1,5 @@
 -- What holds of the first fault of a group.
-use Rattle.std.specs.Prelude.{◌≡◌, ◌↔◌, ◌⊎◌, List, Option, None, Some}
+use Rattle.std.specs.Prelude.{◌≡◌, ◌⊎◌, List, Option, None, Some}
 use Rattle.std.specs.List.{AllZip}
 use Rattle.wit_tree.specs.declared.tree.SourceFile.{SourceFile}
 use Rattle.wit_model.specs.declared.unresolved.UnresolvedPackage.{UnresolvedPackage}
@@ -7,9 +7,8 @@ use Rattle.wit_syntax.specs.Broken.{last_header}
 use Rattle.wit_syntax.specs.Fault.{Fault}
 use Rattle.wit_arena.specs.Faithful.{IsMadeOf}
 use Rattle.wit_nested.specs.Nested.{IsMadeByNested}
-use Rattle.wit_nested.specs.PackageNames.{AreNamedApart, IsRepeatedPackage}
-use Rattle.wit_group_walk.specs.PushFaults.{files_of, nested_of}
-use Rattle.wit_group_walk.specs.GroupFaults.{GroupComesTo, IsFirstOfGroup, IsFaultlessGroup, IsBrokenGroup, IsLegalGroup, names_fault, nested_names}
+use Rattle.wit_nested.specs.PushFaults.{files_of, nested_of}
+use Rattle.wit_nested.specs.GroupFaults.{AgreeOnNames, GroupComesTo, IsFirstOfGroup, IsFaultlessGroup, IsBrokenGroup, IsLegalGroup, names_fault, nested_names}
 
 abbrev pub OneFirstOfGroup : Type 0
 OneFirstOfGroup = (sources : List SourceFile) (first other : Option Fault) → GroupComesTo sources first → GroupComesTo sources other → first ≡ other
@@ -25,11 +24,6 @@ LegalGroupIsFaultless = (sources : List SourceFile) → IsLegalGroup sources →
 
 abbrev pub LegalGroupOrFirst : Type 0
 LegalGroupOrFirst = (sources : List SourceFile) → IsLegalGroup sources ⊎ ((f : Fault) × IsFirstOfGroup sources f)
-
--- E53 is what `GroupResolver::resolve` refuses in a main package and nested ones, and there is none exactly where no two of them have one name
-pub record AgreeOnNames (first : Option Fault) (main : UnresolvedPackage) (nested : List UnresolvedPackage) : Type 0 where
-  pub repeated : (f : Fault) → (first ≡ Some f) ↔ IsRepeatedPackage main nested f
-  pub apart : (first ≡ None) ↔ AreNamedApart main nested
 
 -- so it is in all that sources make
 abbrev pub NamesAgree : Type 0

@@ -1,5 +1,2 @@
-pub mod PushFaults
-pub mod GroupFaults
 pub mod Laws
-pub mod SourceFaults
 pub mod SourceLaws

@@ -10,8 +10,8 @@ use Rattle.wit_syntax.specs.Fault.{Fault}
 use Rattle.wit_arena.specs.Faithful.{IsMadeOf}
 use Rattle.wit_nested.specs.Nested.{IsMadeByNested}
 use Rattle.wit_groups.specs.Groups.{IsGroup, IsRefused, IsUnparsed}
-use Rattle.wit_group_walk.specs.PushFaults.{files_of, nested_of}
-use Rattle.wit_group_walk.specs.SourceFaults.{Read, IsRead, AreAlike, TextComesTo, trees_of, SourcesComeTo, IsFirstOfSources, AreFaultless, AreBroken}
+use Rattle.wit_nested.specs.PushFaults.{files_of, nested_of}
+use Rattle.wit_groups.specs.SourceFaults.{Read, IsRead, AreAlike, TextComesTo, trees_of, SourcesComeTo, IsFirstOfSources, AreFaultless, AreBroken}
 
 -- paths give sources one order, and what is read of each is one, but for addresses
 abbrev pub OnePathOrder : Type 0

@@ -1,7 +1,9 @@
 //! From sources to a group.
-ghost use Rattle.std.specs.Prelude.{◌≡◌, IfErr, IfOk, map};
+ghost use Rattle.std.specs.Prelude.{◌≡◌, IfErr, IfOk, None, map};
 ghost use Rattle.wit_lex.specs.Sources.{as_stated};
+ghost use Rattle.wit_first.specs.First.{FindsBy};
 ghost use Rattle.wit_groups.specs.Groups.{AreRefused, AreUsed, IsAlone, IsGroup, IsRefused, IsTree, IsUnparsed, IsUnread};
+ghost use Rattle.wit_groups.specs.SourceFaults.{AreStopped, FindsBeside, HaveFirst, IsFirstOfText};
 
 use std::alloc::{AllocError, Global};
 use wit_bundle::by_path;
@@ -53,6 +55,7 @@ fn read_source<'a>(alloc: Global, source: &'a Source) -> ParseResult<SourceFile<
 /// A resolver with the trees of sources, one after the other.
 fn push_all<'a>(alloc: Global, turn: &[&'a Source]) -> ParseResult<GroupResolver<'a>>
     ensures in_use { IfOk result (λ resolver. AreUsed (map (λ s. s.now) turn.now) resolver.main.files.items resolver.nested.items) }
+    ensures first { IfErr result (AreStopped (map (λ s. s.now) turn.now)) }
     ensures refused { IfErr result (AreRefused (map (λ s. s.now) turn.now)) }
 {
     let mut resolver = GroupResolver::new(alloc);
@@ -69,6 +72,7 @@ fn resolve_sources(
     sources: &[Source],
 ) -> ParseResult<(UnresolvedPackage, Vec<UnresolvedPackage>)>
     ensures group { IfOk result (λ made. IsGroup sources.now made.0 made.1.items) }
+    ensures first { FindsBy (HaveFirst sources.now) result }
     ensures refused { IfErr result (IsRefused sources.now) }
 {
     let turn = by_path(alloc, sources)?;
@@ -87,6 +91,7 @@ impl UnresolvedPackageGroup {
     pub fn from_sources(alloc: Global, map: SourceMap) -> Result<Self, (SourceMap, ParseError)>
         ensures group { IfOk result (λ group. IsGroup map.sources.items group.main group.nested) }
         ensures kept { IfOk result (λ group. group.source_map ≡ map) }
+        ensures first { FindsBeside (HaveFirst map.sources.items) result }
         ensures refused { IfErr result (λ e. IsRefused map.sources.items e.1) }
         ensures returned { IfErr result (λ e. e.0 ≡ map) }
     {
@@ -109,6 +114,8 @@ impl UnresolvedPackageGroup {
     pub fn parse(alloc: Global, path: &str, contents: &str) -> Result<Self, (SourceMap, ParseError)>
         ensures source { IfOk result (λ group. IsAlone path.now contents.now group.source_map.sources.items) }
         ensures group { IfOk result (λ group. IsGroup group.source_map.sources.items group.main group.nested) }
+        ensures faultless { IfOk result (λ group. HaveFirst group.source_map.sources.items None) }
+        ensures first { IfErr result (λ e. IsFirstOfText contents.now e.0.sources.items e.1) }
         ensures refused { IfErr result (λ e. IsUnparsed path.now contents.now e.0.sources.items e.1) }
     {
         let mut map = SourceMap::new(alloc);

@@ -1,3 +1,7 @@
+pub mod Pushes
+pub mod Names
+pub mod Group
+pub mod FirstFaults
 pub mod Fitting
 pub mod Prefixes
 pub mod Joining

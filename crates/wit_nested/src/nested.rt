@@ -4,6 +4,8 @@ ghost use Rattle.std.specs.List.{AllZip};
 ghost use Rattle.wit_syntax.specs.Broken.{Refused};
 ghost use Rattle.wit_nested.specs.Nested.{IsBrokenAmong, IsBrokenNested, IsMadeByNested};
 ghost use Rattle.wit_nested.specs.NestedSources.{IsSourceOf};
+ghost use Rattle.wit_nested.specs.PushFaults.{FindsWalked, nested_fault};
+ghost use Rattle.wit_first.specs.First.{first_in};
 
 use std::alloc::{AllocError, Global};
 use wit_model::UnresolvedPackage;
@@ -62,6 +64,7 @@ fn own_source<'a>(alloc: Global, inner: NestedPackage<'a>) -> Result<SourceFile<
 /// The package that a nested one makes.
 fn resolve_one(alloc: Global, inner: NestedPackage<'_>) -> ParseResult<UnresolvedPackage>
     ensures made { IfOk result (IsMadeByNested inner.entry) }
+    ensures first { FindsWalked (λ walk. nested_fault walk inner.entry) result }
     ensures refused { IfErr result (Refused (IsBrokenNested inner.entry)) }
 {
     let source = own_source(alloc, inner)?;
@@ -76,6 +79,7 @@ pub(crate) fn resolve_all(
     nested: Vec<NestedPackage<'_>>,
 ) -> ParseResult<Vec<UnresolvedPackage>>
     ensures made { IfOk result (λ made. AllZip IsMadeByNested nested.entry.items made.items) }
+    ensures first { FindsWalked (λ walk. first_in (nested_fault walk) nested.entry.items) result }
     ensures refused { IfErr result (Refused (IsBrokenAmong nested.entry.items)) }
 {
     let mut made = Vec::new(alloc);

@@ -5,6 +5,8 @@ ghost use Rattle.wit_syntax.specs.Broken.{Refused};
 ghost use Rattle.wit_arena.specs.Faithful.{IsMadeOf};
 ghost use Rattle.wit_nested.specs.Nested.{GrowByNested, IsUnfit};
 ghost use Rattle.wit_nested.specs.PackageNames.{AreNamedApart, IsUnjoined};
+ghost use Rattle.wit_nested.specs.PushFaults.{FindsWalked, source_fault};
+ghost use Rattle.wit_nested.specs.GroupFaults.{FindsJoined};
 
 use crate::nested::{alone, resolve_all};
 use crate::package_names::check_names;
@@ -51,6 +53,7 @@ impl<'a> GroupResolver<'a> {
         ensures accepted { OnOk result ((f : Fault) → IsUnfit self.old.main.files.items source.entry f → ⊥) }
         ensures files_unchanged { OnErr result (self.new.main.files.items ≡ self.old.main.files.items) }
         ensures nested_unchanged { OnErr result (self.new.nested.items ≡ self.old.nested.items) }
+        ensures first { FindsWalked (λ walk. source_fault walk self.old.main.files.items source.entry) result }
         ensures refused { IfErr result (Refused (IsUnfit self.old.main.files.items source.entry)) }
     {
         let SourceFile { file, nested } = source;
@@ -78,6 +81,7 @@ impl<'a> GroupResolver<'a> {
         ensures made { IfOk result (λ made. IsMadeOf self.entry.main.files.items made.0) }
         ensures nested { IfOk result (λ made. made.1.items ≡ self.entry.nested.items) }
         ensures apart { IfOk result (λ made. AreNamedApart made.0 made.1.items) }
+        ensures first { FindsJoined self.entry.main.files.items self.entry.nested.items result }
         ensures refused { IfErr result (Refused (IsUnjoined self.entry.main.files.items self.entry.nested.items)) }
     {
         let GroupResolver { main, nested } = self;

@@ -1,8 +1,11 @@
 //! What sources and files make.
-ghost use Rattle.std.specs.Prelude.{◌≡◌, IfErr, IfOk};
+ghost use Rattle.std.specs.Prelude.{◌≡◌, IfErr, IfOk, None};
 ghost use Rattle.wit_syntax.specs.Broken.{IsBroken, Refused};
 ghost use Rattle.wit_arena.specs.Faithful.{IsMadeOf};
+ghost use Rattle.wit_first.specs.First.{FindsBy};
+ghost use Rattle.wit_walk.specs.Walk.{ComesTo};
 ghost use Rattle.wit_groups.specs.Groups.{IsAlone, IsGroup, IsRefused, IsUnparsed};
+ghost use Rattle.wit_groups.specs.SourceFaults.{FindsBeside, HaveFirst, IsFirstOfText};
 ghost use Rattle.wit_resolved.specs.Valid.{AreMade, IsMade};
 
 use crate::package_ref::{PackageRef, PackageRefs};
@@ -36,6 +39,7 @@ impl ResolvedPackage {
     /// As `Resolver::resolve`.
     pub fn resolve(alloc: Global, resolver: Resolver<'_>) -> ParseResult<ResolvedPackage>
         ensures made { IfOk result (λ it. IsMadeOf resolver.entry.files.items it.resolved) }
+        ensures first { FindsBy (ComesTo resolver.entry.files.items) result }
         ensures refused { IfErr result (Refused (IsBroken resolver.entry.files.items)) }
     {
         let resolved = resolver.resolve(alloc)?;
@@ -67,6 +71,7 @@ impl ResolvedGroup {
     pub fn from_sources(alloc: Global, map: SourceMap) -> Result<Self, (SourceMap, ParseError)>
         ensures group { IfOk result (λ it. IsGroup map.sources.items it.group.main it.group.nested) }
         ensures kept { IfOk result (λ it. it.group.source_map ≡ map) }
+        ensures first { FindsBeside (HaveFirst map.sources.items) result }
         ensures refused { IfErr result (λ e. IsRefused map.sources.items e.1) }
         ensures returned { IfErr result (λ e. e.0 ≡ map) }
     {
@@ -84,6 +89,8 @@ impl ResolvedGroup {
     pub fn parse(alloc: Global, path: &str, contents: &str) -> Result<Self, (SourceMap, ParseError)>
         ensures source { IfOk result (λ it. IsAlone path.now contents.now it.group.source_map.sources.items) }
         ensures group { IfOk result (λ it. IsGroup it.group.source_map.sources.items it.group.main it.group.nested) }
+        ensures faultless { IfOk result (λ it. HaveFirst it.group.source_map.sources.items None) }
+        ensures first { IfErr result (λ e. IsFirstOfText contents.now e.0.sources.items e.1) }
         ensures refused { IfErr result (λ e. IsUnparsed path.now contents.now e.0.sources.items e.1) }
     {
         match UnresolvedPackageGroup::parse(alloc, path, contents) {

@@ -3,3 +3,4 @@ mod Keyed
 mod SideKeys
 mod SideCalled
 pub mod Putting
+pub mod PutFaults

@@ -7,11 +7,13 @@ ghost use Rattle.wit_syntax.specs.Fault.{Fault};
 ghost use Rattle.wit_syntax.specs.Repeats.{AllDiffer};
 ghost use Rattle.wit_syntax.specs.Sides.{on_side};
 ghost use Rattle.wit_syntax.specs.SignatureRules.{IsUnpairedSetter};
+ghost use Rattle.wit_first.specs.First.{Finds};
 ghost use Rattle.wit_arena.specs.SideItems.{settled as settled_side};
 ghost use Rattle.wit_rules.specs.BorrowedFunctions.{function_view};
 ghost use Rattle.wit_externs.specs.Clash.{AreNamesWith};
 ghost use Rattle.wit_world_sides.specs.Settled.{none_of, AreCalled};
 ghost use Rattle.wit_world_sides.specs.FilledSides.{entries_of};
+ghost use Rattle.wit_world_sides.specs.PutFaults.{closed_fault};
 
 use crate::sides::WorldSides;
 use std::alloc::{AllocError, Global};
@@ -40,6 +42,7 @@ pub fn check_closed(
     names: &[Id<'_>],
 ) -> ParseResult<()>
     requires { AreNamesWith in_use.now names.now (map function_view functions.now) }
+    ensures first { Finds (closed_fault closed (map function_view functions.now)) result }
     ensures paired { OnOk result (closed ≡ true → (s : TheSide) (f : Fault) → IsUnpairedSetter (on_side s (map function_view functions.now)) f → ⊥) }
     ensures refused { IfErr result (Refused (λ f. (closed ≡ true) × ((s : TheSide) × IsUnpairedSetter (on_side s (map function_view functions.now)) f))) }
 {

@@ -2,13 +2,16 @@ use Rattle.std.proofs.Common.{◌≡◌, List, ◌++◌, length, map, inl, inr, 
 use Rattle.std.specs.List.{flat_map}
 use Rattle.std.proofs.lemmas.Result.{err_from_is_err_and}
 use Rattle.wit_syntax.specs.Address.{Address}
-use Rattle.wit_syntax.specs.Source.{all_items}
+use Rattle.wit_syntax.specs.Source.{Item, all_items}
 use Rattle.wit_syntax.specs.ScopeTables.{in_order, interfaces_of, worlds_of}
 use Rattle.wit_syntax.specs.Broken.{IsBroken}
 use Rattle.wit_syntax.specs.Sides.{with_inline}
 use Rattle.wit_arena.specs.Resolving.{Required, resolved_scopes, IsIndex}
 use Rattle.wit_arena.specs.ResolvedArenas.{WorldArenas, prefix_worlds, AddsInterfaces, AddsWorlds, AreLegalSides, AreSoundScopes, AreUsableLinks, HaveLegalStability, IsWrongNow, IsWrongWorldNow}
 use Rattle.wit_syntax.proofs.Refusing.{refused_weaker}
+use Rattle.wit_first.specs.First.{first_in}
+use Rattle.wit_first.proofs.First.{reports_same}
+use Rattle.wit_walk.specs.Walk.{contents_fault}
 use Rattle.wit_arena.proofs.LegalScopes.{distinct_items}
 use Rattle.wit_arena.proofs.LegalIfDone.{broken_now, broken_world_now}
 use Rattle.wit_items.specs.BorrowedItems.{item_view, others_of}
@@ -23,6 +26,9 @@ use Rattle.wit_contents.specs.Outer.{AreOuter}
 use Rattle.wit_contents.proofs.Outer.{all_outer}
 use Rattle.wit_contents.specs.AddedWorlds.{arenas}
 use Rattle.wit_uses.proofs.Telling.{stability_both}
+use Rattle.wit_contents.proofs.FileFaults.{interfaces_reported, none_after, uses_reported, worlds_reported}
+use Rattle.wit_contents.proofs.RightInterfaces.{interfaces_right}
+use Rattle.wit_contents.proofs.RightWorlds.{worlds_right}
 use Rattle.wit_contents.proofs.Files.{sided_both, sound_both, uses_usable, borrowed_within}
 use Rattle.wit_contents.proofs.Fronting.{prefix_started, prefix_used, lent_enough, lent_index, worlds_enough, worlds_index}
 use Rattle.wit_contents.proofs.contents.resolve_files.Goals as goal
@@ -186,3 +192,84 @@ returns-clause-added c =
       sound = sound_both (in_order (all_items files) places) sound sound';
       stable = stability_both (in_order (all_items files) places) stable stable';
     }
+
+pub returns-in_err-prefix-clause-first : goal.returns-in_err-prefix-clause-first
+returns-in_err-prefix-clause-first c = (let p = err_from_is_err_and c.from_residual.result c.from_residual.ensures.1 in rw p.1 (λ known is. inl p.2))
+
+pub returns-in_err-items-clause-first : goal.returns-in_err-items-clause-first
+returns-in_err-items-clause-first c =
+    let p = err_from_is_err_and c.from_residual-in_err-items.result c.from_residual-in_err-items.ensures.1 in
+    rw (p.1, p.2) (λ known is. uses_reported c.args.names.now known is c.item_order-order.result.now c.item_order-order.ensures _ c.in_err-items.ensures.first)
+
+pub returns-in_err-take_all-clause-first : goal.returns-in_err-take_all-clause-first
+returns-in_err-take_all-clause-first c = (let p = err_from_is_err_and c.from_residual-in_err-take_all.result c.from_residual-in_err-take_all.ensures.1 in rw (p.1, p.2) (λ known is. inl c.in_err-take_all.ensures.refused))
+
+pub returns-in_err-resolve_interfaces-clause-first : goal.returns-in_err-resolve_interfaces-clause-first
+returns-in_err-resolve_interfaces-clause-first c =
+    let p = err_from_is_err_and c.from_residual-in_err-resolve_interfaces.result c.from_residual-in_err-resolve_interfaces.ensures.1 in
+    let files = c.args.names.now in
+    let e = c.in_ok-items.ensures in
+    let types = c.take_all.new.types in
+    let a = c.take_all.new.self in
+    let prefix : IsPrefix files types a = prefix_used files c.foreign.result.now c.args.types.now c.in_ok-prefix.prefix c.in_ok-items.items.items c.deref_mut-lent.result.now c.foreign.ensures c.requires.empty c.in_ok-prefix.ensures.bare c.deref_mut-lent.ensures.value e.placed types a e.names e.inside c.in_ok-take_all.ensures.in_use in
+    let items = c.deref_mut-lent.result.now in
+    let places = c.item_order-order.result.now in
+    let order = c.item_order-order.ensures in
+    let all : map item_view items ≡ all_items files = ap (map item_view) c.deref_mut-lent.ensures.value ∙ e.items in
+    let differ = distinct_items files c.requires.legal in
+    let uses = uses_usable files (uses_sound files e.first) in
+    rw (p.1, p.2) (λ known is. (
+    let right = interfaces_right files places order differ uses types a.interfaces a.worlds prefix.adds known is.outcomes is.enough c.of-named.result c.of-named.ensures items all in
+    interfaces_reported files known is places order _ e.first (reports_same (ap (λ (l : List Item). first_in (contents_fault files known) (interfaces_of (in_order l places))) all) (c.in_err-resolve_interfaces.ensures.first (contents_fault files known) right))))
+
+pub returns-in_err-made-clause-first : goal.returns-in_err-made-clause-first
+returns-in_err-made-clause-first c =
+    let p = err_from_is_err_and c.from_residual-in_err-made.result c.from_residual-in_err-made.ensures.1 in
+    let files = c.args.names.now in
+    let e = c.in_ok-items.ensures in
+    let types = c.take_all.new.types in
+    let a = c.take_all.new.self in
+    let prefix : IsPrefix files types a = prefix_used files c.foreign.result.now c.args.types.now c.in_ok-prefix.prefix c.in_ok-items.items.items c.deref_mut-lent.result.now c.foreign.ensures c.requires.empty c.in_ok-prefix.ensures.bare c.deref_mut-lent.ensures.value e.placed types a e.names e.inside c.in_ok-take_all.ensures.in_use in
+    let items = c.deref_mut-lent.result.now in
+    let places = c.item_order-order.result.now in
+    let order = c.item_order-order.ensures in
+    let all : map item_view items ≡ all_items files = ap (map item_view) c.deref_mut-lent.ensures.value ∙ e.items in
+    let differ = distinct_items files c.requires.legal in
+    let uses = uses_usable files (uses_sound files e.first) in
+    let kept : c.resolve_interfaces.new.interfaces.files ≡ files = c.in_ok-resolve_interfaces.ensures.files ∙ c.of-named.ensures in
+    let now = c.resolve_interfaces.new.interfaces in
+    let middle = c.resolve_interfaces.new.types in
+    let irs = c.resolve_interfaces.new.required.items in
+    let from : Appends c.new-required.result.items irs (λ rs. AddsInterfaces (prefix_of files) types middle a.interfaces now.arena rs (interfaces_of (in_order (all_items files) places))) = rw (c.of-named.ensures, all) at c.in_ok-resolve_interfaces.ensures.added in
+    rw (p.1, p.2) (λ known is. (
+    let before = interfaces_right files places order differ uses types a.interfaces a.worlds prefix.adds known is.outcomes is.enough c.of-named.result c.of-named.ensures items all in
+    let right = worlds_right files places order differ uses types a.interfaces a.worlds prefix.adds now kept middle from.own from.holds c.in_ok-resolve_interfaces.ensures.index items all known is.outcomes is.enough in
+    let none = ap (λ (l : List Item). first_in (contents_fault files known) (interfaces_of (in_order l places))) (sym all) ∙ c.in_ok-resolve_interfaces.ensures.first (contents_fault files known) before in
+    worlds_reported files known is places order _ e.first none (reports_same (ap (λ (l : List Item). first_in (contents_fault files known) (worlds_of (in_order l places))) all) (c.in_err-made.ensures.first (contents_fault files known) right))))
+
+pub returns-in_err-append-clause-first : goal.returns-in_err-append-clause-first
+returns-in_err-append-clause-first c = (let p = err_from_is_err_and c.from_residual-in_err-append.result c.from_residual-in_err-append.ensures.1 in rw p.1 (λ known is. inl p.2))
+
+pub returns-clause-first : goal.returns-clause-first
+returns-clause-first c = λ known is.
+    let files = c.args.names.now in
+    let e = c.in_ok-items.ensures in
+    let types = c.take_all.new.types in
+    let a = c.take_all.new.self in
+    let prefix : IsPrefix files types a = prefix_used files c.foreign.result.now c.args.types.now c.in_ok-prefix.prefix c.in_ok-items.items.items c.deref_mut-lent.result.now c.foreign.ensures c.requires.empty c.in_ok-prefix.ensures.bare c.deref_mut-lent.ensures.value e.placed types a e.names e.inside c.in_ok-take_all.ensures.in_use in
+    let items = c.deref_mut-lent.result.now in
+    let places = c.item_order-order.result.now in
+    let order = c.item_order-order.ensures in
+    let all : map item_view items ≡ all_items files = ap (map item_view) c.deref_mut-lent.ensures.value ∙ e.items in
+    let differ = distinct_items files c.requires.legal in
+    let uses = uses_usable files (uses_sound files e.first) in
+    let kept : c.resolve_interfaces.new.interfaces.files ≡ files = c.in_ok-resolve_interfaces.ensures.files ∙ c.of-named.ensures in
+    let now = c.resolve_interfaces.new.interfaces in
+    let middle = c.resolve_interfaces.new.types in
+    let irs = c.resolve_interfaces.new.required.items in
+    let from : Appends c.new-required.result.items irs (λ rs. AddsInterfaces (prefix_of files) types middle a.interfaces now.arena rs (interfaces_of (in_order (all_items files) places))) = rw (c.of-named.ensures, all) at c.in_ok-resolve_interfaces.ensures.added in
+    let before = interfaces_right files places order differ uses types a.interfaces a.worlds prefix.adds known is.outcomes is.enough c.of-named.result c.of-named.ensures items all in
+    let right = worlds_right files places order differ uses types a.interfaces a.worlds prefix.adds now kept middle from.own from.holds c.in_ok-resolve_interfaces.ensures.index items all known is.outcomes is.enough in
+    let none = ap (λ (l : List Item). first_in (contents_fault files known) (interfaces_of (in_order l places))) (sym all) ∙ c.in_ok-resolve_interfaces.ensures.first (contents_fault files known) before in
+    let last = ap (λ (l : List Item). first_in (contents_fault files known) (worlds_of (in_order l places))) (sym all) ∙ c.in_ok-made.ensures.first (contents_fault files known) right in
+    none_after files known is places order e.first none last

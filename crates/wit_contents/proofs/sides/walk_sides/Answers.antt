@@ -1,4 +1,5 @@
 use Rattle.std.proofs.Common.{◌≡◌, ◌++◌, true, [], List, map, sym, ap, ◌∙◌, subst}
+use Rattle.std.specs.Option.{option_or}
 use Rattle.std.proofs.lemmas.List.{append-nil}
 use Rattle.std.proofs.lemmas.Result.{err_from_is_err_and}
 use Rattle.wit_tree.specs.declared.tree.WorldSide.{WorldSide}
@@ -9,6 +10,9 @@ use Rattle.wit_syntax.specs.Source.{scope_names}
 use Rattle.wit_syntax.proofs.Legal.{functions_items}
 use Rattle.wit_syntax.proofs.Refusing.{refused_weaker}
 use Rattle.wit_syntax.proofs.Turns.{in_turn_distinct}
+use Rattle.wit_first.specs.First.{first_after}
+use Rattle.wit_first.proofs.First.{none_both, reports_back, reports_prefix, reports_same}
+use Rattle.wit_walk.specs.Setters.{setters_fault}
 use Rattle.wit_refusals.specs.NameScopes.{Name}
 use Rattle.wit_rules.specs.BorrowedFunctions.{function_view}
 use Rattle.wit_signatures.specs.ForeignName.{IsTwiceAmong, name_of_id}
@@ -17,6 +21,7 @@ use Rattle.wit_item_entries.proofs.FunctionFaults.{turn_texts}
 use Rattle.wit_contents.specs.declared.walk.Walked.{Walked}
 use Rattle.wit_contents.specs.Walk.{IsNext, IsStart, IsWrongAmong, IsWrongWalk, WrongNames, WrongSetter, WrongSides, stage, walk_item, walk_of}
 use Rattle.wit_contents.proofs.Closing.{alone_closed, none_alone}
+use Rattle.wit_contents.proofs.WorldFaults.{next_all, setters_closed}
 use Rattle.wit_contents.proofs.sides.walk_sides.Goals as goal
 
 pub declared_world-world-requires : goal.declared_world-world-requires
@@ -92,3 +97,40 @@ pub returns-clause-paired : goal.returns-clause-paired
 returns-clause-paired c =
     let w = walk_of c.args.item.now c.args.walk.now in
     none_alone (walk_item w) (map function_view w.walk.scope.functions.now) c.requires.walk.functions c.args.closed c.requires.closed c.in_ok-check_closed.ensures.paired
+
+-- the first fault: of its names, of what is there, or of its setters
+pub returns-in_err-members-clause-first : goal.returns-in_err-members-clause-first
+returns-in_err-members-clause-first c =
+    let p = err_from_is_err_and c.from_residual.result c.from_residual.ensures.1 in
+    let i = walk_item (walk_of c.args.item.now c.args.walk.now) in
+    rw (p.1, p.2) (λ member right. reports_prefix (option_or (first_after member [] (side_items i)) (setters_fault i)) c.in_err-members.ensures.first)
+
+pub returns-in_err-walk_parts-clause-first : goal.returns-in_err-walk_parts-clause-first
+returns-in_err-walk_parts-clause-first c =
+    let p = err_from_is_err_and c.from_residual-in_err-walk_parts.result c.from_residual-in_err-walk_parts.ensures.1 in
+    let w = walk_of c.args.item.now c.args.walk.now in
+    let e = c.in_ok-members.ensures in
+    let start : Walked = record { members = c.in_ok-members.members; required = c.new.result; seen = c.none.result } in
+    let begun : IsStart w start = record { required = c.new.ensures.items; seen = c.none.ensures; keyed = e.keyed; in_use = e.in_use; linked = e.linked; imports = e.imports; exports = e.exports } in
+    rw (p.1, p.2) (λ member right. reports_back e.first (reports_prefix (setters_fault (walk_item w)) (c.in_err-walk_parts.ensures.first (next_all w start c.requires.walk begun) member (right start begun))))
+
+pub returns-in_err-check_closed-clause-first : goal.returns-in_err-check_closed-clause-first
+returns-in_err-check_closed-clause-first c =
+    let p = err_from_is_err_and c.from_residual-in_err-check_closed.result c.from_residual-in_err-check_closed.ensures.1 in
+    let w = walk_of c.args.item.now c.args.walk.now in
+    let fns = map function_view w.walk.scope.functions.now in
+    let e = c.in_ok-members.ensures in
+    let start : Walked = record { members = c.in_ok-members.members; required = c.new.result; seen = c.none.result } in
+    let begun : IsStart w start = record { required = c.new.ensures.items; seen = c.none.ensures; keyed = e.keyed; in_use = e.in_use; linked = e.linked; imports = e.imports; exports = e.exports } in
+    let setters = reports_same (setters_closed (walk_item w) fns c.requires.walk.functions c.args.closed c.requires.closed) c.in_err-check_closed.ensures.first in
+    rw (p.1, p.2) (λ member right. reports_back e.first (reports_back (c.in_ok-walk_parts.ensures.first (next_all w start c.requires.walk begun) member (right start begun)) setters))
+
+pub returns-clause-first : goal.returns-clause-first
+returns-clause-first c = λ member right.
+    let w = walk_of c.args.item.now c.args.walk.now in
+    let fns = map function_view w.walk.scope.functions.now in
+    let e = c.in_ok-members.ensures in
+    let start : Walked = record { members = c.in_ok-members.members; required = c.new.result; seen = c.none.result } in
+    let begun : IsStart w start = record { required = c.new.ensures.items; seen = c.none.ensures; keyed = e.keyed; in_use = e.in_use; linked = e.linked; imports = e.imports; exports = e.exports } in
+    let setters = sym (setters_closed (walk_item w) fns c.requires.walk.functions c.args.closed c.requires.closed) ∙ c.in_ok-check_closed.ensures.first in
+    none_both e.first (none_both (c.in_ok-walk_parts.ensures.first (next_all w start c.requires.walk begun) member (right start begun)) setters)

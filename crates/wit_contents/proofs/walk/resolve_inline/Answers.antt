@@ -23,3 +23,20 @@ returns-clause-adds c =
       last = c.in_ok-alloc.ensures.ok;
       appends = subst (λ (n : ℕ). Appends before after (λ (rs : List Required). AddsInterface cs n c.args.types.now c.interface_of.new.types added rs (scope_item c.args.scope.now))) c.in_ok-id.ensures c.in_ok-interface.ensures.adds;
     }
+
+pub returns-in_err-interface-clause-first : goal.returns-in_err-interface-clause-first
+returns-in_err-interface-clause-first c =
+    let p = err_from_is_err_and c.from_residual-in_err-interface.result c.from_residual-in_err-interface.ensures.1 in
+    rw (p.1, p.2) (rw c.in_ok-id.ensures at c.in_err-interface.ensures.first)
+
+pub returns-clause-first : goal.returns-clause-first
+returns-clause-first c =
+    let cs = resolved_scopes_of c.args.interfaces.now in
+    let e = c.in_ok-interface.ensures in
+    let added = c.in_ok-interface.interface in
+    record {
+      added = added;
+      requires = e.adds.own;
+      adds = subst (λ (n : ℕ). AddsInterface cs n c.args.types.now c.interface_of.new.types added e.adds.own (scope_item c.args.scope.now)) c.in_ok-id.ensures e.adds.holds;
+      none = e.first;
+    }

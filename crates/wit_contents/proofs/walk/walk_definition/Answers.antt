@@ -5,6 +5,8 @@ use Rattle.wit_model.specs.declared.interface.Interface.{Interface}
 use Rattle.wit_syntax.specs.Function.{definition_functions}
 use Rattle.wit_syntax.specs.Sides.{SideItem, SideFunction, part_items}
 use Rattle.wit_syntax.specs.Source.{DefinitionPart}
+use Rattle.wit_first.specs.First.{first_after}
+use Rattle.wit_contents.specs.MemberFaults.{FindsNext}
 use Rattle.wit_contents.specs.Walk.{AddsMembers, AddsNext, IsNext, RefusesNext, resource_items, stage, walk_of}
 use Rattle.wit_contents.proofs.PartItems.{no_functions}
 use Rattle.wit_contents.proofs.Walking.{members_none}
@@ -36,3 +38,17 @@ returns-in_default-clause-adds c = λ i n.
     let a = stage c.args.types.now i c.args.walked.now in
     let none : part_items (DefinitionPart d) ≡ [] = ap (map SideFunction) (no_functions d.name d.body c.in_default.not-Resource) in
     subst (λ (xs : List SideItem). AddsMembers (walk_of c.args.item.now c.args.walk.now) n.prefix xs a a) (sym none) (members_none (walk_of c.args.item.now c.args.walk.now) n.prefix a n.keyed)
+
+pub returns-in-Resource-clause-first : goal.returns-in-Resource-clause-first
+returns-in-Resource-clause-first c =
+    let d = c.args.definition.now in
+    let w = walk_of c.args.item.now c.args.walk.now in
+    let own = resource_items d.name c.deref.result.now in
+    let same : part_items (DefinitionPart d) ≡ own = ap (λ (b : TypeBody). map SideFunction (definition_functions d.name b)) c.in-Resource.is ∙ ap (resource_items d.name) (sym c.deref.ensures.value) in
+    λ i. subst (λ (xs : List SideItem). FindsNext w xs (stage c.args.types.now i c.args.walked.now) c.walk_functions.result) (sym same) (c.walk_functions.ensures.first i)
+
+pub returns-in_default-clause-first : goal.returns-in_default-clause-first
+returns-in_default-clause-first c = λ i n test right.
+    let d = c.args.definition.now in
+    let none : part_items (DefinitionPart d) ≡ [] = ap (map SideFunction) (no_functions d.name d.body c.in_default.not-Resource) in
+    ap (first_after test n.prefix) none

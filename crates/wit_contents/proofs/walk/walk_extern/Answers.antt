@@ -10,6 +10,7 @@ use Rattle.wit_syntax.specs.Source.{Declared, about}
 use Rattle.wit_rules.specs.BorrowedFunctions.{function_view}
 use Rattle.wit_links.specs.declared.inside.Counts.{Counts}
 use Rattle.wit_links.specs.SideCounts.{inline_side, seen_on}
+use Rattle.wit_contents.specs.MemberFaults.{FindsNext}
 use Rattle.wit_contents.specs.Walk.{AddsNext, IsNext, RefusesNext, stage, walk_of}
 use Rattle.wit_contents.proofs.walk.walk_extern.Goals as goal
 
@@ -103,3 +104,33 @@ returns-in-NamedPath-clause-refused c =
     let own = SideLink (extern_link x (Some c.in-NamedPath.name) c.in-NamedPath.path) ∷ [] in
     let a = stage c.args.types.now c.args.inside.now c.args.walked.now in
     IfErr-weaker c.walk_link-in-NamedPath.result (λ e. (ts : List TypeDef) (i : List Interface) → RefusesNext (walk_of c.args.item.now c.args.walk.now) own (stage ts i c.args.walked.now) e) (RefusesNext (walk_of c.args.item.now c.args.walk.now) (extern_items x x.kind) a) (λ e h. subst (λ (xs : List SideItem). RefusesNext (walk_of c.args.item.now c.args.walk.now) xs a e) (sym (ap (extern_items x) c.in-NamedPath.is)) (h c.args.types.now c.args.inside.now)) c.walk_link-in-NamedPath.ensures.refused
+
+pub returns-in-Interface-clause-first : goal.returns-in-Interface-clause-first
+returns-in-Interface-clause-first c =
+    let x = c.args.written.now in
+    let name = c.in-Interface.name in
+    let w = walk_of c.args.item.now c.args.walk.now in
+    let same : extern_items x x.kind ≡ inline_side c.inline_at-inline.result ∷ [] = ap (extern_items x) c.in-Interface.is ∙ ap (λ (items : List InterfaceItem). SideInline x name items ∷ []) (sym c.deref.ensures.value) ∙ ap (λ (y : SideItem). y ∷ []) (sym c.inline_at-inline.ensures.side) in
+    subst (λ (xs : List SideItem). FindsNext w xs (stage c.args.types.now c.args.inside.now c.args.walked.now) c.walk_inline.result) (sym same) c.walk_inline.ensures.first
+
+pub returns-in-Func-clause-first : goal.returns-in-Func-clause-first
+returns-in-Func-clause-first c =
+    let x = c.args.written.now in
+    let w = walk_of c.args.item.now c.args.walk.now in
+    let i = c.args.inside.now in
+    let same : extern_items x x.kind ≡ SideFunction (function_view c.extern_part_function-borrowed.result) ∷ [] = ap (extern_items x) c.in-Func.is ∙ ap (λ (fn : SourceFunction). SideFunction fn ∷ []) (sym c.extern_part_function-borrowed.ensures) in
+    subst (λ (xs : List SideItem). FindsNext w xs (stage c.args.types.now i c.args.walked.now) c.walk_function.result) (sym same) (c.walk_function.ensures.first i)
+
+pub returns-in-Path-clause-first : goal.returns-in-Path-clause-first
+returns-in-Path-clause-first c =
+    let x = c.args.written.now in
+    let ts = c.args.types.now in
+    let i = c.args.inside.now in
+    subst (λ (xs : List SideItem). FindsNext (walk_of c.args.item.now c.args.walk.now) xs (stage ts i c.args.walked.now) c.walk_link.result) (sym (ap (extern_items x) c.in-Path.is)) (c.walk_link.ensures.first ts i)
+
+pub returns-in-NamedPath-clause-first : goal.returns-in-NamedPath-clause-first
+returns-in-NamedPath-clause-first c =
+    let x = c.args.written.now in
+    let ts = c.args.types.now in
+    let i = c.args.inside.now in
+    subst (λ (xs : List SideItem). FindsNext (walk_of c.args.item.now c.args.walk.now) xs (stage ts i c.args.walked.now) c.walk_link-in-NamedPath.result) (sym (ap (extern_items x) c.in-NamedPath.is)) (c.walk_link-in-NamedPath.ensures.first ts i)

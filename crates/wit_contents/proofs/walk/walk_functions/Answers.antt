@@ -8,12 +8,16 @@ use Rattle.wit_syntax.specs.Function.{resource_function}
 use Rattle.wit_syntax.specs.Sides.{SideItem, SideFunction}
 use Rattle.wit_syntax.proofs.Refusing.{refused_weaker}
 use Rattle.wit_contents.specs.Walk.{AddsMembers, IsWrongAmong, resource_items, stage, walk_of}
+use Rattle.wit_contents.proofs.MemberFaults.{HaveNone, first_later, none_first, none_later}
 use Rattle.wit_contents.proofs.PartItems.{resource_more, resource_split}
 use Rattle.wit_contents.proofs.Walking.{members_none, members_then, next_then, wrong_later}
 use Rattle.wit_contents.proofs.walk.walk_functions.Goals as goal
 
 pub loop-function-init : goal.loop-function-init
-loop-function-init c = λ i n. members_none (walk_of c.args.item.now c.args.walk.now) n.prefix (stage c.args.types.now i c.args.walked.now) n.keyed
+loop-function-init c = record {
+  adds = λ i n. members_none (walk_of c.args.item.now c.args.walk.now) n.prefix (stage c.args.types.now i c.args.walked.now) n.keyed;
+  first = λ i n. none_first (walk_of c.args.item.now c.args.walk.now) n.prefix (resource_items c.args.resource c.args.functions.now) (stage c.args.types.now i c.args.walked.now);
+}
 
 pub walk_function-requires : goal.walk_function-requires
 walk_function-requires c =
@@ -22,7 +26,7 @@ walk_function-requires c =
     let f = c.function-item.result in
     let r = c.args.resource in
     let at : slice_get fs k ≡ Some f = slice_get_read fs _ k f refl c.loop-function-test.true c.function-item.is in
-    next_then (walk_of c.args.item.now c.args.walk.now) (resource_items r fs) (resource_items r (take k fs)) (SideFunction (resource_function r f) ∷ []) (resource_items r (drop (k + 1) fs)) (stage c.args.types.now [] c.args.walked.now) (stage c.loop-function.types [] c.loop-function.walked) c.requires (resource_split r fs k f at) (c.loop-function.invariant [] c.requires)
+    next_then (walk_of c.args.item.now c.args.walk.now) (resource_items r fs) (resource_items r (take k fs)) (SideFunction (resource_function r f) ∷ []) (resource_items r (drop (k + 1) fs)) (stage c.args.types.now [] c.args.walked.now) (stage c.loop-function.types [] c.loop-function.walked) c.requires (resource_split r fs k f at) (c.loop-function.invariant.adds [] c.requires)
 
 pub returns-in_err-walk_function-clause-refused : goal.returns-in_err-walk_function-clause-refused
 returns-in_err-walk_function-clause-refused c =
@@ -40,7 +44,7 @@ returns-in_err-walk_function-clause-refused c =
     rw (p.1, p.2) (λ i n.
     let a = stage c.args.types.now i c.args.walked.now in
     let b = stage c.loop-function.types i c.loop-function.walked in
-    let adds = c.loop-function.invariant i n in
+    let adds = c.loop-function.invariant.adds i n in
     let next = next_then w (resource_items r fs) done one rest a b n split adds in
     refused_weaker (IsWrongAmong w next.prefix one b) (IsWrongAmong w n.prefix (resource_items r fs) a) _ (λ e h. subst (λ (l : List SideItem). IsWrongAmong w n.prefix l a e) (sym split) (wrong_later w n.prefix done one rest a b e adds h)) (c.in_err-walk_function.ensures.refused i next))
 
@@ -56,15 +60,52 @@ loop-function-preserved c =
     let one = SideFunction (resource_function r f) ∷ [] in
     let rest = resource_items r (drop (k + 1) fs) in
     let split = resource_split r fs k f at in
-    λ i n.
-    let a = stage c.args.types.now i c.args.walked.now in
-    let b = stage c.loop-function.types i c.loop-function.walked in
-    let now = stage c.walk_function.new.types i c.walk_function.new.walked in
-    let adds = c.loop-function.invariant i n in
-    let next = next_then w (resource_items r fs) done one rest a b n split adds in
-    subst (λ (l : List SideItem). AddsMembers w n.prefix l a now) (resource_more r fs k f at) (members_then w n.prefix done one a b now adds (c.in_ok-walk_function.ensures.adds i next))
+    let was = c.loop-function.invariant in
+    let says = c.in_ok-walk_function.ensures in
+    record {
+      adds = λ i n. (
+          let a = stage c.args.types.now i c.args.walked.now in
+          let b = stage c.loop-function.types i c.loop-function.walked in
+          let now = stage c.walk_function.new.types i c.walk_function.new.walked in
+          let adds = was.adds i n in
+          let next = next_then w (resource_items r fs) done one rest a b n split adds in
+          subst (λ (l : List SideItem). AddsMembers w n.prefix l a now) (resource_more r fs k f at) (members_then w n.prefix done one a b now adds (says.adds i next)));
+      first = λ i n. (
+          let a = stage c.args.types.now i c.args.walked.now in
+          let b = stage c.loop-function.types i c.loop-function.walked in
+          let all = resource_items r fs in
+          let next = next_then w all done one rest a b n split (was.adds i n) in
+          subst (λ (l : List SideItem). HaveNone w n.prefix all l a) (resource_more r fs k f at) (none_later w n.prefix all done one rest a b split (was.adds i n) (was.first i n) (says.first i next)));
+    }
 
 pub returns-clause-adds : goal.returns-clause-adds
 returns-clause-adds c = λ i n.
     let fs = c.args.functions.now in
-    subst (λ (l : List ResourceFunc). AddsMembers (walk_of c.args.item.now c.args.walk.now) n.prefix (resource_items c.args.resource l) (stage c.args.types.now i c.args.walked.now) (stage c.loop-function.types i c.loop-function.walked)) (take_all c.loop-function.function-index fs c.loop-function-test.false) (c.loop-function.invariant i n)
+    subst (λ (l : List ResourceFunc). AddsMembers (walk_of c.args.item.now c.args.walk.now) n.prefix (resource_items c.args.resource l) (stage c.args.types.now i c.args.walked.now) (stage c.loop-function.types i c.loop-function.walked)) (take_all c.loop-function.function-index fs c.loop-function-test.false) (c.loop-function.invariant.adds i n)
+
+pub returns-in_err-walk_function-clause-first : goal.returns-in_err-walk_function-clause-first
+returns-in_err-walk_function-clause-first c =
+    let p = err_from_is_err_and c.from_residual.result c.from_residual.ensures.1 in
+    let w = walk_of c.args.item.now c.args.walk.now in
+    let fs = c.args.functions.now in
+    let k = c.loop-function.function-index in
+    let f = c.function-item.result in
+    let r = c.args.resource in
+    let at : slice_get fs k ≡ Some f = slice_get_read fs _ k f refl c.loop-function-test.true c.function-item.is in
+    let all = resource_items r fs in
+    let done = resource_items r (take k fs) in
+    let one = SideFunction (resource_function r f) ∷ [] in
+    let rest = resource_items r (drop (k + 1) fs) in
+    let split = resource_split r fs k f at in
+    let was = c.loop-function.invariant in
+    rw (p.1, p.2) (λ i n.
+    let a = stage c.args.types.now i c.args.walked.now in
+    let b = stage c.loop-function.types i c.loop-function.walked in
+    let next = next_then w all done one rest a b n split (was.adds i n) in
+    first_later w n.prefix all done one rest a b split (was.adds i n) (was.first i n) _ (c.in_err-walk_function.ensures.first i next))
+
+pub returns-clause-first : goal.returns-clause-first
+returns-clause-first c = λ i n.
+    let fs = c.args.functions.now in
+    let r = c.args.resource in
+    subst (λ (l : List ResourceFunc). HaveNone (walk_of c.args.item.now c.args.walk.now) n.prefix (resource_items r fs) (resource_items r l) (stage c.args.types.now i c.args.walked.now)) (take_all c.loop-function.function-index fs c.loop-function-test.false) (c.loop-function.invariant.first i n)

@@ -9,6 +9,7 @@ use Rattle.wit_syntax.specs.Source.{DefinitionPart, world_part}
 use Rattle.wit_syntax.proofs.Refusing.{refused_weaker}
 use Rattle.wit_item_names.proofs.Usable.{parts_more}
 use Rattle.wit_contents.specs.Walk.{AddsMembers, IsWrongAmong, stage, walk_item, walk_of}
+use Rattle.wit_contents.proofs.MemberFaults.{HaveNone, first_later, none_first, none_later}
 use Rattle.wit_contents.proofs.PartItems.{all_sides, parts_split, world_sides}
 use Rattle.wit_contents.proofs.Walking.{members_none, members_then, next_then, wrong_later}
 use Rattle.wit_contents.proofs.walk.walk_parts.Goals.{in-TypeDef+in_ok-walk_definition-in-TypeDef, in-Use, in-Include, in-Extern+in_ok-walk_extern-in-Extern}
@@ -18,7 +19,10 @@ pub declared_world-world-requires : goal.declared_world-world-requires
 declared_world-world-requires c = c.requires.walk.sort
 
 pub loop-part-init : goal.loop-part-init
-loop-part-init c = λ n. members_none (walk_of c.args.item.now c.args.walk.now) n.prefix (stage c.args.types.now c.args.inside.now c.args.walked.now) n.keyed
+loop-part-init c = record {
+  adds = λ n. members_none (walk_of c.args.item.now c.args.walk.now) n.prefix (stage c.args.types.now c.args.inside.now c.args.walked.now) n.keyed;
+  first = λ n. none_first (walk_of c.args.item.now c.args.walk.now) n.prefix (side_items (walk_item (walk_of c.args.item.now c.args.walk.now))) (stage c.args.types.now c.args.inside.now c.args.walked.now);
+}
 
 pub walk_definition-requires : goal.walk_definition-requires
 walk_definition-requires c =
@@ -31,7 +35,7 @@ walk_definition-requires c =
     let done = world_sides (take k xs) in
     let rest = world_sides (drop (k + 1) xs) in
     let split = all_sides w c.declared_world-world.result.now xs c.declared_world-world.ensures c.world_items-part-items.ensures ∙ parts_split xs k x at ∙ ap (λ (y : WorldItem). done ++ (part_items (world_part y) ++ rest)) c.in-TypeDef.is in
-    next_then w (side_items (walk_item w)) done (part_items (DefinitionPart c.in-TypeDef.definition)) rest (stage c.args.types.now c.args.inside.now c.args.walked.now) (stage c.loop-part.types c.loop-part.inside c.loop-part.walked) n split (c.loop-part.invariant n)
+    next_then w (side_items (walk_item w)) done (part_items (DefinitionPart c.in-TypeDef.definition)) rest (stage c.args.types.now c.args.inside.now c.args.walked.now) (stage c.loop-part.types c.loop-part.inside c.loop-part.walked) n split (c.loop-part.invariant.adds n)
 
 pub walk_extern-requires : goal.walk_extern-requires
 walk_extern-requires c =
@@ -45,7 +49,7 @@ walk_extern-requires c =
     let rest = world_sides (drop (k + 1) xs) in
     let own = c.in-Extern.written in
     let split = all_sides w c.declared_world-world.result.now xs c.declared_world-world.ensures c.world_items-part-items.ensures ∙ parts_split xs k x at ∙ ap (λ (y : WorldItem). done ++ (part_items (world_part y) ++ rest)) c.in-Extern.is in
-    next_then w (side_items (walk_item w)) done (extern_items own own.kind) rest (stage c.args.types.now c.args.inside.now c.args.walked.now) (stage c.loop-part.types c.loop-part.inside c.loop-part.walked) n split (c.loop-part.invariant n)
+    next_then w (side_items (walk_item w)) done (extern_items own own.kind) rest (stage c.args.types.now c.args.inside.now c.args.walked.now) (stage c.loop-part.types c.loop-part.inside c.loop-part.walked) n split (c.loop-part.invariant.adds n)
 
 pub returns-in_err-walk_definition-in-TypeDef-clause-refused : goal.returns-in_err-walk_definition-in-TypeDef-clause-refused
 returns-in_err-walk_definition-in-TypeDef-clause-refused c =
@@ -64,7 +68,7 @@ returns-in_err-walk_definition-in-TypeDef-clause-refused c =
     let b = stage c.loop-part.types i c.loop-part.walked in
     rw (p.1, p.2) (λ n.
     let split : all ≡ done ++ (one ++ rest) = all_sides w c.declared_world-world.result.now xs c.declared_world-world.ensures c.world_items-part-items.ensures ∙ parts_split xs k x at ∙ ap (λ (y : WorldItem). done ++ (part_items (world_part y) ++ rest)) c.in-TypeDef.is in
-    let adds = c.loop-part.invariant n in
+    let adds = c.loop-part.invariant.adds n in
     let next = next_then w all done one rest a b n split adds in
     refused_weaker (IsWrongAmong w next.prefix one b) (IsWrongAmong w n.prefix all a) _ (λ f h. subst (λ (l : List SideItem). IsWrongAmong w n.prefix l a f) (sym split) (wrong_later w n.prefix done one rest a b f adds h)) (c.in_err-walk_definition-in-TypeDef.ensures.refused i next))
 
@@ -85,7 +89,7 @@ returns-in_err-walk_extern-in-Extern-clause-refused c =
     let b = stage c.loop-part.types c.loop-part.inside c.loop-part.walked in
     rw (p.1, p.2) (λ n.
     let split : all ≡ done ++ (one ++ rest) = all_sides w c.declared_world-world.result.now xs c.declared_world-world.ensures c.world_items-part-items.ensures ∙ parts_split xs k x at ∙ ap (λ (y : WorldItem). done ++ (part_items (world_part y) ++ rest)) c.in-Extern.is in
-    let adds = c.loop-part.invariant n in
+    let adds = c.loop-part.invariant.adds n in
     let next = next_then w all done one rest a b n split adds in
     refused_weaker (IsWrongAmong w next.prefix one b) (IsWrongAmong w n.prefix all a) _ (λ f h. subst (λ (l : List SideItem). IsWrongAmong w n.prefix l a f) (sym split) (wrong_later w n.prefix done one rest a b f adds h)) (c.in_err-walk_extern-in-Extern.ensures.refused next))
 
@@ -109,20 +113,36 @@ loop-part-preserved c =
           let one = part_items (DefinitionPart e.in-TypeDef.definition) in
           let i = c.loop-part.inside in
           let now = stage e.walk_definition.new.types i e.walk_definition.new.walked in
-          rw (e.types-is, e.inside-is, e.walked-is) (λ n.
+          let says = e.in_ok-walk_definition-in-TypeDef.ensures in
           let split : all ≡ done ++ (one ++ rest) = all_sides w c.declared_world-world.result.now xs c.declared_world-world.ensures c.world_items-part-items.ensures ∙ parts_split xs k x at ∙ ap (λ (y : WorldItem). done ++ (part_items (world_part y) ++ rest)) e.in-TypeDef.is in
-          let next = next_then w all done one rest a b n split (was n) in
-          subst (λ (l : List SideItem). AddsMembers w n.prefix l a now) (sym (extended ∙ ap (λ (y : WorldItem). done ++ part_items (world_part y)) e.in-TypeDef.is)) (members_then w n.prefix done one a b now (was n) (e.in_ok-walk_definition-in-TypeDef.ensures.adds i next))))
-      | in-Use e ↦ rw (e.types-is, e.inside-is, e.walked-is) (λ n. subst (λ (l : List SideItem). AddsMembers w n.prefix l a b) (sym (extended ∙ ap (λ (y : WorldItem). done ++ part_items (world_part y)) e.in-Use.is ∙ append-nil done)) (was n))
-      | in-Include e ↦ rw (e.types-is, e.inside-is, e.walked-is) (λ n. subst (λ (l : List SideItem). AddsMembers w n.prefix l a b) (sym (extended ∙ ap (λ (y : WorldItem). done ++ part_items (world_part y)) e.in-Include.is ∙ append-nil done)) (was n))
+          let own = sym (extended ∙ ap (λ (y : WorldItem). done ++ part_items (world_part y)) e.in-TypeDef.is) in
+          rw (e.types-is, e.inside-is, e.walked-is) (record {
+            adds = λ n. subst (λ (l : List SideItem). AddsMembers w n.prefix l a now) own (members_then w n.prefix done one a b now (was.adds n) (says.adds i (next_then w all done one rest a b n split (was.adds n))));
+            first = λ n. subst (λ (l : List SideItem). HaveNone w n.prefix all l a) own (none_later w n.prefix all done one rest a b split (was.adds n) (was.first n) (says.first i (next_then w all done one rest a b n split (was.adds n))));
+          }))
+      | in-Use e ↦ (
+          let own = sym (extended ∙ ap (λ (y : WorldItem). done ++ part_items (world_part y)) e.in-Use.is ∙ append-nil done) in
+          rw (e.types-is, e.inside-is, e.walked-is) (record {
+            adds = λ n. subst (λ (l : List SideItem). AddsMembers w n.prefix l a b) own (was.adds n);
+            first = λ n. subst (λ (l : List SideItem). HaveNone w n.prefix all l a) own (was.first n);
+          }))
+      | in-Include e ↦ (
+          let own = sym (extended ∙ ap (λ (y : WorldItem). done ++ part_items (world_part y)) e.in-Include.is ∙ append-nil done) in
+          rw (e.types-is, e.inside-is, e.walked-is) (record {
+            adds = λ n. subst (λ (l : List SideItem). AddsMembers w n.prefix l a b) own (was.adds n);
+            first = λ n. subst (λ (l : List SideItem). HaveNone w n.prefix all l a) own (was.first n);
+          }))
       | in-Extern+in_ok-walk_extern-in-Extern e ↦ (
-          let own = e.in-Extern.written in
-          let one = extern_items own own.kind in
+          let written = e.in-Extern.written in
+          let one = extern_items written written.kind in
           let now = stage e.walk_extern.new.types e.walk_extern.new.inside e.walk_extern.new.walked in
-          rw (e.types-is, e.inside-is, e.walked-is) (λ n.
+          let says = e.in_ok-walk_extern-in-Extern.ensures in
           let split : all ≡ done ++ (one ++ rest) = all_sides w c.declared_world-world.result.now xs c.declared_world-world.ensures c.world_items-part-items.ensures ∙ parts_split xs k x at ∙ ap (λ (y : WorldItem). done ++ (part_items (world_part y) ++ rest)) e.in-Extern.is in
-          let next = next_then w all done one rest a b n split (was n) in
-          subst (λ (l : List SideItem). AddsMembers w n.prefix l a now) (sym (extended ∙ ap (λ (y : WorldItem). done ++ part_items (world_part y)) e.in-Extern.is)) (members_then w n.prefix done one a b now (was n) (e.in_ok-walk_extern-in-Extern.ensures.adds next))))
+          let own = sym (extended ∙ ap (λ (y : WorldItem). done ++ part_items (world_part y)) e.in-Extern.is) in
+          rw (e.types-is, e.inside-is, e.walked-is) (record {
+            adds = λ n. subst (λ (l : List SideItem). AddsMembers w n.prefix l a now) own (members_then w n.prefix done one a b now (was.adds n) (says.adds (next_then w all done one rest a b n split (was.adds n))));
+            first = λ n. subst (λ (l : List SideItem). HaveNone w n.prefix all l a) own (none_later w n.prefix all done one rest a b split (was.adds n) (was.first n) (says.first (next_then w all done one rest a b n split (was.adds n))));
+          }))
     ]
 
 pub returns-clause-adds : goal.returns-clause-adds
@@ -130,4 +150,54 @@ returns-clause-adds c = λ n.
     let w = walk_of c.args.item.now c.args.walk.now in
     let xs = c.world_items-part-items.result.now in
     let whole = ap world_sides (take_all c.loop-part.part-index xs c.loop-part-test.false) ∙ sym (all_sides w c.declared_world-world.result.now xs c.declared_world-world.ensures c.world_items-part-items.ensures) in
-    subst (λ (l : List SideItem). AddsMembers w n.prefix l (stage c.args.types.now c.args.inside.now c.args.walked.now) (stage c.loop-part.types c.loop-part.inside c.loop-part.walked)) whole (c.loop-part.invariant n)
+    subst (λ (l : List SideItem). AddsMembers w n.prefix l (stage c.args.types.now c.args.inside.now c.args.walked.now) (stage c.loop-part.types c.loop-part.inside c.loop-part.walked)) whole (c.loop-part.invariant.adds n)
+
+pub returns-in_err-walk_definition-in-TypeDef-clause-first : goal.returns-in_err-walk_definition-in-TypeDef-clause-first
+returns-in_err-walk_definition-in-TypeDef-clause-first c =
+    let p = err_from_is_err_and c.from_residual.result c.from_residual.ensures.1 in
+    let w = walk_of c.args.item.now c.args.walk.now in
+    let xs = c.world_items-part-items.result.now in
+    let k = c.loop-part.part-index in
+    let x = c.part-item.result in
+    let at : slice_get xs k ≡ Some x = slice_get_read xs _ k x refl c.loop-part-test.true c.part-item.is in
+    let done = world_sides (take k xs) in
+    let rest = world_sides (drop (k + 1) xs) in
+    let all = side_items (walk_item w) in
+    let was = c.loop-part.invariant in
+    let one = part_items (DefinitionPart c.in-TypeDef.definition) in
+    let i = c.loop-part.inside in
+    let a = stage c.args.types.now c.args.inside.now c.args.walked.now in
+    let b = stage c.loop-part.types i c.loop-part.walked in
+    rw (p.1, p.2) (λ n.
+    let split : all ≡ done ++ (one ++ rest) = all_sides w c.declared_world-world.result.now xs c.declared_world-world.ensures c.world_items-part-items.ensures ∙ parts_split xs k x at ∙ ap (λ (y : WorldItem). done ++ (part_items (world_part y) ++ rest)) c.in-TypeDef.is in
+    let next = next_then w all done one rest a b n split (was.adds n) in
+    first_later w n.prefix all done one rest a b split (was.adds n) (was.first n) _ (c.in_err-walk_definition-in-TypeDef.ensures.first i next))
+
+pub returns-in_err-walk_extern-in-Extern-clause-first : goal.returns-in_err-walk_extern-in-Extern-clause-first
+returns-in_err-walk_extern-in-Extern-clause-first c =
+    let p = err_from_is_err_and c.from_residual-in_err-walk_extern-in-Extern.result c.from_residual-in_err-walk_extern-in-Extern.ensures.1 in
+    let w = walk_of c.args.item.now c.args.walk.now in
+    let xs = c.world_items-part-items.result.now in
+    let k = c.loop-part.part-index in
+    let x = c.part-item.result in
+    let at : slice_get xs k ≡ Some x = slice_get_read xs _ k x refl c.loop-part-test.true c.part-item.is in
+    let done = world_sides (take k xs) in
+    let rest = world_sides (drop (k + 1) xs) in
+    let all = side_items (walk_item w) in
+    let was = c.loop-part.invariant in
+    let own = c.in-Extern.written in
+    let one = extern_items own own.kind in
+    let a = stage c.args.types.now c.args.inside.now c.args.walked.now in
+    let b = stage c.loop-part.types c.loop-part.inside c.loop-part.walked in
+    rw (p.1, p.2) (λ n.
+    let split : all ≡ done ++ (one ++ rest) = all_sides w c.declared_world-world.result.now xs c.declared_world-world.ensures c.world_items-part-items.ensures ∙ parts_split xs k x at ∙ ap (λ (y : WorldItem). done ++ (part_items (world_part y) ++ rest)) c.in-Extern.is in
+    let next = next_then w all done one rest a b n split (was.adds n) in
+    first_later w n.prefix all done one rest a b split (was.adds n) (was.first n) _ (c.in_err-walk_extern-in-Extern.ensures.first next))
+
+pub returns-clause-first : goal.returns-clause-first
+returns-clause-first c = λ n.
+    let w = walk_of c.args.item.now c.args.walk.now in
+    let xs = c.world_items-part-items.result.now in
+    let all = side_items (walk_item w) in
+    let whole = ap world_sides (take_all c.loop-part.part-index xs c.loop-part-test.false) ∙ sym (all_sides w c.declared_world-world.result.now xs c.declared_world-world.ensures c.world_items-part-items.ensures) in
+    subst (λ (l : List SideItem). HaveNone w n.prefix all l (stage c.args.types.now c.args.inside.now c.args.walked.now)) whole (c.loop-part.invariant.first n)

@@ -1,4 +1,4 @@
-use Rattle.std.proofs.Common.{sym, ap, ◌∙◌, subst}
+use Rattle.std.proofs.Common.{inl, sym, ap, ◌∙◌, subst}
 use Rattle.std.proofs.lemmas.Result.{err_from_is_err_and}
 use Rattle.wit_type_tree.specs.declared.leaves.Id.{Id}
 use Rattle.wit_model.specs.declared.world.World.{World}
@@ -18,3 +18,16 @@ pub returns-clause-adds : goal.returns-clause-adds
 returns-clause-adds c =
     let ws = c.args.worlds.now in
     subst (λ (arena : List World). AddsTo ws arena c.args.item.now c.args.types.now c.world_of.new.types c.args.inside.now c.world_of.new.inside c.args.required.now.items c.world_of.new.required.items) (sym c.in_ok-add_world.ensures.added) c.in_ok-world.ensures.adds
+
+pub returns-in_err-world-clause-first : goal.returns-in_err-world-clause-first
+returns-in_err-world-clause-first c =
+    let p = err_from_is_err_and c.from_residual.result c.from_residual.ensures.1 in
+    rw (p.1, p.2) c.in_err-world.ensures.first
+
+pub returns-in_err-add_world-clause-first : goal.returns-in_err-add_world-clause-first
+returns-in_err-add_world-clause-first c =
+    let p = err_from_is_err_and c.from_residual-in_err-add_world.result c.from_residual-in_err-add_world.ensures.1 in
+    rw (p.1, p.2) (λ wrong right. inl c.in_err-add_world.ensures.refused)
+
+pub returns-clause-first : goal.returns-clause-first
+returns-clause-first c = c.in_ok-world.ensures.first

@@ -1,4 +1,4 @@
-use Rattle.std.proofs.Common.{◌≡◌, ◌<◌, ◌+◌, ◌++◌, ◌∷◌, ℕ, List, [], All, take, length, get_or, true, false, Some, refl, ap, sym, ◌∙◌, subst}
+use Rattle.std.proofs.Common.{◌≡◌, ◌<◌, ◌+◌, ◌++◌, ◌∷◌, ℕ, List, [], All, take, length, get_or, true, false, Some, inl, refl, ap, sym, ◌∙◌, subst}
 use Rattle.std.specs.Prelude.{slice_get, map}
 use Rattle.std.specs.List.{flat_map}
 use Rattle.std.proofs.lemmas.List.{take_all}
@@ -12,6 +12,8 @@ use Rattle.wit_syntax.specs.ScopeTables.{in_order, worlds_of}
 use Rattle.wit_syntax.specs.Sides.{with_inline}
 use Rattle.wit_arena.specs.ResolvedArenas.{IsWrongWorld, IsWrongWorldNow}
 use Rattle.wit_types.specs.declared.types.TypeOwner.TheVariants.{World as OfWorld}
+use Rattle.wit_first.specs.First.{first_in}
+use Rattle.wit_first.proofs.First.{in-more}
 use Rattle.wit_syntax.proofs.Lists.{read_map}
 use Rattle.wit_syntax.proofs.Kept.{kept_next, kept_past}
 use Rattle.wit_syntax.proofs.Refusing.{refused_weaker}
@@ -22,6 +24,7 @@ use Rattle.wit_items.specs.Found.{world_name}
 use Rattle.wit_items.proofs.Found.{found_none}
 use Rattle.wit_contents.specs.AddedWorlds.{arenas}
 use Rattle.wit_contents.proofs.Linking.{links_more}
+use Rattle.wit_contents.proofs.WorldFaults.{among_worlds}
 use Rattle.wit_contents.proofs.WorldsMore.{AreWorldsTo, addresses_in, sides_both, sounds_both, with_more, worlds_more, worlds_none}
 use Rattle.wit_contents.proofs.world.resolve_worlds.Goals.{in-World+in_ok-resolve_world-in-World, in-Interface, in-Inline}
 use Rattle.wit_contents.proofs.world.resolve_worlds.Goals as goal
@@ -39,6 +42,7 @@ loop-place-init c = rw (c.make_room.ensures.inside, c.make_room.ensures.worlds) 
   stable = record { legal = λ k u f at broken. absurd (let wrong : ⊥ = cc in wrong) };
   sided = record { legal = λ k u f at broken. absurd (let wrong : ⊥ = cc in wrong) };
   linked = record { each = λ k u at. absurd (let wrong : ⊥ = cc in wrong) };
+  first = λ test right. refl;
 })
 
 pub invariant_of-worlds : goal.invariant_of-worlds
@@ -106,6 +110,7 @@ loop-place-preserved c =
     let within : p < length c.args.items.now = c.requires.within i 0 c.loop-place-test.true in
     let there : slice_get ws p ≡ Some w = read_map item_view c.args.items.now p x within c.index-items-place.is in
     let before = c.loop-place.worlds.arena in
+    let own : slice_get c.args.items.now p ≡ Some x = item_at c.args.items.now places i x c.requires.within c.loop-place-test.true c.index-items-place.is in
     elim c.match-item.branch [
       | in-World+in_ok-resolve_world-in-World b ↦ (
           let sort : is_world w ≡ true = ap (λ (d : BorrowedDeclared). (about (declared_view d)).is_world) b.in-World.is in
@@ -126,15 +131,16 @@ loop-place-preserved c =
             stable = rw more (stability_more prefix w was.stable right.stable);
             sided = rw all (sides_both (flat_map with_inline prefix) (with_inline w) was.sided right.sided);
             linked = rw more (links_more c.args.interfaces.now.files prefix w was.linked right.linked);
+            first = λ test is_right. rw more (in-more test prefix w (was.first test is_right) ∙ e.first test (is_right.each c.loop-place.worlds c.loop-place.types (arenas before c.loop-place.inside (addresses_in prefix)) was.added.appends.own i p x was.interfaces at own sort (c.requires.items.each p x own) was.added.appends.holds refl (rw was.interfaces was.index)));
           }))
       | in-Interface b ↦ (
           let sort : is_world w ≡ false = ap (λ (d : BorrowedDeclared). (about (declared_view d)).is_world) b.in-Interface.is in
           let past : worlds_of (in_order ws (take (i + 1) places)) ≡ prefix = kept_past is_world ws places i p w at there sort in
-          rw (b.worlds-is, b.types-is, b.required-is, b.inside-is) (record { interfaces = was.interfaces; added = rw past was.added; index = was.index; sound = rw past was.sound; stable = rw past was.stable; sided = rw past was.sided; linked = rw past was.linked }))
+          rw (b.worlds-is, b.types-is, b.required-is, b.inside-is) (record { interfaces = was.interfaces; added = rw past was.added; index = was.index; sound = rw past was.sound; stable = rw past was.stable; sided = rw past was.sided; linked = rw past was.linked; first = λ test is_right. rw past (was.first test is_right) }))
       | in-Inline b ↦ (
           let sort : is_world w ≡ false = ap (λ (d : BorrowedDeclared). (about (declared_view d)).is_world) b.in-Inline.is in
           let past : worlds_of (in_order ws (take (i + 1) places)) ≡ prefix = kept_past is_world ws places i p w at there sort in
-          rw (b.worlds-is, b.types-is, b.required-is, b.inside-is) (record { interfaces = was.interfaces; added = rw past was.added; index = was.index; sound = rw past was.sound; stable = rw past was.stable; sided = rw past was.sided; linked = rw past was.linked }))
+          rw (b.worlds-is, b.types-is, b.required-is, b.inside-is) (record { interfaces = was.interfaces; added = rw past was.added; index = was.index; sound = rw past was.sound; stable = rw past was.stable; sided = rw past was.sided; linked = rw past was.linked; first = λ test is_right. rw past (was.first test is_right) }))
     ]
 
 pub returns-clause-added : goal.returns-clause-added
@@ -145,3 +151,33 @@ returns-clause-added c =
     let now = c.loop-place.worlds in
     let p = subst (λ (l : List ℕ). AreWorldsTo (prefix_of c.args.interfaces.now.files) (others_of c.args.interfaces.now.files) c.args.interfaces.now.arena c.args.types.now c.loop-place.types c.args.prefix now.arena c.loop-place.inside c.args.required.now.items c.loop-place.required.items (worlds_of (in_order ws l))) (take_all i places c.loop-place-test.false) c.loop-place.invariant.added in
     record { own = p.appends.own; list = p.appends.list; holds = (addresses_in (worlds_of (in_order ws places)), p.appends.holds) }
+
+pub returns-in_err-resolve_world-in-World-clause-first : goal.returns-in_err-resolve_world-in-World-clause-first
+returns-in_err-resolve_world-in-World-clause-first c =
+    let q = err_from_is_err_and c.from_residual-in_err-resolve_world-in-World.result c.from_residual-in_err-resolve_world-in-World.ensures.1 in
+    let ws = map item_view c.args.items.now in
+    let places = c.args.places.now in
+    let i = c.loop-place.place-index in
+    let p = get_or places i 0 in
+    let x = c.index-items-place.result in
+    let w = item_view x in
+    let was = c.loop-place.invariant in
+    let at : slice_get places i ≡ Some p = slice_get-get_or places i 0 c.loop-place-test.true in
+    let within : p < length c.args.items.now = c.requires.within i 0 c.loop-place-test.true in
+    let there : slice_get ws p ≡ Some w = read_map item_view c.args.items.now p x within c.index-items-place.is in
+    let sort : is_world w ≡ true = ap (λ (d : BorrowedDeclared). (about (declared_view d)).is_world) c.in-World.is in
+    let own = item_at c.args.items.now places i x c.requires.within c.loop-place-test.true c.index-items-place.is in
+    let before = arenas c.loop-place.worlds.arena c.loop-place.inside (addresses_in (worlds_of (in_order ws (take i places)))) in
+    rw (q.1, q.2) (λ test right. among_worlds test ws places i p w _ at there sort (was.first test right) (c.in_err-resolve_world-in-World.ensures.first test (right.each c.loop-place.worlds c.loop-place.types before was.added.appends.own i p x was.interfaces at own sort (c.requires.items.each p x own) was.added.appends.holds refl (rw was.interfaces was.index))))
+
+pub returns-in_err-make_room-clause-first : goal.returns-in_err-make_room-clause-first
+returns-in_err-make_room-clause-first c =
+    let q = err_from_is_err_and c.from_residual.result c.from_residual.ensures.1 in
+    rw q.1 (λ test right. inl q.2)
+
+pub returns-clause-first : goal.returns-clause-first
+returns-clause-first c = λ test right.
+    let ws = map item_view c.args.items.now in
+    let places = c.args.places.now in
+    let i = c.loop-place.place-index in
+    ap (λ (l : List ℕ). first_in test (worlds_of (in_order ws l))) (sym (take_all i places c.loop-place-test.false)) ∙ c.loop-place.invariant.first test right

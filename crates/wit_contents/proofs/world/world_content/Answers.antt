@@ -29,6 +29,7 @@ use Rattle.wit_contents.specs.WorldWalk.{IsWalkOf}
 use Rattle.wit_contents.specs.AddedWorlds.{IsWrongIn}
 use Rattle.wit_contents.proofs.Parts.{content_adds, extended, right_world, world_stable}
 use Rattle.wit_contents.proofs.Walks.{turn_of}
+use Rattle.wit_contents.proofs.WorldFaults.{head_fault, includes_first, names_first, world_none, world_reported}
 use Rattle.wit_contents.proofs.WrongWalk.{wrong_walk}
 use Rattle.wit_contents.proofs.world.world_content.Goals as goal
 
@@ -207,3 +208,84 @@ returns-clause-right c = λ legal.
     let stable = world_stable item legal c.in_ok-includes.ensures.stable in
     let sound = rw same at (c.in_ok-names.ensures.legal (functions item)) in
     rw of.interfaces at (right_world (walk_of c.args.item.now w) (others_of is.files) ws.arena c.args.types.now c.resolve_names.new.types c.walked_sides.new.types c.args.inside.now c.walked_sides.new.inside names.required.items c.in_ok-walked.walked of.walk added h.2 stable sound)
+
+-- the first fault: of its names, of its includes, or of what is on its sides
+pub returns-in_err-names-clause-first : goal.returns-in_err-names-clause-first
+returns-in_err-names-clause-first c =
+    let p = err_from_is_err_and c.from_residual.result c.from_residual.ensures.1 in
+    let ws = c.args.worlds.now in
+    let i = c.args.item.now in
+    let old = c.args.types.now in
+    let found = rw (c.next_id.ensures, c.deref.ensures.value) at c.in_err-names.ensures.first in
+    rw (p.1, p.2) (λ stable wrong right. elim found [
+      | inl memory ↦ inl memory
+      | inr lost ↦ inr (head_fault wrong ws old c.args.inside.now i right _ (names_first ws i old c.requires.item.named stable _ lost))
+    ])
+
+pub returns-in_err-includes-clause-first : goal.returns-in_err-includes-clause-first
+returns-in_err-includes-clause-first c =
+    let p = err_from_is_err_and c.from_residual-in_err-includes.result c.from_residual-in_err-includes.ensures.1 in
+    let ws = c.args.worlds.now in
+    let i = c.args.item.now in
+    let old = c.args.types.now in
+    let middle = c.resolve_names.new.types in
+    let names = c.in_ok-names.names in
+    let same : map name_view c.deref.result.now ≡ scope_names (item_view i) = ap (map name_view) c.deref.ensures.value ∙ c.requires.item.named in
+    let turn = rw (c.next_id.ensures, same) at c.in_ok-names.ensures.adds in
+    let head = rw c.deref.ensures.value at c.in_ok-names.ensures.first in
+    let found = rw (ap names_at_top c.requires.item.filed.file) at c.in_err-includes.ensures.first in
+    rw (p.1, p.2) (λ stable wrong right. elim found [
+      | inl memory ↦ inl memory
+      | inr lost ↦ inr (head_fault wrong ws old c.args.inside.now i right _ (includes_first ws i old c.requires.item.named stable names middle turn head _ lost))
+    ])
+
+pub returns-in_err-functions-clause-first : goal.returns-in_err-functions-clause-first
+returns-in_err-functions-clause-first c =
+    let p = err_from_is_err_and c.from_residual-in_err-functions.result c.from_residual-in_err-functions.ensures.1 in
+    rw p.1 (λ stable wrong right. inl p.2)
+
+pub returns-in_err-results-clause-first : goal.returns-in_err-results-clause-first
+returns-in_err-results-clause-first c =
+    let p = err_from_is_err_and c.from_residual-in_err-results.result c.from_residual-in_err-results.ensures.1 in
+    rw p.1 (λ stable wrong right. inl p.2)
+
+pub returns-in_err-walked-clause-first : goal.returns-in_err-walked-clause-first
+returns-in_err-walked-clause-first c =
+    let p = err_from_is_err_and c.from_residual-in_err-walked.result c.from_residual-in_err-walked.ensures.1 in
+    let ws = c.args.worlds.now in
+    let i = c.args.item.now in
+    let old = c.args.types.now in
+    let middle = c.resolve_names.new.types in
+    let names = c.in_ok-names.names in
+    let same : map name_view c.deref.result.now ≡ scope_names (item_view i) = ap (map name_view) c.deref.ensures.value ∙ c.requires.item.named in
+    let turn = rw (c.next_id.ensures, same) at c.in_ok-names.ensures.adds in
+    let head = rw c.deref.ensures.value at c.in_ok-names.ensures.first in
+    let included = rw (ap names_at_top c.requires.item.filed.file) at c.in_ok-includes.ensures.first in
+    rw (p.1, p.2) (λ stable wrong right. world_reported ws i old c.requires.item.named stable names middle turn head included wrong c.args.inside.now right _ c.in_err-walked.ensures.first)
+
+pub returns-in_err-add_required-clause-first : goal.returns-in_err-add_required-clause-first
+returns-in_err-add_required-clause-first c =
+    let p = err_from_is_err_and c.from_residual-in_err-add_required.result c.from_residual-in_err-add_required.ensures.1 in
+    rw p.1 (λ stable wrong right. inl p.2)
+
+pub returns-in_err-add_required-2-clause-first : goal.returns-in_err-add_required-2-clause-first
+returns-in_err-add_required-2-clause-first c =
+    let p = err_from_is_err_and c.from_residual-in_err-add_required-2.result c.from_residual-in_err-add_required-2.ensures.1 in
+    rw p.1 (λ stable wrong right. inl p.2)
+
+pub returns-in_err-sides-clause-first : goal.returns-in_err-sides-clause-first
+returns-in_err-sides-clause-first c =
+    let p = err_from_is_err_and c.from_residual-in_err-sides.result c.from_residual-in_err-sides.ensures.1 in
+    rw p.1 (λ stable wrong right. inl p.2)
+
+pub returns-clause-first : goal.returns-clause-first
+returns-clause-first c = λ stable wrong right.
+    let ws = c.args.worlds.now in
+    let i = c.args.item.now in
+    let middle = c.resolve_names.new.types in
+    let names = c.in_ok-names.names in
+    let same : map name_view c.deref.result.now ≡ scope_names (item_view i) = ap (map name_view) c.deref.ensures.value ∙ c.requires.item.named in
+    let turn = rw (c.next_id.ensures, same) at c.in_ok-names.ensures.adds in
+    let head = rw c.deref.ensures.value at c.in_ok-names.ensures.first in
+    let included = rw (ap names_at_top c.requires.item.filed.file) at c.in_ok-includes.ensures.first in
+    world_none ws i c.args.types.now c.requires.item.named stable names middle turn head included wrong c.args.inside.now right c.in_ok-walked.ensures.first

@@ -1,4 +1,4 @@
-use Rattle.std.proofs.Common.{length, ap, ◌∙◌, inl}
+use Rattle.std.proofs.Common.{length, ap, ◌∙◌, inl, inr}
 use Rattle.std.proofs.lemmas.Result.{err_from_is_err_and}
 use Rattle.wit_type_tree.specs.declared.leaves.Id.{Id}
 use Rattle.wit_syntax.specs.Source.{about, declared_metadata}
@@ -14,6 +14,7 @@ use Rattle.wit_uses.proofs.Telling.{world_stated}
 use Rattle.wit_arena.specs.UnfoldedTypes.{IsWorld}
 use Rattle.wit_items.specs.SourceItems.{metadata_view}
 use Rattle.wit_contents.specs.AddedWorlds.{HasContent, IsWrongIn}
+use Rattle.wit_contents.proofs.WorldFaults.{head_fault, unstable_first}
 use Rattle.wit_contents.proofs.world.world_of.Goals as goal
 
 pub returns-in_err-as_stated-clause-refused : goal.returns-in_err-as_stated-clause-refused
@@ -61,3 +62,29 @@ pub returns-clause-right : goal.returns-clause-right
 returns-clause-right c =
     let right = rw c.in_ok-metadata.ensures.both.1 at c.world_content-content.ensures.right in
     right ((stability_agrees (about (item_view c.args.item.now).declared).attributes).unbroken c.in_ok-as_stated.ensures.first)
+
+pub returns-in_err-as_stated-clause-first : goal.returns-in_err-as_stated-clause-first
+returns-in_err-as_stated-clause-first c =
+    let p = err_from_is_err_and c.from_residual.result c.from_residual.ensures.1 in
+    let ws = c.args.worlds.now in
+    let i = c.args.item.now in
+    rw (p.1, p.2) (λ wrong right. elim c.in_err-as_stated.ensures.first [
+      | inl memory ↦ inl memory
+      | inr unstable ↦ inr (head_fault wrong ws c.args.types.now c.args.inside.now i right _ (unstable_first ws i c.args.types.now _ unstable))
+    ])
+
+pub returns-in_err-metadata-clause-first : goal.returns-in_err-metadata-clause-first
+returns-in_err-metadata-clause-first c =
+    let p = err_from_is_err_and c.from_residual-in_err-metadata.result c.from_residual-in_err-metadata.ensures.1 in
+    let first = rw c.in_err-metadata.ensures.refused at c.world_content-content.ensures.first in
+    rw (p.1, p.2) (first c.in_ok-as_stated.ensures.first)
+
+pub returns-in_err-world-clause-first : goal.returns-in_err-world-clause-first
+returns-in_err-world-clause-first c =
+    let p = err_from_is_err_and c.from_residual-in_err-world.result c.from_residual-in_err-world.ensures.1 in
+    rw p.1 (λ wrong right. inl p.2)
+
+pub returns-clause-first : goal.returns-clause-first
+returns-clause-first c =
+    let first = rw c.in_ok-metadata.ensures.both.1 at c.world_content-content.ensures.first in
+    first c.in_ok-as_stated.ensures.first

@@ -1,11 +1,16 @@
-use Rattle.std.proofs.Common.{◌≡◌, ◌++◌}
+use Rattle.std.proofs.Common.{◌≡◌, ◌++◌, List, Option, None}
 use Rattle.std.specs.List.{AllZip}
 use Rattle.std.specs.Vec.Iter.{into_iter_items}
+use Rattle.wit_tree.specs.declared.tree.PackageFile.{PackageFile}
+use Rattle.wit_syntax.specs.Fault.{Fault}
+use Rattle.wit_first.specs.First.{first_in}
 use Rattle.wit_nested.specs.Nested.{IsMadeByNested}
+use Rattle.wit_nested.specs.PushFaults.{IsWalk, nested_fault}
 use Rattle.wit_nested.proofs.nested.resolve_all.Given as goal
 
 abbrev pub invariant-loop-inner : goal.invariant-loop-inner
 invariant-loop-inner l = record {
   all : l.yielded ++ into_iter_items l.inner-iterator ≡ l.fn.nested.items;
   made : AllZip IsMadeByNested l.yielded l.made.items;
+  first : (walk : List PackageFile → Option Fault) → IsWalk walk → first_in (nested_fault walk) l.yielded ≡ None;
 }

@@ -1,4 +1,4 @@
-use Rattle.std.proofs.Common.{◌≡◌, ◌⊎◌, ◌∷◌, [], List, ℕ, ap, sym, ◌∙◌, inl, inr}
+use Rattle.std.proofs.Common.{◌≡◌, ◌⊎◌, ◌∷◌, [], List, ℕ, ap, sym, ◌∙◌, inl, inr, Option, true, false, subst}
 use Rattle.std.proofs.lemmas.Result.{IfErr-weaker}
 use Rattle.wit_tree.specs.declared.tree.WorldSide.{WorldSide}
 use Rattle.wit_tree.specs.declared.tree.WorldSide.TheVariants.{Imported}
@@ -11,6 +11,10 @@ use Rattle.wit_sides.specs.SideNames.{defined_on}
 use Rattle.wit_rules.specs.BorrowedFunctions.{function_view}
 use Rattle.wit_externs.specs.Clash.{item_names, IsClash, IsCrossed}
 use Rattle.wit_externs.proofs.Clashing.{side_imported, side_across, item_defined, name_differs, clash_again, clash_crossed}
+use Rattle.wit_first.specs.First.{Finds}
+use Rattle.wit_walk.specs.Members.{is_on_side}
+use Rattle.wit_externs.proofs.AloneFaults.{again_by}
+use Rattle.wit_world_sides.proofs.PutFaults.{clash_one, extern_none}
 use Rattle.wit_world_sides.proofs.members.define_function.Goals as goal
 
 pub returns-in-None-clause-defined : goal.returns-in-None-clause-defined
@@ -62,3 +66,23 @@ returns-in-Some-clause-refused c =
       | inl crossed ↦ clash_crossed (SideFunction fn) side old name span f (ap role_side crosses.2) called (side, crosses.0, crosses.1, crosses.2) crossed
       | inr again ↦ clash_again (SideFunction fn) side old name span f (ap role_side crosses.2) called again
     ])) c.define_extern_part.ensures.refused
+
+pub returns-in-None-clause-first : goal.returns-in-None-clause-first
+returns-in-None-clause-first c =
+    let fn = function_view c.args.borrowed in
+    let name = c.as_str-name.result.now in
+    let span = c.args.function.now.span in
+    let called : item_names (SideFunction fn) ≡ (name, span) ∷ [] = ap (λ (n : Name). n ∷ []) (sym (ap (λ (n : List ℕ). (n, span)) c.as_str-name.ensures ∙ c.requires.borrowed)) in
+    let plain = sym c.across.ensures ∙ c.in-None.is in
+    let one = clash_one c.args.in_use.now (SideFunction fn) Imported false (name, span) (side_imported fn.role plain) (extern_none fn.role plain) called in
+    subst (λ (o : Option Fault). Finds o c.define.result) (sym one) (again_by c.define.result (defined_on Imported c.args.in_use.now) name span c.define.ensures.free c.define.ensures.refused)
+
+pub returns-in-Some-clause-first : goal.returns-in-Some-clause-first
+returns-in-Some-clause-first c =
+    let fn = function_view c.args.borrowed in
+    let name = c.as_str-name.result.now in
+    let span = c.args.function.now.span in
+    let called : item_names (SideFunction fn) ≡ (name, span) ∷ [] = ap (λ (n : Name). n ∷ []) (sym (ap (λ (n : List ℕ). (n, span)) c.as_str-name.ensures ∙ c.requires.borrowed)) in
+    let crosses = side_across fn.role c.in-Some.side (sym c.across.ensures ∙ c.in-Some.is) in
+    let one = clash_one c.args.in_use.now (SideFunction fn) c.in-Some.side true (name, span) (ap role_side crosses.2) (ap is_on_side crosses.2) called in
+    subst (λ (o : Option Fault). Finds o c.define_extern_part.result) (sym one) c.define_extern_part.ensures.first

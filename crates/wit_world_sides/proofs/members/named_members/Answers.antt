@@ -15,6 +15,8 @@ use Rattle.wit_refusals.specs.NameScopes.{Name}
 use Rattle.wit_signatures.specs.ForeignName.{IsTwiceAmong, name_key, name_of_id}
 use Rattle.wit_world_sides.proofs.Putting.{begun}
 use Rattle.wit_world_sides.proofs.SideKeys.{names_of}
+use Rattle.wit_first.proofs.First.{reports_same}
+use Rattle.wit_externs.specs.AloneFaults.{defined_fault}
 use Rattle.wit_world_sides.proofs.members.named_members.Goals as goal
 
 pub returns-in_err-define_names-clause-refused : goal.returns-in_err-define_names-clause-refused
@@ -37,3 +39,11 @@ returns-clause-keyed c =
     let in_use = λ (s : WorldSide). c.in_ok-define_names.ensures.defined s ∙ ap (λ (l : List Name). l ++ names_on s (map name_of_id ids)) (c.new-in_use.ensures s) in
     let differ = λ (s : WorldSide). c.in_ok-define_names.ensures.differ s (subst (λ (l : List Name). AllDiffer (map name_key l)) (sym (c.new-in_use.ensures s)) differ_none) in
     begun _ own.0 types ids own.1 listed (c.in_ok-imports.ensures own.0 own.1) c.in_ok-exports.ensures in_use differ c.new.ensures
+
+pub returns-in_err-define_names-clause-first : goal.returns-in_err-define_names-clause-first
+returns-in_err-define_names-clause-first c =
+    let p = err_from_is_err_and c.from_residual.result c.from_residual.ensures.1 in
+    rw (p.1, p.2) (reports_same (ap (λ (l : List Name). defined_fault l (map name_of_id c.args.turn.now)) (c.new-in_use.ensures Imported)) c.in_err-define_names.ensures.first)
+
+pub returns-clause-first : goal.returns-clause-first
+returns-clause-first c = ap (λ (l : List Name). defined_fault l (map name_of_id c.args.turn.now)) (sym (c.new-in_use.ensures Imported)) ∙ c.in_ok-define_names.ensures.first

@@ -1,4 +1,4 @@
-use Rattle.std.proofs.Common.{◌∷◌, [], List, refl, ap, subst, inl}
+use Rattle.std.proofs.Common.{◌∷◌, [], List, refl, ap, subst, inl, Option, sym, true}
 use Rattle.std.proofs.lemmas.Result.{err_from_is_err_and, on_ok_weaker, IfErr-weaker}
 use Rattle.wit_tree.specs.declared.tree.InterfaceItem.{InterfaceItem}
 use Rattle.wit_model.specs.ItemsOfWorlds.{function_of}
@@ -8,6 +8,10 @@ use Rattle.wit_syntax.specs.Broken.{Refused}
 use Rattle.wit_syntax.specs.Sides.{SideInline, SideItem}
 use Rattle.wit_externs.specs.Clash.{IsClashAfter}
 use Rattle.wit_world_sides.specs.Members.{IsNamedOn, Puts}
+use Rattle.wit_syntax.specs.Fault.{Fault}
+use Rattle.wit_first.specs.First.{Finds}
+use Rattle.wit_signatures.specs.ForeignName.{name_of_id}
+use Rattle.wit_world_sides.proofs.PutFaults.{clash_one}
 use Rattle.wit_world_sides.proofs.members.put_inline.Goals as goal
 
 pub put_named-requires-clause-interface : goal.put_named-requires-clause-interface
@@ -30,3 +34,14 @@ returns-clause-refused c =
     let own = c.args.name in
     let old = c.args.members.now.in_use in
     IfErr-weaker c.put_named.result (λ e. (x : SideItem) → IsNamedOn w.side own x → Refused (IsClashAfter old (x ∷ [])) e) (λ e. (items : List InterfaceItem) → Refused (IsClashAfter old (SideInline w own items ∷ [])) e) (λ e h items. h (SideInline w own items) (refl, refl, tt)) c.put_named.ensures.refused
+
+pub returns-in_err-item-clause-first : goal.returns-in_err-item-clause-first
+returns-in_err-item-clause-first c =
+    let p = err_from_is_err_and c.from_residual.result c.from_residual.ensures.1 in
+    rw p.1 (λ items. inl p.2)
+
+pub returns-clause-first : goal.returns-clause-first
+returns-clause-first c = λ items.
+    let w = c.args.written.now in
+    let own = c.args.name in
+    subst (λ (o : Option Fault). Finds o c.put_named.result) (sym (clash_one c.args.members.now.in_use (SideInline w own items) w.side true (name_of_id own) refl refl refl)) c.put_named.ensures.first

@@ -25,8 +25,8 @@ use Rattle.wit_walk.proofs.Broken.{broken}
 use Rattle.wit_walk.proofs.Decided.{decided}
 use Rattle.wit_walk.proofs.Legal.{faultless, legal}
 use Rattle.wit_walk.proofs.One.{one_first}
-use Rattle.wit_group_walk.specs.GroupFaults.{IsUnfitAmong}
-use Rattle.wit_group_walk.specs.PushFaults.{IsWalk, inner_fault, nested_fault, file_fault, source_fault, files_of, pushes_fault}
+use Rattle.wit_nested.specs.GroupFaults.{IsUnfitAmong}
+use Rattle.wit_nested.specs.PushFaults.{IsWalk, inner_fault, nested_fault, file_fault, source_fault, files_of, pushes_fault}
 
 -- of two faults, one after the other
 pub or_agrees : {a b : Option Fault} {A B C : Fault → Type 0} → Agrees a A → Agrees b B → ((f : Fault) → A f → C f) → ((f : Fault) → B f → C f) → ((f : Fault) → C f → A f ⊎ B f) → Agrees (option_or a b) C

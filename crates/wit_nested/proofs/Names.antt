@@ -27,10 +27,9 @@ use Rattle.wit_first.proofs.First.{after-at, any_some, none_both}
 use Rattle.wit_parser.proofs.Pushing.{package_same, same_by}
 use Rattle.wit_nested.specs.Nested.{IsMadeByNested, file_of}
 use Rattle.wit_nested.specs.PackageNames.{IsRepeatedPackage, package_names}
-use Rattle.wit_group_walk.specs.GroupFaults.{repeat_fault, names_fault, nested_names, IsNamedTwice}
-use Rattle.wit_group_walk.specs.Laws.{AgreeOnNames}
-use Rattle.wit_group_walk.specs.PushFaults.{files_of, nested_of}
-use Rattle.wit_group_walk.proofs.Pushes.{none_of}
+use Rattle.wit_nested.specs.GroupFaults.{AgreeOnNames, repeat_fault, names_fault, nested_names, IsNamedTwice}
+use Rattle.wit_nested.specs.PushFaults.{files_of, nested_of}
+use Rattle.wit_nested.proofs.Pushes.{none_of}
 
 -- whether a package is one of these
 abbrev is_one : Header → Header → Bool

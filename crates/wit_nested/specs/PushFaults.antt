@@ -1,14 +1,15 @@
 -- The first fault of sources that are pushed one after another.
-use Rattle.std.specs.Prelude.{List, [], ◌∷◌, map, Option, None, Some}
+use Rattle.std.specs.Prelude.{List, [], ◌∷◌, map, Option, None, Result, Some}
 use Rattle.std.specs.List.{flat_map}
 use Rattle.std.specs.Option.{option_or}
+use Rattle.wit_type_tree.specs.declared.error.ParseError.{ParseError}
 use Rattle.wit_tree.specs.declared.tree.NestedPackage.{NestedPackage}
 use Rattle.wit_tree.specs.declared.tree.PackageName.{PackageName as Header}
 use Rattle.wit_tree.specs.declared.tree.PackageFile.{PackageFile}
 use Rattle.wit_tree.specs.declared.tree.SourceFile.{SourceFile}
 use Rattle.wit_syntax.specs.Broken.{headers, last_header}
 use Rattle.wit_syntax.specs.Fault.{Fault, fault}
-use Rattle.wit_first.specs.First.{first_in, first_after}
+use Rattle.wit_first.specs.First.{Finds, first_in, first_after}
 use Rattle.wit_first.specs.HeaderFaults.{other_fault, second_docs_fault}
 use Rattle.wit_nested.specs.Nested.{file_of}
 use Rattle.wit_walk.specs.Walk.{ComesTo}
@@ -44,3 +45,7 @@ nested_of sources = flat_map (λ (s : SourceFile). s.nested.items) sources
 -- of sources, one after another
 abbrev pub pushes_fault : (List PackageFile → Option Fault) → List SourceFile → Option Fault
 pushes_fault walk sources = first_after (λ (before : List SourceFile) (s : SourceFile). source_fault walk (files_of before) s) [] sources
+
+-- a call finds this fault, which is said by what `resolve` comes to in files
+abbrev pub FindsWalked : {T : Type 0} → ((List PackageFile → Option Fault) → Option Fault) → Result T ParseError → Type 0
+FindsWalked first r = (walk : List PackageFile → Option Fault) → IsWalk walk → Finds (first walk) r

@@ -13,12 +13,12 @@ use Rattle.wit_first.proofs.First.{none_both}
 use Rattle.wit_groups.specs.Groups.{IsTree}
 use Rattle.wit_nested.proofs.Making.{zip_more}
 use Rattle.wit_walk.specs.Walk.{earliest}
-use Rattle.wit_group_walk.specs.GroupFaults.{IsNamedTwice, joined_faults, nested_names}
-use Rattle.wit_group_walk.specs.PushFaults.{IsWalk, files_of, source_fault}
-use Rattle.wit_group_walk.specs.SourceFaults.{Read, Tree, Stop, IsRead, IsStop, trees_of, SequenceComesTo, IsBrokenSequence}
-use Rattle.wit_group_walk.specs.SourceFaults.IsBrokenSequence.{Unread, Unfit, Illegal, NamedTwice}
-use Rattle.wit_group_walk.proofs.Group.{joined_agrees}
-use Rattle.wit_group_walk.proofs.Pushes.{source_agrees}
+use Rattle.wit_nested.specs.GroupFaults.{IsNamedTwice, joined_faults, nested_names}
+use Rattle.wit_nested.specs.PushFaults.{IsWalk, files_of, source_fault}
+use Rattle.wit_groups.specs.SourceFaults.{Read, Tree, Stop, IsRead, IsStop, trees_of, SequenceComesTo, IsBrokenSequence}
+use Rattle.wit_groups.specs.SourceFaults.IsBrokenSequence.{Unread, Unfit, Illegal, NamedTwice}
+use Rattle.wit_nested.proofs.Group.{joined_agrees}
+use Rattle.wit_nested.proofs.Pushes.{source_agrees}
 
 -- where two relations say one fault, so does what comes first
 pub or_two : (o : Option Fault) (Later Other : Option Fault → Type 0) → ((x y : Option Fault) → Later x → Other y → x ≡ y) → (x y : Option Fault) → IsOr o Later x → IsOr o Other y → x ≡ y

@@ -1,17 +1,20 @@
 -- The first fault of a group, and what is wrong with one.
-use Rattle.std.specs.Prelude.{◌≡◌, ℕ, if◌then◌else◌, List, [], ◌∷◌, Option, None, Some, Contains, map, slice_get, take}
-use Rattle.std.specs.List.{list_any}
+use Rattle.std.specs.Prelude.{◌≡◌, ◌↔◌, ℕ, if◌then◌else◌, List, [], ◌∷◌, Option, None, Result, Some, Contains, map, slice_get, take}
+use Rattle.std.specs.List.{AllZip, list_any}
+use Rattle.wit_type_tree.specs.declared.error.ParseError.{ParseError}
 use Rattle.wit_tree.specs.declared.tree.NestedPackage.{NestedPackage}
 use Rattle.wit_tree.specs.declared.tree.PackageName.{PackageName as Header}
 use Rattle.wit_tree.specs.declared.tree.PackageFile.{PackageFile}
 use Rattle.wit_tree.specs.declared.tree.SourceFile.{SourceFile}
+use Rattle.wit_model.specs.declared.unresolved.UnresolvedPackage.{UnresolvedPackage}
 use Rattle.wit_syntax.specs.Address.{package_of, same_package}
 use Rattle.wit_syntax.specs.Broken.{IsBroken, IsSamePackage, last_header}
 use Rattle.wit_syntax.specs.Fault.{Fault, fault}
 use Rattle.wit_first.specs.First.{first_after}
-use Rattle.wit_nested.specs.Nested.{IsUnfit}
+use Rattle.wit_nested.specs.Nested.{IsMadeByNested, IsUnfit}
+use Rattle.wit_nested.specs.PackageNames.{AreNamedApart, IsRepeatedPackage}
 use Rattle.wit_walk.specs.Walk.{earliest}
-use Rattle.wit_group_walk.specs.PushFaults.{IsWalk, files_of, nested_of, pushes_fault}
+use Rattle.wit_nested.specs.PushFaults.{FindsWalked, IsWalk, files_of, nested_of, pushes_fault}
 
 -- a package has the name of one of these, in one version or both in none: E53
 abbrev pub repeat_fault : List Header → Header → Option Fault
@@ -75,3 +78,12 @@ pub data IsBrokenGroup (sources : List SourceFile) (f : Fault) : Type 0 where
 -- nothing is
 abbrev pub IsLegalGroup : List SourceFile → Type 0
 IsLegalGroup sources = (f : Fault) → IsBrokenGroup sources f → ⊥
+
+-- a call finds what is wrong with files and packages, whichever sources they are of: these are pushed
+abbrev pub FindsJoined : {T : Type 0} → List PackageFile → List UnresolvedPackage → Result T ParseError → Type 0
+FindsJoined files nested r = (sources : List SourceFile) → files_of sources ≡ files → AllZip IsMadeByNested (nested_of sources) nested → FindsWalked (λ walk. earliest (joined_faults walk sources)) r
+
+-- E53 is what `GroupResolver::resolve` refuses in a main package and nested ones, and there is none exactly where no two of them have one name
+pub record AgreeOnNames (first : Option Fault) (main : UnresolvedPackage) (nested : List UnresolvedPackage) : Type 0 where
+  pub repeated : (f : Fault) → (first ≡ Some f) ↔ IsRepeatedPackage main nested f
+  pub apart : (first ≡ None) ↔ AreNamedApart main nested

@@ -1,8 +1,11 @@
 -- The first fault of sources: each is read, and pushed before the next is read; and then that of the group that they make.
-use Rattle.std.specs.Prelude.{◌≡◌, ℕ, ◌+◌, nat_lt, if◌then◌else◌, List, [], ◌∷◌, ◌++◌, length, Option, None, Some, string_bytes}
+use Rattle.std.specs.Prelude.{◌≡◌, ◌⊎◌, ℕ, ◌+◌, nat_lt, if◌then◌else◌, List, [], ◌∷◌, ◌++◌, length, MatchResult, Option, None, Result, Some, string_bytes}
 use Rattle.std.specs.List.{AllZip}
+use Rattle.wit_type_tree.specs.RefusalText.{IsAllocationFailure}
+use Rattle.wit_type_tree.specs.declared.error.ParseError.{ParseError}
 use Rattle.wit_tree.specs.declared.tree.PackageFile.{PackageFile}
 use Rattle.wit_tree.specs.declared.tree.SourceFile.{SourceFile}
+use Rattle.wit_lex.specs.Sources.{IsTooLarge}
 use Rattle.wit_lex.specs.TextFaults.{rule_of}
 use Rattle.wit_lex.specs.declared.fault.ReadFault.{ReadFault}
 use Rattle.wit_lex.specs.declared.source.Source.{Source}
@@ -10,13 +13,13 @@ use Rattle.wit_grammar.specs.Laws.{StopsAt}
 use Rattle.wit_grammar.specs.Seen.{see_file}
 use Rattle.wit_bundle.specs.SourcePaths.{IsByPath}
 use Rattle.wit_syntax.specs.Broken.{IsBroken, last_header}
-use Rattle.wit_syntax.specs.Fault.{Fault, fault}
+use Rattle.wit_syntax.specs.Fault.{Fault, fault, fault_of}
 use Rattle.wit_first.specs.First.{IsOr}
 use Rattle.wit_nested.specs.Nested.{IsUnfit}
 use Rattle.wit_groups.specs.Groups.{IsAlone, IsTree}
 use Rattle.wit_walk.specs.Walk.{earliest}
-use Rattle.wit_group_walk.specs.GroupFaults.{IsNamedTwice, joined_faults, nested_names}
-use Rattle.wit_group_walk.specs.PushFaults.{IsWalk, files_of, source_fault}
+use Rattle.wit_nested.specs.GroupFaults.{IsNamedTwice, joined_faults, nested_names}
+use Rattle.wit_nested.specs.PushFaults.{IsWalk, files_of, source_fault}
 
 -- what is read of a source: its tree, or the fault at which reading stops
 pub data Read : Type 0 where
@@ -63,6 +66,22 @@ IsFirstOfSources sources reads f = SourcesComeTo sources reads (Some f)
 
 abbrev pub AreFaultless : List Source → List Read → Type 0
 AreFaultless sources reads = SourcesComeTo sources reads None
+
+-- by what is read of them, sources have this first fault, or none
+abbrev pub HaveFirst : List Source → Option Fault → Type 0
+HaveFirst sources first = (reads : List Read) × SourcesComeTo sources reads first
+
+-- a call that returns an error beside something else finds it
+abbrev pub FindsBeside : {T S : Type 0} → (Option Fault → Type 0) → Result T (S × ParseError) → Type 0
+FindsBeside IsFirst r = MatchResult r (λ _. IsFirst None) (λ e. IsAllocationFailure e.1 ⊎ IsFirst (Some (fault_of e.1)))
+
+-- sources have a first fault, which is the refusal, or their text is too large to be one
+abbrev pub IsFirstOfText : (text : List ℕ) → List Source → ParseError → Type 0
+IsFirstOfText text sources e = IsTooLarge (length text + 1) e ⊎ (IsAllocationFailure e ⊎ HaveFirst sources (Some (fault_of e)))
+
+-- sources in this order, from the first on, come to the refusal
+abbrev pub AreStopped : List Source → ParseError → Type 0
+AreStopped ordered e = (walk : List PackageFile → Option Fault) → IsWalk walk → IsAllocationFailure e ⊎ ((reads : List Read) × SequenceComesTo walk [] ordered reads (Some (fault_of e)))
 
 -- two readings say the same: their trees do, but for addresses, or they stop at one fault
 abbrev pub AreAlike : Read → Read → Type 0

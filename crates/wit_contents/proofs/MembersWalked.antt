@@ -1,0 +1,174 @@
+-- The walk's fault of what is on the sides of a world is what is found of it, one after another.
+use Rattle.std.proofs.Common.{◌≡◌, ℕ, List, [], ◌∷◌, ◌++◌, map, Option, Some, None, inl, inr, refl, sym, ap, ◌∙◌, Contains, length}
+use Rattle.std.specs.Prelude.{slice_get}
+use Rattle.std.specs.List.{filter, flat_map}
+use Rattle.std.specs.Option.{option_or}
+use Rattle.wit_type_tree.specs.declared.leaves.Id.{Id}
+use Rattle.wit_tree.specs.declared.tree.Extern.{Extern}
+use Rattle.wit_tree.specs.declared.tree.InterfaceItem.{InterfaceItem}
+use Rattle.wit_tree.specs.declared.tree.PackageFile.{PackageFile}
+use Rattle.wit_tree.specs.declared.tree.WorldSide.{WorldSide}
+use Rattle.wit_types.specs.declared.types.TypeDef.{TypeDef}
+use Rattle.wit_model.specs.declared.interface.Interface.{Interface}
+use Rattle.wit_syntax.specs.Address.{Address}
+use Rattle.wit_syntax.specs.ExternPart.{same_side}
+use Rattle.wit_syntax.specs.Fault.{Fault}
+use Rattle.wit_syntax.specs.Function.{SourceFunction}
+use Rattle.wit_syntax.specs.ScopeTables.{in_turn}
+use Rattle.wit_syntax.specs.Sides.{Link, SideFunction, SideInline, SideItem, SideLink, inline_after, inline_item, is_interface, item_called, item_function, item_side, items_on, names_on, side_called, side_items}
+use Rattle.wit_syntax.specs.Source.{Item, ScopeName, TheInline, about, address, item_name, leads, local_id, path_scope, scope_names}
+use Rattle.wit_syntax.proofs.Found.{contains_at}
+use Rattle.wit_syntax.proofs.Kept.{kept_at}
+use Rattle.wit_first.specs.AttributeFaults.{external_fault, stability_fault}
+use Rattle.wit_first.specs.First.{first_in}
+use Rattle.wit_first.proofs.Bridge.{or_none_both}
+use Rattle.wit_walk.specs.Definitions.{handle_fault}
+use Rattle.wit_walk.specs.Functions.{function_fault, signed_fault}
+use Rattle.wit_walk.specs.Members.{called_fault, is_extern, member_fault}
+use Rattle.wit_walk.specs.Paths.{linked_fault as again_fault}
+use Rattle.wit_walk.specs.Walk.{Known, inline_fault}
+use Rattle.wit_arena.specs.Resolving.{env_of}
+use Rattle.wit_arena.specs.ResolvedArenas.{interfaces_at}
+use Rattle.wit_entries.specs.Requiring.{IsExtended}
+use Rattle.wit_entries.proofs.Requiring.{extended_then}
+use Rattle.wit_signatures.specs.ForeignName.{name_of_id}
+use Rattle.wit_sides.specs.SideNames.{defined_on}
+use Rattle.wit_externs.specs.AloneFaults.{EndsIn}
+use Rattle.wit_externs.specs.Clash.{names_of_items}
+use Rattle.wit_externs.specs.Links.{bare_places}
+use Rattle.wit_externs.specs.Next.{linked_on}
+use Rattle.wit_externs.proofs.AloneFaults.{safe_of}
+use Rattle.wit_externs.proofs.Steps.{at_middle}
+use Rattle.wit_item_names.specs.ForeignAddresses.{prefix_of}
+use Rattle.wit_items.specs.declared.interfaces.Interfaces.{Interfaces}
+use Rattle.wit_links.specs.Links.{interface_place, path_place}
+use Rattle.wit_links.proofs.Leading.{called_at}
+use Rattle.wit_world_sides.specs.PutFaults.{again_linked, put_fault, put_link_fault}
+use Rattle.wit_world_sides.specs.declared.members.Members.{Members}
+use Rattle.wit_contents.specs.InterfaceFaults.{IsRightOf}
+use Rattle.wit_contents.specs.MemberFaults.{AreRightMembers, HasNoFaultInside, IsRightMember, function_member, inline_member, link_member}
+use Rattle.wit_contents.specs.Walk.{AddsMembers, IsStart, ItemWalk, Stage, lead, next_place, stage, walk_item}
+use Rattle.wit_contents.specs.declared.walk.Walked.{Walked}
+use Rattle.wit_contents.proofs.LinksWalked.{HaveOwnPlaces, IsLeading, again_linked_walked, link_walked}
+use Rattle.wit_contents.proofs.NamesWalked.{put_walked}
+
+module _ (wk : ItemWalk) (known : Known) (order : List ℕ) (turned : wk.walk.turn.now ≡ map local_id (in_turn (scope_names (walk_item wk)) order)) (start : Walked) (begun : IsStart wk start) (old : List TypeDef) (inside : List Interface) where
+  abbrev is : Interfaces
+  is = wk.walk.interfaces.now
+
+  abbrev files : List PackageFile
+  files = is.files
+
+  abbrev item : Item
+  item = walk_item wk
+
+  abbrev xs : List ScopeName
+  xs = scope_names item
+
+  abbrev handle : Id → Option Fault
+  handle = handle_fault files known.steps (address item)
+
+  abbrev inner : Item → Option Fault
+  inner = inline_fault files known
+
+  abbrev member : List SideItem → SideItem → Option Fault
+  member = member_fault files known.steps inner item order
+
+  -- the walk's fault of a name after these
+  abbrev named : List SideItem → SideItem → Option Fault
+  named before x = first_in (called_fault (is_extern x) (side_called (item_side x) xs (items_on (item_side x) before) order)) (item_called x)
+
+  module _ (ends : (new : List TypeDef) → IsExtended old new → EndsIn (env_of wk.walk.scope.names.now) new handle) (leading : (link : Link) → Contains (side_items item) (SideLink link) → IsLeading files is.by_name (leads item.top link.path)) (insides : (done : List SideItem) (now : Stage) → AddsMembers wk [] done (stage old inside start) now → (x : SideItem) (rest : List SideItem) → side_items item ≡ done ++ (x ∷ rest) → (u : Item) → inline_after item done (x ∷ []) ≡ u ∷ [] → IsRightOf inner is now.types (next_place is now.inside) u) where
+    module _ (done : List SideItem) (now : Stage) (adds : AddsMembers wk [] done (stage old inside start) now) where
+      abbrev m : Members
+      m = now.walked.members
+
+      -- what is on the sides by now
+      in_use : (s : WorldSide) → defined_on s m.in_use ≡ names_on s (map name_of_id wk.walk.turn.now) ++ names_of_items (items_on s done)
+      in_use s = adds.in_use s ∙ ap (λ l. l ++ names_of_items (items_on s done)) (begun.in_use s)
+
+      put : (x : SideItem) → put_fault m x ≡ named done x
+      put x = put_walked m xs order wk.walk.turn.now done x turned in_use
+
+      linked : (s : WorldSide) → linked_on s m.links ≡ bare_places (lead wk) (items_on s done)
+      linked s = adds.linked s ∙ ap (λ l. l ++ bare_places (lead wk) (items_on s done)) (begun.linked s)
+
+      -- a function
+      function_walked : (fn : SourceFunction) → function_member wk done m fn handle ≡ member done (SideFunction fn)
+      function_walked fn = ap (option_or (function_fault (signed_fault xs (flat_map item_function done ++ fn ∷ []) handle) xs fn)) (put (SideFunction fn))
+
+      -- a link
+      abbrev addresses : List Address
+      addresses = interfaces_at (prefix_of files) is.arena
+
+      present : (l : Link) (j : ℕ) → lead wk l.path ≡ Some j → slice_get addresses j ≡ Some (path_scope item.top l.path)
+      present l j at = called_at (prefix_of files) is.arena is.by_name (path_scope item.top l.path) j is.prefix is.found at
+
+      module _ (link : Link) where
+        both : (id : ℕ) → path_place files is.by_name item.top link.path ≡ Some id → put_link_fault m link id ≡ option_or (again_fault item.top done link) (named done (SideLink link))
+        both id at =
+            let side = link.side in
+            let have : HaveOwnPlaces item.top (lead wk) link id addresses (interface_place (prefix_of files) is.by_name) (λ path. refl) (present link id at) at (items_on side done) = record {
+              each = λ k l there. (
+                  let p = kept_at (λ (y : SideItem). same_side side (item_side y)) done k (SideLink l) there in
+                  let r = (adds.right (SideLink l) (contains_at done p.0 (SideLink l) p.1)).leads l refl in
+                  (r.0, r.1.1, present l r.0 r.1.1));
+            } in
+            ap (λ (ids : List ℕ). option_or (again_linked ids link id) (put_fault m (SideLink link))) (linked side)
+            ∙ ap (λ (o : Option Fault). option_or o (put_fault m (SideLink link))) (again_linked_walked item.top (lead wk) link id addresses (interface_place (prefix_of files) is.by_name) (λ path. refl) (present link id at) at done have)
+            ∙ ap (option_or (again_fault item.top done link)) (put (SideLink link))
+
+        links_walked : Contains (side_items item) (SideLink link) → link_member wk m link ≡ member done (SideLink link)
+        links_walked among = link_walked files is.by_name item.top done link (leading link among) (put_link_fault m link) (named done (SideLink link)) both
+
+      -- an inline interface
+      module _ (x : Extern) (name : Id) (items : List InterfaceItem) (u : Item) (next : inline_after item done (SideInline x name items ∷ []) ≡ u ∷ []) where
+        abbrev own : SideItem
+        own = SideInline x name items
+
+        abbrev place : ℕ
+        place = length (filter is_interface (items_on (item_side own) done))
+
+        written : inline_item item place own ≡ u ∷ []
+        written = next
+
+        is_written : record { top = item.top; declared = TheInline (item_name item) place x name items } ≡ u
+        is_written = (let same : record { top = item.top; declared = TheInline (item_name item) place x name items } ∷ [] ≡ u ∷ [] = next in cc)
+
+        wrong_inside : (f : Fault) → inner u ≡ Some f → member done own ≡ Some f
+        wrong_inside f wrong = ap (λ (us : List Item). option_or (option_or (first_in inner us) (external_fault x.attributes.items)) (named done own)) written ∙ ap (λ (o : Option Fault). option_or (option_or (option_or o None) (external_fault x.attributes.items)) (named done own)) wrong
+
+        none_inside : inner u ≡ None → member done own ≡ inline_member m done own
+        none_inside none =
+            let stable : stability_fault x.attributes.items ≡ None = ap (λ (i : Item). stability_fault (about i.declared).attributes) is_written ∙ (or_none_both (stability_fault (about u.declared).attributes) _ none).0 in
+            ap (λ (us : List Item). option_or (option_or (first_in inner us) (external_fault x.attributes.items)) (named done own)) written
+            ∙ ap (λ (o : Option Fault). option_or (option_or (option_or o None) (external_fault x.attributes.items)) (named done own)) none
+            ∙ ap (option_or (external_fault x.attributes.items)) (sym (put own))
+            ∙ sym (ap (λ (o : Option Fault). option_or (option_or o (external_fault x.attributes.items)) (put_fault m own)) stable)
+
+    -- the next one
+    right_member : (done rest : List SideItem) (x : SideItem) (now : Stage) → side_items item ≡ done ++ (x ∷ rest) → AddsMembers wk [] done (stage old inside start) now → IsRightMember member wk done x now
+    right_member done rest (SideFunction fn) now split adds = record {
+      fault = λ f wrong. sym (function_walked done now adds fn) ∙ wrong.2 handle (ends wrong.0 (extended_then old now.types wrong.0 adds.extended wrong.1));
+      none = λ b more none. sym (function_walked done now adds fn) ∙ none handle (safe_of (env_of wk.walk.scope.names.now) b.types handle (ends b.types (extended_then old now.types b.types adds.extended more.extended)));
+    }
+    right_member done rest (SideLink link) now split adds =
+        let among = contains_at (side_items item) (length done) (SideLink link) (ap (λ (l : List SideItem). slice_get l (length done)) split ∙ at_middle done (SideLink link) rest) in
+        record {
+          fault = λ f wrong. sym (links_walked done now adds link among) ∙ wrong;
+          none = λ b more none. sym (links_walked done now adds link among) ∙ none;
+        }
+    right_member done rest (SideInline x name items) now split adds = record {
+      fault = λ f wrong. elim wrong [
+        | inl h ↦ wrong_inside done now adds x name items h.inline.item h.inline.next f ((insides done now adds (SideInline x name items) rest split h.inline.item h.inline.next).fault h.scope f h.inline.lent h.wrong)
+        | inr h ↦ nothing_inside h.0 ∙ h.1
+      ];
+      none = λ b more h. nothing_inside h.0 ∙ h.1;
+    }
+      where
+        nothing_inside : HasNoFaultInside wk done (SideInline x name items) now → member done (SideInline x name items) ≡ inline_member now.walked.members done (SideInline x name items)
+        nothing_inside h = none_inside done now adds x name items h.inline.item h.inline.next ((insides done now adds (SideInline x name items) rest split h.inline.item h.inline.next).none h.scope h.types h.added h.requires h.inline.lent h.adds h.none)
+
+    -- so each of them
+    pub right_members : AreRightMembers member wk [] (side_items item) (stage old inside start)
+    right_members done rest x now split adds = right_member done rest x now split adds

@@ -1,0 +1,127 @@
+-- The walk's fault of each interface of files is what is found of it, once those before it are resolved.
+use Rattle.std.proofs.Common.{◌≡◌, ◌⊎◌, ◌+◌, ◌++◌, ℕ, Bool, true, false, not, List, [], length, map, take, Option, Some, Contains, inl, inr, sym, ap, ◌∙◌, subst}
+use Rattle.std.specs.Prelude.{slice_get}
+use Rattle.std.specs.List.{filter, flat_map}
+use Rattle.wit_type_tree.specs.declared.leaves.Attribute.{Attribute}
+use Rattle.wit_tree.specs.declared.tree.PackageFile.{PackageFile}
+use Rattle.wit_tree.specs.declared.tree.UseName.{UseName}
+use Rattle.wit_types.specs.declared.types.TypeDef.{TypeDef}
+use Rattle.wit_types.specs.declared.types.TypeOwner.TheVariants as owner
+use Rattle.wit_model.specs.declared.interface.Interface.{Interface}
+use Rattle.wit_model.specs.declared.world.World.{World}
+use Rattle.wit_graph.specs.Table.{IsOrder}
+use Rattle.wit_syntax.specs.Address.{Address}
+use Rattle.wit_syntax.specs.Fault.{Fault}
+use Rattle.wit_syntax.specs.Foreign.{visited, foreign_interfaces}
+use Rattle.wit_syntax.specs.Repeats.{AllDiffer}
+use Rattle.wit_syntax.specs.ScopeTables.{in_order, in_turn, interfaces_of, item_rows}
+use Rattle.wit_syntax.specs.Source.{Item, ScopeName, Used, address, all_items, is_world, item_name, scope_names}
+use Rattle.wit_syntax.proofs.Kept.{kept_next}
+use Rattle.wit_syntax.proofs.Lists.{at_seam}
+use Rattle.wit_walk.specs.Definitions.{handle_fault}
+use Rattle.wit_walk.specs.Orders.{AreOutcomes}
+use Rattle.wit_walk.specs.Walk.{Known, contents_fault, inline_fault}
+use Rattle.wit_arena.specs.Resolving.{Defines, IsIndex, Required, ResolvedScope, env_of, resolved_scopes}
+use Rattle.wit_arena.specs.ResolvedArenas.{AddsForeign, AddsInterface, AddsInterfaces, AreUsableUses, IsNext}
+use Rattle.wit_arena.proofs.Added.{InterfacesDone, interfaces_done}
+use Rattle.wit_arena.proofs.Interfaces.{interfaces_sort, worlds_sort}
+use Rattle.wit_arena.proofs.Leading.{IsForeignUse, kept_early, kept_prefix, used_before}
+use Rattle.wit_arena.proofs.LegalIfDone.{IsResolvedUse, are_interfaces, are_worlds, interfaces, worlds}
+use Rattle.wit_externs.specs.AloneFaults.{EndsIn, IsSafe}
+use Rattle.wit_scopes.specs.BorrowedNames.{own_use, source_view}
+use Rattle.wit_scopes.specs.PlacedNames.{AreNamesPlaced}
+use Rattle.wit_item_names.specs.ForeignAddresses.{prefix_of}
+use Rattle.wit_items.specs.BorrowedItems.{item_view}
+use Rattle.wit_items.specs.ResolvedInterfaces.{resolved_scopes_of}
+use Rattle.wit_items.specs.declared.interfaces.Interfaces.{Interfaces}
+use Rattle.wit_items.specs.declared.items.Item.{Item as BorrowedItem}
+use Rattle.wit_items.specs.declared.items.ItemScope.{ItemScope}
+use Rattle.wit_contents.specs.AddedInterfaces.{IsIndexed}
+use Rattle.wit_contents.specs.InterfaceFaults.{IsLent, IsRightOf}
+use Rattle.wit_contents.proofs.AddedEnds.{interface_safe}
+use Rattle.wit_contents.proofs.EndsWalked.{IsEnough}
+use Rattle.wit_contents.proofs.ReachedEnds.{IsReached, interface_ends}
+use Rattle.wit_contents.proofs.RightInterface.{borrowed_uses, placed_uses, right_interface}
+use Rattle.wit_contents.proofs.UsesWalked.{uses_as_walked}
+use Rattle.wit_contents.proofs.WalkedInterface.{AreAsWalked}
+
+-- what `AreRightOf` says, by the files and the arena of the interfaces alone
+abbrev pub AreRightFrom : (Item → Option Fault) → List PackageFile → List Interface → List TypeDef → List BorrowedItem → List ℕ → Type 0
+AreRightFrom wrong fs arena old items places = (now : Interfaces) (mid : List TypeDef) (rs : List Required) (count : ℕ) (w : Item) → now.files ≡ fs → IsNext (map item_view items) places count w → is_world w ≡ false → AddsInterfaces (prefix_of fs) old mid arena now.arena rs (interfaces_of (in_order (map item_view items) (take count places))) → IsIndexed now → IsRightOf wrong now mid (length now.arena) w
+
+-- what comes next in an order comes after those kept before it
+pub next_kept : (test : Item → Bool) (all : List Item) (places : List ℕ) (k p : ℕ) (w : Item) → slice_get places k ≡ Some p → slice_get all p ≡ Some w → test w ≡ true → slice_get (filter test (in_order all places)) (length (filter test (in_order all (take k places)))) ≡ Some w
+next_kept test all places k p w next at passes =
+    let before = filter test (in_order all (take k places)) in
+    kept_prefix test all places (k + 1) (length before) w (ap (λ (l : List Item). slice_get l (length before)) (kept_next test all places k p w next at passes) ∙ at_seam before w)
+
+module _ (files : List PackageFile) (places : List ℕ) (order : IsOrder (item_rows files) places) (differ : AllDiffer (map item_name (all_items files))) (uses : AreUsableUses files (all_items files)) (es : List TypeDef) (prefix : List Interface) (wprefix : List World) (foreign : AddsForeign files es prefix wprefix) where
+  abbrev fore : List Address
+  fore = map visited (foreign_interfaces files)
+
+  abbrev all : List Item
+  all = all_items files
+
+  abbrev is_interface : Item → Bool
+  is_interface i = not (is_world i)
+
+  -- the interface that comes next
+  module _ (known : Known) (outcomes : AreOutcomes known.outcome) (enough : (s : Address) → IsEnough files known.steps s) (now : Interfaces) (same : now.files ≡ files) (mid : List TypeDef) (rs : List Required) (count : ℕ) (w : Item) (next : IsNext all places count w) (sort : is_world w ≡ false) (added : AddsInterfaces fore es mid prefix now.arena rs (interfaces_of (in_order all (take count places)))) (index : IsIndexed now) where
+    abbrev vs : List Item
+    vs = interfaces_of (in_order all (take count places))
+
+    -- those before it are resolved
+    done : (own : List Interface) × (now.arena ≡ prefix ++ own) × InterfacesDone files (interfaces files places order differ) (worlds files places order differ) prefix vs mid own rs
+    done = interfaces_done files (interfaces files places order differ) (worlds files places order differ) (interfaces_sort (in_order all places)) (worlds_sort (in_order all places)) (are_interfaces files places order differ) (are_worlds files places order differ) uses es prefix wprefix foreign mid now.arena rs vs (λ j v at. kept_prefix is_interface all places count j v at) added
+
+    scopes_are : resolved_scopes_of now ≡ resolved_scopes fore (prefix ++ done.0)
+    scopes_are = ap (λ (fs : List PackageFile). resolved_scopes (prefix_of fs) now.arena) same ∙ ap (resolved_scopes fore) done.1
+
+    -- what it uses from comes before it, or is of another package
+    earlier : (from : Address) (attributes : List Attribute) (n : UseName) → Contains (scope_names w) (Used from attributes n) → IsResolvedUse files places order differ vs from ⊎ IsForeignUse files from n
+    earlier from attributes n among = elim (used_before files uses differ places order count next.place w from attributes n sort next.next next.at among) [
+      | inl b ↦ (
+          let it = kept_early is_interface all places count b.index b.own.place b.own.item b.before b.at b.own.at (ap not b.own.sort) in
+          inl (record { place = it.0; item = b.own.item; at = it.1; sort = b.own.sort; is = b.own.is }))
+      | inr b ↦ inr b
+    ]
+
+    walked : (s : ItemScope) → IsLent s now.files w → AreAsWalked files now (flat_map own_use s.names.now)
+    walked s lent =
+        let placed : AreNamesPlaced fore s.names.now = subst (λ (fs : List PackageFile). AreNamesPlaced (prefix_of fs) s.names.now) same lent.placed in
+        let indexed : IsIndex (resolved_scopes fore (prefix ++ done.0)) now.by_name = subst (λ (cs : List ResolvedScope). IsIndex cs now.by_name) scopes_are index in
+        uses_as_walked files places order differ uses es prefix wprefix foreign vs mid done.0 rs done.2 now same done.1 indexed (flat_map own_use s.names.now) (placed_uses fore s.names.now placed) (λ k u at. earlier (source_view u.from) u.attributes.now u.name.now (borrowed_uses s.names.now (scope_names w) lent.named k u at))
+
+    there : slice_get (interfaces files places order differ) (length vs) ≡ Some w
+    there = next_kept is_interface all places count next.place w next.next next.at (ap not sort)
+
+    ends : (h : IsReached mid (resolved_scopes_of now) (owner.Interface (length now.arena)) w) → EndsIn (env_of h.names) (h.mid ++ h.more) (handle_fault files known.steps (address w))
+    ends h =
+        let own : IsReached mid (resolved_scopes fore (prefix ++ done.0)) (owner.Interface (length (prefix ++ done.0))) w = record {
+          order = h.order;
+          least = h.least;
+          distinct = h.distinct;
+          count = h.count;
+          mid = h.mid;
+          names = h.names;
+          defines = λ s. (
+              let xs = take h.count (in_turn (scope_names w) h.order) in
+              subst (λ (l : List Interface). Defines mid h.mid (resolved_scopes fore (prefix ++ done.0)) (owner.Interface (length l)) s [] h.names xs) done.1 (subst (λ (cs : List ResolvedScope). Defines mid h.mid cs (owner.Interface (length now.arena)) s [] h.names xs) scopes_are (h.defines s)));
+          more = h.more;
+        } in
+        interface_ends files (interfaces files places order differ) (worlds files places order differ) (interfaces_sort (in_order all places)) (worlds_sort (in_order all places)) (are_interfaces files places order differ) (are_worlds files places order differ) uses es prefix wprefix foreign vs mid done.0 rs w there done.2 own known.steps (enough (address w))
+
+    safe : (new : List TypeDef) (i : Interface) (required : List Required) → AddsInterface (resolved_scopes_of now) (length now.arena) mid new i required w → IsSafe (env_of i.types) new (handle_fault files known.steps (address w))
+    safe new i required adds =
+        let own : AddsInterface (resolved_scopes fore (prefix ++ done.0)) (length (prefix ++ done.0)) mid new i required w = subst (λ (l : List Interface). AddsInterface (resolved_scopes fore (prefix ++ done.0)) (length l) mid new i required w) done.1 (subst (λ (cs : List ResolvedScope). AddsInterface cs (length now.arena) mid new i required w) scopes_are adds) in
+        interface_safe files (interfaces files places order differ) (worlds files places order differ) (interfaces_sort (in_order all places)) (worlds_sort (in_order all places)) (are_interfaces files places order differ) (are_worlds files places order differ) uses es prefix wprefix foreign vs mid done.0 rs w there done.2 new i required own known.steps (enough (address w))
+
+    right_next : IsRightOf (contents_fault files known) now mid (length now.arena) w
+    right_next = right_interface files known outcomes (inline_fault files known) now mid (length now.arena) w sort walked ends safe
+
+  -- after those of other packages
+  pub interfaces_right : (known : Known) → AreOutcomes known.outcome → ((s : Address) → IsEnough files known.steps s) → (fs : List PackageFile) → fs ≡ files → (items : List BorrowedItem) → map item_view items ≡ all → AreRightFrom (contents_fault files known) fs prefix es items places
+  interfaces_right known outcomes enough fs same items view now mid rs count w kept next sort added index =
+      let by_files : AddsInterfaces fore es mid prefix now.arena rs (interfaces_of (in_order (map item_view items) (take count places))) = subst (λ (l : List PackageFile). AddsInterfaces (prefix_of l) es mid prefix now.arena rs (interfaces_of (in_order (map item_view items) (take count places)))) same added in
+      let by_items : AddsInterfaces fore es mid prefix now.arena rs (interfaces_of (in_order all (take count places))) = subst (λ (l : List Item). AddsInterfaces fore es mid prefix now.arena rs (interfaces_of (in_order l (take count places)))) view by_files in
+      right_next known outcomes enough now (kept ∙ same) mid rs count w (subst (λ (l : List Item). IsNext l places count w) view next) sort by_items index

@@ -1,0 +1,219 @@
+-- The first fault of a world: of its attributes, of its names, of its includes, or of what is on its sides.
+use Rattle.std.proofs.Common.{◌≡◌, ℕ, ◌+◌, Bool, true, List, [], ◌∷◌, ◌++◌, drop, length, map, take, Option, Some, None, refl, sym, ap, ◌∙◌, subst, arith}
+use Rattle.std.specs.Prelude.{if◌then◌else◌, slice_get}
+use Rattle.std.specs.List.{filter}
+use Rattle.std.specs.Option.{option_or}
+use Rattle.std.proofs.lemmas.List.{append-nil, take-append-drop, take_all}
+use Rattle.std.proofs.lemmas.List.Elements.{filter-append, filter_map-append}
+use Rattle.wit_type_tree.specs.declared.error.ParseError.{ParseError}
+use Rattle.wit_type_tree.specs.declared.leaves.Id.{Id}
+use Rattle.wit_tree.specs.declared.tree.Include.{Include}
+use Rattle.wit_tree.specs.declared.tree.WorldSide.TheVariants.{Imported}
+use Rattle.wit_types.specs.declared.types.TypeDef.{TypeDef}
+use Rattle.wit_types.specs.declared.types.TypeOwner.{TypeOwner}
+use Rattle.wit_types.specs.declared.types.TypeOwner.TheVariants as owner
+use Rattle.wit_model.specs.declared.interface.Interface.{Interface}
+use Rattle.wit_syntax.specs.Address.{Address}
+use Rattle.wit_syntax.specs.Fault.{Fault, fault}
+use Rattle.wit_syntax.specs.Function.{SourceFunction, functions}
+use Rattle.wit_syntax.specs.Repeats.{AllDiffer}
+use Rattle.wit_syntax.specs.ScopeTables.{in_order, in_turn, includes, rows_of, worlds_of}
+use Rattle.wit_syntax.specs.Sides.{side_items}
+use Rattle.wit_syntax.specs.Source.{Item, ScopeName, is_world, local_id, scope_names}
+use Rattle.wit_syntax.proofs.Kept.{kept_next}
+use Rattle.wit_first.specs.First.{Reports, first_after, first_in}
+use Rattle.wit_first.proofs.First.{in-append, in-more, no_repeats, none_both, reports_prefix, reports_same}
+use Rattle.wit_walk.specs.Orders.{InOrder, IsOutcome, Outcome, order_of}
+use Rattle.wit_walk.specs.Setters.{setters_beside, setters_fault}
+use Rattle.wit_walk.proofs.One.{outcome_one}
+use Rattle.wit_arena.specs.Resolving.{Defines, ResolvedScope, env_of}
+use Rattle.wit_arena.proofs.DefinitionPart.{defines_none}
+use Rattle.wit_refusals.specs.NameScopes.{Name}
+use Rattle.wit_signatures.specs.ForeignName.{name_key, name_of_id}
+use Rattle.wit_externs.specs.AloneFaults.{EndsIn, IsSafe, sides_setters}
+use Rattle.wit_externs.proofs.AloneFaults.{safe_of}
+use Rattle.wit_items.specs.BorrowedItems.{item_view, names_view}
+use Rattle.wit_items.specs.ResolvedInterfaces.{resolved_scopes_of}
+use Rattle.wit_items.specs.declared.interfaces.Interfaces.{Interfaces}
+use Rattle.wit_items.specs.declared.items.Item.{Item as BorrowedItem}
+use Rattle.wit_world_sides.specs.Settled.{none_of}
+use Rattle.wit_links.specs.Includes.{includes_fault}
+use Rattle.wit_links.specs.declared.worlds.Worlds.{Worlds}
+use Rattle.wit_item_entries.specs.AddedNames.{AddsTurn}
+use Rattle.wit_item_entries.specs.ReachedFaults.{HaveNames, IsNamesFault, item_stability, names_fault}
+use Rattle.wit_item_entries.specs.declared.names.ResolvedNames.{ResolvedNames}
+use Rattle.wit_contents.specs.MemberFaults.{MemberTest}
+use Rattle.wit_contents.specs.Walk.{IsNext, IsStart, IsWalk, ItemWalk, walk_item, walk_of}
+use Rattle.wit_contents.specs.WorldFaults.{AreRightAfter, AreRightSides, HasNoHeadFault, IsRightOfWorld, IsWorldHeadFault, sides_fault, turn_fault}
+use Rattle.wit_contents.specs.WorldWalk.{IsWalkOf}
+use Rattle.wit_contents.specs.declared.walk.Walk.{Walk}
+use Rattle.wit_contents.specs.declared.walk.Walked.{Walked}
+
+-- setters are looked at where a world includes nothing
+setters_by : (i : Item) (ns : List Include) → (if none_of ns then sides_setters (functions i) else None) ≡ setters_beside i ns
+setters_by i [] = refl
+setters_by i (n ∷ ns) = refl
+
+pub setters_closed : (i : Item) (fns : List SourceFunction) → fns ≡ functions i → (closed : Bool) → closed ≡ none_of (includes i) → (if closed then sides_setters fns else None) ≡ setters_fault i
+setters_closed i fns are closed same =
+    ap (λ (gs : List SourceFunction). if closed then sides_setters gs else None) are
+    ∙ ap (λ (b : Bool). if b then sides_setters (functions i) else None) same
+    ∙ setters_by i (includes i)
+
+-- no two of the names that are there at first are one
+pub turn_differs : (w : ItemWalk) (start : Walked) → IsStart w start → turn_fault w.walk.turn.now ≡ None
+turn_differs w start is =
+    let names = map name_of_id w.walk.turn.now in
+    no_repeats name_key (λ (m : Name). fault 17 m.1) names (subst (λ (l : List Name). AllDiffer (map name_key l)) (is.in_use Imported) (is.keyed.differ Imported))
+
+-- at first all of what is on the sides comes next
+abbrev pub next_all : (w : ItemWalk) (start : Walked) → IsWalk w → IsStart w start → IsNext w (side_items (walk_item w)) start
+next_all w start walk is = record { walk = walk; prefix = []; rest = []; sides = sym (append-nil (side_items (walk_item w))); seen = is.seen; keyed = is.keyed }
+
+-- what is found of a walk is found of the world with these names
+module _ (w : Walk) (i : BorrowedItem) (is : Interfaces) (names : ResolvedNames) (old : List TypeDef) (inside : List Interface) (of : IsWalkOf w i is names) (member : MemberTest) (right : AreRightSides member i is names old inside) where
+  sides_by : (P : Option Fault → Type 0) → (((start : Walked) → IsStart (walk_of i w) start → AreRightAfter member (walk_of i w) old inside start) → P (sides_fault (item_view i) w.turn.now member)) → P (sides_fault (item_view i) names.turn.items member)
+  sides_by P found = subst (λ (ids : List Id). P (sides_fault (item_view i) ids member)) of.turn (found (λ start begun. right w start of begun))
+
+  pub sides_reported : (e : ParseError) → (((start : Walked) → IsStart (walk_of i w) start → AreRightAfter member (walk_of i w) old inside start) → Reports (sides_fault (item_view i) w.turn.now member) e) → Reports (sides_fault (item_view i) names.turn.items member) e
+  sides_reported e found = sides_by (λ (first : Option Fault). Reports first e) found
+
+  pub sides_none : (((start : Walked) → IsStart (walk_of i w) start → AreRightAfter member (walk_of i w) old inside start) → sides_fault (item_view i) w.turn.now member ≡ None) → sides_fault (item_view i) names.turn.items member ≡ None
+  sides_none found = sides_by (λ (first : Option Fault). first ≡ None) found
+
+module _ (ws : Worlds) (i : BorrowedItem) (old : List TypeDef) where
+  abbrev w : Item
+  w = item_view i
+
+  abbrev cs : List ResolvedScope
+  cs = resolved_scopes_of ws.interfaces.now
+
+  abbrev o : TypeOwner
+  o = owner.World (length ws.arena)
+
+  abbrev xs : List ScopeName
+  xs = scope_names w
+
+  -- what comes after the names, where these are they in turn
+  abbrev after : List Id → Option Fault
+  after ids = option_or (includes_fault ws w) (turn_fault ids)
+
+  abbrev turned : Outcome → List Id
+  turned outcome = map local_id (in_turn xs (order_of outcome))
+
+  abbrev names_test : Outcome → (Id → Option Fault) → Option Fault
+  names_test outcome handle = names_fault ws.interfaces.now i.names.items outcome handle
+
+  -- its own attributes are wrong
+  pub unstable_first : (f : Fault) → item_stability w ≡ Some f → IsWorldHeadFault ws old i f
+  unstable_first f wrong outcome right = record {
+    count = 0;
+    mid = old;
+    now = [];
+    defines = λ s. defines_none old cs o s [];
+    more = [];
+    is = λ handle ends. ap (λ (x : Option Fault). option_or x (option_or (names_test outcome handle) (after (turned outcome)))) wrong;
+  }
+
+  module _ (named : names_view i ≡ scope_names (item_view i)) (stable : item_stability (item_view i) ≡ None) where
+    -- its names are
+    pub names_first : (f : Fault) → IsNamesFault None ws.interfaces.now o old i.names.items f → IsWorldHeadFault ws old i f
+    names_first f h outcome right =
+        let r = h outcome (subst (λ (ys : List ScopeName). IsOutcome (rows_of ys) outcome) (sym named) right) in
+        record {
+          count = r.count;
+          mid = r.mid;
+          now = r.now;
+          defines = λ s. subst (λ (ys : List ScopeName). Defines old r.mid cs o s [] r.now (take r.count (in_turn ys (order_of outcome)))) named (r.defines s);
+          more = r.more;
+          is = λ handle ends. (
+              let names : names_test outcome handle ≡ Some f = r.is handle ends in
+              ap (λ (x : Option Fault). option_or x (option_or (names_test outcome handle) (after (turned outcome)))) stable ∙ ap (λ (x : Option Fault). option_or x (after (turned outcome))) names);
+        }
+
+    -- they are resolved, and in the arena
+    module _ (n : ResolvedNames) (mid : List TypeDef) (turn : AddsTurn old mid cs o xs n.types n.turn.items n.required.items) (head : HaveNames None ws.interfaces.now i.names.items n.types mid) where
+      module _ (outcome : Outcome) (right : IsOutcome (rows_of (scope_names (item_view i))) outcome) where
+        ordered : outcome ≡ InOrder turn.adds.order
+        ordered = outcome_one (rows_of xs) outcome (InOrder turn.adds.order) right turn.adds.least
+
+        in_turn_is : in_turn xs (order_of outcome) ≡ in_turn xs turn.adds.order
+        in_turn_is = ap (λ (p : Outcome). in_turn xs (order_of p)) ordered
+
+        turned_is : n.turn.items ≡ turned outcome
+        turned_is = turn.turn ∙ ap (map local_id) (sym in_turn_is)
+
+        all_defined : (s : Address) → Defines old mid cs o s [] n.types (take (length (in_turn xs (order_of outcome))) (in_turn xs (order_of outcome)))
+        all_defined s =
+            let ys = in_turn xs (order_of outcome) in
+            subst (λ (zs : List ScopeName). Defines old mid cs o s [] n.types zs) (sym in_turn_is ∙ sym (take_all (length ys) ys (omega arith))) (turn.adds.defines s)
+
+        names_none : (handle : Id → Option Fault) → IsSafe (env_of n.types) mid handle → names_test outcome handle ≡ None
+        names_none handle safe = head outcome (subst (λ (ys : List ScopeName). IsOutcome (rows_of ys) outcome) (sym named) right) handle safe
+
+      -- so what comes after them is wrong
+      after_first : (f : Fault) → after n.turn.items ≡ Some f → IsWorldHeadFault ws old i f
+      after_first f wrong outcome right = record {
+        count = length (in_turn xs (order_of outcome));
+        mid = mid;
+        now = n.types;
+        defines = all_defined outcome right;
+        more = [];
+        is = λ handle ends. (
+            let now : EndsIn (env_of n.types) mid handle = subst (λ (es : List TypeDef). EndsIn (env_of n.types) es handle) (append-nil mid) ends in
+            let none = names_none outcome right handle (safe_of (env_of n.types) mid handle now) in
+            ap (λ (x : Option Fault). option_or x (option_or (names_test outcome handle) (after (turned outcome)))) stable
+            ∙ ap (λ (x : Option Fault). option_or x (after (turned outcome))) none
+            ∙ ap after (sym (turned_is outcome right))
+            ∙ wrong);
+      }
+
+      pub includes_first : (f : Fault) → includes_fault ws (item_view i) ≡ Some f → IsWorldHeadFault ws old i f
+      includes_first f wrong = after_first f (ap (λ (x : Option Fault). option_or x (turn_fault n.turn.items)) wrong)
+
+      module _ (included : includes_fault ws (item_view i) ≡ None) where
+        -- or nothing is
+        head_none : turn_fault n.turn.items ≡ None → HasNoHeadFault ws i n.types mid
+        head_none differ outcome right handle safe = none_both stable (none_both (names_none outcome right handle safe) (none_both included (ap turn_fault (sym (turned_is outcome right)) ∙ differ)))
+
+        module _ (wrong : Item → Option Fault) (inside : List Interface) (test : IsRightOfWorld wrong ws old inside i) where
+          abbrev rest : Option Fault
+          rest = option_or (first_after test.member [] (side_items w)) (setters_fault w)
+
+          head_by : (twice : Option Fault) → turn_fault n.turn.items ≡ twice → test.head ≡ twice
+          head_by None differ = test.none n.types mid turn.adds (head_none differ)
+          head_by (Some f) again = test.fault f (after_first f (ap (λ (x : Option Fault). option_or x (turn_fault n.turn.items)) included ∙ again))
+
+          all_first : wrong (item_view i) ≡ sides_fault (item_view i) n.turn.items test.member
+          all_first = test.is ∙ ap (λ (x : Option Fault). option_or x rest) (head_by (turn_fault n.turn.items) refl)
+
+          right_members : AreRightSides test.member i ws.interfaces.now n mid inside
+          right_members v start of begun = test.members n mid turn.adds (head_none (ap turn_fault (sym of.turn) ∙ turn_differs (walk_of i v) start begun)) v start of begun
+
+          -- so what is found of its sides is found of it
+          pub world_reported : (e : ParseError) → ((member : MemberTest) → AreRightSides member i ws.interfaces.now n mid inside → Reports (sides_fault (item_view i) n.turn.items member) e) → Reports (wrong (item_view i)) e
+          world_reported e found = reports_same (sym all_first) (found test.member right_members)
+
+          pub world_none : ((member : MemberTest) → AreRightSides member i ws.interfaces.now n mid inside → sides_fault (item_view i) n.turn.items member ≡ None) → wrong (item_view i) ≡ None
+          world_none found = all_first ∙ found test.member right_members
+
+-- a fault of what comes before the members is that of the world
+pub head_fault : (wrong : Item → Option Fault) (ws : Worlds) (old : List TypeDef) (inside : List Interface) (i : BorrowedItem) → IsRightOfWorld wrong ws old inside i → (f : Fault) → IsWorldHeadFault ws old i f → wrong (item_view i) ≡ Some f
+head_fault wrong ws old inside i test f h = test.is ∙ ap (λ (x : Option Fault). option_or x (option_or (first_after test.member [] (side_items (item_view i))) (setters_fault (item_view i)))) (test.fault f h)
+
+-- the worlds in an order, up to one, that one, and those after it
+split_worlds : (ws : List Item) (places : List ℕ) (k p : ℕ) (w : Item) → slice_get places k ≡ Some p → slice_get ws p ≡ Some w → is_world w ≡ true → worlds_of (in_order ws places) ≡ (worlds_of (in_order ws (take k places)) ++ w ∷ []) ++ worlds_of (in_order ws (drop (k + 1) places))
+split_worlds ws places k p w next at sort =
+    let front = take (k + 1) places in
+    let back = drop (k + 1) places in
+    ap (λ (l : List ℕ). filter is_world (in_order ws l)) (sym (take-append-drop (k + 1) places))
+    ∙ ap (filter is_world) (filter_map-append (slice_get ws) front back)
+    ∙ filter-append is_world (in_order ws front) (in_order ws back)
+    ∙ ap (λ (l : List Item). l ++ filter is_world (in_order ws back)) (kept_next is_world ws places k p w next at sort)
+
+-- the first fault of worlds in an order is that of one, where those before it have none
+pub among_worlds : (wrong : Item → Option Fault) (ws : List Item) (places : List ℕ) (k p : ℕ) (w : Item) (e : ParseError) → slice_get places k ≡ Some p → slice_get ws p ≡ Some w → is_world w ≡ true → first_in wrong (worlds_of (in_order ws (take k places))) ≡ None → Reports (wrong w) e → Reports (first_in wrong (worlds_of (in_order ws places))) e
+among_worlds wrong ws places k p w e next at sort none own =
+    let prefix = worlds_of (in_order ws (take k places)) in
+    let rest = worlds_of (in_order ws (drop (k + 1) places)) in
+    reports_same (sym (ap (first_in wrong) (split_worlds ws places k p w next at sort) ∙ in-append wrong (prefix ++ w ∷ []) rest)) (reports_prefix (first_in wrong rest) (reports_same (sym (in-more wrong prefix w none)) own))

@@ -1,0 +1,26 @@
+-- The first fault of files from a step of the walk on.
+use Rattle.std.specs.Prelude.{◌≡◌, ℕ, List, Option, Result, Some, drop}
+use Rattle.wit_type_tree.specs.declared.error.ParseError.{ParseError}
+use Rattle.wit_type_tree.specs.declared.leaves.Id.{Id}
+use Rattle.wit_tree.specs.declared.tree.PackageFile.{PackageFile}
+use Rattle.wit_syntax.specs.Address.{Address}
+use Rattle.wit_syntax.specs.Fault.{Fault}
+use Rattle.wit_syntax.specs.NameEnds.{End, EndsAt, shape_end}
+use Rattle.wit_syntax.specs.ScopeTables.{item_rows}
+use Rattle.wit_syntax.specs.Shape.{Word}
+use Rattle.wit_first.specs.First.{Finds}
+use Rattle.wit_walk.specs.Orders.{AreOutcomes}
+use Rattle.wit_walk.specs.Walk.{Known, earliest, walk_faults}
+
+-- what is looked up is right: each table has its outcome, and each name that ends ends in so many steps
+pub record IsRight (files : List PackageFile) (known : Known) : Type 0 where
+  pub outcomes : AreOutcomes known.outcome
+  pub enough : (s : Address) (id : Id) (end : End) → EndsAt files s id end → shape_end files known.steps s (Word id) ≡ Some end
+
+-- the first fault of files after so many steps of the walk: after one there is a header, and after six there are names
+abbrev pub fault_after : ℕ → List PackageFile → Known → Option Fault
+fault_after n files known = earliest (drop n (walk_faults files known (known.outcome (item_rows files))))
+
+-- a call finds it
+abbrev pub FindsAfter : {T : Type 0} → ℕ → List PackageFile → Result T ParseError → Type 0
+FindsAfter n files r = (known : Known) → IsRight files known → Finds (fault_after n files known) r

@@ -1,0 +1,133 @@
+-- What is found of a name, a link and setters that come onto a side of a world.
+use Rattle.std.proofs.Common.{◌≡◌, ◌⊎◌, ◌&&◌, ℕ, Bool, true, false, List, [], ◌∷◌, Option, Some, None, Contains, nat_eq, is_none, inl, inr, refl, sym, ap, ◌∙◌, eq-eqb, eqb-true}
+use Rattle.std.specs.Prelude.{if◌then◌else◌}
+use Rattle.std.specs.List.{list_any}
+use Rattle.std.specs.Option.{option_or}
+use Rattle.std.specs.Str.{bytes_eq}
+use Rattle.std.proofs.lemmas.Bool.{false_from_ne_true}
+use Rattle.wit_values.specs.declared.span.Span.{Span}
+use Rattle.wit_type_tree.specs.RefusalText.{IsAllocationFailure}
+use Rattle.wit_type_tree.specs.declared.error.ParseError.{ParseError}
+use Rattle.wit_type_tree.specs.declared.leaves.Id.{Id}
+use Rattle.wit_tree.specs.declared.tree.Include.{Include}
+use Rattle.wit_tree.specs.declared.tree.WorldSide.{WorldSide}
+use Rattle.wit_syntax.specs.Broken.{Refused}
+use Rattle.wit_syntax.specs.Fault.{Fault, fault, fault_of}
+use Rattle.wit_syntax.specs.Function.{Role, Freestanding, Method, Static, Constructor, OnSide, SourceFunction, functions}
+use Rattle.wit_syntax.specs.ScopeTables.{includes}
+use Rattle.wit_syntax.specs.Sides.{Link, SideItem, SideLink, item_side}
+use Rattle.wit_syntax.specs.Source.{Item, path_id}
+use Rattle.wit_syntax.proofs.Found.{at_contains, contains_at}
+use Rattle.wit_syntax.proofs.Names.{name_equal, name_itself}
+use Rattle.wit_first.specs.First.{Reports, first_in}
+use Rattle.wit_first.proofs.Bridge.{any_found}
+use Rattle.wit_first.proofs.First.{any_some, none_both, or_none, reports_back}
+use Rattle.wit_walk.specs.Members.{is_extern, is_on_side}
+use Rattle.wit_walk.specs.Setters.{setters_beside, setters_fault}
+use Rattle.wit_refusals.specs.KeyedNames.{HasName}
+use Rattle.wit_refusals.specs.NameScopes.{Name, AreUsed, IsDefinedAgain}
+use Rattle.wit_rules.specs.BorrowedFunctions.{across_of}
+use Rattle.wit_sides.specs.SideNames.{defined_on}
+use Rattle.wit_sides.specs.declared.sides.Sides.{Sides}
+use Rattle.wit_signatures.specs.ForeignName.{name_of_id}
+use Rattle.wit_externs.specs.AloneFaults.{again_fault}
+use Rattle.wit_externs.specs.Clash.{item_names}
+use Rattle.wit_externs.specs.Next.{IsLinked, linked_on}
+use Rattle.wit_externs.proofs.AloneFaults.{again_free, again_report}
+use Rattle.wit_world_sides.specs.declared.members.Members.{Members}
+use Rattle.wit_world_sides.specs.Members.{text}
+use Rattle.wit_world_sides.specs.PutFaults.{again_linked, clash_fault, closed_fault, crossed_fault, named_fault, put_fault, put_link_fault}
+use Rattle.wit_world_sides.specs.Settled.{none_of}
+use Rattle.wit_world_sides.proofs.Putting.{names_itself, names_under}
+
+-- a name that is spelled like one of these, and one that is not
+crossed_has : (names : List Name) (name : List ℕ) (span : Span) → HasName names name → crossed_fault names (name, span) ≡ Some (fault 44 span)
+crossed_has names name span has =
+    let hit = any_some (λ (m : Name). bytes_eq (text m) name) names has.place (name, has.span) has.at (name_itself name) in
+    ap (λ (b : Bool). if b then Some (fault 44 span) else None) hit
+
+crossed_free : (names : List Name) (name : List ℕ) (span : Span) → (HasName names name → ⊥) → crossed_fault names (name, span) ≡ None
+crossed_free names name span free =
+    let test = λ (m : Name). bytes_eq (text m) name in
+    let miss : list_any test names ≡ false = false_from_ne_true (list_any test names) (λ hit. (
+    let it = any_found test names hit in
+    free (record { place = it.0; span = it.1.1; at = it.2 ∙ ap (λ (n : List ℕ). Some (n, it.1.1)) (name_equal it.1.0 name it.3) }))) in
+    ap (λ (b : Bool). if b then Some (fault 44 span) else None) miss
+
+-- of the name of an import or an export: its key is new on its side; or the name is there, or it is not, and something is wrong
+pub named_free : (names : List Name) (name : List ℕ) (span : Span) → (AreUsed names name → ⊥) → named_fault true names (name, span) ≡ None
+named_free names name span free = none_both (crossed_free names name span (λ has. free (record { place = has.place; earlier = (name, has.span); at = has.at; same = refl }))) (again_free names name span free)
+
+pub named_has : (names : List Name) (name : List ℕ) (span : Span) (e : ParseError) → HasName names name → IsAllocationFailure e ⊎ (fault_of e ≡ fault 44 span) → Reports (named_fault true names (name, span)) e
+named_has names name span e has h = elim h [
+  | inl memory ↦ inl memory
+  | inr is ↦ inr (ap (λ (o : Option Fault). option_or o (again_fault names (name, span))) (crossed_has names name span has) ∙ ap Some (sym is))
+]
+
+pub named_other : (names : List Name) (name : List ℕ) (span : Span) (e : ParseError) → (HasName names name → ⊥) → Refused (IsDefinedAgain names name span) e → Reports (named_fault true names (name, span)) e
+named_other names name span e other h = reports_back (crossed_free names name span other) (again_report names name span e h)
+
+-- what is no import and no export
+pub extern_none : (role : Role) → across_of role ≡ None → is_on_side role ≡ false
+extern_none (Freestanding id form) is = refl
+extern_none (Method of form) is = refl
+extern_none (Static of form) is = refl
+extern_none (Constructor of) is = refl
+extern_none (OnSide side id form) is = absurd (let f : ⊥ = cc in f)
+
+-- of what has one name, and of what has none
+pub clash_one : (names : Sides) (x : SideItem) (side : WorldSide) (extern : Bool) (n : Name) → item_side x ≡ side → is_extern x ≡ extern → item_names x ≡ n ∷ [] → clash_fault names x ≡ named_fault extern (defined_on side names) n
+clash_one names x side extern n there crosses named =
+    ap (first_in (named_fault (is_extern x) (defined_on (item_side x) names))) named
+    ∙ or_none (named_fault (is_extern x) (defined_on (item_side x) names) n)
+    ∙ ap (λ (b : Bool). named_fault b (defined_on (item_side x) names) n) crosses
+    ∙ ap (λ (s : WorldSide). named_fault extern (defined_on s names) n) there
+
+clash_none : (names : Sides) (x : SideItem) → item_names x ≡ [] → clash_fault names x ≡ None
+clash_none names x none = ap (first_in (named_fault (is_extern x) (defined_on (item_side x) names))) none
+
+-- of a link under a name of its own
+linked_named : (ids : List ℕ) (link : Link) (id : ℕ) (own : Id) → link.name ≡ Some own → again_linked ids link id ≡ None
+linked_named ids link id own named = ap (λ (n : Option Id). if is_none n && list_any (nat_eq id) ids then Some (fault 43 (path_id link.path).span) else None) named
+
+pub put_link_named : (m : Members) (link : Link) (id : ℕ) (own : Id) → link.name ≡ Some own → put_link_fault m link id ≡ named_fault true (defined_on link.side m.in_use) (name_of_id own)
+put_link_named m link id own named =
+    ap (λ (o : Option Fault). option_or o (put_fault m (SideLink link))) (linked_named (linked_on link.side m.links) link id own named)
+    ∙ clash_one m.in_use (SideLink link) link.side true (name_of_id own) refl refl (names_under link own named)
+
+-- and of one without: its interface is there, or it is not
+linked_bare : (ids : List ℕ) (link : Link) (id : ℕ) (found : Bool) → link.name ≡ None → list_any (nat_eq id) ids ≡ found → again_linked ids link id ≡ (if found then Some (fault 43 (path_id link.path).span) else None)
+linked_bare ids link id found bare is =
+    ap (λ (n : Option Id). if is_none n && list_any (nat_eq id) ids then Some (fault 43 (path_id link.path).span) else None) bare
+    ∙ ap (λ (b : Bool). if b then Some (fault 43 (path_id link.path).span) else None) is
+
+put_link_bare : (m : Members) (link : Link) (id : ℕ) → link.name ≡ None → put_link_fault m link id ≡ again_linked (linked_on link.side m.links) link id
+put_link_bare m link id bare =
+    let first = again_linked (linked_on link.side m.links) link id in
+    ap (option_or first) (clash_none m.in_use (SideLink link) (names_itself link bare)) ∙ or_none first
+
+pub linked_free : (m : Members) (link : Link) (id : ℕ) → link.name ≡ None → (Contains (linked_on link.side m.links) id → ⊥) → put_link_fault m link id ≡ None
+linked_free m link id bare free =
+    let ids = linked_on link.side m.links in
+    let miss : list_any (nat_eq id) ids ≡ false = false_from_ne_true (list_any (nat_eq id) ids) (λ hit. (
+    let it = any_found (nat_eq id) ids hit in
+    free (contains_at ids it.0 id (it.2 ∙ ap Some (sym (eqb-true id it.1 it.3)))))) in
+    put_link_bare m link id bare ∙ linked_bare ids link id false bare miss
+
+pub linked_report : (m : Members) (link : Link) (id : ℕ) (e : ParseError) → link.name ≡ None → Refused (IsLinked (linked_on link.side m.links) id (path_id link.path).span) e → Reports (put_link_fault m link id) e
+linked_report m link id e bare h = elim h [
+  | inl memory ↦ inl memory
+  | inr again ↦ (
+      let ids = linked_on link.side m.links in
+      let there = at_contains ids id again.among in
+      let hit = any_some (nat_eq id) ids there.0 id there.1 (eq-eqb id id refl) in
+      inr (put_link_bare m link id bare ∙ linked_bare ids link id true bare hit ∙ ap Some (sym again.is)))
+]
+
+-- of the setters of an item that is closed where it includes nothing
+pub closed_setters : (i : Item) (fns : List SourceFunction) → fns ≡ functions i → (closed : Bool) → closed ≡ none_of (includes i) → closed_fault closed fns ≡ setters_fault i
+closed_setters i fns are closed same = ap (closed_fault closed) are ∙ ap (λ (b : Bool). closed_fault b (functions i)) same ∙ by (includes i)
+  where
+    by : (is : List Include) → closed_fault (none_of is) (functions i) ≡ setters_beside i is
+    by [] = refl
+    by (n ∷ rest) = refl

@@ -1,0 +1,26 @@
+use Rattle.std.proofs.Common.{◌≡◌, true, false, List, sym, ◌∙◌, subst}
+use Rattle.wit_refusals.specs.KeyedNames.{HasName}
+use Rattle.wit_refusals.specs.NameScopes.{Name}
+use Rattle.wit_sides.specs.SideNames.{defined_on}
+use Rattle.wit_world_sides.proofs.PutFaults.{named_free, named_has, named_other}
+use Rattle.wit_world_sides.proofs.members.define_extern_part.Goals as goal
+
+pub returns-in-Ok-clause-first : goal.returns-in-Ok-clause-first
+returns-in-Ok-clause-first c = named_free (defined_on c.args.side c.args.in_use.now) c.args.name.now c.args.span c.in-Ok.ensures.free
+
+pub returns-then-not-branch-clause-first : goal.returns-then-not-branch-clause-first
+returns-then-not-branch-clause-first c =
+    let name = c.args.name.now in
+    let old = defined_on c.args.side c.args.in_use.now in
+    let other : HasName old name → ⊥ = λ has. (
+    let there = subst (λ (l : List Name). HasName l name) (sym (c.in-Err.ensures.unchanged c.args.side)) has in
+    let wrong : true ≡ false = sym (c.in_ok-has-in-Err.ensures.1 there) ∙ c.if-not-branch.true in
+    let f : ⊥ = cc in
+    f) in
+    named_other old name c.args.span c.in-Err.refusal other c.in-Err.ensures.refused
+
+pub returns-else-not-branch-clause-first : goal.returns-else-not-branch-clause-first
+returns-else-not-branch-clause-first c =
+    let name = c.args.name.now in
+    let there = subst (λ (l : List Name). HasName l name) (c.in-Err.ensures.unchanged c.args.side) (c.in_ok-has-in-Err.ensures.0 c.if-not-branch.false) in
+    named_has (defined_on c.args.side c.args.in_use.now) name c.args.span c.refuse_in.result there c.refuse_in.ensures.fault
