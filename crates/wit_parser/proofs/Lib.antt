@@ -21,3 +21,4 @@ mod PartsBoth
 mod PartsPackage
 mod PartsMade
 pub mod Pushing
+mod FirstFault

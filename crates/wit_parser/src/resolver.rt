@@ -4,8 +4,9 @@ ghost use Rattle.std.specs.Option.{option_copied, option_map};
 ghost use Rattle.semver.specs.Identifiers.{parts_of};
 ghost use Rattle.wit_values.specs.ReleaseText.{release_parts};
 ghost use Rattle.wit_syntax.specs.Broken.{IsBroken, IsLegal, Refused, headers, last_header};
-ghost use Rattle.wit_first.specs.First.{Finds};
+ghost use Rattle.wit_first.specs.First.{Finds, FindsBy};
 ghost use Rattle.wit_first.specs.HeaderFaults.{have_docs as the_docs, nesting_fault, other_fault, push_fault};
+ghost use Rattle.wit_walk.specs.Walk.{ComesTo};
 ghost use Rattle.wit_items.specs.FileHeaders.{header_at};
 ghost use Rattle.wit_type_tree.specs.RefusalText.{IsAllocationFailure};
 ghost use Rattle.wit_arena.specs.Made.{Makes};
@@ -108,6 +109,7 @@ fn resolve_named(
 ) -> ParseResult<UnresolvedPackage>
     requires header { last_header files.now ≡ Some header.now }
     ensures made { IfOk result (IsMadeOf files.now) }
+    ensures first { FindsBy (ComesTo files.now) result }
     ensures refused { IfErr result (Refused (IsBroken files.now)) }
 {
     let made = resolve_contents(alloc, files)?;
@@ -153,6 +155,7 @@ impl<'a> Resolver<'a> {
     /// The package that the files make.
     fn resolve_pushed(&self, alloc: Global) -> ParseResult<UnresolvedPackage>
         ensures made { IfOk result (IsMadeOf self.now.files.items) }
+        ensures first { FindsBy (ComesTo self.now.files.items) result }
         ensures refused { IfErr result (Refused (IsBroken self.now.files.items)) }
     {
         let header = match self.last_header() {
@@ -221,7 +224,15 @@ impl<'a> Resolver<'a> {
     ///
     /// # Errors
     ///
-    /// Ok exactly if no rule is broken, unless an allocation fails.
+    /// Ok exactly if no rule is broken, unless an allocation fails. Where several are, the first is refused
+    /// that is found in this order: 4; 30 to 34 of attributes before a path with a package; 5; file by file
+    /// 6, and then 7 of paths that are no name at its top; 7 and 8; 9 and 7 of each `use` at the top of a
+    /// file; 30 to 35, 7 and 10 of each other `use`, item by item; then what is in the interfaces, in their
+    /// order, and then what is in the worlds, in theirs.
+    ///
+    /// In an item that is: its own attributes; 12 to 14; 15 and 16; its definitions, in their order; its
+    /// includes; 17 of its types; each function, and each interface on a side of a world, with its name; and 18.
+    /// What is in an inline interface comes where the world imports or exports it.
     ///
     /// - 4: no file names the package.
     /// - 5: an interface or a world is declared twice.
@@ -257,6 +268,7 @@ impl<'a> Resolver<'a> {
         ensures package { IfOk result (IsPackage self.entry.files.items) }
         ensures arena { IfOk result (HasArena self.entry.files.items) }
         ensures faithful { IfOk result (IsFaithful self.entry.files.items) }
+        ensures first { FindsBy (ComesTo self.entry.files.items) result }
         ensures refused { IfErr result (Refused (IsBroken self.entry.files.items)) }
     {
         self.resolve_pushed(alloc)

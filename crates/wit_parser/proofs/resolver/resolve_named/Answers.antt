@@ -6,6 +6,7 @@ use Rattle.wit_package_names.specs.declared.package_name.PackageName.{PackageNam
 use Rattle.wit_arena.specs.Whole.{NamesOthers}
 use Rattle.wit_contents.specs.AddedFiles.{MakeContents}
 use Rattle.wit_contents.proofs.Files.{files_legal, files_package}
+use Rattle.wit_parser.proofs.FirstFault.{faultless, reported}
 use Rattle.wit_parser.proofs.resolver.resolve_named.Goals as goal
 
 pub returns-clause-made : goal.returns-clause-made
@@ -32,3 +33,16 @@ pub returns-in_err-contents-clause-refused : goal.returns-in_err-contents-clause
 returns-in_err-contents-clause-refused c =
     let p = err_from_is_err_and c.from_residual-in_err-contents.result c.from_residual-in_err-contents.ensures.1 in
     rw p.1 (inl p.2)
+
+pub returns-in_err-made-clause-first : goal.returns-in_err-made-clause-first
+returns-in_err-made-clause-first c =
+    let p = err_from_is_err_and c.from_residual.result c.from_residual.ensures.1 in
+    rw (p.1, p.2) (reported c.args.files.now c.args.header.now c.requires.header _ c.in_err-made.ensures.first)
+
+pub returns-in_err-contents-clause-first : goal.returns-in_err-contents-clause-first
+returns-in_err-contents-clause-first c =
+    let p = err_from_is_err_and c.from_residual-in_err-contents.result c.from_residual-in_err-contents.ensures.1 in
+    rw p.1 (inl p.2)
+
+pub returns-clause-first : goal.returns-clause-first
+returns-clause-first c = faultless c.args.files.now c.args.header.now c.requires.header c.in_ok-made.ensures.first

@@ -1,9 +1,11 @@
-use Rattle.std.proofs.Common.{◌≡◌, List, None, inl, inr, sym, ap, ◌∙◌}
+use Rattle.std.proofs.Common.{◌≡◌, List, None, inl, inr, sym, ap, ◌∙◌, subst}
 use Rattle.std.specs.Option.{option_copied}
 use Rattle.wit_tree.specs.declared.tree.PackageFile.{PackageFile}
-use Rattle.wit_syntax.specs.Fault.{fault}
+use Rattle.wit_syntax.specs.Fault.{Fault, fault}
 use Rattle.wit_syntax.specs.Broken.{Headerless, last_header}
 use Rattle.wit_syntax.proofs.Headers.{span_of_ends}
+use Rattle.wit_walk.specs.Walk.{IsFirst}
+use Rattle.wit_parser.proofs.FirstFault.{headerless}
 use Rattle.wit_parser.proofs.resolver.Resolver.resolve_pushed.Goals as goal
 
 pub returns-in-None-clause-refused : goal.returns-in-None-clause-refused
@@ -24,3 +26,16 @@ returns-clause-made c = rw c.pushed.ensures at c.resolve_named.ensures.made
 
 pub returns-clause-refused : goal.returns-clause-refused
 returns-clause-refused c = rw c.pushed.ensures at c.resolve_named.ensures.refused
+
+pub returns-in-None-clause-first : goal.returns-in-None-clause-first
+returns-in-None-clause-first c =
+    let files : List PackageFile = c.args.self.now.files.items in
+    let none : last_header files ≡ None = sym c.last_header.ensures ∙ ap option_copied c.in-None.is in
+    let at : c.default.result ≡ record { start = 0; end = 0 } = span_of_ends c.default.result 0 0 c.default.ensures.0 c.default.ensures.1 in
+    elim c.refuse.ensures [
+      | inl memory ↦ inl memory
+      | inr says ↦ inr (subst (λ (f : Fault). IsFirst files f) (sym (says ∙ ap (fault 4) at)) (headerless files none))
+    ]
+
+pub returns-clause-first : goal.returns-clause-first
+returns-clause-first c = rw c.pushed.ensures at c.resolve_named.ensures.first

@@ -1,0 +1,96 @@
+-- What is found of files that have a header is what the walk comes to; and where they have none, that is the fault.
+use Rattle.std.proofs.Common.{◌≡◌, ◌⊎◌, ℕ, ◌≤◌, List, Option, Some, None, inl, inr, refl, sym, ap, ◌∙◌, arith}
+use Rattle.std.specs.Option.{option_or}
+use Rattle.std.proofs.lemmas.Bool.{cases_lt}
+use Rattle.wit_type_tree.specs.RefusalText.{IsAllocationFailure}
+use Rattle.wit_type_tree.specs.declared.error.ParseError.{ParseError}
+use Rattle.wit_type_tree.specs.declared.error.ParseErrorKind.{ParseErrorKind}
+use Rattle.wit_type_tree.specs.declared.error.ParseErrorKind.TheVariants.{Syntax, ItemNotFound, TypeCycle, OutOfMemory}
+use Rattle.wit_tree.specs.declared.tree.PackageName.{PackageName as Header}
+use Rattle.wit_tree.specs.declared.tree.PackageFile.{PackageFile}
+use Rattle.wit_graph.specs.Table.{Row}
+use Rattle.wit_syntax.specs.Broken.{last_header}
+use Rattle.wit_syntax.specs.Fault.{Fault, fault, fault_of}
+use Rattle.wit_syntax.specs.Shape.{Word}
+use Rattle.wit_first.specs.First.{Reports}
+use Rattle.wit_walk.specs.Orders.{AreOutcomes, Outcome}
+use Rattle.wit_walk.specs.Walk.{ComesTo, IsFaultless, IsFirst, Known, header_fault}
+use Rattle.wit_walk.proofs.Outcomes.{outcome_of}
+use Rattle.wit_walk.proofs.ScopesLegal.{steps_more}
+use Rattle.wit_walk.proofs.Steps.{enough as enough_steps}
+use Rattle.wit_contents.specs.FileFaults.{IsRight, fault_after}
+
+-- whether an error is a failed allocation is known
+of_memory : (k : ParseErrorKind) → (k ≡ OutOfMemory) ⊎ (k ≡ OutOfMemory → ⊥)
+of_memory (Syntax span message) = inr (λ same. (let f : ⊥ = cc in f))
+of_memory (ItemNotFound span name kind hint) = inr (λ same. (let f : ⊥ = cc in f))
+of_memory (TypeCycle span name kind) = inr (λ same. (let f : ⊥ = cc in f))
+of_memory OutOfMemory = inl refl
+
+same_number : (a b : ℕ) → (a ≡ b) ⊎ (a ≡ b → ⊥)
+same_number a b = elim (cases_lt a b) [
+  | inl lt ↦ inr (λ same. omega (arith, lt, same))
+  | inr ge ↦ elim (cases_lt b a) [
+    | inl gt ↦ inr (λ same. omega (arith, gt, same))
+    | inr le ↦ inl (omega (arith, ge, le))
+  ]
+]
+
+memory_or_not : (e : ParseError) → IsAllocationFailure e ⊎ (IsAllocationFailure e → ⊥)
+memory_or_not e = elim (of_memory e.kind) [
+  | inr other ↦ inr (λ memory. other memory.kind)
+  | inl kind ↦ elim (same_number e.rule 45) [
+    | inr other ↦ inr (λ memory. other memory.rule)
+    | inl rule ↦ inl (record { kind = kind; rule = rule })
+  ]
+]
+
+abbrev outcome : List Row → Outcome
+outcome rs = (outcome_of rs).0
+
+outcomes : AreOutcomes outcome
+outcomes = record { each = λ rs. (outcome_of rs).1 }
+
+abbrev at : ℕ → Known
+at steps = record { outcome = outcome; steps = steps }
+
+module _ (files : List PackageFile) where
+  abbrev enough : ℕ
+  enough = (enough_steps files).0
+
+  -- in so many steps what is looked up is right
+  right : (steps : ℕ) → enough ≤ steps → IsRight files (at steps)
+  right steps le = record {
+    outcomes = outcomes;
+    enough = λ s id end ends. elim (cases_lt steps ends.0) [
+      | inl before ↦ sym ((enough_steps files).1 steps le s (Word id)) ∙ (enough_steps files).1 ends.0 (omega (arith, before, le)) s (Word id) ∙ ends.1
+      | inr within ↦ steps_more files end ends.0 steps within s (Word id) ends.1
+    ];
+  }
+
+  -- files without a header
+  pub headerless : last_header files ≡ None → IsFirst files (fault 4 (record { start = 0; end = 0 }))
+  headerless none = record {
+    outcome = outcome;
+    outcomes = outcomes;
+    enough = 0;
+    is = λ steps le. ap (λ (o : Option Header). option_or (header_fault o) (fault_after 1 files (at steps))) none;
+  }
+
+  module _ (header : Header) (last : last_header files ≡ Some header) where
+    comes : (first : Option Fault) → ((steps : ℕ) → enough ≤ steps → fault_after 1 files (at steps) ≡ first) → ComesTo files first
+    comes first h = record {
+      outcome = outcome;
+      outcomes = outcomes;
+      enough = enough;
+      is = λ steps le. ap (λ (o : Option Header). option_or (header_fault o) (fault_after 1 files (at steps))) last ∙ h steps le;
+    }
+
+    pub faultless : ((known : Known) → IsRight files known → fault_after 1 files known ≡ None) → IsFaultless files
+    faultless none = comes None (λ steps le. none (at steps) (right steps le))
+
+    pub reported : (e : ParseError) → ((known : Known) → IsRight files known → Reports (fault_after 1 files known) e) → IsAllocationFailure e ⊎ IsFirst files (fault_of e)
+    reported e h = elim (memory_or_not e) [
+      | inl memory ↦ inl memory
+      | inr other ↦ inr (comes (Some (fault_of e)) (λ steps le. elim (h (at steps) (right steps le)) [ inl memory ↦ absurd (other memory) | inr is ↦ is ]))
+    ]
