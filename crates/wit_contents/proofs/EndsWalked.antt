@@ -20,7 +20,7 @@ use Rattle.wit_arena.specs.Resolving.{AreNames, Env}
 use Rattle.wit_arena.proofs.Ends.{EndIs, IsDeclared, end_source-more}
 use Rattle.wit_arena.proofs.Leading.{option_cases}
 use Rattle.wit_entries.specs.EntryFaults.{end_fault, end_in}
-use Rattle.wit_externs.specs.AloneFaults.{EndsIn, IsSafe}
+use Rattle.wit_externs.specs.AloneFaults.{EndsIn}
 
 -- each part has an end, and so has what is made of them
 module _ (ends : ℕ → Option EntryEnd) (all : (j : ℕ) → (e : EntryEnd) × (ends j ≡ Some e)) where
@@ -69,6 +69,3 @@ module _ (files : List PackageFile) (decls : Decls) (ks : List Key) (es more : L
   walk_ends id place present =
       let e = end_there (es ++ more) place in
       said id e.0 (end_source-more files decls ks es more m scopes (suc (suc place)) place s id e.0 (names.present id.name.now place present) e.1) ∙ ap (end_fault id) (sym e.1)
-
-  pub walk_safe : IsSafe env (es ++ more) (handle_fault files steps s)
-  walk_safe id place present right = walk_ends id place present ∙ right

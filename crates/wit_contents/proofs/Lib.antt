@@ -1,7 +1,6 @@
 pub mod Files
 mod Fronting
 pub mod Outer
-mod Closing
 pub mod Linking
 mod Adding
 mod WorldsMore
@@ -9,8 +8,6 @@ mod Walking
 mod Walks
 mod PartItems
 mod Members
-mod ItemSides
-mod WrongWalk
 mod Parts
 mod InterfaceFaults
 mod WorldFaults

@@ -1,5 +1,5 @@
 -- One more on a side of a world: a function, an interface by its path, or an inline one.
-use Rattle.std.proofs.Common.{◌≡◌, ℕ, zero, suc, ◌+◌, Bool, true, false, if◌then◌else◌, List, [], ◌∷◌, ◌++◌, length, map, Option, Some, refl, sym, ap, ◌∙◌, subst, add-zero}
+use Rattle.std.proofs.Common.{◌≡◌, ℕ, ◌+◌, Bool, true, false, if◌then◌else◌, List, [], ◌∷◌, ◌++◌, length, map, Option, Some, refl, sym, ap, ◌∙◌, subst, add-zero}
 use Rattle.std.specs.Prelude.{slice_get}
 use Rattle.std.specs.List.{flat_map}
 use Rattle.std.specs.Option.{option_map_or, option_to_list}
@@ -11,21 +11,16 @@ use Rattle.wit_functions.specs.declared.function.Function.{Function}
 use Rattle.wit_model.specs.declared.interface.Interface.{Interface}
 use Rattle.wit_syntax.specs.Address.{Address}
 use Rattle.wit_syntax.specs.ExternPart.{same_side}
-use Rattle.wit_syntax.specs.Fault.{Fault}
 use Rattle.wit_syntax.specs.Function.{SourceFunction, functions, written_types}
-use Rattle.wit_syntax.specs.Metadata.{IsBrokenMetadata}
 use Rattle.wit_syntax.specs.Shape.{all_handles}
-use Rattle.wit_syntax.specs.SignatureRules.{IsBrokenFunction}
-use Rattle.wit_syntax.specs.Sides.{IsBrokenSides, Link, SideItem, SideFunction, SideLink, inline_after, item_function, item_side, side_items}
-use Rattle.wit_syntax.specs.Broken.{IsBrokenScope}
-use Rattle.wit_syntax.specs.Source.{Item, ScopeName, TheInline, address, item_name, path_scope, scope_names}
+use Rattle.wit_syntax.specs.Sides.{Link, SideItem, SideFunction, SideLink, inline_after, item_function, item_side, side_items}
+use Rattle.wit_syntax.specs.Source.{Item, TheInline, address, item_name, path_scope}
 use Rattle.wit_syntax.proofs.Inline.{interfaces_on}
 use Rattle.wit_syntax.proofs.Legal.{functions_items}
-use Rattle.wit_syntax.proofs.Unnoted.{unbroken_metadata}
 use Rattle.wit_item_names.proofs.Usable.{contains_one}
 use Rattle.wit_arena.specs.SourceFunctions.{function_item}
 use Rattle.wit_arena.specs.Resolving.{AddsFunctions, env_of}
-use Rattle.wit_arena.specs.ResolvedArenas.{AddsSides, AreLegalSides, AreSoundScopes, IsNameless, interfaces_at}
+use Rattle.wit_arena.specs.ResolvedArenas.{AddsSides, interfaces_at}
 use Rattle.wit_arena.specs.SideItems.{AreSideItems, inline_entry, link_item, put_on}
 use Rattle.wit_entries.specs.Requiring.{IsExtended, Requires}
 use Rattle.wit_externs.specs.Links.{bare_place}
@@ -37,10 +32,8 @@ use Rattle.wit_items.specs.declared.items.InlineInterface.{InlineInterface}
 use Rattle.wit_items.specs.ResolvedInterfaces.{resolved_scopes_of}
 use Rattle.wit_world_sides.specs.Members.{Puts, bare_id}
 use Rattle.wit_links.specs.SideCounts.{IsSeen, inline_of, inline_side}
-use Rattle.wit_links.specs.Links.{IsLinkedTo}
 use Rattle.wit_contents.specs.declared.walk.Walked.{Walked}
-use Rattle.wit_item_entries.specs.Body.{IsSoundScope}
-use Rattle.wit_contents.specs.Walk.{AddsInside, AddsMembers, IsRight, ItemWalk, Stage, lead, next_place, stage, walk_item}
+use Rattle.wit_contents.specs.Walk.{AddsInside, AddsMembers, ItemWalk, Stage, lead, next_place, stage, walk_item}
 use Rattle.wit_contents.proofs.Adding.{sides_function, sides_inline, sides_link}
 
 -- nothing on one side or the other
@@ -56,13 +49,6 @@ function_there i prefix rest fn place sides count =
     let all : functions i ≡ before ++ (fn ∷ rest_after) = functions_items i ∙ ap (flat_map item_function) sides ∙ flat_map-append item_function prefix (SideFunction fn ∷ rest) in
     ap (slice_get (functions i)) count ∙ ap (λ (l : List SourceFunction). slice_get l (length before)) all ∙ at_middle before fn rest_after
 
--- what is legal of a function by itself is so of it alone
-legal_one : (xs : List ScopeName) (fns : List SourceFunction) (n place : ℕ) (fn : SourceFunction) → place ≡ n → ((f : Fault) → IsBrokenFunction xs fns place fn f → IsNameless xs fns) → (k : ℕ) (g : SourceFunction) → slice_get (fn ∷ []) k ≡ Some g → (f : Fault) → IsBrokenFunction xs fns (n + k) g f → IsNameless xs fns
-legal_one xs fns n place fn same legal zero g at f broken =
-    let is : fn ≡ g = cc in
-    legal f (subst (λ (m : ℕ). IsBrokenFunction xs fns m fn f) (add-zero n ∙ sym same) (subst (λ (h : SourceFunction). IsBrokenFunction xs fns (n + 0) h f) (sym is) broken))
-legal_one xs fns n place fn same legal (suc k) g at f broken = absurd (let wrong : ⊥ = cc in wrong)
-
 -- where an inline interface is is the address of its item
 pub inline_here : (i : Item) (prefix : List SideItem) (x : InlineInterface) → x.world.now ≡ item_name i → x.place ≡ length (interfaces_on x.written.now.side prefix) → inline_after i prefix (inline_side x ∷ []) ≡ inline_of i x ∷ []
 inline_here i prefix x world place =
@@ -71,8 +57,8 @@ inline_here i prefix x world place =
 
 module _ (w : ItemWalk) (prefix : List SideItem) (a : Stage) where
   -- a function
-  pub member_function : (fn : SourceFunction) (made : Function) (place : ℕ) (types : List TypeDef) (m : Walked) → place ≡ length (flat_map item_function prefix) → ((s : Address) → AddsFunctions a.types types s w.walk.scope.names.now (fn ∷ []) (made ∷ [])) → (made.name ≡ fn.name) × (made.span ≡ fn.span) → Requires (env_of w.walk.scope.names.now) types (all_handles (written_types fn)) a.walked.required.items m.required.items → IsExtended a.types types → ((f : Fault) → IsBrokenFunction (scope_names (walk_item w)) (functions (walk_item w)) place fn f → IsNameless (scope_names (walk_item w)) (functions (walk_item w))) → Puts a.walked.members m.members (SideFunction fn) [] (function_item made) → ((ys : List SideItem) → IsSeen ys a.walked.seen → IsSeen (ys ++ SideFunction fn ∷ []) m.seen) → AddsMembers w prefix (SideFunction fn ∷ []) a (stage types a.inside m)
-  member_function fn made place types m count adds named handled extended legal put seen = record {
+  pub member_function : (fn : SourceFunction) (made : Function) (types : List TypeDef) (m : Walked) → ((s : Address) → AddsFunctions a.types types s w.walk.scope.names.now (fn ∷ []) (made ∷ [])) → (made.name ≡ fn.name) × (made.span ≡ fn.span) → Requires (env_of w.walk.scope.names.now) types (all_handles (written_types fn)) a.walked.required.items m.required.items → IsExtended a.types types → Puts a.walked.members m.members (SideFunction fn) [] (function_item made) → ((ys : List SideItem) → IsSeen ys a.walked.seen → IsSeen (ys ++ SideFunction fn ∷ []) m.seen) → AddsMembers w prefix (SideFunction fn ∷ []) a (stage types a.inside m)
+  member_function fn made types m adds named handled extended put seen = record {
     functions = made ∷ [];
     adds = record { own = handled.list; list = handled.added; holds = λ s. sides_function (resolved_scopes_of w.walk.interfaces.now) (length w.walk.interfaces.now.arena) s w.walk.scope.names.now a.types types a.inside fn made handled.list (record { adds = adds s; ended = handled.ended }) };
     extended = extended;
@@ -83,15 +69,12 @@ module _ (w : ItemWalk) (prefix : List SideItem) (a : Stage) where
     linked = λ s. put.linked s ∙ ap (λ (l : List ℕ). linked_on s a.walked.members.links ++ l) (none_either [] (same_side s (item_side (SideFunction fn))) ∙ kept_nothing (bare_place (lead w)) (λ y. same_side s (item_side y)) (SideFunction fn) refl);
     keyed = put.keyed;
     are_present = λ all places s. record { more = put_on s (item_side (SideFunction fn)) (function_item made) []; put = put.put s; are = ([], refl, refl) };
-    legal = legal_one (scope_names (walk_item w)) (functions (walk_item w)) (length (flat_map item_function prefix)) place fn count legal;
-    right = λ x among. subst (IsRight w) (contains_one (SideFunction fn) x among) (record { noted = unbroken_metadata; leads = λ link is. absurd (let wrong : ⊥ = cc in wrong) });
-    sound = record { sound = λ k u f at broken. absurd (let wrong : ⊥ = cc in wrong) };
-    sided = record { legal = λ k u f at broken. (let wrong : ⊥ = cc in wrong) };
+    leads = λ link among. absurd (let same : SideFunction fn ≡ SideLink link = contains_one (SideFunction fn) (SideLink link) among in let wrong : ⊥ = cc in wrong);
   }
 
   -- an interface by its path
-  pub member_link : (link : Link) (id : ℕ) (m : Walked) → ((f : Fault) → IsBrokenMetadata link.attributes f → ⊥) → IsLinkedTo w.walk.interfaces.now.files w.walk.interfaces.now.by_name (walk_item w).top link.path id → slice_get (interfaces_at (prefix_of w.walk.interfaces.now.files) w.walk.interfaces.now.arena) id ≡ Some (path_scope (walk_item w).top link.path) → m.required.items ≡ a.walked.required.items → Puts a.walked.members m.members (SideLink link) (bare_id link.name id) (link_item link id) → ((ys : List SideItem) → IsSeen ys a.walked.seen → IsSeen (ys ++ SideLink link ∷ []) m.seen) → AddsMembers w prefix (SideLink link ∷ []) a (stage a.types a.inside m)
-  member_link link id m noted leads present required put seen = record {
+  pub member_link : (link : Link) (id : ℕ) (m : Walked) → lead w link.path ≡ Some id → slice_get (interfaces_at (prefix_of w.walk.interfaces.now.files) w.walk.interfaces.now.arena) id ≡ Some (path_scope (walk_item w).top link.path) → m.required.items ≡ a.walked.required.items → Puts a.walked.members m.members (SideLink link) (bare_id link.name id) (link_item link id) → ((ys : List SideItem) → IsSeen ys a.walked.seen → IsSeen (ys ++ SideLink link ∷ []) m.seen) → AddsMembers w prefix (SideLink link ∷ []) a (stage a.types a.inside m)
+  member_link link id m leads present required put seen = record {
     functions = [];
     adds = record { own = []; list = required ∙ sym (append-nil a.walked.required.items); holds = λ s. sides_link (resolved_scopes_of w.walk.interfaces.now) (length w.walk.interfaces.now.arena) s w.walk.scope.names.now a.types a.inside link };
     extended = record { more = []; is = sym (append-nil a.types) };
@@ -99,18 +82,15 @@ module _ (w : ItemWalk) (prefix : List SideItem) (a : Stage) where
     named = refl;
     seen = seen;
     in_use = put.in_use;
-    linked = λ s. put.linked s ∙ ap (λ (l : List ℕ). linked_on s a.walked.members.links ++ l) (kept_one (bare_place (lead w)) (λ y. same_side s (item_side y)) (SideLink link) (bare_id link.name id) (ap (λ (o : Option ℕ). option_map_or (λ (own : Id). []) link.name (option_to_list o)) leads.1));
+    linked = λ s. put.linked s ∙ ap (λ (l : List ℕ). linked_on s a.walked.members.links ++ l) (kept_one (bare_place (lead w)) (λ y. same_side s (item_side y)) (SideLink link) (bare_id link.name id) (ap (λ (o : Option ℕ). option_map_or (λ (own : Id). []) link.name (option_to_list o)) leads));
     keyed = put.keyed;
     are_present = λ all places s. record { more = put_on s link.side (link_item link id) []; put = put.put s; are = (id, [], places.interfaces id _ present, refl, refl) };
-    legal = λ k fn at f broken. absurd (let wrong : ⊥ = cc in wrong);
-    right = λ x among. subst (IsRight w) (contains_one (SideLink link) x among) (record { noted = noted; leads = λ l is. (id, subst (λ (k : Link). IsLinkedTo w.walk.interfaces.now.files w.walk.interfaces.now.by_name (walk_item w).top k.path id) (let same : link ≡ l = cc in same) leads) });
-    sound = record { sound = λ k u f at broken. absurd (let wrong : ⊥ = cc in wrong) };
-    sided = record { legal = λ k u f at broken. (let wrong : ⊥ = cc in wrong) };
+    leads = λ l among. (id, subst (λ (k : Link). lead w k.path ≡ Some id) (let both : SideLink link ≡ SideLink l = contains_one (SideLink link) (SideLink l) among in let same : link ≡ l = cc in same) leads);
   }
 
   -- an inline interface
-  pub member_inline : (x : InlineInterface) (u : Item) (types : List TypeDef) (inside : List Interface) (m : Walked) → inline_after (walk_item w) prefix (inline_side x ∷ []) ≡ u ∷ [] → AddsInside w.walk.interfaces.now a.types types a.inside inside a.walked.required.items m.required.items u → IsExtended a.types types → ((f : Fault) → IsBrokenMetadata x.written.now.attributes.items f → ⊥) → IsSoundScope u → ((f : Fault) → IsBrokenSides u f → ⊥) → Puts a.walked.members m.members (inline_side x) [] (inline_entry x.written.now x.name (next_place w.walk.interfaces.now a.inside)) → ((ys : List SideItem) → IsSeen ys a.walked.seen → IsSeen (ys ++ inline_side x ∷ []) m.seen) → AddsMembers w prefix (inline_side x ∷ []) a (stage types inside m)
-  member_inline x u types inside m own step extended noted sound sided put seen = record {
+  pub member_inline : (x : InlineInterface) (u : Item) (types : List TypeDef) (inside : List Interface) (m : Walked) → inline_after (walk_item w) prefix (inline_side x ∷ []) ≡ u ∷ [] → AddsInside w.walk.interfaces.now a.types types a.inside inside a.walked.required.items m.required.items u → IsExtended a.types types → Puts a.walked.members m.members (inline_side x) [] (inline_entry x.written.now x.name (next_place w.walk.interfaces.now a.inside)) → ((ys : List SideItem) → IsSeen ys a.walked.seen → IsSeen (ys ++ inline_side x ∷ []) m.seen) → AddsMembers w prefix (inline_side x ∷ []) a (stage types inside m)
+  member_inline x u types inside m own step extended put seen = record {
     functions = [];
     adds = record {
       own = step.appends.own;
@@ -140,18 +120,5 @@ module _ (w : ItemWalk) (prefix : List SideItem) (a : Stage) where
           put = put.put s;
           are = subst (λ (us : List Item). AreSideItems all (walk_item w).top s (inline_side x ∷ []) [] (map address us) (put_on s x.written.now.side e [])) (sym own) (id, [], at, refl, refl);
         };
-    legal = λ k fn at f broken. absurd (let wrong : ⊥ = cc in wrong);
-    right = λ y among. subst (IsRight w) (contains_one (inline_side x) y among) (record { noted = noted; leads = λ link is. absurd (let wrong : ⊥ = cc in wrong) });
-    sound = subst AreSoundScopes (sym own) (record { sound = one_sound });
-    sided = subst AreLegalSides (sym own) (record { legal = one_legal });
+    leads = λ link among. absurd (let same : inline_side x ≡ SideLink link = contains_one (inline_side x) (SideLink link) among in let wrong : ⊥ = cc in wrong);
   }
-    where
-      one_sound : (k : ℕ) (v : Item) (f : Fault) → slice_get (u ∷ []) k ≡ Some v → IsBrokenScope (scope_names v) (functions v) f → IsNameless (scope_names v) (functions v)
-      one_sound zero v f at broken =
-          let is : u ≡ v = cc in
-          subst (λ (i : Item). IsNameless (scope_names i) (functions i)) is (sound f (subst (λ (i : Item). IsBrokenScope (scope_names i) (functions i) f) (sym is) broken))
-      one_sound (suc k) v f at broken = absurd (let wrong : ⊥ = cc in wrong)
-
-      one_legal : (k : ℕ) (v : Item) (f : Fault) → slice_get (u ∷ []) k ≡ Some v → IsBrokenSides v f → ⊥
-      one_legal zero v f at broken = sided f (subst (λ (i : Item). IsBrokenSides i f) (let is : u ≡ v = cc in sym is) broken)
-      one_legal (suc k) v f at broken = (let wrong : ⊥ = cc in wrong)

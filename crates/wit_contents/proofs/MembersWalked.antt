@@ -111,8 +111,8 @@ module _ (wk : ItemWalk) (known : Known) (order : List ℕ) (turned : wk.walk.tu
             let have : HaveOwnPlaces item.top (lead wk) link id addresses (interface_place (prefix_of files) is.by_name) (λ path. refl) (present link id at) at (items_on side done) = record {
               each = λ k l there. (
                   let p = kept_at (λ (y : SideItem). same_side side (item_side y)) done k (SideLink l) there in
-                  let r = (adds.right (SideLink l) (contains_at done p.0 (SideLink l) p.1)).leads l refl in
-                  (r.0, r.1.1, present l r.0 r.1.1));
+                  let r = adds.leads l (contains_at done p.0 (SideLink l) p.1) in
+                  (r.0, r.1, present l r.0 r.1));
             } in
             ap (λ (ids : List ℕ). option_or (again_linked ids link id) (put_fault m (SideLink link))) (linked side)
             ∙ ap (λ (o : Option Fault). option_or o (put_fault m (SideLink link))) (again_linked_walked item.top (lead wk) link id addresses (interface_place (prefix_of files) is.by_name) (λ path. refl) (present link id at) at done have)

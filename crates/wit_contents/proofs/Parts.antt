@@ -1,5 +1,5 @@
--- The world that is made of an item: what it adds, and that no rule is broken by it.
-use Rattle.std.proofs.Common.{◌≡◌, ◌⊎◌, ◌+◌, ℕ, zero, suc, List, ◌∷◌, [], ◌++◌, Some, length, map, inl, inr, refl, sym, ap, ◌∙◌, subst, arith}
+-- The world that is made of an item: what it adds.
+use Rattle.std.proofs.Common.{◌≡◌, ◌+◌, ℕ, List, ◌∷◌, [], ◌++◌, Some, length, map, refl, sym, ap, ◌∙◌, arith}
 use Rattle.std.specs.Prelude.{slice_get}
 use Rattle.wit_tree.specs.declared.tree.WorldSide.TheVariants.{Imported, Exported}
 use Rattle.wit_types.specs.declared.types.TypeDef.{TypeDef}
@@ -7,45 +7,27 @@ use Rattle.wit_types.specs.declared.types.TypeOwner.TheVariants as owner
 use Rattle.wit_model.specs.declared.interface.Interface.{Interface}
 use Rattle.wit_model.specs.declared.world.World.{World}
 use Rattle.wit_syntax.specs.Address.{Address}
-use Rattle.wit_syntax.specs.Broken.{IsBrokenScope, IsSetterAlone}
+use Rattle.wit_syntax.specs.Broken.{IsSetterAlone}
 use Rattle.wit_syntax.specs.Fault.{Fault}
-use Rattle.wit_syntax.specs.Function.{SourceFunction, functions}
-use Rattle.wit_syntax.specs.Metadata.{IsBrokenStability}
-use Rattle.wit_syntax.specs.Repeats.{AllDiffer}
+use Rattle.wit_syntax.specs.Function.{functions}
 use Rattle.wit_syntax.specs.ScopeTables.{in_turn, includes}
-use Rattle.wit_syntax.specs.SignatureRules.{IsBrokenFunction}
-use Rattle.wit_syntax.specs.Sides.{IsBrokenSides, SideLink, inline_items, items_on, side_items}
+use Rattle.wit_syntax.specs.Sides.{inline_items, side_items}
 use Rattle.wit_syntax.specs.Source.{Item, address, scope_names, about, declared_metadata}
 use Rattle.wit_syntax.proofs.Inline.{length-inline_after}
-use Rattle.wit_syntax.proofs.Legal.{functions_items}
 use Rattle.wit_syntax.proofs.Lists.{at_back, at_prefix}
 use Rattle.wit_arena.specs.UnfoldedTypes.{IsWorld}
 use Rattle.wit_arena.specs.Resolving.{Required}
-use Rattle.wit_arena.specs.ResolvedArenas.{AddsWorld, AreLegalSides, AreSoundScopes, IsBrokenItemStability, IsNameless, OfInclude, OwnStability, interfaces_at, worlds_at}
+use Rattle.wit_arena.specs.ResolvedArenas.{AddsWorld, interfaces_at, worlds_at}
 use Rattle.wit_arena.specs.SideItems.{settled}
 use Rattle.wit_arena.specs.Whole.{AreIncludes}
-use Rattle.wit_refusals.specs.NameScopes.{Name}
-use Rattle.wit_signatures.specs.ForeignName.{name_key}
-use Rattle.wit_externs.specs.Clash.{DifferOnSides, names_of_items}
-use Rattle.wit_externs.specs.Links.{bare_places}
-use Rattle.wit_scopes.specs.DefinitionOrder.{IsOfFunctions}
 use Rattle.wit_item_names.specs.ForeignAddresses.{prefix_of}
 use Rattle.wit_items.specs.ResolvedInterfaces.{resolved_scopes_of}
 use Rattle.wit_world_sides.specs.Members.{Entry}
-use Rattle.wit_links.specs.Includes.{AreStable}
 use Rattle.wit_links.proofs.Leading.{addresses_count}
 use Rattle.wit_item_entries.specs.AddedNames.{AddsTurn}
-use Rattle.wit_item_entries.proofs.ScopeFunctions.{scope_sound}
-use Rattle.wit_contents.specs.AddedWorlds.{IsRightWorld, arenas}
+use Rattle.wit_contents.specs.AddedWorlds.{arenas}
 use Rattle.wit_contents.specs.declared.walk.Walked.{Walked}
-use Rattle.wit_contents.specs.Walk.{AddsAll, HavePlaces, IsWalk, ItemWalk, lead, walk_item}
-use Rattle.wit_contents.proofs.ItemSides.{sides_legal}
-use Rattle.wit_contents.proofs.Linking.{links_usable}
-
--- an element is the first, or one of those after it
-at_cons : {X : Type 0} (x : X) (xs : List X) (k : ℕ) (y : X) → slice_get (x ∷ xs) k ≡ Some y → (x ≡ y) ⊎ ((j : ℕ) × (slice_get xs j ≡ Some y))
-at_cons x xs zero y at = inl cc
-at_cons x xs (suc k) y at = inr (k, at)
+use Rattle.wit_contents.specs.Walk.{AddsAll, HavePlaces, IsWalk, ItemWalk, walk_item}
 
 -- where each of so many interfaces that are written in an item is, after the declared ones and those that were written before
 module _ (foreign : List Address) (is inside : List Interface) (ss : List Address) (item : Item) (counted : length (interfaces_at foreign is) ≡ length is) (known : length ss ≡ length inside) where
@@ -54,28 +36,6 @@ module _ (foreign : List Address) (is inside : List Interface) (ss : List Addres
       let us = map address (inline_items item) in
       let place : (length is + length inside) + k ≡ length (interfaces_at foreign is) + (length ss + k) = omega (arith, counted, known) in
       ap (slice_get (interfaces_at foreign is ++ (ss ++ us))) place ∙ at_back (interfaces_at foreign is) (ss ++ us) (length ss + k) s (at_back ss us k s at)
-
--- an item and those that are written in it are sound, and legal
-pub sounds_all : (i : Item) (us : List Item) → ((f : Fault) → IsBrokenScope (scope_names i) (functions i) f → IsNameless (scope_names i) (functions i)) → AreSoundScopes us → AreSoundScopes (i ∷ us)
-sounds_all i us one more = record {
-  sound = λ k u f at broken. elim (at_cons i us k u at) [
-    | inl here ↦ subst (λ (x : Item). IsNameless (scope_names x) (functions x)) here (one f (subst (λ (x : Item). IsBrokenScope (scope_names x) (functions x) f) (sym here) broken))
-    | inr later ↦ more.sound later.0 u f later.1 broken
-  ];
-}
-
-pub sides_all : (i : Item) (us : List Item) → ((f : Fault) → IsBrokenSides i f → ⊥) → AreLegalSides us → AreLegalSides (i ∷ us)
-sides_all i us one more = record {
-  legal = λ k u f at broken. elim (at_cons i us k u at) [
-    | inl here ↦ one f (subst (λ (x : Item). IsBrokenSides x f) (sym here) broken)
-    | inr later ↦ more.legal later.0 u f later.1 broken
-  ];
-}
-
--- nothing is wrong with the stability of a world, where nothing is with its own attributes nor with its includes
-pub world_stable : (w : Item) → ((f : Fault) → IsBrokenStability (about w.declared).attributes f → ⊥) → AreStable (includes w) → (f : Fault) → IsBrokenItemStability w f → ⊥
-world_stable w own stable f (OwnStability h) = own f h
-world_stable w own stable f (OfInclude i among h) = stable.each i among f h
 
 -- what a world adds, where its names and what is on its sides were added
 module _ (w : ItemWalk) (others : List Address) (ws : List World) (old middle new : List TypeDef) (inside now : List Interface) (required : List Required) (m : Walked) (is : IsWalk w) (n : AddsTurn old middle (resolved_scopes_of w.walk.interfaces.now) (owner.World (length ws)) (scope_names (walk_item w)) w.walk.scope.names.now w.walk.turn.now required) (all : AddsAll w middle new inside now m) where
@@ -88,27 +48,8 @@ module _ (w : ItemWalk) (others : List Address) (ws : List World) (old middle ne
   abbrev interfaces : List Interface
   interfaces = w.walk.interfaces.now.arena
 
-  -- the names on its sides differ
-  differ : DifferOnSides w.walk.turn.now (side_items item)
-  differ side = subst (λ (l : List Name). AllDiffer (map name_key l)) (all.adds.in_use side ∙ ap (λ (l : List Name). l ++ names_of_items (items_on side (side_items item))) (all.is.in_use side)) (all.adds.keyed.differ side)
-
   pub extended : length now ≡ length inside + length (inline_items item)
   extended = all.adds.more ∙ ap (λ (k : ℕ). length inside + k) (sym (length-inline_after item [] (side_items item)))
-
-  -- its functions break none by themselves
-  legal_at : (k : ℕ) (fn : SourceFunction) → slice_get (functions item) k ≡ Some fn → (f : Fault) → IsBrokenFunction (scope_names item) (functions item) k fn f → IsNameless (scope_names item) (functions item)
-  legal_at k fn at f broken =
-      let place : k ≡ 0 + k = omega arith in
-      all.adds.legal k fn (ap (λ (l : List SourceFunction). slice_get l k) (sym (functions_items item)) ∙ at) f (subst (λ (j : ℕ). IsBrokenFunction (scope_names item) (functions item) j fn f) place broken)
-
-  -- no rule is broken there, nor in what is written there
-  pub right_world : ((f : Fault) → IsBrokenItemStability item f → ⊥) → ((f : Fault) → IsBrokenScope (scope_names item) (functions item) f → IsOfFunctions (scope_names item) (functions item) f) → IsRightWorld w.walk.interfaces.now.files item
-  right_world stable legal = record {
-    stable = stable;
-    sound = sounds_all item (inline_items item) (scope_sound (scope_names item) (functions item) legal legal_at) all.adds.sound;
-    sided = sides_all item (inline_items item) (sides_legal item w.walk.turn.now is.turn differ (λ x among. (all.adds.right x among).noted)) all.adds.sided;
-    linked = links_usable w.walk.interfaces.now.files interfaces w.walk.interfaces.now.by_name w.walk.interfaces.now.prefix w.walk.interfaces.now.found item (λ link among. (all.adds.right (SideLink link) among).leads link refl) (λ side. subst AllDiffer (all.adds.linked side ∙ ap (λ (l : List ℕ). l ++ bare_places (lead w) (items_on side (side_items item))) (all.is.linked side)) (all.adds.keyed.apart side));
-  }
 
   pub content_adds : (added : World) (ss : List Address) → length ss ≡ length inside → IsWorld (about item.declared).id.name.now (about item.declared).id.span (declared_metadata item.declared) added → added.imports ≡ settled (includes item) m.members.sides.imports → added.exports ≡ settled (includes item) m.members.sides.exports → AreIncludes (worlds_at others ws) item added.includes → ((f : Fault) → IsSetterAlone item f → ⊥) → AddsWorld foreign others interfaces old new (arenas ws inside ss) (arenas (ws ++ added ∷ []) now (ss ++ map address (inline_items item))) (required ++ m.required.items) item
   content_adds added ss known says imports exports included paired =

@@ -19,7 +19,7 @@ use Rattle.wit_tree.specs.declared.tree.WorldSide.TheVariants.{Imported, Exporte
 use Rattle.wit_syntax.specs.ExternPart.{same_side}
 use Rattle.wit_syntax.specs.Fault.{Fault, fault, missing_type_at, cyclic_at, type_word}
 use Rattle.wit_syntax.specs.Function.{SourceFunction, functions, part_functions, definition_functions, free_function, resource_function}
-use Rattle.wit_syntax.specs.ScopeTables.{defined, in_order, in_turn, includes, part_includes, rows_of, used}
+use Rattle.wit_syntax.specs.ScopeTables.{defined, in_order, in_turn, includes, part_includes, used}
 use Rattle.wit_syntax.specs.Sides.{SideItem, SideFunction, item_called, item_function, items_on, names_on, on_side, role_side, side_called, side_items}
 use Rattle.wit_syntax.specs.SignatureRules.{Called, name_called}
 use Rattle.wit_syntax.specs.Source.{Declared, TheInterface, TheWorld, TheInline, Item, ScopeName, Used, Defined, ForeignName, about, address, interface_part, is_world, local_id, local_name, scope_names}
@@ -34,16 +34,13 @@ use Rattle.wit_walk.specs.Definitions.{handle_fault}
 use Rattle.wit_walk.specs.Functions.{function_fault, signed_fault, word_fault}
 use Rattle.wit_walk.specs.Members.{called_fault, is_on_side, member_fault}
 use Rattle.wit_walk.specs.Names.{folded_fault, name_fault, use_fault}
-use Rattle.wit_walk.specs.Orders.{IsOutcome, Outcome, order_fault, order_of}
+use Rattle.wit_walk.specs.Orders.{Outcome, order_fault, order_of}
 use Rattle.wit_walk.specs.Paths.{include_fault}
 use Rattle.wit_walk.specs.Setters.{setters_beside, setters_fault, side_setters_fault}
 use Rattle.wit_walk.specs.Walk.{earliest, scope_faults}
-use Rattle.wit_types.specs.declared.types.TypeDef.{TypeDef}
-use Rattle.wit_model.specs.declared.interface.Interface.{Interface}
-use Rattle.wit_arena.specs.Resolving.{env_of}
 use Rattle.wit_refusals.specs.NameScopes.{Name}
 use Rattle.wit_signatures.specs.ForeignName.{name_key, name_of_function, name_of_id}
-use Rattle.wit_externs.specs.AloneFaults.{EndsIn, IsSafe, again_fault, alone_fault, alone_faults, defined_fault, lone_setters}
+use Rattle.wit_externs.specs.AloneFaults.{again_fault, alone_fault, alone_faults, defined_fault, lone_setters}
 use Rattle.wit_externs.specs.Clash.{names_of_items}
 use Rattle.wit_scopes.specs.BorrowedNames.{own_use, use_view}
 use Rattle.wit_scopes.specs.declared.scope_name.UsedName.{UsedName}
@@ -55,7 +52,7 @@ use Rattle.wit_uses.specs.UseFaults.{local_fault, local_faults, used_fault}
 use Rattle.wit_uses.proofs.NameOrder.{all_used, called}
 use Rattle.wit_item_entries.specs.ReachedFaults.{definitions_fault, item_stability, ordered_fault}
 use Rattle.wit_item_entries.specs.ScopeFunctionFaults.{functions_fault}
-use Rattle.wit_contents.specs.InterfaceFaults.{HasNoFault, IsInterfaceFault, interface_fault, names_of}
+use Rattle.wit_contents.specs.InterfaceFaults.{interface_fault, names_of}
 
 -- an item that is made of another
 any-made : {X Y : Type 0} (p : Y → Bool) (f : X → Y) (xs : List X) → list_any p (map f xs) ≡ list_any (λ (x : X). p (f x)) xs
@@ -262,11 +259,3 @@ interface_walked files steps inside is s outcome sort named say =
     ∙ ap (λ (o : Option Fault). option_or stable (option_or names (option_or round (option_or definitions (option_or called_names (option_or o (option_or setters None))))))) members_are
     ∙ ap (λ (o : Option Fault). option_or stable (option_or names (option_or round (option_or definitions (option_or called_names (option_or members (option_or o None))))))) (setters_walked i sort)
     ∙ ap (λ (o : Option Fault). option_or stable (option_or names (option_or round (option_or definitions (option_or o (option_or called_names (option_or members (option_or (setters_fault i) None)))))))) nothing
-
--- so what is found of it is its first fault by files, where the walk's test of names in handles is right of the arena
-pub fault_walked : (files : List PackageFile) (steps : ℕ) (inside : Item → Option Fault) (is : Interfaces) (s : ItemScope) (place : ℕ) (old : List TypeDef) (f : Fault) (outcome : Outcome) → is_world (scope_item s) ≡ false → names_of s ≡ scope_names (scope_item s) → AreAsWalked files is (flat_map own_use s.names.now) → (right : IsOutcome (rows_of (names_of s)) outcome) (h : IsInterfaceFault is place old s f) → EndsIn (env_of (h outcome right).now) ((h outcome right).mid ++ (h outcome right).more) (handle_fault files steps (address (scope_item s))) → earliest (scope_faults files steps inside (scope_item s) outcome) ≡ Some f
-fault_walked files steps inside is s place old f outcome sort named say right h ends = sym (interface_walked files steps inside is s outcome sort named say) ∙ (h outcome right).is (handle_fault files steps (address (scope_item s))) ends
-
--- and where nothing is found there is none
-pub none_walked : (files : List PackageFile) (steps : ℕ) (inside : Item → Option Fault) (is : Interfaces) (s : ItemScope) (es : List TypeDef) (added : Interface) (outcome : Outcome) → is_world (scope_item s) ≡ false → names_of s ≡ scope_names (scope_item s) → AreAsWalked files is (flat_map own_use s.names.now) → IsOutcome (rows_of (names_of s)) outcome → HasNoFault is s es added → IsSafe (env_of added.types) es (handle_fault files steps (address (scope_item s))) → earliest (scope_faults files steps inside (scope_item s) outcome) ≡ None
-none_walked files steps inside is s es added outcome sort named say right h safe = sym (interface_walked files steps inside is s outcome sort named say) ∙ h outcome right (handle_fault files steps (address (scope_item s))) safe

@@ -9,16 +9,14 @@ use Rattle.wit_tree.specs.declared.tree.WorldSide.{WorldSide}
 use Rattle.wit_functions.specs.declared.function.Function.{Function}
 use Rattle.wit_syntax.specs.Address.{Address}
 use Rattle.wit_syntax.specs.ExternPart.{same_side}
-use Rattle.wit_syntax.specs.Fault.{Fault}
-use Rattle.wit_syntax.specs.Function.{SourceFunction, functions}
-use Rattle.wit_syntax.specs.SignatureRules.{IsBrokenFunction}
+use Rattle.wit_syntax.specs.Function.{functions}
 use Rattle.wit_syntax.specs.Sides.{SideItem, SideFunction, SideLink, SideInline, inline_after, item_function, item_inline, item_side, items_on, role_side}
-use Rattle.wit_syntax.specs.Source.{Item, TopName, address, scope_names}
+use Rattle.wit_syntax.specs.Source.{Item, TopName, address}
 use Rattle.wit_syntax.proofs.Inline.{inline_after-append, length-inline_after}
-use Rattle.wit_syntax.proofs.Lists.{at_back, at_prefix, at_split}
+use Rattle.wit_syntax.proofs.Lists.{at_back, at_prefix}
 use Rattle.wit_arena.specs.SourceFunctions.{function_item}
 use Rattle.wit_arena.specs.Resolving.{Required}
-use Rattle.wit_arena.specs.ResolvedArenas.{AddsSides, AreLegalSides, AreSoundScopes, IsNameless}
+use Rattle.wit_arena.specs.ResolvedArenas.{AddsSides}
 use Rattle.wit_arena.specs.SideItems.{AreSideItems, inline_entry, link_item}
 use Rattle.wit_entries.proofs.Requiring.{extended_then}
 use Rattle.wit_refusals.specs.NameScopes.{Name}
@@ -31,9 +29,8 @@ use Rattle.wit_items.specs.ResolvedInterfaces.{resolved_scopes_of}
 use Rattle.wit_world_sides.specs.Members.{AreKeyed, Entry}
 use Rattle.wit_world_sides.specs.FilledSides.{entries_of}
 use Rattle.wit_links.specs.SideCounts.{IsSeen}
-use Rattle.wit_contents.specs.Walk.{AddsMembers, HasMore, HavePlaces, IsNext, IsWrongAmong, IsWrongMember, ItemWalk, Stage, lead, next_place, walk_item}
+use Rattle.wit_contents.specs.Walk.{AddsMembers, HasMore, HavePlaces, IsNext, ItemWalk, Stage, lead, next_place, walk_item}
 use Rattle.wit_contents.proofs.Adding.{sides_none, sides_then}
-use Rattle.wit_contents.proofs.WorldsMore.{sides_both, sounds_both}
 
 -- an entry before others is one before those and more
 put_both : (b : Bool) (x : Entry) (xs ys : List Entry) → (if b then x ∷ xs else xs) ++ ys ≡ (if b then x ∷ (xs ++ ys) else xs ++ ys)
@@ -88,10 +85,7 @@ module _ (w : ItemWalk) where
     linked = λ s. sym (append-nil (linked_on s a.walked.members.links));
     keyed = keyed;
     are_present = λ all places s. record { more = []; put = sym (append-nil _); are = refl };
-    legal = λ k fn at f broken. absurd (let wrong : ⊥ = cc in wrong);
-    right = λ x among. absurd (let lt = among.1 in let wrong : ⊥ = omega arith in wrong);
-    sound = record { sound = λ k u f at broken. absurd (let wrong : ⊥ = cc in wrong) };
-    sided = record { legal = λ k u f at broken. (let wrong : ⊥ = cc in wrong) };
+    leads = λ link among. absurd (let lt = among.1 in let wrong : ⊥ = omega arith in wrong);
   }
 
   module _ (prefix xs ys : List SideItem) (a b c : Stage) (p : AddsMembers w prefix xs a b) (q : AddsMembers w (prefix ++ xs) ys b c) where
@@ -146,15 +140,6 @@ module _ (w : ItemWalk) where
           are = subst (λ (l : List Address). AreSideItems all item.top s (xs ++ ys) (p.functions ++ q.functions) l (first.more ++ second.more)) (sym named) (items_then all item.top s xs ys p.functions q.functions (map address us) (map address vs) first.more second.more made count first.are second.are);
         }
 
-    legal_both : (k : ℕ) (fn : SourceFunction) → slice_get (flat_map item_function (xs ++ ys)) k ≡ Some fn → (f : Fault) → IsBrokenFunction (scope_names item) (functions item) (length (flat_map item_function prefix) + k) fn f → IsNameless (scope_names item) (functions item)
-    legal_both k fn at f broken = elim (at_split (flat_map item_function xs) (flat_map item_function ys) k fn (ap (λ (l : List SourceFunction). slice_get l k) (sym functions_both) ∙ at)) [
-      | inl here ↦ p.legal k fn here f broken
-      | inr later ↦ (
-          let long : length (flat_map item_function (prefix ++ xs)) ≡ length (flat_map item_function prefix) + length (flat_map item_function xs) = ap length (flat_map-append item_function prefix xs) ∙ length-append (flat_map item_function prefix) (flat_map item_function xs) in
-          let place : length (flat_map item_function prefix) + k ≡ length (flat_map item_function (prefix ++ xs)) + later.0 = omega (arith, later.1, long) in
-          q.legal later.0 fn later.2 f (subst (λ (n : ℕ). IsBrokenFunction (scope_names item) (functions item) n fn f) place broken))
-    ]
-
     -- more after some
     pub members_then : AddsMembers w prefix (xs ++ ys) a c
     members_then = record {
@@ -170,13 +155,10 @@ module _ (w : ItemWalk) where
       linked = λ s. q.linked s ∙ ap (λ (l : List ℕ). l ++ bare_places (lead w) (items_on s ys)) (p.linked s) ∙ append_assoc (linked_on s a.walked.members.links) (bare_places (lead w) (items_on s xs)) (bare_places (lead w) (items_on s ys)) ∙ ap (λ (l : List ℕ). linked_on s a.walked.members.links ++ l) (sym (places_then s xs ys));
       keyed = q.keyed;
       are_present = present_both;
-      legal = legal_both;
-      right = λ x among. elim (Contains-append_cases xs ys x among) [
-        | inl early ↦ p.right x early
-        | inr late ↦ q.right x late
+      leads = λ link among. elim (Contains-append_cases xs ys (SideLink link) among) [
+        | inl early ↦ p.leads link early
+        | inr late ↦ q.leads link late
       ];
-      sound = subst AreSoundScopes (sym inline_both) (sounds_both us vs p.sound q.sound);
-      sided = subst AreLegalSides (sym inline_both) (sides_both us vs p.sided q.sided);
     }
 
   -- once some of what comes next was added, more of it does
@@ -192,31 +174,4 @@ module _ (w : ItemWalk) where
         ∙ sym (append_assoc n.prefix done (ys ++ (rest ++ n.rest)));
     seen = adds.seen n.prefix n.seen;
     keyed = adds.keyed;
-  }
-
-  -- what comes next is wrong
-  pub wrong_one : (prefix : List SideItem) (x : SideItem) (a : Stage) (f : Fault) → AreKeyed a.walked.members → IsWrongMember w prefix x a f → IsWrongAmong w prefix (x ∷ []) a f
-  wrong_one prefix x a f keyed wrong = record {
-    done = [];
-    x = x;
-    rest = [];
-    split = refl;
-    now = a;
-    adds = members_none prefix a keyed;
-    wrong = subst (λ (l : List SideItem). IsWrongMember w l x a f) (sym (append-nil prefix)) wrong;
-  }
-
-  -- so it is after some, and with more after it
-  pub wrong_later : (prefix xs ys rest : List SideItem) (a b : Stage) (f : Fault) → AddsMembers w prefix xs a b → IsWrongAmong w (prefix ++ xs) ys b f → IsWrongAmong w prefix (xs ++ (ys ++ rest)) a f
-  wrong_later prefix xs ys rest a b f adds h = record {
-    done = xs ++ h.done;
-    x = h.x;
-    rest = h.rest ++ rest;
-    split =
-        ap (λ (l : List SideItem). xs ++ (l ++ rest)) h.split
-        ∙ ap (λ (l : List SideItem). xs ++ l) (append_assoc h.done (h.x ∷ h.rest) rest)
-        ∙ sym (append_assoc xs h.done (h.x ∷ (h.rest ++ rest)));
-    now = h.now;
-    adds = members_then prefix xs h.done a b h.now adds h.adds;
-    wrong = subst (λ (l : List SideItem). IsWrongMember w l h.x h.now f) (append_assoc prefix xs h.done) h.wrong;
   }

@@ -1,11 +1,9 @@
 -- The walk of a world of the files, and what came of it.
 use Rattle.std.proofs.Common.{◌≡◌, List, map, sym, ap, ◌∙◌, subst, true}
-use Rattle.wit_type_tree.specs.declared.error.ParseError.{ParseError}
 use Rattle.wit_type_tree.specs.declared.leaves.Id.{Id}
 use Rattle.wit_types.specs.declared.types.TypeDef.{TypeDef}
 use Rattle.wit_types.specs.declared.types.TypeOwner.{TypeOwner}
 use Rattle.wit_model.specs.declared.interface.Interface.{Interface}
-use Rattle.wit_syntax.specs.Broken.{Refused}
 use Rattle.wit_syntax.specs.Function.{functions}
 use Rattle.wit_syntax.specs.Source.{is_world, scope_names}
 use Rattle.wit_arena.specs.Resolving.{env_of, names_in}
@@ -22,8 +20,8 @@ use Rattle.wit_item_entries.proofs.Owners.{owners, turn_has}
 use Rattle.wit_uses.specs.NameOrder.{IsTurn}
 use Rattle.wit_contents.specs.declared.walk.Walk.{Walk}
 use Rattle.wit_contents.specs.declared.walk.Walked.{Walked}
-use Rattle.wit_contents.specs.Walk.{AddsAll, IsWalk, IsWrongWalk, ItemWalk, walk_item, walk_of}
-use Rattle.wit_contents.specs.WorldWalk.{AddsSidesOf, IsWalkOf, RefusesSidesOf}
+use Rattle.wit_contents.specs.Walk.{AddsAll, IsWalk, ItemWalk, walk_item, walk_of}
+use Rattle.wit_contents.specs.WorldWalk.{AddsSidesOf, IsWalkOf}
 
 -- it is that of a world of the files, whose names are resolved, in turn
 pub is_walk : (w : ItemWalk) (ids : List Id) → IsItemOf w.walk.interfaces.now.files w.item → is_world (walk_item w) ≡ true → functions_view w.walk.scope ≡ functions (walk_item w) → AreResults w.walk.scope.results.now (scope_names (walk_item w)) → IsTurn (scope_names (walk_item w)) ids → names_in w.walk.scope.names.now ≡ map (λ id. id.name.now) ids → w.walk.turn.now ≡ ids → IsWalk w
@@ -43,9 +41,6 @@ is_walk w ids item sort fns results turn listed lent =
 -- a walk of a world, and what came of it
 pub sides_of : (w : Walk) (i : BorrowedItem) (old new : List TypeDef) (inside now : List Interface) (m : Walked) → AddsAll (walk_of i w) old new inside now m → (is : Interfaces) (names : ResolvedNames) → IsWalk (walk_of i w) → w.interfaces.now ≡ is → w.scope.names.now ≡ names.types → w.turn.now ≡ names.turn.items → AddsSidesOf i is names old new inside now m
 sides_of w i old new inside now m all is names walk interfaces types turn = (w, record { walk = walk; interfaces = interfaces; types = types; turn = turn }, all)
-
-pub sides_refused : (w : Walk) (i : BorrowedItem) (old : List TypeDef) (inside : List Interface) (e : ParseError) → Refused (IsWrongWalk (walk_of i w) old inside) e → (is : Interfaces) (names : ResolvedNames) → IsWalk (walk_of i w) → w.interfaces.now ≡ is → w.scope.names.now ≡ names.types → w.turn.now ≡ names.turn.items → RefusesSidesOf i is names old inside e
-sides_refused w i old inside e refused is names walk interfaces types turn = (w, record { walk = walk; interfaces = interfaces; types = types; turn = turn }, refused)
 
 -- its names were added in turn
 pub turn_of : (w : Walk) (i : BorrowedItem) (is : Interfaces) (names : ResolvedNames) → IsWalkOf w i is names → (old new : List TypeDef) (o : TypeOwner) → AddsTurn old new (resolved_scopes_of is) o (scope_names (item_view i)) names.types names.turn.items names.required.items → AddsTurn old new (resolved_scopes_of w.interfaces.now) o (scope_names (item_view i)) w.scope.names.now w.turn.now names.required.items

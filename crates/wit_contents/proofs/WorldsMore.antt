@@ -1,5 +1,5 @@
 -- Worlds that are added one after another, with the interfaces that are written in them, and one more.
-use Rattle.std.proofs.Common.{◌≡◌, ◌+◌, List, [], ◌∷◌, ◌++◌, length, map, inl, inr, refl, sym, ap, ◌∙◌, subst, append_assoc, arith}
+use Rattle.std.proofs.Common.{◌≡◌, ◌+◌, List, [], ◌∷◌, ◌++◌, length, map, refl, sym, ap, ◌∙◌, subst, append_assoc, arith}
 use Rattle.std.specs.List.{flat_map}
 use Rattle.std.proofs.lemmas.Grind.{flat_map-append}
 use Rattle.std.proofs.lemmas.List.{append-nil, length-append, length-map, map-append}
@@ -7,11 +7,10 @@ use Rattle.wit_types.specs.declared.types.TypeDef.{TypeDef}
 use Rattle.wit_model.specs.declared.interface.Interface.{Interface}
 use Rattle.wit_model.specs.declared.world.World.{World}
 use Rattle.wit_syntax.specs.Address.{Address}
-use Rattle.wit_syntax.specs.Sides.{inline_items, with_inline}
+use Rattle.wit_syntax.specs.Sides.{inline_items}
 use Rattle.wit_syntax.specs.Source.{Item, address}
-use Rattle.wit_syntax.proofs.Lists.{at_split}
 use Rattle.wit_arena.specs.Resolving.{Required}
-use Rattle.wit_arena.specs.ResolvedArenas.{AddsEach, AddsWorld, AddsWorlds, AreLegalSides, AreSoundScopes, prefix_worlds}
+use Rattle.wit_arena.specs.ResolvedArenas.{AddsEach, AddsWorld, AddsWorlds, prefix_worlds}
 use Rattle.wit_uses.specs.NewRequirements.{Appends}
 use Rattle.wit_contents.specs.AddedWorlds.{arenas}
 
@@ -27,9 +26,6 @@ addresses_in ws = map address (flat_map inline_items ws)
 
 pub addresses_more : (ws : List Item) (w : Item) → addresses_in (ws ++ w ∷ []) ≡ addresses_in ws ++ map address (inline_items w)
 addresses_more ws w = ap (map address) (flat_map-append inline_items ws (w ∷ []) ∙ ap (λ (l : List Item). flat_map inline_items ws ++ l) (append-nil (inline_items w))) ∙ map-append address (flat_map inline_items ws) (inline_items w)
-
-pub with_more : (ws : List Item) (w : Item) → flat_map with_inline (ws ++ w ∷ []) ≡ flat_map with_inline ws ++ with_inline w
-with_more ws w = flat_map-append with_inline ws (w ∷ []) ∙ ap (λ (l : List Item). flat_map with_inline ws ++ l) (append-nil (with_inline w))
 
 -- some worlds were added, of whose interfaces these are the addresses
 pub record AreWorldsTo (foreign others : List Address) (is : List Interface) (old new : List TypeDef) (prefix ws : List World) (inside : List Interface) (before after : List Required) (items : List Item) : Type 0 where
@@ -58,20 +54,3 @@ worlds_more foreign others is old mid new prefix ws ws' inside now before betwee
           let before = p.put in
           omega (arith, long, count, before, extended));
     }
-
--- items after others, all sound, and all legal
-pub sounds_both : (xs ys : List Item) → AreSoundScopes xs → AreSoundScopes ys → AreSoundScopes (xs ++ ys)
-sounds_both xs ys first second = record {
-  sound = λ k u f at broken. elim (at_split xs ys k u at) [
-    | inl early ↦ first.sound k u f early broken
-    | inr late ↦ second.sound late.0 u f late.2 broken
-  ];
-}
-
-pub sides_both : (xs ys : List Item) → AreLegalSides xs → AreLegalSides ys → AreLegalSides (xs ++ ys)
-sides_both xs ys first second = record {
-  legal = λ k u f at broken. elim (at_split xs ys k u at) [
-    | inl early ↦ first.legal k u f early broken
-    | inr late ↦ second.legal late.0 u f late.2 broken
-  ];
-}

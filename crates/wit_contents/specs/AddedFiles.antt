@@ -1,34 +1,28 @@
 -- What is said between the functions of the resolver: what is in the arenas once the items of files were added, and what they make.
-use Rattle.std.specs.Prelude.{◌≡◌, ℕ, List, ◌++◌, map, Contains}
-use Rattle.std.specs.List.{flat_map}
-use Rattle.wit_tree.specs.declared.tree.Use.{Use}
+use Rattle.std.specs.Prelude.{◌≡◌, ℕ, List, ◌++◌, map}
 use Rattle.wit_tree.specs.declared.tree.PackageFile.{PackageFile}
 use Rattle.wit_graph.specs.Table.{IsOrder}
 use Rattle.wit_types.specs.declared.types.TypeDef.{TypeDef}
 use Rattle.wit_model.specs.declared.foreign.ForeignItems.{ForeignItems}
 use Rattle.wit_model.specs.declared.interface.Interface.{Interface}
 use Rattle.wit_model.specs.declared.world.World.{World}
-use Rattle.wit_syntax.specs.Source.{Item, all_items, first_foreign_uses}
-use Rattle.wit_syntax.specs.ScopeTables.{in_order, item_rows, interfaces_of, worlds_of, uses as uses_of}
-use Rattle.wit_syntax.specs.Sides.{with_inline}
+use Rattle.wit_syntax.specs.Source.{all_items, first_foreign_uses}
+use Rattle.wit_syntax.specs.ScopeTables.{in_order, item_rows, interfaces_of, worlds_of}
 use Rattle.wit_syntax.specs.Fault.{Fault}
-use Rattle.wit_syntax.specs.Metadata.{IsBrokenMetadata}
 use Rattle.wit_syntax.specs.Broken.{IsBrokenNames}
 use Rattle.wit_syntax.specs.Foreign.{visited, foreign_interfaces, foreign_packages, foreign_worlds}
 use Rattle.wit_arena.specs.Resolving.{Required}
 use Rattle.wit_arena.specs.Whole.{dep}
-use Rattle.wit_arena.specs.ResolvedArenas.{WorldArenas, prefix_worlds, AddsForeign, AddsInterfaces, AddsWorlds, AreLegalSides, AreSoundScopes, AreUsableLinks, AreUsableUses, HaveLegalStability}
+use Rattle.wit_arena.specs.ResolvedArenas.{WorldArenas, prefix_worlds, AddsForeign, AddsInterfaces, AddsWorlds, AreUsableUses}
 
 -- after what comes first, the items of files were added in the least dependency-first order of their table, all interfaces before all
--- worlds, and after all interfaces those that are written in worlds; no path of a `use`, of an import or of an export leads to nothing or to a
--- world, no attributes of a `use`, of an item or of an include break a rule, nothing is wrong on the sides of an item, no scope of theirs is
--- broken by itself, but where a name in a signature means nothing, and this is what their handles require
+-- worlds, and after all interfaces those that are written in worlds, and this is what their handles require; nothing is wrong with the names
+-- of files, and no path of a `use` leads to nothing or to a world
 pub record AddsFiles (files : List PackageFile) (es : List TypeDef) (all : List Interface) (ws : List World) (required : List Required) : Type 0 where
   pub places : List ℕ
   pub order : IsOrder (item_rows files) places
   pub names : (f : Fault) → IsBrokenNames files f → ⊥
   pub uses : AreUsableUses files (all_items files)
-  pub noted : (i : Item) → Contains (all_items files) i → (u : Use) → Contains (uses_of i) u → (f : Fault) → IsBrokenMetadata u.attributes.items f → ⊥
   pub first : List TypeDef
   pub prefix : List Interface
   pub worlds_prefix : List World
@@ -43,10 +37,6 @@ pub record AddsFiles (files : List PackageFile) (es : List TypeDef) (all : List 
   pub requires : required ≡ irs ++ wrs
   pub interfaces : AddsInterfaces (map visited (foreign_interfaces files)) first middle prefix is irs (interfaces_of (in_order (all_items files) places))
   pub worlds : AddsWorlds (map visited (foreign_interfaces files)) (map visited (foreign_worlds files)) is middle es (prefix_worlds worlds_prefix) arenas wrs (worlds_of (in_order (all_items files) places))
-  pub sided : AreLegalSides (flat_map with_inline (in_order (all_items files) places))
-  pub linked : AreUsableLinks files (worlds_of (in_order (all_items files) places))
-  pub sound : AreSoundScopes (flat_map with_inline (in_order (all_items files) places))
-  pub stable : HaveLegalStability (in_order (all_items files) places)
 
 -- files make these types, interfaces and worlds, and name this of other packages
 pub record MakeContents (files : List PackageFile) (es : List TypeDef) (is : List Interface) (ws : List World) (foreign : ForeignItems) : Type 0 where

@@ -1,20 +1,16 @@
--- What a world adds to the arenas, and what is wrong with one, by the worlds that are resolved.
+-- What a world adds to the arenas.
 use Rattle.std.specs.Prelude.{◌≡◌, ℕ, List, ◌∷◌, [], ◌++◌, length, map}
-use Rattle.wit_tree.specs.declared.tree.PackageFile.{PackageFile}
 use Rattle.wit_types.specs.declared.types.TypeDef.{TypeDef}
-use Rattle.wit_types.specs.declared.types.TypeOwner.TheVariants as owner
 use Rattle.wit_model.specs.declared.interface.Interface.{Interface}
 use Rattle.wit_model.specs.declared.world.World.{World}
 use Rattle.wit_syntax.specs.Address.{Address}
-use Rattle.wit_syntax.specs.Fault.{Fault}
 use Rattle.wit_syntax.specs.ScopeTables.{in_order, worlds_of}
-use Rattle.wit_syntax.specs.Sides.{inline_items, with_inline}
+use Rattle.wit_syntax.specs.Sides.{inline_items}
 use Rattle.wit_syntax.specs.Source.{Item, about, address, declared_metadata}
 use Rattle.wit_arena.specs.UnfoldedTypes.{IsWorld}
 use Rattle.wit_arena.specs.Resolving.{IsWorldIndex, Required}
-use Rattle.wit_arena.specs.ResolvedArenas.{AddsWorld, AddsWorlds, AreLegalSides, AreSoundScopes, HasUsableLinks, IsBrokenItemStability, IsWrongWorld, IsWrongWorldNow, WorldArenas, prefix_worlds, worlds_at}
+use Rattle.wit_arena.specs.ResolvedArenas.{AddsWorld, AddsWorlds, WorldArenas, prefix_worlds, worlds_at}
 use Rattle.wit_item_names.specs.ForeignAddresses.{prefix_of}
-use Rattle.wit_items.specs.ResolvedInterfaces.{resolved_scopes_of}
 use Rattle.wit_items.specs.BorrowedItems.{item_view, others_of}
 use Rattle.wit_items.specs.declared.interfaces.Interfaces.{Interfaces}
 use Rattle.wit_items.specs.declared.items.Item.{Item as BorrowedItem}
@@ -34,9 +30,16 @@ arenas ws inside ss = record { worlds = ws; inside = inside; addresses = ss }
 abbrev pub AddsTo : Worlds → List World → BorrowedItem → List TypeDef → List TypeDef → List Interface → List Interface → List Required → List Required → Type 0
 AddsTo ws arena i old new inside now before after = (ss : List Address) → length ss ≡ length inside → Appends before after (λ rs. AddsWorld (prefix_of ws.interfaces.now.files) (others_of ws.interfaces.now.files) ws.interfaces.now.arena old new (arenas ws.arena inside ss) (arenas arena now (ss ++ map address (inline_items (item_view i)))) rs (item_view i))
 
+-- as this world
+abbrev pub AddsOne : Worlds → World → BorrowedItem → List TypeDef → List TypeDef → List Interface → List Interface → List Required → List Required → Type 0
+AddsOne ws w i old new inside now before after = AddsTo ws (ws.arena ++ w ∷ []) i old new inside now before after
+
 -- after worlds of other packages these are the worlds, and these the interfaces that are written in them: items were added, as worlds
 abbrev pub AddsWorldsTo : Interfaces → List World → List World → List Interface → List TypeDef → List TypeDef → List Required → List Required → List Item → Type 0
 AddsWorldsTo is prefix ws inside old new before after items = Appends before after (λ rs. (ss : List Address) × AddsWorlds (prefix_of is.files) (others_of is.files) is.arena old new (prefix_worlds prefix) (arenas ws inside ss) rs items)
+
+abbrev pub AddsWorldsAmong : Interfaces → List World → List World → List Interface → List TypeDef → List TypeDef → List Required → List Required → List BorrowedItem → List ℕ → Type 0
+AddsWorldsAmong is prefix ws inside old new before after items places = AddsWorldsTo is prefix ws inside old new before after (worlds_in items places)
 
 -- a world of an item has this content
 pub record HasContent (i : BorrowedItem) (c : WorldContent) (w : World) : Type 0 where
@@ -48,21 +51,6 @@ pub record HasContent (i : BorrowedItem) (c : WorldContent) (w : World) : Type 0
 -- a world of this content is added
 abbrev pub AddsContent : Worlds → BorrowedItem → List TypeDef → List TypeDef → List Interface → List Interface → List Required → List Required → WorldContent → Type 0
 AddsContent ws i old new inside now before after c = (w : World) → HasContent i c w → AddsTo ws (ws.arena ++ w ∷ []) i old new inside now before after
-
--- no rule is broken by a world, nor by what is written in it
-pub record IsRightWorld (files : List PackageFile) (i : Item) : Type 0 where
-  pub stable : (f : Fault) → IsBrokenItemStability i f → ⊥
-  pub sound : AreSoundScopes (with_inline i)
-  pub sided : AreLegalSides (with_inline i)
-  pub linked : HasUsableLinks files i
-
--- what is wrong with the world that comes next
-abbrev pub IsWrongIn : Worlds → List TypeDef → List Interface → Item → Fault → Type 0
-IsWrongIn ws old inside = IsWrongWorld ws.interfaces.now.files old (resolved_scopes_of ws.interfaces.now) (length ws.interfaces.now.arena) inside ws.interfaces.now.by_name ws.by_name (owner.World (length ws.arena))
-
--- what is wrong with one of items, in the order of their places, after worlds of other packages
-abbrev pub IsWrongWorldInOrder : Interfaces → List World → List TypeDef → List BorrowedItem → List ℕ → Fault → Type 0
-IsWrongWorldInOrder is prefix old items places = IsWrongWorldNow is.files (prefix_of is.files) (others_of is.files) old is.arena is.by_name prefix (map item_view items) places
 
 -- each world is found by its name
 abbrev pub AreIndexed : Worlds → Type 0

@@ -1,34 +1,29 @@
--- What the imports and exports of a world add, one after another after its names, and what may be wrong with one of them.
-use Rattle.std.specs.Prelude.{◌≡◌, ◌+◌, ◌++◌, ◌∷◌, [], ℕ, Contains, List, None, Option, length, map, slice_get, Some, true}
+-- What the imports and exports of a world add, one after another after its names.
+use Rattle.std.specs.Prelude.{◌≡◌, ◌+◌, ◌++◌, ◌∷◌, [], ℕ, Contains, List, Option, length, map, slice_get, Some, true}
 use Rattle.std.specs.List.{flat_map}
-use Rattle.wit_type_tree.specs.declared.error.ParseError.{ParseError}
 use Rattle.wit_type_tree.specs.declared.leaves.Id.{Id}
 use Rattle.wit_type_tree.specs.declared.types.ResourceFunc.{ResourceFunc}
+use Rattle.wit_tree.specs.declared.tree.Extern.{Extern}
 use Rattle.wit_tree.specs.declared.tree.UsePath.{UsePath}
 use Rattle.wit_tree.specs.declared.tree.WorldSide.{WorldSide}
 use Rattle.wit_types.specs.declared.types.TypeDef.{TypeDef}
-use Rattle.wit_types.specs.declared.types.TypeOwner.TheVariants as owner
 use Rattle.wit_functions.specs.declared.function.Function.{Function}
 use Rattle.wit_model.specs.declared.interface.Interface.{Interface}
 use Rattle.wit_syntax.specs.Address.{Address}
-use Rattle.wit_syntax.specs.Broken.{IsSetterAlone, Refused}
-use Rattle.wit_syntax.specs.Fault.{Fault}
-use Rattle.wit_syntax.specs.Function.{SourceFunction, functions as the_functions, resource_function}
-use Rattle.wit_syntax.specs.Metadata.{IsBrokenMetadata}
-use Rattle.wit_syntax.specs.SignatureRules.{IsBrokenFunction}
-use Rattle.wit_syntax.specs.Sides.{Link, SideFunction, SideItem, SideLink, inline_after, interface_attributes, item_function, item_inline, items_on, names_on, side_items}
-use Rattle.wit_syntax.specs.Source.{Item, ScopeName, address, is_world, local_id, path_id, scope_names}
+use Rattle.wit_syntax.specs.Function.{functions as the_functions, resource_function}
+use Rattle.wit_syntax.specs.Sides.{Link, SideFunction, SideItem, SideLink, extern_items, inline_after, item_function, item_inline, items_on, names_on, side_items}
+use Rattle.wit_syntax.specs.Source.{Item, ScopeName, address, is_world, local_id, scope_names}
 use Rattle.wit_arena.specs.Resolving.{Required, env_of, names_in}
-use Rattle.wit_arena.specs.ResolvedArenas.{AddsInterface, AddsSides, AreLegalSides, AreSoundScopes, IsNameless, IsWrongInterface, interfaces_at}
+use Rattle.wit_arena.specs.ResolvedArenas.{AddsInterface, AddsSides, interfaces_at}
 use Rattle.wit_arena.specs.SideItems.{AreSideItems}
 use Rattle.wit_arena.specs.Whole.{type_imports}
 use Rattle.wit_entries.specs.Requiring.{IsExtended}
 use Rattle.wit_sides.specs.SideNames.{defined_on}
-use Rattle.wit_rules.specs.Signatures.{HaveOwners, IsScopeOf, IsWrongFunctionAmong, functions_view}
-use Rattle.wit_signatures.specs.ForeignName.{IsTwiceAmong, name_of_function, name_of_id, name_of_made}
-use Rattle.wit_externs.specs.Clash.{IsClashAfter, names_of_items}
+use Rattle.wit_rules.specs.Signatures.{HaveOwners, IsScopeOf, functions_view}
+use Rattle.wit_signatures.specs.ForeignName.{name_of_function, name_of_id, name_of_made}
+use Rattle.wit_externs.specs.Clash.{names_of_items}
 use Rattle.wit_externs.specs.Links.{bare_places}
-use Rattle.wit_externs.specs.Next.{IsLinked, linked_on}
+use Rattle.wit_externs.specs.Next.{linked_on}
 use Rattle.wit_item_names.specs.ForeignAddresses.{prefix_of}
 use Rattle.wit_items.specs.Gathered.{IsItemOf}
 use Rattle.wit_items.specs.ResolvedInterfaces.{resolved_scopes_of}
@@ -38,7 +33,7 @@ use Rattle.wit_items.specs.declared.items.Item.{Item as BorrowedItem}
 use Rattle.wit_world_sides.specs.Members.{AreKeyed, Entry}
 use Rattle.wit_world_sides.specs.FilledSides.{entries_of}
 use Rattle.wit_links.specs.SideCounts.{IsSeen}
-use Rattle.wit_links.specs.Links.{IsLinkedTo, IsWrongLink, path_place}
+use Rattle.wit_links.specs.Links.{path_place}
 use Rattle.wit_uses.specs.NameOrder.{IsTurn}
 use Rattle.wit_uses.specs.NewRequirements.{Appends}
 use Rattle.wit_contents.specs.declared.walk.Walk.{Walk}
@@ -103,11 +98,6 @@ pub record HasMore (all : List Address) (w : ItemWalk) (s : WorldSide) (xs : Lis
   pub put : after ≡ before ++ more
   pub are : AreSideItems all (walk_item w).top s xs fs (map address us) more
 
--- the attributes of an interface on a side break no rule, and its path leads to one
-pub record IsRight (w : ItemWalk) (x : SideItem) : Type 0 where
-  pub noted : (f : Fault) → IsBrokenMetadata (interface_attributes x) f → ⊥
-  pub leads : (link : Link) → x ≡ SideLink link → (id : ℕ) × IsLinkedTo w.walk.interfaces.now.files w.walk.interfaces.now.by_name (walk_item w).top link.path id
-
 -- after a prefix, these were resolved, and put on their sides
 pub record AddsMembers (w : ItemWalk) (prefix xs : List SideItem) (a b : Stage) : Type 0 where
   pub functions : List Function
@@ -120,50 +110,22 @@ pub record AddsMembers (w : ItemWalk) (prefix xs : List SideItem) (a b : Stage) 
   pub linked : (s : WorldSide) → linked_on s b.walked.members.links ≡ linked_on s a.walked.members.links ++ bare_places (lead w) (items_on s xs)
   pub keyed : AreKeyed b.walked.members
   pub are_present : (all : List Address) → HavePlaces w a.inside (inline_after (walk_item w) prefix xs) all → (s : WorldSide) → HasMore all w s xs functions (inline_after (walk_item w) prefix xs) (entries_of s a.walked.members.sides) (entries_of s b.walked.members.sides)
-  pub legal : (k : ℕ) (fn : SourceFunction) → slice_get (flat_map item_function xs) k ≡ Some fn → (f : Fault) → IsBrokenFunction (scope_names (walk_item w)) (the_functions (walk_item w)) (length (flat_map item_function prefix) + k) fn f → IsNameless (scope_names (walk_item w)) (the_functions (walk_item w))
-  pub right : (x : SideItem) → Contains xs x → IsRight w x
-  pub sound : AreSoundScopes (inline_after (walk_item w) prefix xs)
-  pub sided : AreLegalSides (inline_after (walk_item w) prefix xs)
+  pub leads : (link : Link) → Contains xs (SideLink link) → (id : ℕ) × (lead w link.path ≡ Some id)
 
--- what is wrong with an inline interface, where it comes next
-abbrev pub IsWrongInline : Interfaces → List TypeDef → List Interface → Item → Fault → Type 0
-IsWrongInline is old inside = IsWrongInterface old (resolved_scopes_of is) is.by_name (owner.Interface (next_place is inside))
-
--- what is wrong with the next that is put on a side
-pub data IsWrongMember (w : ItemWalk) (prefix : List SideItem) (x : SideItem) (a : Stage) (f : Fault) : Type 0 where
-  WrongFunction : (mid : List TypeDef) → IsExtended a.types mid → IsWrongFunctionAmong (env_of w.walk.scope.names.now) mid (scope_names (walk_item w)) (the_functions (walk_item w)) f → IsWrongMember w prefix x a f
-  WrongMetadata : IsBrokenMetadata (interface_attributes x) f → IsWrongMember w prefix x a f
-  WrongPath : (link : Link) → x ≡ SideLink link → IsWrongLink w.walk.interfaces.now.files w.walk.interfaces.now.by_name (walk_item w).top link.path f → IsWrongMember w prefix x a f
-  WrongClash : IsClashAfter a.walked.members.in_use (x ∷ []) f → IsWrongMember w prefix x a f
-  WrongAgain : (link : Link) (id : ℕ) → x ≡ SideLink link → link.name ≡ None → IsLinkedTo w.walk.interfaces.now.files w.walk.interfaces.now.by_name (walk_item w).top link.path id → IsLinked (linked_on link.side a.walked.members.links) id (path_id link.path).span f → IsWrongMember w prefix x a f
-  WrongInside : (u : Item) → inline_after (walk_item w) prefix (x ∷ []) ≡ u ∷ [] → IsWrongInline w.walk.interfaces.now a.types a.inside u f → IsWrongMember w prefix x a f
-
--- once some of these were added, the next one is wrong
-pub record IsWrongAmong (w : ItemWalk) (prefix xs : List SideItem) (a : Stage) (f : Fault) : Type 0 where
-  pub done : List SideItem
-  pub x : SideItem
-  pub rest : List SideItem
-  pub split : xs ≡ done ++ (x ∷ rest)
-  pub now : Stage
-  pub adds : AddsMembers w prefix done a now
-  pub wrong : IsWrongMember w (prefix ++ done) x now f
-
--- the next of what is on the sides are added, or one of them is wrong
+-- the next of what is on the sides are added
 abbrev pub AddsNext : ItemWalk → List SideItem → Stage → Stage → Type 0
 AddsNext w xs a b = (n : IsNext w xs a.walked) → AddsMembers w n.prefix xs a b
 
-abbrev pub AddsItems : ItemWalk → List SideItem → List TypeDef → List Interface → Walked → List TypeDef → List Interface → Walked → Type 0
-AddsItems w xs old inside a new now b = AddsNext w xs (stage old inside a) (stage new now b)
-
-abbrev pub RefusesNext : ItemWalk → List SideItem → Stage → ParseError → Type 0
-RefusesNext w xs a e = (n : IsNext w xs a.walked) → Refused (IsWrongAmong w n.prefix xs a) e
+abbrev pub AddsItems : BorrowedItem → Walk → List SideItem → List TypeDef → List Interface → Walked → List TypeDef → List Interface → Walked → Type 0
+AddsItems i w xs old inside a new now b = AddsNext (walk_of i w) xs (stage old inside a) (stage new now b)
 
 -- so without inline interfaces, whatever these are so far
-abbrev pub AddsTyped : ItemWalk → List SideItem → List TypeDef → List TypeDef → Walked → Walked → Type 0
-AddsTyped w xs old new a b = (inside : List Interface) → AddsNext w xs (stage old inside a) (stage new inside b)
+abbrev pub AddsTyped : BorrowedItem → Walk → List SideItem → List TypeDef → List TypeDef → Walked → Walked → Type 0
+AddsTyped i w xs old new a b = (inside : List Interface) → AddsNext (walk_of i w) xs (stage old inside a) (stage new inside b)
 
-abbrev pub RefusesTyped : ItemWalk → List SideItem → List TypeDef → Walked → ParseError → Type 0
-RefusesTyped w xs old a e = (inside : List Interface) → RefusesNext w xs (stage old inside a) e
+-- what a world imports or exports, on its side
+abbrev pub items_of : Extern → List SideItem
+items_of x = extern_items x x.kind
 
 -- at first the names of the scope are imported, and nothing is exported
 pub record IsStart (w : ItemWalk) (m : Walked) : Type 0 where
@@ -180,12 +142,6 @@ pub record AddsAll (w : ItemWalk) (old new : List TypeDef) (inside now : List In
   pub start : Walked
   pub is : IsStart w start
   pub adds : AddsMembers w [] (side_items (walk_item w)) (stage old inside start) (stage new now m)
-
--- what is wrong with what is on the sides of a world, after its names
-pub data IsWrongWalk (w : ItemWalk) (old : List TypeDef) (inside : List Interface) (f : Fault) : Type 0 where
-  WrongNames : IsTwiceAmong (map name_of_id w.walk.turn.now) f → IsWrongWalk w old inside f
-  WrongSides : (start : Walked) → IsStart w start → IsWrongAmong w [] (side_items (walk_item w)) (stage old inside start) f → IsWrongWalk w old inside f
-  WrongSetter : IsSetterAlone (walk_item w) f → IsWrongWalk w old inside f
 
 -- an inline interface was added after those before it, which come after all declared ones
 pub record AddsInside (is : Interfaces) (old new : List TypeDef) (inside now : List Interface) (before after : List Required) (item : Item) : Type 0 where

@@ -1,9 +1,7 @@
--- The walk of a world of the files, after its names: what it adds, or what is wrong.
+-- The walk of a world of the files, after its names, and what it adds.
 use Rattle.std.specs.Prelude.{◌≡◌, List, map}
-use Rattle.wit_type_tree.specs.declared.error.ParseError.{ParseError}
 use Rattle.wit_types.specs.declared.types.TypeDef.{TypeDef}
 use Rattle.wit_model.specs.declared.interface.Interface.{Interface}
-use Rattle.wit_syntax.specs.Broken.{Refused}
 use Rattle.wit_syntax.specs.Function.{functions as the_functions}
 use Rattle.wit_syntax.specs.ScopeTables.{includes}
 use Rattle.wit_syntax.specs.Source.{scope_names}
@@ -18,7 +16,7 @@ use Rattle.wit_item_entries.specs.declared.names.ResolvedNames.{ResolvedNames}
 use Rattle.wit_contents.specs.declared.walk.Walk.{Walk}
 use Rattle.wit_contents.specs.declared.walk.Walked.{Walked}
 use Rattle.wit_contents.specs.declared.world.WorldScope.{WorldScope}
-use Rattle.wit_contents.specs.Walk.{AddsAll, IsWalk, IsWrongWalk, walk_of}
+use Rattle.wit_contents.specs.Walk.{AddsAll, IsWalk, walk_of}
 
 -- its functions, and the definitions that are written as results, are those of the world, whose names are these in turn
 pub record IsScopeOfWorld (s : WorldScope) (i : BorrowedItem) : Type 0 where
@@ -37,7 +35,3 @@ pub record IsWalkOf (w : Walk) (i : BorrowedItem) (is : Interfaces) (names : Res
 -- all that is on the sides of the world was added
 abbrev pub AddsSidesOf : BorrowedItem → Interfaces → ResolvedNames → List TypeDef → List TypeDef → List Interface → List Interface → Walked → Type 0
 AddsSidesOf i is names old new inside now m = (w : Walk) × IsWalkOf w i is names × AddsAll (walk_of i w) old new inside now m
-
--- or something there is wrong
-abbrev pub RefusesSidesOf : BorrowedItem → Interfaces → ResolvedNames → List TypeDef → List Interface → ParseError → Type 0
-RefusesSidesOf i is names old inside e = (w : Walk) × IsWalkOf w i is names × Refused (IsWrongWalk (walk_of i w) old inside) e

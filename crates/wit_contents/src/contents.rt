@@ -3,7 +3,7 @@ ghost use Rattle.std.specs.Prelude.{◌≡◌, Ok, [], map, IfOk, IfErr};
 ghost use Rattle.wit_type_tree.specs.RefusalText.{IsAllocationFailure};
 ghost use Rattle.wit_syntax.specs.Fault.{Fault};
 ghost use Rattle.wit_syntax.specs.Source.{first_foreign_uses};
-ghost use Rattle.wit_syntax.specs.Broken.{IsBrokenNames, IsBroken, Refused};
+ghost use Rattle.wit_syntax.specs.Broken.{IsBrokenNames};
 ghost use Rattle.wit_contents.specs.AddedFiles.{AddsFiles, MakeContents};
 ghost use Rattle.wit_contents.specs.FileFaults.{FindsAfter};
 ghost use Rattle.wit_syntax.specs.Foreign.{foreign_packages};
@@ -50,7 +50,6 @@ fn resolve_files<'f, 'a>(
     ensures added { IfOk result (λ r. AddsFiles names.now types.new r.interfaces r.worlds r.required.items) }
     ensures unknown { IfOk result (λ r. r.unknown_type_spans.items ≡ map (λ t. t.id.span) (first_foreign_uses names.now)) }
     ensures first { FindsAfter 6 names.now result }
-    ensures refused { IfErr result (Refused (IsBroken names.now)) }
 {
     let order = names.item_order();
     let mut prefix = ForeignArenas::of_items(alloc, names.foreign(), order.len())?;
@@ -147,7 +146,6 @@ fn resolve_named<'f, 'a>(
     requires legal { (f : Fault) → IsBrokenNames names.now f → ⊥ }
     ensures made { IfOk result (λ made. MakeContents names.now types.new made.interfaces made.worlds made.foreign) }
     ensures first { FindsAfter 6 names.now result }
-    ensures refused { IfErr result (Refused (IsBroken names.now)) }
 {
     let resolved = resolve_files(alloc, names, files, types)?;
     let named = foreign_items(alloc, names, resolved.unknown_type_spans, resolved.required);
@@ -163,7 +161,6 @@ fn resolve_gathered<'f, 'a>(
     requires empty { types.old ≡ [] }
     ensures made { IfOk result (λ made. MakeContents files.now types.new made.interfaces made.worlds made.foreign) }
     ensures first { FindsAfter 1 files.now result }
-    ensures refused { IfErr result (Refused (IsBroken files.now)) }
 {
     let names = FileNames::gather(alloc, files)?;
     resolve_named(alloc, &names, files, types)
@@ -188,7 +185,6 @@ pub struct Contents {
 pub fn resolve_contents(alloc: Global, files: &[PackageFile<'_>]) -> ParseResult<Contents>
     ensures made { IfOk result (λ c. MakeContents files.now c.arenas.types c.arenas.interfaces c.arenas.worlds c.foreign) }
     ensures first { FindsAfter 1 files.now result }
-    ensures refused { IfErr result (Refused (IsBroken files.now)) }
 {
     let mut begun = Entries::new(alloc);
     let added = resolve_gathered(alloc, &mut begun, files);

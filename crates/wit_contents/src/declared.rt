@@ -1,14 +1,11 @@
 //! Declared interfaces, one after another.
 ghost use Rattle.std.specs.Prelude.{◌≡◌, ◌<◌, ◌++◌, ◌∷◌, [], false, All, Some, length, IfErr, OnOk, map};
 ghost use Rattle.wit_syntax.specs.Source.{is_world, about};
-ghost use Rattle.wit_syntax.specs.Broken.{Refused};
 ghost use Rattle.wit_type_tree.specs.RefusalText.{IsAllocationFailure};
 ghost use Rattle.wit_items.specs.BorrowedItems.{item_view};
-ghost use Rattle.wit_arena.specs.ResolvedArenas.{AreLegalSides, AreSoundScopes, HaveLegalStability};
 ghost use Rattle.wit_contents.specs.Outer.{AreOuter};
 ghost use Rattle.wit_items.specs.Gathered.{AreItemsOf, IsItemOf};
-ghost use Rattle.wit_item_entries.specs.Body.{HasLegalSides, IsSoundScope};
-ghost use Rattle.wit_contents.specs.AddedInterfaces.{AddsAllTo, AddsOneTo, HasLegalStability, IsIndexed, IsWrongAt, IsWrongInOrder, interfaces_in};
+ghost use Rattle.wit_contents.specs.AddedInterfaces.{AddsAmong, AddsOneTo, IsIndexed};
 ghost use Rattle.wit_contents.specs.InterfaceFaults.{FindsAmong, FindsOne};
 
 use crate::interface::interface_of;
@@ -55,11 +52,7 @@ fn resolve_interface<'f, 'a>(
     ensures files { OnOk result (interfaces.new.files ≡ interfaces.old.files) }
     ensures added { OnOk result (AddsOneTo interfaces.old interfaces.new.arena types.old types.new required.old.items required.new.items (item_view item.now)) }
     ensures index { OnOk result (IsIndexed interfaces.new) }
-    ensures stable { OnOk result (HasLegalStability (item_view item.now)) }
-    ensures sound { OnOk result (IsSoundScope (item_view item.now)) }
-    ensures sided { OnOk result (HasLegalSides (item_view item.now)) }
     ensures first { FindsOne interfaces.old types.old (item_view item.now) result }
-    ensures refused { IfErr result (Refused (IsWrongAt interfaces.old types.old (length interfaces.old.arena) (item_view item.now))) }
 {
     let place = interfaces.arena.next_id();
     let scope = item.scope();
@@ -82,13 +75,9 @@ pub fn resolve_interfaces<'f, 'a>(
     requires items { AreItemsOf interfaces.old.files items.now }
     requires index { IsIndexed interfaces.old }
     ensures files { OnOk result (interfaces.new.files ≡ interfaces.old.files) }
-    ensures added { OnOk result (AddsAllTo interfaces.old interfaces.new.arena types.old types.new required.old.items required.new.items (interfaces_in items.now places.now)) }
+    ensures added { OnOk result (AddsAmong interfaces.old interfaces.new.arena types.old types.new required.old.items required.new.items items.now places.now) }
     ensures index { OnOk result (IsIndexed interfaces.new) }
-    ensures stable { OnOk result (HaveLegalStability (interfaces_in items.now places.now)) }
-    ensures sound { OnOk result (AreSoundScopes (interfaces_in items.now places.now)) }
-    ensures sided { OnOk result (AreLegalSides (interfaces_in items.now places.now)) }
     ensures first { FindsAmong interfaces.old types.old items.now places.now result }
-    ensures refused { IfErr result (Refused (IsWrongInOrder interfaces.old types.old items.now places.now)) }
 {
     for place in places {
         let item = &items[*place];

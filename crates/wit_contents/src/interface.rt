@@ -1,12 +1,11 @@
 //! An interface, whether it is declared or written in a world.
-ghost use Rattle.std.specs.Prelude.{◌≡◌, ◌<◌, ◌++◌, List, false, length, IfErr, IfOk, OnOk, map};
+ghost use Rattle.std.specs.Prelude.{◌≡◌, ◌<◌, ◌++◌, List, false, length, IfOk, OnOk, map};
 ghost use Rattle.wit_types.specs.declared.types.TypeDef.{TypeDef};
 ghost use Rattle.wit_types.specs.declared.types.TypeOwner.{TypeOwner as Owner};
 ghost use Rattle.wit_syntax.specs.Source.{is_world, scope_names as the_names, about};
 ghost use Rattle.wit_syntax.specs.Function.{functions as the_functions};
 ghost use Rattle.wit_syntax.specs.SignatureRules.{IsUnpairedSetter};
 ghost use Rattle.wit_syntax.specs.Fault.{Fault};
-ghost use Rattle.wit_syntax.specs.Broken.{Refused};
 ghost use Rattle.wit_entries.specs.Requiring.{IsExtended};
 ghost use Rattle.wit_rules.specs.BorrowedFunctions.{function_view};
 ghost use Rattle.wit_signatures.specs.ForeignName.{name_of_function, name_of_id};
@@ -17,10 +16,10 @@ ghost use Rattle.wit_externs.specs.AloneFaults.{FindsIn, lone_setters};
 ghost use Rattle.wit_item_names.specs.ForeignAddresses.{prefix_of};
 ghost use Rattle.wit_scopes.specs.PlacedNames.{AreNamesPlaced};
 ghost use Rattle.wit_scopes.specs.BorrowedNames.{name_view};
-ghost use Rattle.wit_item_entries.specs.Body.{HasLegalSides, HasSoundNames, HasTurn, IsSoundScope};
+ghost use Rattle.wit_item_entries.specs.Body.{HasTurn};
 ghost use Rattle.wit_item_entries.specs.ReachedFaults.{FindsAt};
 ghost use Rattle.wit_contents.specs.InterfaceFaults.{HasNoFault, IsInterfaceFault, rest_fault};
-ghost use Rattle.wit_contents.specs.AddedInterfaces.{AddsAt, AddsTable, HasLegalStability, IsWrongAt, RefusesTable};
+ghost use Rattle.wit_contents.specs.AddedInterfaces.{AddsAt, AddsTable};
 
 use std::alloc::{AllocError, Global};
 use wit_entries::entries::Entries;
@@ -52,7 +51,6 @@ fn check_pairs(
     requires { 0 < length functions.now → in_use.now ≡ map name_of_id names.now ++ map name_of_function (map function_view functions.now) }
     ensures first { Finds (lone_setters (map function_view functions.now)) result }
     ensures paired { OnOk result ((f : Fault) → IsUnpairedSetter (map function_view functions.now) f → ⊥) }
-    ensures refused { IfErr result (Refused (IsUnpairedSetter (map function_view functions.now))) }
 {
     if functions.len() == 0 {
         return Ok(());
@@ -73,11 +71,8 @@ fn functions_of<'a>(
     ensures types { OnOk result (names.new.types ≡ names.old.types) }
     ensures adds { IfOk result (AddsTable names.old names.new types.old types.new (scope_item item.now)) }
     ensures paired { OnOk result ((f : Fault) → IsUnpairedSetter (the_functions (scope_item item.now)) f → ⊥) }
-    ensures sound { OnOk result (HasSoundNames (scope_item item.now) → IsSoundScope (scope_item item.now)) }
-    ensures sided { OnOk result (HasLegalSides (scope_item item.now)) }
     ensures extended { IsExtended types.old types.new }
     ensures first { FindsIn (env_of names.old.types) types.new (rest_fault item.now names.old.turn.items) result }
-    ensures refused { IfErr result (RefusesTable names.old types.old (scope_item item.now)) }
 {
     let own = resolve_item_functions(alloc, item.names, item.declared, types, names)?;
     check_pairs(&own.written, &own.in_use.imports, &names.turn)?;
@@ -111,12 +106,8 @@ pub fn interface_of<'f, 'a>(
     requires named { map name_view item.now.names.now ≡ the_names (scope_item item.now) }
     requires placed { AreNamesPlaced (prefix_of interfaces.now.files) item.now.names.now }
     ensures adds { IfOk result (λ added. AddsAt interfaces.now place types.old types.new added required.old.items required.new.items (scope_item item.now)) }
-    ensures stable { OnOk result (HasLegalStability (scope_item item.now)) }
-    ensures sound { OnOk result (IsSoundScope (scope_item item.now)) }
-    ensures sided { OnOk result (HasLegalSides (scope_item item.now)) }
     ensures extended { OnOk result (IsExtended types.old types.new) }
     ensures first { FindsAt (HasNoFault interfaces.now item.now types.new) (IsInterfaceFault interfaces.now place types.old item.now) result }
-    ensures refused { IfErr result (Refused (IsWrongAt interfaces.now types.old place (scope_item item.now))) }
 {
     let alloc = *interfaces.by_name.allocator();
     let id = declared_name(&item.declared);

@@ -1,11 +1,11 @@
 //! What a world has on its sides: the names of its scope, and after them what it imports and exports.
-ghost use Rattle.std.specs.Prelude.{◌≡◌, IfErr, IfOk, OnOk};
-ghost use Rattle.wit_syntax.specs.Broken.{IsSetterAlone, Refused};
+ghost use Rattle.std.specs.Prelude.{◌≡◌, IfOk, OnOk};
+ghost use Rattle.wit_syntax.specs.Broken.{IsSetterAlone};
 ghost use Rattle.wit_syntax.specs.Fault.{Fault};
 ghost use Rattle.wit_syntax.specs.ScopeTables.{includes};
 ghost use Rattle.wit_items.specs.BorrowedItems.{item_view};
 ghost use Rattle.wit_world_sides.specs.Settled.{none_of};
-ghost use Rattle.wit_contents.specs.Walk.{AddsAll, IsWalk, IsWrongWalk, walk_of};
+ghost use Rattle.wit_contents.specs.Walk.{AddsAll, IsWalk, walk_of};
 ghost use Rattle.wit_contents.specs.WorldFaults.{FindsWalk};
 
 use crate::walk::{Walk, Walked, walk_parts};
@@ -73,7 +73,6 @@ pub fn walk_sides<'f, 'a>(
     ensures adds { IfOk result (AddsAll (walk_of item.now walk.now) types.old types.new inside.old inside.new) }
     ensures paired { OnOk result ((f : Fault) → IsSetterAlone (item_view item.now) f → ⊥) }
     ensures first { FindsWalk (walk_of item.now walk.now) types.old inside.old result }
-    ensures refused { IfErr result (Refused (IsWrongWalk (walk_of item.now walk.now) types.old inside.old)) }
 {
     let alloc = *walk.interfaces.by_name.allocator();
     let world = declared_world(&item.declared);

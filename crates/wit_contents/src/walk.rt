@@ -1,9 +1,8 @@
 //! What a world imports and exports, in source order: each is resolved, checked and put on its side.
-ghost use Rattle.std.specs.Prelude.{◌≡◌, ◌+◌, ◌∷◌, [], IfErr, IfOk, List, OnOk, false, length, map};
+ghost use Rattle.std.specs.Prelude.{◌≡◌, ◌+◌, ◌∷◌, [], IfOk, List, OnOk, false, length, map};
 ghost use Rattle.wit_types.specs.declared.types.TypeDef.{TypeDef as TheType};
-ghost use Rattle.wit_syntax.specs.Broken.{Refused};
 ghost use Rattle.wit_syntax.specs.Function.{side_function};
-ghost use Rattle.wit_syntax.specs.Sides.{SideFunction, SideInline, SideLink, extern_items, part_items, side_items};
+ghost use Rattle.wit_syntax.specs.Sides.{SideFunction, SideInline, SideLink, part_items, side_items};
 ghost use Rattle.wit_syntax.specs.Source.{DefinitionPart, is_world, item_name, scope_names as the_names};
 ghost use Rattle.wit_entries.specs.Requiring.{IsExtended};
 ghost use Rattle.wit_rules.specs.BorrowedFunctions.{function_view};
@@ -13,9 +12,8 @@ ghost use Rattle.wit_scopes.specs.PlacedNames.{AreNamesPlaced};
 ghost use Rattle.wit_scopes.specs.BorrowedNames.{name_view};
 ghost use Rattle.wit_world_sides.specs.Members.{path_link};
 ghost use Rattle.wit_links.specs.SideCounts.{inline_side, seen_on};
-ghost use Rattle.wit_item_entries.specs.Body.{HasLegalSides, IsSoundScope};
 ghost use Rattle.wit_contents.specs.MemberFaults.{FindsInside, FindsNext, FindsTyped};
-ghost use Rattle.wit_contents.specs.Walk.{AddsInside, AddsItems, AddsTyped, IsNext, IsWrongInline, RefusesNext, RefusesTyped, next_place, resource_items, stage, walk_of};
+ghost use Rattle.wit_contents.specs.Walk.{AddsInside, AddsItems, AddsTyped, IsNext, items_of, next_place, resource_items, stage, walk_of};
 
 use crate::interface::interface_of;
 use std::alloc::AllocError;
@@ -85,10 +83,7 @@ fn resolve_inline<'f, 'a>(
     ensures id { IfOk result (λ id. id ≡ next_place interfaces.now inside.old) }
     ensures adds { OnOk result (AddsInside interfaces.now types.old types.new inside.old inside.new required.old.items required.new.items (scope_item scope.now)) }
     ensures extended { OnOk result (IsExtended types.old types.new) }
-    ensures sound { OnOk result (IsSoundScope (scope_item scope.now)) }
-    ensures sided { OnOk result (HasLegalSides (scope_item scope.now)) }
     ensures first { FindsInside interfaces.now types.old types.new inside.old scope.now result }
-    ensures refused { IfErr result (Refused (IsWrongInline interfaces.now types.old inside.old (scope_item scope.now))) }
 {
     let id = next_inside(interfaces, inside)?;
     let interface = interface_of(scope, types, required, interfaces, id)?;
@@ -107,9 +102,8 @@ fn walk_function<'f, 'a>(
     walked: &mut Walked,
 ) -> ParseResult<()>
     requires { IsNext (walk_of item.now walk.now) (SideFunction (function_view borrowed) ∷ []) walked.old }
-    ensures adds { OnOk result (AddsTyped (walk_of item.now walk.now) (SideFunction (function_view borrowed.entry) ∷ []) types.old types.new walked.old walked.new) }
+    ensures adds { OnOk result (AddsTyped item.now walk.now (SideFunction (function_view borrowed.entry) ∷ []) types.old types.new walked.old walked.new) }
     ensures first { FindsTyped (walk_of item.now walk.now) (SideFunction (function_view borrowed.entry) ∷ []) types.old walked.old result }
-    ensures refused { IfErr result (RefusesTyped (walk_of item.now walk.now) (SideFunction (function_view borrowed.entry) ∷ []) types.old walked.old) }
 {
     let alloc = *walk.interfaces.by_name.allocator();
     let place = walked.seen.functions;
@@ -130,9 +124,8 @@ fn walk_link<'f, 'a>(
     walked: &mut Walked,
 ) -> ParseResult<()>
     requires { IsNext (walk_of item.now walk.now) (SideLink (path_link link) ∷ []) walked.old }
-    ensures adds { OnOk result ((ts : List TheType) → AddsTyped (walk_of item.now walk.now) (SideLink (path_link link.entry) ∷ []) ts ts walked.old walked.new) }
+    ensures adds { OnOk result ((ts : List TheType) → AddsTyped item.now walk.now (SideLink (path_link link.entry) ∷ []) ts ts walked.old walked.new) }
     ensures first { (ts : List TheType) → FindsTyped (walk_of item.now walk.now) (SideLink (path_link link.entry) ∷ []) ts walked.old result }
-    ensures refused { IfErr result (λ e. (ts : List TheType) → RefusesTyped (walk_of item.now walk.now) (SideLink (path_link link.entry) ∷ []) ts walked.old e) }
 {
     let alloc = *walk.interfaces.by_name.allocator();
     check_metadata(alloc, &link.written.attributes)?;
@@ -159,9 +152,8 @@ fn walk_inline<'f, 'a>(
     requires next { IsNext (walk_of item.now walk.now) (inline_side inline ∷ []) walked.old }
     requires world { inline.world.now ≡ item_name (item_view item.now) }
     requires place { inline.place ≡ (seen_on inline.written.now.side walked.old.seen).interfaces }
-    ensures adds { OnOk result (AddsItems (walk_of item.now walk.now) (inline_side inline.entry ∷ []) types.old inside.old walked.old types.new inside.new walked.new) }
+    ensures adds { OnOk result (AddsItems item.now walk.now (inline_side inline.entry ∷ []) types.old inside.old walked.old types.new inside.new walked.new) }
     ensures first { FindsNext (walk_of item.now walk.now) (inline_side inline.entry ∷ []) (stage types.old inside.old walked.old) result }
-    ensures refused { IfErr result (RefusesNext (walk_of item.now walk.now) (inline_side inline.entry ∷ []) (stage types.old inside.old walked.old)) }
 {
     let alloc = *walk.interfaces.by_name.allocator();
     let side = inline.written.side;
@@ -216,10 +208,9 @@ fn walk_extern<'f, 'a>(
     inside: &mut Arena<Interface, InterfacePlace>,
     walked: &mut Walked,
 ) -> ParseResult<()>
-    requires { IsNext (walk_of item.now walk.now) (extern_items written.now written.now.kind) walked.old }
-    ensures adds { OnOk result (AddsItems (walk_of item.now walk.now) (extern_items written.now written.now.kind) types.old inside.old walked.old types.new inside.new walked.new) }
-    ensures first { FindsNext (walk_of item.now walk.now) (extern_items written.now written.now.kind) (stage types.old inside.old walked.old) result }
-    ensures refused { IfErr result (RefusesNext (walk_of item.now walk.now) (extern_items written.now written.now.kind) (stage types.old inside.old walked.old)) }
+    requires { IsNext (walk_of item.now walk.now) (items_of written.now) walked.old }
+    ensures adds { OnOk result (AddsItems item.now walk.now (items_of written.now) types.old inside.old walked.old types.new inside.new walked.new) }
+    ensures first { FindsNext (walk_of item.now walk.now) (items_of written.now) (stage types.old inside.old walked.old) result }
 {
     match &written.kind {
         ExternKind::Interface(name, items) => {
@@ -263,9 +254,8 @@ fn walk_functions<'f, 'a>(
     walked: &mut Walked,
 ) -> ParseResult<()>
     requires { IsNext (walk_of item.now walk.now) (resource_items resource functions.now) walked.old }
-    ensures adds { OnOk result (AddsTyped (walk_of item.now walk.now) (resource_items resource.entry functions.now) types.old types.new walked.old walked.new) }
+    ensures adds { OnOk result (AddsTyped item.now walk.now (resource_items resource.entry functions.now) types.old types.new walked.old walked.new) }
     ensures first { FindsTyped (walk_of item.now walk.now) (resource_items resource.entry functions.now) types.old walked.old result }
-    ensures refused { IfErr result (RefusesTyped (walk_of item.now walk.now) (resource_items resource.entry functions.now) types.old walked.old) }
 {
     for function in functions {
         walk_function(
@@ -288,9 +278,8 @@ fn walk_definition<'f, 'a>(
     walked: &mut Walked,
 ) -> ParseResult<()>
     requires { IsNext (walk_of item.now walk.now) (part_items (DefinitionPart definition.now)) walked.old }
-    ensures adds { OnOk result (AddsTyped (walk_of item.now walk.now) (part_items (DefinitionPart definition.now)) types.old types.new walked.old walked.new) }
+    ensures adds { OnOk result (AddsTyped item.now walk.now (part_items (DefinitionPart definition.now)) types.old types.new walked.old walked.new) }
     ensures first { FindsTyped (walk_of item.now walk.now) (part_items (DefinitionPart definition.now)) types.old walked.old result }
-    ensures refused { IfErr result (RefusesTyped (walk_of item.now walk.now) (part_items (DefinitionPart definition.now)) types.old walked.old) }
 {
     match &definition.body {
         TypeBody::Resource { funcs } => {
@@ -309,9 +298,8 @@ pub(crate) fn walk_parts<'f, 'a>(
     walked: &mut Walked,
 ) -> ParseResult<()>
     requires { IsNext (walk_of item.now walk.now) (side_items (item_view item.now)) walked.old }
-    ensures adds { OnOk result (AddsItems (walk_of item.now walk.now) (side_items (item_view item.now)) types.old inside.old walked.old types.new inside.new walked.new) }
+    ensures adds { OnOk result (AddsItems item.now walk.now (side_items (item_view item.now)) types.old inside.old walked.old types.new inside.new walked.new) }
     ensures first { FindsNext (walk_of item.now walk.now) (side_items (item_view item.now)) (stage types.old inside.old walked.old) result }
-    ensures refused { IfErr result (RefusesNext (walk_of item.now walk.now) (side_items (item_view item.now)) (stage types.old inside.old walked.old)) }
 {
     let world = declared_world(&item.declared);
     for part in world_items(world) {

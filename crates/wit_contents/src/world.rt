@@ -2,21 +2,19 @@
 ghost use Rattle.std.specs.Prelude.{◌≡◌, ◌<◌, ◌≤◌, ◌+◌, ◌++◌, ◌∷◌, [], All, None, true, length, IfOk, IfErr, OnOk};
 ghost use Rattle.wit_type_tree.specs.RefusalText.{IsAllocationFailure};
 ghost use Rattle.wit_syntax.specs.Source.{is_world, about};
-ghost use Rattle.wit_syntax.specs.Sides.{inline_items, with_inline};
-ghost use Rattle.wit_syntax.specs.Broken.{IsSetterAlone, Refused};
+ghost use Rattle.wit_syntax.specs.Sides.{inline_items};
+ghost use Rattle.wit_syntax.specs.Broken.{IsSetterAlone};
 ghost use Rattle.wit_syntax.specs.Fault.{Fault};
 ghost use Rattle.wit_arena.specs.UnfoldedTypes.{IsWorld};
 ghost use Rattle.wit_arena.specs.Resolving.{IsWorldIndex};
-ghost use Rattle.wit_arena.specs.ResolvedArenas.{worlds_at, AreLegalSides, AreSoundScopes, AreUsableLinks, HaveLegalStability};
+ghost use Rattle.wit_arena.specs.ResolvedArenas.{worlds_at};
 ghost use Rattle.wit_items.specs.BorrowedItems.{declared_view, item_view, others_of};
 ghost use Rattle.wit_items.specs.SourceItems.{metadata_view};
-ghost use Rattle.std.specs.List.{flat_map};
 ghost use Rattle.wit_items.specs.Gathered.{AreItemsOf, IsItemOf};
 ghost use Rattle.wit_item_entries.specs.ReachedFaults.{item_stability};
-ghost use Rattle.wit_contents.specs.AddedInterfaces.{HasLegalStability};
-ghost use Rattle.wit_contents.specs.AddedWorlds.{AddsContent, AddsTo, AddsWorldsTo, AreIndexed, IsRightWorld, IsWrongIn, IsWrongWorldInOrder, worlds_in};
+ghost use Rattle.wit_contents.specs.AddedWorlds.{AddsContent, AddsOne, AddsTo, AddsWorldsAmong, AreIndexed};
 ghost use Rattle.wit_contents.specs.WorldFaults.{FindsSides, FindsWorld, FindsWorlds};
-ghost use Rattle.wit_contents.specs.WorldWalk.{AddsSidesOf, IsScopeOfWorld, RefusesSidesOf};
+ghost use Rattle.wit_contents.specs.WorldWalk.{AddsSidesOf, IsScopeOfWorld};
 
 use crate::sides::walk_sides;
 use crate::walk::{Walk, Walked};
@@ -104,7 +102,6 @@ fn walked_sides<'f, 'a>(
     ensures adds { IfOk result (AddsSidesOf item.now interfaces.now scope.now.names types.old types.new inside.old inside.new) }
     ensures paired { OnOk result ((f : Fault) → IsSetterAlone (item_view item.now) f → ⊥) }
     ensures first { FindsSides item.now interfaces.now scope.now.names types.old inside.old result }
-    ensures refused { IfErr result (RefusesSidesOf item.now interfaces.now scope.now.names types.old inside.old) }
 {
     let functions = function_scope(scope);
     let walk = Walk {
@@ -128,9 +125,7 @@ fn world_content<'f, 'a>(
     requires item { IsItemOf worlds.now.interfaces.now.files item.now }
     ensures adds { IfOk result (AddsContent worlds.now item.now types.old types.new inside.old inside.new required.old.items required.new.items) }
     ensures extended { OnOk result (length inside.new ≡ length inside.old + length (inline_items (item_view item.now))) }
-    ensures right { OnOk result (HasLegalStability (item_view item.now) → IsRightWorld worlds.now.interfaces.now.files (item_view item.now)) }
     ensures first { item_stability (item_view item.now) ≡ None → FindsWorld worlds.now types.old inside.old item.now result }
-    ensures refused { IfErr result (Refused (IsWrongIn worlds.now types.old inside.old (item_view item.now))) }
 {
     let alloc = *worlds.by_name.allocator();
     let owner = TypeOwner::World(worlds.arena.next_id());
@@ -193,11 +188,9 @@ fn world_of<'f, 'a>(
     requires sort { is_world (item_view item.now) ≡ true }
     requires item { IsItemOf worlds.now.interfaces.now.files item.now }
     ensures named { IfOk result (λ w. w.name ≡ (about (declared_view item.now.declared)).id.name.now) }
-    ensures adds { IfOk result (λ w. AddsTo worlds.now (worlds.now.arena ++ w ∷ []) item.now types.old types.new inside.old inside.new required.old.items required.new.items) }
+    ensures adds { IfOk result (λ w. AddsOne worlds.now w item.now types.old types.new inside.old inside.new required.old.items required.new.items) }
     ensures extended { OnOk result (length inside.new ≡ length inside.old + length (inline_items (item_view item.now))) }
-    ensures right { OnOk result (IsRightWorld worlds.now.interfaces.now.files (item_view item.now)) }
     ensures first { FindsWorld worlds.now types.old inside.old item.now result }
-    ensures refused { IfErr result (Refused (IsWrongIn worlds.now types.old inside.old (item_view item.now))) }
 {
     let alloc = *worlds.by_name.allocator();
     let as_stated = item_metadata(alloc, &item.declared)?;
@@ -223,9 +216,7 @@ fn resolve_world<'f, 'a>(
     ensures adds { OnOk result (AddsTo worlds.old worlds.new.arena item.now types.old types.new inside.old inside.new required.old.items required.new.items) }
     ensures extended { OnOk result (length inside.new ≡ length inside.old + length (inline_items (item_view item.now))) }
     ensures index { OnOk result (AreIndexed worlds.new) }
-    ensures right { OnOk result (IsRightWorld worlds.old.interfaces.now.files (item_view item.now)) }
     ensures first { FindsWorld worlds.old types.old inside.old item.now result }
-    ensures refused { IfErr result (Refused (IsWrongIn worlds.old types.old inside.old (item_view item.now))) }
 {
     let world = world_of(item, types, required, inside, worlds)?;
     let id = declared_name(&item.declared);
@@ -283,13 +274,8 @@ pub fn resolve_worlds<'f, 'a>(
     requires items { AreItemsOf interfaces.now.files items.now }
     requires prefix { length (others_of interfaces.now.files) ≤ length prefix }
     requires index { IsWorldIndex (worlds_at (others_of interfaces.now.files) prefix) [] }
-    ensures added { IfOk result (λ m. AddsWorldsTo interfaces.now prefix m.0 m.1 types.old types.new required.old.items required.new.items (worlds_in items.now places.now)) }
-    ensures stable { OnOk result (HaveLegalStability (worlds_in items.now places.now)) }
-    ensures sound { OnOk result (AreSoundScopes (flat_map with_inline (worlds_in items.now places.now))) }
-    ensures sided { OnOk result (AreLegalSides (flat_map with_inline (worlds_in items.now places.now))) }
-    ensures linked { OnOk result (AreUsableLinks interfaces.now.files (worlds_in items.now places.now)) }
+    ensures added { IfOk result (λ m. AddsWorldsAmong interfaces.now prefix m.0 m.1 types.old types.new required.old.items required.new.items items.now places.now) }
     ensures first { FindsWorlds interfaces.now prefix types.old items.now places.now result }
-    ensures refused { IfErr result (Refused (IsWrongWorldInOrder interfaces.now prefix types.old items.now places.now)) }
 {
     let alloc = *interfaces.by_name.allocator();
     let mut inside = Arena::new(alloc);

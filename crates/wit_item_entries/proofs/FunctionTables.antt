@@ -6,7 +6,6 @@ use Rattle.indexmap.specs.IndexMap.{insert_entry}
 use Rattle.wit_functions.specs.declared.function.Function.{Function}
 use Rattle.wit_model.specs.declared.world.WorldKey.{WorldKey}
 use Rattle.wit_model.specs.declared.world.WorldKey.TheVariants as key
-use Rattle.wit_model.specs.declared.world.WorldItem.TheVariants as item
 use Rattle.wit_model.specs.contracts.world.WorldKeyPartialEq.TheImpl.{eq-value as key_test}
 use Rattle.wit_arena.specs.SourceFunctions.{by_name}
 use Rattle.wit_syntax.specs.Repeats.{AllDiffer}

@@ -1,5 +1,5 @@
--- What handles in the definitions of a scope require, one definition after another, and which of them are wrong.
-use Rattle.std.proofs.Common.{◌≡◌, ℕ, ◌+◌, cond, List, [], ◌∷◌, ◌++◌, length, take, Option, Some, None, nat_eq, inl, inr, refl, sym, ap, ◌∙◌, subst, arith, append_assoc, zero-add, suc-add, Contains}
+-- What handles in the definitions of a scope require, one definition after another.
+use Rattle.std.proofs.Common.{◌≡◌, ℕ, ◌+◌, cond, List, [], ◌∷◌, ◌++◌, length, take, Option, Some, None, nat_eq, inl, inr, refl, sym, ap, ◌∙◌, subst, arith, append_assoc, zero-add, suc-add}
 use Rattle.std.specs.Prelude.{slice_get}
 use Rattle.std.specs.List.{flat_map}
 use Rattle.std.specs.Option.{option_map}
@@ -11,23 +11,17 @@ use Rattle.wit_type_tree.specs.declared.leaves.Id.{Id}
 use Rattle.wit_type_tree.specs.declared.types.TypeDef.{TypeDef as Definition}
 use Rattle.wit_type_tree.specs.TypeParts.{body_types}
 use Rattle.wit_types.specs.declared.types.TypeDef.{TypeDef}
-use Rattle.wit_types.specs.declared.types.TypeOwner.{TypeOwner}
-use Rattle.wit_syntax.specs.Address.{Address}
 use Rattle.wit_syntax.specs.Source.{ScopeName, Used, Defined, ForeignName, local_name}
 use Rattle.wit_syntax.specs.ScopeTables.{used, defined, in_order, in_turn, local_names}
 use Rattle.wit_syntax.specs.Shape.{all_handles}
 use Rattle.wit_syntax.specs.Function.{name_types}
-use Rattle.wit_syntax.specs.Fault.{Fault}
 use Rattle.wit_syntax.specs.Repeats.{AllDiffer}
-use Rattle.wit_arena.specs.Resolving.{Env, Names, ResolvedScope, env_of, Defines, IsStored, Required, AreEnded, IsWrongHandle, names_in}
-use Rattle.wit_syntax.proofs.Lists.{at_prefix, at_back, at_split, at_take, map_at, flat_map_at, flat_map_has}
+use Rattle.wit_arena.specs.Resolving.{Env, Names, env_of, IsStored, Required, AreEnded, names_in}
+use Rattle.wit_syntax.proofs.Lists.{at_prefix, at_back, at_split, at_take, map_at}
 use Rattle.wit_syntax.proofs.Names.{name_cases, lookup-insert_entry, names-insert_entry, lookup-place}
-use Rattle.wit_arena.proofs.Written.{all_handles-append, handles_at}
-use Rattle.wit_arena.proofs.Required.{ended_append, ended_more, handle_of}
-use Rattle.wit_arena.proofs.DefinitionPart.{defines_more}
-use Rattle.wit_syntax.proofs.Turns.{defined_at, in_order_among}
+use Rattle.wit_arena.proofs.Written.{all_handles-append}
+use Rattle.wit_arena.proofs.Required.{ended_append, ended_more}
 use Rattle.wit_entries.specs.Requiring.{IsExtended, Requires}
-use Rattle.wit_item_entries.specs.AddedNames.{IsWrongHandleIn, IsWrongHandleTurn, IsWrongHandleOf}
 
 -- where texts differ, and those of a table are some of them, the next one is free
 pub next_free : (names : Names) (prefix : List (List ℕ)) (ds : List ScopeName) (i : ℕ) (x : ScopeName) → names_in names ≡ prefix ++ local_names (take i ds) → AllDiffer (prefix ++ local_names ds) → slice_get ds i ≡ Some x → env_of names (local_name x) ≡ None
@@ -102,55 +96,6 @@ types-used (ForeignName attributes id ∷ xs) = types-used xs
 pub types-in_turn : (xs : List ScopeName) (order : List ℕ) → flat_map name_types (in_turn xs order) ≡ flat_map name_types (defined (in_order xs order))
 types-in_turn xs order = flat_map-append name_types (used xs) (defined (in_order xs order)) ∙ ap (λ l. l ++ flat_map name_types (defined (in_order xs order))) (types-used xs)
 
--- a name in a handle of one of some names is in one of theirs
-pub handles_named : (xs : List ScopeName) (i : ℕ) (x : ScopeName) (id : Id) → slice_get xs i ≡ Some x → Contains (all_handles (name_types x)) id → Contains (all_handles (flat_map name_types xs)) id
-handles_named xs i x id at h =
-    let it = handle_of (name_types x) id h in
-    let there = flat_map_has name_types xs i it.0 x it.1 at it.2 in
-    handles_at (flat_map name_types xs) there.0 it.1 id there.1 it.3
-
-handles_within : (xs ys : List ScopeName) → ((i : ℕ) (x : ScopeName) → slice_get xs i ≡ Some x → (j : ℕ) × (slice_get ys j ≡ Some x)) → (id : Id) → Contains (all_handles (flat_map name_types xs)) id → Contains (all_handles (flat_map name_types ys)) id
-handles_within xs ys has id h =
-    let it = handle_of (flat_map name_types xs) id h in
-    let x = flat_map_at name_types xs it.0 it.1 it.2 in
-    let there = has x.0 x.1 x.2 in
-    let place = flat_map_has name_types ys there.0 x.3.0 x.1 it.1 there.1 x.3.1 in
-    handles_at (flat_map name_types ys) place.0 it.1 id place.1 it.3
-
--- one that is wrong among some names is so among more
-pub handle_wider : (env : Env) (es : List TypeDef) (ids more : List Id) (f : Fault) → ((id : Id) → Contains ids id → Contains more id) → IsWrongHandle env es ids f → IsWrongHandle env es more f
-handle_wider env es ids more f wider h = record { id = h.id; among = wider h.id h.among; place = h.place; present = h.present; steps = h.steps; other = h.other; is = h.is }
-
--- a handle of the next definition that is wrong
-pub wrong_handle_next : (old mid new : List TypeDef) (o : TypeOwner) (names now : Names) (ds : List ScopeName) (i : ℕ) (d : Definition) (f : Fault) → slice_get ds i ≡ Some (Defined d) → ((cs : List ResolvedScope) (s : Address) → Defines old mid cs o s names now (take i ds)) → IsExtended mid new → IsWrongHandle (env_of now) new (all_handles (body_types d.body)) f → IsWrongHandleIn old o names ds f
-wrong_handle_next old mid new o names now ds i d f at defines g wrong =
-    let all = all_handles (flat_map name_types ds) in
-    record {
-      count = i;
-      mid = mid;
-      now = now;
-      defines = defines;
-      more = g.more;
-      wrong = subst (λ (es : List TypeDef). IsWrongHandle (env_of now) es all f) g.is (handle_wider (env_of now) new (all_handles (body_types d.body)) all f (λ id h. handles_named ds i (Defined d) id at h) wrong);
-    }
-
 pub take_after : {X : Type 0} (xs ys : List X) (n : ℕ) → take (length xs + n) (xs ++ ys) ≡ xs ++ take n ys
 take_after [] ys n = ap (λ (k : ℕ). take k ys) (zero-add n)
 take_after (x ∷ xs) ys n = ap (λ (k : ℕ). take k (x ∷ xs ++ ys)) (suc-add (length xs) n) ∙ ap (λ l. x ∷ l) (take_after xs ys n)
-
--- a handle of a definition that is wrong after the used names of its scope
-pub wrong_handle_turn : (old first : List TypeDef) (cs : List ResolvedScope) (o : TypeOwner) (names : Names) (xs : List ScopeName) (f : Fault) → ((s : Address) → Defines old first cs o s [] names (used xs)) → IsWrongHandleTurn first o names xs f → IsWrongHandleOf old cs o xs f
-wrong_handle_turn old first cs o names xs f uses h =
-    let w = h.wrong in
-    let ds = defined (in_order xs h.order) in
-    record {
-      order = h.order;
-      least = h.least;
-      distinct = h.distinct;
-      count = length (used xs) + w.count;
-      mid = w.mid;
-      names = w.now;
-      defines = λ s. subst (λ (ys : List ScopeName). Defines old w.mid cs o s [] w.now ys) (sym (take_after (used xs) ds w.count)) (defines_more old first w.mid cs o s [] names w.now (used xs) (take w.count ds) (uses s) (w.defines cs s));
-      more = w.more;
-      wrong = handle_wider (env_of w.now) (w.mid ++ w.more) (all_handles (flat_map name_types ds)) (all_handles (flat_map name_types xs)) f (handles_within ds xs (λ i x at. (let k = defined_at (in_order xs h.order) i x at in in_order_among xs h.order h.least k.0 x k.1))) w.wrong;
-    }

@@ -1,29 +1,21 @@
 -- An interface has functions alone on its sides, and they are where imports do.
-use Rattle.std.proofs.Common.{◌≡◌, ◌∷◌, ◌++◌, [], List, map, false, inl, inr, refl, sym, ap, ◌∙◌, subst, Contains}
+use Rattle.std.proofs.Common.{◌≡◌, ◌∷◌, ◌++◌, [], List, map, false, inl, inr, refl, sym, ap, ◌∙◌}
 use Rattle.std.specs.List.{flat_map}
 use Rattle.std.proofs.lemmas.Bool.{cases_Bool, cond-true, cond-false}
 use Rattle.wit_type_tree.specs.declared.leaves.Id.{Id}
 use Rattle.wit_tree.specs.declared.tree.WorldSide.TheVariants.{Imported}
 use Rattle.wit_syntax.specs.ExternPart.{same_side}
-use Rattle.wit_syntax.specs.Fault.{Fault}
-use Rattle.wit_syntax.specs.Source.{Declared, TheInterface, TheWorld, TheInline, Item, ScopeName, is_world, scope_names, about}
-use Rattle.wit_syntax.specs.Metadata.{IsBrokenMetadata}
+use Rattle.wit_syntax.specs.Source.{Declared, TheInterface, TheWorld, TheInline, Item, is_world, about}
 use Rattle.wit_syntax.specs.Function.{SourceFunction, functions, part_functions}
-use Rattle.wit_syntax.specs.Sides.{SideItem, SideFunction, items_on, on_side, role_side, side_items, IsBrokenSides, FoldedTwice, CrossedTwice, InterfaceMetadata, interface_attributes}
-use Rattle.wit_syntax.proofs.Found.{at_contains}
-use Rattle.wit_syntax.proofs.Legal.{no_fold, no_crossed}
-use Rattle.wit_syntax.proofs.Lists.{map_at}
-use Rattle.wit_syntax.proofs.Sides.{interface_imported, side_items_functions}
-use Rattle.wit_syntax.proofs.Unnoted.{unbroken_metadata}
+use Rattle.wit_syntax.specs.Sides.{SideFunction, items_on, on_side, role_side}
+use Rattle.wit_syntax.proofs.Sides.{interface_imported}
 use Rattle.wit_refusals.specs.NameScopes.{Name}
 use Rattle.wit_rules.specs.declared.borrowed.BorrowedFunction.{BorrowedFunction}
 use Rattle.wit_rules.specs.BorrowedFunctions.{function_view}
 use Rattle.wit_signatures.specs.ForeignName.{name_of_function, name_of_id}
-use Rattle.wit_externs.specs.Clash.{DifferOnSides, all_on, names_of_items}
+use Rattle.wit_externs.specs.Clash.{all_on, names_of_items}
 use Rattle.wit_scopes.specs.BorrowedNames.{Borrowed as BorrowedName}
-use Rattle.wit_uses.specs.NameOrder.{IsTurn}
 use Rattle.wit_item_entries.specs.Body.{HasNames}
-use Rattle.wit_uses.proofs.NameOrder.{differ_called}
 
 declared_imported : (d : Declared) → (about d).is_world ≡ false → on_side Imported (flat_map part_functions (about d).parts) ≡ flat_map part_functions (about d).parts
 declared_imported (TheInterface x) sort = interface_imported x.items.items
@@ -41,13 +33,6 @@ declared_interface item d names own sort = ap (λ (x : Declared). (about x).is_w
 pub declared_functions : (item : Item) (d : Declared) (names : List BorrowedName) (all ws : List BorrowedFunction) → HasNames item d names → ws ≡ all → map function_view all ≡ flat_map part_functions (about d).parts → map function_view ws ≡ functions item
 declared_functions item d names all ws own same are = ap (map function_view) same ∙ are ∙ ap (λ (x : Declared). flat_map part_functions (about x).parts) (sym own.declared)
 
--- no function has the attributes of an interface
-none_noted : (fns : List SourceFunction) (x : SideItem) → Contains (map SideFunction fns) x → (f : Fault) → IsBrokenMetadata (interface_attributes x) f → ⊥
-none_noted fns x among f h =
-    let it = at_contains (map SideFunction fns) x among in
-    let at = map_at SideFunction fns it.0 x it.1 in
-    unbroken_metadata f (subst (λ (y : SideItem). IsBrokenMetadata (interface_attributes y) f) (sym at.2) h)
-
 names_functions : (fns : List SourceFunction) → names_of_items (items_on Imported (map SideFunction fns)) ≡ map name_of_function (on_side Imported fns)
 names_functions [] = refl
 names_functions (fn ∷ fns) =
@@ -59,19 +44,6 @@ names_functions (fn ∷ fns) =
       | inr miss ↦ ap names_of_items (cond-false test (SideFunction fn ∷ items) items miss) ∙ names_functions fns ∙ sym (ap (map name_of_function) (cond-false test (fn ∷ rest) rest miss))
     ]
 
-module _ (item : Item) (sort : is_world item ≡ false) where
-  -- the names that are taken where imports are are those of types and of functions
-  pub names_imported : (ids : List Id) → all_on Imported ids (map SideFunction (functions item)) ≡ map name_of_id ids ++ map name_of_function (functions item)
-  names_imported ids = ap (λ (l : List Name). map name_of_id ids ++ l) (names_functions (functions item) ∙ ap (map name_of_function) (all_imported item sort))
-
-  -- where what is taken on each side differs, nothing is wrong with the sides
-  pub sides_sound : (ids : List Id) → IsTurn (scope_names item) ids → DifferOnSides ids (side_items item) → (f : Fault) → IsBrokenSides item f → ⊥
-  sides_sound ids t differ f broken = by broken
-    where
-      xs : List ScopeName
-      xs = scope_names item
-
-      by : IsBrokenSides item f → ⊥
-      by (FoldedTwice h) = no_fold xs (side_items item) t.order f t.least (λ side. differ_called side xs (side_items item) t.order ids t.are (differ side)) h
-      by (CrossedTwice h) = no_crossed xs (side_items item) t.order f t.least (λ side. differ_called side xs (side_items item) t.order ids t.are (differ side)) h
-      by (InterfaceMetadata x among h) = none_noted (functions item) x (subst (λ (l : List SideItem). Contains l x) (side_items_functions item sort) among) f h
+-- the names on the side of imports are those of types and of functions
+pub names_imported : (item : Item) → is_world item ≡ false → (ids : List Id) → all_on Imported ids (map SideFunction (functions item)) ≡ map name_of_id ids ++ map name_of_function (functions item)
+names_imported item sort ids = ap (λ (l : List Name). map name_of_id ids ++ l) (names_functions (functions item) ∙ ap (map name_of_function) (all_imported item sort))

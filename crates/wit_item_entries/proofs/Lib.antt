@@ -1,6 +1,5 @@
 mod Handled
 pub mod ReachedFaults
-pub mod WrongNames
 mod Results
 mod SettersPlaced
 mod FunctionTables

@@ -1,26 +1,20 @@
 -- The functions of an item, added after its names.
-use Rattle.std.proofs.Common.{◌≡◌, ℕ, List, [], ◌++◌, length, map, Some, inl, inr, sym, ap, ◌∙◌, subst, Contains}
-use Rattle.std.specs.Prelude.{slice_get}
+use Rattle.std.proofs.Common.{◌≡◌, List, [], ◌++◌, map, sym, ap, ◌∙◌, subst}
 use Rattle.std.specs.List.{flat_map}
-use Rattle.std.proofs.Math.Seq.{take-length}
-use Rattle.std.proofs.lemmas.List.Elements.{Contains-append_right}
 use Rattle.wit_type_tree.specs.declared.leaves.Id.{Id}
 use Rattle.wit_types.specs.declared.types.TypeDef.{TypeDef}
 use Rattle.wit_types.specs.declared.types.TypeOwner.{TypeOwner}
 use Rattle.wit_functions.specs.declared.function.Function.{Function}
 use Rattle.wit_syntax.specs.Address.{Address}
-use Rattle.wit_syntax.specs.Fault.{Fault}
 use Rattle.wit_syntax.specs.Repeats.{AllDiffer}
 use Rattle.wit_syntax.specs.Shape.{all_handles}
 use Rattle.wit_syntax.specs.Source.{Item, address, ScopeName, scope_names}
 use Rattle.wit_syntax.specs.ScopeTables.{in_turn}
-use Rattle.wit_syntax.specs.Function.{SourceFunction, functions, name_types, written_types, item_types}
-use Rattle.wit_syntax.specs.SignatureRules.{IsBrokenFunction}
+use Rattle.wit_syntax.specs.Function.{functions, name_types, written_types}
 use Rattle.wit_tree.specs.declared.tree.WorldSide.TheVariants.{Imported}
-use Rattle.wit_syntax.specs.Sides.{SideItem, SideFunction, on_side, side_items, IsFoldedTwice, IsCrossedTwice, FoldedTwice, CrossedTwice}
-use Rattle.wit_syntax.specs.Broken.{IsBrokenScope, Function as FunctionBroken}
-use Rattle.wit_arena.specs.Resolving.{Env, Names, env_of, ResolvedScope, Required, AreEnded, AddsFunctions, IsWrongHandle, WrongItself}
-use Rattle.wit_arena.specs.ResolvedArenas.{AddsAfter, IsNameless, IsWrongHandleNow}
+use Rattle.wit_syntax.specs.Sides.{SideItem, SideFunction, on_side, side_items}
+use Rattle.wit_arena.specs.Resolving.{Env, Names, env_of, ResolvedScope, Required, AreEnded, AddsFunctions}
+use Rattle.wit_arena.specs.ResolvedArenas.{AddsAfter}
 use Rattle.wit_syntax.proofs.Legal.{function_name}
 use Rattle.wit_arena.proofs.FunctionNames.{names_differ, made_name}
 use Rattle.wit_syntax.proofs.Lists.{map_map}
@@ -28,17 +22,12 @@ use Rattle.wit_arena.proofs.Required.{ended_append, ended_more}
 use Rattle.wit_arena.proofs.Written.{all_handles-append}
 use Rattle.wit_refusals.specs.NameScopes.{Name}
 use Rattle.wit_entries.specs.Requiring.{IsExtended, Requires}
-use Rattle.wit_rules.specs.Signatures.{IsWrongFunctionAmong}
 use Rattle.wit_signatures.specs.ForeignName.{name_of_function, name_of_made, name_key}
 use Rattle.wit_externs.specs.Clash.{DifferOnSides, all_on}
-use Rattle.wit_scopes.specs.DefinitionOrder.{IsOfFunctions, OfFunction}
 use Rattle.wit_item_entries.specs.AddedNames.{AddsTurn}
 use Rattle.wit_uses.specs.NameOrder.{IsTurn}
-use Rattle.wit_item_entries.specs.ScopeFunctionFaults.{IsWrongFunctions, BrokenFunction, BrokenNames, CrossedNames, HandleOfOther}
-use Rattle.wit_item_entries.specs.Body.{AddsBody, IsWrongBody, WrongNames, WrongHandles, WrongSides}
-use Rattle.wit_item_entries.proofs.Handled.{handle_wider}
+use Rattle.wit_item_entries.specs.Body.{AddsBody}
 use Rattle.wit_uses.proofs.NameOrder.{differ_called}
-use Rattle.wit_item_entries.proofs.FunctionFaults.{function_handle}
 
 -- the names of a scope that was added, in turn
 pub turn_added : (old mid : List TypeDef) (cs : List ResolvedScope) (o : TypeOwner) (xs : List ScopeName) (types : Names) (ids : List Id) (rs : List Required) → AddsTurn old mid cs o xs types ids rs → IsTurn xs ids
@@ -70,51 +59,6 @@ body_added old mid new cs o item types ids own all fs n adds g q named differ = 
   named = named;
   differ = differ;
 }
-
--- where the names were legal but for the functions, and these are sound, the scope is
-pub scope_sound : (xs : List ScopeName) (fns : List SourceFunction) → ((f : Fault) → IsBrokenScope xs fns f → IsOfFunctions xs fns f) → ((k : ℕ) (fn : SourceFunction) → slice_get fns k ≡ Some fn → (f : Fault) → IsBrokenFunction xs fns k fn f → IsNameless xs fns) → (f : Fault) → IsBrokenScope xs fns f → IsNameless xs fns
-scope_sound xs fns only sound f broken = by (only f broken)
-  where
-    by : IsOfFunctions xs fns f → IsNameless xs fns
-    by (OfFunction k fn at h) = sound k fn at f h
-
--- a handle in a function that is wrong is so in the item
-wrong_handle_view : (old mid new : List TypeDef) (cs : List ResolvedScope) (o : TypeOwner) (item : Item) (types : Names) (ids : List Id) (own : List Required) (f : Fault) → AddsTurn old mid cs o (scope_names item) types ids own → IsExtended mid new → IsWrongHandle (env_of types) new (all_handles (flat_map written_types (functions item))) f → IsWrongHandleNow old cs o item f
-wrong_handle_view old mid new cs o item types ids own f n g h =
-    let xs = in_turn (scope_names item) n.adds.order in
-    let names = flat_map name_types (scope_names item) in
-    let others = flat_map written_types (functions item) in
-    record {
-      order = n.adds.order;
-      least = n.adds.least;
-      distinct = n.adds.distinct;
-      count = length xs;
-      mid = mid;
-      names = types;
-      defines = rw (take-length xs) n.adds.defines;
-      more = g.more;
-      wrong = handle_wider (env_of types) (mid ++ g.more) (all_handles others) (all_handles (item_types item)) f (λ id among. subst (λ (l : List Id). Contains l id) (sym (all_handles-append names others)) (Contains-append_right (all_handles names) (all_handles others) id among)) (subst (λ (es : List TypeDef). IsWrongHandle (env_of types) es (all_handles others) f) g.is h);
-    }
-
--- what is wrong with functions is wrong with the item that has these, and nothing else, on its sides
-pub wrong_view : (old mid new : List TypeDef) (cs : List ResolvedScope) (by_name : Names) (o : TypeOwner) (item : Item) (types : Names) (ids : List Id) (required : List Required) (f : Fault) → side_items item ≡ map SideFunction (functions item) → AddsTurn old mid cs o (scope_names item) types ids required → IsExtended mid new → IsWrongFunctions (env_of types) new (scope_names item) (functions item) f → IsWrongBody old cs by_name o item f
-wrong_view old mid new cs by_name o item types ids required f alone n g h = by h
-  where
-    xs : List ScopeName
-    xs = scope_names item
-
-    by : IsWrongFunctions (env_of types) new (scope_names item) (functions item) f → IsWrongBody old cs by_name o item f
-    by (BrokenFunction k fn at h) = WrongNames (WrongItself (FunctionBroken k fn at h))
-    by (BrokenNames h) = WrongSides (FoldedTwice (subst (λ (items : List SideItem). IsFoldedTwice xs items f) (sym alone) h))
-    by (CrossedNames h) = WrongSides (CrossedTwice (subst (λ (items : List SideItem). IsCrossedTwice xs items f) (sym alone) h))
-    by (HandleOfOther h) = WrongHandles (wrong_handle_view old mid new cs o item types ids required f n g h)
-
--- what is wrong with one of its functions is wrong with an item, whatever else it has on its sides
-pub wrong_function : (old mid new : List TypeDef) (cs : List ResolvedScope) (by_name : Names) (o : TypeOwner) (item : Item) (types : Names) (ids : List Id) (required : List Required) (f : Fault) → AddsTurn old mid cs o (scope_names item) types ids required → IsExtended mid new → IsWrongFunctionAmong (env_of types) new (scope_names item) (functions item) f → IsWrongBody old cs by_name o item f
-wrong_function old mid new cs by_name o item types ids required f n g h = elim h.wrong [
-  | inl broken ↦ WrongNames (WrongItself (FunctionBroken h.place h.fn h.at broken))
-  | inr handle ↦ WrongHandles (wrong_handle_view old mid new cs o item types ids required f n g (function_handle (env_of types) new (functions item) h.place h.fn f h.at handle))
-]
 
 -- where functions alone are on the sides, and all of them are where imports are, their names differ if their keys do
 pub made_differ : (old new : List TypeDef) (cs : List ResolvedScope) (o : TypeOwner) (item : Item) (types : Names) (ids : List Id) (fs : List Function) (rs : List Required) → on_side Imported (functions item) ≡ functions item → side_items item ≡ map SideFunction (functions item) → AddsBody old new cs o item types ids fs rs → AllDiffer (map made_name fs)

@@ -1,25 +1,23 @@
--- What the names and the functions of an item add, and what can be wrong with an item: the same of an interface and of a world.
-use Rattle.std.specs.Prelude.{◌≡◌, List, map}
+-- What the names and the functions of an item add: the same of an interface and of a world.
+use Rattle.std.specs.Prelude.{◌≡◌, ◌<◌, ◌++◌, false, List, length, map}
 use Rattle.std.specs.List.{flat_map}
-use Rattle.wit_type_tree.specs.declared.error.ParseError.{ParseError}
 use Rattle.wit_type_tree.specs.declared.leaves.Id.{Id}
 use Rattle.wit_types.specs.declared.types.TypeDef.{TypeDef}
 use Rattle.wit_types.specs.declared.types.TypeOwner.{TypeOwner}
 use Rattle.wit_functions.specs.declared.function.Function.{Function}
-use Rattle.wit_syntax.specs.Fault.{Fault}
-use Rattle.wit_syntax.specs.Metadata.{IsBrokenStability}
-use Rattle.wit_syntax.specs.Broken.{IsBrokenScope, Refused}
 use Rattle.wit_syntax.specs.Source.{Declared, Item, local_id, scope_names, about}
 use Rattle.wit_syntax.specs.ScopeTables.{in_turn}
 use Rattle.wit_syntax.specs.Function.{SourceFunction, functions, part_functions}
-use Rattle.wit_syntax.specs.Sides.{side_items, IsBrokenSides}
-use Rattle.wit_arena.specs.Resolving.{Names, ResolvedScope, Required, IsWrongScope}
-use Rattle.wit_arena.specs.ResolvedArenas.{AddsScope, AddsAfter, IsNameless, IsWrongHandleNow}
+use Rattle.wit_syntax.specs.Sides.{SideFunction, side_items}
+use Rattle.wit_arena.specs.Resolving.{Names, ResolvedScope, Required}
+use Rattle.wit_arena.specs.ResolvedArenas.{AddsScope, AddsAfter}
+use Rattle.wit_sides.specs.declared.sides.Sides.{Sides}
+use Rattle.wit_rules.specs.declared.borrowed.BorrowedFunction.{BorrowedFunction}
+use Rattle.wit_rules.specs.BorrowedFunctions.{function_view}
 use Rattle.wit_signatures.specs.ForeignName.{name_of_function, name_of_made}
-use Rattle.wit_externs.specs.Clash.{DifferOnSides}
+use Rattle.wit_externs.specs.Clash.{AreNamesOf, DifferOnSides}
 use Rattle.wit_items.specs.BorrowedItems.{declared_view}
 use Rattle.wit_items.specs.declared.items.Declared.{Declared as BorrowedDeclared}
-use Rattle.wit_scopes.specs.DefinitionOrder.{IsOfFunctions}
 use Rattle.wit_scopes.specs.BorrowedNames.{name_view, Borrowed as BorrowedName}
 use Rattle.wit_item_entries.specs.AddedNames.{AddsTurn}
 use Rattle.wit_item_entries.specs.declared.names.ResolvedNames.{ResolvedNames}
@@ -42,28 +40,21 @@ pub record AddsBody (old new : List TypeDef) (cs : List ResolvedScope) (o : Type
   pub named : map name_of_made fs ≡ map name_of_function (functions item)
   pub differ : DifferOnSides ids (side_items item)
 
--- what is wrong with an item, by what was resolved before, whichever it is
-pub data IsWrongBody (old : List TypeDef) (cs : List ResolvedScope) (by_name : Names) (o : TypeOwner) (item : Item) (f : Fault) : Type 0 where
-  WrongMetadata : IsBrokenStability (about item.declared).attributes f → IsWrongBody old cs by_name o item f
-  WrongNames : IsWrongScope cs by_name (scope_names item) (functions item) f → IsWrongBody old cs by_name o item f
-  WrongHandles : IsWrongHandleNow old cs o item f → IsWrongBody old cs by_name o item f
-  WrongSides : IsBrokenSides item f → IsWrongBody old cs by_name o item f
-
 -- the functions of what is declared
 abbrev pub functions_in : Declared → List SourceFunction
 functions_in d = flat_map part_functions (about d).parts
 
--- no rule is broken by the names of an item, but by its functions
-abbrev pub HasSoundNames : Item → Type 0
-HasSoundNames i = (f : Fault) → IsBrokenScope (scope_names i) (functions i) f → IsOfFunctions (scope_names i) (functions i) f
+-- these are its functions, where that is an interface
+abbrev pub AreFunctionsIn : Declared → List BorrowedFunction → Type 0
+AreFunctionsIn d hs = (about d).is_world ≡ false → map function_view hs ≡ functions_in d
 
--- nor by these, but where a name in a signature means nothing
-abbrev pub IsSoundScope : Item → Type 0
-IsSoundScope i = (f : Fault) → IsBrokenScope (scope_names i) (functions i) f → IsNameless (scope_names i) (functions i)
+-- these functions came after others
+abbrev pub AppendsFunctions : List BorrowedFunction → List BorrowedFunction → List SourceFunction → Type 0
+AppendsFunctions old new fns = map function_view new ≡ map function_view old ++ fns
 
--- no rule is broken on the sides of an item
-abbrev pub HasLegalSides : Item → Type 0
-HasLegalSides i = (f : Fault) → IsBrokenSides i f → ⊥
+-- where there are functions, the names on the sides are those of types, and then theirs
+abbrev pub AreNamesInUse : Sides → List Id → List BorrowedFunction → Type 0
+AreNamesInUse in_use ids hs = 0 < length hs → AreNamesOf in_use ids (map SideFunction (map function_view hs))
 
 -- the names of an item were added, which are these, and then these types
 abbrev pub HasTurn : ResolvedNames → List TypeDef → Item → List TypeDef → List ResolvedScope → TypeOwner → Type 0
@@ -73,5 +64,6 @@ HasTurn n now i old cs o = AddsTurn old now cs o (scope_names i) n.types n.turn.
 abbrev pub AddsMade : ResolvedNames → ResolvedNames → List TypeDef → List TypeDef → Item → List Function → Type 0
 AddsMade n n' now new i fs = (old : List TypeDef) (cs : List ResolvedScope) (o : TypeOwner) → HasTurn n now i old cs o → AddsBody old new cs o i n.types n.turn.items fs n'.required.items
 
-abbrev pub RefusesBody : ResolvedNames → List TypeDef → Item → ParseError → Type 0
-RefusesBody n now i e = (old : List TypeDef) (cs : List ResolvedScope) (by_name : Names) (o : TypeOwner) → HasTurn n now i old cs o → Refused (IsWrongBody old cs by_name o i) e
+-- so of each item of which this is borrowed
+abbrev pub AddsMadeOf : BorrowedDeclared → List BorrowedName → ResolvedNames → ResolvedNames → List TypeDef → List TypeDef → List Function → Type 0
+AddsMadeOf d xs n n' now new fs = (i : Item) → IsOf d xs i → AddsMade n n' now new i fs

@@ -1,10 +1,6 @@
 //! What is stated of an item and its names, the same of an interface and of a world, and the functions of an
 //! interface.
-ghost use Rattle.std.specs.Prelude.{◌≡◌, ◌<◌, IfErr, IfOk, OnOk, false, length, map};
-ghost use Rattle.wit_syntax.specs.Broken.{Refused};
-ghost use Rattle.wit_syntax.specs.Fault.{Fault};
-ghost use Rattle.wit_syntax.specs.Metadata.{IsBrokenStability};
-ghost use Rattle.wit_syntax.specs.Sides.{SideFunction};
+ghost use Rattle.std.specs.Prelude.{◌≡◌, IfOk, OnOk, false, map};
 ghost use Rattle.wit_syntax.specs.Source.{Item as TheItem, scope_names as the_names, about, declared_metadata};
 ghost use Rattle.wit_entries.specs.Requiring.{IsExtended};
 ghost use Rattle.wit_rules.specs.BorrowedFunctions.{function_view};
@@ -15,9 +11,7 @@ ghost use Rattle.wit_items.specs.SourceItems.{AreOf};
 ghost use Rattle.wit_uses.specs.NameOrder.{IsTurn};
 ghost use Rattle.wit_item_names.specs.ForeignAddresses.{prefix_of};
 ghost use Rattle.wit_items.specs.ResolvedInterfaces.{resolved_scopes_of};
-ghost use Rattle.wit_externs.specs.Clash.{AreNamesOf};
-ghost use Rattle.wit_item_entries.specs.AddedNames.{AreSoundNames};
-ghost use Rattle.wit_item_entries.specs.Body.{AddsMade, HasLegalSides, HasSoundNames, HasTurn, IsOf, IsSoundScope, IsWrongBody, RefusesBody, functions_in};
+ghost use Rattle.wit_item_entries.specs.Body.{AddsMadeOf, AreNamesInUse, HasTurn, IsOf, functions_in};
 ghost use Rattle.wit_item_entries.specs.ScopeFunctionFaults.{FindsSigned};
 ghost use Rattle.wit_item_entries.specs.ReachedFaults.{FindsAt, HasHead, IsHeadFault};
 
@@ -65,12 +59,9 @@ pub fn resolve_head<'a>(
     requires named { map name_view item.now.names.now ≡ the_names (scope_item item.now) }
     requires placed { AreNamesPlaced (prefix_of interfaces.now.files) item.now.names.now }
     ensures as_stated { IfOk result (λ head. AreOf (declared_metadata (scope_item item.now).declared) head.metadata) }
-    ensures stable { OnOk result ((f : Fault) → IsBrokenStability (about (scope_item item.now).declared).attributes f → ⊥) }
     ensures adds { IfOk result (λ head. HasTurn head.names types.new (scope_item item.now) types.old (resolved_scopes_of interfaces.now) owner) }
-    ensures legal { OnOk result (AreSoundNames (the_names (scope_item item.now))) }
     ensures extended { OnOk result (IsExtended types.old types.new) }
     ensures first { FindsAt (λ head. HasHead interfaces.now item.now head.names.types types.new) (IsHeadFault interfaces.now owner types.old item.now) result }
-    ensures refused { IfErr result (Refused (IsWrongBody types.old (resolved_scopes_of interfaces.now) interfaces.now.by_name owner (scope_item item.now))) }
 {
     let metadata = item_metadata(alloc, &item.declared)?;
     let names = resolve_names(alloc, item.names, types, interfaces, owner)?;
@@ -91,13 +82,10 @@ pub fn resolve_item_functions<'t, 'a>(
     ensures types { OnOk result (names.new.types ≡ names.old.types) }
     ensures turn { OnOk result (names.new.turn ≡ names.old.turn) }
     ensures written { IfOk result (λ own. map function_view own.written.items ≡ functions_in (declared_view declared.entry)) }
-    ensures adds { IfOk result (λ own. (i : TheItem) → IsOf declared.entry borrowed.now i → AddsMade names.old names.new types.old types.new i own.functions.items) }
-    ensures in_use { IfOk result (λ own. 0 < length own.written.items → AreNamesOf own.in_use names.old.turn.items (map SideFunction (map function_view own.written.items))) }
-    ensures sound { OnOk result ((i : TheItem) → IsOf declared.entry borrowed.now i → HasSoundNames i → IsSoundScope i) }
-    ensures sided { OnOk result ((i : TheItem) → IsOf declared.entry borrowed.now i → HasLegalSides i) }
+    ensures adds { IfOk result (λ own. AddsMadeOf declared.entry borrowed.now names.old names.new types.old types.new own.functions.items) }
+    ensures in_use { IfOk result (λ own. AreNamesInUse own.in_use names.old.turn.items own.written.items) }
     ensures extended { IsExtended types.old types.new }
     ensures first { FindsSigned names.old.types types.new (map name_view borrowed.now) names.old.turn.items (functions_in (declared_view declared.entry)) result }
-    ensures refused { IfErr result (λ e. (i : TheItem) → IsOf declared.entry borrowed.now i → RefusesBody names.old types.old i e) }
 {
     let written = interface_functions(alloc, &declared)?;
     let mut in_use = Sides::new(alloc);

@@ -1,10 +1,10 @@
 //! The functions of an item as they are written, and as they are in the package.
-ghost use Rattle.std.specs.Prelude.{◌≡◌, ◌++◌, false, IfOk, OnOk, map, nat_eq};
+ghost use Rattle.std.specs.Prelude.{◌≡◌, IfOk, OnOk, map, nat_eq};
 ghost use Rattle.std.specs.Cmp.Lexicographic.{pointwise};
 ghost use Rattle.std.specs.List.{flat_map};
 ghost use Rattle.indexmap.specs.IndexMap.{insert_entry};
 ghost use Rattle.wit_syntax.specs.Repeats.{AllDiffer};
-ghost use Rattle.wit_syntax.specs.Source.{interface_part, local_name, about, world_part};
+ghost use Rattle.wit_syntax.specs.Source.{interface_part, local_name, world_part};
 ghost use Rattle.wit_syntax.specs.Function.{definition_functions, extern_functions, part_functions};
 ghost use Rattle.wit_arena.specs.SourceFunctions.{placed_functions};
 ghost use Rattle.wit_rules.specs.BorrowedFunctions.{function_view};
@@ -12,7 +12,7 @@ ghost use Rattle.wit_syntax.specs.SignatureRules.{body_ok};
 ghost use Rattle.wit_rules.specs.Signatures.{stated_ok, AreResults};
 ghost use Rattle.wit_items.specs.BorrowedItems.{declared_view};
 ghost use Rattle.wit_scopes.specs.BorrowedNames.{name_view};
-ghost use Rattle.wit_item_entries.specs.Body.{functions_in};
+ghost use Rattle.wit_item_entries.specs.Body.{AppendsFunctions, AreFunctionsIn};
 
 use std::alloc::{AllocError, Global};
 use wit_items::items::Declared;
@@ -32,7 +32,7 @@ fn add_definition<'t, 'a>(
     functions: &mut Vec<BorrowedFunction<'t, 'a>>,
     definition: &'t TypeDef<'a>,
 ) -> Result<(), AllocError>
-    ensures { OnOk result (map function_view functions.new.items ≡ map function_view functions.old.items ++ definition_functions definition.now.name definition.now.body) }
+    ensures { OnOk result (AppendsFunctions functions.old.items functions.new.items (definition_functions definition.now.name definition.now.body)) }
 {
     if let TypeBody::Resource { funcs } = &definition.body {
         for function in funcs {
@@ -47,7 +47,7 @@ fn add_extern_part<'t, 'a>(
     functions: &mut Vec<BorrowedFunction<'t, 'a>>,
     written: &'t Extern<'a>,
 ) -> Result<(), AllocError>
-    ensures { OnOk result (map function_view functions.new.items ≡ map function_view functions.old.items ++ extern_functions written.now written.now.kind) }
+    ensures { OnOk result (AppendsFunctions functions.old.items functions.new.items (extern_functions written.now written.now.kind)) }
 {
     match &written.kind {
         ExternKind::Func(name, func) => push(
@@ -112,7 +112,7 @@ pub fn interface_functions<'t, 'a>(
     alloc: Global,
     declared: &Declared<'t, 'a>,
 ) -> Result<Vec<BorrowedFunction<'t, 'a>>, AllocError>
-    ensures { IfOk result (λ functions. (about (declared_view declared.now)).is_world ≡ false → map function_view functions.items ≡ functions_in (declared_view declared.now)) }
+    ensures { IfOk result (λ functions. AreFunctionsIn (declared_view declared.now) functions.items) }
 {
     match declared {
         Declared::Interface(interface) => items_functions(alloc, &interface.items),

@@ -1,16 +1,14 @@
 //! The names of a scope as entries: those that it uses, and then its definitions.
-ghost use Rattle.std.specs.Prelude.{◌≡◌, ◌++◌, None, IfOk, IfErr, OnOk, map};
+ghost use Rattle.std.specs.Prelude.{◌≡◌, ◌++◌, None, IfOk, OnOk, map};
 ghost use Rattle.wit_syntax.specs.ScopeTables.{used, local_names};
-ghost use Rattle.wit_syntax.specs.Broken.{Refused};
 ghost use Rattle.wit_syntax.specs.Repeats.{AllDiffer};
 ghost use Rattle.wit_entries.specs.Requiring.{IsExtended};
 ghost use Rattle.wit_scopes.specs.BorrowedNames.{name_view, use_view, definition_view};
 ghost use Rattle.wit_item_names.specs.ForeignAddresses.{prefix_of};
-ghost use Rattle.wit_items.specs.ResolvedInterfaces.{resolved_scopes_of};
 ghost use Rattle.wit_scopes.specs.PlacedNames.{AreNamesPlaced};
 ghost use Rattle.wit_scopes.specs.DefinitionOrder.{AreInTurn};
-ghost use Rattle.wit_arena.specs.Resolving.{env_of, AreLegalBodies, AreLegalMetadata, HasNames, names_in};
-ghost use Rattle.wit_item_entries.specs.AddedNames.{AddsTurn, AreSoundNames, DefinesAfter, DefinesIn, DefinitionsRequire, HasWrongDefinition, HasWrongName, IsWrongNames};
+ghost use Rattle.wit_arena.specs.Resolving.{env_of, HasNames, names_in};
+ghost use Rattle.wit_item_entries.specs.AddedNames.{AddsNames, DefinesAfter, DefinesIn, DefinitionsRequire};
 ghost use Rattle.wit_item_entries.specs.ReachedFaults.{FindsAt, FindsDefinitions, FindsOrdered, HaveNames, IsNamesFault};
 
 use std::alloc::Global;
@@ -51,12 +49,9 @@ fn define_all(
     ensures defines { OnOk result (DefinesAfter scope.old scope.new types.old types.new (map definition_view definitions.now)) }
     ensures owner { OnOk result (scope.new.owner ≡ scope.old.owner) }
     ensures listed { OnOk result (names_in scope.new.names ≡ names_in scope.old.names ++ local_names (map definition_view definitions.now)) }
-    ensures noted { OnOk result (AreLegalMetadata (map definition_view definitions.now)) }
-    ensures legal { OnOk result (AreLegalBodies (map definition_view definitions.now)) }
     ensures handled { OnOk result (DefinitionsRequire scope.old scope.new types.new (map definition_view definitions.now)) }
     ensures extended { OnOk result (IsExtended types.old types.new) }
     ensures first { FindsDefinitions scope.old scope.new types.old types.new (map definition_view definitions.now) result }
-    ensures refused { IfErr result (Refused (HasWrongDefinition scope.old types.old (map definition_view definitions.now))) }
 {
     for definition in definitions {
         define(alloc, types, scope, definition.definition)?;
@@ -77,10 +72,8 @@ fn resolve_types<'t, 'a>(
     requires has { HasNames (env_of scope.old.names) (used (map name_view names.now)) }
     requires listed { names_in scope.old.names ≡ local_names (used (map name_view names.now)) }
     ensures defines { IfOk result (λ turn. DefinesIn scope.old scope.new types.old types.new (map name_view names.now) turn.items) }
-    ensures legal { OnOk result (AreSoundNames (map name_view names.now)) }
     ensures extended { OnOk result (IsExtended types.old types.new) }
     ensures first { FindsOrdered scope.old scope.new types.old types.new (map name_view names.now) result }
-    ensures refused { IfErr result (Refused (HasWrongName scope.old types.old (map name_view names.now))) }
 {
     let written = written_turn(alloc, names, uses)?;
     check_unique_names(alloc, &written.ids)?;
@@ -100,11 +93,9 @@ pub fn resolve_names<'f, 'a>(
     owner: TypeOwner,
 ) -> ParseResult<ResolvedNames<'a>>
     requires placed { AreNamesPlaced (prefix_of interfaces.now.files) names.now }
-    ensures adds { IfOk result (λ r. AddsTurn types.old types.new (resolved_scopes_of interfaces.now) owner (map name_view names.now) r.types r.turn.items r.required.items) }
-    ensures legal { OnOk result (AreSoundNames (map name_view names.now)) }
+    ensures adds { IfOk result (λ r. AddsNames interfaces.now owner types.old types.new names.now r.types r.turn.items r.required.items) }
     ensures extended { OnOk result (IsExtended types.old types.new) }
     ensures first { FindsAt (λ r. HaveNames None interfaces.now names.now r.types types.new) (IsNamesFault None interfaces.now owner types.old names.now) result }
-    ensures refused { IfErr result (Refused (IsWrongNames types.old (resolved_scopes_of interfaces.now) interfaces.now.by_name owner (map name_view names.now))) }
 {
     let uses = used_names(alloc, names)?;
     let mut scope = Scope {

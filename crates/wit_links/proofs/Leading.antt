@@ -1,5 +1,5 @@
 -- Where the paths lead by which a world imports and exports interfaces: to places in the arena.
-use Rattle.std.proofs.Common.{◌≡◌, ◌≤◌, ℕ, zero, suc, Bool, false, List, [], ◌∷◌, length, Option, Some, None, inr, refl, sym, ap, ◌∙◌, arith}
+use Rattle.std.proofs.Common.{◌≡◌, ◌≤◌, ℕ, zero, suc, Bool, false, List, [], ◌∷◌, length, Option, Some, None, refl, sym, ap, ◌∙◌, arith}
 use Rattle.std.specs.Prelude.{slice_get}
 use Rattle.std.specs.Option.{option_map}
 use Rattle.std.proofs.lemmas.List.{length-map}
@@ -25,7 +25,7 @@ use Rattle.wit_items.proofs.Found.{found_resolved_scope}
 use Rattle.wit_scopes.specs.BorrowedNames.{source_view, IsPlaced}
 use Rattle.wit_scopes.specs.declared.scope_name.Source.{Source as BorrowedSource}
 use Rattle.wit_scopes.specs.declared.scope_name.Source.TheVariants as borrowed_source
-use Rattle.wit_links.specs.Links.{IsLostAt, interface_place, source_place, unresolved_fault}
+use Rattle.wit_links.specs.Links.{interface_place, source_place, unresolved_fault}
 
 -- the place of an interface that is borrowed is that of its address
 pub source_placed : (files : List PackageFile) (by_name : Names) (source : BorrowedSource) → IsPlaced (prefix_of files) source → interface_place (prefix_of files) by_name (source_view source) ≡ source_place by_name source
@@ -36,10 +36,6 @@ source_placed files by_name (borrowed_source.Foreign p of name) placed = place_a
 pub source_local : (by_name : Names) (source : BorrowedSource) → source_place by_name source ≡ None → is_foreign (source_view source) ≡ false
 source_local by_name (borrowed_source.Declared id) none = refl
 source_local by_name (borrowed_source.Foreign p of name) none = absurd (let f : ⊥ = cc in f)
-
--- a path to an interface that is not resolved
-pub resolved_lost : (files : List PackageFile) (prefix : List Address) (by_name : Names) (top : List TopName) (path : UsePath) (id : Id) → leads top path ≡ Local id → is_world_at files (leads top path) ≡ Some false → interface_place prefix by_name (path_scope top path) ≡ None → IsLostAt files by_name top path id
-resolved_lost files prefix by_name top path id local usable none = (local, inr (ap (is_world_at files) (sym local) ∙ usable, ap (λ (t : Target). interface_place prefix by_name (target_scope InterfaceNamed t)) (sym local) ∙ none))
 
 -- a path to an interface leads to an item, and to no world
 pub path_usable : (files : List PackageFile) (top : List TopName) (path : UsePath) → is_world_at files (leads top path) ≡ Some false → path_fault files top path ≡ None

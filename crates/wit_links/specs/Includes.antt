@@ -1,16 +1,14 @@
--- The first fault of includes, E30 to E34 and E11, and includes whose attributes break no rule.
-use Rattle.std.specs.Prelude.{◌⊎◌, ℕ, if◌then◌else◌, List, Option, None, Some, is_none, Contains}
+-- The first fault of includes: E30 to E34 and E11.
+use Rattle.std.specs.Prelude.{ℕ, if◌then◌else◌, List, Option, None, Some, is_none}
 use Rattle.std.specs.Option.{option_or}
 use Rattle.wit_tree.specs.declared.tree.Include.{Include}
 use Rattle.wit_syntax.specs.Address.{Address}
 use Rattle.wit_syntax.specs.Source.{Declared, Item, TopName, leads, path_id}
 use Rattle.wit_syntax.specs.Fault.{Fault, fault}
-use Rattle.wit_syntax.specs.Metadata.{IsBrokenStability}
 use Rattle.wit_syntax.specs.ScopeTables.{includes}
 use Rattle.wit_first.specs.AttributeFaults.{stability_fault}
 use Rattle.wit_first.specs.First.{first_in}
-use Rattle.wit_arena.specs.Resolving.{IsLostInclude}
-use Rattle.wit_arena.specs.ResolvedArenas.{IsBrokenItemStability, worlds_at}
+use Rattle.wit_arena.specs.ResolvedArenas.{worlds_at}
 use Rattle.wit_files.specs.FileNames.{top_at}
 use Rattle.wit_item_names.specs.ItemPaths.{world_at}
 use Rattle.wit_items.specs.BorrowedItems.{others_of}
@@ -35,11 +33,3 @@ included_fault ws top n = option_or (stability_fault n.attributes.items) (if is_
 -- of the includes of an item
 abbrev pub includes_fault : Worlds → Item → Option Fault
 includes_fault ws i = first_in (included_fault ws i.top) (includes i)
-
--- what is wrong with them
-abbrev pub HasWrongInclude : Worlds → Item → Fault → Type 0
-HasWrongInclude ws i = λ f. IsBrokenItemStability i f ⊎ IsLostInclude ws.interfaces.now.files ws.by_name i f
-
--- no attributes of these includes break a rule of stability
-pub record AreStable (is : List Include) : Type 0 where
-  pub each : (i : Include) → Contains is i → (f : Fault) → IsBrokenStability i.attributes.items f → ⊥

@@ -1,13 +1,12 @@
 -- Where the paths lead by which a world imports and exports interfaces, once all interfaces are resolved.
-use Rattle.std.specs.Prelude.{◌≡◌, ◌⊎◌, ℕ, false, true, if◌then◌else◌, List, Option, Some, None, is_none}
+use Rattle.std.specs.Prelude.{◌≡◌, ℕ, false, if◌then◌else◌, List, Option, Some, None, is_none}
 use Rattle.std.specs.Option.{option_or}
-use Rattle.wit_type_tree.specs.declared.leaves.Id.{Id}
 use Rattle.wit_tree.specs.declared.tree.UsePath.{UsePath}
 use Rattle.wit_tree.specs.declared.tree.PackageFile.{PackageFile}
 use Rattle.wit_syntax.specs.Address.{Address, InterfaceNamed, WorldNamed, InlineAt, ForeignNamed}
 use Rattle.wit_syntax.specs.Broken.{is_world_at}
-use Rattle.wit_syntax.specs.Fault.{Fault, fault, missing_at, item_word}
-use Rattle.wit_syntax.specs.Source.{Target, Local, Foreign, leads, path_id, path_scope, TopName, item_named, all_items}
+use Rattle.wit_syntax.specs.Fault.{Fault, missing_at, item_word}
+use Rattle.wit_syntax.specs.Source.{Target, Local, Foreign, leads, path_scope, TopName}
 use Rattle.wit_first.specs.UseFaults.{path_fault}
 use Rattle.wit_arena.specs.Whole.{place_at}
 use Rattle.wit_arena.specs.Resolving.{Names, env_of}
@@ -31,18 +30,9 @@ source_place by_name (borrowed_source.Foreign place of name) = Some place
 abbrev pub path_place : List PackageFile → Names → List TopName → UsePath → Option ℕ
 path_place files by_name top path = interface_place (prefix_of files) by_name (path_scope top path)
 
--- a path leads to no item of this name, or to an interface of it that is not resolved
-abbrev pub IsLostAt : List PackageFile → Names → List TopName → UsePath → Id → Type 0
-IsLostAt files by_name top path id = (leads top path ≡ Local id) × ((item_named (all_items files) id.name.now ≡ None) ⊎ ((is_world_at files (Local id) ≡ Some false) × (env_of by_name id.name.now ≡ None)))
-
 -- a path leads to the interface at a place
 abbrev pub IsLinkedTo : List PackageFile → Names → List TopName → UsePath → ℕ → Type 0
 IsLinkedTo files by_name top path id = (is_world_at files (leads top path) ≡ Some false) × (path_place files by_name top path ≡ Some id)
-
--- a path leads to a world, or to no interface that is resolved
-pub data IsWrongLink (files : List PackageFile) (by_name : Names) (top : List TopName) (path : UsePath) (f : Fault) : Type 0 where
-  AtWorld : is_world_at files (leads top path) ≡ Some true → f ≡ fault 10 (path_id path).span → IsWrongLink files by_name top path f
-  AtNothing : (id : Id) → IsLostAt files by_name top path id → f ≡ missing_at 7 item_word id → IsWrongLink files by_name top path f
 
 -- the first fault of such a path: it leads to nothing or to a world, and then to an interface that is not resolved
 abbrev pub unresolved_fault : Names → Target → Option Fault

@@ -1,15 +1,12 @@
 //! Includes of worlds.
-ghost use Rattle.std.specs.Prelude.{◌≡◌, ◌<◌, ◌++◌, IfErr, IfOk, OnOk, length, map, true, codes, string_bytes};
-ghost use Rattle.std.specs.List.{flat_map};
+ghost use Rattle.std.specs.Prelude.{◌≡◌, ◌<◌, ◌++◌, IfOk, length, map, true, codes, string_bytes};
 ghost use Rattle.std.specs.Option.{option_copied};
 ghost use Rattle.wit_syntax.specs.Source.{leads, TheWorld, IncludePart, about};
-ghost use Rattle.wit_syntax.specs.ScopeTables.{part_includes};
-ghost use Rattle.wit_syntax.specs.Broken.{Refused};
 ghost use Rattle.wit_first.specs.First.{Finds};
 ghost use Rattle.wit_arena.specs.Whole.{renamed, IsInclude, AreIncludes};
 ghost use Rattle.wit_item_names.specs.ItemPaths.{HasItem, HasPart, world_entry, world_at};
 ghost use Rattle.wit_items.specs.BorrowedItems.{declared_view};
-ghost use Rattle.wit_links.specs.Includes.{AreStable, HasWrongInclude, addresses_of, included_fault, includes_fault, item_in, top_of};
+ghost use Rattle.wit_links.specs.Includes.{addresses_of, included_fault, includes_fault, item_in, top_of};
 
 use crate::worlds::Worlds;
 use std::alloc::{AllocError, Global};
@@ -150,8 +147,6 @@ pub fn declared_includes<'f, 'a>(
     requires item { HasItem worlds.now.interfaces.now.files place (declared_view declared.now) }
     ensures are { IfOk result (λ includes. AreIncludes (addresses_of worlds.now) (item_in worlds.now place (declared_view declared.now)) includes) }
     ensures first { Finds (includes_fault worlds.now (item_in worlds.now place (declared_view declared.now))) result }
-    ensures stable { OnOk result (AreStable (flat_map part_includes (about (declared_view declared.now)).parts)) }
-    ensures refused { IfErr result (Refused (HasWrongInclude worlds.now (item_in worlds.now place (declared_view declared.now)))) }
 {
     match declared {
         Declared::World(world) => resolve_includes(alloc, *world, worlds, place),

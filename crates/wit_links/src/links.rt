@@ -1,12 +1,11 @@
 //! Where the paths lead by which a world imports and exports interfaces, once all interfaces are resolved.
-ghost use Rattle.std.specs.Prelude.{◌≡◌, ◌<◌, IfErr, IfOk, length, false};
+ghost use Rattle.std.specs.Prelude.{◌≡◌, ◌<◌, IfOk, length, false};
 ghost use Rattle.wit_syntax.specs.Address.{is_foreign};
-ghost use Rattle.wit_syntax.specs.Broken.{Refused};
 ghost use Rattle.wit_syntax.specs.Source.{Local, leads, path_scope};
 ghost use Rattle.wit_first.specs.First.{Finds};
 ghost use Rattle.wit_files.specs.FileNames.{top_at};
 ghost use Rattle.wit_item_names.specs.ItemPaths.{HasPath};
-ghost use Rattle.wit_links.specs.Links.{IsLinkedTo, IsWrongLink, linked_fault, source_place};
+ghost use Rattle.wit_links.specs.Links.{IsLinkedTo, linked_fault, source_place};
 
 use std::alloc::Global;
 use wit_item_names::files::Files;
@@ -56,7 +55,6 @@ pub fn linked_place<'f, 'a>(
     requires path { HasPath interfaces.now.files place path.now }
     ensures leads { IfOk result (IsLinkedTo interfaces.now.files interfaces.now.by_name (top_at interfaces.now.files place) path.now) }
     ensures first { Finds (linked_fault interfaces.now.files interfaces.now.by_name (top_at interfaces.now.files place) path.now) result }
-    ensures refused { IfErr result (Refused (IsWrongLink interfaces.now.files interfaces.now.by_name (top_at interfaces.now.files place) path.now)) }
 {
     match resolve_path(&interfaces.files, place, path) {
         ResolvedPath::Interface(source) => match resolved(interfaces, source) {

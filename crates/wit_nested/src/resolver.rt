@@ -41,7 +41,8 @@ impl<'a> GroupResolver<'a> {
     ///
     /// # Errors
     ///
-    /// A refusal leaves files and packages as they were.
+    /// A refusal leaves files and packages as they were. Of several faults it names the first: nested
+    /// packages come in their order, and then the file.
     ///
     /// - 3, at the inner package's name: a package is nested in a nested one.
     /// - 4 to 44: a nested package breaks a rule by itself, as `Resolver::resolve` says.

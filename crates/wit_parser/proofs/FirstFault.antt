@@ -1,5 +1,6 @@
 -- What is found of files that have a header is what the walk comes to; and where they have none, that is the fault.
 use Rattle.std.proofs.Common.{◌≡◌, ◌⊎◌, ℕ, ◌≤◌, List, Option, Some, None, inl, inr, refl, sym, ap, ◌∙◌, arith}
+use Rattle.std.specs.Prelude.{Result, Ok, Err, IfErr, OnOk}
 use Rattle.std.specs.Option.{option_or}
 use Rattle.std.proofs.lemmas.Bool.{cases_lt}
 use Rattle.wit_type_tree.specs.RefusalText.{IsAllocationFailure}
@@ -9,12 +10,14 @@ use Rattle.wit_type_tree.specs.declared.error.ParseErrorKind.TheVariants.{Syntax
 use Rattle.wit_tree.specs.declared.tree.PackageName.{PackageName as Header}
 use Rattle.wit_tree.specs.declared.tree.PackageFile.{PackageFile}
 use Rattle.wit_graph.specs.Table.{Row}
-use Rattle.wit_syntax.specs.Broken.{last_header}
+use Rattle.wit_syntax.specs.Broken.{IsBroken, IsLegal, Refused, last_header}
 use Rattle.wit_syntax.specs.Fault.{Fault, fault, fault_of}
 use Rattle.wit_syntax.specs.Shape.{Word}
-use Rattle.wit_first.specs.First.{Reports}
+use Rattle.wit_first.specs.First.{FindsBy, Reports}
 use Rattle.wit_walk.specs.Orders.{AreOutcomes, Outcome}
 use Rattle.wit_walk.specs.Walk.{ComesTo, IsFaultless, IsFirst, Known, header_fault}
+use Rattle.wit_walk.proofs.Broken.{broken}
+use Rattle.wit_walk.proofs.Legal.{legal}
 use Rattle.wit_walk.proofs.Outcomes.{outcome_of}
 use Rattle.wit_walk.proofs.ScopesLegal.{steps_more}
 use Rattle.wit_walk.proofs.Steps.{enough as enough_steps}
@@ -94,3 +97,12 @@ module _ (files : List PackageFile) where
       | inl memory ↦ inl memory
       | inr other ↦ inr (comes (Some (fault_of e)) (λ steps le. elim (h (at steps) (right steps le)) [ inl memory ↦ absurd (other memory) | inr is ↦ is ]))
     ]
+
+-- a call that finds the first fault returns Ok where no rule is broken, and else an error that says a broken one
+pub found_legal : {T : Type 0} (files : List PackageFile) (r : Result T ParseError) → FindsBy (ComesTo files) r → OnOk r (IsLegal files)
+found_legal files (Ok x) found = legal files found
+found_legal files (Err e) found = tt
+
+pub found_broken : {T : Type 0} (files : List PackageFile) (r : Result T ParseError) → FindsBy (ComesTo files) r → IfErr r (Refused (IsBroken files))
+found_broken files (Ok x) found = tt
+found_broken files (Err e) found = elim found [ inl memory ↦ inl memory | inr first ↦ inr (broken files (fault_of e) first) ]

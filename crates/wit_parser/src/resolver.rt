@@ -110,7 +110,6 @@ fn resolve_named(
     requires header { last_header files.now ≡ Some header.now }
     ensures made { IfOk result (IsMadeOf files.now) }
     ensures first { FindsBy (ComesTo files.now) result }
-    ensures refused { IfErr result (Refused (IsBroken files.now)) }
 {
     let made = resolve_contents(alloc, files)?;
     let (contents, heading) = pair_with(made, package_heading(alloc, header, files))?;
@@ -156,7 +155,6 @@ impl<'a> Resolver<'a> {
     fn resolve_pushed(&self, alloc: Global) -> ParseResult<UnresolvedPackage>
         ensures made { IfOk result (IsMadeOf self.now.files.items) }
         ensures first { FindsBy (ComesTo self.now.files.items) result }
-        ensures refused { IfErr result (Refused (IsBroken self.now.files.items)) }
     {
         let header = match self.last_header() {
             Some(header) => header,

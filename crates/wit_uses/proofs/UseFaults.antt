@@ -1,24 +1,21 @@
--- The first fault of used names: one name more, and what it breaks.
+-- The first fault of used names: one name more.
 use Rattle.std.proofs.Common.{◌≡◌, ℕ, Bool, true, false, ◌||◌, List, [], ◌∷◌, map, Option, Some, None, nat_eq, inl, inr, refl, sym, ap, ◌∙◌, Contains}
 use Rattle.std.specs.Prelude.{if◌then◌else◌, is_some, slice_get}
 use Rattle.std.specs.Cmp.Lexicographic.{pointwise}
 use Rattle.std.specs.List.{list_any}
 use Rattle.std.specs.Option.{option_and_then, option_map_or, option_or}
 use Rattle.std.specs.Str.{bytes_eq}
-use Rattle.std.proofs.lemmas.Bool.{cases_Bool, false_from_ne_true}
+use Rattle.std.proofs.lemmas.Bool.{false_from_ne_true}
 use Rattle.wit_type_tree.specs.declared.leaves.Id.{Id}
-use Rattle.wit_tree.specs.declared.tree.UseName.{UseName}
 use Rattle.wit_model.specs.declared.interface.Interface.{Interface}
-use Rattle.wit_syntax.specs.Address.{Address}
-use Rattle.wit_syntax.specs.Fault.{Fault, fault, missing_at, item_word, name_word}
+use Rattle.wit_syntax.specs.Fault.{Fault, fault, missing_at, name_word}
 use Rattle.wit_syntax.specs.ScopeTables.{local_names}
 use Rattle.wit_syntax.specs.Source.{local_id, local_name}
 use Rattle.wit_syntax.proofs.Found.{at_contains, contains_at}
 use Rattle.wit_syntax.proofs.Names.{name_cases, name_equal, name_itself}
-use Rattle.wit_first.proofs.Bridge.{any_found, or_some}
+use Rattle.wit_first.proofs.Bridge.{any_found}
 use Rattle.wit_first.proofs.First.{any_some}
-use Rattle.wit_arena.specs.Resolving.{Names, ResolvedScope, env_of, free_functions, names_in, resolved_scope_at, IsFound, IsWrongName, Unresolved, Unstated, OfFunction, IsWrongUse, Wrong, ForeignName}
-use Rattle.wit_entries.specs.EntryFaults.{unless_found}
+use Rattle.wit_arena.specs.Resolving.{Names, env_of, names_in, resolved_scope_at, IsFound}
 use Rattle.wit_scopes.specs.BorrowedNames.{source_view, use_view, IsPlaced}
 use Rattle.wit_scopes.specs.declared.scope_name.UsedName.{UsedName}
 use Rattle.wit_scopes.specs.declared.scope_name.Source.{Source as BorrowedSource}
@@ -75,40 +72,6 @@ local_next is names before u listed =
     let one : list_any (λ (v : UsedName). bytes_eq (local_name (use_view v)) name) before ≡ is_some (env_of names name) = any_names before name ∙ ap (list_any (λ (k : List ℕ). bytes_eq k name)) (sym listed) ∙ any_in names name in
     ap (λ (b : Bool). option_or (used_fault is u) (if b then Some (fault 14 id.span) else None)) one
 
--- what the first fault of a used name breaks
-some_is : (f g : Fault) → Some g ≡ Some f → f ≡ g
-some_is f g h = cc
-
-source_wrong : (cs : List ResolvedScope) (by_name : Names) (from : BorrowedSource) (n : UseName) (f : Fault) → source_fault by_name from ≡ Some f → IsWrongName cs by_name (source_view from) n f
-source_wrong cs by_name (borrowed_source.Declared path) n f h = by (env_of by_name path.name.now) refl h
-  where
-    by : (o : Option ℕ) → env_of by_name path.name.now ≡ o → unless_found (missing_at 7 item_word path) o ≡ Some f → IsWrongName cs by_name (source_view (borrowed_source.Declared path)) n f
-    by None free is = Unresolved path refl (free, some_is f (missing_at 7 item_word path) is)
-    by (Some t) present is = absurd (let g : ⊥ = cc in g)
-source_wrong cs by_name (borrowed_source.Foreign place of name) n f h = absurd (let g : ⊥ = cc in g)
-
-asked_wrong : (cs : List ResolvedScope) (by_name : Names) (from : Address) (n : UseName) (i : Interface) (f : Fault) → IsFound cs from (resolved_scope_at from i) → asked_fault n.name i ≡ Some f → IsWrongName cs by_name from n f
-asked_wrong cs by_name from n i f found h = by (env_of i.types n.name.name.now) refl h
-  where
-    fns : List (List ℕ)
-    fns = free_functions i
-
-    by : (o : Option ℕ) → env_of i.types n.name.name.now ≡ o → unless_found (lost_name fns n.name) o ≡ Some f → IsWrongName cs by_name from n f
-    by (Some t) present is = absurd (let g : ⊥ = cc in g)
-    by None free is = elim (cases_Bool (list_any (bytes_eq n.name.name.now) fns)) [
-      | inl hit ↦ (
-          let it = any_found (bytes_eq n.name.name.now) fns hit in
-          let among = contains_at fns it.0 n.name.name.now (it.2 ∙ ap Some (sym (name_equal n.name.name.now it.1 it.3))) in
-          OfFunction (resolved_scope_at from i) found free among (some_is f (lost_name fns n.name) is ∙ of_function fns n.name among))
-      | inr miss ↦ (
-          let other : Contains fns n.name.name.now → ⊥ = λ among. (
-          let it = at_contains fns n.name.name.now among in
-          let wrong : false ≡ true = sym miss ∙ any_some (bytes_eq n.name.name.now) fns it.0 n.name.name.now it.1 (name_itself n.name.name.now) in
-          let g : ⊥ = cc in
-          g) in
-          Unstated (resolved_scope_at from i) found free other (some_is f (lost_name fns n.name) is ∙ of_nothing fns n.name other))
-    ]
-
 -- an interface that is resolved is found
 pub found_of : (is : Interfaces) (from : BorrowedSource) (i : Interface) → IsPlaced (prefix_of is.files) from → interface_of is from ≡ Some i → IsFound (resolved_scopes_of is) (source_view from) (resolved_scope_at (source_view from) i)
 found_of is (borrowed_source.Declared path) i placed at = by (env_of is.by_name path.name.now) refl at
@@ -117,23 +80,3 @@ found_of is (borrowed_source.Declared path) i placed at = by (env_of is.by_name 
     by None free h = absurd (let g : ⊥ = cc in g)
     by (Some t) present h = named_found (prefix_of is.files) is.arena is.by_name path.name.now t i is.found present h
 found_of is (borrowed_source.Foreign place of name) i placed at = prefix_found (prefix_of is.files) is.arena place _ i placed at
-
-by_interface : (is : Interfaces) (u : UsedName) (f : Fault) (o : Option Interface) → IsPlaced (prefix_of is.files) u.from → interface_of is u.from ≡ o → option_map_or (asked_fault u.name.now.name) o None ≡ Some f → IsWrongName (resolved_scopes_of is) is.by_name (source_view u.from) u.name.now f
-by_interface is u f None placed at h = absurd (let g : ⊥ = cc in g)
-by_interface is u f (Some i) placed at h = asked_wrong (resolved_scopes_of is) is.by_name (source_view u.from) u.name.now i f (found_of is u.from i placed at) h
-
-spelled_wrong : (b : Bool) (f g : Fault) → (if b then Some g else None) ≡ Some f → (b ≡ true) × (f ≡ g)
-spelled_wrong true f g h = (refl, some_is f g h)
-spelled_wrong false f g h = absurd (let e : ⊥ = cc in e)
-
-pub use_wrong : (is : Interfaces) (names : Names) (u : UsedName) (f : Fault) → IsPlaced (prefix_of is.files) u.from → option_or (used_fault is u) (spelled_fault names (local_id (use_view u))) ≡ Some f → IsWrongUse (resolved_scopes_of is) is.by_name names (source_view u.from) u.attributes.now u.name.now f
-use_wrong is names u f placed h =
-    let id = local_id (use_view u) in
-    let asked = option_map_or (asked_fault u.name.now.name) (interface_of is u.from) None in
-    elim (or_some (used_fault is u) (spelled_fault names id) f h) [
-      | inl own ↦ elim (or_some (source_fault is.by_name u.from) asked f own) [
-        | inl source ↦ Wrong (source_wrong (resolved_scopes_of is) is.by_name u.from u.name.now f source)
-        | inr far ↦ Wrong (by_interface is u f (interface_of is u.from) placed refl far.1)
-      ]
-      | inr twice ↦ (let it = spelled_wrong (is_some (env_of names id.name.now)) f (fault 14 id.span) twice.1 in ForeignName it.0 it.1)
-    ]

@@ -1,11 +1,9 @@
--- What the names that a scope uses add to it, over the interfaces that are resolved, and a scope that is wrong by one.
+-- What the names that a scope uses add to it, over the interfaces that are resolved.
 use Rattle.std.specs.Prelude.{List}
 use Rattle.wit_types.specs.declared.types.TypeDef.{TypeDef}
 use Rattle.wit_syntax.specs.Address.{Address}
-use Rattle.wit_syntax.specs.Fault.{Fault}
-use Rattle.wit_syntax.specs.Function.{SourceFunction}
 use Rattle.wit_syntax.specs.Source.{ScopeName}
-use Rattle.wit_arena.specs.Resolving.{Defines, IsUsed, IsWrongScope}
+use Rattle.wit_arena.specs.Resolving.{Defines, IsUsed}
 use Rattle.wit_entries.specs.declared.scope.Scope.{Scope}
 use Rattle.wit_scopes.specs.BorrowedNames.{source_view}
 use Rattle.wit_scopes.specs.declared.scope_name.UsedName.{UsedName}
@@ -19,7 +17,3 @@ AddsUsed is a b old new u = IsUsed old new (resolved_scopes_of is) a.owner a.nam
 -- used names were added to a scope
 abbrev pub AddsAllUsed : Interfaces → Scope → Scope → List TypeDef → List TypeDef → List ScopeName → Type 0
 AddsAllUsed is a b old new xs = (s : Address) → Defines old new (resolved_scopes_of is) a.owner s a.names b.names xs
-
--- a scope of these names is wrong, whatever its functions are
-abbrev pub HasWrongUse : Interfaces → List ScopeName → Fault → Type 0
-HasWrongUse is xs = λ f. (fns : List SourceFunction) → IsWrongScope (resolved_scopes_of is) is.by_name xs fns f

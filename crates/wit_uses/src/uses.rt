@@ -1,10 +1,9 @@
 //! Names that a scope uses from interfaces.
-ghost use Rattle.std.specs.Prelude.{◌≡◌, ◌↔◌, [], ◌++◌, List, Contains, Some, map, OnOk, IfOk, IfErr, IsTrue, codes, string_bytes};
+ghost use Rattle.std.specs.Prelude.{◌≡◌, ◌↔◌, [], ◌++◌, Contains, Some, map, OnOk, IfOk, IsTrue, codes, string_bytes};
 ghost use Rattle.std.specs.List.{flat_map};
 ghost use Rattle.std.specs.Option.{option_copied, option_or, option_to_list};
-ghost use Rattle.wit_syntax.specs.Source.{ScopeName, local_id};
+ghost use Rattle.wit_syntax.specs.Source.{local_id};
 ghost use Rattle.wit_syntax.specs.ScopeTables.{used, local_names};
-ghost use Rattle.wit_syntax.specs.Broken.{Refused};
 ghost use Rattle.wit_first.specs.First.{Finds, Reports};
 ghost use Rattle.wit_arena.specs.SourceFunctions.{freestanding_names};
 ghost use Rattle.wit_entries.specs.Requiring.{IsExtended};
@@ -13,7 +12,7 @@ ghost use Rattle.wit_item_names.specs.ForeignAddresses.{prefix_of};
 ghost use Rattle.wit_items.specs.ResolvedInterfaces.{resolved_scopes_of};
 ghost use Rattle.wit_arena.specs.Resolving.{resolved_scope_at, env_of, free_functions, HasNames, IsFound, names_in};
 ghost use Rattle.wit_uses.specs.UseFaults.{interface_of, local_faults, lost_name, source_fault, spelled_fault, used_fault};
-ghost use Rattle.wit_uses.specs.Uses.{AddsAllUsed, AddsUsed, HasWrongUse};
+ghost use Rattle.wit_uses.specs.Uses.{AddsAllUsed, AddsUsed};
 
 use std::alloc::{AllocError, Global};
 use wit_entries::entries::Entries;
@@ -159,7 +158,6 @@ pub fn resolve_uses<'f, 'a>(
     ensures has { OnOk result (HasNames (env_of scope.new.names) (map use_view uses.now)) }
     ensures extended { OnOk result (IsExtended types.old types.new) }
     ensures first { Finds (local_faults interfaces.now uses.now) result }
-    ensures refused { IfErr result (λ e. (xs : List ScopeName) → map use_view uses.now ≡ used xs → Refused (HasWrongUse interfaces.now xs) e) }
 {
     for name in uses {
         resolve_use(alloc, name, types, interfaces, scope)?;

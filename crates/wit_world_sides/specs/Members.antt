@@ -1,23 +1,23 @@
 -- What is on the sides of a world so far, with the names and the interfaces there, and one more of it.
-use Rattle.std.specs.Prelude.{◌≡◌, ◌⊎◌, ◌++◌, ℕ, List, [], ◌∷◌, Option, None, map, if◌then◌else◌}
+use Rattle.std.specs.Prelude.{◌≡◌, ◌++◌, ℕ, List, [], ◌∷◌, Option, map, if◌then◌else◌}
 use Rattle.std.specs.List.{flat_map}
 use Rattle.std.specs.Option.{option_map_or}
 use Rattle.wit_type_tree.specs.declared.leaves.Id.{Id}
+use Rattle.wit_tree.specs.declared.tree.Extern.{Extern}
+use Rattle.wit_tree.specs.declared.tree.InterfaceItem.{InterfaceItem}
 use Rattle.wit_tree.specs.declared.tree.WorldSide.{WorldSide}
 use Rattle.wit_model.specs.declared.world.WorldKey.{WorldKey}
 use Rattle.wit_model.specs.declared.world.WorldKey.TheVariants as key
 use Rattle.wit_model.specs.declared.world.WorldItem.{WorldItem}
 use Rattle.wit_syntax.specs.ExternPart.{same_side}
-use Rattle.wit_syntax.specs.Fault.{Fault}
 use Rattle.wit_syntax.specs.Repeats.{AllDiffer}
-use Rattle.wit_syntax.specs.Sides.{IsExternPart, Link, SideItem, SideLink, extern_link, item_side, items_on}
-use Rattle.wit_syntax.specs.Source.{path_id}
-use Rattle.wit_arena.specs.SideItems.{put_on}
+use Rattle.wit_syntax.specs.Sides.{Link, SideInline, SideItem, extern_link, item_side, items_on}
+use Rattle.wit_arena.specs.SideItems.{inline_entry, put_on}
 use Rattle.wit_refusals.specs.NameScopes.{Name}
 use Rattle.wit_sides.specs.SideNames.{defined_on}
 use Rattle.wit_signatures.specs.ForeignName.{name_key, name_of_id}
-use Rattle.wit_externs.specs.Clash.{IsClashAfter, item_names, names_of_items}
-use Rattle.wit_externs.specs.Next.{IsLinked, linked_on}
+use Rattle.wit_externs.specs.Clash.{item_names, names_of_items}
+use Rattle.wit_externs.specs.Next.{linked_on}
 use Rattle.wit_world_sides.specs.Settled.{AreCalled}
 use Rattle.wit_world_sides.specs.FilledSides.{entries_of}
 use Rattle.wit_world_sides.specs.declared.members.Members.{Members}
@@ -62,9 +62,13 @@ pub record Puts (m m' : Members) (x : SideItem) (ids : List ℕ) (e : Entry) : T
   pub put : (s : WorldSide) → entries_of s m'.sides ≡ entries_of s m.sides ++ put_on s (item_side x) e []
   pub keyed : AreKeyed m'
 
--- it is an interface on a side under this name
+-- it is on this side, under this name
 abbrev pub IsNamedOn : WorldSide → Id → SideItem → Type 0
-IsNamedOn side name x = (item_side x ≡ side) × (item_names x ≡ name_of_id name ∷ []) × IsExternPart x
+IsNamedOn side name x = (item_side x ≡ side) × (item_names x ≡ name_of_id name ∷ [])
+
+-- an inline interface was put on its side, under its name
+abbrev pub PutsInline : Members → Members → Extern → Id → ℕ → Type 0
+PutsInline m m' x name id = (items : List InterfaceItem) → Puts m m' (SideInline x name items) [] (inline_entry x name id)
 
 -- the interface that is imported or exported by its path
 abbrev pub path_link : PathExtern → Link
@@ -73,7 +77,3 @@ path_link p = extern_link p.written.now p.name p.path.now
 -- the place of an interface that has no name of its own
 abbrev pub bare_id : Option Id → ℕ → List ℕ
 bare_id name id = option_map_or (λ own. []) name (id ∷ [])
-
--- an interface cannot be put on its side: its name clashes, or it is there already without one
-abbrev pub IsWrongPut : Members → Link → ℕ → Fault → Type 0
-IsWrongPut m link id f = IsClashAfter m.in_use (SideLink link ∷ []) f ⊎ ((link.name ≡ None) × IsLinked (linked_on link.side m.links) id (path_id link.path).span f)

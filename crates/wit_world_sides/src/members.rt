@@ -1,28 +1,27 @@
 //! What is on the sides of a world, one after another: its name is defined, or the interface that it is,
 //! and then it is put there.
-ghost use Rattle.std.specs.Prelude.{◌≡◌, ◌++◌, ◌∷◌, [], true, List, None, IfErr, IfOk, IsTrue, OnOk, map, string_bytes};
+ghost use Rattle.std.specs.Prelude.{◌≡◌, ◌++◌, ◌∷◌, [], true, List, None, IfOk, IsTrue, OnOk, map, string_bytes};
 ghost use Rattle.wit_names.specs.Mangled.{is_mangled};
 ghost use Rattle.wit_tree.specs.declared.tree.InterfaceItem.{InterfaceItem as TheItem};
 ghost use Rattle.wit_tree.specs.declared.tree.WorldSide.{WorldSide as TheSide};
 ghost use Rattle.wit_model.specs.ItemsOfWorlds.{function_of};
 ghost use Rattle.wit_model.specs.declared.world.WorldKey.TheVariants.{Name};
-ghost use Rattle.wit_syntax.specs.Broken.{Refused};
 ghost use Rattle.wit_syntax.specs.Repeats.{AllDiffer};
 ghost use Rattle.wit_syntax.specs.Sides.{SideFunction, SideInline, SideItem, SideLink, names_on};
 ghost use Rattle.wit_syntax.specs.Source.{ScopeName, local_id};
 ghost use Rattle.wit_first.specs.First.{Finds};
 ghost use Rattle.wit_arena.specs.SourceFunctions.{function_item};
 ghost use Rattle.wit_arena.specs.Resolving.{names_in};
-ghost use Rattle.wit_arena.specs.SideItems.{inline_entry, link_item};
+ghost use Rattle.wit_arena.specs.SideItems.{link_item};
 ghost use Rattle.wit_arena.specs.Whole.{type_imports as the_imports};
 ghost use Rattle.wit_refusals.specs.NameScopes.{AreUsed};
 ghost use Rattle.wit_rules.specs.BorrowedFunctions.{function_view};
 ghost use Rattle.wit_sides.specs.SideNames.{only_on, defined_on};
-ghost use Rattle.wit_signatures.specs.ForeignName.{IsTwiceAmong, name_of_function, name_of_id, name_of_made};
+ghost use Rattle.wit_signatures.specs.ForeignName.{name_of_function, name_of_id, name_of_made};
 ghost use Rattle.wit_externs.specs.AloneFaults.{defined_fault};
-ghost use Rattle.wit_externs.specs.Clash.{DefinesNames, IsClashAfter, IsNoNewName, StayApart};
+ghost use Rattle.wit_externs.specs.Clash.{DefinesNames, StayApart};
 ghost use Rattle.wit_externs.specs.Next.{linked_on};
-ghost use Rattle.wit_world_sides.specs.Members.{AreKeyed, IsNamedOn, IsWrongPut, Puts, bare_id, path_link};
+ghost use Rattle.wit_world_sides.specs.Members.{AreKeyed, IsNamedOn, Puts, PutsInline, bare_id, path_link};
 ghost use Rattle.wit_world_sides.specs.PutFaults.{clash_fault, named_fault, put_fault, put_link_fault};
 ghost use Rattle.wit_world_sides.specs.Words.{conflict, side_word};
 
@@ -120,7 +119,6 @@ fn define_extern_part(
     ensures defined { OnOk result ((s : TheSide) → defined_on s in_use.new ≡ defined_on s in_use.old ++ only_on s side (name.now, span)) }
     ensures free { OnOk result (AreUsed (defined_on side in_use.old) name.now → ⊥) }
     ensures first { Finds (named_fault true (defined_on side in_use.old) (name.now, span)) result }
-    ensures refused { IfErr result (Refused (IsNoNewName (defined_on side in_use.old) name.now span)) }
 {
     match in_use.define(side, name, span) {
         Ok(()) => Ok(()),
@@ -150,7 +148,6 @@ fn define_function(
     ensures defined { OnOk result (DefinesNames in_use.old in_use.new (SideFunction (function_view borrowed.entry) ∷ [])) }
     ensures differ { OnOk result (StayApart in_use.old in_use.new) }
     ensures first { Finds (clash_fault in_use.old (SideFunction (function_view borrowed.entry))) result }
-    ensures refused { IfErr result (Refused (IsClashAfter in_use.old (SideFunction (function_view borrowed.entry) ∷ []))) }
 {
     let name = function.name.as_str();
     match borrowed.across() {
@@ -173,7 +170,6 @@ pub fn put_function(
     requires borrowed { name_of_made function ≡ name_of_function (function_view borrowed) }
     ensures puts { OnOk result (Puts members.old members.new (SideFunction (function_view borrowed.entry)) [] (function_item function)) }
     ensures first { Finds (put_fault members.old (SideFunction (function_view borrowed.entry))) result }
-    ensures refused { IfErr result (Refused (IsClashAfter members.old.in_use (SideFunction (function_view borrowed.entry) ∷ []))) }
 {
     define_function(&mut members.in_use, &members.sides, borrowed, &function)?;
     add_function(&mut members.sides, borrowed.side(), function)?;
@@ -195,7 +191,6 @@ fn put_named(
     requires interface { function_of item ≡ None }
     ensures puts { OnOk result ((x : SideItem) → IsNamedOn side name.entry x → Puts members.old members.new x [] (Name name.entry.name.now, item)) }
     ensures first { Finds (named_fault true (defined_on side members.old.in_use) (name_of_id name.entry)) result }
-    ensures refused { IfErr result (λ e. (x : SideItem) → IsNamedOn side name.entry x → Refused (IsClashAfter members.old.in_use (x ∷ [])) e) }
 {
     define_extern_part(
         &mut members.in_use,
@@ -223,7 +218,6 @@ fn put_bare(
     requires interface { item ≡ (link_item (path_link link) id).1 }
     ensures puts { OnOk result (Puts members.old members.new (SideLink (path_link link.entry)) (bare_id link.entry.name id) (link_item (path_link link.entry) id)) }
     ensures first { Finds (put_link_fault members.old (path_link link.entry) id) result }
-    ensures refused { IfErr result (Refused (IsWrongPut members.old (path_link link.entry) id)) }
 {
     let side = link.written.side;
     let path = path_id(link.path);
@@ -246,7 +240,6 @@ pub fn put_link(
     requires { AreKeyed members.old }
     ensures puts { OnOk result (Puts members.old members.new (SideLink (path_link link.entry)) (bare_id link.entry.name id) (link_item (path_link link.entry) id)) }
     ensures first { Finds (put_link_fault members.old (path_link link.entry) id) result }
-    ensures refused { IfErr result (Refused (IsWrongPut members.old (path_link link.entry) id)) }
 {
     let item = path_item(alloc, link, id)?;
     match link.name {
@@ -266,9 +259,8 @@ pub fn put_inline(
     id: InterfaceId,
 ) -> ParseResult<()>
     requires { AreKeyed members.old }
-    ensures puts { OnOk result ((items : List TheItem) → Puts members.old members.new (SideInline written.now name.entry items) [] (inline_entry written.now name.entry id)) }
+    ensures puts { OnOk result (PutsInline members.old members.new written.now name.entry id) }
     ensures first { (items : List TheItem) → Finds (put_fault members.old (SideInline written.now name.entry items)) result }
-    ensures refused { IfErr result (λ e. (items : List TheItem) → Refused (IsClashAfter members.old.in_use (SideInline written.now name.entry items ∷ [])) e) }
 {
     let item = inline_item(alloc, written, name, id)?;
     put_named(alloc, members, written.side, name, item)
@@ -293,7 +285,6 @@ pub fn named_members(
     ensures exports { IfOk result (λ m. m.sides.exports ≡ []) }
     ensures keyed { IfOk result AreKeyed }
     ensures first { Finds (defined_fault [] (map name_of_id turn.now)) result }
-    ensures refused { IfErr result (Refused (IsTwiceAmong (map name_of_id turn.now))) }
 {
     let mut in_use = Sides::new(alloc);
     define_names(&mut in_use, turn)?;

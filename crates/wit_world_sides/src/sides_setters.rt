@@ -1,18 +1,13 @@
 //! Setters of a world that includes nothing: each has its getter on its side, and comes after it.
-ghost use Rattle.std.specs.Prelude.{◌≡◌, true, List, IfErr, IfOk, OnOk, length, map};
+ghost use Rattle.std.specs.Prelude.{◌≡◌, List, IfOk, length, map};
 ghost use Rattle.wit_tree.specs.declared.tree.Include.{Include};
 ghost use Rattle.wit_tree.specs.declared.tree.WorldSide.{WorldSide as TheSide};
-ghost use Rattle.wit_syntax.specs.Broken.{Refused};
-ghost use Rattle.wit_syntax.specs.Fault.{Fault};
 ghost use Rattle.wit_syntax.specs.Repeats.{AllDiffer};
-ghost use Rattle.wit_syntax.specs.Sides.{on_side};
-ghost use Rattle.wit_syntax.specs.SignatureRules.{IsUnpairedSetter};
 ghost use Rattle.wit_first.specs.First.{Finds};
-ghost use Rattle.wit_arena.specs.SideItems.{settled as settled_side};
 ghost use Rattle.wit_rules.specs.BorrowedFunctions.{function_view};
 ghost use Rattle.wit_externs.specs.Clash.{AreNamesWith};
 ghost use Rattle.wit_world_sides.specs.Settled.{none_of, AreCalled};
-ghost use Rattle.wit_world_sides.specs.FilledSides.{entries_of};
+ghost use Rattle.wit_world_sides.specs.FilledSides.{AreSettled, entries_of};
 ghost use Rattle.wit_world_sides.specs.PutFaults.{closed_fault};
 
 use crate::sides::WorldSides;
@@ -43,8 +38,6 @@ pub fn check_closed(
 ) -> ParseResult<()>
     requires { AreNamesWith in_use.now names.now (map function_view functions.now) }
     ensures first { Finds (closed_fault closed (map function_view functions.now)) result }
-    ensures paired { OnOk result (closed ≡ true → (s : TheSide) (f : Fault) → IsUnpairedSetter (on_side s (map function_view functions.now)) f → ⊥) }
-    ensures refused { IfErr result (Refused (λ f. (closed ≡ true) × ((s : TheSide) × IsUnpairedSetter (on_side s (map function_view functions.now)) f))) }
 {
     if closed {
         check_sides(functions, in_use, names)?;
@@ -56,7 +49,7 @@ pub fn check_closed(
 pub fn settle(alloc: Global, sides: WorldSides, closed: bool) -> Result<WorldSides, AllocError>
     requires differ { (s : TheSide) → AllDiffer (map (λ e. e.0) (entries_of s sides)) }
     requires called { (s : TheSide) → AreCalled (entries_of s sides) }
-    ensures { IfOk result (λ settled. (s : TheSide) (is : List Include) → closed ≡ none_of is → entries_of s settled ≡ settled_side is (entries_of s sides)) }
+    ensures { IfOk result (AreSettled closed sides) }
 {
     if !closed {
         return Ok(sides);

@@ -1,21 +1,16 @@
-use Rattle.std.proofs.Common.{◌≡◌, List, ◌++◌, length, map, inl, inr, refl, sym, ap, ◌∙◌, subst, []}
-use Rattle.std.specs.List.{flat_map}
+use Rattle.std.proofs.Common.{◌≡◌, List, ◌++◌, length, map, inl, refl, sym, ap, ◌∙◌, subst, []}
 use Rattle.std.proofs.lemmas.Result.{err_from_is_err_and}
 use Rattle.wit_syntax.specs.Address.{Address}
 use Rattle.wit_syntax.specs.Source.{Item, all_items}
 use Rattle.wit_syntax.specs.ScopeTables.{in_order, interfaces_of, worlds_of}
-use Rattle.wit_syntax.specs.Broken.{IsBroken}
-use Rattle.wit_syntax.specs.Sides.{with_inline}
-use Rattle.wit_arena.specs.Resolving.{Required, resolved_scopes, IsIndex}
-use Rattle.wit_arena.specs.ResolvedArenas.{WorldArenas, prefix_worlds, AddsInterfaces, AddsWorlds, AreLegalSides, AreSoundScopes, AreUsableLinks, HaveLegalStability, IsWrongNow, IsWrongWorldNow}
-use Rattle.wit_syntax.proofs.Refusing.{refused_weaker}
+use Rattle.wit_arena.specs.Resolving.{Required}
+use Rattle.wit_arena.specs.ResolvedArenas.{WorldArenas, prefix_worlds, AddsInterfaces, AddsWorlds}
 use Rattle.wit_first.specs.First.{first_in}
 use Rattle.wit_first.proofs.First.{reports_same}
 use Rattle.wit_walk.specs.Walk.{contents_fault}
 use Rattle.wit_arena.proofs.LegalScopes.{distinct_items}
-use Rattle.wit_arena.proofs.LegalIfDone.{broken_now, broken_world_now}
 use Rattle.wit_items.specs.BorrowedItems.{item_view, others_of}
-use Rattle.wit_items.proofs.Usable.{uses_broken, uses_sound}
+use Rattle.wit_items.proofs.Usable.{uses_sound}
 use Rattle.wit_items.specs.Found.{interface_name}
 use Rattle.wit_items.proofs.Found.{found_none}
 use Rattle.wit_items.proofs.Gathered.{items_of}
@@ -25,19 +20,12 @@ use Rattle.wit_uses.specs.NewRequirements.{Appends}
 use Rattle.wit_contents.specs.Outer.{AreOuter}
 use Rattle.wit_contents.proofs.Outer.{all_outer}
 use Rattle.wit_contents.specs.AddedWorlds.{arenas}
-use Rattle.wit_uses.proofs.Telling.{stability_both}
 use Rattle.wit_contents.proofs.FileFaults.{interfaces_reported, none_after, uses_reported, worlds_reported}
 use Rattle.wit_contents.proofs.RightInterfaces.{interfaces_right}
 use Rattle.wit_contents.proofs.RightWorlds.{worlds_right}
-use Rattle.wit_contents.proofs.Files.{sided_both, sound_both, uses_usable, borrowed_within}
+use Rattle.wit_contents.proofs.Files.{uses_usable, borrowed_within}
 use Rattle.wit_contents.proofs.Fronting.{prefix_started, prefix_used, lent_enough, lent_index, worlds_enough, worlds_index}
 use Rattle.wit_contents.proofs.contents.resolve_files.Goals as goal
-
-pub returns-in_err-items-clause-refused : goal.returns-in_err-items-clause-refused
-returns-in_err-items-clause-refused c =
-    let p = err_from_is_err_and c.from_residual-in_err-items.result c.from_residual-in_err-items.ensures.1 in
-    let files = c.args.names.now in
-    rw (p.1, p.2) (elim c.in_err-items.ensures.first [ inl memory ↦ inl memory | inr is ↦ inr (uses_broken files _ is) ])
 
 pub take_all-requires : goal.take_all-requires
 take_all-requires c =
@@ -107,40 +95,6 @@ resolve_worlds-requires-clause-index c =
     let kept : c.resolve_interfaces.new.interfaces.files ≡ c.args.names.now = c.in_ok-resolve_interfaces.ensures.files ∙ c.of-named.ensures in
     rw kept (worlds_index files types a prefix [] refl)
 
-pub returns-in_err-resolve_interfaces-clause-refused : goal.returns-in_err-resolve_interfaces-clause-refused
-returns-in_err-resolve_interfaces-clause-refused c =
-    let p = err_from_is_err_and c.from_residual-in_err-resolve_interfaces.result c.from_residual-in_err-resolve_interfaces.ensures.1 in
-    let files = c.args.names.now in
-    let e = c.in_ok-items.ensures in
-    let types = c.take_all.new.types in
-    let a = c.take_all.new.self in
-    let prefix : IsPrefix files types a = prefix_used files c.foreign.result.now c.args.types.now c.in_ok-prefix.prefix c.in_ok-items.items.items c.deref_mut-lent.result.now c.foreign.ensures c.requires.empty c.in_ok-prefix.ensures.bare c.deref_mut-lent.ensures.value e.placed types a e.names e.inside c.in_ok-take_all.ensures.in_use in
-    let items = c.deref_mut-lent.result.now in
-    let places = c.item_order-order.result.now in
-    let all : map item_view items ≡ all_items files = ap (map item_view) c.deref_mut-lent.ensures.value ∙ e.items in
-    let order = c.item_order-order.ensures in
-    let differ = distinct_items files c.requires.legal in
-    rw (p.1, p.2) (refused_weaker (IsWrongNow (prefix_of files) types a.interfaces (all_items files) places) (IsBroken files) _ (λ f h. broken_now files places order differ (uses_usable files (uses_sound files e.first)) types a.interfaces a.worlds prefix.adds f h) (rw (c.of-named.ensures, all) at c.in_err-resolve_interfaces.ensures.refused))
-
-pub returns-in_err-made-clause-refused : goal.returns-in_err-made-clause-refused
-returns-in_err-made-clause-refused c =
-    let p = err_from_is_err_and c.from_residual-in_err-made.result c.from_residual-in_err-made.ensures.1 in
-    let files = c.args.names.now in
-    let e = c.in_ok-items.ensures in
-    let types = c.take_all.new.types in
-    let a = c.take_all.new.self in
-    let prefix : IsPrefix files types a = prefix_used files c.foreign.result.now c.args.types.now c.in_ok-prefix.prefix c.in_ok-items.items.items c.deref_mut-lent.result.now c.foreign.ensures c.requires.empty c.in_ok-prefix.ensures.bare c.deref_mut-lent.ensures.value e.placed types a e.names e.inside c.in_ok-take_all.ensures.in_use in
-    let kept : c.resolve_interfaces.new.interfaces.files ≡ c.args.names.now = c.in_ok-resolve_interfaces.ensures.files ∙ c.of-named.ensures in
-    let places = c.item_order-order.result.now in
-    let now = c.resolve_interfaces.new.interfaces in
-    let middle = c.resolve_interfaces.new.types in
-    let all : map item_view c.deref_mut-lent.result.now ≡ all_items files = ap (map item_view) c.deref_mut-lent.ensures.value ∙ e.items in
-    let irs = c.resolve_interfaces.new.required.items in
-    let from : Appends c.new-required.result.items irs (λ rs. AddsInterfaces (prefix_of files) types middle a.interfaces now.arena rs (interfaces_of (in_order (all_items files) places))) = rw (c.of-named.ensures, all) at c.in_ok-resolve_interfaces.ensures.added in
-    let index : IsIndex (resolved_scopes (prefix_of files) now.arena) now.by_name = rw kept at c.in_ok-resolve_interfaces.ensures.index in
-    let differ = distinct_items files c.requires.legal in
-    rw (p.1, p.2) (refused_weaker (IsWrongWorldNow files (prefix_of files) (others_of files) middle now.arena now.by_name a.worlds (all_items files) places) (IsBroken files) _ (λ f h. broken_world_now files places c.item_order-order.ensures differ (uses_usable files (uses_sound files e.first)) types a.interfaces a.worlds prefix.adds middle now.arena from.own from.holds now.by_name index f h) (rw (kept, all) at c.in_err-made.ensures.refused))
-
 pub returns-clause-added : goal.returns-clause-added
 returns-clause-added c =
     let files = c.args.names.now in
@@ -158,13 +112,6 @@ returns-clause-added c =
     let ws = c.in_ok-made.ensures in
     let new = c.resolve_worlds.new in
     let made = c.in_ok-made.made in
-    let sound : AreSoundScopes (interfaces_of (in_order (all_items files) places)) = rw all at c.in_ok-resolve_interfaces.ensures.sound in
-    let sound' : AreSoundScopes (flat_map with_inline (worlds_of (in_order (all_items files) places))) = rw all at ws.sound in
-    let sided : AreLegalSides (interfaces_of (in_order (all_items files) places)) = rw all at c.in_ok-resolve_interfaces.ensures.sided in
-    let sided' : AreLegalSides (flat_map with_inline (worlds_of (in_order (all_items files) places))) = rw all at ws.sided in
-    let linked : AreUsableLinks files (worlds_of (in_order (all_items files) places)) = rw (kept, all) at ws.linked in
-    let stable : HaveLegalStability (interfaces_of (in_order (all_items files) places)) = rw all at c.in_ok-resolve_interfaces.ensures.stable in
-    let stable' : HaveLegalStability (worlds_of (in_order (all_items files) places)) = rw all at ws.stable in
     let said : Appends irs new.required.items (λ rs. (ss : List Address) × AddsWorlds (prefix_of files) (others_of files) now.arena middle new.types (prefix_worlds a.worlds) (arenas made.0 made.1 ss) rs (worlds_of (in_order (all_items files) places))) = rw (kept, all) at ws.added in
     let rest_after : WorldArenas = arenas made.0 made.1 said.holds.0 in
     record {
@@ -172,7 +119,6 @@ returns-clause-added c =
       order = c.item_order-order.ensures;
       names = c.requires.legal;
       uses = uses_usable files (uses_sound files e.first);
-      noted = λ i among u used. (((uses_sound files e.first).each i among).each u used).noted;
       first = types;
       prefix = a.interfaces;
       worlds_prefix = a.worlds;
@@ -187,10 +133,6 @@ returns-clause-added c =
       requires = said.list ∙ ap (λ (l : List Required). l ++ said.own) (from.list ∙ ap (λ (l : List Required). l ++ from.own) c.new-required.ensures.items);
       interfaces = from.holds;
       worlds = said.holds.1;
-      sided = sided_both (in_order (all_items files) places) sided sided';
-      linked = linked;
-      sound = sound_both (in_order (all_items files) places) sound sound';
-      stable = stability_both (in_order (all_items files) places) stable stable';
     }
 
 pub returns-in_err-prefix-clause-first : goal.returns-in_err-prefix-clause-first

@@ -1,22 +1,12 @@
 use Rattle.std.proofs.Common.{List, inl, inr, sym}
 use Rattle.std.proofs.lemmas.Result.{err_from_is_err_and}
 use Rattle.wit_tree.specs.declared.tree.PackageFile.{PackageFile}
-use Rattle.wit_syntax.specs.Broken.{IsBrokenNames, IsBroken, Names}
-use Rattle.wit_syntax.proofs.Refusing.{refused_weaker}
-use Rattle.wit_first.specs.OrderFaults.{IsNamesFault}
-use Rattle.wit_first.proofs.OrderFaults.{refused_as}
 use Rattle.wit_files.proofs.Gathering.{names_agree}
 use Rattle.wit_contents.proofs.FileFaults.{finds_same, names_first, names_none}
 use Rattle.wit_contents.proofs.contents.resolve_gathered.Goals as goal
 
 pub resolve_named-requires-clause-legal : goal.resolve_named-requires-clause-legal
 resolve_named-requires-clause-legal c = rw c.in_ok-names.ensures.files ((names_agree c.args.files.now).unbroken c.in_ok-names.ensures.first)
-
-pub returns-in_err-names-clause-refused : goal.returns-in_err-names-clause-refused
-returns-in_err-names-clause-refused c =
-    let p = err_from_is_err_and c.from_residual.result c.from_residual.ensures.1 in
-    let files : List PackageFile = c.args.files.now in
-    rw (p.1, p.2) (refused_weaker (IsBrokenNames files) (IsBroken files) _ (λ f h. Names h) (refused_as (IsNamesFault files) (IsBrokenNames files) _ (names_agree files) c.in_err-names.ensures.first))
 
 pub returns-in_err-names-clause-first : goal.returns-in_err-names-clause-first
 returns-in_err-names-clause-first c =

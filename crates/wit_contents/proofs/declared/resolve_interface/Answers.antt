@@ -1,13 +1,8 @@
-use Rattle.std.proofs.Common.{Some, length, inl, inr, refl, sym, ap, ◌∙◌, subst}
+use Rattle.std.proofs.Common.{Some, length, inl, inr, refl, sym, ap, ◌∙◌}
 use Rattle.std.proofs.lemmas.Result.{err_from_is_err_and}
 use Rattle.wit_type_tree.specs.declared.leaves.Id.{Id}
-use Rattle.wit_syntax.specs.Broken.{IsBrokenScope}
-use Rattle.wit_syntax.specs.Fault.{Fault}
-use Rattle.wit_syntax.specs.Function.{functions}
-use Rattle.wit_syntax.specs.Metadata.{IsBrokenStability}
-use Rattle.wit_syntax.specs.Sides.{IsBrokenSides}
 use Rattle.wit_syntax.specs.Source.{Item, is_world, scope_names, about}
-use Rattle.wit_arena.specs.ResolvedArenas.{AddsInterface, IsNameless}
+use Rattle.wit_arena.specs.ResolvedArenas.{AddsInterface}
 use Rattle.wit_items.specs.BorrowedItems.{item_view}
 use Rattle.wit_items.specs.ResolvedInterfaces.{resolved_scopes_of}
 use Rattle.wit_uses.specs.NewRequirements.{Appends}
@@ -30,16 +25,6 @@ add_interface-requires-clause-named c =
     ∙ c.requires.called
     ∙ ap (λ (id : Id). Some id.name.now) (sym c.declared_name-id.ensures)
 
-pub returns-in_err-interface-clause-refused : goal.returns-in_err-interface-clause-refused
-returns-in_err-interface-clause-refused c =
-    let p = err_from_is_err_and c.from_residual.result c.from_residual.ensures.1 in
-    rw (p.1, p.2) (rw (c.next_id-place.ensures, c.scope-scope.ensures.item) at c.in_err-interface.ensures.refused)
-
-pub returns-in_err-add_interface-clause-refused : goal.returns-in_err-add_interface-clause-refused
-returns-in_err-add_interface-clause-refused c =
-    let p = err_from_is_err_and c.from_residual-in_err-add_interface.result c.from_residual-in_err-add_interface.ensures.1 in
-    rw (p.1, p.2) (inl c.in_err-add_interface.ensures.refused)
-
 pub returns-clause-added : goal.returns-clause-added
 returns-clause-added c =
     let is = c.args.interfaces.now in
@@ -50,15 +35,6 @@ returns-clause-added c =
       list = one.list;
       holds = record { added = c.in_ok-interface.interface; last = c.in_ok-add_interface.ensures.added; adds = one.holds };
     }
-
-pub returns-clause-stable : goal.returns-clause-stable
-returns-clause-stable c = subst (λ (i : Item). (f : Fault) → IsBrokenStability (about i.declared).attributes f → ⊥) c.scope-scope.ensures.item c.in_ok-interface.ensures.stable
-
-pub returns-clause-sound : goal.returns-clause-sound
-returns-clause-sound c = subst (λ (i : Item). (f : Fault) → IsBrokenScope (scope_names i) (functions i) f → IsNameless (scope_names i) (functions i)) c.scope-scope.ensures.item c.in_ok-interface.ensures.sound
-
-pub returns-clause-sided : goal.returns-clause-sided
-returns-clause-sided c = subst (λ (i : Item). (f : Fault) → IsBrokenSides i f → ⊥) c.scope-scope.ensures.item c.in_ok-interface.ensures.sided
 
 pub returns-in_err-interface-clause-first : goal.returns-in_err-interface-clause-first
 returns-in_err-interface-clause-first c =

@@ -7,20 +7,15 @@ use Rattle.std.proofs.lemmas.Option.{slice_get-get_or}
 use Rattle.std.proofs.lemmas.Result.{err_from_is_err_and}
 use Rattle.wit_syntax.specs.Source.{Item, is_world, about}
 use Rattle.wit_syntax.specs.ScopeTables.{in_order, interfaces_of}
-use Rattle.wit_arena.specs.Resolving.{resolved_scopes}
 use Rattle.wit_first.specs.First.{first_in}
 use Rattle.wit_first.proofs.First.{in-append, in-more, reports_prefix, reports_same}
-use Rattle.wit_arena.specs.ResolvedArenas.{AddsDeclared, IsNext, IsWrongInterface, IsWrongNow}
-use Rattle.wit_types.specs.declared.types.TypeOwner.TheVariants.{Interface as OfInterface}
+use Rattle.wit_arena.specs.ResolvedArenas.{AddsDeclared, IsNext}
 use Rattle.wit_item_names.specs.ForeignAddresses.{prefix_of}
 use Rattle.wit_uses.specs.NewRequirements.{Appends}
 use Rattle.wit_items.specs.declared.items.Item.{Item as BorrowedItem}
 use Rattle.wit_syntax.proofs.Lists.{read_map}
 use Rattle.wit_syntax.proofs.Kept.{kept_next, kept_past}
-use Rattle.wit_syntax.proofs.Refusing.{refused_weaker}
-use Rattle.wit_arena.proofs.Adding.{sounds_more}
 use Rattle.wit_uses.proofs.Emitting.{appends_more}
-use Rattle.wit_uses.proofs.Telling.{interface_stable, sides_more, stability_more}
 use Rattle.wit_items.specs.declared.items.Declared.{Declared as BorrowedDeclared}
 use Rattle.wit_items.specs.BorrowedItems.{declared_view, item_view}
 use Rattle.wit_contents.proofs.declared.resolve_interfaces.Goals.{in-Interface+in_ok-resolve_interface-in-Interface, in-World, in-Inline}
@@ -45,35 +40,6 @@ resolve_interface-requires-clause-index c = rw c.loop-place.invariant.files c.lo
 
 pub returns-clause-index : goal.returns-clause-index
 returns-clause-index c = rw c.loop-place.invariant.files c.loop-place.invariant.index
-
-pub returns-in_err-resolve_interface-in-Interface-clause-refused : goal.returns-in_err-resolve_interface-in-Interface-clause-refused
-returns-in_err-resolve_interface-in-Interface-clause-refused c =
-    let q = err_from_is_err_and c.from_residual.result c.from_residual.ensures.1 in
-    let ws = map item_view c.args.items.now in
-    let places = c.args.places.now in
-    let i = c.loop-place.place-index in
-    let p = get_or places i 0 in
-    let x = c.index-items-place.result in
-    let w = item_view x in
-    let now = c.loop-place.interfaces in
-    let at : slice_get places i ≡ Some p = slice_get-get_or places i 0 c.loop-place-test.true in
-    let within : p < length c.args.items.now = c.requires.within i 0 c.loop-place-test.true in
-    let there : slice_get ws p ≡ Some w = read_map item_view c.args.items.now p x within c.index-items-place.is in
-    let sort : is_world w ≡ false = ap (λ (d : BorrowedDeclared). (about (declared_view d)).is_world) c.in-Interface.is in
-    let foreign = prefix_of c.args.interfaces.now.files in
-    rw (q.1, q.2) (refused_weaker (IsWrongInterface c.loop-place.types (resolved_scopes foreign now.arena) now.by_name (OfInterface (length now.arena)) w) (IsWrongNow foreign c.args.types.now c.args.interfaces.now.arena ws places) _ (λ f h. record {
-      count = i;
-      item = w;
-      next = record { place = p; next = at; at = there };
-      sort = sort;
-      mid = c.loop-place.types;
-      before = now.arena;
-      rs = c.loop-place.invariant.added.own;
-      added = c.loop-place.invariant.added.holds;
-      by_name = now.by_name;
-      index = c.loop-place.invariant.index;
-      wrong = h;
-    }) (rw c.loop-place.invariant.files at c.in_err-resolve_interface-in-Interface.ensures.refused))
 
 -- the interfaces in an order, up to one, that one, and those after it
 split_interfaces : (ws : List Item) (places : List ℕ) (k p : ℕ) (w : Item) → slice_get places k ≡ Some p → slice_get ws p ≡ Some w → is_world w ≡ false → interfaces_of (in_order ws places) ≡ (interfaces_of (in_order ws (take k places)) ++ w ∷ []) ++ interfaces_of (in_order ws (drop (k + 1) places))
@@ -138,15 +104,12 @@ loop-place-preserved c =
             files = same;
             added = rw more (appends_more (AddsDeclared foreign) c.args.types.now c.loop-place.types types c.args.interfaces.now.arena before new c.args.required.now.items c.loop-place.required.items required prefix w was.added one);
             index = rw same at e.index;
-            sound = rw more (sounds_more prefix w was.sound e.sound);
-            stable = rw more (stability_more prefix w was.stable (interface_stable w own e.stable));
-            sided = rw more (sides_more prefix w was.sided e.sided);
             first = λ test right. rw more (in-more test prefix w (was.first test right) ∙ e.first test (right c.loop-place.interfaces c.loop-place.types was.added.own i w was.files (record { place = p; next = at; at = there }) own was.added.holds (rw was.files was.index)));
           }))
       | in-World b ↦ (
           let sort : not (is_world w) ≡ false = ap (λ (d : BorrowedDeclared). not (about (declared_view d)).is_world) b.in-World.is in
           let past : interfaces_of (in_order ws (take (i + 1) places)) ≡ prefix = kept_past (λ v. not (is_world v)) ws places i p w at there sort in
-          rw (b.interfaces-is, b.types-is, b.required-is) (record { files = was.files; added = rw past was.added; index = was.index; sound = rw past was.sound; stable = rw past was.stable; sided = rw past was.sided; first = λ test right. rw past (was.first test right) }))
+          rw (b.interfaces-is, b.types-is, b.required-is) (record { files = was.files; added = rw past was.added; index = was.index; first = λ test right. rw past (was.first test right) }))
       | in-Inline b ↦ absurd (c.requires.outer.outer p w _ _ _ _ _ there (ap declared_view b.in-Inline.is))
     ]
 

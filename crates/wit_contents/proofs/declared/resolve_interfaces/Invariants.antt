@@ -4,7 +4,7 @@ use Rattle.wit_syntax.specs.ScopeTables.{in_order, interfaces_of}
 use Rattle.wit_syntax.specs.Source.{Item}
 use Rattle.wit_first.specs.First.{first_in}
 use Rattle.wit_arena.specs.Resolving.{resolved_scopes, IsIndex}
-use Rattle.wit_arena.specs.ResolvedArenas.{AddsInterfaces, AreLegalSides, AreSoundScopes, HaveLegalStability}
+use Rattle.wit_arena.specs.ResolvedArenas.{AddsInterfaces}
 use Rattle.wit_item_names.specs.ForeignAddresses.{prefix_of}
 use Rattle.wit_items.specs.BorrowedItems.{item_view}
 use Rattle.wit_uses.specs.NewRequirements.{Appends}
@@ -16,8 +16,5 @@ invariant-loop-place l = record {
   files : l.interfaces.files ≡ l.fn.interfaces.files;
   added : Appends l.fn.required.items l.required.items (λ rs. AddsInterfaces (prefix_of l.fn.interfaces.files) l.fn.types l.types l.fn.interfaces.arena l.interfaces.arena rs (interfaces_of (in_order (map item_view l.items) (take l.place-index l.places))));
   index : IsIndex (resolved_scopes (prefix_of l.fn.interfaces.files) l.interfaces.arena) l.interfaces.by_name;
-  sound : AreSoundScopes (interfaces_of (in_order (map item_view l.items) (take l.place-index l.places)));
-  stable : HaveLegalStability (interfaces_of (in_order (map item_view l.items) (take l.place-index l.places)));
-  sided : AreLegalSides (interfaces_of (in_order (map item_view l.items) (take l.place-index l.places)));
   first : (wrong : Item → Option Fault) → AreRightOf wrong l.fn.interfaces l.fn.types l.items l.places → first_in wrong (interfaces_of (in_order (map item_view l.items) (take l.place-index l.places))) ≡ None;
 }

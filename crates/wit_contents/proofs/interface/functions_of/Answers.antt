@@ -6,12 +6,9 @@ use Rattle.wit_syntax.specs.Fault.{Fault}
 use Rattle.wit_syntax.specs.Source.{ScopeName}
 use Rattle.wit_syntax.specs.Function.{SourceFunction, functions}
 use Rattle.wit_syntax.specs.Sides.{SideFunction}
-use Rattle.wit_syntax.specs.SignatureRules.{IsUnpairedSetter}
-use Rattle.wit_syntax.proofs.Refusing.{refused_weaker}
 use Rattle.wit_syntax.proofs.Sides.{side_items_functions}
 use Rattle.wit_first.proofs.First.{none_both}
 use Rattle.wit_arena.specs.Resolving.{env_of}
-use Rattle.wit_arena.specs.ResolvedArenas.{IsWrongInterface, Unpaired}
 use Rattle.wit_rules.specs.BorrowedFunctions.{function_view}
 use Rattle.wit_signatures.specs.ForeignName.{name_of_id, name_of_function}
 use Rattle.wit_externs.specs.AloneFaults.{lone_setters}
@@ -19,9 +16,8 @@ use Rattle.wit_externs.proofs.AloneFaults.{safe_of}
 use Rattle.wit_externs.specs.Clash.{all_on}
 use Rattle.wit_items.specs.BorrowedItems.{scope_item, declared_view}
 use Rattle.wit_uses.specs.NameOrder.{IsTurn}
-use Rattle.wit_item_entries.specs.Body.{HasNames, IsWrongBody, functions_in}
+use Rattle.wit_item_entries.specs.Body.{HasNames, functions_in}
 use Rattle.wit_item_entries.proofs.InterfaceSides.{all_imported, names_imported}
-use Rattle.wit_item_entries.proofs.WrongNames.{wrong_interface}
 use Rattle.wit_item_entries.proofs.ScopeFunctions.{turn_added, made_differ}
 use Rattle.wit_contents.proofs.interface.functions_of.Goals as goal
 
@@ -33,13 +29,6 @@ resolve_item_functions-requires-clause-turn c =
     let ids = c.args.names.now.turn.items in
     subst (λ (xs : List ScopeName). IsTurn xs ids) (sym c.requires.named) (turn_added _ _ _ _ _ _ _ _ c.requires.added.3)
 
-pub returns-in_err-own-clause-refused : goal.returns-in_err-own-clause-refused
-returns-in_err-own-clause-refused c =
-    let p = err_from_is_err_and c.from_residual.result c.from_residual.ensures.1 in
-    let item = scope_item c.args.item.now in
-    let own : HasNames item (declared_view c.args.item.now.declared) c.args.item.now.names.now = record { declared = refl; names = sym c.requires.named } in
-    rw (p.1, p.2) (λ old cs by_name o added. refused_weaker (IsWrongBody old cs by_name o item) (IsWrongInterface old cs by_name o item) _ (wrong_interface old cs by_name o item) (c.in_err-own.ensures.refused item own old cs by_name o added))
-
 pub check_pairs-requires : goal.check_pairs-requires
 check_pairs-requires c = λ some.
     let item = scope_item c.args.item.now in
@@ -49,18 +38,6 @@ check_pairs-requires c = λ some.
     let fns : map function_view c.deref.result.now ≡ functions item = ap (map function_view) c.deref.ensures.value ∙ e.written in
     let in_use : c.in_ok-own.own.in_use.imports ≡ map name_of_id ids ++ map name_of_function (functions item) = e.in_use (rw c.deref.ensures.value at some) Imported ∙ ap (λ (fns : List SourceFunction). all_on Imported ids (map SideFunction fns)) e.written ∙ names_imported item c.requires.sort ids in
     rw (turned, fns) in_use
-
-pub returns-in_err-check_pairs-clause-refused : goal.returns-in_err-check_pairs-clause-refused
-returns-in_err-check_pairs-clause-refused c =
-    let p = err_from_is_err_and c.from_residual-in_err-check_pairs.result c.from_residual-in_err-check_pairs.ensures.1 in
-    let item = scope_item c.args.item.now in
-    let fns : map function_view c.deref.result.now ≡ functions item = ap (map function_view) c.deref.ensures.value ∙ c.in_ok-own.ensures.written in
-    rw (p.1, p.2) (λ old cs by_name o added. refused_weaker (IsUnpairedSetter (functions item)) (IsWrongInterface old cs by_name o item) _ (λ f h. Unpaired h) (rw fns at c.in_err-check_pairs.ensures.refused))
-
-pub returns-in_err-functions-clause-refused : goal.returns-in_err-functions-clause-refused
-returns-in_err-functions-clause-refused c =
-    let p = err_from_is_err_and c.from_residual-in_err-functions.result c.from_residual-in_err-functions.ensures.1 in
-    rw p.1 (λ old cs by_name o added. inl p.2)
 
 pub function_table-requires : goal.function_table-requires
 function_table-requires c =
@@ -79,15 +56,6 @@ returns-clause-paired c =
     let item = scope_item c.args.item.now in
     let fns : map function_view c.deref.result.now ≡ functions item = ap (map function_view) c.deref.ensures.value ∙ c.in_ok-own.ensures.written in
     rw fns at c.in_ok-check_pairs.ensures.paired
-
-pub returns-clause-sound : goal.returns-clause-sound
-returns-clause-sound c =
-    let item = scope_item c.args.item.now in
-    let own : HasNames item (declared_view c.args.item.now.declared) c.args.item.now.names.now = record { declared = refl; names = sym c.requires.named } in
-    c.in_ok-own.ensures.sound item own
-
-pub returns-clause-sided : goal.returns-clause-sided
-returns-clause-sided c = c.in_ok-own.ensures.sided (scope_item c.args.item.now) (record { declared = refl; names = sym c.requires.named })
 
 pub returns-in_err-own-clause-first : goal.returns-in_err-own-clause-first
 returns-in_err-own-clause-first c =

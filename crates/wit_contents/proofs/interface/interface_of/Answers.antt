@@ -3,41 +3,16 @@ use Rattle.std.proofs.lemmas.Result.{err_from_is_err_and}
 use Rattle.wit_type_tree.specs.declared.leaves.Id.{Id}
 use Rattle.wit_types.specs.declared.types.TypeOwner.TheVariants.{Interface as OfInterface}
 use Rattle.wit_syntax.specs.Function.{functions}
-use Rattle.wit_syntax.proofs.Refusing.{refused_weaker}
 use Rattle.wit_arena.specs.Resolving.{Names, Required}
-use Rattle.wit_arena.specs.ResolvedArenas.{IsWrongInterface}
 use Rattle.wit_entries.proofs.Requiring.{extended_then}
 use Rattle.wit_items.specs.BorrowedItems.{scope_item}
 use Rattle.wit_items.specs.ResolvedInterfaces.{resolved_scopes_of}
-use Rattle.wit_item_entries.specs.Body.{AddsBody, IsWrongBody}
-use Rattle.wit_item_entries.proofs.WrongNames.{wrong_interface}
+use Rattle.wit_item_entries.specs.Body.{AddsBody}
 use Rattle.wit_contents.proofs.InterfaceFaults.{head_first, rest_first, rest_none}
 use Rattle.wit_contents.proofs.interface.interface_of.Goals as goal
 
-pub returns-in_err-head-clause-refused : goal.returns-in_err-head-clause-refused
-returns-in_err-head-clause-refused c =
-    let p = err_from_is_err_and c.from_residual-in_err-head.result c.from_residual-in_err-head.ensures.1 in
-    let cs = resolved_scopes_of c.args.interfaces.now in
-    let by_name = c.args.interfaces.now.by_name in
-    let o = OfInterface c.args.place in
-    let item = scope_item c.args.item.now in
-    rw (p.1, p.2) (refused_weaker (IsWrongBody c.args.types.now cs by_name o item) (IsWrongInterface c.args.types.now cs by_name o item) _ (wrong_interface c.args.types.now cs by_name o item) c.in_err-head.ensures.refused)
-
 pub functions_of-requires-clause-added : goal.functions_of-requires-clause-added
 functions_of-requires-clause-added c = (c.args.types.now, resolved_scopes_of c.args.interfaces.now, OfInterface c.args.place, c.in_ok-head.ensures.adds)
-
-pub returns-in_err-functions-clause-refused : goal.returns-in_err-functions-clause-refused
-returns-in_err-functions-clause-refused c =
-    let p = err_from_is_err_and c.from_residual-in_err-functions.result c.from_residual-in_err-functions.ensures.1 in
-    rw (p.1, p.2) (c.in_err-functions.ensures.refused c.args.types.now (resolved_scopes_of c.args.interfaces.now) c.args.interfaces.now.by_name (OfInterface c.args.place) c.in_ok-head.ensures.adds)
-
-pub returns-in_err-add_required-clause-refused : goal.returns-in_err-add_required-clause-refused
-returns-in_err-add_required-clause-refused c =
-    let p = err_from_is_err_and c.from_residual-in_err-add_required.result c.from_residual-in_err-add_required.ensures.1 in
-    rw p.1 (inl p.2)
-
-pub returns-clause-sound : goal.returns-clause-sound
-returns-clause-sound c = c.in_ok-functions.ensures.sound (c.in_ok-head.ensures.legal (functions (scope_item c.args.item.now)))
 
 pub returns-clause-extended : goal.returns-clause-extended
 returns-clause-extended c = extended_then c.args.types.now c.resolve_head.new.types c.functions_of.new.types c.in_ok-head.ensures.extended c.in_ok-functions.ensures.extended

@@ -1,26 +1,22 @@
-use Rattle.std.proofs.Common.{◌≡◌, ◌++◌, true, [], List, map, sym, ap, ◌∙◌, subst}
+use Rattle.std.proofs.Common.{◌++◌, [], List, map, sym, ap, ◌∙◌, subst}
 use Rattle.std.specs.Option.{option_or}
 use Rattle.std.proofs.lemmas.List.{append-nil}
 use Rattle.std.proofs.lemmas.Result.{err_from_is_err_and}
-use Rattle.wit_tree.specs.declared.tree.WorldSide.{WorldSide}
 use Rattle.wit_syntax.specs.Repeats.{AllDiffer}
-use Rattle.wit_syntax.specs.Sides.{items_on, on_side, side_items}
-use Rattle.wit_syntax.specs.SignatureRules.{IsUnpairedSetter}
+use Rattle.wit_syntax.specs.Sides.{items_on, side_items}
 use Rattle.wit_syntax.specs.Source.{scope_names}
 use Rattle.wit_syntax.proofs.Legal.{functions_items}
-use Rattle.wit_syntax.proofs.Refusing.{refused_weaker}
 use Rattle.wit_syntax.proofs.Turns.{in_turn_distinct}
 use Rattle.wit_first.specs.First.{first_after}
 use Rattle.wit_first.proofs.First.{none_both, reports_back, reports_prefix, reports_same}
 use Rattle.wit_walk.specs.Setters.{setters_fault}
+use Rattle.wit_walk.proofs.SettersLegal.{setters_legal}
 use Rattle.wit_refusals.specs.NameScopes.{Name}
 use Rattle.wit_rules.specs.BorrowedFunctions.{function_view}
-use Rattle.wit_signatures.specs.ForeignName.{IsTwiceAmong, name_of_id}
 use Rattle.wit_externs.specs.Clash.{names_of_items}
 use Rattle.wit_item_entries.proofs.FunctionFaults.{turn_texts}
 use Rattle.wit_contents.specs.declared.walk.Walked.{Walked}
-use Rattle.wit_contents.specs.Walk.{IsNext, IsStart, IsWrongAmong, IsWrongWalk, WrongNames, WrongSetter, WrongSides, stage, walk_item, walk_of}
-use Rattle.wit_contents.proofs.Closing.{alone_closed, none_alone}
+use Rattle.wit_contents.specs.Walk.{IsNext, IsStart, walk_item, walk_of}
 use Rattle.wit_contents.proofs.WorldFaults.{next_all, setters_closed}
 use Rattle.wit_contents.proofs.sides.walk_sides.Goals as goal
 
@@ -55,31 +51,6 @@ check_closed-requires c =
     let next : IsNext w all start = record { walk = c.requires.walk; prefix = []; rest = []; sides = sym (append-nil all); seen = c.none.ensures; keyed = c.in_ok-members.ensures.keyed } in
     (all, sym (functions_items (walk_item w)) ∙ sym c.requires.walk.functions, λ s. (c.in_ok-walk_parts.ensures.adds next).in_use s ∙ ap (λ (l : List Name). l ++ names_of_items (items_on s all)) (c.in_ok-members.ensures.in_use s))
 
-pub returns-in_err-members-clause-refused : goal.returns-in_err-members-clause-refused
-returns-in_err-members-clause-refused c =
-    let p = err_from_is_err_and c.from_residual.result c.from_residual.ensures.1 in
-    let w = walk_of c.args.item.now c.args.walk.now in
-    rw (p.1, p.2) (refused_weaker (IsTwiceAmong (map name_of_id w.walk.turn.now)) (IsWrongWalk w c.args.types.now c.args.inside.now) _ (λ f twice. WrongNames twice) c.in_err-members.ensures.refused)
-
-pub returns-in_err-walk_parts-clause-refused : goal.returns-in_err-walk_parts-clause-refused
-returns-in_err-walk_parts-clause-refused c =
-    let p = err_from_is_err_and c.from_residual-in_err-walk_parts.result c.from_residual-in_err-walk_parts.ensures.1 in
-    let w = walk_of c.args.item.now c.args.walk.now in
-    let all = side_items (walk_item w) in
-    let e = c.in_ok-members.ensures in
-    let start : Walked = record { members = c.in_ok-members.members; required = c.new.result; seen = c.none.result } in
-    let next : IsNext w all start = record { walk = c.requires.walk; prefix = []; rest = []; sides = sym (append-nil all); seen = c.none.ensures; keyed = e.keyed } in
-    let begun : IsStart w start = record { required = c.new.ensures.items; seen = c.none.ensures; keyed = e.keyed; in_use = e.in_use; linked = e.linked; imports = e.imports; exports = e.exports } in
-    let a = stage c.args.types.now c.args.inside.now start in
-    rw (p.1, p.2) (refused_weaker (IsWrongAmong w [] all a) (IsWrongWalk w c.args.types.now c.args.inside.now) _ (λ f wrong. WrongSides start begun wrong) (c.in_err-walk_parts.ensures.refused next))
-
-pub returns-in_err-check_closed-clause-refused : goal.returns-in_err-check_closed-clause-refused
-returns-in_err-check_closed-clause-refused c =
-    let p = err_from_is_err_and c.from_residual-in_err-check_closed.result c.from_residual-in_err-check_closed.ensures.1 in
-    let w = walk_of c.args.item.now c.args.walk.now in
-    let fns = map function_view w.walk.scope.functions.now in
-    rw (p.1, p.2) (refused_weaker (λ f. (c.args.closed ≡ true) × ((s : WorldSide) × IsUnpairedSetter (on_side s fns) f)) (IsWrongWalk w c.args.types.now c.args.inside.now) _ (λ f h. WrongSetter (alone_closed (walk_item w) fns c.requires.walk.functions c.args.closed c.requires.closed h.1.0 f h.0 h.1.1)) c.in_err-check_closed.ensures.refused)
-
 pub returns-clause-adds : goal.returns-clause-adds
 returns-clause-adds c =
     let w = walk_of c.args.item.now c.args.walk.now in
@@ -96,7 +67,7 @@ returns-clause-adds c =
 pub returns-clause-paired : goal.returns-clause-paired
 returns-clause-paired c =
     let w = walk_of c.args.item.now c.args.walk.now in
-    none_alone (walk_item w) (map function_view w.walk.scope.functions.now) c.requires.walk.functions c.args.closed c.requires.closed c.in_ok-check_closed.ensures.paired
+    setters_legal (walk_item w) (sym (setters_closed (walk_item w) (map function_view w.walk.scope.functions.now) c.requires.walk.functions c.args.closed c.requires.closed) ∙ c.in_ok-check_closed.ensures.first)
 
 -- the first fault: of its names, of what is there, or of its setters
 pub returns-in_err-members-clause-first : goal.returns-in_err-members-clause-first

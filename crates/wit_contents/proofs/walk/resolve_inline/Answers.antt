@@ -7,11 +7,6 @@ use Rattle.wit_uses.specs.NewRequirements.{Appends}
 use Rattle.wit_items.specs.ResolvedInterfaces.{resolved_scopes_of}
 use Rattle.wit_contents.proofs.walk.resolve_inline.Goals as goal
 
-pub returns-in_err-interface-clause-refused : goal.returns-in_err-interface-clause-refused
-returns-in_err-interface-clause-refused c =
-    let p = err_from_is_err_and c.from_residual-in_err-interface.result c.from_residual-in_err-interface.ensures.1 in
-    rw (p.1, p.2) (rw c.in_ok-id.ensures at c.in_err-interface.ensures.refused)
-
 pub returns-clause-adds : goal.returns-clause-adds
 returns-clause-adds c =
     let cs = resolved_scopes_of c.args.interfaces.now in

@@ -1,13 +1,12 @@
 use Rattle.std.proofs.Common.{◌≡◌, [], List, map, sym, ap, ◌∙◌, subst}
-use Rattle.std.proofs.lemmas.Result.{on_ok_weaker, IfErr-weaker}
+use Rattle.std.proofs.lemmas.Result.{on_ok_weaker}
 use Rattle.wit_type_tree.specs.declared.types.TypeBody.{TypeBody}
-use Rattle.wit_model.specs.declared.interface.Interface.{Interface}
 use Rattle.wit_syntax.specs.Function.{definition_functions}
 use Rattle.wit_syntax.specs.Sides.{SideItem, SideFunction, part_items}
 use Rattle.wit_syntax.specs.Source.{DefinitionPart}
 use Rattle.wit_first.specs.First.{first_after}
 use Rattle.wit_contents.specs.MemberFaults.{FindsNext}
-use Rattle.wit_contents.specs.Walk.{AddsMembers, AddsNext, IsNext, RefusesNext, resource_items, stage, walk_of}
+use Rattle.wit_contents.specs.Walk.{AddsMembers, AddsNext, IsNext, resource_items, stage, walk_of}
 use Rattle.wit_contents.proofs.PartItems.{no_functions}
 use Rattle.wit_contents.proofs.Walking.{members_none}
 use Rattle.wit_contents.proofs.walk.walk_definition.Goals as goal
@@ -23,14 +22,6 @@ returns-in-Resource-clause-adds c =
     let d = c.args.definition.now in
     let same : part_items (DefinitionPart d) ≡ resource_items d.name c.deref.result.now = ap (λ (b : TypeBody). map SideFunction (definition_functions d.name b)) c.in-Resource.is ∙ ap (resource_items d.name) (sym c.deref.ensures.value) in
     on_ok_weaker c.walk_functions.result (λ adds i. subst (λ (xs : List SideItem). AddsNext (walk_of c.args.item.now c.args.walk.now) xs (stage c.args.types.now i c.args.walked.now) (stage c.walk_functions.new.types i c.walk_functions.new.walked)) (sym same) (adds i)) c.walk_functions.ensures.adds
-
-pub returns-in-Resource-clause-refused : goal.returns-in-Resource-clause-refused
-returns-in-Resource-clause-refused c =
-    let d = c.args.definition.now in
-    let w = walk_of c.args.item.now c.args.walk.now in
-    let own = resource_items d.name c.deref.result.now in
-    let same : part_items (DefinitionPart d) ≡ own = ap (λ (b : TypeBody). map SideFunction (definition_functions d.name b)) c.in-Resource.is ∙ ap (resource_items d.name) (sym c.deref.ensures.value) in
-    IfErr-weaker c.walk_functions.result (λ e. (i : List Interface) → RefusesNext w own (stage c.args.types.now i c.args.walked.now) e) (λ e. (i : List Interface) → RefusesNext w (part_items (DefinitionPart d)) (stage c.args.types.now i c.args.walked.now) e) (λ e h i. subst (λ (xs : List SideItem). RefusesNext w xs (stage c.args.types.now i c.args.walked.now) e) (sym same) (h i)) c.walk_functions.ensures.refused
 
 pub returns-in_default-clause-adds : goal.returns-in_default-clause-adds
 returns-in_default-clause-adds c = λ i n.

@@ -1,17 +1,15 @@
-use Rattle.std.proofs.Common.{◌≡◌, ◌∷◌, [], None, Some, List, sym, ap, ◌∙◌, subst}
-use Rattle.std.proofs.lemmas.Result.{on_ok_weaker, IfErr-weaker}
+use Rattle.std.proofs.Common.{◌≡◌, ◌∷◌, [], List, sym, ap, ◌∙◌, subst}
+use Rattle.std.proofs.lemmas.Result.{on_ok_weaker}
 use Rattle.wit_tree.specs.declared.tree.InterfaceItem.{InterfaceItem}
 use Rattle.wit_tree.specs.declared.tree.WorldSide.{WorldSide}
-use Rattle.wit_types.specs.declared.types.TypeDef.{TypeDef}
-use Rattle.wit_model.specs.declared.interface.Interface.{Interface}
 use Rattle.wit_syntax.specs.Function.{SourceFunction}
-use Rattle.wit_syntax.specs.Sides.{SideFunction, SideInline, SideItem, SideLink, extern_items, extern_link, item_side}
+use Rattle.wit_syntax.specs.Sides.{SideFunction, SideInline, SideItem, extern_items, item_side}
 use Rattle.wit_syntax.specs.Source.{Declared, about}
 use Rattle.wit_rules.specs.BorrowedFunctions.{function_view}
 use Rattle.wit_links.specs.declared.inside.Counts.{Counts}
 use Rattle.wit_links.specs.SideCounts.{inline_side, seen_on}
 use Rattle.wit_contents.specs.MemberFaults.{FindsNext}
-use Rattle.wit_contents.specs.Walk.{AddsNext, IsNext, RefusesNext, stage, walk_of}
+use Rattle.wit_contents.specs.Walk.{AddsNext, IsNext, stage, walk_of}
 use Rattle.wit_contents.proofs.walk.walk_extern.Goals as goal
 
 pub declared_world-world-requires : goal.declared_world-world-requires
@@ -55,27 +53,12 @@ returns-in-Interface-clause-adds c =
     let same : extern_items x x.kind ≡ inline_side c.inline_at-inline.result ∷ [] = ap (extern_items x) c.in-Interface.is ∙ ap (λ (items : List InterfaceItem). SideInline x name items ∷ []) (sym c.deref.ensures.value) ∙ ap (λ (y : SideItem). y ∷ []) (sym c.inline_at-inline.ensures.side) in
     on_ok_weaker c.walk_inline.result (λ adds. subst (λ (xs : List SideItem). AddsNext (walk_of c.args.item.now c.args.walk.now) xs (stage c.args.types.now c.args.inside.now c.args.walked.now) (stage c.walk_inline.new.types c.walk_inline.new.inside c.walk_inline.new.walked)) (sym same) adds) c.walk_inline.ensures.adds
 
-pub returns-in-Interface-clause-refused : goal.returns-in-Interface-clause-refused
-returns-in-Interface-clause-refused c =
-    let x = c.args.written.now in
-    let name = c.in-Interface.name in
-    let a = stage c.args.types.now c.args.inside.now c.args.walked.now in
-    let same : extern_items x x.kind ≡ inline_side c.inline_at-inline.result ∷ [] = ap (extern_items x) c.in-Interface.is ∙ ap (λ (items : List InterfaceItem). SideInline x name items ∷ []) (sym c.deref.ensures.value) ∙ ap (λ (y : SideItem). y ∷ []) (sym c.inline_at-inline.ensures.side) in
-    IfErr-weaker c.walk_inline.result (RefusesNext (walk_of c.args.item.now c.args.walk.now) (inline_side c.inline_at-inline.result ∷ []) a) (RefusesNext (walk_of c.args.item.now c.args.walk.now) (extern_items x x.kind) a) (λ e h. subst (λ (xs : List SideItem). RefusesNext (walk_of c.args.item.now c.args.walk.now) xs a e) (sym same) h) c.walk_inline.ensures.refused
-
 pub returns-in-Func-clause-adds : goal.returns-in-Func-clause-adds
 returns-in-Func-clause-adds c =
     let x = c.args.written.now in
     let i = c.args.inside.now in
     let same : extern_items x x.kind ≡ SideFunction (function_view c.extern_part_function-borrowed.result) ∷ [] = ap (extern_items x) c.in-Func.is ∙ ap (λ (fn : SourceFunction). SideFunction fn ∷ []) (sym c.extern_part_function-borrowed.ensures) in
     on_ok_weaker c.walk_function.result (λ adds. subst (λ (xs : List SideItem). AddsNext (walk_of c.args.item.now c.args.walk.now) xs (stage c.args.types.now i c.args.walked.now) (stage c.walk_function.new.types i c.walk_function.new.walked)) (sym same) (adds i)) c.walk_function.ensures.adds
-
-pub returns-in-Func-clause-refused : goal.returns-in-Func-clause-refused
-returns-in-Func-clause-refused c =
-    let x = c.args.written.now in
-    let own = SideFunction (function_view c.extern_part_function-borrowed.result) ∷ [] in
-    let same : extern_items x x.kind ≡ own = ap (extern_items x) c.in-Func.is ∙ ap (λ (fn : SourceFunction). SideFunction fn ∷ []) (sym c.extern_part_function-borrowed.ensures) in
-    IfErr-weaker c.walk_function.result (λ e. (i : List Interface) → RefusesNext (walk_of c.args.item.now c.args.walk.now) own (stage c.args.types.now i c.args.walked.now) e) (RefusesNext (walk_of c.args.item.now c.args.walk.now) (extern_items x x.kind) (stage c.args.types.now c.args.inside.now c.args.walked.now)) (λ e h. subst (λ (xs : List SideItem). RefusesNext (walk_of c.args.item.now c.args.walk.now) xs (stage c.args.types.now c.args.inside.now c.args.walked.now) e) (sym same) (h c.args.inside.now)) c.walk_function.ensures.refused
 
 pub returns-in-Path-clause-adds : goal.returns-in-Path-clause-adds
 returns-in-Path-clause-adds c =
@@ -84,26 +67,12 @@ returns-in-Path-clause-adds c =
     let i = c.args.inside.now in
     on_ok_weaker c.walk_link.result (λ adds. subst (λ (xs : List SideItem). AddsNext (walk_of c.args.item.now c.args.walk.now) xs (stage ts i c.args.walked.now) (stage ts i c.walk_link.new.walked)) (sym (ap (extern_items x) c.in-Path.is)) (adds ts i)) c.walk_link.ensures.adds
 
-pub returns-in-Path-clause-refused : goal.returns-in-Path-clause-refused
-returns-in-Path-clause-refused c =
-    let x = c.args.written.now in
-    let own = SideLink (extern_link x None c.in-Path.path) ∷ [] in
-    let a = stage c.args.types.now c.args.inside.now c.args.walked.now in
-    IfErr-weaker c.walk_link.result (λ e. (ts : List TypeDef) (i : List Interface) → RefusesNext (walk_of c.args.item.now c.args.walk.now) own (stage ts i c.args.walked.now) e) (RefusesNext (walk_of c.args.item.now c.args.walk.now) (extern_items x x.kind) a) (λ e h. subst (λ (xs : List SideItem). RefusesNext (walk_of c.args.item.now c.args.walk.now) xs a e) (sym (ap (extern_items x) c.in-Path.is)) (h c.args.types.now c.args.inside.now)) c.walk_link.ensures.refused
-
 pub returns-in-NamedPath-clause-adds : goal.returns-in-NamedPath-clause-adds
 returns-in-NamedPath-clause-adds c =
     let x = c.args.written.now in
     let ts = c.args.types.now in
     let i = c.args.inside.now in
     on_ok_weaker c.walk_link-in-NamedPath.result (λ adds. subst (λ (xs : List SideItem). AddsNext (walk_of c.args.item.now c.args.walk.now) xs (stage ts i c.args.walked.now) (stage ts i c.walk_link-in-NamedPath.new.walked)) (sym (ap (extern_items x) c.in-NamedPath.is)) (adds ts i)) c.walk_link-in-NamedPath.ensures.adds
-
-pub returns-in-NamedPath-clause-refused : goal.returns-in-NamedPath-clause-refused
-returns-in-NamedPath-clause-refused c =
-    let x = c.args.written.now in
-    let own = SideLink (extern_link x (Some c.in-NamedPath.name) c.in-NamedPath.path) ∷ [] in
-    let a = stage c.args.types.now c.args.inside.now c.args.walked.now in
-    IfErr-weaker c.walk_link-in-NamedPath.result (λ e. (ts : List TypeDef) (i : List Interface) → RefusesNext (walk_of c.args.item.now c.args.walk.now) own (stage ts i c.args.walked.now) e) (RefusesNext (walk_of c.args.item.now c.args.walk.now) (extern_items x x.kind) a) (λ e h. subst (λ (xs : List SideItem). RefusesNext (walk_of c.args.item.now c.args.walk.now) xs a e) (sym (ap (extern_items x) c.in-NamedPath.is)) (h c.args.types.now c.args.inside.now)) c.walk_link-in-NamedPath.ensures.refused
 
 pub returns-in-Interface-clause-first : goal.returns-in-Interface-clause-first
 returns-in-Interface-clause-first c =

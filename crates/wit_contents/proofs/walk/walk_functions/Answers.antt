@@ -1,4 +1,4 @@
-use Rattle.std.proofs.Common.{◌≡◌, ◌+◌, ◌∷◌, [], List, Some, take, drop, refl, sym, subst}
+use Rattle.std.proofs.Common.{◌≡◌, ◌+◌, ◌∷◌, [], List, Some, take, drop, refl, subst}
 use Rattle.std.specs.Prelude.{slice_get}
 use Rattle.std.proofs.lemmas.List.{take_all}
 use Rattle.std.proofs.lemmas.Option.{slice_get_read}
@@ -6,11 +6,10 @@ use Rattle.std.proofs.lemmas.Result.{err_from_is_err_and}
 use Rattle.wit_type_tree.specs.declared.types.ResourceFunc.{ResourceFunc}
 use Rattle.wit_syntax.specs.Function.{resource_function}
 use Rattle.wit_syntax.specs.Sides.{SideItem, SideFunction}
-use Rattle.wit_syntax.proofs.Refusing.{refused_weaker}
-use Rattle.wit_contents.specs.Walk.{AddsMembers, IsWrongAmong, resource_items, stage, walk_of}
+use Rattle.wit_contents.specs.Walk.{AddsMembers, resource_items, stage, walk_of}
 use Rattle.wit_contents.proofs.MemberFaults.{HaveNone, first_later, none_first, none_later}
 use Rattle.wit_contents.proofs.PartItems.{resource_more, resource_split}
-use Rattle.wit_contents.proofs.Walking.{members_none, members_then, next_then, wrong_later}
+use Rattle.wit_contents.proofs.Walking.{members_none, members_then, next_then}
 use Rattle.wit_contents.proofs.walk.walk_functions.Goals as goal
 
 pub loop-function-init : goal.loop-function-init
@@ -27,26 +26,6 @@ walk_function-requires c =
     let r = c.args.resource in
     let at : slice_get fs k ≡ Some f = slice_get_read fs _ k f refl c.loop-function-test.true c.function-item.is in
     next_then (walk_of c.args.item.now c.args.walk.now) (resource_items r fs) (resource_items r (take k fs)) (SideFunction (resource_function r f) ∷ []) (resource_items r (drop (k + 1) fs)) (stage c.args.types.now [] c.args.walked.now) (stage c.loop-function.types [] c.loop-function.walked) c.requires (resource_split r fs k f at) (c.loop-function.invariant.adds [] c.requires)
-
-pub returns-in_err-walk_function-clause-refused : goal.returns-in_err-walk_function-clause-refused
-returns-in_err-walk_function-clause-refused c =
-    let p = err_from_is_err_and c.from_residual.result c.from_residual.ensures.1 in
-    let w = walk_of c.args.item.now c.args.walk.now in
-    let fs = c.args.functions.now in
-    let k = c.loop-function.function-index in
-    let f = c.function-item.result in
-    let r = c.args.resource in
-    let at : slice_get fs k ≡ Some f = slice_get_read fs _ k f refl c.loop-function-test.true c.function-item.is in
-    let done = resource_items r (take k fs) in
-    let one = SideFunction (resource_function r f) ∷ [] in
-    let rest = resource_items r (drop (k + 1) fs) in
-    let split = resource_split r fs k f at in
-    rw (p.1, p.2) (λ i n.
-    let a = stage c.args.types.now i c.args.walked.now in
-    let b = stage c.loop-function.types i c.loop-function.walked in
-    let adds = c.loop-function.invariant.adds i n in
-    let next = next_then w (resource_items r fs) done one rest a b n split adds in
-    refused_weaker (IsWrongAmong w next.prefix one b) (IsWrongAmong w n.prefix (resource_items r fs) a) _ (λ e h. subst (λ (l : List SideItem). IsWrongAmong w n.prefix l a e) (sym split) (wrong_later w n.prefix done one rest a b e adds h)) (c.in_err-walk_function.ensures.refused i next))
 
 pub loop-function-preserved : goal.loop-function-preserved
 loop-function-preserved c =

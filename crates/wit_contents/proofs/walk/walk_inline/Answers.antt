@@ -3,14 +3,10 @@ use Rattle.std.specs.List.{flat_map}
 use Rattle.std.specs.Option.{option_or}
 use Rattle.std.proofs.lemmas.Result.{err_from_is_err_and}
 use Rattle.wit_syntax.specs.Fault.{Fault}
-use Rattle.wit_syntax.specs.Metadata.{IsBrokenMetadata}
-use Rattle.wit_syntax.specs.Sides.{IsBrokenSides, inline_after, inline_item, item_inline, items_on}
+use Rattle.wit_syntax.specs.Sides.{inline_after, inline_item, item_inline, items_on}
 use Rattle.wit_syntax.specs.Source.{Item, TheInline, is_world}
-use Rattle.wit_syntax.proofs.Refusing.{refused_weaker}
 use Rattle.wit_first.specs.AttributeFaults.{metadata_fault}
-use Rattle.wit_first.proofs.Bridge.{metadata_agree, refused_by}
 use Rattle.wit_first.proofs.First.{none_both}
-use Rattle.wit_externs.specs.Clash.{IsClashAfter}
 use Rattle.wit_item_names.specs.ForeignAddresses.{prefix_of}
 use Rattle.wit_scopes.specs.BorrowedNames.{name_view}
 use Rattle.wit_items.specs.InlineNames.{inside_view}
@@ -19,12 +15,10 @@ use Rattle.wit_world_sides.specs.PutFaults.{put_fault}
 use Rattle.wit_links.specs.declared.inside.Counts.{Counts}
 use Rattle.wit_links.specs.SideCounts.{inline_of, inline_side}
 use Rattle.wit_links.proofs.Inlined.{names_own, names_within}
-use Rattle.wit_item_entries.specs.Body.{IsSoundScope}
 use Rattle.wit_contents.specs.MemberFaults.{HasNoFaultInside, IsInline}
-use Rattle.wit_contents.specs.Walk.{AddsInside, IsWrongAmong, IsWrongInline, WrongClash, WrongInside, WrongMetadata, stage, walk_item, walk_of}
+use Rattle.wit_contents.specs.Walk.{AddsInside, stage, walk_item, walk_of}
 use Rattle.wit_contents.proofs.MemberFaults.{inline_is, inline_none, one_fault, one_none}
 use Rattle.wit_contents.proofs.Members.{inline_here, member_inline}
-use Rattle.wit_contents.proofs.Walking.{wrong_one}
 use Rattle.wit_contents.proofs.walk.walk_inline.Goals as goal
 
 pub inside_scope-scope-requires : goal.inside_scope-scope-requires
@@ -57,41 +51,6 @@ resolve_inline-requires-clause-placed c = c.inside_scope-scope.ensures.placed (p
 pub put_inline-requires : goal.put_inline-requires
 put_inline-requires c = c.requires.next.keyed
 
-pub returns-in_err-id-clause-refused : goal.returns-in_err-id-clause-refused
-returns-in_err-id-clause-refused c =
-    let p = err_from_is_err_and c.from_residual.result c.from_residual.ensures.1 in
-    let w = walk_of c.args.item.now c.args.walk.now in
-    let x = c.args.inline in
-    let side = x.written.now.side in
-    let u = inline_of (walk_item w) x in
-    let a = stage c.args.types.now c.args.inside.now c.args.walked.now in
-    let wrong = IsWrongInline w.walk.interfaces.now c.args.types.now c.args.inside.now in
-    rw (p.1, p.2) (λ n.
-    let here : inline_after (walk_item w) n.prefix (inline_side x ∷ []) ≡ u ∷ [] = inline_here (walk_item w) n.prefix x c.requires.world (c.requires.place ∙ n.seen.interfaces side) in
-    refused_weaker (wrong (scope_item c.inside_scope-scope.result)) (IsWrongAmong w n.prefix (inline_side x ∷ []) a) _ (λ f h. wrong_one w n.prefix (inline_side x) a f n.keyed (WrongInside u here (subst (λ (i : Item). wrong i f) c.inside_scope-scope.ensures.item h))) c.in_err-id.ensures.refused)
-
-pub returns-in_err-check_metadata-clause-refused : goal.returns-in_err-check_metadata-clause-refused
-returns-in_err-check_metadata-clause-refused c =
-    let p = err_from_is_err_and c.from_residual-in_err-check_metadata.result c.from_residual-in_err-check_metadata.ensures.1 in
-    let w = walk_of c.args.item.now c.args.walk.now in
-    let x = c.args.inline in
-    let a = stage c.args.types.now c.args.inside.now c.args.walked.now in
-    rw (p.1, p.2) (λ n. refused_weaker (IsBrokenMetadata x.written.now.attributes.items) (IsWrongAmong w n.prefix (inline_side x ∷ []) a) _ (λ f broken. wrong_one w n.prefix (inline_side x) a f n.keyed (WrongMetadata broken)) (rw c.deref.ensures.value at (refused_by (metadata_agree c.deref.result.now) c.in_err-check_metadata.ensures)))
-
-pub returns-in_err-put_inline-clause-refused : goal.returns-in_err-put_inline-clause-refused
-returns-in_err-put_inline-clause-refused c =
-    let p = err_from_is_err_and c.from_residual-in_err-put_inline.result c.from_residual-in_err-put_inline.ensures.1 in
-    let w = walk_of c.args.item.now c.args.walk.now in
-    let x = c.args.inline in
-    let m = c.args.walked.now in
-    let a = stage c.args.types.now c.args.inside.now m in
-    rw (p.1, p.2) (λ n. refused_weaker (IsClashAfter m.members.in_use (inline_side x ∷ [])) (IsWrongAmong w n.prefix (inline_side x ∷ []) a) _ (λ f clash. wrong_one w n.prefix (inline_side x) a f n.keyed (WrongClash clash)) (c.in_err-put_inline.ensures.refused x.items.now))
-
-pub returns-in_err-seen-clause-refused : goal.returns-in_err-seen-clause-refused
-returns-in_err-seen-clause-refused c =
-    let p = err_from_is_err_and c.from_residual-in_err-seen.result c.from_residual-in_err-seen.ensures.1 in
-    rw p.1 (λ n. inl p.2)
-
 pub returns-clause-adds : goal.returns-clause-adds
 returns-clause-adds c = λ n.
     let w = walk_of c.args.item.now c.args.walk.now in
@@ -105,11 +64,8 @@ returns-clause-adds c = λ n.
     let inside = c.resolve_inline.new.inside in
     let here : inline_after (walk_item w) n.prefix (inline_side x ∷ []) ≡ u ∷ [] = inline_here (walk_item w) n.prefix x c.requires.world (c.requires.place ∙ n.seen.interfaces side) in
     let step = subst (AddsInside w.walk.interfaces.now c.args.types.now types c.args.inside.now inside m.required.items c.resolve_inline.new.required.items) same says.adds in
-    let sound : IsSoundScope u = subst IsSoundScope same says.sound in
-    let sided : (f : Fault) → IsBrokenSides u f → ⊥ = subst (λ (i : Item). (f : Fault) → IsBrokenSides i f → ⊥) same says.sided in
-    let noted = rw c.deref.ensures.value at ((metadata_agree c.deref.result.now).unbroken c.in_ok-check_metadata.ensures) in
     let put = rw says.id at (c.in_ok-put_inline.ensures.puts x.items.now) in
-    member_inline w n.prefix (stage c.args.types.now c.args.inside.now m) x u types inside _ here step says.extended noted sound sided put (λ ys seen. c.in_ok-seen.ensures ys (inline_side x) (refl, refl, refl) seen)
+    member_inline w n.prefix (stage c.args.types.now c.args.inside.now m) x u types inside _ here step says.extended put (λ ys seen. c.in_ok-seen.ensures ys (inline_side x) (refl, refl, refl) seen)
 
 pub returns-in_err-id-clause-first : goal.returns-in_err-id-clause-first
 returns-in_err-id-clause-first c =

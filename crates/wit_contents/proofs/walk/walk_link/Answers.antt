@@ -1,27 +1,23 @@
-use Rattle.std.proofs.Common.{◌≡◌, ◌<◌, ◌∷◌, [], ℕ, List, None, Some, length, refl, sym, ap, ◌∙◌, subst, inl, inr}
+use Rattle.std.proofs.Common.{◌≡◌, ◌<◌, ℕ, List, None, Some, length, refl, sym, ap, ◌∙◌, subst, inl, inr}
 use Rattle.std.specs.Prelude.{slice_get}
 use Rattle.std.proofs.lemmas.Option.{slice_get_within}
 use Rattle.std.proofs.lemmas.Result.{err_from_is_err_and}
-use Rattle.wit_syntax.specs.Metadata.{IsBrokenMetadata}
 use Rattle.wit_syntax.specs.Sides.{SideItem, SideLink, side_items}
 use Rattle.wit_syntax.specs.Source.{TopName, path_scope}
-use Rattle.wit_syntax.proofs.Refusing.{refused_weaker}
 use Rattle.wit_first.specs.AttributeFaults.{metadata_fault}
-use Rattle.wit_first.proofs.Bridge.{metadata_agree, refused_by}
 use Rattle.wit_arena.specs.ResolvedArenas.{interfaces_at}
 use Rattle.wit_externs.proofs.Steps.{at_middle}
 use Rattle.wit_files.specs.FileNames.{names_at_top, top_at}
 use Rattle.wit_item_names.specs.ForeignAddresses.{prefix_of}
 use Rattle.wit_items.specs.BorrowedItems.{declared_view}
 use Rattle.wit_items.proofs.Usable.{filed_item}
-use Rattle.wit_world_sides.specs.Members.{IsWrongPut, path_link}
-use Rattle.wit_links.specs.Links.{IsLinkedTo, IsWrongLink, linked_fault}
+use Rattle.wit_world_sides.specs.Members.{path_link}
+use Rattle.wit_links.specs.Links.{IsLinkedTo, linked_fault}
 use Rattle.wit_links.proofs.Leading.{addresses_count, called_at}
-use Rattle.wit_contents.specs.Walk.{IsWrongAmong, WrongAgain, WrongClash, WrongMetadata, WrongPath, stage, walk_item, walk_of}
+use Rattle.wit_contents.specs.Walk.{stage, walk_item, walk_of}
 use Rattle.wit_contents.proofs.Linking.{link_path}
 use Rattle.wit_contents.proofs.MemberFaults.{link_lost, link_noted, link_put, one_fault, one_none}
 use Rattle.wit_contents.proofs.Members.{member_link}
-use Rattle.wit_contents.proofs.Walking.{wrong_one}
 use Rattle.wit_contents.proofs.walk.walk_link.Goals as goal
 
 pub linked_place-requires : goal.linked_place-requires
@@ -43,50 +39,6 @@ id_at-id-requires c =
 pub put_link-requires : goal.put_link-requires
 put_link-requires c = c.requires.keyed
 
-pub returns-in_err-check_metadata-clause-refused : goal.returns-in_err-check_metadata-clause-refused
-returns-in_err-check_metadata-clause-refused c =
-    let p = err_from_is_err_and c.from_residual.result c.from_residual.ensures.1 in
-    let w = walk_of c.args.item.now c.args.walk.now in
-    let link = path_link c.args.link in
-    rw (p.1, p.2) (λ ts inside n.
-    let a = stage ts inside c.args.walked.now in
-    refused_weaker (IsBrokenMetadata link.attributes) (IsWrongAmong w n.prefix (SideLink link ∷ []) a) _ (λ f broken. wrong_one w n.prefix (SideLink link) a f n.keyed (WrongMetadata broken)) (rw c.deref.ensures.value at (refused_by (metadata_agree c.deref.result.now) c.in_err-check_metadata.ensures)))
-
-pub returns-in_err-place-clause-refused : goal.returns-in_err-place-clause-refused
-returns-in_err-place-clause-refused c =
-    let p = err_from_is_err_and c.from_residual-in_err-place.result c.from_residual-in_err-place.ensures.1 in
-    let w = walk_of c.args.item.now c.args.walk.now in
-    let files = w.walk.interfaces.now.files in
-    let by_name = w.walk.interfaces.now.by_name in
-    let link = path_link c.args.link in
-    rw (p.1, p.2) (λ ts inside n.
-    let a = stage ts inside c.args.walked.now in
-    let top : top_at files w.item.place ≡ (walk_item w).top = ap names_at_top n.walk.item.filed.file in
-    refused_weaker (IsWrongLink files by_name (top_at files w.item.place) link.path) (IsWrongAmong w n.prefix (SideLink link ∷ []) a) _ (λ f wrong. wrong_one w n.prefix (SideLink link) a f n.keyed (WrongPath link refl (subst (λ (t : List TopName). IsWrongLink files by_name t link.path f) top wrong))) c.in_err-place.ensures.refused)
-
-pub returns-in_err-put_link-clause-refused : goal.returns-in_err-put_link-clause-refused
-returns-in_err-put_link-clause-refused c =
-    let p = err_from_is_err_and c.from_residual-in_err-put_link.result c.from_residual-in_err-put_link.ensures.1 in
-    let w = walk_of c.args.item.now c.args.walk.now in
-    let files = w.walk.interfaces.now.files in
-    let by_name = w.walk.interfaces.now.by_name in
-    let link = path_link c.args.link in
-    let m = c.args.walked.now in
-    let id = c.id_at-id.result in
-    rw (p.1, p.2) (λ ts inside n.
-    let a = stage ts inside m in
-    let top : top_at files w.item.place ≡ (walk_item w).top = ap names_at_top n.walk.item.filed.file in
-    let leads : IsLinkedTo files by_name (walk_item w).top link.path id = subst (λ (k : ℕ). IsLinkedTo files by_name (walk_item w).top link.path k) (sym c.id_at-id.ensures) (subst (λ (t : List TopName). IsLinkedTo files by_name t link.path c.in_ok-place.place) top c.in_ok-place.ensures.leads) in
-    refused_weaker (IsWrongPut m.members link id) (IsWrongAmong w n.prefix (SideLink link ∷ []) a) _ (λ f wrong. wrong_one w n.prefix (SideLink link) a f n.keyed (elim wrong [
-      | inl clash ↦ WrongClash clash
-      | inr again ↦ WrongAgain link id refl again.0 leads again.1
-    ])) c.in_err-put_link.ensures.refused)
-
-pub returns-in_err-seen-clause-refused : goal.returns-in_err-seen-clause-refused
-returns-in_err-seen-clause-refused c =
-    let p = err_from_is_err_and c.from_residual-in_err-seen.result c.from_residual-in_err-seen.ensures.1 in
-    rw p.1 (λ ts inside n. inl p.2)
-
 pub returns-clause-adds : goal.returns-clause-adds
 returns-clause-adds c = λ ts inside n.
     let w = walk_of c.args.item.now c.args.walk.now in
@@ -96,8 +48,7 @@ returns-clause-adds c = λ ts inside n.
     let top : top_at is.files w.item.place ≡ (walk_item w).top = ap names_at_top n.walk.item.filed.file in
     let leads : IsLinkedTo is.files is.by_name (walk_item w).top link.path id = subst (λ (k : ℕ). IsLinkedTo is.files is.by_name (walk_item w).top link.path k) (sym c.id_at-id.ensures) (subst (λ (t : List TopName). IsLinkedTo is.files is.by_name t link.path c.in_ok-place.place) top c.in_ok-place.ensures.leads) in
     let present = called_at (prefix_of is.files) is.arena is.by_name (path_scope (walk_item w).top link.path) id is.prefix is.found leads.1 in
-    let noted = rw c.deref.ensures.value at ((metadata_agree c.deref.result.now).unbroken c.in_ok-check_metadata.ensures) in
-    member_link w n.prefix (stage ts inside c.args.walked.now) link id _ noted leads present refl c.in_ok-put_link.ensures.puts (λ ys seen. c.in_ok-seen.ensures ys (SideLink link) (refl, refl, refl) seen)
+    member_link w n.prefix (stage ts inside c.args.walked.now) link id _ leads.1 present refl c.in_ok-put_link.ensures.puts (λ ys seen. c.in_ok-seen.ensures ys (SideLink link) (refl, refl, refl) seen)
 
 pub returns-in_err-check_metadata-clause-first : goal.returns-in_err-check_metadata-clause-first
 returns-in_err-check_metadata-clause-first c =

@@ -6,12 +6,11 @@ use Rattle.std.proofs.lemmas.Result.{err_from_is_err_and}
 use Rattle.wit_tree.specs.declared.tree.WorldItem.{WorldItem}
 use Rattle.wit_syntax.specs.Sides.{SideItem, extern_items, part_items, side_items}
 use Rattle.wit_syntax.specs.Source.{DefinitionPart, world_part}
-use Rattle.wit_syntax.proofs.Refusing.{refused_weaker}
 use Rattle.wit_item_names.proofs.Usable.{parts_more}
-use Rattle.wit_contents.specs.Walk.{AddsMembers, IsWrongAmong, stage, walk_item, walk_of}
+use Rattle.wit_contents.specs.Walk.{AddsMembers, stage, walk_item, walk_of}
 use Rattle.wit_contents.proofs.MemberFaults.{HaveNone, first_later, none_first, none_later}
 use Rattle.wit_contents.proofs.PartItems.{all_sides, parts_split, world_sides}
-use Rattle.wit_contents.proofs.Walking.{members_none, members_then, next_then, wrong_later}
+use Rattle.wit_contents.proofs.Walking.{members_none, members_then, next_then}
 use Rattle.wit_contents.proofs.walk.walk_parts.Goals.{in-TypeDef+in_ok-walk_definition-in-TypeDef, in-Use, in-Include, in-Extern+in_ok-walk_extern-in-Extern}
 use Rattle.wit_contents.proofs.walk.walk_parts.Goals as goal
 
@@ -50,48 +49,6 @@ walk_extern-requires c =
     let own = c.in-Extern.written in
     let split = all_sides w c.declared_world-world.result.now xs c.declared_world-world.ensures c.world_items-part-items.ensures ∙ parts_split xs k x at ∙ ap (λ (y : WorldItem). done ++ (part_items (world_part y) ++ rest)) c.in-Extern.is in
     next_then w (side_items (walk_item w)) done (extern_items own own.kind) rest (stage c.args.types.now c.args.inside.now c.args.walked.now) (stage c.loop-part.types c.loop-part.inside c.loop-part.walked) n split (c.loop-part.invariant.adds n)
-
-pub returns-in_err-walk_definition-in-TypeDef-clause-refused : goal.returns-in_err-walk_definition-in-TypeDef-clause-refused
-returns-in_err-walk_definition-in-TypeDef-clause-refused c =
-    let p = err_from_is_err_and c.from_residual.result c.from_residual.ensures.1 in
-    let w = walk_of c.args.item.now c.args.walk.now in
-    let xs = c.world_items-part-items.result.now in
-    let k = c.loop-part.part-index in
-    let x = c.part-item.result in
-    let at : slice_get xs k ≡ Some x = slice_get_read xs _ k x refl c.loop-part-test.true c.part-item.is in
-    let done = world_sides (take k xs) in
-    let rest = world_sides (drop (k + 1) xs) in
-    let all = side_items (walk_item w) in
-    let one = part_items (DefinitionPart c.in-TypeDef.definition) in
-    let i = c.loop-part.inside in
-    let a = stage c.args.types.now c.args.inside.now c.args.walked.now in
-    let b = stage c.loop-part.types i c.loop-part.walked in
-    rw (p.1, p.2) (λ n.
-    let split : all ≡ done ++ (one ++ rest) = all_sides w c.declared_world-world.result.now xs c.declared_world-world.ensures c.world_items-part-items.ensures ∙ parts_split xs k x at ∙ ap (λ (y : WorldItem). done ++ (part_items (world_part y) ++ rest)) c.in-TypeDef.is in
-    let adds = c.loop-part.invariant.adds n in
-    let next = next_then w all done one rest a b n split adds in
-    refused_weaker (IsWrongAmong w next.prefix one b) (IsWrongAmong w n.prefix all a) _ (λ f h. subst (λ (l : List SideItem). IsWrongAmong w n.prefix l a f) (sym split) (wrong_later w n.prefix done one rest a b f adds h)) (c.in_err-walk_definition-in-TypeDef.ensures.refused i next))
-
-pub returns-in_err-walk_extern-in-Extern-clause-refused : goal.returns-in_err-walk_extern-in-Extern-clause-refused
-returns-in_err-walk_extern-in-Extern-clause-refused c =
-    let p = err_from_is_err_and c.from_residual-in_err-walk_extern-in-Extern.result c.from_residual-in_err-walk_extern-in-Extern.ensures.1 in
-    let w = walk_of c.args.item.now c.args.walk.now in
-    let xs = c.world_items-part-items.result.now in
-    let k = c.loop-part.part-index in
-    let x = c.part-item.result in
-    let at : slice_get xs k ≡ Some x = slice_get_read xs _ k x refl c.loop-part-test.true c.part-item.is in
-    let done = world_sides (take k xs) in
-    let rest = world_sides (drop (k + 1) xs) in
-    let all = side_items (walk_item w) in
-    let own = c.in-Extern.written in
-    let one = extern_items own own.kind in
-    let a = stage c.args.types.now c.args.inside.now c.args.walked.now in
-    let b = stage c.loop-part.types c.loop-part.inside c.loop-part.walked in
-    rw (p.1, p.2) (λ n.
-    let split : all ≡ done ++ (one ++ rest) = all_sides w c.declared_world-world.result.now xs c.declared_world-world.ensures c.world_items-part-items.ensures ∙ parts_split xs k x at ∙ ap (λ (y : WorldItem). done ++ (part_items (world_part y) ++ rest)) c.in-Extern.is in
-    let adds = c.loop-part.invariant.adds n in
-    let next = next_then w all done one rest a b n split adds in
-    refused_weaker (IsWrongAmong w next.prefix one b) (IsWrongAmong w n.prefix all a) _ (λ f h. subst (λ (l : List SideItem). IsWrongAmong w n.prefix l a f) (sym split) (wrong_later w n.prefix done one rest a b f adds h)) (c.in_err-walk_extern-in-Extern.ensures.refused next))
 
 pub loop-part-preserved : goal.loop-part-preserved
 loop-part-preserved c =

@@ -9,11 +9,6 @@ use Rattle.wit_contents.proofs.world.resolve_world.Goals as goal
 pub add_world-requires-clause-named : goal.add_world-requires-clause-named
 add_world-requires-clause-named c = c.in_ok-world.ensures.named ∙ ap (λ (id : Id). id.name.now) (sym c.declared_name-id.ensures)
 
-pub returns-in_err-world-clause-refused : goal.returns-in_err-world-clause-refused
-returns-in_err-world-clause-refused c =
-    let p = err_from_is_err_and c.from_residual.result c.from_residual.ensures.1 in
-    rw (p.1, p.2) c.in_err-world.ensures.refused
-
 pub returns-clause-adds : goal.returns-clause-adds
 returns-clause-adds c =
     let ws = c.args.worlds.now in

@@ -1,31 +1,23 @@
 use Rattle.std.proofs.Common.{◌≡◌, ◌<◌, ◌+◌, ◌++◌, ◌∷◌, ℕ, List, [], All, take, length, get_or, true, false, Some, inl, refl, ap, sym, ◌∙◌, subst}
 use Rattle.std.specs.Prelude.{slice_get, map}
-use Rattle.std.specs.List.{flat_map}
 use Rattle.std.proofs.lemmas.List.{take_all}
 use Rattle.std.proofs.lemmas.Option.{slice_get-get_or}
 use Rattle.std.proofs.lemmas.Result.{err_from_is_err_and}
 use Rattle.wit_items.specs.declared.items.Item.{Item as BorrowedItem}
 use Rattle.wit_item_names.specs.ForeignAddresses.{prefix_of}
-use Rattle.wit_items.specs.ResolvedInterfaces.{resolved_scopes_of}
 use Rattle.wit_syntax.specs.Source.{is_world, about}
 use Rattle.wit_syntax.specs.ScopeTables.{in_order, worlds_of}
-use Rattle.wit_syntax.specs.Sides.{with_inline}
-use Rattle.wit_arena.specs.ResolvedArenas.{IsWrongWorld, IsWrongWorldNow}
-use Rattle.wit_types.specs.declared.types.TypeOwner.TheVariants.{World as OfWorld}
 use Rattle.wit_first.specs.First.{first_in}
 use Rattle.wit_first.proofs.First.{in-more}
 use Rattle.wit_syntax.proofs.Lists.{read_map}
 use Rattle.wit_syntax.proofs.Kept.{kept_next, kept_past}
-use Rattle.wit_syntax.proofs.Refusing.{refused_weaker}
-use Rattle.wit_uses.proofs.Telling.{stability_more}
 use Rattle.wit_items.specs.declared.items.Declared.{Declared as BorrowedDeclared}
 use Rattle.wit_items.specs.BorrowedItems.{declared_view, item_view, others_of}
 use Rattle.wit_items.specs.Found.{world_name}
 use Rattle.wit_items.proofs.Found.{found_none}
 use Rattle.wit_contents.specs.AddedWorlds.{arenas}
-use Rattle.wit_contents.proofs.Linking.{links_more}
 use Rattle.wit_contents.proofs.WorldFaults.{among_worlds}
-use Rattle.wit_contents.proofs.WorldsMore.{AreWorldsTo, addresses_in, sides_both, sounds_both, with_more, worlds_more, worlds_none}
+use Rattle.wit_contents.proofs.WorldsMore.{AreWorldsTo, addresses_in, worlds_more, worlds_none}
 use Rattle.wit_contents.proofs.world.resolve_worlds.Goals.{in-World+in_ok-resolve_world-in-World, in-Interface, in-Inline}
 use Rattle.wit_contents.proofs.world.resolve_worlds.Goals as goal
 
@@ -38,10 +30,6 @@ loop-place-init c = rw (c.make_room.ensures.inside, c.make_room.ensures.worlds) 
   added = worlds_none (prefix_of c.args.interfaces.now.files) (others_of c.args.interfaces.now.files) c.args.interfaces.now.arena c.args.types.now c.args.prefix c.new-inside.result c.args.required.now.items c.new-inside.ensures;
   interfaces = refl;
   index = rw c.new.ensures c.requires.index;
-  sound = record { sound = λ k u f at broken. absurd (let wrong : ⊥ = cc in wrong) };
-  stable = record { legal = λ k u f at broken. absurd (let wrong : ⊥ = cc in wrong) };
-  sided = record { legal = λ k u f at broken. absurd (let wrong : ⊥ = cc in wrong) };
-  linked = record { each = λ k u at. absurd (let wrong : ⊥ = cc in wrong) };
   first = λ test right. refl;
 })
 
@@ -61,39 +49,6 @@ resolve_world-requires-clause-item c =
 
 pub resolve_world-requires-clause-index : goal.resolve_world-requires-clause-index
 resolve_world-requires-clause-index c = rw c.loop-place.invariant.interfaces c.loop-place.invariant.index
-
-pub returns-in_err-resolve_world-in-World-clause-refused : goal.returns-in_err-resolve_world-in-World-clause-refused
-returns-in_err-resolve_world-in-World-clause-refused c =
-    let q = err_from_is_err_and c.from_residual-in_err-resolve_world-in-World.result c.from_residual-in_err-resolve_world-in-World.ensures.1 in
-    let cs = resolved_scopes_of c.args.interfaces.now in
-    let by_name = c.args.interfaces.now.by_name in
-    let ws = map item_view c.args.items.now in
-    let places = c.args.places.now in
-    let i = c.loop-place.place-index in
-    let p = get_or places i 0 in
-    let x = c.index-items-place.result in
-    let w = item_view x in
-    let now = c.loop-place.worlds in
-    let at : slice_get places i ≡ Some p = slice_get-get_or places i 0 c.loop-place-test.true in
-    let within : p < length c.args.items.now = c.requires.within i 0 c.loop-place-test.true in
-    let there : slice_get ws p ≡ Some w = read_map item_view c.args.items.now p x within c.index-items-place.is in
-    let sort : is_world w ≡ true = ap (λ (d : BorrowedDeclared). (about (declared_view d)).is_world) c.in-World.is in
-    let foreign = prefix_of c.args.interfaces.now.files in
-    let files = c.args.interfaces.now.files in
-    let others = others_of files in
-    rw (q.1, q.2) (refused_weaker (IsWrongWorld files c.loop-place.types cs (length c.args.interfaces.now.arena) c.loop-place.inside by_name now.by_name (OfWorld (length now.arena)) w) (IsWrongWorldNow files foreign others c.args.types.now c.args.interfaces.now.arena by_name c.args.prefix ws places) _ (λ f h. record {
-      count = i;
-      item = w;
-      next = record { place = p; next = at; at = there };
-      sort = sort;
-      mid = c.loop-place.types;
-      before = arenas now.arena c.loop-place.inside (addresses_in (worlds_of (in_order ws (take i places))));
-      rs = c.loop-place.invariant.added.appends.own;
-      added = c.loop-place.invariant.added.appends.holds;
-      worlds_by_name = now.by_name;
-      worlds_index = c.loop-place.invariant.index;
-      wrong = h;
-    }) (rw c.loop-place.invariant.interfaces at c.in_err-resolve_world-in-World.ensures.refused))
 
 pub loop-place-preserved : goal.loop-place-preserved
 loop-place-preserved c =
@@ -116,31 +71,25 @@ loop-place-preserved c =
           let sort : is_world w ≡ true = ap (λ (d : BorrowedDeclared). (about (declared_view d)).is_world) b.in-World.is in
           let more : worlds_of (in_order ws (take (i + 1) places)) ≡ prefix ++ w ∷ [] = kept_next is_world ws places i p w at there sort in
           let e = b.in_ok-resolve_world-in-World.ensures in
-          let right = rw was.interfaces at e.right in
           let new = b.resolve_world.new.worlds.arena in
           let types = b.resolve_world.new.types in
           let required = b.resolve_world.new.required.items in
           let foreign = prefix_of c.args.interfaces.now.files in
           let others = others_of c.args.interfaces.now.files in
-          let all : flat_map with_inline (worlds_of (in_order ws (take (i + 1) places))) ≡ flat_map with_inline prefix ++ with_inline w = ap (flat_map with_inline) more ∙ with_more prefix w in
           rw (b.worlds-is, b.types-is, b.required-is, b.inside-is) (record {
             interfaces = ap (λ r. r.now) e.interfaces ∙ was.interfaces;
             added = rw more (worlds_more foreign others is c.args.types.now c.loop-place.types types c.args.prefix before new c.loop-place.inside b.resolve_world.new.inside c.args.required.now.items c.loop-place.required.items required prefix w was.added (rw was.interfaces at e.adds) e.extended);
             index = rw (ap (λ r. r.now) e.interfaces ∙ was.interfaces) at e.index;
-            sound = rw all (sounds_both (flat_map with_inline prefix) (with_inline w) was.sound right.sound);
-            stable = rw more (stability_more prefix w was.stable right.stable);
-            sided = rw all (sides_both (flat_map with_inline prefix) (with_inline w) was.sided right.sided);
-            linked = rw more (links_more c.args.interfaces.now.files prefix w was.linked right.linked);
             first = λ test is_right. rw more (in-more test prefix w (was.first test is_right) ∙ e.first test (is_right.each c.loop-place.worlds c.loop-place.types (arenas before c.loop-place.inside (addresses_in prefix)) was.added.appends.own i p x was.interfaces at own sort (c.requires.items.each p x own) was.added.appends.holds refl (rw was.interfaces was.index)));
           }))
       | in-Interface b ↦ (
           let sort : is_world w ≡ false = ap (λ (d : BorrowedDeclared). (about (declared_view d)).is_world) b.in-Interface.is in
           let past : worlds_of (in_order ws (take (i + 1) places)) ≡ prefix = kept_past is_world ws places i p w at there sort in
-          rw (b.worlds-is, b.types-is, b.required-is, b.inside-is) (record { interfaces = was.interfaces; added = rw past was.added; index = was.index; sound = rw past was.sound; stable = rw past was.stable; sided = rw past was.sided; linked = rw past was.linked; first = λ test is_right. rw past (was.first test is_right) }))
+          rw (b.worlds-is, b.types-is, b.required-is, b.inside-is) (record { interfaces = was.interfaces; added = rw past was.added; index = was.index; first = λ test is_right. rw past (was.first test is_right) }))
       | in-Inline b ↦ (
           let sort : is_world w ≡ false = ap (λ (d : BorrowedDeclared). (about (declared_view d)).is_world) b.in-Inline.is in
           let past : worlds_of (in_order ws (take (i + 1) places)) ≡ prefix = kept_past is_world ws places i p w at there sort in
-          rw (b.worlds-is, b.types-is, b.required-is, b.inside-is) (record { interfaces = was.interfaces; added = rw past was.added; index = was.index; sound = rw past was.sound; stable = rw past was.stable; sided = rw past was.sided; linked = rw past was.linked; first = λ test is_right. rw past (was.first test is_right) }))
+          rw (b.worlds-is, b.types-is, b.required-is, b.inside-is) (record { interfaces = was.interfaces; added = rw past was.added; index = was.index; first = λ test is_right. rw past (was.first test is_right) }))
     ]
 
 pub returns-clause-added : goal.returns-clause-added

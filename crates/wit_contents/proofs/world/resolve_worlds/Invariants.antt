@@ -1,12 +1,10 @@
 use Rattle.std.proofs.Common.{◌≡◌, None, Option, map, take}
-use Rattle.std.specs.List.{flat_map}
 use Rattle.wit_syntax.specs.Fault.{Fault}
 use Rattle.wit_syntax.specs.ScopeTables.{in_order, worlds_of}
-use Rattle.wit_syntax.specs.Sides.{with_inline}
 use Rattle.wit_syntax.specs.Source.{Item}
 use Rattle.wit_first.specs.First.{first_in}
 use Rattle.wit_arena.specs.Resolving.{IsWorldIndex}
-use Rattle.wit_arena.specs.ResolvedArenas.{worlds_at, AreLegalSides, AreSoundScopes, AreUsableLinks, HaveLegalStability}
+use Rattle.wit_arena.specs.ResolvedArenas.{worlds_at}
 use Rattle.wit_item_names.specs.ForeignAddresses.{prefix_of}
 use Rattle.wit_items.specs.BorrowedItems.{item_view, others_of}
 use Rattle.wit_contents.specs.WorldFaults.{AreRightOfWorlds}
@@ -18,9 +16,5 @@ invariant-loop-place l = record {
   added : AreWorldsTo (prefix_of l.interfaces.files) (others_of l.interfaces.files) l.interfaces.arena l.fn.types l.types l.fn.prefix l.worlds.arena l.inside l.fn.required.items l.required.items (worlds_of (in_order (map item_view l.items) (take l.place-index l.places)));
   interfaces : l.worlds.interfaces.now ≡ l.interfaces;
   index : IsWorldIndex (worlds_at (others_of l.interfaces.files) l.worlds.arena) l.worlds.by_name;
-  sound : AreSoundScopes (flat_map with_inline (worlds_of (in_order (map item_view l.items) (take l.place-index l.places))));
-  stable : HaveLegalStability (worlds_of (in_order (map item_view l.items) (take l.place-index l.places)));
-  sided : AreLegalSides (flat_map with_inline (worlds_of (in_order (map item_view l.items) (take l.place-index l.places))));
-  linked : AreUsableLinks l.interfaces.files (worlds_of (in_order (map item_view l.items) (take l.place-index l.places)));
   first : (wrong : Item → Option Fault) → AreRightOfWorlds wrong l.interfaces l.fn.prefix l.fn.types l.items l.places → first_in wrong (worlds_of (in_order (map item_view l.items) (take l.place-index l.places))) ≡ None;
 }

@@ -6,7 +6,7 @@ use Rattle.wit_arena.specs.Resolving.{names_in}
 use Rattle.wit_rules.specs.BorrowedFunctions.{function_view}
 use Rattle.wit_rules.specs.Signatures.{AreResults}
 use Rattle.wit_items.specs.BorrowedItems.{item_view}
-use Rattle.wit_contents.proofs.Walks.{is_walk, sides_of, sides_refused}
+use Rattle.wit_contents.proofs.Walks.{is_walk, sides_of}
 use Rattle.wit_contents.proofs.WorldFaults.{sides_none, sides_reported}
 use Rattle.wit_contents.proofs.world.walked_sides.Goals as goal
 
@@ -22,17 +22,6 @@ walk_sides-requires-clause-walk c =
 
 pub walk_sides-requires-clause-closed : goal.walk_sides-requires-clause-closed
 walk_sides-requires-clause-closed c = c.requires.scope.closed
-
-pub returns-in_err-walked-clause-refused : goal.returns-in_err-walked-clause-refused
-returns-in_err-walked-clause-refused c =
-    let p = err_from_is_err_and c.from_residual.result c.from_residual.ensures.1 in
-    let scope = c.args.scope.now in
-    let f = c.function_scope-functions.ensures in
-    let lent : c.deref.result.now ≡ scope.names.turn.items = c.deref.ensures.value in
-    let fns : map function_view c.function_scope-functions.result.functions.now ≡ functions (item_view c.args.item.now) = ap (map function_view) f.functions ∙ c.requires.scope.functions in
-    let results : AreResults c.function_scope-functions.result.results.now (scope_names (item_view c.args.item.now)) = rw f.results c.requires.scope.results in
-    let listed : names_in c.function_scope-functions.result.names.now ≡ map (λ id. id.name.now) scope.names.turn.items = rw f.names scope.names.listed in
-    rw (p.1, p.2) (sides_refused _ c.args.item.now _ _ _ c.in_err-walked.ensures.refused c.args.interfaces.now scope.names (is_walk _ scope.names.turn.items c.requires.item c.requires.sort fns results c.requires.scope.turn listed lent) refl f.names lent)
 
 pub returns-clause-adds : goal.returns-clause-adds
 returns-clause-adds c =

@@ -1,4 +1,4 @@
-use Rattle.std.proofs.Common.{◌≡◌, ◌⊎◌, ◌++◌, List, length, map, inl, inr, sym, ap, ◌∙◌, subst, refl, append_assoc}
+use Rattle.std.proofs.Common.{◌≡◌, ◌++◌, List, length, map, inl, inr, sym, ap, ◌∙◌, subst, refl, append_assoc}
 use Rattle.std.proofs.lemmas.Result.{err_from_is_err_and}
 use Rattle.std.specs.List.{flat_map}
 use Rattle.wit_tree.specs.declared.tree.WorldSide.{WorldSide}
@@ -8,66 +8,27 @@ use Rattle.wit_syntax.specs.Function.{functions, part_functions}
 use Rattle.wit_syntax.specs.ScopeTables.{includes as written_includes}
 use Rattle.wit_syntax.specs.Repeats.{AllDiffer}
 use Rattle.wit_syntax.specs.Source.{Declared, about, local_name, scope_names}
-use Rattle.wit_syntax.proofs.Refusing.{refused_weaker}
-use Rattle.wit_arena.specs.ResolvedArenas.{IsBrokenItemStability, IsWrongWorld, WrongWorldStability, LostInclude}
-use Rattle.wit_arena.specs.Resolving.{IsLostInclude, Required}
+use Rattle.wit_arena.specs.Resolving.{Required}
 use Rattle.wit_rules.specs.Signatures.{AreResults}
 use Rattle.wit_files.specs.FileNames.{names_at_top}
 use Rattle.wit_items.specs.BorrowedItems.{item_view, others_of}
 use Rattle.wit_items.proofs.Usable.{filed_item}
 use Rattle.wit_item_names.specs.ForeignAddresses.{prefix_of}
-use Rattle.wit_items.specs.ResolvedInterfaces.{resolved_scopes_of}
-use Rattle.wit_item_entries.specs.AddedNames.{IsWrongNames}
 use Rattle.wit_item_entries.proofs.ScopeFunctions.{turn_added}
-use Rattle.wit_item_entries.proofs.WrongNames.{wrong_names, wrong_world}
 use Rattle.wit_scopes.specs.PlacedNames.{AreNamesPlaced}
 use Rattle.wit_scopes.specs.BorrowedNames.{name_view}
 use Rattle.wit_uses.specs.NameOrder.{IsTurn}
 use Rattle.wit_world_sides.proofs.Putting.{keyed_differ}
-use Rattle.wit_contents.specs.Walk.{IsWrongWalk, walk_of}
+use Rattle.wit_contents.specs.Walk.{walk_of}
 use Rattle.wit_contents.specs.WorldWalk.{IsWalkOf}
-use Rattle.wit_contents.specs.AddedWorlds.{IsWrongIn}
-use Rattle.wit_contents.proofs.Parts.{content_adds, extended, right_world, world_stable}
+use Rattle.wit_contents.proofs.Parts.{content_adds, extended}
 use Rattle.wit_contents.proofs.Walks.{turn_of}
 use Rattle.wit_contents.proofs.WorldFaults.{head_fault, includes_first, names_first, world_none, world_reported}
-use Rattle.wit_contents.proofs.WrongWalk.{wrong_walk}
 use Rattle.wit_contents.proofs.world.world_content.Goals as goal
 
 pub resolve_names-requires : goal.resolve_names-requires
 resolve_names-requires c =
     record { placed = subst (AreNamesPlaced (prefix_of c.args.worlds.now.interfaces.now.files)) (sym c.deref.ensures.value) (c.requires.item.placed.each 0 c.args.item.now refl) }
-
-pub returns-in_err-names-clause-refused : goal.returns-in_err-names-clause-refused
-returns-in_err-names-clause-refused c =
-    let p = err_from_is_err_and c.from_residual.result c.from_residual.ensures.1 in
-    let cs = resolved_scopes_of c.args.worlds.now.interfaces.now in
-    let count = length c.args.worlds.now.interfaces.now.arena in
-    let inside = c.args.inside.now in
-    let by_name = c.args.worlds.now.interfaces.now.by_name in
-    let worlds = c.args.worlds.now.by_name in
-    let o = OfWorld (length c.args.worlds.now.arena) in
-    let item = item_view c.args.item.now in
-    let files = c.args.worlds.now.interfaces.now.files in
-    let old = c.args.types.now in
-    let same : map name_view c.deref.result.now ≡ scope_names (item_view c.args.item.now) = ap (map name_view) c.deref.ensures.value ∙ c.requires.item.named in
-    rw (p.1, p.2) (refused_weaker (IsWrongNames old cs by_name o (scope_names item)) (IsWrongWorld files old cs count inside by_name worlds o item) _ (λ f h. wrong_world files old cs count inside by_name worlds o item f (wrong_names old cs by_name o item f h)) (rw (c.next_id.ensures, same) at c.in_err-names.ensures.refused))
-
-pub returns-in_err-includes-clause-refused : goal.returns-in_err-includes-clause-refused
-returns-in_err-includes-clause-refused c =
-    let p = err_from_is_err_and c.from_residual-in_err-includes.result c.from_residual-in_err-includes.ensures.1 in
-    let cs = resolved_scopes_of c.args.worlds.now.interfaces.now in
-    let count = length c.args.worlds.now.interfaces.now.arena in
-    let inside = c.args.inside.now in
-    let by_name = c.args.worlds.now.interfaces.now.by_name in
-    let worlds = c.args.worlds.now.by_name in
-    let o = OfWorld (length c.args.worlds.now.arena) in
-    let item = item_view c.args.item.now in
-    let files = c.args.worlds.now.interfaces.now.files in
-    let old = c.args.types.now in
-    rw (p.1, p.2) (refused_weaker (λ f. IsBrokenItemStability item f ⊎ IsLostInclude files worlds item f) (IsWrongWorld files old cs count inside by_name worlds o item) _ (λ f h. elim h [
-      | inl unstable ↦ WrongWorldStability unstable
-      | inr lost ↦ LostInclude lost
-    ]) (rw (ap names_at_top c.requires.item.filed.file) at c.in_err-includes.ensures.refused))
 
 pub declared_includes-requires-clause-item : goal.declared_includes-requires-clause-item
 declared_includes-requires-clause-item c = filed_item c.args.worlds.now.interfaces.now.files c.args.item.now c.requires.item.filed
@@ -103,51 +64,6 @@ settle-requires-clause-differ c = keyed_differ c.in_ok-walked.walked.members c.i
 
 pub settle-requires-clause-called : goal.settle-requires-clause-called
 settle-requires-clause-called c = c.in_ok-walked.ensures.adds.2.adds.keyed.called
-
-pub returns-in_err-functions-clause-refused : goal.returns-in_err-functions-clause-refused
-returns-in_err-functions-clause-refused c =
-    let p = err_from_is_err_and c.from_residual-in_err-functions.result c.from_residual-in_err-functions.ensures.1 in
-    rw p.1 (inl p.2)
-
-pub returns-in_err-results-clause-refused : goal.returns-in_err-results-clause-refused
-returns-in_err-results-clause-refused c =
-    let p = err_from_is_err_and c.from_residual-in_err-results.result c.from_residual-in_err-results.ensures.1 in
-    rw p.1 (inl p.2)
-
-pub returns-in_err-add_required-clause-refused : goal.returns-in_err-add_required-clause-refused
-returns-in_err-add_required-clause-refused c =
-    let p = err_from_is_err_and c.from_residual-in_err-add_required.result c.from_residual-in_err-add_required.ensures.1 in
-    rw p.1 (inl p.2)
-
-pub returns-in_err-add_required-2-clause-refused : goal.returns-in_err-add_required-2-clause-refused
-returns-in_err-add_required-2-clause-refused c =
-    let p = err_from_is_err_and c.from_residual-in_err-add_required-2.result c.from_residual-in_err-add_required-2.ensures.1 in
-    rw p.1 (inl p.2)
-
-pub returns-in_err-sides-clause-refused : goal.returns-in_err-sides-clause-refused
-returns-in_err-sides-clause-refused c =
-    let p = err_from_is_err_and c.from_residual-in_err-sides.result c.from_residual-in_err-sides.ensures.1 in
-    rw p.1 (inl p.2)
-
--- the walk, after its names
-pub returns-in_err-walked-clause-refused : goal.returns-in_err-walked-clause-refused
-returns-in_err-walked-clause-refused c =
-    let p = err_from_is_err_and c.from_residual-in_err-walked.result c.from_residual-in_err-walked.ensures.1 in
-    let ws = c.args.worlds.now in
-    let is = ws.interfaces.now in
-    let item = item_view c.args.item.now in
-    let names = c.in_ok-names.names in
-    let same : map name_view c.deref.result.now ≡ scope_names item = ap (map name_view) c.deref.ensures.value ∙ c.requires.item.named in
-    let n = rw (c.next_id.ensures, same) at c.in_ok-names.ensures.adds in
-    let o = OfWorld (length ws.arena) in
-    let old = c.args.types.now in
-    let middle = c.resolve_names.new.types in
-    let inside = c.args.inside.now in
-    let h = c.in_err-walked.ensures.refused in
-    let w = h.0 in
-    let of : IsWalkOf w c.args.item.now is names = h.1 in
-    let added = turn_of w c.args.item.now is names of old middle o n in
-    rw (p.1, p.2) (refused_weaker (IsWrongWalk (walk_of c.args.item.now w) middle inside) (IsWrongIn ws old inside item) _ (λ f wrong. rw of.interfaces at (wrong_walk (walk_of c.args.item.now w) old middle inside ws.by_name o names.required.items of.walk added f wrong)) h.2)
 
 pub returns-clause-adds : goal.returns-clause-adds
 returns-clause-adds c = λ world has ss known.
@@ -192,22 +108,6 @@ returns-clause-extended c =
     let of : IsWalkOf w c.args.item.now is names = h.1 in
     let added = turn_of w c.args.item.now is names of c.args.types.now c.resolve_names.new.types (OfWorld (length ws.arena)) n in
     extended (walk_of c.args.item.now w) (others_of is.files) ws.arena c.args.types.now c.resolve_names.new.types c.walked_sides.new.types c.args.inside.now c.walked_sides.new.inside names.required.items c.in_ok-walked.walked of.walk added h.2
-
-pub returns-clause-right : goal.returns-clause-right
-returns-clause-right c = λ legal.
-    let ws = c.args.worlds.now in
-    let is = ws.interfaces.now in
-    let item = item_view c.args.item.now in
-    let names = c.in_ok-names.names in
-    let same : map name_view c.deref.result.now ≡ scope_names item = ap (map name_view) c.deref.ensures.value ∙ c.requires.item.named in
-    let n = rw (c.next_id.ensures, same) at c.in_ok-names.ensures.adds in
-    let h = c.in_ok-walked.ensures.adds in
-    let w = h.0 in
-    let of : IsWalkOf w c.args.item.now is names = h.1 in
-    let added = turn_of w c.args.item.now is names of c.args.types.now c.resolve_names.new.types (OfWorld (length ws.arena)) n in
-    let stable = world_stable item legal c.in_ok-includes.ensures.stable in
-    let sound = rw same at (c.in_ok-names.ensures.legal (functions item)) in
-    rw of.interfaces at (right_world (walk_of c.args.item.now w) (others_of is.files) ws.arena c.args.types.now c.resolve_names.new.types c.walked_sides.new.types c.args.inside.now c.walked_sides.new.inside names.required.items c.in_ok-walked.walked of.walk added h.2 stable sound)
 
 -- the first fault: of its names, of its includes, or of what is on its sides
 pub returns-in_err-names-clause-first : goal.returns-in_err-names-clause-first

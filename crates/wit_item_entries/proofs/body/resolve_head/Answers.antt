@@ -1,43 +1,13 @@
 use Rattle.std.proofs.Common.{None, inl, inr}
 use Rattle.std.proofs.lemmas.Result.{err_from_is_err_and}
-use Rattle.wit_syntax.specs.Metadata.{IsBrokenStability}
-use Rattle.wit_syntax.specs.Source.{scope_names, about}
-use Rattle.wit_syntax.proofs.Refusing.{refused_weaker}
-use Rattle.wit_first.proofs.Bridge.{refused_by, stability_agrees}
 use Rattle.wit_items.specs.BorrowedItems.{scope_item}
-use Rattle.wit_item_entries.specs.AddedNames.{IsWrongNames}
-use Rattle.wit_item_entries.specs.Body.{IsWrongBody, WrongMetadata}
 use Rattle.wit_item_entries.specs.ReachedFaults.{IsNamesFault, item_stability}
 use Rattle.wit_item_entries.proofs.ReachedFaults.{after_first, after_none, before_first, by_weaker}
-use Rattle.wit_items.specs.ResolvedInterfaces.{resolved_scopes_of}
-use Rattle.wit_item_entries.proofs.WrongNames.{wrong_names}
 use Rattle.wit_item_entries.proofs.body.resolve_head.Goals as goal
-
-pub returns-in_err-metadata-clause-refused : goal.returns-in_err-metadata-clause-refused
-returns-in_err-metadata-clause-refused c =
-    let p = err_from_is_err_and c.from_residual.result c.from_residual.ensures.1 in
-    let is = c.args.interfaces.now in
-    let item = scope_item c.args.item.now in
-    rw (p.1, p.2) (refused_weaker (IsBrokenStability (about item.declared).attributes) (IsWrongBody c.args.types.now (resolved_scopes_of is) is.by_name c.args.owner item) _ (λ f h. WrongMetadata h) (refused_by (stability_agrees (about item.declared).attributes) c.in_err-metadata.ensures.first))
-
-pub returns-clause-stable : goal.returns-clause-stable
-returns-clause-stable c = (stability_agrees (about (scope_item c.args.item.now).declared).attributes).unbroken c.in_ok-metadata.ensures.first
-
-pub returns-in_err-names-clause-refused : goal.returns-in_err-names-clause-refused
-returns-in_err-names-clause-refused c =
-    let p = err_from_is_err_and c.from_residual-in_err-names.result c.from_residual-in_err-names.ensures.1 in
-    let cs = resolved_scopes_of c.args.interfaces.now in
-    let by_name = c.args.interfaces.now.by_name in
-    let item = scope_item c.args.item.now in
-    rw (p.1, p.2) (refused_weaker (IsWrongNames c.args.types.now cs by_name c.args.owner (scope_names item)) (IsWrongBody c.args.types.now cs by_name c.args.owner item) _ (wrong_names c.args.types.now cs by_name c.args.owner item) (rw c.requires.named at c.in_err-names.ensures.refused))
 
 pub returns-clause-adds : goal.returns-clause-adds
 returns-clause-adds c =
     rw c.requires.named at c.in_ok-names.ensures.adds
-
-pub returns-clause-legal : goal.returns-clause-legal
-returns-clause-legal c = λ fns.
-    rw c.requires.named at (c.in_ok-names.ensures.legal fns)
 
 pub returns-in_err-metadata-clause-first : goal.returns-in_err-metadata-clause-first
 returns-in_err-metadata-clause-first c =

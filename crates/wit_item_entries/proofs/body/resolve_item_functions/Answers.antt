@@ -3,7 +3,6 @@ use Rattle.std.proofs.lemmas.Result.{err_from_is_err_and}
 use Rattle.wit_syntax.specs.Source.{ScopeName, scope_names}
 use Rattle.wit_syntax.specs.Function.{functions}
 use Rattle.wit_syntax.specs.Sides.{SideFunction, side_items}
-use Rattle.wit_syntax.proofs.Refusing.{refused_weaker}
 use Rattle.wit_syntax.proofs.Sides.{side_items_functions}
 use Rattle.wit_arena.specs.Resolving.{env_of}
 use Rattle.wit_item_entries.proofs.ReachedFaults.{extended_same}
@@ -14,17 +13,12 @@ use Rattle.wit_externs.specs.Clash.{DifferOnSides}
 use Rattle.wit_items.specs.BorrowedItems.{declared_view}
 use Rattle.wit_scopes.specs.BorrowedNames.{name_view}
 use Rattle.wit_uses.specs.NameOrder.{IsTurn}
-use Rattle.wit_item_entries.specs.ScopeFunctionFaults.{IsWrongFunctions, functions_fault}
-use Rattle.wit_item_entries.specs.Body.{IsWrongBody, functions_in}
-use Rattle.wit_item_entries.proofs.InterfaceSides.{declared_functions, declared_interface, sides_sound}
+use Rattle.wit_item_entries.specs.ScopeFunctionFaults.{functions_fault}
+use Rattle.wit_item_entries.specs.Body.{functions_in}
+use Rattle.wit_item_entries.proofs.InterfaceSides.{declared_functions, declared_interface}
 use Rattle.wit_item_entries.proofs.Owners.{owners, turn_has}
-use Rattle.wit_item_entries.proofs.ScopeFunctions.{body_added, scope_sound, wrong_view}
+use Rattle.wit_item_entries.proofs.ScopeFunctions.{body_added}
 use Rattle.wit_item_entries.proofs.body.resolve_item_functions.Goals as goal
-
-pub returns-in_err-written-clause-refused : goal.returns-in_err-written-clause-refused
-returns-in_err-written-clause-refused c =
-    let p = err_from_is_err_and c.from_residual.result c.from_residual.ensures.1 in
-    rw p.1 (λ i own old cs by_name o n. inl p.2)
 
 pub resolve_signatures-requires-clause-owners : goal.resolve_signatures-requires-clause-owners
 resolve_signatures-requires-clause-owners c =
@@ -35,35 +29,12 @@ resolve_signatures-requires-clause-owners c =
     let turn : IsTurn (scope_names item) c.args.names.now.turn.items = subst (λ (xs : List ScopeName). IsTurn xs c.args.names.now.turn.items) (sym own.names) c.requires.turn in
     subst (HaveOwners (env_of types)) (sym fns) (owners item (env_of types) (turn_has (scope_names item) c.args.names.now.turn.items types turn c.args.names.now.listed))
 
-pub returns-in_err-functions-clause-refused : goal.returns-in_err-functions-clause-refused
-returns-in_err-functions-clause-refused c =
-    let p = err_from_is_err_and c.from_residual-in_err-functions.result c.from_residual-in_err-functions.ensures.1 in
-    let types = c.args.names.now.types in
-    let new = c.resolve_signatures.new.types in
-    rw (p.1, p.2) (λ item own old cs by_name o n. (
-    let fns : map function_view c.deref.result.now ≡ functions item = declared_functions item (declared_view c.args.declared) c.args.borrowed.now c.in_ok-written.written.items c.deref.result.now own c.deref.ensures.value (c.in_ok-written.ensures c.requires.sort) in
-    let alone : side_items item ≡ map SideFunction (functions item) = side_items_functions item (declared_interface item (declared_view c.args.declared) c.args.borrowed.now own c.requires.sort) in
-    refused_weaker (IsWrongFunctions (env_of types) new (scope_names item) (functions item)) (IsWrongBody old cs by_name o item) _ (λ f h. wrong_view old c.args.types.now new cs by_name o item types c.args.names.now.turn.items c.args.names.now.required.items f alone n c.in_err-functions.ensures.extended h) (rw (sym own.names, fns) at c.in_err-functions.ensures.refused)))
-
 pub returns-clause-adds : goal.returns-clause-adds
 returns-clause-adds c = λ item own old cs o n.
     let fns : map function_view c.deref.result.now ≡ functions item = declared_functions item (declared_view c.args.declared) c.args.borrowed.now c.in_ok-written.written.items c.deref.result.now own c.deref.ensures.value (c.in_ok-written.ensures c.requires.sort) in
     let alone : side_items item ≡ map SideFunction (functions item) = side_items_functions item (declared_interface item (declared_view c.args.declared) c.args.borrowed.now own c.requires.sort) in
     let e = c.in_ok-functions.ensures in
     body_added old c.args.types.now c.resolve_signatures.new.types cs o item c.args.names.now.types c.args.names.now.turn.items c.args.names.now.required.items c.resolve_signatures.new.names.required.items c.in_ok-functions.functions.items n (rw fns at e.adds) e.extended (rw fns at e.handled) (e.named ∙ ap (map name_of_function) fns) (subst (DifferOnSides c.args.names.now.turn.items) (sym alone) (rw fns at e.differ))
-
-pub returns-clause-sound : goal.returns-clause-sound
-returns-clause-sound c = λ item own legal.
-    let fns : map function_view c.deref.result.now ≡ functions item = declared_functions item (declared_view c.args.declared) c.args.borrowed.now c.in_ok-written.written.items c.deref.result.now own c.deref.ensures.value (c.in_ok-written.ensures c.requires.sort) in
-    scope_sound (scope_names item) (functions item) legal (rw (sym own.names, fns) at c.in_ok-functions.ensures.sound)
-
-pub returns-clause-sided : goal.returns-clause-sided
-returns-clause-sided c = λ item own.
-    let ids = c.args.names.now.turn.items in
-    let sort = declared_interface item (declared_view c.args.declared) c.args.borrowed.now own c.requires.sort in
-    let fns : map function_view c.deref.result.now ≡ functions item = declared_functions item (declared_view c.args.declared) c.args.borrowed.now c.in_ok-written.written.items c.deref.result.now own c.deref.ensures.value (c.in_ok-written.ensures c.requires.sort) in
-    let turn : IsTurn (scope_names item) ids = subst (λ (xs : List ScopeName). IsTurn xs ids) (sym own.names) c.requires.turn in
-    sides_sound item sort ids turn (subst (DifferOnSides ids) (sym (side_items_functions item sort)) (rw fns at c.in_ok-functions.ensures.differ))
 
 pub returns-in_err-functions-clause-first : goal.returns-in_err-functions-clause-first
 returns-in_err-functions-clause-first c =

@@ -6,7 +6,7 @@ use Rattle.wit_syntax.specs.Fault.{Fault}
 use Rattle.wit_syntax.specs.Source.{ScopeName}
 use Rattle.wit_syntax.specs.Shape.{all_handles}
 use Rattle.wit_syntax.specs.Function.{name_types}
-use Rattle.wit_arena.specs.Resolving.{ResolvedScope, env_of, Defines, AreLegalBodies, AreLegalMetadata, HasNames, names_in}
+use Rattle.wit_arena.specs.Resolving.{ResolvedScope, env_of, Defines, HasNames, names_in}
 use Rattle.wit_syntax.specs.ScopeTables.{local_names}
 use Rattle.wit_entries.specs.Requiring.{IsExtended, Requires}
 use Rattle.wit_externs.specs.AloneFaults.{IsSafe}
@@ -20,8 +20,6 @@ invariant-loop-definition l = record {
   owner : l.scope.owner ≡ l.fn.scope.owner;
   listed : names_in l.scope.names ≡ names_in l.fn.scope.names ++ local_names (take l.definition-index (map definition_view l.definitions));
   handled : Requires (env_of l.scope.names) l.types (all_handles (flat_map name_types (take l.definition-index (map definition_view l.definitions)))) l.fn.scope.required.items l.scope.required.items;
-  noted : AreLegalMetadata (take l.definition-index (map definition_view l.definitions));
-  legal : AreLegalBodies (take l.definition-index (map definition_view l.definitions));
   first : (handle : Id → Option Fault) → IsSafe (env_of l.scope.names) l.types handle → definitions_fault handle (take l.definition-index (map definition_view l.definitions)) ≡ None;
   kept : (xs : List ScopeName) → HasNames (env_of l.fn.scope.names) xs → HasNames (env_of l.scope.names) xs;
   has : HasNames (env_of l.scope.names) (take l.definition-index (map definition_view l.definitions));

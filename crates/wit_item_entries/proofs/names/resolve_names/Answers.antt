@@ -1,4 +1,4 @@
-use Rattle.std.proofs.Common.{◌≡◌, ◌⊎◌, ◌++◌, List, [], None, map, inl, inr, sym, ap, ◌∙◌, subst}
+use Rattle.std.proofs.Common.{◌≡◌, ◌++◌, List, [], None, map, inl, inr, sym, ap, ◌∙◌, subst}
 use Rattle.std.specs.List.{flat_map}
 use Rattle.std.proofs.lemmas.List.{map-append}
 use Rattle.std.proofs.lemmas.Result.{err_from_is_err_and}
@@ -7,10 +7,8 @@ use Rattle.wit_syntax.specs.Address.{Address}
 use Rattle.wit_syntax.specs.ScopeTables.{in_order, used, defined, local_names}
 use Rattle.wit_syntax.specs.Shape.{all_handles}
 use Rattle.wit_syntax.specs.Source.{local_name}
-use Rattle.wit_syntax.specs.Function.{SourceFunction, name_types}
-use Rattle.wit_syntax.specs.Broken.{IsBrokenScope}
-use Rattle.wit_arena.specs.Resolving.{Required, env_of, Defines, IsWrongScope, WrongItself, names_in}
-use Rattle.wit_syntax.proofs.Refusing.{refused_weaker}
+use Rattle.wit_syntax.specs.Function.{name_types}
+use Rattle.wit_arena.specs.Resolving.{Required, env_of, Defines, names_in}
 use Rattle.wit_arena.proofs.DefinitionPart.{defines_more}
 use Rattle.wit_entries.specs.Requiring.{Requires}
 use Rattle.wit_entries.proofs.Requiring.{extended_then}
@@ -22,9 +20,9 @@ use Rattle.wit_items.specs.ResolvedInterfaces.{resolved_scopes_of}
 use Rattle.wit_uses.specs.UseFaults.{local_faults}
 use Rattle.wit_item_entries.specs.ReachedFaults.{IsNamesFault, IsOrderedFault}
 use Rattle.wit_item_entries.proofs.ReachedFaults.{by_weaker, types_first, types_none, used_first}
-use Rattle.wit_item_entries.specs.AddedNames.{DefinesTurn, IsWrongHandleTurn, IsWrongNames, WrongScopeNames, WrongHandleNames}
+use Rattle.wit_item_entries.specs.AddedNames.{DefinesTurn}
 use Rattle.wit_item_entries.proofs.FunctionFaults.{turn_texts}
-use Rattle.wit_item_entries.proofs.Handled.{types-in_turn, wrong_handle_turn}
+use Rattle.wit_item_entries.proofs.Handled.{types-in_turn}
 use Rattle.wit_item_entries.proofs.names.resolve_names.Goals as goal
 
 pub resolve_uses-requires-clause-placed : goal.resolve_uses-requires-clause-placed
@@ -51,32 +49,6 @@ pub resolve_types-requires-clause-listed : goal.resolve_types-requires-clause-li
 resolve_types-requires-clause-listed c =
     let names : map use_view c.deref.result.now ≡ used (map name_view c.args.names.now) = ap (map use_view) (c.deref.ensures.value ∙ c.in_ok-uses.ensures) ∙ uses_viewed c.args.names.now in
     c.in_ok-resolve_uses.ensures.listed ∙ ap local_names names
-
-pub returns-in_err-resolve_uses-clause-refused : goal.returns-in_err-resolve_uses-clause-refused
-returns-in_err-resolve_uses-clause-refused c =
-    let p = err_from_is_err_and c.from_residual-in_err-resolve_uses.result c.from_residual-in_err-resolve_uses.ensures.1 in
-    let cs = resolved_scopes_of c.args.interfaces.now in
-    let by_name = c.args.interfaces.now.by_name in
-    let xs = map name_view c.args.names.now in
-    let uses : map use_view c.deref.result.now ≡ used xs = ap (map use_view) (c.deref.ensures.value ∙ c.in_ok-uses.ensures) ∙ uses_viewed c.args.names.now in
-    rw (p.1, p.2) (refused_weaker (λ f. (fns : List SourceFunction) → IsWrongScope cs by_name xs fns f) (IsWrongNames c.args.types.now cs by_name c.args.owner xs) _ (λ f h. WrongScopeNames h) (c.in_err-resolve_uses.ensures.refused xs uses))
-
-pub returns-in_err-turn-clause-refused : goal.returns-in_err-turn-clause-refused
-returns-in_err-turn-clause-refused c =
-    let p = err_from_is_err_and c.from_residual-in_err-turn.result c.from_residual-in_err-turn.ensures.1 in
-    let cs = resolved_scopes_of c.args.interfaces.now in
-    let by_name = c.args.interfaces.now.by_name in
-    let o = c.args.owner in
-    let old = c.args.types.now in
-    let xs = map name_view c.args.names.now in
-    let names : map use_view c.deref.result.now ≡ used xs = ap (map use_view) (c.deref.ensures.value ∙ c.in_ok-uses.ensures) ∙ uses_viewed c.args.names.now in
-    let first = c.resolve_uses.new.types in
-    let scope = c.resolve_uses.new.scope in
-    let uses : (s : Address) → Defines old first cs o s [] scope.names (used xs) = rw (names, c.in_ok-with_capacity.ensures) at c.in_ok-resolve_uses.ensures.defines in
-    rw (p.1, p.2) (refused_weaker (λ f. ((fns : List SourceFunction) → IsBrokenScope xs fns f) ⊎ IsWrongHandleTurn first scope.owner scope.names xs f) (IsWrongNames old cs by_name o xs) _ (λ f h. elim h [
-      | inl broken ↦ WrongScopeNames (λ fns. WrongItself (broken fns))
-      | inr wrong ↦ WrongHandleNames (wrong_handle_turn old first cs o scope.names xs f uses (rw c.in_ok-resolve_uses.ensures.owner at wrong))
-    ]) c.in_err-turn.ensures.refused)
 
 pub returns-clause-adds : goal.returns-clause-adds
 returns-clause-adds c =

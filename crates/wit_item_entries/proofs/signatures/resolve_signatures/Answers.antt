@@ -1,4 +1,4 @@
-use Rattle.std.proofs.Common.{◌≡◌, ◌⊎◌, ◌++◌, List, [], Option, map, inl, inr, sym, ap, ◌∙◌, subst, arith, false}
+use Rattle.std.proofs.Common.{◌≡◌, ◌++◌, List, [], Option, map, inl, inr, sym, ap, ◌∙◌, subst, arith, false}
 use Rattle.std.specs.Char.{is_ascii_uppercase}
 use Rattle.std.specs.List.{list_any}
 use Rattle.std.specs.Option.{option_or}
@@ -18,17 +18,14 @@ use Rattle.wit_syntax.specs.Sides.{SideFunction, items_on, names_on}
 use Rattle.wit_syntax.proofs.Repeated.{differ_none}
 use Rattle.wit_sides.specs.SideNames.{defined_on}
 use Rattle.wit_arena.specs.Resolving.{Names, env_of, names_in}
-use Rattle.wit_syntax.proofs.Refusing.{refused_weaker}
 use Rattle.wit_refusals.specs.NameScopes.{Name}
 use Rattle.wit_rules.specs.BorrowedFunctions.{function_view}
-use Rattle.wit_rules.specs.Signatures.{IsWrongFunctionAmong}
-use Rattle.wit_signatures.specs.ForeignName.{name_key, name_of_id, IsTwiceAmong}
+use Rattle.wit_signatures.specs.ForeignName.{name_key, name_of_id}
 use Rattle.wit_externs.specs.AloneFaults.{alone_faults, defined_fault, words_in}
-use Rattle.wit_externs.specs.Clash.{IsClash, all_on, names_of_items}
-use Rattle.wit_item_entries.specs.ScopeFunctionFaults.{IsWrongFunctions, BrokenNames}
+use Rattle.wit_externs.specs.Clash.{all_on, names_of_items}
 use Rattle.wit_scopes.specs.BorrowedNames.{name_view}
 use Rattle.wit_uses.specs.NameOrder.{IsTurn}
-use Rattle.wit_item_entries.proofs.FunctionFaults.{all_names, prefix_folded, used_before, words_same, wrong_clash, wrong_functions}
+use Rattle.wit_item_entries.proofs.FunctionFaults.{all_names, used_before, words_same}
 use Rattle.wit_item_entries.proofs.NoFunctions.{names_alone, no_functions}
 use Rattle.wit_item_entries.proofs.OwnKeys.{turn_keys}
 use Rattle.wit_item_entries.proofs.signatures.resolve_signatures.Goals as goal
@@ -38,17 +35,6 @@ returns-then-not-have_upper_case-clause-differ c = λ side.
     let ids = c.args.names.now.turn.items in
     let lower : list_any (λ (id : Id). list_any is_ascii_uppercase id.name.now) ids ≡ false = ap (list_any (λ (id : Id). list_any is_ascii_uppercase id.name.now)) (sym c.deref.ensures.value) ∙ sym c.have_upper_case.ensures ∙ c.if-not-have_upper_case.true in
     names_alone side (map name_view c.args.borrowed.now) ids c.args.written.now (omega (arith, c.if-written-eq0.true)) c.requires.turn lower
-
-pub returns-in_err-define_names-clause-refused : goal.returns-in_err-define_names-clause-refused
-returns-in_err-define_names-clause-refused c =
-    let p = err_from_is_err_and c.from_residual-in_err-define_names.result c.from_residual-in_err-define_names.ensures.1 in
-    let xs = map name_view c.args.borrowed.now in
-    let fns = map function_view c.args.written.now in
-    let ids = c.args.names.now.turn.items in
-    let env = env_of c.args.names.now.types in
-    let before = c.args.in_use.now.imports in
-    let same : before ++ map name_of_id c.deref-2.result.now ≡ map name_of_id ids = ap (λ (l : List Name). l ++ map name_of_id c.deref-2.result.now) (c.requires.nothing Imported) ∙ ap (map name_of_id) c.deref-2.ensures.value in
-    rw (p.1, p.2) (refused_weaker (IsTwiceAmong (before ++ map name_of_id c.deref-2.result.now)) (IsWrongFunctions env c.args.types.now xs fns) _ (λ f h. BrokenNames (prefix_folded xs (map SideFunction fns) ids f c.requires.turn (subst (λ (l : List Name). IsTwiceAmong l f) same h))) c.in_err-define_names.ensures.refused)
 
 pub returns-clause-in_use : goal.returns-clause-in_use
 returns-clause-in_use c = λ some side.
@@ -64,28 +50,6 @@ returns-clause-differ c = λ side.
     let before : defined_on side c.define_names.new.in_use ≡ names_on side (map name_of_id ids) = used_before side c.args.in_use.now c.define_names.new.in_use c.deref-2.result.now ids c.requires.nothing c.in_ok-define_names.ensures.defined c.deref-2.ensures.value in
     let all : defined_on side c.resolve_functions.new.in_use ≡ all_on side ids items = c.in_ok-functions.ensures.defined side ∙ ap (λ (l : List Name). l ++ names_of_items (items_on side items)) before in
     subst (λ (l : List Name). AllDiffer (map name_key l)) all (c.in_ok-functions.ensures.differ side (c.in_ok-define_names.ensures.differ side none))
-
-pub returns-clause-sound : goal.returns-clause-sound
-returns-clause-sound c =
-    let xs = map name_view c.args.borrowed.now in
-    let ids = c.args.names.now.turn.items in
-    let are = all_names xs ids c.args.names.now.types c.requires.turn c.args.names.now.listed in
-    c.in_ok-functions.ensures.legal xs (record { names = are; results = c.in_ok-results.ensures })
-
-pub returns-in_err-functions-clause-refused : goal.returns-in_err-functions-clause-refused
-returns-in_err-functions-clause-refused c =
-    let p = err_from_is_err_and c.from_residual-in_err-functions.result c.from_residual-in_err-functions.ensures.1 in
-    let xs = map name_view c.args.borrowed.now in
-    let fns = map function_view c.args.written.now in
-    let ids = c.args.names.now.turn.items in
-    let env = env_of c.args.names.now.types in
-    let es = c.resolve_functions.new.types in
-    let are = all_names xs ids c.args.names.now.types c.requires.turn c.args.names.now.listed in
-    let in_use = c.define_names.new.in_use in
-    rw (p.1, p.2) (refused_weaker (λ f. IsWrongFunctionAmong env es xs fns f ⊎ IsClash (λ s. defined_on s in_use) (map SideFunction fns) f) (IsWrongFunctions env es xs fns) _ (λ f h. elim h [
-      | inl wrong ↦ wrong_functions env es xs fns f wrong
-      | inr clash ↦ wrong_clash env es xs fns ids (λ s. defined_on s in_use) f c.requires.turn (λ s. used_before s c.args.in_use.now in_use c.deref-2.result.now ids c.requires.nothing c.in_ok-define_names.ensures.defined c.deref-2.ensures.value) clash
-    ]) (c.in_err-functions.ensures.refused xs (record { names = are; results = c.in_ok-results.ensures })))
 
 -- the faults of functions by a table of names are those by what its scope means
 by_scope : (xs : List ScopeName) (ids : List Id) (types : Names) (handle : Id → Option Fault) (a b : WorldSide → List Name) (fns : List SourceFunction) → IsTurn xs ids → names_in types ≡ map (λ (id : Id). id.name.now) ids → ((s : WorldSide) → a s ≡ b s) → alone_faults (words_in (env_of types)) handle xs a fns ≡ alone_faults (word_fault xs) handle xs b fns

@@ -4,8 +4,9 @@ use Rattle.std.proofs.lemmas.Result.{err_from_is_err_and}
 use Rattle.wit_values.specs.ReleaseText.{release_parts}
 use Rattle.wit_package_names.specs.declared.package_name.PackageName.{PackageName}
 use Rattle.wit_arena.specs.Whole.{NamesOthers}
+use Rattle.wit_walk.proofs.Legal.{legal}
 use Rattle.wit_contents.specs.AddedFiles.{MakeContents}
-use Rattle.wit_contents.proofs.Files.{files_legal, files_package}
+use Rattle.wit_contents.proofs.Files.{files_package}
 use Rattle.wit_parser.proofs.FirstFault.{faultless, reported}
 use Rattle.wit_parser.proofs.resolver.resolve_named.Goals as goal
 
@@ -20,7 +21,7 @@ returns-clause-made c =
     let n = rw c.in_ok-contents.ensures.both.1 at c.package_heading.ensures in
     let others : NamesOthers files p = (e.foreign_deps ∙ made.deps, e.foreign_dep_spans ∙ made.spans, e.unknown_type_spans ∙ made.unknown) in
     record {
-      legal = files_legal files _ _ _ _ made.added header c.requires.header;
+      legal = legal files (faultless files header c.requires.header c.in_ok-made.ensures.first);
       whole = files_package files _ _ _ _ made.added p e.types e.interfaces e.worlds others e.required_resource_types header c.requires.header
           (ap (λ (m : PackageName). m.namespace) e.name ∙ n.namespace)
           (ap (λ (m : PackageName). m.name) e.name ∙ n.name)
@@ -28,11 +29,6 @@ returns-clause-made c =
           e.name_span
           (e.docs ∙ n.docs);
     }
-
-pub returns-in_err-contents-clause-refused : goal.returns-in_err-contents-clause-refused
-returns-in_err-contents-clause-refused c =
-    let p = err_from_is_err_and c.from_residual-in_err-contents.result c.from_residual-in_err-contents.ensures.1 in
-    rw p.1 (inl p.2)
 
 pub returns-in_err-made-clause-first : goal.returns-in_err-made-clause-first
 returns-in_err-made-clause-first c =

@@ -1,26 +1,23 @@
-use Rattle.std.proofs.Common.{◌≡◌, ◌+◌, ◌++◌, ◌∷◌, List, [], take, Some, refl, ap, sym, ◌∙◌, subst, arith}
+use Rattle.std.proofs.Common.{◌≡◌, ◌+◌, ◌++◌, ◌∷◌, [], take, Some, refl, ap, sym, ◌∙◌, subst, arith}
 use Rattle.std.specs.Prelude.{slice_get, map}
 use Rattle.std.proofs.lemmas.List.{take_all, take-map, length-map}
 use Rattle.std.proofs.lemmas.Option.{slice_get_read}
 use Rattle.std.proofs.lemmas.Result.{err_from_is_err_and}
 use Rattle.wit_types.specs.declared.types.TypeOwner.{TypeOwner}
 use Rattle.wit_syntax.specs.Source.{Used}
-use Rattle.wit_syntax.specs.Function.{SourceFunction}
-use Rattle.wit_arena.specs.Resolving.{Defines, IsWrongUse, IsWrongScope}
+use Rattle.wit_arena.specs.Resolving.{Defines}
 use Rattle.wit_syntax.specs.ScopeTables.{local_names}
 use Rattle.wit_syntax.proofs.Lists.{read_map}
 use Rattle.wit_syntax.proofs.Orders.{take_next}
 use Rattle.wit_arena.proofs.DefinitionPart.{defines_used, defines_more}
-use Rattle.wit_syntax.proofs.Refusing.{refused_weaker}
 use Rattle.wit_first.specs.First.{first_after}
-use Rattle.wit_first.proofs.First.{after-next, refused_as, reports-after, reports_same}
+use Rattle.wit_first.proofs.First.{after-next, reports-after, reports_same}
 use Rattle.wit_arena.proofs.UsePart.{listed_has, listed_more}
 use Rattle.wit_entries.proofs.Requiring.{extended_then}
 use Rattle.wit_scopes.specs.BorrowedNames.{source_view, use_view}
 use Rattle.wit_items.specs.ResolvedInterfaces.{resolved_scopes_of}
-use Rattle.wit_scopes.proofs.UsedNames.{wrong_used}
 use Rattle.wit_uses.specs.UseFaults.{local_fault}
-use Rattle.wit_uses.proofs.UseFaults.{local_next, use_wrong}
+use Rattle.wit_uses.proofs.UseFaults.{local_next}
 use Rattle.wit_uses.proofs.uses.resolve_uses.Goals as goal
 
 pub resolve_use-requires : goal.resolve_use-requires
@@ -40,23 +37,6 @@ returns-in_err-resolve_use-clause-first c =
     let at : slice_get uses i ≡ Some u = slice_get_read uses _ i u refl c.loop-name-test.true c.name-item.is in
     let own = local_next is c.loop-name.scope.names (take i uses) u (c.loop-name.invariant.listed ∙ ap local_names (take-map use_view i uses)) in
     rw (p.1, p.2) (reports-after (local_fault is) uses i u _ at c.loop-name.invariant.first (reports_same (sym own) c.in_err-resolve_use.ensures.first))
-
-pub returns-in_err-resolve_use-clause-refused : goal.returns-in_err-resolve_use-clause-refused
-returns-in_err-resolve_use-clause-refused c =
-    let p = err_from_is_err_and c.from_residual.result c.from_residual.ensures.1 in
-    let is = c.args.interfaces.now in
-    let uses = c.args.uses.now in
-    let us = map use_view uses in
-    let i = c.loop-name.name-index in
-    let u = c.name-item.result in
-    let from = source_view u.from in
-    let attributes = u.attributes.now in
-    let n = u.name.now in
-    let cs = resolved_scopes_of is in
-    let names = c.loop-name.scope.names in
-    let here : slice_get uses i ≡ Some u = slice_get_read uses _ i u refl c.loop-name-test.true c.name-item.is in
-    let at : slice_get us i ≡ Some (Used from attributes n) = read_map use_view uses i u c.loop-name-test.true c.name-item.is in
-    rw (p.1, p.2) (λ xs are. refused_weaker (IsWrongUse cs is.by_name names from attributes n) (λ f. (fns : List SourceFunction) → IsWrongScope cs is.by_name xs fns f) _ (wrong_used cs is.by_name names xs i from attributes n (ap (λ l. slice_get l i) (sym are) ∙ at) (c.loop-name.invariant.listed ∙ ap (λ l. local_names (take i l)) are)) (refused_as (λ f h. use_wrong is names u f (c.requires.placed.each i u here) h) c.in_err-resolve_use.ensures.first))
 
 pub loop-name-preserved : goal.loop-name-preserved
 loop-name-preserved c =

@@ -1,16 +1,12 @@
-use Rattle.std.proofs.Common.{◌≡◌, ◌⊎◌, ◌∷◌, [], List, ℕ, ap, sym, ◌∙◌, inl, inr, Option, true, false, subst}
-use Rattle.std.proofs.lemmas.Result.{IfErr-weaker}
-use Rattle.wit_tree.specs.declared.tree.WorldSide.{WorldSide}
+use Rattle.std.proofs.Common.{◌≡◌, ◌∷◌, [], List, ℕ, ap, sym, ◌∙◌, Option, true, false, subst}
 use Rattle.wit_tree.specs.declared.tree.WorldSide.TheVariants.{Imported}
-use Rattle.wit_syntax.specs.Broken.{Refused}
 use Rattle.wit_syntax.specs.Fault.{Fault}
 use Rattle.wit_syntax.specs.Sides.{role_side, SideFunction}
-use Rattle.wit_syntax.proofs.Refusing.{refused_weaker}
-use Rattle.wit_refusals.specs.NameScopes.{Name, IsDefinedAgain}
+use Rattle.wit_refusals.specs.NameScopes.{Name}
 use Rattle.wit_sides.specs.SideNames.{defined_on}
 use Rattle.wit_rules.specs.BorrowedFunctions.{function_view}
-use Rattle.wit_externs.specs.Clash.{item_names, IsClash, IsCrossed}
-use Rattle.wit_externs.proofs.Clashing.{side_imported, side_across, item_defined, name_differs, clash_again, clash_crossed}
+use Rattle.wit_externs.specs.Clash.{item_names}
+use Rattle.wit_externs.proofs.Clashing.{side_imported, side_across, item_defined, name_differs}
 use Rattle.wit_first.specs.First.{Finds}
 use Rattle.wit_walk.specs.Members.{is_on_side}
 use Rattle.wit_externs.proofs.AloneFaults.{again_by}
@@ -28,17 +24,6 @@ returns-in-None-clause-defined c =
 pub returns-in-None-clause-differ : goal.returns-in-None-clause-differ
 returns-in-None-clause-differ c = name_differs c.define.result Imported (λ s. defined_on s c.args.in_use.now) (λ s. defined_on s c.define.new.self) c.as_str-name.result.now c.args.function.now.span c.define.ensures.defined c.define.ensures.free
 
-pub returns-in-None-clause-refused : goal.returns-in-None-clause-refused
-returns-in-None-clause-refused c =
-    let fn = function_view c.args.borrowed in
-    let name = c.as_str-name.result.now in
-    let span = c.args.function.now.span in
-    let old : WorldSide → List Name = λ s. defined_on s c.args.in_use.now in
-    let called : item_names (SideFunction fn) ≡ (name, span) ∷ [] = ap (λ (n : Name). n ∷ []) (sym (ap (λ (n : List ℕ). (n, span)) c.as_str-name.ensures ∙ c.requires.borrowed)) in
-    let again = IsDefinedAgain (old Imported) name span in
-    let clash = IsClash old (SideFunction fn ∷ []) in
-    IfErr-weaker c.define.result (Refused again) (Refused clash) (λ e. refused_weaker again clash e (λ f h. clash_again (SideFunction fn) Imported old name span f (side_imported fn.role (sym c.across.ensures ∙ c.in-None.is)) called h)) c.define.ensures.refused
-
 pub returns-in-Some-clause-defined : goal.returns-in-Some-clause-defined
 returns-in-Some-clause-defined c =
     let fn = function_view c.args.borrowed in
@@ -50,22 +35,6 @@ returns-in-Some-clause-defined c =
 
 pub returns-in-Some-clause-differ : goal.returns-in-Some-clause-differ
 returns-in-Some-clause-differ c = name_differs c.define_extern_part.result c.in-Some.side (λ s. defined_on s c.args.in_use.now) (λ s. defined_on s c.define_extern_part.new.in_use) c.as_str-name.result.now c.args.function.now.span c.define_extern_part.ensures.defined c.define_extern_part.ensures.free
-
-pub returns-in-Some-clause-refused : goal.returns-in-Some-clause-refused
-returns-in-Some-clause-refused c =
-    let fn = function_view c.args.borrowed in
-    let name = c.as_str-name.result.now in
-    let span = c.args.function.now.span in
-    let side = c.in-Some.side in
-    let old : WorldSide → List Name = λ s. defined_on s c.args.in_use.now in
-    let called : item_names (SideFunction fn) ≡ (name, span) ∷ [] = ap (λ (n : Name). n ∷ []) (sym (ap (λ (n : List ℕ). (n, span)) c.as_str-name.ensures ∙ c.requires.borrowed)) in
-    let crosses = side_across fn.role side (sym c.across.ensures ∙ c.in-Some.is) in
-    let either : Fault → Type 0 = λ f. IsCrossed (old side) name span f ⊎ IsDefinedAgain (old side) name span f in
-    let clash = IsClash old (SideFunction fn ∷ []) in
-    IfErr-weaker c.define_extern_part.result (Refused either) (Refused clash) (λ e. refused_weaker either clash e (λ f h. elim h [
-      | inl crossed ↦ clash_crossed (SideFunction fn) side old name span f (ap role_side crosses.2) called (side, crosses.0, crosses.1, crosses.2) crossed
-      | inr again ↦ clash_again (SideFunction fn) side old name span f (ap role_side crosses.2) called again
-    ])) c.define_extern_part.ensures.refused
 
 pub returns-in-None-clause-first : goal.returns-in-None-clause-first
 returns-in-None-clause-first c =

@@ -8,24 +8,15 @@ use Rattle.wit_syntax.specs.ScopeTables.{local_names}
 use Rattle.wit_syntax.specs.Sides.{names_on}
 use Rattle.wit_syntax.specs.Source.{local_id}
 use Rattle.wit_syntax.proofs.Lists.{map_map}
-use Rattle.wit_syntax.proofs.Refusing.{refused_weaker}
 use Rattle.wit_syntax.proofs.Repeated.{differ_none}
 use Rattle.wit_arena.specs.Resolving.{names_in}
 use Rattle.wit_refusals.specs.NameScopes.{Name}
-use Rattle.wit_signatures.specs.ForeignName.{IsTwiceAmong, name_key, name_of_id}
+use Rattle.wit_signatures.specs.ForeignName.{name_key, name_of_id}
 use Rattle.wit_world_sides.proofs.Putting.{begun}
 use Rattle.wit_world_sides.proofs.SideKeys.{names_of}
 use Rattle.wit_first.proofs.First.{reports_same}
 use Rattle.wit_externs.specs.AloneFaults.{defined_fault}
 use Rattle.wit_world_sides.proofs.members.named_members.Goals as goal
-
-pub returns-in_err-define_names-clause-refused : goal.returns-in_err-define_names-clause-refused
-returns-in_err-define_names-clause-refused c =
-    let p = err_from_is_err_and c.from_residual.result c.from_residual.ensures.1 in
-    let own = map name_of_id c.args.turn.now in
-    let before = c.new-in_use.result.imports in
-    let same : before ++ own ≡ own = ap (λ (l : List Name). l ++ own) (c.new-in_use.ensures Imported) in
-    rw (p.1, p.2) (refused_weaker (IsTwiceAmong (before ++ own)) (IsTwiceAmong own) _ (λ f h. subst (λ (l : List Name). IsTwiceAmong l f) same h) c.in_err-define_names.ensures.refused)
 
 pub returns-clause-in_use : goal.returns-clause-in_use
 returns-clause-in_use c = λ s. c.in_ok-define_names.ensures.defined s ∙ ap (λ (l : List Name). l ++ names_on s (map name_of_id c.args.turn.now)) (c.new-in_use.ensures s)

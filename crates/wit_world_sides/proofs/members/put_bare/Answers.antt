@@ -1,4 +1,4 @@
-use Rattle.std.proofs.Common.{◌≡◌, ◌++◌, ◌∷◌, [], List, ℕ, Contains, map, refl, sym, ap, ◌∙◌, subst, inr}
+use Rattle.std.proofs.Common.{◌≡◌, ◌++◌, ◌∷◌, [], List, ℕ, Contains, map, refl, sym, ap, ◌∙◌, subst}
 use Rattle.std.proofs.lemmas.List.{append-nil}
 use Rattle.std.proofs.lemmas.Result.{err_from_is_err_and}
 use Rattle.wit_type_tree.specs.declared.leaves.Id.{Id}
@@ -15,21 +15,11 @@ use Rattle.wit_externs.specs.Clash.{item_names}
 use Rattle.wit_externs.specs.Next.{IsLinked, linked_on, only_place}
 use Rattle.wit_externs.proofs.Linked.{places_differ}
 use Rattle.wit_externs.proofs.Steps.{kept_nothing}
-use Rattle.wit_world_sides.specs.Members.{IsWrongPut, path_link, text}
+use Rattle.wit_world_sides.specs.Members.{path_link, text}
 use Rattle.wit_world_sides.proofs.Putting.{names_itself, put_itself, puts}
 use Rattle.wit_world_sides.proofs.SideCalled.{other_called}
 use Rattle.wit_world_sides.proofs.PutFaults.{linked_free, linked_report}
 use Rattle.wit_world_sides.proofs.members.put_bare.Goals as goal
-
-pub returns-in_err-define-clause-refused : goal.returns-in_err-define-clause-refused
-returns-in_err-define-clause-refused c =
-    let p = err_from_is_err_and c.from_residual.result c.from_residual.ensures.1 in
-    let m = c.args.members.now in
-    let link = path_link c.args.link in
-    let id = c.args.id in
-    let ids = linked_on link.side m.links in
-    let again = IsLinked ids c.index.result c.path_id-path.result.span in
-    rw (p.1, p.2) (refused_weaker again (IsWrongPut m link id) _ (λ f h. inr (c.requires.bare, subst (λ (n : Id). IsLinked ids id n.span f) c.path_id-path.ensures (subst (λ (n : ℕ). IsLinked ids n c.path_id-path.result.span f) c.index.ensures h))) c.in_err-define.ensures.refused)
 
 pub returns-clause-puts : goal.returns-clause-puts
 returns-clause-puts c =

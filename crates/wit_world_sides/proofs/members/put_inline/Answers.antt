@@ -1,13 +1,10 @@
-use Rattle.std.proofs.Common.{◌∷◌, [], List, refl, ap, subst, inl, Option, sym, true}
-use Rattle.std.proofs.lemmas.Result.{err_from_is_err_and, on_ok_weaker, IfErr-weaker}
-use Rattle.wit_tree.specs.declared.tree.InterfaceItem.{InterfaceItem}
+use Rattle.std.proofs.Common.{[], refl, ap, subst, inl, Option, sym, true}
+use Rattle.std.proofs.lemmas.Result.{err_from_is_err_and, on_ok_weaker}
 use Rattle.wit_model.specs.ItemsOfWorlds.{function_of}
 use Rattle.wit_model.specs.declared.world.WorldItem.{WorldItem}
 use Rattle.wit_model.specs.declared.world.WorldKey.TheVariants as key
-use Rattle.wit_syntax.specs.Broken.{Refused}
-use Rattle.wit_syntax.specs.Sides.{SideInline, SideItem}
-use Rattle.wit_externs.specs.Clash.{IsClashAfter}
-use Rattle.wit_world_sides.specs.Members.{IsNamedOn, Puts}
+use Rattle.wit_syntax.specs.Sides.{SideInline}
+use Rattle.wit_world_sides.specs.Members.{Puts}
 use Rattle.wit_syntax.specs.Fault.{Fault}
 use Rattle.wit_first.specs.First.{Finds}
 use Rattle.wit_signatures.specs.ForeignName.{name_of_id}
@@ -17,23 +14,11 @@ use Rattle.wit_world_sides.proofs.members.put_inline.Goals as goal
 pub put_named-requires-clause-interface : goal.put_named-requires-clause-interface
 put_named-requires-clause-interface c = ap function_of c.in_ok-item.ensures
 
-pub returns-in_err-item-clause-refused : goal.returns-in_err-item-clause-refused
-returns-in_err-item-clause-refused c =
-    let p = err_from_is_err_and c.from_residual.result c.from_residual.ensures.1 in
-    rw p.1 (λ items. inl p.2)
-
 pub returns-clause-puts : goal.returns-clause-puts
 returns-clause-puts c =
     let w = c.args.written.now in
     let own = c.args.name in
-    on_ok_weaker c.put_named.result (λ done items. subst (λ (i : WorldItem). Puts c.args.members.now c.put_named.new.members (SideInline w own items) [] (key.Name own.name.now, i)) c.in_ok-item.ensures (done (SideInline w own items) (refl, refl, tt))) c.put_named.ensures.puts
-
-pub returns-clause-refused : goal.returns-clause-refused
-returns-clause-refused c =
-    let w = c.args.written.now in
-    let own = c.args.name in
-    let old = c.args.members.now.in_use in
-    IfErr-weaker c.put_named.result (λ e. (x : SideItem) → IsNamedOn w.side own x → Refused (IsClashAfter old (x ∷ [])) e) (λ e. (items : List InterfaceItem) → Refused (IsClashAfter old (SideInline w own items ∷ [])) e) (λ e h items. h (SideInline w own items) (refl, refl, tt)) c.put_named.ensures.refused
+    on_ok_weaker c.put_named.result (λ done items. subst (λ (i : WorldItem). Puts c.args.members.now c.put_named.new.members (SideInline w own items) [] (key.Name own.name.now, i)) c.in_ok-item.ensures (done (SideInline w own items) (refl, refl))) c.put_named.ensures.puts
 
 pub returns-in_err-item-clause-first : goal.returns-in_err-item-clause-first
 returns-in_err-item-clause-first c =

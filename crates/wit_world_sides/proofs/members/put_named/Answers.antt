@@ -1,40 +1,19 @@
-use Rattle.std.proofs.Common.{◌++◌, ◌∷◌, [], List, map, refl, sym, ap, ◌∙◌, inl, inr}
-use Rattle.std.proofs.lemmas.Result.{err_from_is_err_and}
+use Rattle.std.proofs.Common.{◌++◌, [], List, map, refl, sym, ap, ◌∙◌}
 use Rattle.wit_tree.specs.declared.tree.WorldSide.{WorldSide}
 use Rattle.wit_model.specs.declared.world.WorldKey.TheVariants as key
 use Rattle.wit_syntax.specs.ExternPart.{same_side}
 use Rattle.wit_syntax.specs.Sides.{item_side}
-use Rattle.wit_syntax.proofs.Refusing.{refused_weaker}
 use Rattle.wit_refusals.specs.NameScopes.{Name}
 use Rattle.wit_sides.specs.SideNames.{defined_on}
 use Rattle.wit_signatures.specs.ForeignName.{name_of_id}
-use Rattle.wit_externs.specs.Clash.{IsClash, IsNoNewName}
 use Rattle.wit_externs.specs.Next.{linked_on}
-use Rattle.wit_externs.proofs.Clashing.{clash_again, clash_crossed, item_on, sides_differ}
+use Rattle.wit_externs.proofs.Clashing.{item_on, sides_differ}
 use Rattle.wit_world_sides.specs.Members.{text}
 use Rattle.wit_world_sides.specs.FilledSides.{entries_of, inserted_on}
 use Rattle.wit_world_sides.proofs.Putting.{puts}
 use Rattle.wit_world_sides.proofs.SideCalled.{other_called}
 use Rattle.wit_world_sides.proofs.SideKeys.{nothing_more}
 use Rattle.wit_world_sides.proofs.members.put_named.Goals as goal
-
-pub returns-in_err-define_extern_part-clause-refused : goal.returns-in_err-define_extern_part-clause-refused
-returns-in_err-define_extern_part-clause-refused c =
-    let p = err_from_is_err_and c.from_residual.result c.from_residual.ensures.1 in
-    let side = c.args.side in
-    let name = c.args.name.name.now in
-    let span = c.args.name.span in
-    let old : WorldSide → List Name = λ s. defined_on s c.args.members.now.in_use in
-    let either = IsNoNewName (old side) name span in
-    rw (p.1, p.2) (λ x on. refused_weaker either (IsClash old (x ∷ [])) _ (λ f h. elim h [
-      | inl crossed ↦ clash_crossed x side old name span f on.0 on.1 on.2 crossed
-      | inr again ↦ clash_again x side old name span f on.0 on.1 again
-    ]) c.in_err-define_extern_part.ensures.refused)
-
-pub returns-in_err-add_named-clause-refused : goal.returns-in_err-add_named-clause-refused
-returns-in_err-add_named-clause-refused c =
-    let p = err_from_is_err_and c.from_residual-in_err-add_named.result c.from_residual-in_err-add_named.ensures.1 in
-    rw p.1 (λ x on. inl p.2)
 
 pub returns-clause-puts : goal.returns-clause-puts
 returns-clause-puts c = λ x on.

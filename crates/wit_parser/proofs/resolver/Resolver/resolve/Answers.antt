@@ -4,11 +4,11 @@ use Rattle.wit_arena.specs.Faithful.{IsFaithful, HasArena, IsMadeOf}
 use Rattle.wit_arena.specs.Made.{Makes}
 use Rattle.wit_arena.proofs.MadePackage.{made_of_package}
 use Rattle.wit_arena.proofs.OfPackage.{arena_of_package, faithful_of_package}
-use Rattle.wit_contents.proofs.Files.{made_legal}
+use Rattle.wit_parser.proofs.FirstFault.{found_broken, found_legal}
 use Rattle.wit_parser.proofs.resolver.Resolver.resolve.Goals as goal
 
 pub returns-clause-legal : goal.returns-clause-legal
-returns-clause-legal c = made_legal c.args.self.files.items c.resolve_pushed.result c.resolve_pushed.ensures.made
+returns-clause-legal c = found_legal c.args.self.files.items c.resolve_pushed.result c.resolve_pushed.ensures.first
 
 pub returns-clause-made : goal.returns-clause-made
 returns-clause-made c =
@@ -29,3 +29,6 @@ pub returns-clause-faithful : goal.returns-clause-faithful
 returns-clause-faithful c =
     let files = c.args.self.files.items in
     IfOk-weaker c.resolve_pushed.result (IsMadeOf files) (IsFaithful files) (λ p made. faithful_of_package files p made.legal made.whole) c.resolve_pushed.ensures.made
+
+pub returns-clause-refused : goal.returns-clause-refused
+returns-clause-refused c = found_broken c.args.self.files.items c.resolve_pushed.result c.resolve_pushed.ensures.first
