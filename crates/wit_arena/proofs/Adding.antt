@@ -1,14 +1,10 @@
 -- Items added one after another.
-use Rattle.std.proofs.Common.{◌≡◌, List, [], ◌∷◌, ◌++◌, inl, inr, refl, sym, ap, ◌∙◌, subst, append_assoc}
+use Rattle.std.proofs.Common.{◌≡◌, List, [], ◌∷◌, ◌++◌, refl, sym, ap, ◌∙◌, subst, append_assoc}
 use Rattle.std.proofs.lemmas.List.{append-nil}
 use Rattle.wit_types.specs.declared.types.TypeDef.{TypeDef}
-use Rattle.wit_syntax.specs.Fault.{Fault}
-use Rattle.wit_syntax.specs.Source.{Item, scope_names}
-use Rattle.wit_syntax.specs.Broken.{IsBrokenScope}
-use Rattle.wit_syntax.specs.Function.{functions}
+use Rattle.wit_syntax.specs.Source.{Item}
 use Rattle.wit_arena.specs.Resolving.{Required}
-use Rattle.wit_arena.specs.ResolvedArenas.{AddsEach, IsNameless, AreSoundScopes}
-use Rattle.wit_syntax.proofs.Lists.{at_either}
+use Rattle.wit_arena.specs.ResolvedArenas.{AddsEach}
 
 module _ {X : Type 0} (Adds : List TypeDef → List TypeDef → X → X → List Required → Item → Type 0) where
   pub adds_append : (a b c : List TypeDef) (i j k : X) (rs ss : List Required) (ws vs : List Item) → AddsEach Adds a b i j rs ws → AddsEach Adds b c j k ss vs → AddsEach Adds a c i k (rs ++ ss) (ws ++ vs)
@@ -31,11 +27,3 @@ module _ {X : Type 0} (Adds : List TypeDef → List TypeDef → List X → List 
       let between : p.1 ≡ prefix ++ more = x.1 ∙ append_assoc prefix xs (x.0 ∷ []) in
       let rest = adds_after more ys p.0 new p.3 ws (subst (λ l. AddsEach Adds p.0 new l ys p.3 ws) between p.6) in
       (rest.0, rest.1, (p.0, more, p.2, p.3, p.4, subst (λ l. Adds old p.0 (prefix ++ xs) l p.2 w) between p.5, rest.2))
-
-pub sounds_more : (ws : List Item) (w : Item) → AreSoundScopes ws → ((f : Fault) → IsBrokenScope (scope_names w) (functions w) f → IsNameless (scope_names w) (functions w)) → AreSoundScopes (ws ++ w ∷ [])
-sounds_more ws w sound one = record {
-  sound = λ i v f at broken. elim (at_either ws w i v at) [
-    | inl old ↦ sound.sound i v f old broken
-    | inr new ↦ subst (λ (x : Item). IsNameless (scope_names x) (functions x)) (sym new.1) (one f (subst (λ (x : Item). IsBrokenScope (scope_names x) (functions x) f) new.1 broken))
-  ];
-}

@@ -1,28 +1,25 @@
 -- Where the paths of items lead.
-use Rattle.std.proofs.Common.{◌≡◌, ℕ, zero, suc, ◌<◌, Bool, true, false, List, [], ◌∷◌, ◌++◌, take, drop, Option, Some, None, ◌⊎◌, inl, inr, refl, sym, ap, ◌∙◌, subst, arith, Contains}
+use Rattle.std.proofs.Common.{◌≡◌, ℕ, ◌<◌, Bool, true, false, List, ◌++◌, take, drop, Option, Some, None, ◌⊎◌, inl, inr, refl, sym, ap, ◌∙◌, subst, arith, Contains}
 use Rattle.std.specs.Prelude.{if◌then◌else◌, slice_get, slice_index, map}
-use Rattle.std.specs.List.{filter, flat_map}
+use Rattle.std.specs.List.{filter}
 use Rattle.std.specs.Option.{option_map}
 use Rattle.std.specs.Str.{bytes_eq}
 use Rattle.std.proofs.lemmas.List.{take-append-drop}
 use Rattle.std.proofs.lemmas.List.Elements.{filter-append}
 use Rattle.std.proofs.lemmas.Option.{slice_get-get_or, slice_get_within, get_or_from_slice_get}
 use Rattle.wit_type_tree.specs.declared.leaves.Id.{Id}
-use Rattle.wit_tree.specs.declared.tree.Include.{Include}
 use Rattle.wit_tree.specs.declared.tree.UsePath.{UsePath}
 use Rattle.wit_tree.specs.declared.tree.Use.{Use}
 use Rattle.wit_type_tree.specs.declared.leaves.Attribute.{Attribute}
 use Rattle.wit_tree.specs.declared.tree.UseName.{UseName}
-use Rattle.wit_tree.specs.declared.tree.InterfaceItem.{InterfaceItem}
-use Rattle.wit_tree.specs.declared.tree.InterfaceItem.TheVariants as interface_item
 use Rattle.wit_tree.specs.declared.tree.PackageFile.{PackageFile}
 use Rattle.wit_package_names.specs.declared.package_name.PackageName.{PackageName}
 use Rattle.wit_graph.specs.Table.{Row, target, IsEdge, Leads, IsOrder}
 use Rattle.wit_graph.proofs.Tables.{slice_get-take}
 use Rattle.wit_syntax.specs.Address.{Address, InterfaceNamed, ForeignNamed, is_foreign}
-use Rattle.wit_syntax.specs.Source.{TopName, Declared, TheInterface, TheWorld, TheInline, Part, DefinitionPart, UsePart, IncludePart, FunctionPart, ExternPart, interface_part, Target, Local, Foreign, leads, path_scope, Item, Used, all_items, item_name, is_world, parts, item_named, scope_names, use_of_foreign, foreign_uses, about, target_scope}
+use Rattle.wit_syntax.specs.Source.{TopName, UsePart, Target, Local, Foreign, leads, path_scope, Item, Used, all_items, item_name, is_world, parts, item_named, scope_names, use_of_foreign, foreign_uses, target_scope}
 use Rattle.wit_syntax.specs.Foreign.{ForeignVisit, visited, foreign_interfaces}
-use Rattle.wit_syntax.specs.ScopeTables.{in_order, include_path, use_paths, include_paths, needed_paths, local_target, item_row, item_rows, uses, part_includes, includes}
+use Rattle.wit_syntax.specs.ScopeTables.{in_order, use_paths, include_paths, needed_paths, local_target, item_row, item_rows, uses}
 use Rattle.wit_syntax.specs.Sides.{with_inline, all_scopes}
 use Rattle.wit_syntax.specs.Broken.{is_world_at}
 use Rattle.wit_arena.specs.ResolvedArenas.{AreUsableUses}
@@ -66,37 +63,6 @@ paths_of_interface w h = ap (λ (world : Bool). if world then include_paths w el
 
 pub paths_of_world : (w : Item) → is_world w ≡ true → needed_paths w ≡ include_paths w
 paths_of_world w h = ap (λ (world : Bool). if world then include_paths w else use_paths w) h
-
--- the path of an include is that of one of the includes
-include_of : (ps : List Part) (k : ℕ) (path : UsePath) → slice_get (flat_map include_path ps) k ≡ Some path → (i : Include) × (slice_get (flat_map part_includes ps) k ≡ Some i) × (path ≡ i.from)
-include_of [] k path at = absurd (let f : ⊥ = cc in f)
-include_of (DefinitionPart d ∷ ps) k path at = include_of ps k path at
-include_of (UsePart u ∷ ps) k path at = include_of ps k path at
-include_of (FunctionPart f ∷ ps) k path at = include_of ps k path at
-include_of (ExternPart x ∷ ps) k path at = include_of ps k path at
-include_of (IncludePart i ∷ ps) zero path at = (i, refl, cc)
-include_of (IncludePart i ∷ ps) (suc k) path at = include_of ps k path at
-
-pub include_at : (w : Item) (path : UsePath) → Contains (include_paths w) path → (k : ℕ) × (i : Include) × (slice_get (includes w) k ≡ Some i) × (path ≡ i.from)
-include_at w path among =
-    let k = at_contains (include_paths w) path among in
-    let it = include_of (parts w) k.0 path k.1 in
-    (k.0, it.0, it.1, it.2)
-
--- an interface includes nothing
-none_included : (items : List InterfaceItem) (path : UsePath) → Contains (flat_map include_path (map interface_part items)) path → ⊥
-none_included [] path h = let lt = h.1 in omega arith
-none_included (interface_item.TypeDef d ∷ items) path h = none_included items path h
-none_included (interface_item.Use u ∷ items) path h = none_included items path h
-none_included (interface_item.Func f ∷ items) path h = none_included items path h
-
-pub interface_includes_none : (w : Item) → is_world w ≡ false → (path : UsePath) → Contains (include_paths w) path → ⊥
-interface_includes_none w h path among = of_declared w.declared h among
-  where
-    of_declared : (a : Declared) → (about a).is_world ≡ false → Contains (flat_map include_path (about a).parts) path → ⊥
-    of_declared (TheInterface i) h among = none_included i.items.items path among
-    of_declared (TheWorld w) h among = let f : ⊥ = cc in f
-    of_declared (TheInline world place x name items) h among = none_included items path among
 
 row_name : (r : Row) (w : Item) → r ≡ item_row w → r.name ≡ item_name w
 row_name r w same = ap (λ (x : Row). x.name) same

@@ -1,5 +1,5 @@
 -- What names mean in a scope, and what its table has for them.
-use Rattle.std.proofs.Common.{◌≡◌, ℕ, List, Option, Some, None, IsSome, sym, ap, ◌∙◌, subst}
+use Rattle.std.proofs.Common.{◌≡◌, ℕ, List, Option, Some, None, IsSome, ap, ◌∙◌, subst}
 use Rattle.std.specs.Prelude.{slice_get, map}
 use Rattle.std.specs.Option.{option_map}
 use Rattle.std.specs.Str.{bytes_eq}
@@ -8,7 +8,6 @@ use Rattle.wit_graph.specs.Table.{IsOrder}
 use Rattle.wit_syntax.specs.Source.{ScopeName, local_name, meaning}
 use Rattle.wit_syntax.specs.ScopeTables.{rows_of, in_turn, local_names}
 use Rattle.wit_arena.specs.Resolving.{Names, env_of}
-use Rattle.wit_syntax.proofs.Lists.{map_at}
 use Rattle.wit_syntax.proofs.Names.{name_equal}
 use Rattle.wit_syntax.proofs.Found.{find_passes, find_at}
 use Rattle.wit_arena.proofs.Leading.{option_cases}
@@ -27,10 +26,6 @@ module _ (xs ys : List ScopeName) (types : Names) (listed : map (λ p. p.0) type
       let wrong : IsSome {T = ℕ} None = subst (λ (v : Option ℕ). IsSome v) free (lookup-listed types t.0 name named) in
       let f : ⊥ = cc in
       f)) (λ none. none)
-
-  -- what is in it is one of them
-  listed_at : (k id : ℕ) → slice_get types k ≡ Some (name, id) → (x : ScopeName) × (slice_get ys k ≡ Some x) × (local_name x ≡ name)
-  listed_at k id at = map_at local_name ys k name (ap (λ (l : List (List ℕ)). slice_get l k) (sym listed) ∙ slice_get-map (λ (q : List ℕ × ℕ). q.0) types k ∙ ap (option_map (λ (q : List ℕ × ℕ). q.0)) at)
 
 -- so it is of the names of a scope as they were resolved
 pub free_unmeant : (xs : List ScopeName) (order : List ℕ) (types : Names) (name : List ℕ) → IsOrder (rows_of xs) order → map (λ p. p.0) types ≡ local_names (in_turn xs order) → env_of types name ≡ None → meaning xs name ≡ None

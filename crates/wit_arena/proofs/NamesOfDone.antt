@@ -1,39 +1,27 @@
 -- The names of scopes that are done: each means its entry, and what is used is a name of the scope that it comes from.
-use Rattle.std.proofs.Common.{◌≡◌, ℕ, List, [], ◌∷◌, Some, None, sym, ap, ◌∙◌, subst, Contains, arith}
+use Rattle.std.proofs.Common.{◌≡◌, ℕ, List, Some, sym, ap, ◌∙◌, subst, arith}
 use Rattle.std.specs.Prelude.{slice_get, map}
 use Rattle.std.specs.Option.{option_map}
 use Rattle.std.proofs.lemmas.Option.{slice_get-map, slice_get_within}
 use Rattle.wit_functions.specs.declared.function.Function.{Function}
 use Rattle.wit_syntax.specs.Function.{SourceFunction}
 use Rattle.wit_arena.specs.SourceFunctions.{IsFunction}
-use Rattle.wit_type_tree.specs.declared.leaves.Attribute.{Attribute}
-use Rattle.wit_tree.specs.declared.tree.UseName.{UseName}
 use Rattle.wit_tree.specs.declared.tree.PackageFile.{PackageFile}
-use Rattle.wit_types.specs.declared.types.«Type».{«Type» as Ty}
 use Rattle.wit_types.specs.declared.types.TypeDef.{TypeDef}
 use Rattle.wit_arena.specs.Kind.{kind_of}
 use Rattle.wit_syntax.specs.Address.{Address}
-use Rattle.wit_syntax.specs.Source.{Item, all_items, item_at, ScopeName, Used, local_name, scope_names, meaning}
+use Rattle.wit_syntax.specs.Source.{ScopeName, local_name}
 use Rattle.wit_syntax.specs.ScopesOfTrees.{scope}
-use Rattle.wit_arena.specs.Expr.{Use, one, name_exprs}
+use Rattle.wit_arena.specs.Expr.{one, name_exprs}
 use Rattle.wit_arena.specs.Occurrences.{Key, Def, Occurrence, keys, AreAt, Decls}
 use Rattle.wit_arena.specs.Whole.{HasTypes}
 use Rattle.wit_syntax.proofs.Lists.{at_within, map_at}
 use Rattle.wit_syntax.proofs.Names.{lookup-at}
 use Rattle.wit_arena.proofs.Places.{all_at_untaken}
 use Rattle.wit_syntax.proofs.Repeated.{differ_at}
-use Rattle.wit_syntax.proofs.Found.{at_contains}
-use Rattle.wit_syntax.proofs.Scopes.{declared_at}
-use Rattle.wit_arena.proofs.Interfaces.{scope_at}
 use Rattle.wit_arena.proofs.Shape.{entry_of_key}
-use Rattle.wit_arena.proofs.Depth.{meaning_found}
 use Rattle.wit_arena.proofs.Members.{DoneScope, turn_of, IsPresent}
 use Rattle.wit_types.specs.declared.types.TypeOwner.{TypeOwner}
-
--- where a name of a scope is that is the only part
-used_key : (ks : List Key) (s : Address) (name : List ℕ) (ts : List Ty) → AreAt ks (one (Use s name)) ts → (j : ℕ) × (slice_get ks j ≡ Some (Def s name))
-used_key ks s name [] h = absurd h
-used_key ks s name (t ∷ ts) h = (h.0.0, h.0.2)
 
 module _ (files : List PackageFile) (decls : Decls) (written : List Occurrence) (cs : List DoneScope) (es : List TypeDef) (d : IsPresent files decls written cs es) where
   abbrev ks : List Key
@@ -87,31 +75,3 @@ module _ (files : List PackageFile) (decls : Decls) (written : List Occurrence) 
       let count = are.count in
       let f = at_within c.made k (omega arith) in
       (f.0, f.1, are.each k fn f.0 fat f.1)
-
-  -- a name that occurred means something in its scope
-  pub meaning_at : (j : ℕ) (s : Address) (name : List ℕ) → slice_get ks j ≡ Some (Def s name) → (x : ScopeName) × (meaning (scope files s) name ≡ Some x)
-  meaning_at j s name here =
-      let it = d.before j s name here in
-      let turn = (d.each it.place it.resolved_scope it.at).turn in
-      let p = turn.among it.index it.x it.among in
-      (it.x, ap (λ (z : Address). meaning (scope files z) name) (sym it.scope) ∙ meaning_found (scope files it.resolved_scope.address) p.0 it.x name turn.distinct p.1 it.called)
-
-  -- the original of a used name occurred
-  original_seen : (t : ℕ) (c : DoneScope) (k : ℕ) (from : Address) (attributes : List Attribute) (n : UseName) → slice_get cs t ≡ Some c → slice_get (scope files c.address) k ≡ Some (Used from attributes n) → (j : ℕ) × (slice_get ks j ≡ Some (Def from n.name.name.now))
-  original_seen t c k from attributes n at kat =
-      let q = (d.each t c at).turn.has k (Used from attributes n) kat in
-      let id = named_at t c q.0 (Used from attributes n) at q.1 in
-      let e = entry_of id.0 c.address (local_name (Used from attributes n)) id.2 in
-      used_key ks from n.name.name.now (kind_of e.0.kind).parts (parts_at t c k (Used from attributes n) id.0 e.0 at kat id.2 e.1)
-
-  -- what is used in a scope means something where it comes from
-  pub stated_name : (t : ℕ) (c : DoneScope) (from : Address) (attributes : List Attribute) (n : UseName) (target : Item) → slice_get cs t ≡ Some c → Contains (scope files c.address) (Used from attributes n) → item_at (all_items files) from ≡ Some target → meaning (scope_names target) n.name.name.now ≡ None → ⊥
-  stated_name t c from attributes n target at among declared missing =
-      let k = at_contains (scope files c.address) (Used from attributes n) among in
-      let j = original_seen t c k.0 from attributes n at k.1 in
-      let name = n.name.name.now in
-      let it = meaning_at j.0 from name j.1 in
-      let same : meaning (scope files from) name ≡ meaning (scope_names target) name = ap (λ (xs : List ScopeName). meaning xs name) (scope_at files from target (declared_at files from target declared)) in
-      let wrong : None ≡ Some it.0 = sym missing ∙ sym same ∙ it.1 in
-      let g : ⊥ = cc in
-      g

@@ -1,14 +1,11 @@
 -- Where a function gives the place of each key, it gives the types of all expressions.
-use Rattle.std.proofs.Common.{◌≡◌, ◌↔◌, ℕ, ◌<◌, Bool, true, List, [], ◌∷◌, length, take, get_or, Some, refl, sym, ap, ◌∙◌, arith}
+use Rattle.std.proofs.Common.{◌≡◌, ◌↔◌, ℕ, Bool, true, List, [], ◌∷◌, take, Some, refl, sym, ap, ◌∙◌}
 use Rattle.std.specs.Prelude.{slice_get}
 use Rattle.std.specs.List.{position_or_len}
-use Rattle.std.specs.Option.{option_map}
-use Rattle.std.proofs.lemmas.List.Sums.{passes_at_first}
-use Rattle.std.proofs.lemmas.Option.{slice_get-map, get_or_from_slice_get}
 use Rattle.wit_types.specs.declared.types.«Type».{«Type» as Ty}
 use Rattle.wit_types.specs.declared.types.«Type».TheVariants.{Id}
 use Rattle.wit_syntax.specs.Repeats.{AllDiffer}
-use Rattle.wit_syntax.proofs.Lists.{at_take, at_within, map_at}
+use Rattle.wit_syntax.proofs.Lists.{at_take, map_at}
 use Rattle.wit_syntax.proofs.Repeated.{differ_at}
 use Rattle.wit_arena.specs.Expr.{Expr, Prim, Use, Of, Exprs, End, More}
 use Rattle.wit_arena.specs.Occurrences.{Key, Def, Whole, Occurrence, keys, IsAt, AreAt}
@@ -27,15 +24,6 @@ module _ (same : Key → Key → Bool) (gives : (a b : Key) → (same a b ≡ tr
         let m = map_at (λ (m : Occurrence). m.key) seen i k at in
         places k ∙ prefix_len-only (λ (y : Occurrence). same k y.key) seen i m.0 m.1 ((gives k m.0.key).1 (sym m.2)) (λ j y at_y is. differ_at (λ (m : Occurrence). m.key) seen differ j i y m.0 at_y m.1 (sym ((gives k y.key).0 is) ∙ sym m.2)));
   }
-
-  -- what has a place is there
-  pub present_there : (k : Key) → id k < length seen → slice_get (keys seen) (id k) ≡ Some k
-  present_there k lt =
-      let m = at_within seen (id k) lt in
-      let test = λ (y : Occurrence). same k y.key in
-      let passes = passes_at_first test seen m.0 (omega (arith, lt, places k)) in
-      let is = ap (λ i. get_or seen i m.0) (places k) in
-      slice_get-map (λ (m : Occurrence). m.key) seen (id k) ∙ ap (option_map (λ (m : Occurrence). m.key)) m.1 ∙ ap Some (sym ((gives k m.0.key).0 (ap test (sym (get_or_from_slice_get seen (id k) m.0 m.0 m.1) ∙ is) ∙ passes)))
 
 module _ (id : Key → ℕ) (ks : List Key) (gives : GivesPlaces id ks) where
   -- so it does of the first of them

@@ -219,9 +219,6 @@ module _ (files : List PackageFile) (uses : AreUsableUses files (all_items files
   abbrev pub prefix_owner : Address → TypeOwner
   prefix_owner s = owner_at (map visited visits) (map visited (foreign_worlds files)) s
 
-  key_at : (j : ℕ) (t : ForeignUse) → slice_get ts j ≡ Some t → slice_get (keys seen) j ≡ Some (foreign_use_key t)
-  key_at j t at = ap (λ l. slice_get l j) (keys-foreign_uses ts) ∙ slice_get-map foreign_use_key ts j ∙ ap (option_map foreign_use_key) at
-
   foreign_use_of : (j : ℕ) (k : Key) → slice_get (keys seen) j ≡ Some k → (t : ForeignUse) × (slice_get ts j ≡ Some t) × (foreign_use_key t ≡ k)
   foreign_use_of j k at = map_at foreign_use_key ts j k (ap (λ l. slice_get l j) (sym (keys-foreign_uses ts)) ∙ at)
 

@@ -1,28 +1,21 @@
 -- What handles require of other packages: what is given by the arena is what the files say.
-use Rattle.std.proofs.Common.{◌≡◌, ℕ, zero, suc, ◌+◌, List, [], ◌∷◌, ◌++◌, length, map, Option, Some, None, ◌⊎◌, inl, inr, refl, sym, ap, ◌∙◌, subst, Contains, arith, length-append}
+use Rattle.std.proofs.Common.{◌≡◌, ℕ, zero, suc, ◌+◌, List, [], ◌∷◌, ◌++◌, length, map, Option, Some, None, ◌⊎◌, inl, inr, refl, sym, ap, ◌∙◌, subst, arith, length-append}
 use Rattle.std.specs.Prelude.{slice_get}
-use Rattle.std.specs.List.{cons_option, filter_map, flat_map}
-use Rattle.std.proofs.lemmas.List.Elements.{Contains-append_cases, filter_map-append}
+use Rattle.std.specs.List.{cons_option, filter_map}
+use Rattle.std.proofs.lemmas.List.Elements.{filter_map-append}
 use Rattle.std.proofs.lemmas.Option.{slice_get_within}
 use Rattle.wit_type_tree.specs.declared.leaves.Id.{Id}
-use Rattle.wit_type_tree.specs.declared.types.«Type».{«Type» as Written}
 use Rattle.wit_tree.specs.declared.tree.PackageFile.{PackageFile}
 use Rattle.wit_types.specs.declared.types.TypeDef.{TypeDef}
 use Rattle.wit_syntax.specs.Address.{Address}
-use Rattle.wit_syntax.specs.Source.{ScopeName}
-use Rattle.wit_syntax.specs.Shape.{handles, all_handles}
-use Rattle.wit_syntax.specs.Fault.{Fault}
-use Rattle.wit_syntax.specs.Function.{SourceFunction, name_types, written_types, all_types}
-use Rattle.wit_arena.specs.EntryEnds.{EntryEnd, IsResource, IsOther, entry_end}
+use Rattle.wit_arena.specs.EntryEnds.{EntryEnd, IsResource, entry_end}
 use Rattle.wit_arena.specs.EntryEnds as ends
-use Rattle.wit_arena.specs.Occurrences.{Key, Def, Occurrence, keys, Decls, IsKeyed}
-use Rattle.wit_syntax.specs.NameEnds.{IsNoResource}
+use Rattle.wit_arena.specs.Occurrences.{Key, Def, Decls, IsKeyed}
 use Rattle.wit_arena.specs.Whole.{HandleRequires, AreRequired}
-use Rattle.wit_arena.specs.Resolving.{Env, Names, env_of, AreNames, Required, AreEnded, IsWrongHandle, IsDefined}
+use Rattle.wit_arena.specs.Resolving.{Env, AreNames, Required, AreEnded}
 use Rattle.wit_arena.proofs.Places.{Extended, key_extended}
-use Rattle.wit_syntax.proofs.Lists.{at_prefix, at_back, at_split, flat_map_at, flat_map_has}
-use Rattle.wit_arena.proofs.Written.{handles_at}
-use Rattle.wit_arena.proofs.Ends.{EndIs, IsDeclared, entry_end-more, end_source, end_source-more}
+use Rattle.wit_syntax.proofs.Lists.{at_split}
+use Rattle.wit_arena.proofs.Ends.{EndIs, IsDeclared, entry_end-more, end_source}
 
 -- those of names, and of further ones
 pub ended_append : (env : Env) (es : List TypeDef) (ids more : List Id) (rs new : List Required) → AreEnded env es ids rs → AreEnded env es more new → AreEnded env es (ids ++ more) (rs ++ new)
@@ -101,36 +94,3 @@ module _ (files : List PackageFile) (decls : Decls) (ks : List Key) (es : List T
   ended_required (id ∷ ids) rs (place, steps, present, inr far) =
       let it = as_stated place steps id (ends.IsUnknown far.0) present far.2 in
       subst (AreRequired files ks (map (in_scope s) (id ∷ ids))) (sym far.3) (required_more files ks (s, id) (Some (far.0, id.span)) (map (in_scope s) ids) far.1 (it.0, it.1, it.3, it.2, refl) (ended_required ids far.1 far.4))
-
--- one of theirs is in one of them
-pub handle_of : (ts : List Written) (id : Id) → Contains (all_handles ts) id → (i : ℕ) × (t : Written) × (slice_get ts i ≡ Some t) × Contains (handles t) id
-handle_of [] id (k, lt, is) = absurd (let f : ⊥ = omega arith in f)
-handle_of (u ∷ ts) id h = elim (Contains-append_cases (handles u) (all_handles ts) id h) [
-  | inl first ↦ (0, u, refl, first)
-  | inr rest ↦ (let it = handle_of ts id rest in (suc it.0, it.1, it.2, it.3))
-]
-
--- a type that is written in names of a scope is written in them in another order
-pub type_turned : (xs ys : List ScopeName) (fns : List SourceFunction) → ((p : ℕ) (x : ScopeName) → slice_get xs p ≡ Some x → (i : ℕ) × (slice_get ys i ≡ Some x)) → (k : ℕ) (t : Written) → slice_get (all_types xs fns) k ≡ Some t → (j : ℕ) × (slice_get (all_types ys fns) j ≡ Some t)
-type_turned xs ys fns has k t at = elim (at_split (flat_map name_types xs) (flat_map written_types fns) k t at) [
-  | inl prefix ↦ (
-      let it = flat_map_at name_types xs k t prefix in
-      let there = has it.0 it.1 it.2 in
-      let place = flat_map_has name_types ys there.0 it.3.0 it.1 t there.1 it.3.1 in
-      (place.0, at_prefix (flat_map name_types ys) (flat_map written_types fns) place.0 t place.1))
-  | inr back ↦ (length (flat_map name_types ys) + back.0, at_back (flat_map name_types ys) (flat_map written_types fns) back.0 t back.2)
-]
-
--- so are their handles
-pub handle_turned : (xs ys : List ScopeName) (fns : List SourceFunction) → ((p : ℕ) (x : ScopeName) → slice_get xs p ≡ Some x → (i : ℕ) × (slice_get ys i ≡ Some x)) → (id : Id) → Contains (all_handles (all_types xs fns)) id → Contains (all_handles (all_types ys fns)) id
-handle_turned xs ys fns has id h =
-    let it = handle_of (all_types xs fns) id h in
-    let there = type_turned xs ys fns has it.0 it.1 it.2 in
-    handles_at (all_types ys fns) there.0 it.1 id there.1 it.3
-
--- also where the arena has grown since
-pub wrong_broken-more : (files : List PackageFile) (decls : Decls) (ks : List Key) (es more : List TypeDef) → IsKeyed decls ks es → ((j : ℕ) (t : Address) (name : List ℕ) → slice_get ks j ≡ Some (Def t name) → IsDeclared files decls t) → (s : Address) (env : Env) → AreNames ks s env → (types : List Written) (f : Fault) → IsWrongHandle env (es ++ more) (all_handles types) f → IsNoResource files s types f
-wrong_broken-more files decls ks es more m scopes s env names types f h = (h.id, h.among, end_source-more files decls ks es more m scopes h.steps h.place s h.id IsOther (names.present h.id.name.now h.place h.present) h.other, h.is)
-
-pub defined_broken-more : (files : List PackageFile) (decls : Decls) (ms : List Occurrence) (mid more : List TypeDef) (s : Address) (before names : Names) (xs : List ScopeName) (d : IsDefined decls ms mid s before names xs) → ((j : ℕ) (t : Address) (name : List ℕ) → slice_get (keys d.now) j ≡ Some (Def t name) → IsDeclared files decls t) → (types : List Written) (f : Fault) → IsWrongHandle (env_of names) (mid ++ more) (all_handles types) f → IsNoResource files s types f
-defined_broken-more files decls ms mid more s before names xs d scopes types f wrong = wrong_broken-more files decls (keys d.now) mid more d.occurrence.keyed scopes s (env_of names) d.are_present types f wrong

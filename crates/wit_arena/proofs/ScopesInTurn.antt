@@ -69,10 +69,6 @@ module _ {X : Type 0} {Owner : ℕ → TypeOwner} {Says : Ordered → X → Type
   pub ordered_at : (t : ℕ) (c : DoneScope) → slice_get cs t ≡ Some c → (o : Ordered) × (slice_get os t ≡ Some o) × (turned o ≡ turn_of c)
   ordered_at t c at = map_at turned os t (turn_of c) (ap (λ (x : List Turned). slice_get x t) (sym l.turns) ∙ slice_get-map turn_of cs t ∙ ap (option_map turn_of) at)
 
-  -- the entry of a scope, and the scope of an entry
-  pub entry_of : (t : ℕ) (c : DoneScope) → slice_get cs t ≡ Some c → (x : X) × (slice_get xs t ≡ Some x) × (entry_resolved_scope x ≡ resolved_scope_of c)
-  entry_of t c at = map_at entry_resolved_scope xs t (resolved_scope_of c) (ap (λ (x : List ResolvedScope). slice_get x t) (sym l.types) ∙ slice_get-map resolved_scope_of cs t ∙ ap (option_map resolved_scope_of) at)
-
   pub scope_of_entry : (t : ℕ) (x : X) → slice_get xs t ≡ Some x → (c : DoneScope) × (slice_get cs t ≡ Some c) × (resolved_scope_of c ≡ entry_resolved_scope x)
   scope_of_entry t x at = map_at resolved_scope_of cs t (entry_resolved_scope x) (ap (λ (y : List ResolvedScope). slice_get y t) l.types ∙ slice_get-map entry_resolved_scope xs t ∙ ap (option_map entry_resolved_scope) at)
 

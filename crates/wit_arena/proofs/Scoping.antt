@@ -6,15 +6,11 @@ use Rattle.std.specs.Cmp.Lexicographic.{pointwise}
 use Rattle.std.proofs.lemmas.List.{length-map}
 use Rattle.std.proofs.lemmas.Option.{slice_get-map, slice_get-get_or, slice_get_within, get_or_from_slice_get}
 use Rattle.wit_type_tree.specs.declared.leaves.Id.{Id}
-use Rattle.wit_type_tree.specs.declared.types.TypeDef.{TypeDef as Definition}
 use Rattle.wit_graph.specs.Table.{Row, target, IsEdge, Leads, IsOrder}
 use Rattle.wit_graph.proofs.Tables.{slice_get-take}
-use Rattle.wit_syntax.specs.Source.{ScopeName, Defined, local_name}
-use Rattle.wit_syntax.specs.Fault.{Fault}
+use Rattle.wit_syntax.specs.Source.{ScopeName, local_name}
 use Rattle.wit_syntax.specs.ScopeTables.{needed_ids, rows_of, in_order}
-use Rattle.wit_syntax.specs.Bodies.{IsBrokenBody}
-use Rattle.wit_syntax.specs.Metadata.{IsBrokenMetadata}
-use Rattle.wit_arena.specs.Resolving.{AreLegalBodies, AreLegalMetadata, Env, Names, env_of, HasNames, IsStored}
+use Rattle.wit_arena.specs.Resolving.{Env, Names, env_of, HasNames, IsStored}
 use Rattle.wit_syntax.proofs.Lists.{at_either}
 use Rattle.wit_syntax.proofs.Names.{name_itself, lookup-insert_entry}
 use Rattle.wit_syntax.proofs.Tables.{place_of-Some}
@@ -81,25 +77,3 @@ stored_some names names' name stored =
 -- a name more
 pub names_more : (names names' : Names) (xs : List ScopeName) (x : ScopeName) → HasNames (env_of names) xs → IsStored names names' (local_name x) → HasNames (env_of names') (xs ++ x ∷ [])
 names_more names names' xs x has stored = names_one (env_of names') xs x (names_kept names names' xs (local_name x) has stored) (stored_some names names' (local_name x) stored)
-
-pub legal_none : AreLegalBodies []
-legal_none = record { legal = λ i d f at. absurd (let f : ⊥ = cc in f) }
-
-pub legal_more : (xs : List ScopeName) (d : Definition) → AreLegalBodies xs → ((f : Fault) → IsBrokenBody d.body f → ⊥) → AreLegalBodies (xs ++ Defined d ∷ [])
-legal_more xs d legal one = record {
-  legal = λ i e f at broken. elim (at_either xs (Defined d) i (Defined e) at) [
-    | inl old ↦ legal.legal i e f old broken
-    | inr new ↦ (let same : e ≡ d = (let q = new.1 in cc) in one f (subst (λ (x : Definition). IsBrokenBody x.body f) same broken))
-  ];
-}
-
-pub noted_none : AreLegalMetadata []
-noted_none = record { legal = λ i d f at. absurd (let f : ⊥ = cc in f) }
-
-pub noted_more : (xs : List ScopeName) (d : Definition) → AreLegalMetadata xs → ((f : Fault) → IsBrokenMetadata d.attributes.items f → ⊥) → AreLegalMetadata (xs ++ Defined d ∷ [])
-noted_more xs d legal one = record {
-  legal = λ i e f at broken. elim (at_either xs (Defined d) i (Defined e) at) [
-    | inl old ↦ legal.legal i e f old broken
-    | inr new ↦ (let same : e ≡ d = (let q = new.1 in cc) in one f (subst (λ (x : Definition). IsBrokenMetadata x.attributes.items f) same broken))
-  ];
-}

@@ -25,7 +25,7 @@ use Rattle.wit_arena.specs.Occurrences.{Occurrence, keys, Collects}
 use Rattle.wit_arena.specs.UnfoldedTypes.{import_types, world_functions}
 use Rattle.wit_arena.specs.SideItems.{settled}
 use Rattle.wit_arena.specs.ResolvedArenas.{interfaces_at, worlds_at, WorldArenas, prefix_worlds, AddsWorld, AddsWorlds, AddsForeign, AreUsableUses}
-use Rattle.wit_arena.specs.Resolving.{Names, env_of, ResolvedScope, Required, resolved_scopes}
+use Rattle.wit_arena.specs.Resolving.{Names, env_of, Required}
 use Rattle.wit_arena.specs.Whole.{Ordered, OrderedWorld, Turned, addresses, turned, side_turns, world_turns, all_turns, all_inside, all_occurrences, turn_handles, AreRequired, functions_at}
 use Rattle.wit_arena.proofs.Added.{InterfacesDone, WorldOwner, inside_of, interface_list, world_list, decls}
 use Rattle.wit_arena.proofs.Sided.{AreAsStated, AreSided}
@@ -57,9 +57,6 @@ module _ (files : List PackageFile) (is ws : List Item) (interfaces : AreOfSort 
 
   abbrev before : List DoneScope
   before = prefix_scopes files prefix ++ d.scopes
-
-  abbrev known : List ResolvedScope
-  known = resolved_scopes ss (prefix ++ xs)
 
   -- the first worlds are done, after all interfaces
   abbrev WorldsDone : List Item → List TypeDef → WorldArenas → List Required → Type 0

@@ -1,8 +1,6 @@
--- Written types by their parts: the shapes of these, the names in them, and what is wrong with them.
-use Rattle.std.proofs.Common.{◌≡◌, ℕ, zero, suc, List, [], ◌∷◌, ◌++◌, Some, inl, inr, refl, sym, ap, ◌∙◌, subst, append_assoc, Contains, Vec, arith}
-use Rattle.std.specs.Prelude.{slice_get}
+-- Written types by their parts: the shapes of these, and the names in them.
+use Rattle.std.proofs.Common.{◌≡◌, List, [], ◌∷◌, ◌++◌, refl, sym, ap, ◌∙◌, append_assoc, Vec}
 use Rattle.std.proofs.lemmas.List.{append-nil}
-use Rattle.std.proofs.lemmas.List.Elements.{Contains-append_left, Contains-append_right, Contains-append_cases}
 use Rattle.std.specs.declared.alloc.Global.{Global}
 use Rattle.wit_values.specs.declared.span.Span.{Span}
 use Rattle.wit_type_tree.specs.declared.leaves.Id.{Id}
@@ -12,16 +10,11 @@ use Rattle.wit_type_tree.specs.declared.types.«Type».TheVariants as written
 use Rattle.wit_type_tree.proofs.Rows.{tuple_types}
 use Rattle.wit_type_tree.specs.TypeParts.{result_types, row_types, part_types}
 use Rattle.wit_types.specs.declared.stability.Stability.{Stability}
-use Rattle.wit_types.specs.declared.types.TypeDef.{TypeDef}
 use Rattle.wit_syntax.specs.Shape.{Shape, Prim, Word, Of, Shapes, End, More, shape_of, result_shapes, row_shapes, all_shapes, head, words, all_words, handles, row_handles, all_handles}
 use Rattle.wit_syntax.specs.Address.{Address}
 use Rattle.wit_arena.specs.Expr.{joined, expr_of, exprs_of}
 use Rattle.wit_arena.specs.Expr as exprs
 use Rattle.wit_arena.specs.Occurrences.{shape_occurrences, shapes_occurrences}
-use Rattle.wit_syntax.specs.Fault.{Fault}
-use Rattle.wit_syntax.specs.Bodies.{IsBrokenForm, IsBrokenType, Itself, Inside, IsBrokenPart}
-use Rattle.wit_arena.specs.Resolving.{Env, IsWrongWord, IsWrongType, AreWrongTypes}
-use Rattle.wit_syntax.proofs.Found.{contains_at}
 
 pub row_shapes-all : {m : _} (ts : Row_of-Type m) → row_shapes ts ≡ all_shapes (row_types ts)
 row_shapes-all end_of-Type = refl
@@ -77,32 +70,10 @@ words-head (Prim p) = refl
 words-head (Word id) = refl
 words-head (Of span form parts) = refl
 
--- the names in a type are among those in all
-words_at : (ts : List Written) (i : ℕ) (t : Written) (id : Id) → slice_get ts i ≡ Some t → Contains (words (shape_of t)) id → Contains (all_words (all_shapes ts)) id
-words_at [] i t id at h = absurd (let wrong : ⊥ = cc in wrong)
-words_at (u ∷ ts) zero t id at h = let same : u ≡ t = cc in Contains-append_left (words (shape_of u)) (all_words (all_shapes ts)) id (rw same h)
-words_at (u ∷ ts) (suc i) t id at h = Contains-append_right (words (shape_of u)) (all_words (all_shapes ts)) id (words_at ts i t id at h)
-
--- those in the parts are among those in the whole
-words_inner : (x : Shape) (id : Id) → Contains (all_words (inner x)) id → Contains (words x) id
-words_inner (Prim p) id h = h
-words_inner (Word i) id (k, lt, is) = absurd (let wrong : ⊥ = omega arith in wrong)
-words_inner (Of span form parts) id h = h
-
--- those in the types that are parts are among those in the parts
-words_parts : (t : Written) (id : Id) → Contains (all_words (all_shapes (part_types t))) id → Contains (all_words (inner (shape_of t))) id
-words_parts (written.Borrow span own) id (k, lt, is) = absurd (let wrong : ⊥ = omega arith in wrong)
-words_parts t id h = subst (λ xs. Contains (all_words xs) id) (sym (inner-parts t tt)) h
-
 -- the names in handles, of types and of further ones
 pub all_handles-append : (ts us : List Written) → all_handles (ts ++ us) ≡ all_handles ts ++ all_handles us
 all_handles-append [] us = refl
 all_handles-append (t ∷ ts) us = ap (λ (l : List Id). handles t ++ l) (all_handles-append ts us) ∙ sym (append_assoc (handles t) (all_handles ts) (all_handles us))
-
-pub handles_at : (ts : List Written) (i : ℕ) (t : Written) (id : Id) → slice_get ts i ≡ Some t → Contains (handles t) id → Contains (all_handles ts) id
-handles_at [] i t id at h = absurd (let wrong : ⊥ = cc in wrong)
-handles_at (u ∷ ts) zero t id at h = let same : u ≡ t = cc in Contains-append_left (handles u) (all_handles ts) id (rw same h)
-handles_at (u ∷ ts) (suc i) t id at h = Contains-append_right (handles u) (all_handles ts) id (handles_at ts i t id at h)
 
 row_handles-all : {m : _} (ts : Row_of-Type m) → row_handles ts ≡ all_handles (row_types ts)
 row_handles-all end_of-Type = refl
@@ -132,70 +103,3 @@ handles-parts (written.Future' span (Some' p t)) h = sym (append-nil (handles t)
 handles-parts (written.Stream' span None') h = refl
 handles-parts (written.Stream' span (Some' p t)) h = sym (append-nil (handles t))
 handles-parts _ h = refl
-
--- those in its parts are among those in the whole
-handles_inside : (t : Written) (id : Id) → Contains (all_handles (part_types t)) id → Contains (handles t) id
-handles_inside (written.Own span own) id (k, lt, is) = absurd (let wrong : ⊥ = omega arith in wrong)
-handles_inside (written.Borrow span own) id (k, lt, is) = absurd (let wrong : ⊥ = omega arith in wrong)
-handles_inside t id h = subst (λ (l : List Id). Contains l id) (sym (handles-parts t tt)) h
-
--- names that are wrong are so among more of them
-pub word_wider : (env : Env) (es : List TypeDef) (ids hs jds gs : List Id) (f : Fault) → ((id : Id) → Contains ids id → Contains jds id) → ((id : Id) → Contains hs id → Contains gs id) → IsWrongWord env es ids hs f → IsWrongWord env es jds gs f
-word_wider env es ids hs jds gs f p q (inl unknown) = inl (record { id = unknown.id; among = p unknown.id unknown.among; free = unknown.free; is = unknown.is })
-word_wider env es ids hs jds gs f p q (inr handle) = inr (record { id = handle.id; among = q handle.id handle.among; place = handle.place; present = handle.present; steps = handle.steps; other = handle.other; is = handle.is })
-
-pub wrong_at : (env : Env) (es : List TypeDef) (ts : List Written) (i : ℕ) (t : Written) (f : Fault) → slice_get ts i ≡ Some t → IsWrongType env es t f → AreWrongTypes env es ts f
-wrong_at env es ts i t f at (inl broken) = inl (t, contains_at ts i t at, broken)
-wrong_at env es ts i t f at (inr word) = inr (word_wider env es (words (shape_of t)) (handles t) (all_words (all_shapes ts)) (all_handles ts) f (λ id h. words_at ts i t id at h) (λ id h. handles_at ts i t id at h) word)
-
--- what is wrong with some of the types is wrong with all
-pub wrong_left : (env : Env) (es : List TypeDef) (ts us : List Written) (f : Fault) → AreWrongTypes env es ts f → AreWrongTypes env es (ts ++ us) f
-wrong_left env es ts us f (inl broken) = inl (broken.0, Contains-append_left ts us broken.0 broken.1, broken.2)
-wrong_left env es ts us f (inr word) = inr (word_wider env es (all_words (all_shapes ts)) (all_handles ts) (all_words (all_shapes (ts ++ us))) (all_handles (ts ++ us)) f
-    (λ id h. subst (λ ids. Contains ids id) (sym (all_words-append ts us)) (Contains-append_left (all_words (all_shapes ts)) (all_words (all_shapes us)) id h))
-    (λ id h. subst (λ ids. Contains ids id) (sym (all_handles-append ts us)) (Contains-append_left (all_handles ts) (all_handles us) id h)) word)
-
-pub wrong_right : (env : Env) (es : List TypeDef) (ts us : List Written) (f : Fault) → AreWrongTypes env es us f → AreWrongTypes env es (ts ++ us) f
-wrong_right env es ts us f (inl broken) = inl (broken.0, Contains-append_right ts us broken.0 broken.1, broken.2)
-wrong_right env es ts us f (inr word) = inr (word_wider env es (all_words (all_shapes us)) (all_handles us) (all_words (all_shapes (ts ++ us))) (all_handles (ts ++ us)) f
-    (λ id h. subst (λ ids. Contains ids id) (sym (all_words-append ts us)) (Contains-append_right (all_words (all_shapes ts)) (all_words (all_shapes us)) id h))
-    (λ id h. subst (λ ids. Contains ids id) (sym (all_handles-append ts us)) (Contains-append_right (all_handles ts) (all_handles us) id h)) word)
-
-broken_in : (t : Written) (f : Fault) → IsBrokenPart (part_types t) f → IsBrokenType t f
-broken_in t f h = Inside h.1 h.2
-
-pub broken_here : (t : Written) (f : Fault) → IsBrokenForm t f → IsBrokenType t f
-broken_here t f h = Itself h
-
--- what is wrong with the parts of a type is wrong with the type
-pub wrong_inside : (env : Env) (es : List TypeDef) (t : Written) (f : Fault) → AreWrongTypes env es (part_types t) f → IsWrongType env es t f
-wrong_inside env es t f (inl broken) = inl (broken_in t f broken)
-wrong_inside env es t f (inr word) = inr (word_wider env es (all_words (all_shapes (part_types t))) (all_handles (part_types t)) (words (shape_of t)) (handles t) f (λ id h. words_inner (shape_of t) id (words_parts t id h)) (handles_inside t) word)
-
--- no rule is broken in these types
-abbrev pub AreLegal : List Written → Type 0
-AreLegal ts = (f : Fault) → IsBrokenPart ts f → ⊥
-
-none_in : (t : Written) → Contains [] t → ⊥
-none_in t (k, lt, is) = omega arith
-
-pub legal_none : AreLegal []
-legal_none f h = none_in h.0 h.1
-
-pub legal_more : (ts us : List Written) → AreLegal ts → AreLegal us → AreLegal (ts ++ us)
-legal_more ts us p q f h = elim (Contains-append_cases ts us h.0 h.1) [
-  | inl left ↦ p f (h.0, left, h.2)
-  | inr right ↦ q f (h.0, right, h.2)
-]
-
-the_one : (t u : Written) → Contains (t ∷ []) u → t ≡ u
-the_one t u (zero, lt, is) = is
-the_one t u (suc k, lt, is) = absurd (let wrong : ⊥ = omega arith in wrong)
-
-pub legal_one : (t : Written) → ((f : Fault) → IsBrokenType t f → ⊥) → AreLegal (t ∷ [])
-legal_one t p f h = p f (subst (λ u. IsBrokenType u f) (sym (the_one t h.0 h.1)) h.2)
-
--- a type is legal where it is itself and its parts are
-pub legal_whole : (t : Written) → ((f : Fault) → IsBrokenForm t f → ⊥) → AreLegal (part_types t) → (f : Fault) → IsBrokenType t f → ⊥
-legal_whole t own parts f (Itself broken) = own f broken
-legal_whole t own parts f (Inside {t = part} among broken) = parts f (part, among, broken)

@@ -1,8 +1,6 @@
 -- What resolving interfaces and worlds does to the arenas, one after another.
-use Rattle.std.specs.Prelude.{◌≡◌, ℕ, ◌+◌, true, false, List, [], ◌∷◌, ◌++◌, length, map, take, Some, None, slice_get, Contains}
+use Rattle.std.specs.Prelude.{◌≡◌, ℕ, ◌+◌, false, List, [], ◌∷◌, ◌++◌, length, map, Some, slice_get, Contains}
 use Rattle.std.specs.List.{flat_map}
-use Rattle.wit_type_tree.specs.declared.leaves.Id.{Id}
-use Rattle.wit_tree.specs.declared.tree.Include.{Include}
 use Rattle.wit_tree.specs.declared.tree.Use.{Use}
 use Rattle.wit_tree.specs.declared.tree.PackageFile.{PackageFile}
 use Rattle.wit_types.specs.declared.types.TypeDef.{TypeDef}
@@ -13,27 +11,27 @@ use Rattle.wit_model.specs.declared.interface.Interface.{Interface}
 use Rattle.wit_model.specs.declared.world.World.{World}
 use Rattle.wit_graph.specs.Table.{IsOrder}
 use Rattle.wit_syntax.specs.Address.{Address, WorldNamed}
-use Rattle.wit_syntax.specs.Metadata.{metadata, no_docs, IsBrokenStability}
+use Rattle.wit_syntax.specs.Metadata.{metadata, no_docs}
 use Rattle.wit_model.specs.declared.world.WorldKey.{WorldKey}
 use Rattle.wit_model.specs.declared.world.WorldItem.{WorldItem}
-use Rattle.wit_syntax.specs.Source.{leads, Item, address, is_world, ScopeName, scope_names, meaning, ForeignUse, first_foreign_uses, about, declared_metadata}
+use Rattle.wit_syntax.specs.Source.{leads, Item, address, ScopeName, scope_names, ForeignUse, first_foreign_uses, about, declared_metadata}
 use Rattle.wit_syntax.specs.Foreign.{visited, foreign_interfaces, foreign_worlds}
 use Rattle.wit_arena.specs.Occurrences.{keys}
 use Rattle.wit_syntax.specs.Fault.{Fault}
 use Rattle.wit_arena.specs.OneByOne.{OneByOne}
 use Rattle.wit_arena.specs.UnfoldedTypes.{IsInterface, IsWorld, IsForeignWorld}
-use Rattle.wit_syntax.specs.ScopeTables.{uses, includes, interfaces_of, worlds_of, rows_of, in_order, defined, in_turn, AreDistinct}
+use Rattle.wit_syntax.specs.ScopeTables.{uses, includes, rows_of, in_order, defined, in_turn, AreDistinct}
 use Rattle.wit_functions.specs.declared.function.Function.{Function}
-use Rattle.wit_syntax.specs.Function.{SourceFunction, functions as item_functions, signature, name_types, written_types, all_types, item_types}
+use Rattle.wit_syntax.specs.Function.{SourceFunction, functions as item_functions, name_types, written_types, all_types}
 use Rattle.wit_syntax.specs.SignatureRules.{IsUnpairedSetter}
 use Rattle.wit_tree.specs.declared.tree.WorldSide.TheVariants.{Imported, Exported}
 use Rattle.wit_arena.specs.SourceFunctions.{placed_functions}
 use Rattle.wit_arena.specs.SideItems.{AreSideItems, settled}
-use Rattle.wit_syntax.specs.Broken.{is_world_at, IsBrokenScope, IsBrokenUse, IsLinkedTwice, IsSetterAlone}
-use Rattle.wit_syntax.specs.Sides.{Link, links, SideItem, SideFunction, SideLink, SideInline, side_items, inline_items, IsBrokenSides}
+use Rattle.wit_syntax.specs.Broken.{is_world_at, IsSetterAlone}
+use Rattle.wit_syntax.specs.Sides.{SideItem, SideFunction, SideLink, SideInline, side_items, inline_items}
 use Rattle.wit_arena.specs.Whole.{owner_at, foreign_use_occurrence, IsForeignInterface, type_imports, AreIncludes}
-use Rattle.wit_arena.specs.Resolving.{Names, env_of, ResolvedScope, resolved_scopes, named, Defines, AddsFunctions, Required, IsWrongHandle, AreEnded, IsIndex, IsWorldIndex, IsLostInclude, IsLostLink, IsWrongScope}
-use Rattle.wit_syntax.specs.Shape.{words, all_handles}
+use Rattle.wit_arena.specs.Resolving.{Names, env_of, ResolvedScope, resolved_scopes, named, Defines, AddsFunctions, Required, AreEnded}
+use Rattle.wit_syntax.specs.Shape.{all_handles}
 
 -- the definitions of a scope were added in the least dependency-first order, after its used names
 pub record DefinesAll (old new : List TypeDef) (o : TypeOwner) (names names' : Names) (xs : List ScopeName) : Type 0 where
@@ -145,44 +143,9 @@ AddsWorlds foreign others is old new a b rs items = AddsEach (AddsWorld foreign 
 abbrev pub prefix_worlds : List World → WorldArenas
 prefix_worlds ws = record { worlds = ws; inside = []; addresses = [] }
 
--- nothing is wrong with what is on the sides of these items
-pub record AreLegalSides (items : List Item) : Type 0 where
-  pub legal : (i : ℕ) (item : Item) (f : Fault) → slice_get items i ≡ Some item → IsBrokenSides item f → ⊥
-
 -- the path of each `use` of these items leads to an interface
 pub record AreUsableUses (files : List PackageFile) (items : List Item) : Type 0 where
   pub usable : (item : Item) (u : Use) → Contains items item → Contains (uses item) u → is_world_at files (leads item.top u.from) ≡ Some false
-
--- the paths by which an item imports and exports interfaces lead to interfaces, no two on a side without a name of their own to one
-pub record HasUsableLinks (files : List PackageFile) (item : Item) : Type 0 where
-  pub usable : (link : Link) → Contains (links item) link → is_world_at files (leads item.top link.path) ≡ Some false
-  pub apart : (f : Fault) → IsLinkedTwice files item f → ⊥
-
--- so do those of each of these
-pub record AreUsableLinks (files : List PackageFile) (items : List Item) : Type 0 where
-  pub each : (i : ℕ) (item : Item) → slice_get items i ≡ Some item → HasUsableLinks files item
-
--- a name in a signature of a scope with these names and functions means nothing
-pub record IsNameless (xs : List ScopeName) (fns : List SourceFunction) : Type 0 where
-  pub k : ℕ
-  pub fn : SourceFunction
-  pub at : slice_get fns k ≡ Some fn
-  pub id : Id
-  pub among : Contains (flat_map words (signature fn)) id
-  pub missing : meaning xs id.name.now ≡ None
-
--- no scope of these items is broken by itself, but where a name in a signature means nothing
-pub record AreSoundScopes (items : List Item) : Type 0 where
-  pub sound : (i : ℕ) (item : Item) (f : Fault) → slice_get items i ≡ Some item → IsBrokenScope (scope_names item) (item_functions item) f → IsNameless (scope_names item) (item_functions item)
-
--- what is wrong with the stability that the attributes of an item say, or those of its includes
-pub data IsBrokenItemStability (item : Item) (f : Fault) : Type 0 where
-  OwnStability : IsBrokenStability (about item.declared).attributes f → IsBrokenItemStability item f
-  OfInclude : (n : Include) → Contains (includes item) n → IsBrokenStability n.attributes.items f → IsBrokenItemStability item f
-
--- nothing is wrong with the stability of these items
-pub record HaveLegalStability (items : List Item) : Type 0 where
-  pub legal : (i : ℕ) (item : Item) (f : Fault) → slice_get items i ≡ Some item → IsBrokenItemStability item f → ⊥
 
 -- an item at a place, once some of those at places were gone over
 pub record IsNext (items : List Item) (places : List ℕ) (count : ℕ) (item : Item) : Type 0 where
@@ -199,89 +162,3 @@ pub record AddsForeign (files : List PackageFile) (es : List TypeDef) (is : List
   pub types : es ≡ map (foreign_type files) (first_foreign_uses files)
   pub interfaces : OneByOne (IsForeignInterface files (keys (map foreign_use_occurrence (first_foreign_uses files)))) (foreign_interfaces files) is
   pub worlds : OneByOne IsForeignWorld (foreign_worlds files) ws
-
--- once some names of a scope were added in turn, and some types after them, a name in a handle of the item ends at something else than
--- a resource
-pub record IsWrongHandleNow (old : List TypeDef) (cs : List ResolvedScope) (o : TypeOwner) (item : Item) (f : Fault) : Type 0 where
-  pub order : List ℕ
-  pub least : IsOrder (rows_of (scope_names item)) order
-  pub distinct : AreDistinct (scope_names item)
-  pub count : ℕ
-  pub mid : List TypeDef
-  pub names : Names
-  pub defines : (s : Address) → Defines old mid cs o s [] names (take count (in_turn (scope_names item) order))
-  pub more : List TypeDef
-  pub wrong : IsWrongHandle (env_of names) (mid ++ more) (all_handles (item_types item)) f
-
--- what is wrong with an interface, by what was resolved before
-pub data IsWrongInterface (old : List TypeDef) (cs : List ResolvedScope) (by_name : Names) (o : TypeOwner) (item : Item) (f : Fault) : Type 0 where
-  WrongStability : IsBrokenItemStability item f → IsWrongInterface old cs by_name o item f
-  WrongScope : IsWrongScope cs by_name (scope_names item) (item_functions item) f → IsWrongInterface old cs by_name o item f
-  WrongHandle : IsWrongHandleNow old cs o item f → IsWrongInterface old cs by_name o item f
-  WrongSides : IsBrokenSides item f → IsWrongInterface old cs by_name o item f
-  Unpaired : IsUnpairedSetter (item_functions item) f → IsWrongInterface old cs by_name o item f
-
--- Once some of what is on the sides of a world was added after its names, the next interface that is written there is wrong; there are so
--- many others, and then those that were written before it.
-pub record IsWrongInside (old : List TypeDef) (cs : List ResolvedScope) (count : ℕ) (inside : List Interface) (by_name names : Names) (s : Address) (xs : List SideItem) (us : List Item) (f : Fault) : Type 0 where
-  pub place : ℕ
-  pub done : ℕ
-  pub mid : List TypeDef
-  pub now : List Interface
-  pub functions : List Function
-  pub rs : List Required
-  pub sides : AddsSides cs count s names old mid inside now functions rs (take place xs) (take done us)
-  pub covered : length now ≡ length inside + done
-  pub inner : Item
-  pub next : slice_get us done ≡ Some inner
-  pub wrong : IsWrongInterface mid cs by_name (owner.Interface (count + length now)) inner f
-
--- once the names of a world were added, what is written in it is wrong
-pub record IsWrongInline (old : List TypeDef) (cs : List ResolvedScope) (count : ℕ) (inside : List Interface) (by_name : Names) (o : TypeOwner) (item : Item) (f : Fault) : Type 0 where
-  pub types : Names
-  pub middle : List TypeDef
-  pub adds : AddsScope old middle cs o (scope_names item) types
-  pub wrong : IsWrongInside middle cs count inside by_name types (address item) (side_items item) (inline_items item) f
-
--- what is wrong with a world, by what was resolved before
-pub data IsWrongWorld (files : List PackageFile) (old : List TypeDef) (cs : List ResolvedScope) (count : ℕ) (inside : List Interface) (by_name worlds_by_name : Names) (o : TypeOwner) (item : Item) (f : Fault) : Type 0 where
-  WrongInline : IsWrongInline old cs count inside by_name o item f → IsWrongWorld files old cs count inside by_name worlds_by_name o item f
-  WrongWorldStability : IsBrokenItemStability item f → IsWrongWorld files old cs count inside by_name worlds_by_name o item f
-  WrongWorldScope : IsWrongScope cs by_name (scope_names item) (item_functions item) f → IsWrongWorld files old cs count inside by_name worlds_by_name o item f
-  WrongWorldHandle : IsWrongHandleNow old cs o item f → IsWrongWorld files old cs count inside by_name worlds_by_name o item f
-  WrongWorldSides : IsBrokenSides item f → IsWrongWorld files old cs count inside by_name worlds_by_name o item f
-  WrongLinks : IsLinkedTwice files item f → IsWrongWorld files old cs count inside by_name worlds_by_name o item f
-  UnpairedOnSide : IsSetterAlone item f → IsWrongWorld files old cs count inside by_name worlds_by_name o item f
-  WrongWorldUse : IsBrokenUse files item f → IsWrongWorld files old cs count inside by_name worlds_by_name o item f
-  LostLink : IsLostLink files by_name item f → IsWrongWorld files old cs count inside by_name worlds_by_name o item f
-  LostInclude : IsLostInclude files worlds_by_name item f → IsWrongWorld files old cs count inside by_name worlds_by_name o item f
-
--- where these come first, at these addresses: once the interfaces among some of the items were added in the order of their places,
--- the next item is an interface that is wrong
-pub record IsWrongNow (foreign : List Address) (es : List TypeDef) (prefix : List Interface) (items : List Item) (places : List ℕ) (f : Fault) : Type 0 where
-  pub count : ℕ
-  pub item : Item
-  pub next : IsNext items places count item
-  pub sort : is_world item ≡ false
-  pub mid : List TypeDef
-  pub before : List Interface
-  pub rs : List Required
-  pub added : AddsInterfaces foreign es mid prefix before rs (interfaces_of (in_order items (take count places)))
-  pub by_name : Names
-  pub index : IsIndex (resolved_scopes foreign before) by_name
-  pub wrong : IsWrongInterface mid (resolved_scopes foreign before) by_name (owner.Interface (length before)) item f
-
--- where these are the interfaces, their types were resolved, and these worlds come first: once the worlds among some of the items
--- were added in the order of their places, the next item is a world that is wrong
-pub record IsWrongWorldNow (files : List PackageFile) (foreign others : List Address) (middle : List TypeDef) (is : List Interface) (by_name : Names) (prefix : List World) (items : List Item) (places : List ℕ) (f : Fault) : Type 0 where
-  pub count : ℕ
-  pub item : Item
-  pub next : IsNext items places count item
-  pub sort : is_world item ≡ true
-  pub mid : List TypeDef
-  pub before : WorldArenas
-  pub rs : List Required
-  pub added : AddsWorlds foreign others is middle mid (prefix_worlds prefix) before rs (worlds_of (in_order items (take count places)))
-  pub worlds_by_name : Names
-  pub worlds_index : IsWorldIndex (worlds_at others before.worlds) worlds_by_name
-  pub wrong : IsWrongWorld files mid (resolved_scopes foreign is) (length is) before.inside by_name worlds_by_name (owner.World (length before.worlds)) item f

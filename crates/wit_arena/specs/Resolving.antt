@@ -8,13 +8,8 @@ use Rattle.indexmap.specs.IndexMap.{insert_entry}
 use Rattle.wit_values.specs.declared.span.Span.{Span}
 use Rattle.wit_type_tree.specs.declared.leaves.Id.{Id}
 use Rattle.wit_type_tree.specs.declared.leaves.Attribute.{Attribute}
-use Rattle.wit_tree.specs.declared.tree.UsePath.{UsePath}
 use Rattle.wit_tree.specs.declared.tree.UseName.{UseName}
 use Rattle.wit_tree.specs.declared.tree.PackageFile.{PackageFile}
-use Rattle.wit_type_tree.specs.declared.types.«Type».{«Type» as WrittenType}
-use Rattle.wit_type_tree.specs.declared.types.TypeBody.{TypeBody}
-use Rattle.wit_type_tree.specs.declared.types.TypeDef.{TypeDef as Definition}
-use Rattle.wit_type_tree.specs.TypeParts.{body_types}
 use Rattle.wit_types.specs.declared.stability.Stability.{Stability}
 use Rattle.wit_types.specs.declared.types.«Type».{«Type» as Ty}
 use Rattle.wit_types.specs.declared.types.«Type».TheVariants as type
@@ -25,22 +20,18 @@ use Rattle.wit_types.specs.declared.types.TypeOwner.{TypeOwner}
 use Rattle.wit_types.specs.declared.types.TypeOwner.TheVariants as owner
 use Rattle.wit_model.specs.declared.interface.Interface.{Interface}
 use Rattle.wit_syntax.specs.Address.{Address, InterfaceNamed, WorldNamed, ForeignNamed}
-use Rattle.wit_syntax.specs.Source.{path_id, Target, Local, Foreign, leads, Item, ScopeName, Used, Defined, local_id, local_name}
+use Rattle.wit_syntax.specs.Source.{Target, Local, Foreign, ScopeName, Used, local_name}
 use Rattle.wit_syntax.specs.Foreign.{foreign_at, ForeignVisit}
-use Rattle.wit_syntax.specs.ScopeTables.{include_paths, AreDistinct, local_names}
-use Rattle.wit_syntax.specs.Shape.{shape_of, all_shapes, words, all_words, handles, all_handles, body_of}
-use Rattle.wit_syntax.specs.Metadata.{Metadata, metadata, no_docs, IsBrokenMetadata}
+use Rattle.wit_syntax.specs.ScopeTables.{AreDistinct, local_names}
+use Rattle.wit_syntax.specs.Metadata.{Metadata, metadata, no_docs}
 use Rattle.wit_arena.specs.Expr.{Expr, Prim, Use, Of, Exprs, End, More}
 use Rattle.wit_arena.specs.Occurrences.{Key, Def, Whole, Occurrence, keys, IsSeen, Collects, AreAt, Decls, IsOccurrence, name_occurrences, all_function_occurrences, settled}
-use Rattle.wit_syntax.specs.Fault.{Fault, fault, missing_at, missing_type_at, item_word, name_word}
+use Rattle.wit_syntax.specs.Fault.{Fault, missing_type_at}
 use Rattle.wit_arena.specs.UnfoldedTypes.{At}
-use Rattle.wit_syntax.specs.Bodies.{IsBrokenType, IsBrokenPart, IsBrokenBody}
 use Rattle.wit_syntax.specs.Function.{SourceFunction}
 use Rattle.wit_functions.specs.declared.function.Function.{Function}
 use Rattle.wit_arena.specs.SourceFunctions.{AreFunctions, freestanding_names}
-use Rattle.wit_arena.specs.EntryEnds.{IsResource, IsUnknown as IsUnknownEntry, IsOther, entry_end}
-use Rattle.wit_syntax.specs.Sides.{Link, links}
-use Rattle.wit_syntax.specs.Broken.{is_world_at, IsBrokenScope}
+use Rattle.wit_arena.specs.EntryEnds.{IsResource, IsUnknown as IsUnknownEntry, entry_end}
 
 -- what the names of a scope mean
 abbrev pub Env : Type 0
@@ -163,44 +154,10 @@ pub record IsUnknown (env : Env) (ids : List Id) (f : Fault) : Type 0 where
   pub free : env id.name.now ≡ None
   pub is : f ≡ missing_type_at id
 
--- a name in a handle ends at something else than a resource
-pub record IsWrongHandle (env : Env) (es : List TypeDef) (ids : List Id) (f : Fault) : Type 0 where
-  pub id : Id
-  pub among : Contains ids id
-  pub place : ℕ
-  pub present : env id.name.now ≡ Some place
-  pub steps : ℕ
-  pub other : entry_end steps es place ≡ Some IsOther
-  pub is : f ≡ fault 27 id.span
-
--- a name means nothing yet, or one in a handle ends, in the arena, at something else than a resource
-abbrev pub IsWrongWord : Env → List TypeDef → List Id → List Id → Fault → Type 0
-IsWrongWord env es ids handled f = IsUnknown env ids f ⊎ IsWrongHandle env es handled f
-
--- what is wrong with a type that is resolved: with it or in it a rule is broken, or a name in it is wrong
-abbrev pub IsWrongType : Env → List TypeDef → WrittenType → Fault → Type 0
-IsWrongType env es t f = IsBrokenType t f ⊎ IsWrongWord env es (words (shape_of t)) (handles t) f
-
--- what is wrong with types
-abbrev pub AreWrongTypes : Env → List TypeDef → List WrittenType → Fault → Type 0
-AreWrongTypes env es ts f = IsBrokenPart ts f ⊎ IsWrongWord env es (all_words (all_shapes ts)) (all_handles ts) f
-
--- what is wrong with a body that is resolved: a broken rule, or a wrong name
-abbrev pub IsWrongBody : Env → List TypeDef → TypeBody → Fault → Type 0
-IsWrongBody env es body f = IsBrokenBody body f ⊎ IsWrongWord env es (all_words (body_of body).parts) (all_handles (body_types body)) f
-
 -- a name was put into a table
 pub record IsStored (names names' : Names) (name : List ℕ) : Type 0 where
   pub place : ℕ
   pub is : names' ≡ insert_entry (pointwise nat_eq) names name place
-
--- no definition's body breaks a rule
-pub record AreLegalBodies (xs : List ScopeName) : Type 0 where
-  pub legal : (i : ℕ) (d : Definition) (f : Fault) → slice_get xs i ≡ Some (Defined d) → IsBrokenBody d.body f → ⊥
-
--- no attributes of definitions among these are broken
-pub record AreLegalMetadata (xs : List ScopeName) : Type 0 where
-  pub legal : (i : ℕ) (d : Definition) (f : Fault) → slice_get xs i ≡ Some (Defined d) → IsBrokenMetadata d.attributes.items f → ⊥
 
 -- each of these is in a table of names
 pub record HasNames (env : Env) (xs : List ScopeName) : Type 0 where
@@ -217,10 +174,6 @@ pub record IsFound (cs : List ResolvedScope) (from : Address) (c : ResolvedScope
   pub at : slice_get cs place ≡ Some c
   pub called : c.address ≡ from
 
--- none of the name was
-abbrev pub IsUnresolved : Names → Id → Fault → Type 0
-IsUnresolved by_name path f = (env_of by_name path.name.now ≡ None) × (f ≡ missing_at 7 item_word path)
-
 -- a used name was added, as another word for what it means in the interface that it comes from
 pub record IsUsed (old new : List TypeDef) (cs : List ResolvedScope) (o : TypeOwner) (names names' : Names) (from : Address) (attributes : List Attribute) (n : UseName) : Type 0 where
   pub target : ResolvedScope
@@ -229,22 +182,6 @@ pub record IsUsed (old new : List TypeDef) (cs : List ResolvedScope) (o : TypeOw
   pub present : env_of target.types n.name.name.now ≡ Some id
   pub free : env_of names (local_name (Used from attributes n)) ≡ None
   pub added : IsAdded old new o names names' (local_name (Used from attributes n)) (metadata no_docs attributes) n.name.span (Type_ (type.Id id))
-
--- a used name is wrong by what was resolved before: its interface was not, or it is none of that interface's, or that of a function there
-pub data IsWrongName (cs : List ResolvedScope) (by_name : Names) (from : Address) (n : UseName) (f : Fault) : Type 0 where
-  Unresolved : (path : Id) → from ≡ InterfaceNamed path.name.now → IsUnresolved by_name path f → IsWrongName cs by_name from n f
-  Unstated : (target : ResolvedScope) → IsFound cs from target → env_of target.types n.name.name.now ≡ None → (Contains target.functions n.name.name.now → ⊥) → f ≡ missing_at 12 name_word n.name → IsWrongName cs by_name from n f
-  OfFunction : (target : ResolvedScope) → IsFound cs from target → env_of target.types n.name.name.now ≡ None → Contains target.functions n.name.name.now → f ≡ fault 13 n.name.span → IsWrongName cs by_name from n f
-
--- what is wrong with a used name: it is by what was resolved before, or its local name is taken
-pub data IsWrongUse (cs : List ResolvedScope) (by_name names : Names) (from : Address) (attributes : List Attribute) (n : UseName) (f : Fault) : Type 0 where
-  Wrong : IsWrongName cs by_name from n f → IsWrongUse cs by_name names from attributes n f
-  ForeignName : IsSome (env_of names (local_name (Used from attributes n))) → f ≡ fault 14 (local_id (Used from attributes n)).span → IsWrongUse cs by_name names from attributes n f
-
--- what is wrong with a scope, by what was resolved before, where it has these functions
-pub data IsWrongScope (cs : List ResolvedScope) (by_name : Names) (xs : List ScopeName) (fns : List SourceFunction) (f : Fault) : Type 0 where
-  WrongName : (from : Address) (attributes : List Attribute) (n : UseName) → Contains xs (Used from attributes n) → IsWrongName cs by_name from n f → IsWrongScope cs by_name xs fns f
-  WrongItself : IsBrokenScope xs fns f → IsWrongScope cs by_name xs fns f
 
 -- worlds that were resolved, at these addresses, and the places of those of the package by name
 pub record IsWorldIndex (worlds : List Address) (by_name : Names) : Type 0 where
@@ -255,23 +192,6 @@ pub record IsWorldIndex (worlds : List Address) (by_name : Names) : Type 0 where
 abbrev pub IsNoWorld : List PackageFile → Names → Target → Type 0
 IsNoWorld files by_name (Local id) = env_of by_name id.name.now ≡ None
 IsNoWorld files by_name (Foreign p id) = option_map (λ (v : ForeignVisit). v.wants_world) (foreign_at files (ForeignNamed p id.name.now)) ≡ Some false
-
--- an include of an item leads to an interface of another package, or to no world that was resolved
-pub record IsLostInclude (files : List PackageFile) (by_name : Names) (item : Item) (f : Fault) : Type 0 where
-  pub path : UsePath
-  pub among : Contains (include_paths item) path
-  pub lost : IsNoWorld files by_name (leads item.top path)
-  pub is : f ≡ fault 11 (path_id path).span
-
--- a path by which an item imports or exports an interface leads to one of the package that was not resolved
-pub record IsLostLink (files : List PackageFile) (by_name : Names) (item : Item) (f : Fault) : Type 0 where
-  pub link : Link
-  pub id : Id
-  pub among : Contains (links item) link
-  pub local : leads item.top link.path ≡ Local id
-  pub usable : is_world_at files (Local id) ≡ Some false
-  pub lost : env_of by_name id.name.now ≡ None
-  pub is : f ≡ missing_at 7 item_word id
 
 -- what occurred, extended by what occurs in functions of a scope, and the functions over that
 pub record HasFunctions (decls : Decls) (ms : List Occurrence) (new : List TypeDef) (s : Address) (fns : List SourceFunction) (fs : List Function) : Type 0 where

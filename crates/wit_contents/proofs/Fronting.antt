@@ -1,17 +1,13 @@
 -- What comes before the arenas, once it was made.
 use Rattle.std.proofs.Common.{◌≡◌, ◌≤◌, List, [], length, sym, ap, ◌∙◌, subst, arith}
-use Rattle.std.specs.Prelude.{map, if◌then◌else◌, not}
-use Rattle.std.specs.List.{filter}
+use Rattle.std.specs.Prelude.{map}
 use Rattle.std.proofs.lemmas.List.{length-map, append-nil}
 use Rattle.wit_tree.specs.declared.tree.PackageFile.{PackageFile}
 use Rattle.wit_tree.specs.declared.tree.WorldSide.{WorldSide}
 use Rattle.wit_types.specs.declared.types.TypeDef.{TypeDef}
-use Rattle.wit_model.specs.declared.ast_item.AstItem.{AstItem}
-use Rattle.wit_model.specs.declared.ast_item.AstItem.TheVariants as entry
 use Rattle.wit_model.specs.declared.interface.Interface.{Interface}
 use Rattle.wit_model.specs.declared.world.World.{World}
 use Rattle.wit_syntax.specs.Foreign.{ForeignVisit, visited, foreign_items, foreign_interfaces, foreign_worlds}
-use Rattle.wit_arena.specs.Whole.{foreign_place}
 use Rattle.wit_arena.specs.Resolving.{Names, resolved_scopes, IsIndex, IsWorldIndex}
 use Rattle.wit_arena.specs.ResolvedArenas.{AddsForeign, worlds_at}
 use Rattle.wit_arena.proofs.Indexing.{index_prefix, world_index_prefix, worlds_at-append}
@@ -26,9 +22,6 @@ use Rattle.wit_items.specs.BorrowedItems.{others_of, names_view}
 use Rattle.wit_items.specs.InlineNames.{inside_view, names_written}
 use Rattle.wit_items.specs.PlacedItems.{AreItemsPlaced}
 use Rattle.wit_front.specs.ForeignPrefix.{addresses_among, AreAdded, HasUsed, IsPrefix}
-
-abbrev entry_by : List ForeignVisit → ForeignVisit → AstItem
-entry_by vs v = if v.wants_world then entry.World (foreign_place (filter (λ (v : ForeignVisit). v.wants_world) vs) v) else entry.Interface (foreign_place (filter (λ u. not u.wants_world) vs) v)
 
 module _ (files : List PackageFile) (es : List TypeDef) (is : List Interface) (ws : List World) (adds : AddsForeign files es is ws) where
   -- nothing in front goes by a name

@@ -36,7 +36,7 @@ use Rattle.wit_arena.proofs.DoneWorlds.{AreWorldsDone, own_order}
 use Rattle.wit_arena.proofs.Indexing.{worlds_at-append}
 use Rattle.wit_arena.proofs.Interfaces.{world_address, worlds_sort}
 use Rattle.wit_arena.proofs.Leading.{kept_early, named_at, needed_before, paths_of_world}
-use Rattle.wit_arena.proofs.LegalIfDone.{are_worlds, interfaces, worlds}
+use Rattle.wit_arena.proofs.OrderedItems.{are_worlds, interfaces, worlds}
 use Rattle.wit_arena.proofs.Members.{DoneScope}
 use Rattle.wit_arena.proofs.ScopesInTurn.{entry_of_item}
 use Rattle.wit_arena.proofs.Turns.{own_item}

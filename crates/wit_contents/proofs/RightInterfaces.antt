@@ -1,5 +1,5 @@
 -- The walk's fault of each interface of files is what is found of it, once those before it are resolved.
-use Rattle.std.proofs.Common.{◌≡◌, ◌⊎◌, ◌+◌, ◌++◌, ℕ, Bool, true, false, not, List, [], length, map, take, Option, Some, Contains, inl, inr, sym, ap, ◌∙◌, subst}
+use Rattle.std.proofs.Common.{◌≡◌, ◌⊎◌, ◌+◌, ◌++◌, ℕ, Bool, true, false, not, List, [], length, map, take, Option, Some, Contains, inl, inr, ap, ◌∙◌, subst}
 use Rattle.std.specs.Prelude.{slice_get}
 use Rattle.std.specs.List.{filter, flat_map}
 use Rattle.wit_type_tree.specs.declared.leaves.Attribute.{Attribute}
@@ -15,7 +15,7 @@ use Rattle.wit_syntax.specs.Fault.{Fault}
 use Rattle.wit_syntax.specs.Foreign.{visited, foreign_interfaces}
 use Rattle.wit_syntax.specs.Repeats.{AllDiffer}
 use Rattle.wit_syntax.specs.ScopeTables.{in_order, in_turn, interfaces_of, item_rows}
-use Rattle.wit_syntax.specs.Source.{Item, ScopeName, Used, address, all_items, is_world, item_name, scope_names}
+use Rattle.wit_syntax.specs.Source.{Item, Used, address, all_items, is_world, item_name, scope_names}
 use Rattle.wit_syntax.proofs.Kept.{kept_next}
 use Rattle.wit_syntax.proofs.Lists.{at_seam}
 use Rattle.wit_walk.specs.Definitions.{handle_fault}
@@ -26,7 +26,7 @@ use Rattle.wit_arena.specs.ResolvedArenas.{AddsForeign, AddsInterface, AddsInter
 use Rattle.wit_arena.proofs.Added.{InterfacesDone, interfaces_done}
 use Rattle.wit_arena.proofs.Interfaces.{interfaces_sort, worlds_sort}
 use Rattle.wit_arena.proofs.Leading.{IsForeignUse, kept_early, kept_prefix, used_before}
-use Rattle.wit_arena.proofs.LegalIfDone.{IsResolvedUse, are_interfaces, are_worlds, interfaces, worlds}
+use Rattle.wit_arena.proofs.OrderedItems.{IsResolvedUse, are_interfaces, are_worlds, interfaces, worlds}
 use Rattle.wit_externs.specs.AloneFaults.{EndsIn, IsSafe}
 use Rattle.wit_scopes.specs.BorrowedNames.{own_use, source_view}
 use Rattle.wit_scopes.specs.PlacedNames.{AreNamesPlaced}

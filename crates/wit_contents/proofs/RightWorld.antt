@@ -40,7 +40,7 @@ use Rattle.wit_arena.proofs.Added.{InterfacesDone, interfaces_done}
 use Rattle.wit_arena.proofs.DoneWorlds.{AreWorldsDone}
 use Rattle.wit_arena.proofs.Interfaces.{interfaces_sort, worlds_sort}
 use Rattle.wit_arena.proofs.Leading.{IsForeignUse, kept_prefix, option_cases, used_interface}
-use Rattle.wit_arena.proofs.LegalIfDone.{IsResolvedUse, are_interfaces, are_worlds, interface_at, interfaces, worlds}
+use Rattle.wit_arena.proofs.OrderedItems.{IsResolvedUse, are_interfaces, are_worlds, interface_at, interfaces, worlds}
 use Rattle.wit_arena.proofs.Prefix.{prefix_scopes}
 use Rattle.wit_arena.proofs.WorldSides.{world_added}
 use Rattle.wit_arena.proofs.Worlds.{worlds_done}

@@ -1,5 +1,5 @@
 -- Interfaces that are resolved say of used names what files do.
-use Rattle.std.proofs.Common.{◌≡◌, ℕ, ◌+◌, Bool, true, false, List, ◌++◌, length, map, Option, Some, None, ◌⊎◌, IsSome, inl, inr, refl, sym, ap, ◌∙◌, subst, arith, Contains}
+use Rattle.std.proofs.Common.{◌≡◌, ℕ, ◌+◌, true, false, List, ◌++◌, length, map, Option, Some, None, ◌⊎◌, IsSome, inl, inr, refl, sym, ap, ◌∙◌, subst, arith, Contains}
 use Rattle.std.specs.Prelude.{slice_get}
 use Rattle.std.specs.Option.{option_and_then, option_map, option_map_or}
 use Rattle.std.specs.List.{list_any}
@@ -43,7 +43,7 @@ use Rattle.wit_arena.proofs.FreeNames.{free_of, AreStated, free_stated, stated_f
 use Rattle.wit_arena.proofs.Indexing.{prefix_resolved_scope, resolved_scopes-append}
 use Rattle.wit_arena.proofs.Interfaces.{interface_address, item_scopes, scope_of}
 use Rattle.wit_arena.proofs.Leading.{IsForeignUse, option_cases}
-use Rattle.wit_arena.proofs.LegalIfDone.{IsResolvedUse, are_interfaces, interfaces, unstated, worlds}
+use Rattle.wit_arena.proofs.OrderedItems.{IsResolvedUse, are_interfaces, interfaces, unstated, worlds}
 use Rattle.wit_arena.proofs.Members.{resolved_scope_of}
 use Rattle.wit_arena.proofs.Prefix.{prefix_scopes, used_listed}
 use Rattle.wit_arena.proofs.ScopesInTurn.{ordered_at, scope_at}

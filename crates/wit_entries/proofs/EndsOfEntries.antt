@@ -1,5 +1,5 @@
 -- Arenas beside which it is stated where each entry ends, and one entry more.
-use Rattle.std.proofs.Common.{◌≡◌, ℕ, zero, suc, List, [], ◌∷◌, ◌++◌, length, Option, Some, None, inl, inr, refl, sym, ap, ◌∙◌, subst, length-append, arith}
+use Rattle.std.proofs.Common.{◌≡◌, ℕ, suc, List, [], ◌∷◌, ◌++◌, length, Option, Some, inl, inr, refl, sym, ap, ◌∙◌, subst, length-append, arith}
 use Rattle.std.specs.Prelude.{slice_get}
 use Rattle.std.proofs.Math.Seq.{take-append_seam}
 use Rattle.std.proofs.lemmas.Option.{slice_get_within}
@@ -13,15 +13,7 @@ use Rattle.wit_arena.specs.EntryEnds.{EntryEnd, found_end, kind_end, entry_end}
 use Rattle.wit_syntax.proofs.Lists.{at_either}
 use Rattle.wit_arena.proofs.Ends.{entry_end-same}
 use Rattle.wit_entries.specs.declared.ends.End.{End}
-use Rattle.wit_entries.specs.declared.ends.End.TheVariants as end
 use Rattle.wit_entries.specs.EndsOfEntries.{end_means, EndsAt, EndsNext, AreAsStated}
-
--- lists of one length have no item at the same places
-missing : {X Y : Type 0} (xs : List X) (ys : List Y) (i : ℕ) → length xs ≡ length ys → slice_get xs i ≡ None → slice_get ys i ≡ None
-missing xs [] i same none = refl
-missing [] (y ∷ ys) i same none = absurd (let f : ⊥ = omega arith in f)
-missing (x ∷ xs) (y ∷ ys) zero same none = absurd (let f : ⊥ = cc in f)
-missing (x ∷ xs) (y ∷ ys) (suc i) same none = missing xs ys i (omega arith) none
 
 at_last : {X : Type 0} (xs : List X) (x : X) → slice_get (xs ++ x ∷ []) (length xs) ≡ Some x
 at_last [] x = refl

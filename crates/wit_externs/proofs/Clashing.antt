@@ -1,31 +1,23 @@
--- What is on each side once names are defined there, and names of what is there that clash.
-use Rattle.std.proofs.Common.{◌≡◌, ℕ, ◌+◌, Bool, List, [], ◌∷◌, ◌++◌, length, take, drop, map, Some, None, refl, sym, ap, ◌∙◌, subst, append_assoc, arith}
+-- What is on each side once names are defined there.
+use Rattle.std.proofs.Common.{◌≡◌, ℕ, ◌+◌, Bool, List, [], ◌∷◌, ◌++◌, take, map, Some, None, refl, sym, ap, ◌∙◌, subst, append_assoc}
 use Rattle.std.specs.Prelude.{slice_get, Result, Ok, Err, OnOk}
-use Rattle.std.proofs.lemmas.Bool.{cond-true}
-use Rattle.std.proofs.lemmas.Grind.{flat_map-append}
-use Rattle.std.proofs.lemmas.List.{append-nil, take-append-le}
-use Rattle.std.proofs.lemmas.Option.{slice_get_within}
-use Rattle.std.proofs.Math.Seq.{take-append-add}
+use Rattle.std.proofs.lemmas.List.{append-nil}
 use Rattle.wit_values.specs.declared.span.Span.{Span}
 use Rattle.wit_type_tree.specs.declared.leaves.Id.{Id}
 use Rattle.wit_type_tree.specs.declared.types.FuncForm.{FuncForm}
 use Rattle.wit_tree.specs.declared.tree.WorldSide.{WorldSide}
 use Rattle.wit_tree.specs.declared.tree.WorldSide.TheVariants.{Imported, Exported}
-use Rattle.wit_syntax.specs.Fault.{Fault}
 use Rattle.wit_syntax.specs.Function.{Role, Freestanding, Method, Static, Constructor, OnSide}
 use Rattle.wit_syntax.specs.Repeats.{AllDiffer}
 use Rattle.wit_syntax.specs.ExternPart.{same_side}
-use Rattle.wit_syntax.specs.Sides.{role_side, names_on, SideItem, item_side, items_on, IsExternPart}
-use Rattle.wit_syntax.proofs.Lists.{at_prefix, at_back}
-use Rattle.wit_syntax.proofs.Addresses.{side_itself}
-use Rattle.wit_refusals.specs.NameScopes.{Name, AreUsed, IsDefinedAgain}
-use Rattle.wit_refusals.specs.KeyedNames.{HasName}
+use Rattle.wit_syntax.specs.Sides.{role_side, names_on, SideItem, item_side, items_on}
+use Rattle.wit_refusals.specs.NameScopes.{Name, AreUsed}
 use Rattle.wit_sides.specs.SideNames.{only_on}
 use Rattle.wit_rules.specs.BorrowedFunctions.{across_of}
-use Rattle.wit_signatures.specs.ForeignName.{name_key, IsTwiceAmong}
-use Rattle.wit_externs.specs.Clash.{item_names, names_of_items, IsCrossedAmong, IsClash, Folded, Crossed, IsCrossed}
-use Rattle.wit_externs.proofs.Named.{again_twice, twice_prefix, keys_more}
-use Rattle.wit_externs.proofs.Steps.{kept_split, kept_next, kept_one}
+use Rattle.wit_signatures.specs.ForeignName.{name_key}
+use Rattle.wit_externs.specs.Clash.{item_names, names_of_items}
+use Rattle.wit_externs.proofs.Named.{keys_more}
+use Rattle.wit_externs.proofs.Steps.{kept_next, kept_one}
 
 -- what a role says of sides
 pub side_imported : (role : Role) → across_of role ≡ None → role_side role ≡ Imported
@@ -73,61 +65,6 @@ item_on s side x n there named = ap (λ (t : WorldSide). only_on s t n) (sym the
 pub item_defined : {T E : Type 0} (r : Result T E) (x : SideItem) (side : WorldSide) (old new : WorldSide → List Name) (name : List ℕ) (span : Span) → item_side x ≡ side → item_names x ≡ (name, span) ∷ [] → OnOk r ((s : WorldSide) → new s ≡ old s ++ only_on s side (name, span)) → OnOk r ((s : WorldSide) → new s ≡ old s ++ names_of_items (items_on s (x ∷ [])))
 item_defined (Ok done) x side old new name span there named defined = λ s. defined s ∙ ap (λ (l : List Name). old s ++ l) (item_on s side x (name, span) there named)
 item_defined (Err e) x side old new name span there named defined = tt
-
--- an item is alone on its side
-alone : (side : WorldSide) (x : SideItem) → item_side x ≡ side → items_on side (x ∷ []) ≡ x ∷ []
-alone side x there = cond-true (members_on side x) (x ∷ []) [] (ap (same_side side) there ∙ side_itself side)
-
--- an item whose name is in use on its side clashes
-pub clash_again : (x : SideItem) (side : WorldSide) (old : WorldSide → List Name) (name : List ℕ) (span : Span) (f : Fault) → item_side x ≡ side → item_names x ≡ (name, span) ∷ [] → IsDefinedAgain (old side) name span f → IsClash old (x ∷ []) f
-clash_again x side old name span f there named again =
-    let names : (name, span) ∷ [] ≡ names_of_items (items_on side (x ∷ [])) = sym named ∙ sym (append-nil (item_names x)) ∙ ap names_of_items (sym (alone side x there)) in
-    Folded side (subst (λ (l : List Name). IsTwiceAmong (old side ++ l) f) names (again_twice (old side) name span f again))
-
-pub clash_crossed : (x : SideItem) (side : WorldSide) (old : WorldSide → List Name) (name : List ℕ) (span : Span) (f : Fault) → item_side x ≡ side → item_names x ≡ (name, span) ∷ [] → IsExternPart x → IsCrossed (old side) name span f → IsClash old (x ∷ []) f
-clash_crossed x side old name span f there named crosses crossed =
-    Crossed side (record {
-      place = 0;
-      later = x;
-      at = ap (λ (l : List SideItem). slice_get l 0) (alone side x there);
-      crosses = crosses;
-      name = (name, span);
-      named = named;
-      in_use = subst (λ (l : List Name). HasName l name) (sym (append-nil (old side))) crossed.in_use;
-      is = crossed.is;
-    })
-
--- names of items after those of others
-names_view : (old : List Name) (prefix mid : List SideItem) → (old ++ names_of_items prefix) ++ names_of_items mid ≡ old ++ names_of_items (prefix ++ mid)
-names_view old prefix mid = append_assoc old (names_of_items prefix) (names_of_items mid) ∙ ap (λ (l : List Name). old ++ l) (sym (flat_map-append item_names prefix mid))
-
-twice_between : (old : List Name) (prefix mid back : List SideItem) (f : Fault) → IsTwiceAmong ((old ++ names_of_items prefix) ++ names_of_items mid) f → IsTwiceAmong (old ++ names_of_items (prefix ++ (mid ++ back))) f
-twice_between old prefix mid back f twice =
-    let whole : ((old ++ names_of_items prefix) ++ names_of_items mid) ++ names_of_items back ≡ old ++ names_of_items (prefix ++ (mid ++ back)) = ap (λ (l : List Name). l ++ names_of_items back) (names_view old prefix mid) ∙ names_view old (prefix ++ mid) back ∙ ap (λ (l : List SideItem). old ++ names_of_items l) (append_assoc prefix mid back) in
-    subst (λ (l : List Name). IsTwiceAmong l f) whole (twice_prefix ((old ++ names_of_items prefix) ++ names_of_items mid) (names_of_items back) f twice)
-
-crossed_between : (old : List Name) (prefix mid back : List SideItem) (f : Fault) → IsCrossedAmong (old ++ names_of_items prefix) mid f → IsCrossedAmong old (prefix ++ (mid ++ back)) f
-crossed_between old prefix mid back f crossed =
-    let p = crossed.place in
-    let within = slice_get_within mid p crossed.later crossed.at in
-    let before : prefix ++ take p mid ≡ take (length prefix + p) (prefix ++ (mid ++ back)) = ap (λ (l : List SideItem). prefix ++ l) (sym (take-append-le p mid back (omega arith))) ∙ sym (take-append-add prefix (mid ++ back) p) in
-    record {
-      place = length prefix + p;
-      later = crossed.later;
-      at = at_back prefix (mid ++ back) p crossed.later (at_prefix mid back p crossed.later crossed.at);
-      crosses = crossed.crosses;
-      name = crossed.name;
-      named = crossed.named;
-      in_use = subst (λ (l : List Name). HasName l crossed.name.0) (names_view old prefix (take p mid) ∙ ap (λ (l : List SideItem). old ++ names_of_items l) before) crossed.in_use;
-      is = crossed.is;
-    }
-
--- what clashes after the items before it clashes among all
-pub clash_whole : (old mid : WorldSide → List Name) (xs : List SideItem) (i : ℕ) (x : SideItem) (f : Fault) → slice_get xs i ≡ Some x → ((s : WorldSide) → mid s ≡ old s ++ names_of_items (items_on s (take i xs))) → IsClash mid (x ∷ []) f → IsClash old xs f
-clash_whole old mid xs i x f at before (Folded s twice) =
-    Folded s (subst (λ (l : List SideItem). IsTwiceAmong (old s ++ names_of_items l) f) (sym (kept_split (members_on s) xs i x at)) (twice_between (old s) (items_on s (take i xs)) (items_on s (x ∷ [])) (items_on s (drop (i + 1) xs)) f (subst (λ (l : List Name). IsTwiceAmong (l ++ names_of_items (items_on s (x ∷ []))) f) (before s) twice)))
-clash_whole old mid xs i x f at before (Crossed s crossed) =
-    Crossed s (subst (λ (l : List SideItem). IsCrossedAmong (old s) l f) (sym (kept_split (members_on s) xs i x at)) (crossed_between (old s) (items_on s (take i xs)) (items_on s (x ∷ [])) (items_on s (drop (i + 1) xs)) f (subst (λ (l : List Name). IsCrossedAmong l (items_on s (x ∷ [])) f) (before s) crossed)))
 
 -- and what one more item adds to each side
 pub sides_more : (s : WorldSide) (old mid new : List Name) (xs : List SideItem) (i : ℕ) (x : SideItem) → slice_get xs i ≡ Some x → mid ≡ old ++ names_of_items (items_on s (take i xs)) → new ≡ mid ++ names_of_items (items_on s (x ∷ [])) → new ≡ old ++ names_of_items (items_on s (take (i + 1) xs))

@@ -1,5 +1,5 @@
 -- The functions among what is on the sides of a scope, one after the other, over their types.
-use Rattle.std.proofs.Common.{◌≡◌, ◌<◌, ◌≤◌, ◌+◌, ℕ, List, [], ◌∷◌, ◌++◌, length, map, take, Some, All, IsTrue, inl, inr, sym, ap, ◌∙◌, subst, arith}
+use Rattle.std.proofs.Common.{◌≡◌, ◌<◌, ◌≤◌, ◌+◌, ℕ, List, [], ◌∷◌, ◌++◌, length, map, take, Some, All, IsTrue, sym, ap, ◌∙◌, subst, arith}
 use Rattle.std.specs.Prelude.{slice_get}
 use Rattle.std.specs.List.{flat_map}
 use Rattle.std.specs.Option.{option_map}
@@ -12,26 +12,18 @@ use Rattle.wit_values.specs.declared.span.Span.{Span}
 use Rattle.wit_refusals.specs.NameScopes.{Name}
 use Rattle.wit_types.specs.declared.types.TypeDef.{TypeDef}
 use Rattle.wit_functions.specs.declared.function.Function.{Function}
-use Rattle.wit_type_tree.specs.declared.error.ParseError.{ParseError}
 use Rattle.wit_type_tree.specs.declared.types.«Type».{«Type» as Written}
 use Rattle.wit_syntax.specs.Address.{Address}
 use Rattle.wit_syntax.specs.Shape.{all_handles}
-use Rattle.wit_syntax.specs.Source.{ScopeName}
-use Rattle.wit_syntax.specs.Fault.{Fault}
-use Rattle.wit_syntax.specs.Broken.{Refused}
 use Rattle.wit_syntax.specs.Function.{SourceFunction, written_types}
 use Rattle.wit_syntax.specs.Sides.{SideFunction}
-use Rattle.wit_syntax.specs.SignatureRules.{IsBrokenFunction}
-use Rattle.wit_arena.specs.Resolving.{Env, Required, env_of, AddsFunctions}
-use Rattle.wit_arena.specs.ResolvedArenas.{IsNameless}
+use Rattle.wit_arena.specs.Resolving.{Required, env_of, AddsFunctions}
 use Rattle.wit_arena.proofs.AddingFunctions.{functions_append}
-use Rattle.wit_syntax.proofs.Lists.{at_either}
-use Rattle.wit_syntax.proofs.Refusing.{refused_weaker}
 use Rattle.wit_rules.specs.declared.function_scope.FunctionScope.{FunctionScope}
 use Rattle.wit_rules.specs.declared.borrowed.BorrowedFunction.{BorrowedFunction}
 use Rattle.wit_rules.specs.BorrowedFunctions.{function_view}
 use Rattle.wit_entries.specs.Requiring.{IsExtended, Requires}
-use Rattle.wit_rules.specs.Signatures.{functions_view, IsScopeOf, IsWrongFunction, IsWrongFunctionAmong}
+use Rattle.wit_rules.specs.Signatures.{functions_view}
 use Rattle.wit_signatures.specs.ForeignName.{name_of_function, name_of_made}
 use Rattle.wit_entries.proofs.Requiring.{extended_then, requires_types}
 
@@ -40,7 +32,6 @@ pub record AreDone (first now : List TypeDef) (scope : FunctionScope) (fns : Lis
   pub adds : (s : Address) → AddsFunctions first now s scope.names.now fns fs
   pub named : map name_of_made fs ≡ map name_of_function fns
   pub mangled : All (λ f. IsTrue (is_mangled f.name)) fs
-  pub legal : (xs : List ScopeName) → IsScopeOf scope xs → (k : ℕ) (fn : SourceFunction) → slice_get fns k ≡ Some fn → (f : Fault) → IsBrokenFunction xs (functions_view scope) k fn f → IsNameless xs (functions_view scope)
   pub handled : Requires (env_of scope.names.now) now (all_handles (flat_map written_types fns)) before after
   pub extended : IsExtended first now
 
@@ -55,17 +46,11 @@ made_count : (fns : List SourceFunction) (fs : List Function) → map name_of_ma
 made_count fns fs named = sym (length-map fs name_of_made) ∙ ap length named ∙ length-map fns name_of_function
 
 -- and one more
-pub done_more : (first mid new : List TypeDef) (scope : FunctionScope) (fns gns : List SourceFunction) (fn : SourceFunction) (fs gs : List Function) (f : Function) (a b c : List Required) → gns ≡ fns ++ fn ∷ [] → gs ≡ fs ++ f ∷ [] → ((s : Address) → AddsFunctions mid new s scope.names.now (fn ∷ []) (f ∷ [])) → (f.name ≡ fn.name) × (f.span ≡ fn.span) → IsTrue (is_mangled f.name) → ((xs : List ScopeName) → IsScopeOf scope xs → (e : Fault) → IsBrokenFunction xs (functions_view scope) (length fs) fn e → IsNameless xs (functions_view scope)) → Requires (env_of scope.names.now) new (all_handles (written_types fn)) b c → IsExtended mid new → AreDone first mid scope fns fs a b → AreDone first new scope gns gs a c
-done_more first mid new scope fns gns fn fs gs f a b c in_use pushed adds named mangled legal handled extended h = record {
+pub done_more : (first mid new : List TypeDef) (scope : FunctionScope) (fns gns : List SourceFunction) (fn : SourceFunction) (fs gs : List Function) (f : Function) (a b c : List Required) → gns ≡ fns ++ fn ∷ [] → gs ≡ fs ++ f ∷ [] → ((s : Address) → AddsFunctions mid new s scope.names.now (fn ∷ []) (f ∷ [])) → (f.name ≡ fn.name) × (f.span ≡ fn.span) → IsTrue (is_mangled f.name) → Requires (env_of scope.names.now) new (all_handles (written_types fn)) b c → IsExtended mid new → AreDone first mid scope fns fs a b → AreDone first new scope gns gs a c
+done_more first mid new scope fns gns fn fs gs f a b c in_use pushed adds named mangled handled extended h = record {
   adds = λ s. subst (λ (l : List SourceFunction). AddsFunctions first new s scope.names.now l gs) (sym in_use) (subst (AddsFunctions first new s scope.names.now (fns ++ fn ∷ [])) (sym pushed) (functions_append first mid new s scope.names.now fns (fn ∷ []) fs (f ∷ []) (h.adds s) (adds s)));
   named = ap (map name_of_made) pushed ∙ map-append name_of_made fs (f ∷ []) ∙ ap (λ (l : List Name). l ++ name_of_made f ∷ []) h.named ∙ ap (λ (n : Name). map name_of_function fns ++ n ∷ []) (same_name f fn named) ∙ sym (map-append name_of_function fns (fn ∷ [])) ∙ ap (map name_of_function) (sym in_use);
   mangled = All-same (λ (g : Function). IsTrue (is_mangled g.name)) gs (fs ++ f ∷ []) pushed (All-push (λ (g : Function). IsTrue (is_mangled g.name)) fs f h.mangled mangled);
-  legal = λ xs is k g at e broken. elim (at_either fns fn k g (ap (λ (l : List SourceFunction). slice_get l k) (sym in_use) ∙ at)) [
-    | inl before ↦ h.legal xs is k g before e broken
-    | inr here ↦ (
-        let place : k ≡ length fs = here.0 ∙ sym (made_count fns fs h.named) in
-        legal xs is e (subst (λ (n : ℕ). IsBrokenFunction xs (functions_view scope) n fn e) place (subst (λ (x : SourceFunction). IsBrokenFunction xs (functions_view scope) k x e) here.1 broken)))
-  ];
   handled = subst (λ (ts : List Written). Requires (env_of scope.names.now) new (all_handles ts) a c) (sym (types_more fns gns fn in_use)) (requires_types (env_of scope.names.now) mid new (flat_map written_types fns) (written_types fn) a b c extended h.handled handled);
   extended = extended_then first mid new h.extended extended;
 }
@@ -96,7 +81,3 @@ pub done_all : (first now : List TypeDef) (scope : FunctionScope) (i : ℕ) (fs 
 done_all first now scope i fs a b le h =
     let same = length-map scope.functions.now function_view in
     subst (λ (fns : List SourceFunction). AreDone first now scope fns fs a b) (take_all i (functions_view scope) (omega (arith, le, same))) h
-
--- a refusal of one of them
-pub refused_among : (env : Env) (es : List TypeDef) (xs : List ScopeName) (fns : List SourceFunction) (k : ℕ) (fn : SourceFunction) (e : ParseError) → slice_get fns k ≡ Some fn → Refused (IsWrongFunction env es xs fns k fn) e → Refused (IsWrongFunctionAmong env es xs fns) e
-refused_among env es xs fns k fn e at refused = refused_weaker (IsWrongFunction env es xs fns k fn) (IsWrongFunctionAmong env es xs fns) e (λ f wrong. record { place = k; fn = fn; at = at; wrong = wrong }) refused

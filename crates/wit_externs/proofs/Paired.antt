@@ -5,11 +5,11 @@ use Rattle.wit_names.specs.Label.{is_label}
 use Rattle.wit_names.specs.Setter.{getter_of, is_setter}
 use Rattle.wit_type_tree.specs.declared.leaves.Id.{Id}
 use Rattle.wit_type_tree.specs.declared.types.FuncForm.TheVariants as form
-use Rattle.wit_syntax.specs.Fault.{Fault, fault}
+use Rattle.wit_syntax.specs.Fault.{Fault}
 use Rattle.wit_syntax.specs.Function.{SourceFunction}
 use Rattle.wit_syntax.specs.SignatureRules.{IsUnpairedSetter}
 use Rattle.wit_syntax.proofs.Found.{at_contains, contains_at}
-use Rattle.wit_refusals.specs.NameScopes.{Name, IsLoneSetter, IsFirstLoneSetter}
+use Rattle.wit_refusals.specs.NameScopes.{Name, IsLoneSetter}
 use Rattle.wit_rules.specs.declared.borrowed.BorrowedFunction.{BorrowedFunction}
 use Rattle.wit_rules.specs.BorrowedFunctions.{function_view}
 use Rattle.wit_signatures.specs.ForeignName.{name_of_function, name_of_id}
@@ -63,23 +63,3 @@ module _ (names : List Name) (fns : List SourceFunction) (are : AreNamed names f
       let there = at_contains fns u.0 u.1 in
       let own = are.has there.0 u.0 there.1 in
       (own.0, lone_at there.0 u.0 there.1 u.2 u.3 own.0 own.1)
-
-  -- and the first one among all names is one among the functions
-  pub unpaired_setter : (f : Fault) → IsFirstLoneSetter names f → IsUnpairedSetter fns f
-  unpaired_setter f l =
-      let lone = l.lone in
-      elim (are.from l.place lone.setter lone.at) [
-        | inr id ↦ absurd (setter_no_id id.0 lone.setter.0 lone.sets (ap (λ (n : Name). n.0) id.1))
-        | inl g ↦ (
-            let named : g.1.name ≡ lone.setter.0 = ap (λ (n : Name). n.0) g.3 in
-            let sets : is_setter g.1.name ≡ true = subst (λ n. is_setter n ≡ true) (sym named) lone.sets in (
-              g.1,
-              contains_at fns g.0 g.1 g.2,
-              setter_at g.0 g.1 g.2 sets,
-              λ other among same. (
-                  let there = at_contains fns other among in
-                  let it = are.has there.0 other there.1 in
-                  lone.none it.0 other.span (it.1 ∙ ap (λ (n : List ℕ). Some (n, other.span)) (same ∙ ap getter_of named))),
-              l.is ∙ ap (λ (n : Name). fault 18 n.1) (sym g.3),
-            ))
-      ]

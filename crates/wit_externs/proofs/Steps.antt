@@ -24,22 +24,6 @@ split_at xs i x at =
     ∙ ap (λ l. l ++ drop (i + 1) xs) (used_next xs i x at)
     ∙ append_assoc (take i xs) (x ∷ []) (drop (i + 1) xs)
 
--- the same of what a test keeps, and of what items become
-pub kept_split : {X : Type 0} (test : X → Bool) (xs : List X) (i : ℕ) (x : X) → slice_get xs i ≡ Some x → filter test xs ≡ filter test (take i xs) ++ (filter test (x ∷ []) ++ filter test (drop (i + 1) xs))
-kept_split test xs i x at =
-    ap (filter test) (split_at xs i x at)
-    ∙ filter-append test (take i xs) (x ∷ [] ++ drop (i + 1) xs)
-    ∙ ap (λ l. filter test (take i xs) ++ l) (filter-append test (x ∷ []) (drop (i + 1) xs))
-
-pub flat_split : {X Y : Type 0} (g : X → List Y) (xs : List X) (i : ℕ) (x : X) → slice_get xs i ≡ Some x → flat_map g xs ≡ flat_map g (take i xs) ++ (g x ++ flat_map g (drop (i + 1) xs))
-flat_split g xs i x at = ap (flat_map g) (split_at xs i x at) ∙ flat_map-append g (take i xs) (x ∷ [] ++ drop (i + 1) xs)
-
-pub flat_next : {X Y : Type 0} (g : X → List Y) (xs : List X) (i : ℕ) (x : X) → slice_get xs i ≡ Some x → flat_map g (take (i + 1) xs) ≡ flat_map g (take i xs) ++ g x
-flat_next g xs i x at =
-    ap (flat_map g) (used_next xs i x at)
-    ∙ flat_map-append g (take i xs) (x ∷ [])
-    ∙ ap (λ l. flat_map g (take i xs) ++ l) (append-nil (g x))
-
 pub kept_next : {X Y : Type 0} (g : X → List Y) (test : X → Bool) (xs : List X) (i : ℕ) (x : X) → slice_get xs i ≡ Some x → flat_map g (filter test (take (i + 1) xs)) ≡ flat_map g (filter test (take i xs)) ++ flat_map g (filter test (x ∷ []))
 kept_next g test xs i x at =
     ap (λ l. flat_map g (filter test l)) (used_next xs i x at)

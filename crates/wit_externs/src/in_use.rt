@@ -1,16 +1,15 @@
 //! The names of types on the sides of a scope, and the setters of an interface and of the sides of a world.
-ghost use Rattle.std.specs.Prelude.{◌≡◌, ◌++◌, IfErr, OnOk, map};
+ghost use Rattle.std.specs.Prelude.{◌≡◌, ◌++◌, OnOk, map};
 ghost use Rattle.std.specs.List.{list_any};
 ghost use Rattle.wit_tree.specs.declared.tree.WorldSide.{WorldSide};
 ghost use Rattle.wit_syntax.specs.Sides.{names_on, on_side};
 ghost use Rattle.wit_externs.specs.SetterFunctions.{sets};
 ghost use Rattle.wit_syntax.specs.Fault.{Fault};
-ghost use Rattle.wit_syntax.specs.Broken.{Refused};
 ghost use Rattle.wit_syntax.specs.SignatureRules.{IsUnpairedSetter};
 ghost use Rattle.wit_first.specs.First.{Finds};
 ghost use Rattle.wit_rules.specs.BorrowedFunctions.{function_view};
 ghost use Rattle.wit_sides.specs.SideNames.{defined_on};
-ghost use Rattle.wit_signatures.specs.ForeignName.{name_of_id, name_of_function, IsTwiceAmong};
+ghost use Rattle.wit_signatures.specs.ForeignName.{name_of_id, name_of_function};
 ghost use Rattle.wit_externs.specs.AloneFaults.{defined_fault, lone_setters, sides_setters};
 ghost use Rattle.wit_externs.specs.Clash.{AreNamesWith, StayApart};
 
@@ -27,7 +26,6 @@ pub fn define_names(in_use: &mut Sides, names: &[Id<'_>]) -> ParseResult<()>
     ensures defined { OnOk result ((s : WorldSide) → defined_on s in_use.new ≡ defined_on s in_use.old ++ names_on s (map name_of_id names.now)) }
     ensures differ { OnOk result (StayApart in_use.old in_use.new) }
     ensures first { Finds (defined_fault in_use.old.imports (map name_of_id names.now)) result }
-    ensures refused { IfErr result (Refused (IsTwiceAmong (in_use.old.imports ++ map name_of_id names.now))) }
 {
     for name in names {
         in_use.define(WorldSide::Imported, name.name, name.span)?;
@@ -64,7 +62,6 @@ pub fn check_setters(
     requires { in_use.now ≡ map name_of_id names.now ++ map name_of_function (map function_view functions.now) }
     ensures first { Finds (lone_setters (map function_view functions.now)) result }
     ensures paired { OnOk result ((f : Fault) → IsUnpairedSetter (map function_view functions.now) f → ⊥) }
-    ensures refused { IfErr result (Refused (IsUnpairedSetter (map function_view functions.now))) }
 {
     if !have_setter(functions) {
         return Ok(());
@@ -85,7 +82,6 @@ pub fn check_sides(
     requires { AreNamesWith in_use.now names.now (map function_view functions.now) }
     ensures first { Finds (sides_setters (map function_view functions.now)) result }
     ensures paired { OnOk result ((s : WorldSide) (f : Fault) → IsUnpairedSetter (on_side s (map function_view functions.now)) f → ⊥) }
-    ensures refused { IfErr result (Refused (λ f. (s : WorldSide) × IsUnpairedSetter (on_side s (map function_view functions.now)) f)) }
 {
     if !have_setter(functions) {
         return Ok(());

@@ -1,22 +1,20 @@
 -- The paths of uses, part by part.
-use Rattle.std.proofs.Common.{◌≡◌, ℕ, zero, suc, List, [], ◌∷◌, ◌++◌, Some, inl, inr, refl, sym, ap, ◌∙◌, subst, arith, Contains}
+use Rattle.std.proofs.Common.{◌≡◌, ℕ, zero, suc, List, [], ◌∷◌, ◌++◌, Some, sym, ap, ◌∙◌, arith, Contains}
 use Rattle.std.specs.Prelude.{slice_get, map}
 use Rattle.std.specs.List.{flat_map}
 use Rattle.std.specs.Option.{option_map}
 use Rattle.std.proofs.lemmas.List.{map-append}
 use Rattle.std.proofs.lemmas.Option.{slice_get-map}
-use Rattle.std.proofs.lemmas.List.Elements.{Contains-append_cases}
 use Rattle.wit_tree.specs.declared.tree.Use.{Use as WrittenUse}
 use Rattle.wit_tree.specs.declared.tree.UsePath.{UsePath}
 use Rattle.wit_tree.specs.declared.tree.PackageFile.{PackageFile}
-use Rattle.wit_syntax.specs.Source.{TopName, Declared, Part, DefinitionPart, UsePart, IncludePart, FunctionPart, ExternPart, parts, about}
-use Rattle.wit_syntax.specs.ScopeTables.{use_path, part_uses, uses}
+use Rattle.wit_syntax.specs.Source.{Declared, Part, DefinitionPart, UsePart, IncludePart, FunctionPart, ExternPart, parts, about}
+use Rattle.wit_syntax.specs.ScopeTables.{use_path, part_uses}
 use Rattle.wit_syntax.specs.ExternPart.{extern_paths, inline_uses}
-use Rattle.wit_syntax.specs.Fault.{Fault}
 use Rattle.wit_syntax.proofs.Lists.{at_prefix, flat_map_at, flat_map_has}
 use Rattle.wit_syntax.proofs.Found.{at_contains, contains_at}
 use Rattle.wit_top_names.proofs.Lost.{at_flat, flat_more}
-use Rattle.wit_item_names.specs.ItemPaths.{HasItem, HasPart, HasPath}
+use Rattle.wit_item_names.specs.ItemPaths.{HasItem, HasPath}
 
 -- what is in a list of one is that one
 pub contains_one : {X : Type 0} (x y : X) → Contains (x ∷ []) y → x ≡ y
@@ -54,11 +52,3 @@ path_of_use ps u among =
 
 pub use_has_path : (files : List PackageFile) (place : ℕ) (d : Declared) (u : WrittenUse) → HasItem files place d → Contains (flat_map part_uses (about d).parts) u → HasPath files place u.from
 use_has_path files place d u item among = record { declared = d; item = item; among = path_of_use (about d).parts u among }
-
--- a path of a part of an item that wants an interface is one of the item
-pub part_path : (files : List PackageFile) (place : ℕ) (part : Part) (path : UsePath) → use_path part ≡ path ∷ [] → HasPart files place part → HasPath files place path
-part_path files place part path wants h =
-    let ps = (about h.declared).parts in
-    let m = at_contains ps part h.among in
-    let it = flat_map_has use_path ps m.0 0 part path m.1 (ap (λ (l : List UsePath). slice_get l 0) wants) in
-    record { declared = h.declared; item = h.item; among = contains_at (flat_map use_path ps) it.0 path it.1 }

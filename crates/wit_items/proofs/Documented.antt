@@ -1,16 +1,13 @@
 -- Headers that have docs, one header more, and the first of them.
-use Rattle.std.proofs.Common.{◌≡◌, ◌<◌, Bool, true, false, not, ℕ, zero, suc, ◌+◌, List, [], ◌∷◌, ◌++◌, length, get_or, drop, drop-cons, Option, Some, None, Bor, inl, inr, refl, sym, ap, ◌∙◌, arith}
+use Rattle.std.proofs.Common.{◌≡◌, Bool, true, false, not, ℕ, zero, suc, ◌+◌, List, [], ◌∷◌, ◌++◌, length, Option, Some, None, Bor, inl, inr, refl, sym, ap, ◌∙◌, arith}
 use Rattle.std.specs.Prelude.{◌==◌, ◌||◌, ◌&&◌, slice_get, if◌then◌else◌}
 use Rattle.std.specs.List.{cons_option}
 use Rattle.std.specs.Option.{option_to_list}
 use Rattle.std.proofs.lemmas.Bool.{cases_Bool, ne_eqb}
 use Rattle.wit_tree.specs.declared.tree.PackageName.{PackageName as Header}
 use Rattle.wit_tree.specs.declared.tree.PackageFile.{PackageFile}
-use Rattle.wit_types.specs.declared.docs.Docs.{Docs}
 use Rattle.wit_syntax.specs.Fault.{Fault, fault}
-use Rattle.wit_syntax.specs.Metadata.{docs_of}
 use Rattle.wit_syntax.specs.Broken.{IsDocumented, IsSecondDocs, headers}
-use Rattle.wit_arena.specs.Whole.{first_docs}
 use Rattle.wit_syntax.proofs.Found.{at_contains, contains_at}
 use Rattle.wit_first.specs.HeaderFaults.{is_documented, have_docs, second_docs_fault}
 use Rattle.wit_first.specs.Laws.{Agrees}
@@ -65,13 +62,6 @@ documented_is h holds = λ empty. (
     let wrong : true ≡ false = sym holds ∙ ap (λ (l : List (Bor (List ℕ))). not (length l == 0)) empty in
     let f : ⊥ = cc in
     f)
-
-pub documented_not : (h : Header) → is_documented h ≡ false → h.docs.docs.items ≡ []
-documented_not h fails = empty h.docs.docs.items fails
-  where
-    empty : {X : Type 0} (xs : List X) → not (length xs == 0) ≡ false → xs ≡ []
-    empty [] fails = refl
-    empty (x ∷ xs) fails = absurd (let wrong : true ≡ false = sym (ap not (filled x xs)) ∙ fails in let f : ⊥ = cc in f)
 
 documented_from : (h : Header) → IsDocumented h → is_documented h ≡ true
 documented_from h d = some h.docs.docs.items d
@@ -141,18 +131,3 @@ docs_unbroken hs current none f h =
 
 pub docs_agree : (hs : List Header) (current : Option Header) → Agrees (second_docs_fault hs current) (IsSecondDocs hs current)
 docs_agree hs current = record { broken = docs_broken hs current; unbroken = docs_unbroken hs current }
-
--- the docs of the files from a place on
-docs_from : (fs : List PackageFile) (i : ℕ) (f : PackageFile) → i < length fs → f ≡ get_or fs i f → first_docs (headers (drop i fs)) ≡ first_docs (cons_option f.package_id (headers (drop (i + 1) fs)))
-docs_from fs i f lt is =
-    let next : suc i ≡ i + 1 = omega arith in
-    ap (λ (l : List PackageFile). first_docs (headers l)) (drop-cons fs i f lt ∙ ap (λ (g : PackageFile). g ∷ drop (suc i) fs) (sym is)) ∙ ap (λ (n : ℕ). first_docs (cons_option f.package_id (headers (drop n fs)))) next
-
-chosen : {X : Type 0} (xs : List X) (a b : Docs) → (xs ≡ [] → ⊥) → (if length xs == 0 then a else b) ≡ b
-chosen [] a b some = absurd (some refl)
-chosen (x ∷ xs) a b some = ap (λ (t : Bool). if t then a else b) (filled x xs)
-
-pub docs_after : (fs : List PackageFile) (i : ℕ) (f : PackageFile) (h : Header) → i < length fs → f ≡ get_or fs i f → f.package_id ≡ Some h → h.docs.docs.items ≡ [] → first_docs (headers (drop (i + 1) fs)) ≡ first_docs (headers (drop i fs))
-docs_after fs i f h lt is own empty =
-    let rest = headers (drop (i + 1) fs) in
-    sym (docs_from fs i f lt is ∙ ap (λ (o : Option Header). first_docs (cons_option o rest)) own ∙ ap (λ (n : ℕ). if n == 0 then first_docs rest else docs_of h.docs) (ap length empty))

@@ -6,24 +6,20 @@ use Rattle.std.specs.Option.{option_map}
 use Rattle.std.proofs.lemmas.Option.{slice_get_within}
 use Rattle.wit_values.specs.declared.span.Span.{Span}
 use Rattle.wit_type_tree.specs.declared.leaves.Id.{Id}
-use Rattle.wit_tree.specs.declared.tree.Extern.{Extern}
-use Rattle.wit_tree.specs.declared.tree.UsePath.{UsePath}
 use Rattle.wit_tree.specs.declared.tree.PackageFile.{PackageFile}
 use Rattle.wit_package_names.specs.declared.package_name.PackageName.{PackageName}
 use Rattle.wit_syntax.specs.Address.{ForeignNamed}
-use Rattle.wit_syntax.specs.Broken.{is_world_at, IsBrokenUse, MissingUse, WorldUsed, IsBroken, UseMetadata, Use}
-use Rattle.wit_syntax.specs.ExternPart.{inline_uses}
-use Rattle.wit_syntax.specs.Fault.{Fault, fault, missing_at, item_word}
+use Rattle.wit_syntax.specs.Broken.{is_world_at}
+use Rattle.wit_syntax.specs.Fault.{missing_at, item_word}
 use Rattle.wit_syntax.specs.Foreign.{ForeignVisit, foreign_at}
-use Rattle.wit_syntax.specs.Source.{Target, Local, Foreign, leads, path_id, top_names, Declared, Item, item_named, is_world, parts, file_items, all_items, walk}
-use Rattle.wit_syntax.specs.ScopeTables.{use_paths, uses}
+use Rattle.wit_syntax.specs.Source.{Target, Local, Foreign, leads, path_id, top_names, Declared, Item, item_named, is_world, parts, file_items, all_items}
 use Rattle.wit_syntax.proofs.Lists.{at_either}
 use Rattle.wit_syntax.proofs.Found.{at_contains, contains_at}
 use Rattle.wit_first.specs.AttributeFaults.{metadata_fault}
 use Rattle.wit_first.specs.FileFaults.{lost_fault}
-use Rattle.wit_first.specs.UseFaults.{all_uses_fault, item_uses_fault, own_uses, path_fault, reached_fault, use_fault}
-use Rattle.wit_first.proofs.Bridge.{in_only, in_some, metadata_agree, or_none_both, or_some}
-use Rattle.wit_first.proofs.FileFaults.{lost_agrees, lost_at}
+use Rattle.wit_first.specs.UseFaults.{all_uses_fault, item_uses_fault, path_fault, reached_fault}
+use Rattle.wit_first.proofs.Bridge.{in_only, metadata_agree, or_none_both}
+use Rattle.wit_first.proofs.FileFaults.{lost_at}
 use Rattle.wit_top_names.proofs.Lost.{at_flat}
 use Rattle.wit_files.specs.FileNames.{names_at_top}
 use Rattle.wit_items.specs.declared.items.Item.{Item as Borrowed}
@@ -31,7 +27,7 @@ use Rattle.wit_item_names.specs.ItemPaths.{HasItem}
 use Rattle.wit_items.specs.BorrowedItems.{declared_view, IsFiled, AreFiled, HaveSoundUses}
 use Rattle.wit_item_names.proofs.Others.{used_visited}
 use Rattle.wit_item_names.proofs.Usable.{path_of_use}
-use Rattle.wit_items.proofs.Written.{right_use, walked}
+use Rattle.wit_items.proofs.Written.{right_use}
 
 -- items of files, one more
 pub filed_more : (files : List PackageFile) (items new : List Borrowed) (x : Borrowed) → new ≡ items ++ x ∷ [] → AreFiled files items → IsFiled files x → AreFiled files new
@@ -70,30 +66,6 @@ item_here files place file d at among = record {
   within = slice_get_within files place file at;
   among = rw (ap names_at_top at) (item_among files place file (record { top = top_names file; declared = d }) at among);
 }
-
--- the first fault of where a path leads is a broken rule of its item
-path_broken : (files : List PackageFile) (i : Item) (from : UsePath) (f : Fault) → Contains (use_paths i) from → path_fault files i.top from ≡ Some f → IsBrokenUse files i f
-path_broken files i from f among h = by (is_world_at files (leads i.top from)) refl h
-  where
-    by : (o : Option Bool) → is_world_at files (leads i.top from) ≡ o → reached_fault o (path_id from).span (lost_fault (all_items files) (leads i.top from)) ≡ Some f → IsBrokenUse files i f
-    by None is h = (let lost = (lost_agrees (all_items files) (leads i.top from)).broken f h in MissingUse from lost.id among lost.local lost.missing lost.is)
-    by (Some true) is h = (let same : Some (fault 10 (path_id from).span) ≡ Some f = h in WorldUsed from among is (let says : f ≡ fault 10 (path_id from).span = cc in says))
-    by (Some false) is h = absurd (let wrong : None ≡ Some f = h in let g : ⊥ = cc in g)
-
--- that of the uses of items is a broken rule
-pub uses_broken : (files : List PackageFile) (f : Fault) → all_uses_fault files ≡ Some f → IsBroken files f
-uses_broken files f h =
-    let own = in_some (item_uses_fault files) (all_items files) f h in
-    let i = own.1 in
-    let walked_uses = walk own_uses (λ (x : Extern). inline_uses x.kind) (parts i) in
-    let it = in_some (use_fault files i.top) walked_uses f own.3 in
-    let u = it.1 in
-    let here = contains_at (all_items files) own.0 i own.2 in
-    let among : Contains (uses i) u = walked i u (contains_at walked_uses it.0 u it.2) in
-    elim (or_some (metadata_fault u.attributes.items) (path_fault files i.top u.from) f it.3) [
-      | inl noted ↦ UseMetadata i here u among ((metadata_agree u.attributes.items).broken f noted)
-      | inr far ↦ Use i here (path_broken files i u.from f (path_of_use (parts i) u among) far.1)
-    ]
 
 -- where there is none, each path leads to an interface
 none_mapped : (o : Option Item) → option_map is_world o ≡ None → o ≡ None

@@ -1,10 +1,9 @@
 -- The uses and the names of interfaces that are written in a world: those of its parts on each side.
-use Rattle.std.proofs.Common.{◌≡◌, ℕ, List, [], ◌∷◌, ◌++◌, Some, None, inl, inr, refl, sym, ap, ◌∙◌, Contains}
+use Rattle.std.proofs.Common.{◌≡◌, ℕ, List, [], ◌∷◌, ◌++◌, Some, None, refl, sym, ap, ◌∙◌, Contains}
 use Rattle.std.specs.Prelude.{slice_get, map}
 use Rattle.std.specs.List.{flat_map}
 use Rattle.std.specs.Option.{option_or}
 use Rattle.std.proofs.lemmas.List.{append-nil}
-use Rattle.std.proofs.lemmas.List.Elements.{Contains-append_cases}
 use Rattle.wit_tree.specs.declared.tree.Extern.{Extern}
 use Rattle.wit_tree.specs.declared.tree.Interface.{Interface}
 use Rattle.wit_tree.specs.declared.tree.InterfaceItem.{InterfaceItem}
@@ -14,8 +13,8 @@ use Rattle.wit_tree.specs.declared.tree.Use.{Use as WrittenUse}
 use Rattle.wit_tree.specs.declared.tree.WorldSide.{WorldSide}
 use Rattle.wit_tree.specs.declared.tree.WorldSide.TheVariants.{Imported, Exported}
 use Rattle.wit_syntax.specs.ExternPart.{inline_uses, item_uses}
-use Rattle.wit_syntax.specs.Source.{TopName, TheInterface, interface_part, Item, Part, DefinitionPart, UsePart, IncludePart, FunctionPart, ExternPart, parts, walk}
-use Rattle.wit_syntax.specs.ScopeTables.{part_uses, uses}
+use Rattle.wit_syntax.specs.Source.{TopName, TheInterface, interface_part, Item, Part, DefinitionPart, UsePart, IncludePart, FunctionPart, ExternPart, walk}
+use Rattle.wit_syntax.specs.ScopeTables.{part_uses}
 use Rattle.wit_syntax.proofs.Addresses.{side_itself}
 use Rattle.wit_syntax.proofs.Lists.{flat_map_at}
 use Rattle.wit_syntax.proofs.Found.{at_contains, contains_at}
@@ -27,20 +26,13 @@ use Rattle.wit_items.specs.declared.items.Item.{Item as Borrowed}
 use Rattle.wit_item_names.specs.InlineNames.{written_items, side_uses}
 use Rattle.wit_items.specs.InlineNames.{names_written, inside_view}
 use Rattle.wit_item_names.proofs.Usable.{among_flat}
-use Rattle.wit_item_names.proofs.Written.{items_names, names_written_in, own_among, side_among}
+use Rattle.wit_item_names.proofs.Written.{items_names, names_written_in}
 
 pub items_uses : (xs : List InterfaceItem) → flat_map part_uses (map interface_part xs) ≡ flat_map item_uses xs
 items_uses [] = refl
 items_uses (interface_item.TypeDef d ∷ xs) = items_uses xs
 items_uses (interface_item.Use u ∷ xs) = ap (λ l. u ∷ l) (items_uses xs)
 items_uses (interface_item.Func f ∷ xs) = items_uses xs
-
--- where a list of parts brings what each of them brings, one that brings more brings it too
-pub among_wider : {A : Type 0} (f g : Part → List A) (ps : List Part) (a : A) → ((p : Part) → Contains (f p) a → Contains (g p) a) → Contains (flat_map f ps) a → Contains (flat_map g ps) a
-among_wider f g ps a wider among =
-    let k = at_contains (flat_map f ps) a among in
-    let p = flat_map_at f ps k.0 a k.1 in
-    among_flat g ps p.0 p.1 a p.2 (wider p.1 (contains_at (f p.1) p.3.0 a p.3.1))
 
 -- of an interface, whose parts bring nothing on a side, those of an item are those of its parts
 own_items : (xs : List InterfaceItem) → flat_map own_uses (map interface_part xs) ≡ flat_map item_uses xs
@@ -68,19 +60,6 @@ pub world_uses : (files : List PackageFile) (top : List TopName) (ps : List Part
 world_uses files top ps =
     in-append (use_fault files top) (flat_map own_uses ps) (flat_map (side_uses Imported) ps ++ flat_map (side_uses Exported) ps)
     ∙ ap (option_or (uses_fault files top (flat_map own_uses ps))) (in-append (use_fault files top) (flat_map (side_uses Imported) ps) (flat_map (side_uses Exported) ps))
-
--- these are the uses of the item, in another order
-walk_among : (ps : List Part) (u : WrittenUse) → Contains (walk own_uses (λ (x : Extern). inline_uses x.kind) ps) u → Contains (flat_map part_uses ps) u
-walk_among ps u among = elim (Contains-append_cases (flat_map own_uses ps) (flat_map (side_uses Imported) ps ++ flat_map (side_uses Exported) ps) u among) [
-  | inl own ↦ among_wider own_uses part_uses ps u (λ p. own_among p u) own
-  | inr sides ↦ elim (Contains-append_cases (flat_map (side_uses Imported) ps) (flat_map (side_uses Exported) ps) u sides) [
-    | inl imported ↦ among_wider (side_uses Imported) part_uses ps u (λ p. side_among Imported p u) imported
-    | inr exported ↦ among_wider (side_uses Exported) part_uses ps u (λ p. side_among Exported p u) exported
-  ]
-]
-
-pub walked : (i : Item) (u : WrittenUse) → Contains (walk own_uses (λ (x : Extern). inline_uses x.kind) (parts i)) u → Contains (uses i) u
-walked i u among = walk_among (parts i) u among
 
 -- nothing is wrong with a `use` of parts, where nothing is wrong with their own, nor with those that are written on either side
 module _ (files : List PackageFile) (top : List TopName) (ps : List Part) (none : uses_fault files top (walk own_uses (λ (x : Extern). inline_uses x.kind) ps) ≡ None) where

@@ -1,5 +1,5 @@
 -- The names of interfaces that are written in worlds.
-use Rattle.std.specs.Prelude.{List, map}
+use Rattle.std.specs.Prelude.{◌≡◌, ◌++◌, List, map}
 use Rattle.std.specs.List.{flat_map}
 use Rattle.wit_tree.specs.declared.tree.WorldSide.{WorldSide}
 use Rattle.wit_tree.specs.declared.tree.WorldSide.TheVariants.{Imported, Exported}
@@ -17,3 +17,7 @@ names_written side i = flat_map (inline_names i.top) (items_on side (side_items 
 abbrev pub inside_view : WorldSide → Borrowed → List (List ScopeName)
 inside_view Imported i = map (λ ns. map name_view ns.items) i.imported.items
 inside_view Exported i = map (λ ns. map name_view ns.items) i.exported.items
+
+-- after those of borrowed items these are written
+abbrev pub AddsWritten : List Borrowed → List Borrowed → List Item → Type 0
+AddsWritten old new items = (side : WorldSide) → map (inside_view side) new ≡ map (inside_view side) old ++ map (names_written side) items

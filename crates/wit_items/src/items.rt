@@ -8,7 +8,8 @@ ghost use Rattle.wit_first.specs.UseFaults.{all_uses_fault, item_uses_fault};
 ghost use Rattle.wit_scopes.specs.BorrowedNames.{name_view};
 ghost use Rattle.wit_item_names.specs.ItemPaths.{AreEntriesOf};
 ghost use Rattle.wit_items.specs.BorrowedItems.{item_view, names_view, scope_item, AreFiled};
-ghost use Rattle.wit_items.specs.InlineNames.{inside_view, names_written};
+ghost use Rattle.wit_item_names.specs.ForeignAddresses.{prefix_of};
+ghost use Rattle.wit_items.specs.InlineNames.{AddsWritten, inside_view, names_written};
 ghost use Rattle.wit_items.specs.PlacedItems.{AreItemsPlaced};
 
 use std::alloc::Global;
@@ -113,9 +114,9 @@ fn add_items<'f, 'a>(
     requires file { slice_get files.now place ≡ Some file.now }
     ensures items { OnOk result (map item_view items.new.items ≡ map item_view items.old.items ++ file_items file.now) }
     ensures names { OnOk result (map names_view items.new.items ≡ map names_view items.old.items ++ map scope_names (file_items file.now)) }
-    ensures inside { OnOk result ((side : TheSide) → map (inside_view side) items.new.items ≡ map (inside_view side) items.old.items ++ map (names_written side) (file_items file.now)) }
+    ensures inside { OnOk result (AddsWritten items.old.items items.new.items (file_items file.now)) }
     ensures filed { OnOk result (AreFiled files.now items.old.items → AreFiled files.now items.new.items) }
-    ensures placed { OnOk result (AreItemsPlaced (map visited (foreign_interfaces files.now)) items.old.items → AreItemsPlaced (map visited (foreign_interfaces files.now)) items.new.items) }
+    ensures placed { OnOk result (AreItemsPlaced (prefix_of files.now) items.old.items → AreItemsPlaced (prefix_of files.now) items.new.items) }
     ensures first { Finds (first_in (item_uses_fault files.now) (file_items file.now)) result }
 {
     let declared = declarations(file);

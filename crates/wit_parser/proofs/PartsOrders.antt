@@ -1,5 +1,5 @@
 -- The items of files in an order, each with an order of its names, as orders of items.
-use Rattle.std.proofs.Common.{◌≡◌, ℕ, zero, suc, ◌+◌, not, List, [], ◌∷◌, ◌++◌, Some, ◌⊎◌, inl, inr, refl, sym, ap, ◌∙◌, subst}
+use Rattle.std.proofs.Common.{◌≡◌, ℕ, suc, ◌+◌, not, List, [], ◌∷◌, ◌++◌, Some, inl, inr, refl, sym, ap, ◌∙◌, subst}
 use Rattle.std.specs.Prelude.{slice_get, map}
 use Rattle.std.specs.List.{flat_map}
 use Rattle.std.proofs.lemmas.List.{map-append}
@@ -16,10 +16,9 @@ use Rattle.wit_syntax.proofs.Lists.{flat_map_at, map_at, map_map}
 use Rattle.wit_syntax.proofs.Orders.{in_order_at}
 use Rattle.wit_syntax.proofs.Turns.{at_part}
 use Rattle.wit_arena.specs.Made.{AreNamesInOrder, interface_turn, item_turns, turns_of_world, turns_on_sides, own_interfaces, interface_scopes, world_scopes}
-use Rattle.wit_arena.specs.Whole.{Ordered, OrderedWorld, AreOrdered, Turned, ordered_names, turned, side_turns, world_turns, all_turns, all_inside, addresses, interface_addresses, world_addresses}
+use Rattle.wit_arena.specs.Whole.{Ordered, OrderedWorld, AreOrdered, ordered_names, turned, side_turns, world_turns, all_turns, all_inside, interface_addresses, world_addresses}
 use Rattle.wit_arena.proofs.Itemizing.{items_within}
 use Rattle.wit_arena.proofs.KnownItems.{IsItem}
-use Rattle.wit_arena.proofs.ScopesInTurn.{ordered_addresses}
 use Rattle.wit_parser.proofs.PartsItems.{own, declared_item, with_item}
 use Rattle.wit_arena.proofs.Turns.{item_of, own_item, names_turn}
 
@@ -98,9 +97,6 @@ module _ (order : Address → List ℕ) where
         let q = kept_at is_world items it.0 it.1 it.2 in
         let p = in_order_at all places q.0 it.1 (items_within files places least) q.1 in
         with_item files legal order orders p.0 (suc it.3.0) it.1 i p.2 it.3.1
-
-    own_interface_in : (k : ℕ) (i : Item) → slice_get (own_interfaces items) k ≡ Some i → IsItem files (ord i)
-    own_interface_in k i at = elim (at_part (interfaces_of items) (flat_map inline_items (worlds_of items)) k i at) [ inl h ↦ interface_in h.0 i h.1 | inr h ↦ inline_in h.0 i h.1 ]
 
     own_orders : (o : Ordered) (l : List Item) → ((k : ℕ) (i : Item) → slice_get l k ≡ Some i → IsItem files (ord i)) → (k : ℕ) → slice_get (map ord l) k ≡ Some o → IsOrder (rows_of (scope_names o.item)) o.order
     own_orders o l each k at = let i = map_at ord l k o at in subst (λ (v : Ordered). IsOrder (rows_of (scope_names v.item)) v.order) i.2 (each k i.0 i.1).least

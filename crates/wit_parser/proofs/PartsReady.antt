@@ -1,10 +1,10 @@
 -- Occurrences in an order in which the parts of each occur before it.
-use Rattle.std.proofs.Common.{◌≡◌, ◌≤◌, ℕ, ◌+◌, zero, suc, List, [], ◌∷◌, ◌++◌, length, take, Option, Some, None, ◌⊎◌, inl, inr, refl, sym, ap, ◌∙◌, subst, arith, append_assoc, append-nil, length-append}
-use Rattle.std.specs.Prelude.{slice_get, map, Contains}
+use Rattle.std.proofs.Common.{◌≡◌, ◌≤◌, ℕ, ◌+◌, zero, suc, List, [], ◌∷◌, ◌++◌, length, take, Some, ◌⊎◌, inl, inr, refl, sym, ap, ◌∙◌, subst, arith, append_assoc, append-nil, length-append}
+use Rattle.std.specs.Prelude.{slice_get, Contains}
 use Rattle.std.specs.List.{flat_map}
-use Rattle.std.specs.Option.{option_map, unwrap_or}
+use Rattle.std.specs.Option.{unwrap_or}
 use Rattle.std.proofs.lemmas.List.{length-map}
-use Rattle.std.proofs.lemmas.Option.{slice_get-map, slice_get_within}
+use Rattle.std.proofs.lemmas.Option.{slice_get_within}
 use Rattle.wit_types.specs.declared.stability.Stability.{Stability}
 use Rattle.wit_types.specs.declared.stability.Stability.TheVariants.{Unknown}
 use Rattle.wit_type_tree.specs.declared.leaves.Id.{Id}
@@ -53,9 +53,6 @@ has_of f (y ∷ xs) (suc i) x k at h = has_back (f y) (flat_map f xs) k (has_of 
 
 pub after_prefix : (a : Key → Type 0) (ms ls : List Occurrence) (k : Key) → After a ms k → After a (ms ++ ls) k
 after_prefix a ms ls k h = elim h [ inl before ↦ inl before | inr has ↦ inr (has_prefix ms ls k has) ]
-
-pub after_both : (a : Key → Type 0) (ms ls : List Occurrence) (k : Key) → After (After a ms) ls k → After a (ms ++ ls) k
-after_both a ms ls k h = elim h [ inl before ↦ after_prefix a ms ls k before | inr has ↦ inr (has_back ms ls k has) ]
 
 module _ (names : Address → List ScopeName) where
   -- the parts of a key that occurs at a span are among some; a name occurs where it is

@@ -1,10 +1,10 @@
 -- The arena of types that is given by places is the list of first occurrences.
-use Rattle.std.proofs.Common.{◌≡◌, ◌↔◌, ◌<◌, ℕ, zero, suc, Bool, true, List, [], ◌∷◌, ◌++◌, length, take, Option, Some, None, ◌⊎◌, inl, inr, refl, sym, ap, ◌∙◌, subst, arith}
+use Rattle.std.proofs.Common.{◌≡◌, ◌↔◌, ℕ, suc, Bool, true, List, [], ◌∷◌, ◌++◌, length, take, Some, None, inl, inr, refl, sym, ap, ◌∙◌, subst, arith}
 use Rattle.std.specs.Prelude.{slice_get, map, Contains}
 use Rattle.std.specs.List.{flat_map, position_or_len}
 use Rattle.std.specs.Option.{option_map}
 use Rattle.std.proofs.lemmas.List.{length-map}
-use Rattle.std.proofs.lemmas.Option.{slice_get-map, slice_get_within}
+use Rattle.std.proofs.lemmas.Option.{slice_get-map}
 use Rattle.wit_values.specs.declared.span.Span.{Span}
 use Rattle.wit_tree.specs.declared.tree.PackageFile.{PackageFile}
 use Rattle.wit_types.specs.declared.stability.Stability.{Stability}
@@ -13,7 +13,6 @@ use Rattle.wit_types.specs.declared.types.«Type».{«Type» as Ty}
 use Rattle.wit_graph.specs.Table.{IsOrder}
 use Rattle.wit_syntax.specs.Address.{Address, InterfaceNamed, WorldNamed, InlineAt, ForeignNamed, is_foreign}
 use Rattle.wit_syntax.specs.Broken.{IsLegal}
-use Rattle.wit_syntax.specs.Form.{Form}
 use Rattle.wit_syntax.specs.Metadata.{first_known}
 use Rattle.wit_syntax.specs.Repeats.{AllDiffer, firsts}
 use Rattle.wit_syntax.specs.ScopeTables.{in_order, item_rows}
@@ -31,7 +30,7 @@ use Rattle.wit_arena.specs.Occurrences.{Key, Def, Whole, Occurrence, keys, IsSee
 use Rattle.wit_arena.specs.Whole.{all_occurrences, declarations, owner_at, foreign_use_occurrence, turn_occurrences}
 use Rattle.wit_arena.proofs.FirstsOf.{firsts-differ, firsts-collects}
 use Rattle.wit_arena.proofs.Occurrence.{Has, collects_extended}
-use Rattle.wit_parser.proofs.PartsItems.{all_ready, has_at, no_parts}
+use Rattle.wit_parser.proofs.PartsItems.{all_ready, no_parts}
 use Rattle.wit_parser.proofs.PartsPlaces.{AllPresent, types_of-at}
 use Rattle.wit_parser.proofs.PartsReady.{PartsPresent, Ready, collects_prefix, seen_ready, ready_wider}
 use Rattle.wit_arena.proofs.Places.{key_extended}
@@ -110,10 +109,6 @@ module _ (files : List PackageFile) (legal : IsLegal files) (order : Address →
 
   pub as_stated : GivesPlaces id ks
   as_stated = gives_places same gives seen id id_places once
-
-  -- all that is written occurs
-  pub seen_has : (k : Key) → Has (keys written) k → IsSeen ks k
-  seen_has k has = collects_has written [] seen collects k has
 
   abbrev prefix : List Occurrence
   prefix = map foreign_use_occurrence (first_foreign_uses files)

@@ -1,4 +1,4 @@
--- Rules of functions: their parameters by name, and that no constructor is a setter.
+-- Rules of functions: their parameters by name, and setters among them.
 use Rattle.std.proofs.Common.{◌≡◌, ℕ, ◌<◌, List, [], ◌∷◌, ◌++◌, Option, Some, None, length, arith, refl, sym, ap, ◌∙◌}
 use Rattle.std.specs.Prelude.{map, slice_get}
 use Rattle.std.proofs.lemmas.List.{length-map, map-append}
@@ -7,22 +7,16 @@ use Rattle.std.specs.Slice.{IsItemAt}
 use Rattle.std.proofs.lemmas.Bool.{ltb-true, ltb-false}
 use Rattle.std.proofs.lemmas.Option.{slice_get_past, slice_get_read, slice_get_within}
 use denote.Ref.{Bor}
-use Rattle.wit_type_tree.specs.declared.leaves.Id.{Id}
 use Rattle.wit_values.specs.declared.span.Span.{Span}
 use Rattle.wit_type_tree.specs.declared.types.FuncForm.{FuncForm}
 use Rattle.wit_type_tree.specs.declared.types.FuncForm.TheVariants as form
 use Rattle.wit_type_tree.specs.declared.types.Param.{Param}
-use Rattle.wit_type_tree.specs.declared.types.ResourceFunc.{ResourceFunc}
-use Rattle.wit_type_tree.specs.declared.types.ResourceFunc.TheVariants as resource
 use Rattle.wit_syntax.specs.Bodies.{folded}
 use Rattle.wit_syntax.specs.Fault.{fault}
-use Rattle.wit_syntax.specs.Function.{Freestanding, Method, Static, Constructor, OnSide, SourceFunction, SourceParam, written_param, resource_function}
+use Rattle.wit_syntax.specs.Function.{SourceFunction, SourceParam, written_param}
 use Rattle.wit_syntax.specs.Repeats.{AllDiffer}
 use Rattle.wit_syntax.proofs.Lists.{map_map}
 use Rattle.wit_first.specs.FunctionFaults.{given_fault, params_fault}
-use Rattle.wit_rules.specs.declared.borrowed.BorrowedFunction.{BorrowedFunction}
-use Rattle.wit_rules.specs.declared.borrowed.BorrowedFunction.TheVariants as borrowed
-use Rattle.wit_rules.specs.BorrowedFunctions.{function_view}
 
 -- the names of parameters, of which some are written
 pub names-append : (given params : List SourceParam) (written : List Param) → map written_param written ≡ params → map (λ p. p.name) (given ++ params) ≡ map (λ p. p.name) given ++ map (λ p. p.name.name.now) written
@@ -43,17 +37,6 @@ few_differ key xs few = record {
       let count = length-map xs key in
       omega arith);
 }
-
--- no constructor is a setter
-pub no_setter : (h : BorrowedFunction) (of : Id) → (function_view h).role ≡ Constructor of → (function_view h).func.form ≡ form.Setter → ⊥
-no_setter (borrowed.Free f) of is setter = (let wrong : Freestanding f.now.name f.now.func.form ≡ Constructor of = is in cc)
-no_setter (borrowed.Across side docs attributes name f) of is setter = (let wrong : OnSide side name f.now.form ≡ Constructor of = is in cc)
-no_setter (borrowed.Of r f) of is setter = by f.now is setter
-  where
-    by : (g : ResourceFunc) → (resource_function r g).role ≡ Constructor of → (resource_function r g).func.form ≡ form.Setter → ⊥
-    by (resource.Method m) is setter = (let wrong : Method r m.func.form ≡ Constructor of = is in cc)
-    by (resource.Static m) is setter = (let wrong : Static r m.func.form ≡ Constructor of = is in cc)
-    by (resource.Constructor docs attributes span params result) is setter = (let wrong : form.Plain ≡ form.Setter = setter in cc)
 
 -- the first fault of what a setter is given: at the second parameter, or where there is none
 second_param : (params : List Param) (span : Span) (second : Param) → slice_get params 1 ≡ Some second → params_fault form.Setter params span ≡ Some (fault 37 second.name.span)

@@ -1,5 +1,5 @@
--- What the functions of a scope are resolved in, and what may be wrong with one of them.
-use Rattle.std.specs.Prelude.{◌≡◌, ◌⊎◌, ℕ, nat_eq, List, length, map, Option, Some, None, IsSome, Contains, slice_get, ⊤}
+-- What the functions of a scope are resolved in, and a name in one of them that is lost.
+use Rattle.std.specs.Prelude.{◌≡◌, ℕ, nat_eq, List, length, map, Option, Some, None, IsSome, slice_get, ⊤}
 use Rattle.std.specs.Cmp.Lexicographic.{pointwise}
 use Rattle.std.specs.Map.{lookup}
 use Rattle.std.specs.Option.{option_to_list}
@@ -14,12 +14,11 @@ use Rattle.wit_functions.specs.declared.function.Param.{Param}
 use Rattle.wit_syntax.specs.Address.{Address}
 use Rattle.wit_arena.specs.Adding.{AreShapes, SaysParam}
 use Rattle.wit_syntax.specs.Fault.{Fault, fault, name_word}
-use Rattle.wit_syntax.specs.Shape.{Shape, shape_of, words, handles, all_handles}
+use Rattle.wit_syntax.specs.Shape.{Shape}
 use Rattle.wit_syntax.specs.Source.{ScopeName, meaning}
-use Rattle.wit_syntax.specs.Function.{Role, Freestanding, Method, Static, Constructor, OnSide, SourceParam, SourceFunction, written_types}
-use Rattle.wit_syntax.specs.Bodies.{IsBrokenType}
-use Rattle.wit_syntax.specs.SignatureRules.{ok_of, meant_ok, IsEntered, IsGetterWithoutResult, IsSetterWithResult, IsConstructorWithoutResult, IsConstructorOfOther, IsBrokenFunction}
-use Rattle.wit_arena.specs.Resolving.{Env, env_of, IsWrongHandle}
+use Rattle.wit_syntax.specs.Function.{Role, Freestanding, Method, Static, Constructor, OnSide, SourceParam, SourceFunction}
+use Rattle.wit_syntax.specs.SignatureRules.{ok_of, meant_ok, IsEntered}
+use Rattle.wit_arena.specs.Resolving.{Env, env_of}
 use Rattle.wit_rules.specs.declared.function_scope.FunctionScope.{FunctionScope}
 use Rattle.wit_rules.specs.BorrowedFunctions.{function_view, owner_of}
 
@@ -45,10 +44,6 @@ pub record IsScopeOf (scope : FunctionScope) (xs : List ScopeName) : Type 0 wher
 abbrev pub functions_view : FunctionScope → List SourceFunction
 functions_view scope = map function_view scope.functions.now
 
--- what is wrong with what a setter or a constructor gives
-abbrev pub IsBrokenResult : List ScopeName → SourceFunction → Fault → Type 0
-IsBrokenResult xs fn f = IsSetterWithResult xs fn f ⊎ (IsConstructorWithoutResult xs fn f ⊎ IsConstructorOfOther xs fn f)
-
 -- each function of a resource is in a scope in which that has a place
 abbrev pub HasOwner : Env → Option Id → Type 0
 HasOwner env None = ⊤
@@ -70,19 +65,6 @@ pub data IsLostAt (fns : List SourceFunction) (k : ℕ) (span : Span) (name : Li
   AtFunction : IsEntered fns k name → f ≡ fault 28 span → IsLostAt fns k span name f
   AtNothing : (IsEntered fns k name → ⊥) → f ≡ record { rule = 29; span = span; name = Some name; sort = Missing name_word; hint = None } → IsLostAt fns k span name f
 
--- a name among these means nothing, and it is that of a function up to a place, or of none
-pub record IsLostName (env : Env) (fns : List SourceFunction) (k : ℕ) (ids : List Id) (f : Fault) : Type 0 where
-  pub id : Id
-  pub among : Contains ids id
-  pub free : env id.name.now ≡ None
-  pub lost : IsLostAt fns k id.span id.name.now f
-
--- what is wrong with a type in the signature of a function at a place
-pub data IsWrongInSignature (env : Env) (es : List TypeDef) (fns : List SourceFunction) (k : ℕ) (t : Written) (f : Fault) : Type 0 where
-  WrongForm : IsBrokenType t f → IsWrongInSignature env es fns k t f
-  LostName : IsLostName env fns k (words (shape_of t)) f → IsWrongInSignature env es fns k t f
-  WrongHandle : IsWrongHandle env es (handles t) f → IsWrongInSignature env es fns k t f
-
 -- these are the parameters, over their types, which were added to the arena
 pub record AreParamsOver (old new : List TypeDef) (env : Env) (ws : List SourceParam) (ps : List Param) : Type 0 where
   pub count : length ps ≡ length ws
@@ -92,18 +74,3 @@ pub record AreParamsOver (old new : List TypeDef) (env : Env) (ws : List SourceP
 -- this is the type of a result, which was added to the arena, where there is one
 pub record IsResultOver (old new : List TypeDef) (env : Env) (x : Option Shape) (t : Option Ty) : Type 0 where
   pub types : (s : Address) → AreShapes old new s env (option_to_list x) (option_to_list t)
-
--- what is wrong with what a function gives
-abbrev pub IsBrokenReturn : List ScopeName → SourceFunction → Fault → Type 0
-IsBrokenReturn xs fn f = IsGetterWithoutResult fn f ⊎ IsBrokenResult xs fn f
-
--- what is wrong with a function at a place among those of a scope: a rule is broken, or a handle in it names no resource
-abbrev pub IsWrongFunction : Env → List TypeDef → List ScopeName → List SourceFunction → ℕ → SourceFunction → Fault → Type 0
-IsWrongFunction env es xs fns k fn f = IsBrokenFunction xs fns k fn f ⊎ IsWrongHandle env es (all_handles (written_types fn)) f
-
--- what is wrong with one of them
-pub record IsWrongFunctionAmong (env : Env) (es : List TypeDef) (xs : List ScopeName) (fns : List SourceFunction) (f : Fault) : Type 0 where
-  pub place : ℕ
-  pub fn : SourceFunction
-  pub at : slice_get fns place ≡ Some fn
-  pub wrong : IsWrongFunction env es xs fns place fn f

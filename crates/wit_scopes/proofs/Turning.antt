@@ -10,23 +10,17 @@ use Rattle.wit_syntax.specs.Source.{ScopeName, Used, Defined, ForeignName, local
 use Rattle.wit_type_tree.specs.declared.leaves.Id.{Id}
 use Rattle.wit_type_tree.specs.declared.types.TypeDef.{TypeDef as Definition}
 use Rattle.wit_syntax.specs.Shape.{all_words, body_of}
-use Rattle.wit_syntax.specs.ScopeTables.{in_order, is_defined, rows_of, used, defined, AreDistinct, local_names}
-use Rattle.wit_syntax.specs.Fault.{Fault, fault, missing_type_at, type_word}
-use Rattle.wit_syntax.specs.Bodies.{IsRepeated}
-use Rattle.wit_syntax.specs.Function.{SourceFunction}
-use Rattle.wit_syntax.specs.Broken.{IsBrokenScope, DefinedTwice, MissingType, CyclicType, Metadata, Body, Function}
+use Rattle.wit_syntax.specs.ScopeTables.{in_order, is_defined, used, defined, AreDistinct, local_names}
+use Rattle.wit_syntax.specs.Fault.{Fault}
 use Rattle.wit_syntax.specs.Repeats.{AllDiffer}
-use Rattle.wit_arena.specs.Resolving.{Env, AreLegalMetadata, AreLegalBodies, HasNames, IsUnknown}
+use Rattle.wit_arena.specs.Resolving.{Env, HasNames, IsUnknown}
 use Rattle.wit_syntax.proofs.Lists.{at_within, at_take, map_at, map_map}
-use Rattle.wit_syntax.proofs.Repeated.{no_repeat}
 use Rattle.wit_syntax.proofs.Orders.{in_order_at}
-use Rattle.wit_syntax.proofs.Turns.{AreOwn, used_is, used_has, defined_at, defined_has, either_at, names_within, in_order_among, in_order_all, in_turn_distinct}
+use Rattle.wit_syntax.proofs.Turns.{AreOwn, used_is, used_has, either_at, names_within, in_order_among, in_turn_distinct}
 use Rattle.wit_arena.proofs.Scoping.{needed_earlier}
-use Rattle.wit_syntax.proofs.Found.{at_contains, contains_at}
-use Rattle.wit_syntax.proofs.Legal.{no_missing_edge, no_cyclic_edge}
 use Rattle.wit_scopes.specs.BorrowedNames.{Borrowed, name_view}
 use Rattle.wit_scopes.specs.declared.scope_name.Named.TheVariants as borrowed
-use Rattle.wit_scopes.specs.DefinitionOrder.{AreOrdered, AreInTurn, IsBrokenAmong, IsRepeatedId, OfFunction, IsOfFunctions}
+use Rattle.wit_scopes.specs.DefinitionOrder.{AreOrdered, AreInTurn}
 
 -- what is at the first n places
 in_order-take : {X : Type 0} (xs : List X) (places : List ℕ) (n : ℕ) → ((j p : ℕ) → slice_get places j ≡ Some p → p < length xs) → in_order xs (take n places) ≡ take n (in_order xs places)
@@ -107,31 +101,8 @@ none_unknown old env ds k d f turn at kept has u =
     let e = turn.earlier k d u.id at u.among (λ i y there same. free y same ((kept turn.known turn.has).has i y there)) in
     free e.1 e.3 (has.has e.0 e.1 e.2)
 
--- attributes, or a body, among the definitions that are broken
-pub broken_definition : (xs ds : List ScopeName) (f : Fault) → AreOrdered xs ds → IsBrokenAmong ds f → (fns : List SourceFunction) → IsBrokenScope xs fns f
-broken_definition xs ds f o b fns =
-    let at = at_contains ds (Defined b.d) b.among in
-    let it = defined_at (in_order xs o.order) at.0 (Defined b.d) (sym (ap (λ l. slice_get l at.0) o.are) ∙ at.1) in
-    let p = in_order_among xs o.order o.least it.0 (Defined b.d) it.1 in
-    elim b.broken [
-      | inl metadata ↦ Metadata b.d (contains_at xs p.0 (Defined b.d) p.1) metadata
-      | inr body ↦ Body b.d (contains_at xs p.0 (Defined b.d) p.1) body
-    ]
-
-unmapped : (key : Id → List ℕ) (zs : List ScopeName) (later : Id) → IsRepeated key (map local_id zs) later → (x : ScopeName) × IsRepeated (λ y. key (local_id y)) zs x × (local_id x ≡ later)
-unmapped key zs later r =
-    let a = map_at local_id zs r.0 r.3 r.4 in
-    let b = map_at local_id zs r.1 later r.5 in
-    (b.0, (r.0, r.1, r.2, a.0, a.1, b.1, ap key a.2 ∙ r.6 ∙ sym (ap key b.2)), b.2)
-
 abbrev text : Id → List ℕ
 text id = id.name.now
-
--- a text that occurs twice
-pub broken_twice : (xs : List ScopeName) (ids : List Id) (f : Fault) → ids ≡ map local_id (used xs ++ defined xs) → IsRepeatedId 14 text ids f → (fns : List SourceFunction) → IsBrokenScope xs fns f
-broken_twice xs ids f are h fns =
-    let u = unmapped text (used xs ++ defined xs) h.0 (subst (λ l. IsRepeated text l h.0) are h.1) in
-    DefinedTwice (u.0, u.1, h.2 ∙ ap (λ (id : Id). fault 14 id.span) (sym u.2))
 
 -- where texts differ, the names do
 pub differ_names : (xs : List ScopeName) (ids : List Id) → ids ≡ map local_id (used xs ++ defined xs) → AllDiffer (map text ids) → AllDiffer (map local_name (used xs ++ defined xs))
@@ -140,20 +111,3 @@ differ_names xs ids are differ = subst AllDiffer (ap (map text) are ∙ map_map 
 -- so those of a table with the used names differ from the definitions, in their order
 pub turn_differs : (xs ds : List ScopeName) (names : List (List ℕ)) → AreOrdered xs ds → names ≡ local_names (used xs) → AreDistinct xs → AllDiffer (names ++ local_names ds)
 turn_differs xs ds names o are distinct = rw (are, o.are) (subst AllDiffer (map-append local_name (used xs) (defined (in_order xs o.order))) (in_turn_distinct xs o.order o.least distinct))
-
--- where the names and the definitions break no rule, functions do
-pub legal_unfolded : (xs ds : List ScopeName) (ids : List Id) → AreOrdered xs ds → ids ≡ map local_id (used xs ++ defined xs) → AllDiffer (map text ids) → AreLegalMetadata ds → AreLegalBodies ds → (fns : List SourceFunction) (f : Fault) → IsBrokenScope xs fns f → IsOfFunctions xs fns f
-legal_unfolded xs ds ids o are distinct metadata bodies fns f (DefinedTwice h) = absurd (no_repeat local_name (used xs ++ defined xs) h.0 (differ_names xs ids are distinct) h.1)
-legal_unfolded xs ds ids o are distinct metadata bodies fns f (MissingType h) = absurd (no_missing_edge missing_type_at (rows_of xs) o.order f o.least h)
-legal_unfolded xs ds ids o are distinct metadata bodies fns f (CyclicType h) = absurd (no_cyclic_edge 16 type_word (rows_of xs) o.order f o.least h)
-legal_unfolded xs ds ids o are distinct metadata bodies fns f (Metadata d among broken) = absurd (
-    let p = at_contains xs (Defined d) among in
-    let k = in_order_all xs o.order o.least p.0 (Defined d) p.1 in
-    let it = defined_has (in_order xs o.order) k.0 d k.1 in
-    metadata.legal it.0 d f (ap (λ l. slice_get l it.0) o.are ∙ it.1) broken)
-legal_unfolded xs ds ids o are distinct metadata bodies fns f (Body d among broken) = absurd (
-    let p = at_contains xs (Defined d) among in
-    let k = in_order_all xs o.order o.least p.0 (Defined d) p.1 in
-    let it = defined_has (in_order xs o.order) k.0 d k.1 in
-    bodies.legal it.0 d f (ap (λ l. slice_get l it.0) o.are ∙ it.1) broken)
-legal_unfolded xs ds ids o are distinct metadata bodies fns f (Function k fn at broken) = OfFunction k fn at broken

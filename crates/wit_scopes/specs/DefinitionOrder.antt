@@ -1,15 +1,10 @@
--- The definitions of a scope in their order, its names, and what may be wrong with one of them.
-use Rattle.std.specs.Prelude.{◌≡◌, ◌⊎◌, ◌++◌, ℕ, List, [], take, map, Some, Contains, slice_get}
+-- The definitions of a scope in their order, and its names.
+use Rattle.std.specs.Prelude.{◌≡◌, ◌++◌, ℕ, List, [], take, map, Some, Contains, slice_get}
 use Rattle.wit_type_tree.specs.declared.leaves.Id.{Id}
 use Rattle.wit_type_tree.specs.declared.types.TypeDef.{TypeDef as Definition}
 use Rattle.wit_graph.specs.Table.{IsOrder}
 use Rattle.wit_syntax.specs.Source.{ScopeName, Defined, local_id, local_name}
 use Rattle.wit_syntax.specs.ScopeTables.{needed_ids, rows_of, in_order, used, defined}
-use Rattle.wit_syntax.specs.Fault.{Fault, fault, missing_at, name_word}
-use Rattle.wit_syntax.specs.Metadata.{IsBrokenMetadata}
-use Rattle.wit_syntax.specs.Bodies.{IsSecond, IsBrokenBody}
-use Rattle.wit_syntax.specs.Function.{SourceFunction}
-use Rattle.wit_syntax.specs.SignatureRules.{IsBrokenFunction}
 use Rattle.wit_arena.specs.Resolving.{Env, HasNames}
 
 -- no name of a scope needs one
@@ -39,22 +34,3 @@ pub record AreInTurn (env : Env) (ds : List ScopeName) : Type 0 where
   pub earlier : (k : ℕ) (d : Definition) (id : Id) → slice_get ds k ≡ Some (Defined d) → Contains (needed_ids (Defined d)) id
       → ((i : ℕ) → (y : ScopeName) → slice_get known i ≡ Some y → local_name y ≡ id.name.now → ⊥)
       → (j : ℕ) × (y : ScopeName) × (slice_get (take k ds) j ≡ Some y) × (local_name y ≡ id.name.now)
-
--- a used name is none of an interface that has these functions: it is that of one of them, or of nothing
-pub data IsUnstated (functions : List (List ℕ)) (id : Id) (f : Fault) : Type 0 where
-  AtFunction : Contains functions id.name.now → f ≡ fault 13 id.span → IsUnstated functions id f
-  AtNothing : (Contains functions id.name.now → ⊥) → f ≡ missing_at 12 name_word id → IsUnstated functions id f
-
--- the attributes of one of these, or its body, break a rule
-pub record IsBrokenAmong (ds : List ScopeName) (f : Fault) : Type 0 where
-  pub d : Definition
-  pub among : Contains ds (Defined d)
-  pub broken : IsBrokenMetadata d.attributes.items f ⊎ IsBrokenBody d.body f
-
--- a rule of a scope is broken by one of its functions
-pub data IsOfFunctions (xs : List ScopeName) (fns : List SourceFunction) (f : Fault) : Type 0 where
-  OfFunction : (k : ℕ) (fn : SourceFunction) → slice_get fns k ≡ Some fn → IsBrokenFunction xs fns k fn f → IsOfFunctions xs fns f
-
--- an earlier one of these names has the key of a later one
-abbrev pub IsRepeatedId : ℕ → (Id → List ℕ) → List Id → Fault → Type 0
-IsRepeatedId number key ids f = IsSecond key (λ (id : Id). fault number id.span) ids f

@@ -2,7 +2,7 @@
 use Rattle.std.proofs.Common.{◌≡◌, ◌≤◌, ℕ, zero, suc, List, [], ◌∷◌, ◌++◌, length, map, Option, Some, None, inl, inr, refl, sym, ap, ◌∙◌, subst, arith, append_assoc, length-append}
 use Rattle.std.specs.Prelude.{slice_get}
 use Rattle.std.proofs.lemmas.List.{map-append}
-use Rattle.std.proofs.lemmas.Option.{none-some, slice_get_within}
+use Rattle.std.proofs.lemmas.Option.{slice_get_within}
 use Rattle.wit_values.specs.declared.span.Span.{Span}
 use Rattle.wit_type_tree.specs.declared.leaves.Id.{Id}
 use Rattle.wit_type_tree.specs.declared.types.Param.{Param as WrittenParam}
@@ -17,9 +17,7 @@ use Rattle.wit_types.specs.declared.types.TypeDefKind.TheVariants as kind
 use Rattle.wit_types.specs.declared.types.Handle.TheVariants as handle
 use Rattle.wit_functions.specs.declared.function.Param.{Param}
 use Rattle.wit_syntax.specs.Shape.{Shape, Word, shape_of}
-use Rattle.wit_syntax.specs.Fault.{Fault}
-use Rattle.wit_syntax.specs.Source.{ScopeName}
-use Rattle.wit_syntax.specs.Function.{SourceParam, SourceFunction, self_param, written_param, resource_function}
+use Rattle.wit_syntax.specs.Function.{SourceParam, self_param, written_param, resource_function}
 use Rattle.wit_arena.specs.Adding.{AreShapes, SaysParam}
 use Rattle.wit_arena.specs.Resolving.{Env, IsInterned}
 use Rattle.wit_arena.proofs.AddingFunctions.{shapes_none, shapes_one, shapes_append}
@@ -28,7 +26,7 @@ use Rattle.wit_rules.specs.declared.borrowed.BorrowedFunction.{BorrowedFunction}
 use Rattle.wit_rules.specs.declared.borrowed.BorrowedFunction.TheVariants as borrowed
 use Rattle.wit_rules.specs.BorrowedFunctions.{function_view, given_of}
 use Rattle.wit_entries.specs.ResolvedForms.{IsResolved}
-use Rattle.wit_rules.specs.Signatures.{AreParamsOver, IsResultOver, IsBrokenResult}
+use Rattle.wit_rules.specs.Signatures.{AreParamsOver, IsResultOver}
 use Rattle.wit_entries.proofs.Reading.{alone, resolved_word, whole_present}
 use Rattle.wit_signatures.proofs.SignatureTypes.{result_shape}
 
@@ -83,12 +81,6 @@ self_present old new env r word place i found interned = whole_present old old n
 
 result_one : (old new : List TypeDef) (env : Env) (x : Shape) (t : Ty) → IsResolved old new env Unknown x t → IsResultOver old new env (Some x) (Some t)
 result_one old new env x t is = record { types = λ s. shapes_one old new s env x t (is s) }
-
--- where nothing is written as the result, none of its rules is broken
-pub no_result : (xs : List ScopeName) (fn : SourceFunction) (f : Fault) → fn.func.result ≡ None → IsBrokenResult xs fn f → ⊥
-no_result xs fn f none (inl h) = none-some h.1 (sym none ∙ h.2)
-no_result xs fn f none (inr (inl h)) = none-some h.2 (sym none ∙ h.3)
-no_result xs fn f none (inr (inr h)) = none-some h.2 (sym none ∙ h.3)
 
 -- a written result means a type
 pub result_view : (old new : List TypeDef) (env : Env) (h : BorrowedFunction) (t : Written) (ty : Ty) → (function_view h).func.result ≡ Some t → IsResolved old new env Unknown (shape_of t) ty → IsResultOver old new env (function_view h).result (Some ty)

@@ -2,15 +2,8 @@
 use Rattle.std.proofs.Common.{◌≡◌, ◌<◌, ◌≤◌, ◌+◌, ℕ, List, Some, inl, inr, refl, sym, ap, ◌∙◌, subst, arith}
 use Rattle.std.specs.Prelude.{slice_get}
 use Rattle.std.proofs.lemmas.Bool.{cases_lt}
-use Rattle.wit_type_tree.specs.declared.types.«Type».{«Type» as Written}
-use Rattle.wit_type_tree.specs.declared.types.«Type».TheVariants as written
-use Rattle.wit_types.specs.declared.types.TypeDef.{TypeDef}
-use Rattle.wit_syntax.specs.Fault.{Fault}
 use Rattle.wit_syntax.specs.Function.{Role, Freestanding, Method, Static, Constructor, OnSide, SourceFunction}
-use Rattle.wit_syntax.specs.Bodies.{IsBrokenForm, IsBrokenType, Itself, Inside}
 use Rattle.wit_syntax.specs.SignatureRules.{IsEntered}
-use Rattle.wit_syntax.specs.Shape.{shape_of, words}
-use Rattle.wit_arena.specs.Resolving.{Env, IsUnknown, IsWrongType}
 use Rattle.wit_rules.specs.Signatures.{IsFree}
 
 -- none of the functions before a place is one by itself of this name
@@ -45,19 +38,3 @@ pub none_entered : (fns : List SourceFunction) (i k : ℕ) (name : List ℕ) →
 none_entered fns i k name lt h e =
     let before = e.1 in
     h.none e.0 e.2 (omega arith) e.3 (subst (λ (r : Role). IsFree r name) (sym e.6) e.7)
-
--- no rule of forms has the number of a missing type
-broken_form-rule : (t : Written) (f : Fault) → IsBrokenForm t f → f.rule ≡ 15 → ⊥
-broken_form-rule (written.Tuple' span shape ts) f h is = let it = ap (λ (x : Fault). x.rule) h.1 in omega arith
-broken_form-rule (written.Map' span p key q value) f h is = let it = ap (λ (x : Fault). x.rule) h.1 in omega arith
-broken_form-rule t f h is = h
-
-broken_type-rule : (t : Written) (f : Fault) → IsBrokenType t f → f.rule ≡ 15 → ⊥
-broken_type-rule t f (Itself broken) is = broken_form-rule t f broken is
-broken_type-rule t f (Inside {t = part} among broken) is = broken_type-rule part f broken is
-
--- what is wrong with a type, where it has the number of a missing type, is a name
-pub unknown_in : (env : Env) (es : List TypeDef) (t : Written) (f : Fault) → f.rule ≡ 15 → IsWrongType env es t f → IsUnknown env (words (shape_of t)) f
-unknown_in env es t f is (inl broken) = absurd (broken_type-rule t f broken is)
-unknown_in env es t f is (inr (inl unknown)) = unknown
-unknown_in env es t f is (inr (inr handle)) = absurd (let it = ap (λ (x : Fault). x.rule) handle.is in let g : ⊥ = omega arith in g)

@@ -168,13 +168,6 @@ lost_is fns k id f l = by (is_among id.name.now (take (suc k) fns)) refl l
     by false is (AtFunction entered h) = absurd (false≢true (sym is ∙ entered_among fns k id.name.now entered))
     by false is (AtNothing other h) = h ∙ sym (ap (chosen id) is)
 
-pub lost_as : (fns : List SourceFunction) (k : ℕ) (id : Id) (f : Fault) → f ≡ lost_at fns k id → IsLostAt fns k id.span id.name.now f
-lost_as fns k id f h = by (is_among id.name.now (take (suc k) fns)) refl
-  where
-    by : (b : Bool) → is_among id.name.now (take (suc k) fns) ≡ b → IsLostAt fns k id.span id.name.now f
-    by true is = AtFunction (among_entered fns k id.name.now is) (h ∙ ap (chosen id) is)
-    by false is = AtNothing (λ entered. false≢true (sym is ∙ entered_among fns k id.name.now entered)) (h ∙ ap (chosen id) is)
-
 -- a refusal of a lost name reports its fault
 pub lost_reports : (fns : List SourceFunction) (k : ℕ) (id : Id) (r : ParseError) → Refused (IsLostAt fns k id.span id.name.now) r → Reports (Some (lost_at fns k id)) r
 lost_reports fns k id r refused = elim refused [

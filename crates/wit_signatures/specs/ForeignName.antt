@@ -3,8 +3,6 @@ use Rattle.std.specs.Prelude.{ℕ, List}
 use Rattle.wit_names.specs.Folded.{folded_key}
 use Rattle.wit_type_tree.specs.declared.leaves.Id.{Id}
 use Rattle.wit_functions.specs.declared.function.Function.{Function}
-use Rattle.wit_syntax.specs.Bodies.{IsSecond}
-use Rattle.wit_syntax.specs.Fault.{Fault, fault}
 use Rattle.wit_syntax.specs.Function.{SourceFunction}
 use Rattle.wit_refusals.specs.NameScopes.{Name}
 
@@ -20,7 +18,3 @@ name_of_function fn = (fn.name, fn.span)
 -- the key by which a name is distinguished
 abbrev pub name_key : Name → List ℕ
 name_key n = folded_key n.0
-
--- an earlier one of these names has the key of a later one
-abbrev pub IsTwiceAmong : List Name → Fault → Type 0
-IsTwiceAmong names f = IsSecond name_key (λ (n : Name). fault 17 n.1) names f

@@ -1,3 +1,4 @@
 pub mod ForeignName
 pub mod Over
 pub mod SignatureFaults
+pub mod FunctionsOfScope

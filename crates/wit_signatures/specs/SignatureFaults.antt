@@ -3,6 +3,7 @@ use Rattle.std.specs.Prelude.{ℕ, suc, Bool, false, if◌then◌else◌, List, 
 use Rattle.std.specs.List.{list_any}
 use Rattle.std.specs.Option.{option_or}
 use Rattle.std.specs.Str.{bytes_eq}
+use Rattle.wit_type_tree.specs.declared.error.ParseError.{ParseError}
 use Rattle.wit_type_tree.specs.declared.leaves.Id.{Id}
 use Rattle.wit_type_tree.specs.declared.types.Param.{Param}
 use Rattle.wit_type_tree.specs.declared.types.«Type».{«Type» as Written}
@@ -12,10 +13,10 @@ use Rattle.wit_syntax.specs.Fault.{Fault, fault, missing_at, name_word}
 use Rattle.wit_syntax.specs.Function.{Role, Freestanding, SourceParam, SourceFunction, written_param}
 use Rattle.wit_syntax.specs.Source.{ScopeName}
 use Rattle.wit_first.specs.AttributeFaults.{metadata_fault}
-use Rattle.wit_first.specs.First.{first_after, repeat_of}
+use Rattle.wit_first.specs.First.{Reports, first_after, repeat_of}
 use Rattle.wit_first.specs.FunctionFaults.{given_fault, gives_fault, no_result_fault}
 use Rattle.wit_arena.specs.Resolving.{Env}
-use Rattle.wit_entries.specs.EntryFaults.{named_fault}
+use Rattle.wit_entries.specs.EntryFaults.{named_fault, written_fault}
 
 -- a function is one by itself, of this written name; and one of some is
 abbrev pub is_free : List ℕ → Role → Bool
@@ -52,3 +53,7 @@ signature_fault wrong xs fn = option_or (given_fault fn) (option_or (params_faul
 -- of the function at a place among those of a scope: its attributes first
 abbrev pub function_fault : Env → List TypeDef → List ScopeName → List SourceFunction → ℕ → SourceFunction → Option Fault
 function_fault env es xs fns k fn = option_or (metadata_fault fn.attributes) (signature_fault (signed_fault env es fns k) xs fn)
+
+-- an error that reports the fault of a type now reports that of it in the signature of the function at a place
+abbrev pub ReportsSigned : List SourceFunction → ℕ → ParseError → ParseError → Type 0
+ReportsSigned fns k before after = (env : Env) (es : List TypeDef) (t : Written) → Reports (written_fault env es t) before → Reports (signed_fault env es fns k t) after

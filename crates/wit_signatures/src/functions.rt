@@ -1,26 +1,22 @@
 //! Functions over their resolved types.
-ghost use Rattle.std.specs.Prelude.{◌≡◌, ◌<◌, ◌≤◌, ◌++◌, List, [], ◌∷◌, IfOk, IfErr, IsTrue, OnOk, None, Some, length, map, slice_get};
-ghost use Rattle.std.specs.Option.{option_to_list};
+ghost use Rattle.std.specs.Prelude.{◌≡◌, ◌<◌, List, IfOk, IfErr, IsTrue, OnOk, None, Some, length, map};
 ghost use Rattle.wit_type_tree.specs.RefusalText.{IsAllocationFailure};
 ghost use Rattle.wit_types.specs.declared.types.TypeDef.{TypeDef as Entry};
 ghost use Rattle.wit_types.specs.declared.stability.Stability.TheVariants.{Unknown};
 ghost use Rattle.wit_names.specs.Mangled.{is_mangled};
-ghost use Rattle.wit_syntax.specs.Address.{Address};
-ghost use Rattle.wit_syntax.specs.Shape.{all_handles};
-ghost use Rattle.wit_syntax.specs.Source.{ScopeName};
 ghost use Rattle.wit_syntax.specs.Bodies.{folded};
-ghost use Rattle.wit_syntax.specs.Function.{SourceParam, SourceFunction, all_params as the_params, self_param as the_self, written_param, written_types};
+ghost use Rattle.wit_syntax.specs.Function.{all_params as the_params, self_param as the_self, written_types};
 ghost use Rattle.wit_arena.specs.SourceFunctions.{kinds_of};
-ghost use Rattle.wit_first.specs.First.{Finds, IsFirstRepeat};
+ghost use Rattle.wit_first.specs.First.{Finds};
 ghost use Rattle.wit_first.specs.FunctionFaults.{no_result_fault};
-ghost use Rattle.wit_arena.specs.Resolving.{env_of, AddsFunctions};
+ghost use Rattle.wit_arena.specs.Resolving.{env_of};
 ghost use Rattle.wit_arena.specs.Adding.{IsKindIn, SaysParam};
 ghost use Rattle.wit_signatures.specs.Over.{IsSignatureOver};
 ghost use Rattle.wit_entries.specs.ResolvedForms.{IsResolved};
-ghost use Rattle.wit_entries.specs.Requiring.{IsExtended, Requires};
+ghost use Rattle.wit_entries.specs.Requiring.{IsExtended};
 ghost use Rattle.wit_rules.specs.BorrowedFunctions.{function_view, owner_of};
-ghost use Rattle.wit_rules.specs.Signatures.{functions_view, HasOwner, HaveOwners, IsScopeOf, AreParamsOver, IsResultOver};
-ghost use Rattle.wit_signatures.specs.SignatureFaults.{function_fault, params_fault, return_fault, signature_fault, signed_fault};
+ghost use Rattle.wit_rules.specs.Signatures.{functions_view, HasOwner, HaveOwners, AreParamsOver, IsResultOver};
+ghost use Rattle.wit_signatures.specs.FunctionsOfScope.{AddsAt, AddsParams, FindsFunction, FindsParams, FindsReturn, FindsSignature, IsNamedAt, RequiresIn, RequiresOf, fault_at, given_params_fault, param_types, result_type};
 
 use crate::signatures::resolve_in_signature;
 use std::alloc::{AllocError, Global};
@@ -174,10 +170,10 @@ fn resolve_params(
     repeated: Option<usize>,
 ) -> ParseResult<()>
     requires place { place < length scope.functions.now }
-    ensures params { OnOk result ((ws : List SourceParam) (first : List Entry) → AreParamsOver first types.old (env_of scope.entry.names.now) ws params.old.items → AreParamsOver first types.new (env_of scope.entry.names.now) (ws ++ map written_param written.now) params.new.items) }
-    ensures handled { OnOk result (Requires (env_of scope.entry.names.now) types.new (all_handles (map (λ p. p.ty) written.now)) required.old.items required.new.items) }
+    ensures params { OnOk result (AddsParams scope.entry types.old types.new written.now params.old.items params.new.items) }
+    ensures handled { OnOk result (RequiresIn scope.entry types.new (map (λ p. p.ty) written.now) required.old.items required.new.items) }
     ensures extended { IsExtended types.old types.new }
-    ensures first { (given : List SourceParam) → length given ≡ length params.old.items → length given ≤ 1 → IsFirstRepeat (λ p. folded p.name) (given ++ map written_param written.now) repeated → Finds (params_fault (signed_fault (env_of scope.entry.names.now) types.new (functions_view scope.entry) place) given written.now) result }
+    ensures first { FindsParams scope.entry types.new place written.now (length params.old.items) repeated result }
 {
     for written in written {
         if repeated == Some(params.len()) {
@@ -202,9 +198,9 @@ fn all_params<'t, 'a>(
     requires place { place < length scope.functions.now }
     requires owner { HasOwner (env_of scope.names.now) (owner_of (function_view function).role) }
     ensures params { IfOk result (λ ps. AreParamsOver types.old types.new (env_of scope.entry.names.now) (the_params (function_view function.entry)) ps.items) }
-    ensures handled { OnOk result (Requires (env_of scope.entry.names.now) types.new (all_handles (map (λ p. p.ty) (function_view function.entry).func.params.items)) required.old.items required.new.items) }
+    ensures handled { OnOk result (RequiresIn scope.entry types.new (param_types (function_view function.entry)) required.old.items required.new.items) }
     ensures extended { IsExtended types.old types.new }
-    ensures first { Finds (params_fault (signed_fault (env_of scope.entry.names.now) types.new (functions_view scope.entry) place) (function_view function.entry).given (function_view function.entry).func.params.items) result }
+    ensures first { Finds (given_params_fault (fault_at scope.entry types.new place) (function_view function.entry)) result }
 {
     let repeated = repeated_param(alloc, function)?;
     let mut params = given_params(alloc, scope.names, function, types)?;
@@ -253,9 +249,9 @@ fn resolve_result<'t, 'a>(
     requires place { place < length scope.functions.now }
     requires owner { HasOwner (env_of scope.names.now) (owner_of (function_view function).role) }
     ensures result { IfOk result (IsResultOver types.old types.new (env_of scope.entry.names.now) (function_view function.entry).result) }
-    ensures handled { OnOk result (Requires (env_of scope.entry.names.now) types.new (all_handles (option_to_list (function_view function.entry).func.result)) required.old.items required.new.items) }
+    ensures handled { OnOk result (RequiresIn scope.entry types.new (result_type (function_view function.entry)) required.old.items required.new.items) }
     ensures extended { IsExtended types.old types.new }
-    ensures first { (xs : List ScopeName) → IsScopeOf scope.entry xs → Finds (return_fault (signed_fault (env_of scope.entry.names.now) types.new (functions_view scope.entry) place) xs (function_view function.entry) (function_view function.entry).func.result) result }
+    ensures first { FindsReturn scope.entry types.new place (function_view function.entry) result }
 {
     match function.result() {
         Some(written) => {
@@ -287,9 +283,9 @@ fn resolve_signature<'t, 'a>(
     requires place { place < length scope.functions.now }
     requires owner { HasOwner (env_of scope.names.now) (owner_of (function_view function).role) }
     ensures over { IfOk result (λ s. IsSignatureOver types.old types.new (env_of scope.entry.names.now) (function_view function.entry) s.params s.result) }
-    ensures handled { OnOk result (Requires (env_of scope.entry.names.now) types.new (all_handles (written_types (function_view function.entry))) required.old.items required.new.items) }
+    ensures handled { OnOk result (RequiresIn scope.entry types.new (written_types (function_view function.entry)) required.old.items required.new.items) }
     ensures extended { IsExtended types.old types.new }
-    ensures first { (xs : List ScopeName) → IsScopeOf scope.entry xs → Finds (signature_fault (signed_fault (env_of scope.entry.names.now) types.new (functions_view scope.entry) place) xs (function_view function.entry)) result }
+    ensures first { FindsSignature scope.entry types.new place (function_view function.entry) result }
 {
     check_given(alloc, function)?;
     let params = all_params(alloc, scope, types, required, place, function)?;
@@ -315,12 +311,12 @@ pub fn resolve_function(
 ) -> ParseResult<Function>
     requires place { place < length scope.functions.now }
     requires owners { HaveOwners (env_of scope.names.now) (functions_view scope) }
-    ensures adds { IfOk result (λ f. (fn : SourceFunction) → slice_get (functions_view scope.entry) place ≡ Some fn → (s : Address) → AddsFunctions types.old types.new s scope.entry.names.now (fn ∷ []) (f ∷ [])) }
-    ensures named { IfOk result (λ f. (fn : SourceFunction) → slice_get (functions_view scope.entry) place ≡ Some fn → (f.name ≡ fn.name) × (f.span ≡ fn.span)) }
+    ensures adds { IfOk result (AddsAt scope.entry place types.old types.new) }
+    ensures named { IfOk result (IsNamedAt scope.entry place) }
     ensures mangled { IfOk result (λ f. IsTrue (is_mangled f.name)) }
-    ensures handled { OnOk result ((fn : SourceFunction) → slice_get (functions_view scope.entry) place ≡ Some fn → Requires (env_of scope.entry.names.now) types.new (all_handles (written_types fn)) required.old.items required.new.items) }
+    ensures handled { OnOk result (RequiresOf scope.entry place types.new required.old.items required.new.items) }
     ensures extended { IsExtended types.old types.new }
-    ensures first { (xs : List ScopeName) → IsScopeOf scope.entry xs → (fn : SourceFunction) → slice_get (functions_view scope.entry) place ≡ Some fn → Finds (function_fault (env_of scope.entry.names.now) types.new xs (functions_view scope.entry) place fn) result }
+    ensures first { FindsFunction scope.entry types.new place result }
 {
     let function = scope.functions[place];
     let metadata = metadata_of(alloc, function.docs(), function.attributes())?;

@@ -1,22 +1,19 @@
 //! Types in signatures.
-ghost use Rattle.std.specs.Prelude.{◌≡◌, ◌<◌, ◌↔◌, ◌++◌, List, None, IfOk, IsTrue, OnOk, length, map, codes, string_bytes};
+ghost use Rattle.std.specs.Prelude.{◌≡◌, ◌<◌, ◌↔◌, ◌++◌, None, IfOk, IsTrue, OnOk, length, map, codes, string_bytes};
 ghost use Rattle.wit_type_tree.specs.RefusalText.{IsItemNotFound};
-ghost use Rattle.wit_type_tree.specs.declared.types.«Type».{«Type» as Written};
-ghost use Rattle.wit_types.specs.declared.types.TypeDef.{TypeDef};
 ghost use Rattle.wit_types.specs.declared.stability.Stability.TheVariants.{Unknown};
 ghost use Rattle.wit_syntax.specs.Shape.{shape_of, handles};
 ghost use Rattle.wit_syntax.specs.Hint.{hint_of};
 ghost use Rattle.wit_syntax.specs.Fault.{name_word};
 ghost use Rattle.wit_syntax.specs.Broken.{Refused};
 ghost use Rattle.wit_syntax.specs.SignatureRules.{IsEntered};
-ghost use Rattle.wit_first.specs.First.{Finds, Reports};
-ghost use Rattle.wit_arena.specs.Resolving.{Env, env_of};
-ghost use Rattle.wit_entries.specs.EntryFaults.{written_fault};
+ghost use Rattle.wit_first.specs.First.{Finds};
+ghost use Rattle.wit_arena.specs.Resolving.{env_of};
 ghost use Rattle.wit_entries.specs.ResolvedForms.{IsResolved};
 ghost use Rattle.wit_entries.specs.Requiring.{IsExtended, Requires};
 ghost use Rattle.wit_rules.specs.BorrowedFunctions.{function_view};
 ghost use Rattle.wit_rules.specs.Signatures.{functions_view, IsFree, IsLostAt};
-ghost use Rattle.wit_signatures.specs.SignatureFaults.{signed_fault};
+ghost use Rattle.wit_signatures.specs.SignatureFaults.{ReportsSigned, signed_fault};
 
 use std::alloc::{AllocError, Global};
 use wit_entries::entries::Entries;
@@ -108,7 +105,7 @@ fn in_signature(
     error: ParseError,
 ) -> ParseError
     requires { place < length functions.now }
-    ensures { (env : Env) (es : List TypeDef) (t : Written) → Reports (written_fault env es t) error → Reports (signed_fault env es (map function_view functions.now) place t) result }
+    ensures { ReportsSigned (map function_view functions.now) place error result }
 {
     if error.rule() != MISSING_TYPE {
         return error;

@@ -9,21 +9,18 @@ use Rattle.wit_values.specs.declared.span.Span.{Span}
 use Rattle.wit_type_tree.specs.RefusalText.{IsAllocationFailure}
 use Rattle.wit_type_tree.specs.declared.error.ParseError.{ParseError}
 use Rattle.wit_type_tree.specs.declared.leaves.Id.{Id}
-use Rattle.wit_tree.specs.declared.tree.Include.{Include}
 use Rattle.wit_tree.specs.declared.tree.WorldSide.{WorldSide}
 use Rattle.wit_syntax.specs.Broken.{Refused}
 use Rattle.wit_syntax.specs.Fault.{Fault, fault, fault_of}
-use Rattle.wit_syntax.specs.Function.{Role, Freestanding, Method, Static, Constructor, OnSide, SourceFunction, functions}
-use Rattle.wit_syntax.specs.ScopeTables.{includes}
+use Rattle.wit_syntax.specs.Function.{Role, Freestanding, Method, Static, Constructor, OnSide}
 use Rattle.wit_syntax.specs.Sides.{Link, SideItem, SideLink, item_side}
-use Rattle.wit_syntax.specs.Source.{Item, path_id}
+use Rattle.wit_syntax.specs.Source.{path_id}
 use Rattle.wit_syntax.proofs.Found.{at_contains, contains_at}
 use Rattle.wit_syntax.proofs.Names.{name_equal, name_itself}
 use Rattle.wit_first.specs.First.{Reports, first_in}
 use Rattle.wit_first.proofs.Bridge.{any_found}
 use Rattle.wit_first.proofs.First.{any_some, none_both, or_none, reports_back}
 use Rattle.wit_walk.specs.Members.{is_extern, is_on_side}
-use Rattle.wit_walk.specs.Setters.{setters_beside, setters_fault}
 use Rattle.wit_refusals.specs.KeyedNames.{HasName}
 use Rattle.wit_refusals.specs.NameScopes.{Name, AreUsed, IsDefinedAgain}
 use Rattle.wit_rules.specs.BorrowedFunctions.{across_of}
@@ -36,8 +33,7 @@ use Rattle.wit_externs.specs.Next.{IsLinked, linked_on}
 use Rattle.wit_externs.proofs.AloneFaults.{again_free, again_report}
 use Rattle.wit_world_sides.specs.declared.members.Members.{Members}
 use Rattle.wit_world_sides.specs.Members.{text}
-use Rattle.wit_world_sides.specs.PutFaults.{again_linked, clash_fault, closed_fault, crossed_fault, named_fault, put_fault, put_link_fault}
-use Rattle.wit_world_sides.specs.Settled.{none_of}
+use Rattle.wit_world_sides.specs.PutFaults.{again_linked, clash_fault, crossed_fault, named_fault, put_fault, put_link_fault}
 use Rattle.wit_world_sides.proofs.Putting.{names_itself, names_under}
 
 -- a name that is spelled like one of these, and one that is not
@@ -123,11 +119,3 @@ linked_report m link id e bare h = elim h [
       let hit = any_some (nat_eq id) ids there.0 id there.1 (eq-eqb id id refl) in
       inr (put_link_bare m link id bare ∙ linked_bare ids link id true bare hit ∙ ap Some (sym again.is)))
 ]
-
--- of the setters of an item that is closed where it includes nothing
-pub closed_setters : (i : Item) (fns : List SourceFunction) → fns ≡ functions i → (closed : Bool) → closed ≡ none_of (includes i) → closed_fault closed fns ≡ setters_fault i
-closed_setters i fns are closed same = ap (closed_fault closed) are ∙ ap (λ (b : Bool). closed_fault b (functions i)) same ∙ by (includes i)
-  where
-    by : (is : List Include) → closed_fault (none_of is) (functions i) ≡ setters_beside i is
-    by [] = refl
-    by (n ∷ rest) = refl

@@ -1,18 +1,15 @@
 use Rattle.std.proofs.Common.{◌≡◌, ◌∷◌, [], List, ℕ, ap, sym, ◌∙◌, subst}
-use Rattle.std.proofs.lemmas.Result.{IfErr-weaker}
 use Rattle.wit_tree.specs.declared.tree.WorldSide.{WorldSide}
-use Rattle.wit_syntax.specs.Broken.{Refused}
 use Rattle.wit_syntax.specs.Sides.{SideFunction, role_side}
 use Rattle.wit_first.specs.First.{Finds}
-use Rattle.wit_syntax.proofs.Refusing.{refused_weaker}
-use Rattle.wit_refusals.specs.NameScopes.{Name, IsDefinedAgain}
+use Rattle.wit_refusals.specs.NameScopes.{Name}
 use Rattle.wit_sides.specs.SideNames.{defined_on}
 use Rattle.wit_rules.specs.BorrowedFunctions.{function_view}
 use Rattle.wit_signatures.specs.ForeignName.{name_of_function}
 use Rattle.wit_externs.specs.AloneFaults.{again_fault}
-use Rattle.wit_externs.specs.Clash.{item_names, IsClash}
+use Rattle.wit_externs.specs.Clash.{item_names}
 use Rattle.wit_externs.proofs.AloneFaults.{again_by}
-use Rattle.wit_externs.proofs.Clashing.{item_defined, name_differs, clash_again}
+use Rattle.wit_externs.proofs.Clashing.{item_defined, name_differs}
 use Rattle.wit_externs.proofs.defining.define_alone.Goals as goal
 
 pub returns-clause-defined : goal.returns-clause-defined
@@ -25,18 +22,6 @@ returns-clause-defined c =
 
 pub returns-clause-differ : goal.returns-clause-differ
 returns-clause-differ c = name_differs c.define.result c.side.result (λ s. defined_on s c.args.in_use.now) (λ s. defined_on s c.define.new.self) c.as_str-name.result.now c.args.function.now.span c.define.ensures.defined c.define.ensures.free
-
-pub returns-clause-refused : goal.returns-clause-refused
-returns-clause-refused c =
-    let fn = function_view c.args.borrowed in
-    let name = c.as_str-name.result.now in
-    let span = c.args.function.now.span in
-    let side = c.side.result in
-    let old : WorldSide → List Name = λ s. defined_on s c.args.in_use.now in
-    let called : item_names (SideFunction fn) ≡ (name, span) ∷ [] = ap (λ (n : Name). n ∷ []) (sym (ap (λ (n : List ℕ). (n, span)) c.as_str-name.ensures ∙ c.requires.borrowed)) in
-    let again = IsDefinedAgain (old side) name span in
-    let clash = IsClash old (SideFunction fn ∷ []) in
-    IfErr-weaker c.define.result (Refused again) (Refused clash) (λ e. refused_weaker again clash e (λ f h. clash_again (SideFunction fn) side old name span f (sym c.side.ensures) called h)) c.define.ensures.refused
 
 pub returns-clause-first : goal.returns-clause-first
 returns-clause-first c =

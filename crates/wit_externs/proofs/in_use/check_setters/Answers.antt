@@ -1,15 +1,11 @@
 use Rattle.std.proofs.Common.{map, sym, ◌∙◌}
-use Rattle.std.proofs.lemmas.Result.{on_ok_weaker, IfErr-weaker}
-use Rattle.wit_syntax.specs.Broken.{Refused}
-use Rattle.wit_syntax.specs.SignatureRules.{IsUnpairedSetter}
-use Rattle.wit_syntax.proofs.Refusing.{refused_weaker}
-use Rattle.wit_refusals.specs.NameScopes.{IsFirstLoneSetter}
+use Rattle.std.proofs.lemmas.Result.{on_ok_weaker}
 use Rattle.wit_rules.specs.BorrowedFunctions.{function_view}
 use Rattle.wit_signatures.specs.ForeignName.{name_of_function}
 use Rattle.wit_externs.proofs.FirstSetters.{lone_by, merged_after, merged_functions, none_lone}
 use Rattle.wit_externs.proofs.NoSetters.{any-borrowed, none_alone}
 use Rattle.wit_externs.proofs.PairedNames.{all_names, scope_named}
-use Rattle.wit_externs.proofs.Paired.{lone_setter, unpaired_setter}
+use Rattle.wit_externs.proofs.Paired.{lone_setter}
 use Rattle.wit_externs.proofs.in_use.check_setters.Goals as goal
 
 pub returns-then-not-have_setter-clause-paired : goal.returns-then-not-have_setter-clause-paired
@@ -23,12 +19,6 @@ returns-clause-paired c = on_ok_weaker c.check_setters.result (λ paired f broke
     let hs = c.args.functions.now in
     let lone = lone_setter (all_names ids (map function_view hs)) (map function_view hs) (scope_named ids hs) f broken in
     paired lone.0 (rw c.requires lone.1)) c.check_setters.ensures.paired
-
-pub returns-clause-refused : goal.returns-clause-refused
-returns-clause-refused c = IfErr-weaker c.check_setters.result (Refused (IsFirstLoneSetter c.args.in_use.now)) (Refused (IsUnpairedSetter (map function_view c.args.functions.now))) (λ e. refused_weaker (IsFirstLoneSetter c.args.in_use.now) (IsUnpairedSetter (map function_view c.args.functions.now)) e (λ f first.
-    let ids = c.args.names.now in
-    let hs = c.args.functions.now in
-    unpaired_setter (all_names ids (map function_view hs)) (map function_view hs) (scope_named ids hs) f (rw c.requires at first))) c.check_setters.ensures.refused
 
 pub returns-then-not-have_setter-clause-first : goal.returns-then-not-have_setter-clause-first
 returns-then-not-have_setter-clause-first c =

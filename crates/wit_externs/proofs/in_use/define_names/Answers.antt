@@ -1,4 +1,4 @@
-use Rattle.std.proofs.Common.{◌≡◌, ◌∷◌, [], ◌++◌, List, length, ◌+◌, ◌<◌, Some, map, take, ap, sym, ◌∙◌, subst, arith}
+use Rattle.std.proofs.Common.{◌≡◌, ◌∷◌, [], ◌++◌, List, length, ◌+◌, ◌<◌, Some, map, take, ap, sym, ◌∙◌, arith}
 use Rattle.std.specs.Prelude.{slice_get}
 use Rattle.std.proofs.lemmas.List.{length-map, map-append, take-map, take_all, take_more}
 use Rattle.std.proofs.lemmas.Result.{err_from_is_err_and}
@@ -6,26 +6,14 @@ use Rattle.wit_type_tree.specs.declared.leaves.Id.{Id}
 use Rattle.wit_tree.specs.declared.tree.WorldSide.TheVariants.{Imported}
 use Rattle.wit_syntax.proofs.Lists.{read_map}
 use Rattle.wit_syntax.proofs.Orders.{take_next}
-use Rattle.wit_syntax.proofs.Refusing.{refused_weaker}
 use Rattle.wit_first.proofs.First.{after-more, reports-after, reports_same}
 use Rattle.wit_sides.specs.SideNames.{defined_on}
-use Rattle.wit_refusals.specs.NameScopes.{Name, IsDefinedAgain}
-use Rattle.wit_signatures.specs.ForeignName.{name_of_id, IsTwiceAmong}
+use Rattle.wit_refusals.specs.NameScopes.{Name}
+use Rattle.wit_signatures.specs.ForeignName.{name_of_id}
 use Rattle.wit_externs.specs.AloneFaults.{again_fault, defined_fault}
 use Rattle.wit_externs.proofs.AloneFaults.{again_free, again_report}
 use Rattle.wit_externs.proofs.Clashing.{sides_differ, types_more}
-use Rattle.wit_externs.proofs.Named.{again_twice, twice_whole}
 use Rattle.wit_externs.proofs.in_use.define_names.Goals as goal
-
-pub returns-in_err-define-clause-refused : goal.returns-in_err-define-clause-refused
-returns-in_err-define-clause-refused c =
-    let p = err_from_is_err_and c.from_residual.result c.from_residual.ensures.1 in
-    let old = c.args.in_use.now.imports in
-    let now = c.loop-name.in_use.imports in
-    let names = c.args.names.now in
-    let item = c.name-item.result in
-    let within : c.loop-name.name-index < length names = omega arith in
-    rw (p.1, p.2) (refused_weaker (IsDefinedAgain now item.name.now item.span) (IsTwiceAmong (old ++ map name_of_id names)) _ (λ f again. twice_whole name_of_id old names c.loop-name.name-index item f within c.name-item.is (subst (λ (ns : List Name). IsTwiceAmong (ns ++ name_of_id item ∷ []) f) (c.loop-name.invariant.defined Imported) (again_twice now item.name.now item.span f again))) c.in_err-define.ensures.refused)
 
 pub returns-in_err-define-clause-first : goal.returns-in_err-define-clause-first
 returns-in_err-define-clause-first c =

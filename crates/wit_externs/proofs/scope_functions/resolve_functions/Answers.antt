@@ -1,4 +1,4 @@
-use Rattle.std.proofs.Common.{◌⊎◌, ◌≡◌, ◌∷◌, ◌++◌, ◌+◌, [], List, ℕ, Option, Some, inl, inr, refl, sym, ap, ◌∙◌, subst, map, take, arith}
+use Rattle.std.proofs.Common.{◌≡◌, ◌∷◌, ◌++◌, ◌+◌, [], List, ℕ, Option, Some, inl, inr, refl, sym, ap, ◌∙◌, map, take, arith}
 use Rattle.std.specs.Prelude.{slice_get}
 use Rattle.std.specs.Option.{option_or}
 use Rattle.std.proofs.lemmas.List.{length-map, take-map, take_all}
@@ -8,24 +8,20 @@ use Rattle.wit_tree.specs.declared.tree.WorldSide.{WorldSide}
 use Rattle.wit_refusals.specs.NameScopes.{Name}
 use Rattle.wit_syntax.specs.Fault.{Fault}
 use Rattle.wit_syntax.specs.Sides.{SideItem, SideFunction, items_on, role_side}
-use Rattle.wit_syntax.specs.SignatureRules.{IsBrokenFunction}
-use Rattle.wit_arena.specs.ResolvedArenas.{IsNameless}
 use Rattle.wit_arena.specs.Resolving.{env_of}
-use Rattle.wit_syntax.proofs.Refusing.{refused_weaker}
 use Rattle.wit_sides.specs.SideNames.{defined_on}
 use Rattle.wit_rules.specs.BorrowedFunctions.{function_view}
-use Rattle.wit_rules.specs.Signatures.{functions_view, IsWrongFunctionAmong}
+use Rattle.wit_rules.specs.Signatures.{functions_view}
 use Rattle.wit_syntax.specs.Function.{SourceFunction}
-use Rattle.wit_first.proofs.First.{after-at, after-more, none_both, refused_as}
+use Rattle.wit_first.proofs.First.{after-at, after-more, none_both}
 use Rattle.wit_walk.specs.Functions.{function_fault}
 use Rattle.wit_signatures.specs.ForeignName.{name_of_function}
 use Rattle.wit_entries.proofs.Requiring.{extended_then}
-use Rattle.wit_signatures.proofs.FunctionFaults.{function_broken, function_legal}
 use Rattle.wit_externs.specs.AloneFaults.{again_fault, alone_fault, alone_faults, signed_by, words_in}
-use Rattle.wit_externs.specs.Clash.{IsClash, names_of_items}
+use Rattle.wit_externs.specs.Clash.{names_of_items}
 use Rattle.wit_externs.proofs.AloneFaults.{function_safe, function_same, safe_arena, safe_of}
-use Rattle.wit_externs.proofs.Clashing.{clash_whole, sides_more}
-use Rattle.wit_externs.proofs.DoneFunctions.{scope_next, item_next, made_to, place_within, done_more, done_all, refused_among, same_name}
+use Rattle.wit_externs.proofs.Clashing.{sides_more}
+use Rattle.wit_externs.proofs.DoneFunctions.{scope_next, item_next, made_to, place_within, done_more, done_all, same_name}
 use Rattle.wit_externs.proofs.Steps.{used_next}
 use Rattle.wit_externs.proofs.scope_functions.resolve_functions.Goals as goal
 
@@ -44,23 +40,6 @@ resolve_function-requires-clause-place c =
 
 pub returns-in_err-function-clause-extended : goal.returns-in_err-function-clause-extended
 returns-in_err-function-clause-extended c = extended_then c.args.types.now c.loop-borrowed.types c.resolve_function.new.types c.loop-borrowed.invariant.done.extended c.in_err-function.ensures.extended
-
-pub returns-in_err-function-clause-refused : goal.returns-in_err-function-clause-refused
-returns-in_err-function-clause-refused c =
-    let p = err_from_is_err_and c.from_residual-in_err-function.result c.from_residual-in_err-function.ensures.1 in
-    let i = c.loop-borrowed.borrowed-index in
-    let h = c.borrowed-item.result in
-    let fn = function_view h in
-    let fns = functions_view c.args.scope in
-    let at : slice_get c.args.scope.functions.now i ≡ Some h = slice_get_read c.args.scope.functions.now _ i h refl c.loop-borrowed-test.true c.borrowed-item.is in
-    let here : slice_get fns i ≡ Some fn = scope_next c.args.scope i h at in
-    let made = made_to fns i fn c.loop-borrowed.functions.items here c.loop-borrowed.invariant.done.named in
-    let count : c.len.result ≡ i = omega (arith, c.len.ensures, c.loop-borrowed.functions.ok, made) in
-    let there : slice_get fns c.len.result ≡ Some fn = ap (slice_get fns) count ∙ here in
-    let env = env_of c.args.scope.names.now in
-    let new = c.resolve_function.new.types in
-    let old : WorldSide → List Name = λ s. defined_on s c.args.in_use.now in
-    rw (p.1, p.2) (λ xs scope. refused_weaker (IsWrongFunctionAmong env new xs fns) (λ (f : Fault). IsWrongFunctionAmong env new xs fns f ⊎ IsClash old (map SideFunction fns) f) _ (λ f wrong. inl wrong) (refused_among env new xs fns c.len.result fn _ there (refused_as (function_broken c.args.scope new xs scope c.len.result fn there) (c.in_err-function.ensures.first xs scope fn there))))
 
 pub returns-in_err-function-clause-first : goal.returns-in_err-function-clause-first
 returns-in_err-function-clause-first c =
@@ -102,21 +81,6 @@ define_alone-requires-clause-borrowed c =
 pub returns-in_err-define_alone-clause-extended : goal.returns-in_err-define_alone-clause-extended
 returns-in_err-define_alone-clause-extended c = extended_then c.args.types.now c.loop-borrowed.types c.resolve_function.new.types c.loop-borrowed.invariant.done.extended c.in_ok-function.ensures.extended
 
-pub returns-in_err-define_alone-clause-refused : goal.returns-in_err-define_alone-clause-refused
-returns-in_err-define_alone-clause-refused c =
-    let p = err_from_is_err_and c.from_residual-in_err-define_alone.result c.from_residual-in_err-define_alone.ensures.1 in
-    let i = c.loop-borrowed.borrowed-index in
-    let h = c.borrowed-item.result in
-    let fn = function_view h in
-    let fns = functions_view c.args.scope in
-    let at : slice_get c.args.scope.functions.now i ≡ Some h = slice_get_read c.args.scope.functions.now _ i h refl c.loop-borrowed-test.true c.borrowed-item.is in
-    let item = item_next fns i fn (scope_next c.args.scope i h at) in
-    let env = env_of c.args.scope.names.now in
-    let new = c.resolve_function.new.types in
-    let old : WorldSide → List Name = λ s. defined_on s c.args.in_use.now in
-    let mid : WorldSide → List Name = λ s. defined_on s c.loop-borrowed.in_use in
-    rw (p.1, p.2) (λ xs scope. refused_weaker (IsClash mid (SideFunction fn ∷ [])) (λ (f : Fault). IsWrongFunctionAmong env new xs fns f ⊎ IsClash old (map SideFunction fns) f) _ (λ f clash. inr (clash_whole old mid (map SideFunction fns) i (SideFunction fn) f item c.loop-borrowed.invariant.defined clash)) c.in_err-define_alone.ensures.refused)
-
 -- the names on the side of a function, once those before it are defined
 names_before : (old mid : WorldSide → List Name) (fns : List SourceFunction) (i : ℕ) → ((s : WorldSide) → mid s ≡ old s ++ names_of_items (items_on s (take i (map SideFunction fns)))) → (s : WorldSide) → mid s ≡ old s ++ names_of_items (items_on s (map SideFunction (take i fns)))
 names_before old mid fns i defined s = defined s ∙ ap (λ (l : List SideItem). old s ++ names_of_items (items_on s l)) (take-map SideFunction i fns)
@@ -152,11 +116,6 @@ returns-in_err-define_alone-clause-first c =
 pub returns-in_err-reserve-clause-extended : goal.returns-in_err-reserve-clause-extended
 returns-in_err-reserve-clause-extended c = extended_then c.args.types.now c.loop-borrowed.types c.resolve_function.new.types c.loop-borrowed.invariant.done.extended c.in_ok-function.ensures.extended
 
-pub returns-in_err-reserve-clause-refused : goal.returns-in_err-reserve-clause-refused
-returns-in_err-reserve-clause-refused c =
-    let p = err_from_is_err_and c.from_residual-in_err-reserve.result c.from_residual-in_err-reserve.ensures.1 in
-    rw p.1 (λ xs scope. inl p.2)
-
 pub returns-in_err-reserve-clause-first : goal.returns-in_err-reserve-clause-first
 returns-in_err-reserve-clause-first c =
     let p = err_from_is_err_and c.from_residual-in_err-reserve.result c.from_residual-in_err-reserve.ensures.1 in
@@ -179,7 +138,7 @@ loop-borrowed-preserved c =
     let says = c.in_ok-function.ensures in
     let made_one = c.in_ok-function.function in
     record {
-      done = done_more c.args.types.now c.loop-borrowed.types c.resolve_function.new.types c.args.scope (take i fns) (take (i + 1) fns) fn c.loop-borrowed.functions.items c.push_reserved.new.self.items made_one c.args.required.now.items c.loop-borrowed.required.items c.resolve_function.new.required.items (used_next fns i fn here) (rw c.reserve.ensures.items at c.push_reserved.ensures.items) (says.adds fn there) (says.named fn there) says.mangled (λ zs scope. subst (λ (n : ℕ). (e : Fault) → IsBrokenFunction zs fns n fn e → IsNameless zs fns) (count ∙ sym made) (function_legal c.args.scope c.resolve_function.new.types zs c.len.result fn there (says.first zs scope fn there))) (says.handled fn there) says.extended was.done;
+      done = done_more c.args.types.now c.loop-borrowed.types c.resolve_function.new.types c.args.scope (take i fns) (take (i + 1) fns) fn c.loop-borrowed.functions.items c.push_reserved.new.self.items made_one c.args.required.now.items c.loop-borrowed.required.items c.resolve_function.new.required.items (used_next fns i fn here) (rw c.reserve.ensures.items at c.push_reserved.ensures.items) (says.adds fn there) (says.named fn there) says.mangled (says.handled fn there) says.extended was.done;
       defined = λ s. sides_more s (defined_on s c.args.in_use.now) (defined_on s c.loop-borrowed.in_use) (defined_on s c.define_alone.new.in_use) xs i (SideFunction fn) item (was.defined s) (c.in_ok-define_alone.ensures.defined s);
       differ = λ s before. c.in_ok-define_alone.ensures.differ s (was.differ s before);
       first = λ zs scope_is handle safe. (
@@ -198,9 +157,6 @@ returns-clause-adds c = (done_all c.args.types.now c.loop-borrowed.types c.args.
 
 pub returns-clause-named : goal.returns-clause-named
 returns-clause-named c = (done_all c.args.types.now c.loop-borrowed.types c.args.scope c.loop-borrowed.borrowed-index c.loop-borrowed.functions.items c.args.required.now.items c.loop-borrowed.required.items (omega arith) c.loop-borrowed.invariant.done).named
-
-pub returns-clause-legal : goal.returns-clause-legal
-returns-clause-legal c = (done_all c.args.types.now c.loop-borrowed.types c.args.scope c.loop-borrowed.borrowed-index c.loop-borrowed.functions.items c.args.required.now.items c.loop-borrowed.required.items (omega arith) c.loop-borrowed.invariant.done).legal
 
 pub returns-clause-handled : goal.returns-clause-handled
 returns-clause-handled c = (done_all c.args.types.now c.loop-borrowed.types c.args.scope c.loop-borrowed.borrowed-index c.loop-borrowed.functions.items c.args.required.now.items c.loop-borrowed.required.items (omega arith) c.loop-borrowed.invariant.done).handled
