@@ -286,12 +286,6 @@ item_names_differ files none = repeat_differs item_name (λ (i : Item). fault 5 
 pub top_names_agree : (file : PackageFile) → Agrees (top_names_fault file) (IsSecond top_text (λ (n : TopName). fault 6 n.id.span) (top_names file))
 top_names_agree file = repeat_agrees top_text (λ (n : TopName). fault 6 n.id.span) (top_names file)
 
-pub top_names_differ : (file : PackageFile) → top_names_fault file ≡ None → AllDiffer (map top_text (top_names file))
-top_names_differ file none = repeat_differs top_text (λ (n : TopName). fault 6 n.id.span) (top_names file) none
-
-pub local_names_agree : (ids : List Id) → Agrees (local_names_fault ids) (IsSecond (λ (id : Id). id.name.now) (λ (id : Id). fault 14 id.span) ids)
-local_names_agree ids = repeat_agrees (λ (id : Id). id.name.now) (λ (id : Id). fault 14 id.span) ids
-
 pub local_names_differ : (ids : List Id) → local_names_fault ids ≡ None → AllDiffer (map (λ (id : Id). id.name.now) ids)
 local_names_differ ids none = repeat_differs (λ (id : Id). id.name.now) (λ (id : Id). fault 14 id.span) ids none
 
@@ -329,9 +323,6 @@ members_unbroken number name span xs none f broken =
       | inr repeat ↦ (names_agree (map name xs)).unbroken both.1 f repeat
     ]
 
-pub members_agree : {X : Type 0} (number : ℕ) (name : X → Id) (span : Span) (xs : List X) → Agrees (members_fault number name span xs) (AreBroken number name xs span)
-members_agree number name span xs = record { broken = members_broken number name span xs; unbroken = members_unbroken number name span xs }
-
 -- flags
 flags_broken : (span : Span) (flags : List Flag) (f : Fault) → flags_fault span flags ≡ Some f → AreBroken 20 (λ (x : Flag). x.name) flags span f ⊎ IsFlagTooMany flags f
 flags_broken span flags f h = elim (or_some (empty_fault 20 flags span) (option_or (flag_fault flags) (names_fault (map (λ (x : Flag). x.name) flags))) f h) [
@@ -353,9 +344,6 @@ flags_unbroken span flags none f broken =
       ]
       | inr many ↦ none-some f (sym rest.0 ∙ many)
     ]
-
-pub flags_agree : (span : Span) (flags : List Flag) → Agrees (flags_fault span flags) (λ f. AreBroken 20 (λ (x : Flag). x.name) flags span f ⊎ IsFlagTooMany flags f)
-flags_agree span flags = record { broken = flags_broken span flags; unbroken = flags_unbroken span flags }
 
 -- the list in the body of a definition
 list_broken : (b : TypeBody) (f : Fault) → list_fault b ≡ Some f → IsBrokenList b f

@@ -172,7 +172,3 @@ reports_back {first} {second} none report = reports_same (sym (ap (λ (o : Optio
 
 pub none_both : {first second : Option Fault} → first ≡ None → second ≡ None → option_or first second ≡ None
 none_both {first} {second} none both = ap (λ (o : Option Fault). option_or o second) none ∙ both
-
--- and it refuses what that fault is
-pub refused_as : {first : Option Fault} {Broken : Fault → Type 0} {e : ParseError} → ((f : Fault) → first ≡ Some f → Broken f) → Reports first e → Refused Broken e
-refused_as broken report = elim report [ inl memory ↦ inl memory | inr is ↦ inr (broken _ is) ]

@@ -19,15 +19,6 @@ use Rattle.wit_syntax.proofs.Names.{name_equal, name_itself}
 use Rattle.wit_first.specs.FunctionFaults.{params_fault, given_fault, getter_fault, no_result_fault, setter_fault, is_written_as, made_fault, result_fault, gives_fault}
 use Rattle.wit_first.specs.Laws.{Agrees}
 
--- a setter with another number of parameters than one
-setter_first : (params : List Param) (span : Span) (f : Fault) → (length params ≡ 1 → ⊥) → f ≡ fault 37 (option_map_or (λ (p : Param). p.name.span) (slice_get params 1) span) → params_fault form.Setter params span ≡ Some f
-setter_first [] span f other is = ap Some (sym is)
-setter_first (x ∷ []) span f other is = absurd (other refl)
-setter_first (x ∷ y ∷ rest) span f other is = ap Some (sym is)
-
-pub setter_given : (fn : SourceFunction) (f : Fault) → IsSetterGiven fn f → given_fault fn ≡ Some f
-setter_given fn f h = subst (λ (w : FuncForm). params_fault w fn.func.params.items fn.func.span ≡ Some f) (sym h.0) (setter_first fn.func.params.items fn.func.span f h.1 h.2)
-
 -- what a function is given
 abbrev IsGiven : FuncForm → List Param → Span → Fault → Type 0
 IsGiven w params span f =

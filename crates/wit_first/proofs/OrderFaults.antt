@@ -26,10 +26,6 @@ pub or_neither : (IsLater : Option Fault → Type 0) (earlier : Option Fault) �
 or_neither IsLater None h = (refl, h)
 or_neither IsLater (Some f) h = absurd (let none : None ≡ Some f = h in let g : ⊥ = cc in g)
 
--- an error that reports it refuses a broken rule
-pub refused_as : (IsFirst : Option Fault → Type 0) (Broken : Fault → Type 0) (e : ParseError) → AgreesBy IsFirst Broken → IsAllocationFailure e ⊎ IsFirst (Some (fault_of e)) → Refused Broken e
-refused_as IsFirst Broken e agrees report = elim report [ inl memory ↦ inl memory | inr is ↦ inr (agrees.broken (fault_of e) is) ]
-
 -- an error that reports an earlier fault
 pub reports_or : (IsLater : Option Fault → Type 0) (earlier : Option Fault) (e : ParseError) → Reports earlier e → IsAllocationFailure e ⊎ IsOr earlier IsLater (Some (fault_of e))
 reports_or IsLater earlier e report = elim report [ inl memory ↦ inl memory | inr is ↦ inr (or_prefix IsLater earlier (fault_of e) is) ]

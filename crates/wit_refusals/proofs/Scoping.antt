@@ -145,8 +145,3 @@ first-lone names place n e at first r = elim r [
     is = h.2;
   })
 ]
-
--- nothing was found
-pub not_some : {X : Type 0} (r : Option (Bor X)) → ((x : Bor X) → r ≡ Some x → ⊥) → option_copied r ≡ None
-not_some None h = refl
-not_some (Some x) h = absurd (h x refl)

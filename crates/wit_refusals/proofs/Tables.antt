@@ -36,15 +36,3 @@ lookup-none {V} (x ∷ es) key i e none at is = elim (name_cases key x.0) [
     further : (i : ℕ) → slice_get (x ∷ es) i ≡ Some e → ((j : ℕ) → slice_get es j ≡ Some e → ⊥) → ⊥
     further zero at rest = let here : x ≡ e = cc in hit (sym is ∙ sym (ap (λ (y : List ℕ × V). y.0) here))
     further (suc i) at rest = rest i at
-
--- a new key comes last
-pub insert_entry-last : {V : Type 0} (es : List (List ℕ × V)) (key : List ℕ) (v : V) → lookup (pointwise nat_eq key) es ≡ None → insert_entry (pointwise nat_eq) es key v ≡ es ++ (key, v) ∷ []
-insert_entry-last [] key v none = refl
-insert_entry-last (e ∷ es) key v none = elim (name_cases key e.0) [
-  | inl same ↦ absurd (
-      let hit : pointwise nat_eq key e.0 ≡ true = ap (λ n. pointwise nat_eq n e.0) same ∙ name_itself e.0 in
-      let wrong : Some e.1 ≡ None = rw hit at none in
-      let f : ⊥ = cc in
-      f)
-  | inr other ↦ (let rest = rw other at none in rw other (ap (λ l. e ∷ l) (insert_entry-last es key v rest)))
-]

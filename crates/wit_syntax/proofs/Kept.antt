@@ -79,14 +79,6 @@ module _ {X K : Type 0} (key : X → K) where
         | inr miss ↦ subst (λ (l : List X). AllDiffer (map key l)) (sym (cond-false (test x) (x ∷ filter test xs) (filter test xs) miss)) rest
       ]
 
--- what a test keeps of those at the first places is in the prefix of what it keeps of all
-pub kept_prefix : {X : Type 0} (test : X → Bool) (xs : List X) (places : List ℕ) (n i : ℕ) (x : X) → slice_get (filter test (in_order xs (take n places))) i ≡ Some x → slice_get (filter test (in_order xs places)) i ≡ Some x
-kept_prefix test xs places n i x at =
-    let prefix = in_order xs (take n places) in
-    let back = in_order xs (drop n places) in
-    let whole : filter test (in_order xs places) ≡ filter test prefix ++ filter test back = ap (λ ps. filter test (in_order xs ps)) (sym (take-append-drop n places)) ∙ ap (filter test) (in_order-append xs (take n places) (drop n places)) ∙ filter-append test prefix back in
-    ap (λ l. slice_get l i) whole ∙ at_prefix (filter test prefix) (filter test back) i x at
-
 -- and one of those at the first places that passes it is kept
 pub kept_early : {X : Type 0} (test : X → Bool) (xs : List X) (places : List ℕ) (n t q : ℕ) (x : X) → t < n → slice_get places t ≡ Some q → slice_get xs q ≡ Some x → test x ≡ true → (i : ℕ) × (slice_get (filter test (in_order xs (take n places))) i ≡ Some x)
 kept_early test xs places n t q x lt at there passes =

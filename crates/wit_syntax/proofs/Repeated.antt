@@ -20,13 +20,6 @@ called_key c = folded_key c.name
 pub key_at : {X : Type 0} (key : X → List ℕ) (xs : List X) (i : ℕ) (x : X) → slice_get xs i ≡ Some x → slice_get (map key xs) i ≡ Some (key x)
 key_at key xs i x h = slice_get-map key xs i ∙ ap (option_map key) h
 
--- a key that occurs twice is that of an item after another
-pub repeated_key : {X : Type 0} (key : X → List ℕ) (xs : List X) (first second : ℕ) (later : X) → IsRepeatAt (map key xs) first second → slice_get xs second ≡ Some later → IsRepeated key xs later
-repeated_key key xs first second later r at =
-    let one = map_at key xs first r.x r.at_first in
-    let other : Some r.x ≡ Some (key later) = sym r.at_second ∙ key_at key xs second later at in
-    (first, second, r.before, one.0, one.1, at, one.2 ∙ (let same : r.x ≡ key later = cc in same))
-
 -- where all keys differ, no item has the key of an earlier one
 pub no_repeat : {X : Type 0} (key : X → List ℕ) (xs : List X) (later : X) → AllDiffer (map key xs) → IsRepeated key xs later → ⊥
 no_repeat key xs later d r =

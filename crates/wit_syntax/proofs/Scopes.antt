@@ -129,29 +129,6 @@ scope_item_at (v ∷ ws) w j i own found at =
           f)) ∙ scope_item_at ws w j i (λ t. own (suc t)) rest at)
     ]
 
--- what is first at an address among declared items does so among all scopes
-first_at : (ws : List Item) (s : Address) (w : Item) → AreDeclared ws → is_inside s ≡ false → item_at ws s ≡ Some w → item_at (flat_map with_inline ws) s ≡ Some w
-first_at [] s w own outside found = absurd (let f : ⊥ = cc in f)
-first_at (v ∷ ws) s w own outside found =
-    let test = λ (u : Item). same_address (address u) s in
-    elim (cases_Bool (same_address (address v) s)) [
-      | inl hit ↦ (let here : Some v ≡ Some w = rw hit at found in rw hit here)
-      | inr miss ↦ (
-          let rest = first_at ws s w (λ t. own (suc t)) outside (rw miss at found) in
-          let past = find_past test (inline_items v) (flat_map with_inline ws) (λ m u at same. (
-          let wrong : true ≡ false = sym (inline_inside v m u at) ∙ ap is_inside (same_address-equal (address u) s same) ∙ outside in
-          let f : ⊥ = cc in
-          f)) in
-          rw miss (past ∙ rest))
-    ]
-
-pub declared_at : (files : List PackageFile) (s : Address) (w : Item) → item_at (all_items files) s ≡ Some w → item_at (all_scopes files) s ≡ Some w
-declared_at files s w found =
-    let test = λ (u : Item). same_address (address u) s in
-    let it = find_at test (all_items files) w found in
-    let outside : is_inside s ≡ false = ap is_inside (sym (same_address-equal (address w) s (find_passes test (all_items files) w found))) ∙ all_declared files it.0 w it.1 in
-    first_at (all_items files) s w (all_declared files) outside found
-
 module _ (files : List PackageFile) where
   -- a declared item is one of all scopes, and so is one that is written in it
   pub scopes_declared : (w : Item) → Contains (all_items files) w → Contains (all_scopes files) w

@@ -30,22 +30,3 @@ declared_includes (TheInline world place x name items) own = parts_include items
 -- an interface includes nothing
 pub includes_none : (i : Item) → is_world i ≡ false → includes i ≡ []
 includes_none i own = declared_includes i.declared own
-
--- all its functions are imported, and none is exported
-all_imported : (i : Item) → is_world i ≡ false → on_side Imported (functions i) ≡ functions i
-all_imported i own = kept_all (λ fn. same_side Imported (role_side fn.role)) (functions i) (λ k fn at. ap (same_side Imported) (functions_imported i own k fn at))
-
-none_exported : (i : Item) → is_world i ≡ false → on_side Exported (functions i) ≡ []
-none_exported i own = kept_none (λ fn. same_side Exported (role_side fn.role)) (functions i) (λ k fn at. ap (same_side Exported) (functions_imported i own k fn at))
-
--- so a setter without its getter among them is alone
-pub alone_among : (i : Item) → is_world i ≡ false → (f : Fault) → IsUnpairedSetter (functions i) f → IsSetterAlone i f
-alone_among i own f h = (includes_none i own, Imported, subst (λ (l : List SourceFunction). IsUnpairedSetter l f) (sym (all_imported i own)) h)
-
--- and none is alone but such a one
-pub among_alone : (i : Item) → is_world i ≡ false → (f : Fault) → IsSetterAlone i f → IsUnpairedSetter (functions i) f
-among_alone i own f h = go h.1 h.2
-  where
-    go : (side : WorldSide) → IsUnpairedSetter (on_side side (functions i)) f → IsUnpairedSetter (functions i) f
-    go Imported alone = subst (λ (l : List SourceFunction). IsUnpairedSetter l f) (all_imported i own) alone
-    go Exported alone = absurd (let at = at_contains [] alone.0 (subst (λ (l : List SourceFunction). Contains l alone.0) (none_exported i own) alone.1) in let g : ⊥ = (let wrong = at.1 in cc) in g)
