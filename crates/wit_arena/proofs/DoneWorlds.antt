@@ -22,7 +22,6 @@ use Rattle.wit_syntax.specs.Shape.{all_handles, handles}
 use Rattle.wit_type_tree.specs.declared.types.«Type».{«Type» as Written}
 use Rattle.wit_syntax.specs.Sides.{FunctionKey, side_items, inline_items, SideItem, SideFunction, SideLink, SideInline, item_inline, inline_after}
 use Rattle.wit_syntax.specs.Source.{address, Item, TopName, leads, ScopeName, about, declared_metadata, target_scope}
-use Rattle.wit_syntax.specs.ScopesOfTrees.{scope}
 use Rattle.wit_syntax.specs.Foreign.{visited, foreign_interfaces}
 use Rattle.wit_syntax.specs.ScopeTables.{includes, local_names}
 use Rattle.wit_syntax.specs.Fault.{Fault}

@@ -27,7 +27,7 @@ use Rattle.wit_syntax.proofs.Scopes.{inside_one}
 use Rattle.wit_arena.specs.Occurrences.{Occurrence}
 use Rattle.wit_arena.specs.ResolvedArenas.{interfaces_at, worlds_at, WorldArenas, AddsScope, AddsSides, AddsForeign, AreUsableUses}
 use Rattle.wit_arena.specs.Resolving.{Names, ResolvedScope, Required, resolved_scopes, Defines}
-use Rattle.wit_arena.specs.Whole.{Ordered, Turned, addresses, all_turns, all_inside, all_occurrences}
+use Rattle.wit_arena.specs.Whole.{Ordered, Turned, all_turns, all_inside, all_occurrences}
 use Rattle.wit_syntax.specs.Source as source
 use Rattle.wit_arena.proofs.Added.{InterfacesDone, WorldOwner, inside_of, interface_list, world_list, decls, defines_wider, prefix_apart, resolved_scopes_among, next_world, inline_declared, world_item_declared}
 use Rattle.wit_arena.proofs.Sided.{AreSided, IsFreshInside, are_sided}

@@ -8,7 +8,6 @@ use Rattle.wit_types.specs.declared.types.Field.{Field}
 use Rattle.wit_types.specs.declared.types.Flag.{Flag}
 use Rattle.wit_types.specs.declared.types.Case.{Case}
 use Rattle.wit_types.specs.declared.types.EnumCase.{EnumCase}
-use Rattle.wit_types.specs.declared.types.Handle.{Handle}
 use Rattle.wit_types.specs.declared.types.Handle.TheVariants.{Own, Borrow}
 use Rattle.wit_types.specs.declared.types.TypeDefKind.{TypeDefKind}
 use Rattle.wit_types.specs.declared.types.TypeDefKind.TheVariants as kind

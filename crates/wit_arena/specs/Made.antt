@@ -31,10 +31,9 @@ use Rattle.wit_model.specs.declared.world.WorldItem.{WorldItem}
 use Rattle.wit_model.specs.declared.world.WorldItem.TheVariants as item
 use Rattle.wit_model.specs.declared.unresolved.UnresolvedPackage.{UnresolvedPackage}
 use Rattle.wit_graph.specs.Table.{IsOrder}
-use Rattle.wit_syntax.specs.Form.{Form}
 use Rattle.wit_syntax.specs.Repeats.{firsts}
 use Rattle.wit_syntax.specs.ExternPart.{same_side}
-use Rattle.wit_syntax.specs.Address.{Address, package_of, same_address, WorldNamed}
+use Rattle.wit_syntax.specs.Address.{Address, package_of, WorldNamed}
 use Rattle.wit_syntax.specs.Node.{primitive_type}
 use Rattle.wit_syntax.specs.Metadata.{Metadata, metadata, docs_of, no_docs, no_metadata, stability_of, first_known}
 use Rattle.wit_syntax.specs.Source.{path_id, path_scope, leads, TopName, Item, address, ScopeName, all_items, scope_names, local_name, local_id, ForeignUse, first_foreign_uses, about, declared_metadata, target_scope, about_name}

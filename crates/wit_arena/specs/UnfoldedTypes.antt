@@ -4,7 +4,6 @@ use Rattle.std.specs.List.{flat_map, filter}
 use Rattle.std.specs.Option.{option_map, option_map_or, option_and_then, option_or, option_to_list}
 use Rattle.wit_functions.specs.declared.function.Function.{Function}
 use Rattle.wit_functions.specs.declared.function.Param.{Param}
-use Rattle.wit_type_tree.specs.declared.leaves.Id.{Id}
 use Rattle.wit_model.specs.declared.ast_item.AstItem.{AstItem}
 use Rattle.wit_model.specs.declared.ast_item.AstItem.TheVariants as entry
 use Rattle.wit_package_names.specs.declared.package_name.PackageName.{PackageName}

@@ -1,5 +1,5 @@
 -- The first fault of files from a step of the walk on: of their names, of uses, and of what is in interfaces and worlds.
-use Rattle.std.proofs.Common.{◌≡◌, ◌⊎◌, ℕ, List, [], ◌++◌, Option, Some, None, inl, inr, refl, sym, ap, ◌∙◌, subst}
+use Rattle.std.proofs.Common.{◌≡◌, ℕ, List, Option, Some, None, inl, inr, refl, sym, ap, ◌∙◌, subst}
 use Rattle.std.specs.Prelude.{Result, Ok, Err, IfErr}
 use Rattle.std.specs.Option.{option_or}
 use Rattle.wit_type_tree.specs.RefusalText.{IsAllocationFailure}
@@ -7,7 +7,7 @@ use Rattle.wit_type_tree.specs.declared.error.ParseError.{ParseError}
 use Rattle.wit_type_tree.specs.declared.leaves.Id.{Id}
 use Rattle.wit_tree.specs.declared.tree.PackageFile.{PackageFile}
 use Rattle.wit_graph.specs.Table.{Row, IsOrder}
-use Rattle.wit_syntax.specs.Fault.{Fault, cyclic_at, fault_of, item_word, missing_at}
+use Rattle.wit_syntax.specs.Fault.{Fault, cyclic_at, item_word, missing_at}
 use Rattle.wit_syntax.specs.Foreign.{foreign_visits}
 use Rattle.wit_syntax.specs.ScopeTables.{in_order, interfaces_of, item_rows, worlds_of}
 use Rattle.wit_syntax.specs.Source.{Item, all_items}

@@ -12,7 +12,7 @@ use Rattle.wit_model.specs.declared.interface.Interface.{Interface}
 use Rattle.wit_syntax.specs.Address.{Address}
 use Rattle.wit_syntax.specs.Fault.{Fault, cyclic_at, missing_type_at, type_word}
 use Rattle.wit_syntax.specs.ScopeTables.{AreDistinct, defined, in_order, in_turn, rows_of, used}
-use Rattle.wit_syntax.specs.Source.{Item, ScopeName, address, is_world, local_id, local_name, scope_names}
+use Rattle.wit_syntax.specs.Source.{Item, ScopeName, address, is_world, local_id, scope_names}
 use Rattle.wit_syntax.proofs.Found.{contains_at}
 use Rattle.wit_syntax.proofs.Turns.{distinct_names, used_at}
 use Rattle.wit_first.specs.NameFaults.{local_names_fault}

@@ -4,7 +4,6 @@ use Rattle.wit_types.specs.declared.types.TypeDef.{TypeDef}
 use Rattle.wit_types.specs.declared.types.TypeOwner.{TypeOwner}
 use Rattle.wit_functions.specs.declared.function.Function.{Function}
 use Rattle.wit_model.specs.declared.interface.Interface.{Interface}
-use Rattle.wit_syntax.specs.Function.{functions}
 use Rattle.wit_syntax.specs.ScopeTables.{in_order, interfaces_of}
 use Rattle.wit_syntax.specs.Source.{Item}
 use Rattle.wit_arena.specs.SourceFunctions.{placed_functions}

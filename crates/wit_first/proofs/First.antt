@@ -6,7 +6,6 @@ use Rattle.std.specs.Str.{bytes_eq}
 use Rattle.std.specs.Option.{option_or}
 use Rattle.std.proofs.lemmas.List.{append-nil, map-append, take_all, take_more, take-map}
 use Rattle.wit_type_tree.specs.declared.error.ParseError.{ParseError}
-use Rattle.wit_syntax.specs.Broken.{Refused}
 use Rattle.wit_syntax.specs.Fault.{Fault, fault_of}
 use Rattle.wit_first.specs.First.{first_in, first_after, Reports, repeat_of, first_repeat}
 use Rattle.std.proofs.lemmas.Bool.{false_from_ne_true}

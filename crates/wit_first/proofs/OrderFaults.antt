@@ -4,10 +4,9 @@ use Rattle.wit_type_tree.specs.declared.leaves.Id.{Id}
 use Rattle.wit_type_tree.specs.declared.error.ParseError.{ParseError}
 use Rattle.wit_type_tree.specs.RefusalText.{IsAllocationFailure}
 use Rattle.wit_graph.specs.Table.{Row}
-use Rattle.wit_syntax.specs.Broken.{IsMissingEdge, IsCyclicEdge, Refused}
+use Rattle.wit_syntax.specs.Broken.{IsMissingEdge, IsCyclicEdge}
 use Rattle.wit_syntax.specs.Fault.{Fault, fault_of, cyclic_at}
 use Rattle.wit_first.specs.First.{IsOr, Reports}
-use Rattle.wit_first.specs.Laws.{AgreesBy}
 use Rattle.wit_first.specs.OrderFaults.{IsOrderFault}
 
 -- an earlier fault, or none

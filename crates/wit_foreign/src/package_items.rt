@@ -4,7 +4,7 @@ ghost use Rattle.std.specs.Cmp.Lexicographic.{pointwise};
 ghost use Rattle.std.specs.Map.{lookup};
 ghost use Rattle.std.specs.Option.{is_some};
 ghost use Rattle.indexmap.specs.IndexMap.{insert_entry};
-ghost use Rattle.wit_foreign.specs.Kept.{item_more, row_more};
+ghost use Rattle.wit_foreign.specs.Kept.{row_more};
 
 use std::alloc::{AllocError, Global};
 use wit_maps::TextTable;

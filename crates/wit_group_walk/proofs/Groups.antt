@@ -4,7 +4,6 @@ use Rattle.std.specs.Prelude.{string_bytes}
 use Rattle.std.specs.List.{AllZip}
 use Rattle.std.specs.Option.{option_or}
 use Rattle.std.proofs.lemmas.List.{append-nil, map-append}
-use Rattle.wit_tree.specs.declared.tree.NestedPackage.{NestedPackage}
 use Rattle.wit_tree.specs.declared.tree.PackageFile.{PackageFile}
 use Rattle.wit_tree.specs.declared.tree.SourceFile.{SourceFile}
 use Rattle.wit_type_tree.specs.declared.error.ParseError.{ParseError}
@@ -20,7 +19,6 @@ use Rattle.wit_first.specs.First.{first_after}
 use Rattle.wit_first.proofs.Bridge.{or_none_both}
 use Rattle.wit_first.proofs.First.{or_none}
 use Rattle.wit_nested.specs.Nested.{GrowByNested, IsMadeByNested, IsUnfit}
-use Rattle.wit_nested.specs.PackageNames.{AreNamedApart}
 use Rattle.wit_groups.specs.Groups.{AreRefused, AreUsed, IsGroup, IsRefused, IsTree}
 use Rattle.wit_groups.specs.Groups.AreRefused.{Unread, Unfit, Illegal, Repeated}
 use Rattle.wit_groups.specs.Groups.AreUsed.{None as NoneUsed, More}

@@ -1,6 +1,6 @@
 -- Sources that are refused come to the refusal, and those that make a group to none.
 use Rattle.std.proofs.Common.{◌≡◌, ◌⊎◌, ℕ, ◌+◌, ◌<◌, suc, List, [], ◌∷◌, ◌++◌, Bor, length, get_or, map, take, drop, Option, Some, None, inl, inr, refl, sym, ap, ◌∙◌, subst}
-use Rattle.std.specs.Prelude.{Result, Ok, Err, IfErr, IfOk, MatchResult, string_bytes}
+use Rattle.std.specs.Prelude.{Result, Ok, Err, IfErr, IfOk, string_bytes}
 use Rattle.std.specs.List.{AllZip}
 use Rattle.std.proofs.lemmas.List.{append-nil}
 use Rattle.wit_values.specs.declared.span.Span.{Span}
@@ -13,7 +13,6 @@ use Rattle.wit_tree.specs.declared.tree.SourceFile.{SourceFile}
 use Rattle.wit_lex.specs.declared.fault.ReadFault.{ReadFault}
 use Rattle.wit_lex.specs.declared.fault.ReadError.TheVariants.{Fault as Stopped, OutOfMemory as Wanting}
 use Rattle.wit_lex.specs.TextFaults.{ReportsFault, rule_of}
-use Rattle.wit_lex.specs.Sources.{IsTooLarge}
 use Rattle.wit_lex.specs.declared.source.Source.{Source}
 use Rattle.wit_lex.specs.declared.source_map.SourceMap.{SourceMap}
 use Rattle.wit_bundle.specs.SourcePaths.{IsByPath}

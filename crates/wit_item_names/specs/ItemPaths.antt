@@ -1,16 +1,15 @@
 -- Parts of items that are borrowed, and where their paths to interfaces lead.
-use Rattle.std.specs.Prelude.{◌≡◌, ℕ, ◌<◌, length, true, false, List, [], ◌∷◌, Option, Some, None, Contains, map}
+use Rattle.std.specs.Prelude.{◌≡◌, ℕ, ◌<◌, length, true, false, List, Option, Some, None, Contains, map}
 use Rattle.std.specs.List.{flat_map}
 use Rattle.std.specs.Option.{option_map}
-use Rattle.wit_type_tree.specs.declared.leaves.Id.{Id}
 use Rattle.wit_tree.specs.declared.tree.Use.{Use}
 use Rattle.wit_tree.specs.declared.tree.UsePath.{UsePath}
 use Rattle.wit_tree.specs.declared.tree.PackageFile.{PackageFile}
 use Rattle.wit_model.specs.declared.ast_item.AstItem.{AstItem}
 use Rattle.wit_model.specs.declared.ast_item.AstItem.TheVariants as entry
 use Rattle.wit_syntax.specs.Address.{ForeignNamed}
-use Rattle.wit_syntax.specs.Source.{Target, Local, Foreign, leads, path_id, path_scope, TopName, Declared, Part, DefinitionPart, UsePart, IncludePart, FunctionPart, ExternPart, item_named, all_items, about}
-use Rattle.wit_syntax.specs.ScopeTables.{use_path, uses}
+use Rattle.wit_syntax.specs.Source.{Target, Local, Foreign, leads, path_scope, TopName, Declared, Part, DefinitionPart, UsePart, IncludePart, FunctionPart, ExternPart, item_named, all_items, about}
+use Rattle.wit_syntax.specs.ScopeTables.{use_path}
 use Rattle.wit_syntax.specs.Foreign.{visited, foreign_at, foreign_items, foreign_interfaces}
 use Rattle.wit_arena.specs.Whole.{foreign_entry}
 use Rattle.wit_syntax.specs.Fault.{Fault}

@@ -1,5 +1,5 @@
 -- A text that ends with a sign of ASCII has no white space at its end.
-use Rattle.std.proofs.Common.{◌≡◌, ℕ, ◌+◌, ◌-◌, ◌<◌, ◌≤◌, ◌==◌, ◌&&◌, true, false, Bool, List, [], ◌∷◌, ◌++◌, length, lit<, nat_lt, take, slice_index, refl, sym, ap, ◌∙◌, subst, arith, if◌then◌else◌}
+use Rattle.std.proofs.Common.{◌≡◌, ℕ, ◌+◌, ◌-◌, ◌<◌, ◌==◌, ◌&&◌, true, false, Bool, List, [], ◌∷◌, ◌++◌, length, lit<, nat_lt, take, slice_index, refl, sym, ap, ◌∙◌, arith, if◌then◌else◌}
 use Rattle.std.specs.Char.{is_ascii_graphic, is_whitespace}
 use Rattle.std.specs.Str.{IsCharBoundary, IsUtf8, chars, drop_trailing_whitespace, encode_utf8_all, trim_end}
 use Rattle.std.proofs.lemmas.Bool.{ne_eqb}

@@ -1,6 +1,6 @@
 //! What the attributes of an item say: how stable it is, and its name elsewhere.
 ghost use Rattle.std.specs.Prelude.{◌≡◌, ◌⊎◌, IfOk};
-ghost use Rattle.std.specs.Option.{option_copied, option_map};
+ghost use Rattle.std.specs.Option.{option_copied};
 ghost use Rattle.wit_type_tree.specs.RefusalText.{IsAllocationFailure};
 ghost use Rattle.wit_first.specs.AttributeFaults.{each_once_fault, external_fault, number_of, repeat_fault, stability_fault, together_fault};
 ghost use Rattle.wit_first.specs.First.{Finds};

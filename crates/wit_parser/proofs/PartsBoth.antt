@@ -17,10 +17,10 @@ use Rattle.wit_syntax.specs.Sides.{Link, inline_items, item_link, side_items}
 use Rattle.wit_syntax.specs.Source.{Item, address, leads, path_scope, target_scope}
 use Rattle.wit_syntax.proofs.Lists.{map_at}
 use Rattle.wit_arena.specs.Made.{Makes, foreign_interface, foreign_world, interface_scopes, item_turns, own_interface, own_interfaces, own_world, world_scopes}
-use Rattle.wit_arena.specs.Occurrences.{Key, keys}
+use Rattle.wit_arena.specs.Occurrences.{keys}
 use Rattle.wit_arena.specs.OneByOne.{OneByOne, BothParts}
 use Rattle.wit_arena.specs.UnfoldedTypes.{IsForeignWorld}
-use Rattle.wit_arena.specs.Whole.{Ordered, OrderedWorld, all_inside, all_occurrences, interface_addresses, world_addresses, IsForeignInterface, IsResolvedInterface, IsResolvedWorld}
+use Rattle.wit_arena.specs.Whole.{Ordered, all_inside, all_occurrences, interface_addresses, world_addresses, IsForeignInterface, IsResolvedInterface, IsResolvedWorld}
 use Rattle.wit_arena.proofs.FirstsOf.{firsts-differ}
 use Rattle.wit_parser.proofs.PartsInterfaces.{foreign_interface-is, own_interface-is}
 use Rattle.wit_parser.proofs.PartsKeys.{interface_seen, world_seen, foreign_seen}

@@ -1,6 +1,6 @@
 -- What a function of an item names occurs with the item.
-use Rattle.std.proofs.Common.{◌≡◌, ℕ, zero, suc, List, [], ◌∷◌, ◌++◌, Some, refl, sym, ap, ◌∙◌, subst}
-use Rattle.std.specs.Prelude.{slice_get, map}
+use Rattle.std.proofs.Common.{◌≡◌, ℕ, zero, suc, Some, refl, subst}
+use Rattle.std.specs.Prelude.{slice_get}
 use Rattle.std.specs.List.{flat_map}
 use Rattle.wit_type_tree.specs.declared.leaves.Id.{Id}
 use Rattle.wit_type_tree.specs.declared.types.TypeBody.{TypeBody}
@@ -17,7 +17,7 @@ use Rattle.wit_syntax.proofs.Lists.{flat_map_at, flat_map_has, map_at}
 use Rattle.wit_arena.specs.Expr.{expr_of, exprs_of}
 use Rattle.wit_arena.specs.Occurrences.{Key, Def, Whole, keys, shape_occurrences, shapes_occurrences}
 use Rattle.wit_arena.proofs.Occurrence.{Has}
-use Rattle.wit_parser.proofs.PartsPlaces.{IsPresent, RolePresent, FunctionPresent}
+use Rattle.wit_parser.proofs.PartsPlaces.{IsPresent, RolePresent}
 use Rattle.wit_parser.proofs.PartsReady.{has_last, has_of}
 
 module _ (i : Item) (s : Address) (a : Key → Type 0) (known : (p : ℕ) (x : ScopeName) → slice_get (scope_names i) p ≡ Some x → a (Def s (local_name x))) where

@@ -1,5 +1,5 @@
 -- The name of a package, as its parts say it.
-use Rattle.std.proofs.Common.{◌≡◌, ℕ, List, Option, Some, None, refl, sym, ap, ◌∙◌}
+use Rattle.std.proofs.Common.{◌≡◌, Option, Some, None, refl, sym, ap, ◌∙◌}
 use Rattle.std.specs.Option.{option_map}
 use Rattle.semver.specs.Identifiers.{parts_of}
 use Rattle.semver.specs.declared.Version.{Version}

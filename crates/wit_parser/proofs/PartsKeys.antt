@@ -1,5 +1,5 @@
 -- All that an item names occurs, and all that is taken from another package.
-use Rattle.std.proofs.Common.{◌≡◌, ℕ, zero, suc, ◌+◌, List, [], ◌∷◌, ◌++◌, length, Some, inl, inr, refl, sym, ap, ◌∙◌, subst, arith}
+use Rattle.std.proofs.Common.{◌≡◌, ℕ, zero, suc, ◌+◌, List, [], ◌∷◌, length, Some, inl, inr, refl, sym, ap, ◌∙◌, subst, arith}
 use Rattle.std.specs.Prelude.{slice_get, map}
 use Rattle.std.specs.List.{flat_map}
 use Rattle.std.specs.Option.{option_map}
@@ -14,7 +14,7 @@ use Rattle.wit_syntax.specs.Foreign.{ForeignVisit, visited}
 use Rattle.wit_syntax.specs.Function.{SourceFunction, functions, signature}
 use Rattle.wit_syntax.specs.ScopeTables.{in_order, item_rows, interfaces_of, worlds_of}
 use Rattle.wit_syntax.specs.Sides.{SideItem, SideFunction, SideLink, SideInline, inline_items, item_function, item_inline, side_items}
-use Rattle.wit_syntax.specs.Source.{Item, ScopeName, ForeignUse, address, all_items, local_name, foreign_uses, same_foreign_use}
+use Rattle.wit_syntax.specs.Source.{Item, ScopeName, address, all_items, local_name, foreign_uses, same_foreign_use}
 use Rattle.wit_syntax.specs.ScopesOfTrees.{scope}
 use Rattle.wit_syntax.proofs.Firsts.{firsts_at}
 use Rattle.wit_syntax.proofs.Inline.{length-inline_after}

@@ -1,8 +1,8 @@
 -- What occurs in a scope occurs in an order in which the parts of each come before it.
-use Rattle.std.proofs.Common.{◌≡◌, ◌<◌, ◌≤◌, ℕ, ◌+◌, zero, suc, List, [], ◌∷◌, ◌++◌, length, take, Option, Some, None, IsSome, ◌⊎◌, inl, inr, refl, sym, ap, ◌∙◌, subst, arith, append-nil}
-use Rattle.std.specs.Prelude.{slice_get, slice_index, map, Contains}
-use Rattle.std.specs.List.{flat_map, filter, find}
-use Rattle.std.specs.Option.{option_map, unwrap_or}
+use Rattle.std.proofs.Common.{◌≡◌, ◌<◌, ◌≤◌, ℕ, ◌+◌, zero, suc, List, [], ◌∷◌, ◌++◌, length, take, Option, Some, None, inl, inr, refl, sym, ap, ◌∙◌, subst, arith, append-nil}
+use Rattle.std.specs.Prelude.{slice_get, slice_index, Contains}
+use Rattle.std.specs.List.{flat_map}
+use Rattle.std.specs.Option.{option_map}
 use Rattle.std.specs.Str.{bytes_eq}
 use Rattle.std.proofs.lemmas.Grind.{flat_map-append}
 use Rattle.std.proofs.lemmas.List.{length-map, take_all}
@@ -13,11 +13,11 @@ use Rattle.wit_type_tree.specs.declared.leaves.Attribute.{Attribute}
 use Rattle.wit_type_tree.specs.declared.leaves.Id.{Id}
 use Rattle.wit_graph.specs.Table.{Row, IsEdge, Leads, IsOrder, target}
 use Rattle.wit_syntax.specs.Address.{Address}
-use Rattle.wit_syntax.specs.Broken.{IsLegal, Scope, Function, MissingName}
+use Rattle.wit_syntax.specs.Broken.{IsLegal, Scope, Function}
 use Rattle.wit_syntax.specs.Fault.{fault, missing_at, name_word}
-use Rattle.wit_syntax.specs.Function.{SourceFunction, functions, signature, role_names}
-use Rattle.wit_syntax.specs.ScopeTables.{AreDistinct, rows_of, in_order, in_turn, used, defined, is_defined, needed_ids}
-use Rattle.wit_syntax.specs.Shape.{Shape, words, all_words}
+use Rattle.wit_syntax.specs.Function.{SourceFunction, functions, signature}
+use Rattle.wit_syntax.specs.ScopeTables.{rows_of, in_order, used, defined, is_defined, needed_ids}
+use Rattle.wit_syntax.specs.Shape.{Shape, words}
 use Rattle.wit_syntax.specs.Sides.{all_scopes}
 use Rattle.wit_syntax.specs.SignatureRules.{IsEntered, MissingInSignature, OfFunction, OfNothing}
 use Rattle.wit_syntax.specs.Source.{ScopeName, Used, Defined, ForeignName, about_name, address, local_name, meaning, scope_names}
@@ -29,14 +29,14 @@ use Rattle.wit_syntax.proofs.Names.{name_equal}
 use Rattle.wit_syntax.proofs.Repeated.{differ_at}
 use Rattle.wit_syntax.proofs.Rows.{row_of}
 use Rattle.wit_syntax.proofs.Tables.{place_of-Some}
-use Rattle.wit_syntax.proofs.Turns.{either_at, in_turn_has, names_within, used_at, used_has, used_is}
+use Rattle.wit_syntax.proofs.Turns.{in_turn_has, names_within, used_at, used_has, used_is}
 use Rattle.wit_arena.specs.Occurrences.{Key, Def, Occurrence, keys, name_occurrences, all_function_occurrences}
 use Rattle.wit_arena.specs.Whole.{Ordered, turned, ordered_names, turn_occurrences}
 use Rattle.wit_arena.proofs.Itemizing.{own_names}
 use Rattle.wit_arena.proofs.KnownItems.{IsItem, scope_is}
 use Rattle.wit_arena.proofs.LegalScopes.{names_differ, scope_among}
 use Rattle.wit_arena.proofs.Occurrence.{Has}
-use Rattle.wit_parser.proofs.PartsReady.{After, Ready, has_back, has_prefix, has_last, has_of, ready_all, ready_append, name_ready, functions_ready}
+use Rattle.wit_parser.proofs.PartsReady.{After, Ready, has_prefix, has_last, has_of, ready_all, ready_append, name_ready, functions_ready}
 use Rattle.wit_arena.proofs.Turns.{parts_occurrences}
 
 one_word : (x id : Id) (k : ℕ) → slice_get (x ∷ []) k ≡ Some id → x ≡ id

@@ -14,7 +14,7 @@ use Rattle.wit_model.specs.declared.world.WorldKey.TheVariants as key
 use Rattle.wit_syntax.specs.Address.{Address, WorldNamed}
 use Rattle.wit_syntax.specs.Function.{SourceFunction, functions}
 use Rattle.wit_syntax.specs.ScopeTables.{includes}
-use Rattle.wit_syntax.specs.Sides.{Link, item_function, item_link, side_items, inline_items}
+use Rattle.wit_syntax.specs.Sides.{Link, item_link, side_items, inline_items}
 use Rattle.wit_syntax.specs.Source.{Item, ScopeName, address, leads, local_id, local_name, path_scope, target_scope}
 use Rattle.wit_syntax.proofs.Inline.{length-inline_after}
 use Rattle.wit_syntax.proofs.Legal.{functions_items}

@@ -4,8 +4,7 @@ use Rattle.std.specs.Prelude.{slice_get, map, codes, position}
 use Rattle.std.specs.Cmp.Lexicographic.{pointwise}
 use Rattle.std.specs.Map.{keys_of, lookup}
 use Rattle.std.specs.List.{starts_with}
-use Rattle.std.specs.Option.{option_copied, option_map}
-use denote.Ref.{Bor}
+use Rattle.std.specs.Option.{option_map}
 use Rattle.std.proofs.lemmas.Bool.{cases_Bool}
 use Rattle.std.proofs.lemmas.List.{map-append, take-append-drop}
 use Rattle.std.proofs.lemmas.Option.{slice_get-map}

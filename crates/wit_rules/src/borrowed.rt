@@ -1,7 +1,7 @@
 //! Functions as they are written, before their types are resolved.
-ghost use Rattle.std.specs.Prelude.{◌≡◌, ◌++◌, length, map, IfOk, string_bytes};
+ghost use Rattle.std.specs.Prelude.{◌≡◌, ◌++◌, length, IfOk, string_bytes};
 ghost use Rattle.std.specs.Option.{option_map};
-ghost use Rattle.wit_syntax.specs.Function.{accessor, all_params, dotted, resource_function, written_param};
+ghost use Rattle.wit_syntax.specs.Function.{accessor, all_params, dotted, resource_function};
 ghost use Rattle.wit_syntax.specs.Sides.{role_side};
 ghost use Rattle.wit_rules.specs.BorrowedFunctions.{function_view, owner_of, given_of, made_of, across_of};
 

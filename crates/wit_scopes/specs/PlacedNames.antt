@@ -1,7 +1,6 @@
 -- Names of scopes that are used from interfaces at their places, those of other packages in front.
 use Rattle.std.specs.Prelude.{◌≡◌, ℕ, ⊤, List, Some, slice_get}
 use Rattle.wit_syntax.specs.Address.{Address}
-use Rattle.wit_syntax.specs.Source.{Used, Defined}
 use Rattle.wit_scopes.specs.BorrowedNames.{Borrowed, IsPlaced}
 use Rattle.wit_scopes.specs.declared.scope_name.Named.TheVariants as borrowed
 

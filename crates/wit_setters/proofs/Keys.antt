@@ -1,5 +1,5 @@
 -- Keys that differ still do once setters are placed.
-use Rattle.std.proofs.Common.{◌≡◌, ℕ, zero, suc, Bool, List, [], ◌∷◌, refl, ap, ◌∙◌}
+use Rattle.std.proofs.Common.{◌≡◌, zero, suc, Bool, List, [], ◌∷◌, refl, ap, ◌∙◌}
 use Rattle.std.specs.Prelude.{map}
 use Rattle.wit_functions.proofs.InTurn.{in_turn}
 use Rattle.wit_functions.proofs.Keys.{Differ, Lacks, differ-in_turn}

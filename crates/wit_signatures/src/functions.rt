@@ -4,7 +4,6 @@ ghost use Rattle.wit_type_tree.specs.RefusalText.{IsAllocationFailure};
 ghost use Rattle.wit_types.specs.declared.types.TypeDef.{TypeDef as Entry};
 ghost use Rattle.wit_types.specs.declared.stability.Stability.TheVariants.{Unknown};
 ghost use Rattle.wit_names.specs.Mangled.{is_mangled};
-ghost use Rattle.wit_syntax.specs.Bodies.{folded};
 ghost use Rattle.wit_syntax.specs.Function.{all_params as the_params, self_param as the_self, written_types};
 ghost use Rattle.wit_arena.specs.SourceFunctions.{kinds_of};
 ghost use Rattle.wit_first.specs.First.{Finds};

@@ -1,5 +1,5 @@
 -- Where a name ends by what it means.
-use Rattle.std.proofs.Common.{◌≡◌, Option, None}
+use Rattle.std.proofs.Common.{Option, None}
 use Rattle.std.specs.Option.{option_map_or, unwrap_or}
 use Rattle.wit_syntax.specs.Address.{Address}
 use Rattle.wit_syntax.specs.NameEnds.{End, named_end}

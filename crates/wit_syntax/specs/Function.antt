@@ -23,7 +23,7 @@ use Rattle.wit_type_tree.specs.declared.types.ResourceFunc.TheVariants as resour
 use Rattle.wit_type_tree.specs.TypeParts.{body_types}
 use Rattle.wit_syntax.specs.Form.{BorrowForm}
 use Rattle.wit_syntax.specs.Shape.{Shape, Word, Of, one, shape_of}
-use Rattle.wit_syntax.specs.Source.{Item, Part, DefinitionPart, UsePart, IncludePart, FunctionPart, ExternPart, parts, ScopeName, Used, Defined, ForeignName, scope_names}
+use Rattle.wit_syntax.specs.Source.{Item, Part, DefinitionPart, FunctionPart, ExternPart, parts, ScopeName, Defined, scope_names}
 
 -- what a function is: by itself in an interface, of a resource, or by itself on a side of a world
 pub data Role : Type 0 where

@@ -9,7 +9,7 @@ use Rattle.wit_tree.specs.declared.tree.PackageFile.{PackageFile}
 use Rattle.wit_graph.specs.Table.{Row}
 use Rattle.wit_syntax.specs.ExternPart.{extern_paths, inline_uses}
 use Rattle.wit_syntax.specs.Shape.{all_words, body_of}
-use Rattle.wit_syntax.specs.Source.{Target, Local, Foreign, leads, ScopeName, Used, Defined, ForeignName, local_name, Part, DefinitionPart, UsePart, IncludePart, FunctionPart, ExternPart, Item, item_name, is_world, parts, all_items}
+use Rattle.wit_syntax.specs.Source.{Target, Local, Foreign, leads, ScopeName, Defined, local_name, Part, UsePart, IncludePart, ExternPart, Item, item_name, is_world, parts, all_items}
 use Rattle.wit_syntax.specs.Repeats.{AllDiffer}
 
 -- the names that a name of a scope needs: those in a definition's body; a used name needs none of its own scope

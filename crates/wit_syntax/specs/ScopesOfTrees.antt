@@ -2,7 +2,7 @@
 use Rattle.std.specs.Prelude.{ℕ, List, []}
 use Rattle.std.specs.Option.{option_map_or}
 use Rattle.wit_tree.specs.declared.tree.PackageFile.{PackageFile}
-use Rattle.wit_syntax.specs.Address.{Address, InterfaceNamed, WorldNamed, InlineAt, ForeignNamed}
+use Rattle.wit_syntax.specs.Address.{Address, ForeignNamed}
 use Rattle.wit_syntax.specs.Node.{primitive_type, Node, Leaf, Unnamed, Tree, unfolded}
 use Rattle.wit_syntax.specs.Shape.{Prim, Word, Of}
 use Rattle.wit_syntax.specs.Source.{ScopeName, scope_names, item_at, used_names, meaning, Place, placed, named_node}

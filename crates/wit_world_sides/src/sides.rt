@@ -4,7 +4,6 @@ ghost use Rattle.indexmap.specs.IndexMap.{insert_entry};
 ghost use Rattle.wit_type_tree.specs.Attributes.{stated_text};
 ghost use Rattle.wit_type_tree.specs.declared.attribute_kind.AttributeKind.TheVariants.{ExternalId};
 ghost use Rattle.wit_tree.specs.declared.tree.WorldSide.{WorldSide as TheSide};
-ghost use Rattle.wit_tree.specs.declared.tree.WorldSide.TheVariants.{Imported, Exported};
 ghost use Rattle.wit_model.specs.declared.world.WorldKey.TheVariants.{Name};
 ghost use Rattle.wit_model.specs.declared.world.WorldItem.TheVariants.{Interface as InterfaceItem, Type_ as TypeItem};
 ghost use Rattle.wit_model.specs.contracts.world.WorldKeyPartialEq.TheImpl.{eq-value as key_test};

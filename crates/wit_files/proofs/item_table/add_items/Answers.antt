@@ -1,4 +1,4 @@
-use Rattle.std.proofs.Common.{◌≡◌, List, [], ◌∷◌, ◌++◌, Option, Some, None, map, refl, sym, ap, ◌∙◌, subst, Vec, Global}
+use Rattle.std.proofs.Common.{◌≡◌, List, ◌++◌, Option, Some, None, map, sym, ap, ◌∙◌, subst, Vec, Global}
 use Rattle.std.specs.Prelude.{slice_get}
 use Rattle.std.specs.List.{flat_map}
 use Rattle.std.proofs.lemmas.Option.{slice_get-get_or}

@@ -2,7 +2,7 @@ use Rattle.std.proofs.Common.{rules, ℕ, List, ◌∙◌, ap, sym, min}
 use Rattle.std.specs.Prelude.{unwrap_or}
 use Rattle.std.specs.List.{reduce}
 use Rattle.std.proofs.lemmas.Iterator.{YieldsList-from_slice}
-use Rattle.std.proofs.lemmas.Iterator.Consumers.{YieldsList-from_filter_map, YieldsList-at, min_from_yields_List}
+use Rattle.std.proofs.lemmas.Iterator.Consumers.{YieldsList-from_filter_map, min_from_yields_List}
 use Rattle.std.proofs.lemmas.Iterator.Adapters.{option_map_id}
 use denote.Ref.{Bor}
 use Rattle.wit_notes.specs.Indents.{written_indent}

@@ -1,4 +1,4 @@
-use Rattle.std.proofs.Common.{◌≡◌, ◌∙◌, ℕ, List, ap, not, true, false, is_some, map, string_bytes}
+use Rattle.std.proofs.Common.{◌≡◌, ◌∙◌, ℕ, List, ap, not, false, is_some, map, string_bytes}
 use denote.Ref.{Bor}
 use Rattle.memchr.specs.Find.{IsFirstByte, is_byte}
 use Rattle.wit_syntax.specs.Docs.{said}

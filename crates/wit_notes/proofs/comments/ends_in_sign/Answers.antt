@@ -1,4 +1,4 @@
-use Rattle.std.proofs.Common.{◌≡◌, ◌-◌, ◌<◌, true, ap, ◌∙◌, sym, arith, length, slice_index}
+use Rattle.std.proofs.Common.{◌≡◌, ◌-◌, ◌<◌, true, ◌∙◌, sym, arith, length, slice_index}
 use Rattle.std.specs.Char.{is_ascii_graphic}
 use Rattle.wit_notes.proofs.Trimmed.{sign-trimmed}
 use Rattle.wit_notes.proofs.comments.ends_in_sign.Goals as goal

@@ -4,7 +4,7 @@ use Rattle.std.specs.Str.Lines.{lines}
 use Rattle.std.proofs.lemmas.Iterator.Splits.{YieldsList-from_lines}
 use Rattle.std.proofs.lemmas.Iterator.Consumers.{YieldsList-end}
 use Rattle.memchr.specs.Find.{IsFirstByte, is_byte}
-use Rattle.wit_syntax.specs.Docs.{ended, ended_lines}
+use Rattle.wit_syntax.specs.Docs.{ended}
 use Rattle.wit_notes.proofs.Texts.{lines-one, lines-many}
 use Rattle.wit_notes.proofs.comments.push_lines.Goals as goal
 

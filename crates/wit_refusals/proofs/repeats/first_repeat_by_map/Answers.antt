@@ -1,4 +1,4 @@
-use Rattle.std.proofs.Common.{◌≡◌, List, map, take, subst, sym, ◌∙◌, arith}
+use Rattle.std.proofs.Common.{◌≡◌, map, take, subst, sym, ◌∙◌, arith}
 use Rattle.std.proofs.lemmas.List.{length-map, take_all}
 use Rattle.wit_syntax.specs.Repeats.{AllDiffer}
 use Rattle.wit_refusals.proofs.Seeing.{placed_differ, seen-again, seen-next}

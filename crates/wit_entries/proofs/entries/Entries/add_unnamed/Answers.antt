@@ -1,8 +1,5 @@
-use Rattle.std.proofs.Common.{◌≡◌, ◌++◌, ◌∷◌, [], ℕ, Option, rules, subst, sym}
-use Rattle.wit_intern.specs.FiniteMap.{FiniteMap}
+use Rattle.std.proofs.Common.{◌≡◌, ◌++◌, ◌∷◌, [], rules, subst}
 use Rattle.wit_arena.specs.Resolving.{unnamed}
-use Rattle.wit_entries.specs.Known.{AreKnown}
-use Rattle.wit_entries.specs.UnnamedTypes.{key_hashes_at, keys_at}
 use Rattle.wit_entries.proofs.Known.{IsMissing, known_kept, known_set, known_unnamed}
 use Rattle.wit_entries.proofs.entries.Entries.add_unnamed.Goals as goal
 

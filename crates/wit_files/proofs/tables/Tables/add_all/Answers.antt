@@ -1,4 +1,4 @@
-use Rattle.std.proofs.Common.{◌⊎◌, None, Some, subst}
+use Rattle.std.proofs.Common.{None, subst}
 use Rattle.std.proofs.lemmas.Result.{err_from_is_err_and}
 use Rattle.wit_graph.specs.Table.{IsOrder}
 use Rattle.wit_syntax.specs.ScopeTables.{item_rows}

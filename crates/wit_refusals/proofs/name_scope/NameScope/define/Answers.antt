@@ -1,4 +1,4 @@
-use Rattle.std.proofs.Common.{◌≡◌, nat_eq, None, inl, inr, sym, subst, ◌∙◌}
+use Rattle.std.proofs.Common.{nat_eq, inl, inr, sym, subst, ◌∙◌}
 use Rattle.std.specs.Cmp.Lexicographic.{pointwise}
 use Rattle.wit_maps.proofs.Indexed.{lookup_nowhere}
 use Rattle.wit_refusals.specs.NameScopes.{AreUsed}
