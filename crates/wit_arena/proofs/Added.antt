@@ -11,14 +11,12 @@ use Rattle.wit_model.specs.declared.world.World.{World}
 use Rattle.wit_types.specs.declared.types.TypeDef.{TypeDef}
 use Rattle.wit_types.specs.declared.types.TypeOwner.{TypeOwner}
 use Rattle.wit_types.specs.declared.types.TypeOwner.TheVariants as owner
-use Rattle.wit_syntax.specs.Fault.{Fault}
 use Rattle.wit_syntax.specs.Address.{Address, InterfaceNamed, is_foreign}
 use Rattle.wit_syntax.specs.Source.{address, Item, all_items, ScopeName, foreign_uses, scope_names}
 use Rattle.wit_syntax.specs.ScopesOfTrees.{scope}
 use Rattle.wit_syntax.specs.Foreign.{visited, foreign_interfaces, foreign_worlds}
 use Rattle.wit_syntax.specs.ScopeTables.{in_turn}
 use Rattle.wit_arena.specs.Occurrences.{Occurrence, Decls}
-use Rattle.wit_syntax.specs.SignatureRules.{IsUnpairedSetter}
 use Rattle.wit_tree.specs.declared.tree.WorldSide.TheVariants.{Imported}
 use Rattle.wit_syntax.specs.Function.{functions}
 use Rattle.wit_syntax.specs.Sides.{inline_items}
@@ -44,11 +42,10 @@ use Rattle.wit_arena.proofs.ScopesInTurn.{AreDone, IsNextDone, done_prefix}
 abbrev pub SaysInterface : Ordered → Interface → Type 0
 SaysInterface o i = IsInterfaceOf o.item i
 
--- it has the functions of a scope, each setter after its getter
+-- it has the functions of a scope
 pub record MakesInterface (o : Ordered) (c : DoneScope) (i : Interface) : Type 0 where
   pub functions : i.functions ≡ placed_functions c.made
   pub stated : c.stated ≡ interface_functions i
-  pub paired : (f : Fault) → IsUnpairedSetter c.functions f → ⊥
 
 -- what names define beside some scopes, they define beside more
 pub defines_wider : (old new : List TypeDef) (cs ds : List ResolvedScope) (o : TypeOwner) (s : Address) (names names' : Names) (xs : List ScopeName) → ((t : ℕ) (c : ResolvedScope) → slice_get cs t ≡ Some c → (j : ℕ) × (slice_get ds j ≡ Some c)) → Defines old new cs o s names names' xs → Defines old new ds o s names names' xs
@@ -188,7 +185,7 @@ module _ (files : List PackageFile) (is ws : List Item) where
                 ap (λ (s : Address). record { address = s; types = added.types; functions = names }) (interface_address files is is_items (length us) w there sort)
                 ∙ ap (called_resolved_scope added.types names) (sym (a.says.0 ∙ declared_called files is is_items (length us) w there))
                 ∙ ap (λ (l : List (List ℕ)). called_resolved_scope added.types l added.name) (free_keyed Imported added.functions));
-            makes = λ listed. record { functions = a.are_present; stated = refl; paired = a.paired };
+            makes = λ listed. record { functions = a.are_present; stated = refl };
           }
 
       -- the first interfaces, after those of other packages

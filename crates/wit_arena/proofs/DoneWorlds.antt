@@ -24,8 +24,6 @@ use Rattle.wit_syntax.specs.Sides.{FunctionKey, side_items, inline_items, SideIt
 use Rattle.wit_syntax.specs.Source.{address, Item, TopName, leads, ScopeName, about, declared_metadata, target_scope}
 use Rattle.wit_syntax.specs.Foreign.{visited, foreign_interfaces}
 use Rattle.wit_syntax.specs.ScopeTables.{includes, local_names}
-use Rattle.wit_syntax.specs.Fault.{Fault}
-use Rattle.wit_syntax.specs.Broken.{IsSetterAlone}
 use Rattle.wit_syntax.proofs.Lists.{at_prefix, at_back, at_either, at_split, map_at, flat_map_at, flat_map_has}
 use Rattle.wit_syntax.proofs.Turns.{at_part}
 use Rattle.wit_syntax.proofs.Kept.{after_one}
@@ -52,8 +50,7 @@ pub record SaysWorld (worlds : List Address) (o : Ordered) (w : World) : Type 0 
   pub says : IsWorld (about o.item.declared).id.name.now (about o.item.declared).id.span (declared_metadata o.item.declared) w
   pub includes : AreIncludes worlds o.item w.includes
 
--- it has the types of a scope as its imports, and then, on its sides, what the item has there, each setter after its getter where nothing is
--- included; the interfaces have these addresses
+-- it has the types of a scope as its imports, and then, on its sides, what the item has there; the interfaces have these addresses
 pub record MakesWorld (interfaces : List Address) (o : Ordered) (c : DoneScope) (w : World) : Type 0 where
   pub imported : List (WorldKey × WorldItem)
   pub are_imported : AreSideItems interfaces o.item.top Imported (side_items o.item) c.made (map address (inline_items o.item)) imported
@@ -62,7 +59,6 @@ pub record MakesWorld (interfaces : List Address) (o : Ordered) (c : DoneScope) 
   pub are_exported : AreSideItems interfaces o.item.top Exported (side_items o.item) c.made (map address (inline_items o.item)) exported
   pub exports : w.exports ≡ settled (includes o.item) exported
   pub stated : c.stated ≡ world_functions w
-  pub paired : (f : Fault) → IsSetterAlone o.item f → ⊥
 
 -- a world that was resolved, as a scope
 abbrev pub world_resolved_scope : World → ResolvedScope

@@ -4,9 +4,7 @@ use Rattle.std.specs.Prelude.{slice_get}
 use Rattle.wit_model.specs.declared.interface.Interface.{Interface}
 use Rattle.wit_types.specs.declared.types.TypeOwner.TheVariants as owner
 use Rattle.wit_graph.specs.Table.{IsOrder}
-use Rattle.wit_syntax.specs.Fault.{Fault}
 use Rattle.wit_syntax.specs.ScopeTables.{rows_of, local_names}
-use Rattle.wit_syntax.specs.SignatureRules.{IsUnpairedSetter}
 use Rattle.wit_syntax.specs.Source.{scope_names}
 use Rattle.wit_arena.specs.SourceFunctions.{placed_functions}
 use Rattle.wit_arena.specs.UnfoldedTypes.{interface_functions}
@@ -24,7 +22,6 @@ pub record IsInside (place : ℕ) (o : Ordered) (c : DoneScope) (i : Interface) 
   pub says : IsInterfaceOf o.item i
   pub are_present : i.functions ≡ placed_functions c.made
   pub stated : c.stated ≡ interface_functions i
-  pub paired : (f : Fault) → IsUnpairedSetter c.functions f → ⊥
 
 -- so are these, one after the other
 abbrev pub AreInside : ℕ → List Ordered → List DoneScope → List Interface → Type 0

@@ -256,7 +256,6 @@ module _ (files : List PackageFile) (decls : Decls) (written : List Occurrence) 
     says = a.says;
     are_present = a.are_present;
     stated = refl;
-    paired = a.paired;
   }
 
   inline_whole : IsScopeWhole files b

@@ -226,7 +226,6 @@ module _ (files : List PackageFile) (is ws : List Item) (interfaces : AreOfSort 
         are_imported = side_items_wider all_addresses (interface_list files is (inside_of ws)) (interface_added files is ws interfaces worlds is_items ws_items uses es prefix wprefix foreign middle xs irs d us old a qs e w next b.addresses adds.more) w.top Imported (side_items w) adds.functions inside_addresses adds.imported adds.are_imported;
         are_exported = side_items_wider all_addresses (interface_list files is (inside_of ws)) (interface_added files is ws interfaces worlds is_items ws_items uses es prefix wprefix foreign middle xs irs d us old a qs e w next b.addresses adds.more) w.top Exported (side_items w) adds.functions inside_addresses adds.exported adds.are_exported;
         stated = refl;
-        paired = adds.paired;
       }
 
       says : SaysWorld (world_list files ws) world.own adds.added

@@ -17,17 +17,15 @@ use Rattle.wit_model.specs.declared.world.WorldItem.{WorldItem}
 use Rattle.wit_syntax.specs.Source.{leads, Item, address, ScopeName, scope_names, ForeignUse, first_foreign_uses, about, declared_metadata}
 use Rattle.wit_syntax.specs.Foreign.{visited, foreign_interfaces, foreign_worlds}
 use Rattle.wit_arena.specs.Occurrences.{keys}
-use Rattle.wit_syntax.specs.Fault.{Fault}
 use Rattle.wit_arena.specs.OneByOne.{OneByOne}
 use Rattle.wit_arena.specs.UnfoldedTypes.{IsInterface, IsWorld, IsForeignWorld}
 use Rattle.wit_syntax.specs.ScopeTables.{uses, includes, rows_of, in_order, defined, in_turn, AreDistinct}
 use Rattle.wit_functions.specs.declared.function.Function.{Function}
 use Rattle.wit_syntax.specs.Function.{SourceFunction, functions as item_functions, name_types, written_types, all_types}
-use Rattle.wit_syntax.specs.SignatureRules.{IsUnpairedSetter}
 use Rattle.wit_tree.specs.declared.tree.WorldSide.TheVariants.{Imported, Exported}
 use Rattle.wit_arena.specs.SourceFunctions.{placed_functions}
 use Rattle.wit_arena.specs.SideItems.{AreSideItems, settled}
-use Rattle.wit_syntax.specs.Broken.{is_world_at, IsSetterAlone}
+use Rattle.wit_syntax.specs.Broken.{is_world_at}
 use Rattle.wit_syntax.specs.Sides.{SideItem, SideFunction, SideLink, SideInline, side_items, inline_items}
 use Rattle.wit_arena.specs.Whole.{owner_at, foreign_use_occurrence, IsForeignInterface, type_imports, AreIncludes}
 use Rattle.wit_arena.specs.Resolving.{Names, env_of, ResolvedScope, resolved_scopes, named, Defines, AddsFunctions, Required, AreEnded}
@@ -64,7 +62,6 @@ pub record AddsInterface (cs : List ResolvedScope) (place : ℕ) (old new : List
   pub functions : List Function
   pub rest_after : AddsAfter middle new item adds.order added.types functions rs
   pub are_present : added.functions ≡ placed_functions functions
-  pub paired : (f : Fault) → IsUnpairedSetter (item_functions item) f → ⊥
 
 -- what a declared interface adds to the arenas, where those at these addresses are of other packages
 pub record AddsDeclared (foreign : List Address) (old new : List TypeDef) (is is' : List Interface) (rs : List Required) (item : Item) : Type 0 where
@@ -123,7 +120,6 @@ pub record AddsWorld (foreign others : List Address) (is : List Interface) (old 
   pub exported : List (WorldKey × WorldItem)
   pub are_exported : AreSideItems (interfaces_at foreign is ++ b.addresses) item.top Exported (side_items item) functions (map address (inline_items item)) exported
   pub exports : added.exports ≡ settled (includes item) exported
-  pub paired : (f : Fault) → IsSetterAlone item f → ⊥
   pub includes : AreIncludes (worlds_at others a.worlds) item added.includes
 
 -- what items add to the arenas, one after another, and what they require, where `Adds` says what one of them does

@@ -7,8 +7,6 @@ use Rattle.wit_types.specs.declared.types.TypeOwner.TheVariants as owner
 use Rattle.wit_model.specs.declared.interface.Interface.{Interface}
 use Rattle.wit_model.specs.declared.world.World.{World}
 use Rattle.wit_syntax.specs.Address.{Address}
-use Rattle.wit_syntax.specs.Broken.{IsSetterAlone}
-use Rattle.wit_syntax.specs.Fault.{Fault}
 use Rattle.wit_syntax.specs.Function.{functions}
 use Rattle.wit_syntax.specs.ScopeTables.{in_turn, includes}
 use Rattle.wit_syntax.specs.Sides.{inline_items, side_items}
@@ -51,8 +49,8 @@ module _ (w : ItemWalk) (others : List Address) (ws : List World) (old middle ne
   pub extended : length now ≡ length inside + length (inline_items item)
   extended = all.adds.more ∙ ap (λ (k : ℕ). length inside + k) (sym (length-inline_after item [] (side_items item)))
 
-  pub content_adds : (added : World) (ss : List Address) → length ss ≡ length inside → IsWorld (about item.declared).id.name.now (about item.declared).id.span (declared_metadata item.declared) added → added.imports ≡ settled (includes item) m.members.sides.imports → added.exports ≡ settled (includes item) m.members.sides.exports → AreIncludes (worlds_at others ws) item added.includes → ((f : Fault) → IsSetterAlone item f → ⊥) → AddsWorld foreign others interfaces old new (arenas ws inside ss) (arenas (ws ++ added ∷ []) now (ss ++ map address (inline_items item))) (required ++ m.required.items) item
-  content_adds added ss known says imports exports included paired =
+  pub content_adds : (added : World) (ss : List Address) → length ss ≡ length inside → IsWorld (about item.declared).id.name.now (about item.declared).id.span (declared_metadata item.declared) added → added.imports ≡ settled (includes item) m.members.sides.imports → added.exports ≡ settled (includes item) m.members.sides.exports → AreIncludes (worlds_at others ws) item added.includes → AddsWorld foreign others interfaces old new (arenas ws inside ss) (arenas (ws ++ added ∷ []) now (ss ++ map address (inline_items item))) (required ++ m.required.items) item
+  content_adds added ss known says imports exports included =
       let order = n.adds.order in
       let us = map address (inline_items item) in
       let total = interfaces_at foreign interfaces ++ (ss ++ us) in
@@ -84,6 +82,5 @@ module _ (w : ItemWalk) (others : List Address) (ws : List World) (old middle ne
         exported = second.more;
         are_exported = second.are;
         exports = exports ∙ ap (settled (includes item)) (second.put ∙ ap (λ (l : List Entry). l ++ second.more) all.is.exports);
-        paired = paired;
         includes = included;
       }

@@ -3,9 +3,6 @@ ghost use Rattle.std.specs.Prelude.{◌≡◌, ◌<◌, ◌++◌, List, false, l
 ghost use Rattle.wit_types.specs.declared.types.TypeDef.{TypeDef};
 ghost use Rattle.wit_types.specs.declared.types.TypeOwner.{TypeOwner as Owner};
 ghost use Rattle.wit_syntax.specs.Source.{is_world, scope_names as the_names, about};
-ghost use Rattle.wit_syntax.specs.Function.{functions as the_functions};
-ghost use Rattle.wit_syntax.specs.SignatureRules.{IsUnpairedSetter};
-ghost use Rattle.wit_syntax.specs.Fault.{Fault};
 ghost use Rattle.wit_entries.specs.Requiring.{IsExtended};
 ghost use Rattle.wit_rules.specs.BorrowedFunctions.{function_view};
 ghost use Rattle.wit_signatures.specs.ForeignName.{name_of_function, name_of_id};
@@ -50,7 +47,6 @@ fn check_pairs(
 ) -> ParseResult<()>
     requires { 0 < length functions.now → in_use.now ≡ map name_of_id names.now ++ map name_of_function (map function_view functions.now) }
     ensures first { Finds (lone_setters (map function_view functions.now)) result }
-    ensures paired { OnOk result ((f : Fault) → IsUnpairedSetter (map function_view functions.now) f → ⊥) }
 {
     if functions.len() == 0 {
         return Ok(());
@@ -70,7 +66,6 @@ fn functions_of<'a>(
     requires added { (old : List TypeDef) × (cs : List ResolvedScope) × (o : Owner) × HasTurn names.old types.old (scope_item item.now) old cs o }
     ensures types { OnOk result (names.new.types ≡ names.old.types) }
     ensures adds { IfOk result (AddsTable names.old names.new types.old types.new (scope_item item.now)) }
-    ensures paired { OnOk result ((f : Fault) → IsUnpairedSetter (the_functions (scope_item item.now)) f → ⊥) }
     ensures extended { IsExtended types.old types.new }
     ensures first { FindsIn (env_of names.old.types) types.new (rest_fault item.now names.old.turn.items) result }
 {

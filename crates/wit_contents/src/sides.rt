@@ -1,7 +1,5 @@
 //! What a world has on its sides: the names of its scope, and after them what it imports and exports.
-ghost use Rattle.std.specs.Prelude.{◌≡◌, IfOk, OnOk};
-ghost use Rattle.wit_syntax.specs.Broken.{IsSetterAlone};
-ghost use Rattle.wit_syntax.specs.Fault.{Fault};
+ghost use Rattle.std.specs.Prelude.{◌≡◌, IfOk};
 ghost use Rattle.wit_syntax.specs.ScopeTables.{includes};
 ghost use Rattle.wit_items.specs.BorrowedItems.{item_view};
 ghost use Rattle.wit_world_sides.specs.Settled.{none_of};
@@ -71,7 +69,6 @@ pub fn walk_sides<'f, 'a>(
     requires walk { IsWalk (walk_of item.now walk.now) }
     requires closed { closed ≡ none_of (includes (item_view item.now)) }
     ensures adds { IfOk result (AddsAll (walk_of item.now walk.now) types.old types.new inside.old inside.new) }
-    ensures paired { OnOk result ((f : Fault) → IsSetterAlone (item_view item.now) f → ⊥) }
     ensures first { FindsWalk (walk_of item.now walk.now) types.old inside.old result }
 {
     let alloc = *walk.interfaces.by_name.allocator();

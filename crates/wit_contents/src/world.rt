@@ -3,8 +3,6 @@ ghost use Rattle.std.specs.Prelude.{◌≡◌, ◌<◌, ◌≤◌, ◌+◌, ◌+
 ghost use Rattle.wit_type_tree.specs.RefusalText.{IsAllocationFailure};
 ghost use Rattle.wit_syntax.specs.Source.{is_world, about};
 ghost use Rattle.wit_syntax.specs.Sides.{inline_items};
-ghost use Rattle.wit_syntax.specs.Broken.{IsSetterAlone};
-ghost use Rattle.wit_syntax.specs.Fault.{Fault};
 ghost use Rattle.wit_arena.specs.UnfoldedTypes.{IsWorld};
 ghost use Rattle.wit_arena.specs.Resolving.{IsWorldIndex};
 ghost use Rattle.wit_arena.specs.ResolvedArenas.{worlds_at};
@@ -100,7 +98,6 @@ fn walked_sides<'f, 'a>(
     requires item { IsItemOf interfaces.now.files item.now }
     requires scope { IsScopeOfWorld scope.now item.now }
     ensures adds { IfOk result (AddsSidesOf item.now interfaces.now scope.now.names types.old types.new inside.old inside.new) }
-    ensures paired { OnOk result ((f : Fault) → IsSetterAlone (item_view item.now) f → ⊥) }
     ensures first { FindsSides item.now interfaces.now scope.now.names types.old inside.old result }
 {
     let functions = function_scope(scope);

@@ -2,10 +2,8 @@
 ghost use Rattle.std.specs.Prelude.{◌≡◌, ◌++◌, OnOk, map};
 ghost use Rattle.std.specs.List.{list_any};
 ghost use Rattle.wit_tree.specs.declared.tree.WorldSide.{WorldSide};
-ghost use Rattle.wit_syntax.specs.Sides.{names_on, on_side};
+ghost use Rattle.wit_syntax.specs.Sides.{names_on};
 ghost use Rattle.wit_externs.specs.SetterFunctions.{sets};
-ghost use Rattle.wit_syntax.specs.Fault.{Fault};
-ghost use Rattle.wit_syntax.specs.SignatureRules.{IsUnpairedSetter};
 ghost use Rattle.wit_first.specs.First.{Finds};
 ghost use Rattle.wit_rules.specs.BorrowedFunctions.{function_view};
 ghost use Rattle.wit_sides.specs.SideNames.{defined_on};
@@ -61,7 +59,6 @@ pub fn check_setters(
 ) -> ParseResult<()>
     requires { in_use.now ≡ map name_of_id names.now ++ map name_of_function (map function_view functions.now) }
     ensures first { Finds (lone_setters (map function_view functions.now)) result }
-    ensures paired { OnOk result ((f : Fault) → IsUnpairedSetter (map function_view functions.now) f → ⊥) }
 {
     if !have_setter(functions) {
         return Ok(());
@@ -81,7 +78,6 @@ pub fn check_sides(
 ) -> ParseResult<()>
     requires { AreNamesWith in_use.now names.now (map function_view functions.now) }
     ensures first { Finds (sides_setters (map function_view functions.now)) result }
-    ensures paired { OnOk result ((s : WorldSide) (f : Fault) → IsUnpairedSetter (on_side s (map function_view functions.now)) f → ⊥) }
 {
     if !have_setter(functions) {
         return Ok(());

@@ -1,18 +1,15 @@
 -- Scopes that have no functions, and nothing else, on their sides.
-use Rattle.std.proofs.Common.{◌≡◌, List, [], ◌++◌, length, map, false, sym, ap, subst, arith, Contains}
+use Rattle.std.proofs.Common.{◌≡◌, List, [], ◌++◌, length, map, false, sym, ap, subst}
 use Rattle.std.specs.Char.{is_ascii_uppercase}
 use Rattle.std.specs.List.{list_any}
 use Rattle.std.proofs.lemmas.List.{nil_from_length}
 use Rattle.wit_type_tree.specs.declared.leaves.Id.{Id}
-use Rattle.wit_syntax.specs.Fault.{Fault}
 use Rattle.wit_tree.specs.declared.tree.WorldSide.{WorldSide}
 use Rattle.wit_tree.specs.declared.tree.WorldSide.TheVariants.{Imported, Exported}
 use Rattle.wit_syntax.specs.Repeats.{AllDiffer}
 use Rattle.wit_syntax.specs.Sides.{SideFunction, names_on}
 use Rattle.wit_syntax.proofs.Repeated.{differ_none}
 use Rattle.wit_syntax.specs.Source.{ScopeName}
-use Rattle.wit_syntax.specs.Function.{SourceFunction}
-use Rattle.wit_syntax.specs.SignatureRules.{IsUnpairedSetter}
 use Rattle.wit_rules.specs.declared.borrowed.BorrowedFunction.{BorrowedFunction}
 use Rattle.wit_rules.specs.BorrowedFunctions.{function_view}
 use Rattle.wit_signatures.specs.ForeignName.{name_of_id, name_key}
@@ -20,15 +17,8 @@ use Rattle.wit_externs.specs.Clash.{all_on}
 use Rattle.wit_uses.specs.NameOrder.{IsTurn}
 use Rattle.wit_item_entries.proofs.OwnKeys.{turn_keys}
 
-none_in : (fn : SourceFunction) → Contains [] fn → ⊥
-none_in fn (k, lt, is) = omega arith
-
 pub no_functions : (hs : List BorrowedFunction) → length hs ≡ 0 → map function_view hs ≡ []
 no_functions hs none = ap (map function_view) (nil_from_length hs none)
-
--- none of them is a setter without its getter
-pub none_unpaired : (hs : List BorrowedFunction) → length hs ≡ 0 → (f : Fault) → IsUnpairedSetter (map function_view hs) f → ⊥
-none_unpaired hs none f h = none_in h.0 (subst (λ (l : List BorrowedFunction). Contains (map function_view l) h.0) (nil_from_length hs none) h.1)
 
 alone : (side : WorldSide) (xs : List ScopeName) (ids : List Id) → IsTurn xs ids → list_any (λ (id : Id). list_any is_ascii_uppercase id.name.now) ids ≡ false → AllDiffer (map name_key (names_on side (map name_of_id ids) ++ []))
 alone Imported xs ids t lower = turn_keys xs ids t lower

@@ -51,12 +51,6 @@ returns-clause-adds c =
     let own : HasNames item (declared_view c.args.item.now.declared) c.args.item.now.names.now = record { declared = refl; names = sym c.requires.named } in
     λ old cs o added. (c.in_ok-own.own.functions.items, c.in_ok-own.ensures.adds item own old cs o added, c.in_ok-functions.ensures)
 
-pub returns-clause-paired : goal.returns-clause-paired
-returns-clause-paired c =
-    let item = scope_item c.args.item.now in
-    let fns : map function_view c.deref.result.now ≡ functions item = ap (map function_view) c.deref.ensures.value ∙ c.in_ok-own.ensures.written in
-    rw fns at c.in_ok-check_pairs.ensures.paired
-
 pub returns-in_err-own-clause-first : goal.returns-in_err-own-clause-first
 returns-in_err-own-clause-first c =
     let p = err_from_is_err_and c.from_residual.result c.from_residual.ensures.1 in

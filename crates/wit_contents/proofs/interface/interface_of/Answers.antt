@@ -39,7 +39,6 @@ returns-clause-adds c =
         functions = made.0;
         rest_after = b.rest_after;
         are_present = made.2;
-        paired = e.paired;
       };
     }
 

@@ -10,7 +10,6 @@ use Rattle.wit_syntax.proofs.Turns.{in_turn_distinct}
 use Rattle.wit_first.specs.First.{first_after}
 use Rattle.wit_first.proofs.First.{none_both, reports_back, reports_prefix, reports_same}
 use Rattle.wit_walk.specs.Setters.{setters_fault}
-use Rattle.wit_walk.proofs.SettersLegal.{setters_legal}
 use Rattle.wit_refusals.specs.NameScopes.{Name}
 use Rattle.wit_rules.specs.BorrowedFunctions.{function_view}
 use Rattle.wit_externs.specs.Clash.{names_of_items}
@@ -63,11 +62,6 @@ returns-clause-adds c =
       is = record { required = c.new.ensures.items; seen = c.none.ensures; keyed = e.keyed; in_use = e.in_use; linked = e.linked; imports = e.imports; exports = e.exports };
       adds = c.in_ok-walk_parts.ensures.adds next;
     }
-
-pub returns-clause-paired : goal.returns-clause-paired
-returns-clause-paired c =
-    let w = walk_of c.args.item.now c.args.walk.now in
-    setters_legal (walk_item w) (sym (setters_closed (walk_item w) (map function_view w.walk.scope.functions.now) c.requires.walk.functions c.args.closed c.requires.closed) ∙ c.in_ok-check_closed.ensures.first)
 
 -- the first fault: of its names, of what is there, or of its setters
 pub returns-in_err-members-clause-first : goal.returns-in_err-members-clause-first

@@ -33,9 +33,6 @@ returns-clause-adds c =
     let listed : names_in c.function_scope-functions.result.names.now ≡ map (λ id. id.name.now) scope.names.turn.items = rw f.names scope.names.listed in
     sides_of _ c.args.item.now _ _ _ _ _ c.in_ok-walked.ensures.adds c.args.interfaces.now scope.names (is_walk _ scope.names.turn.items c.requires.item c.requires.sort fns results c.requires.scope.turn listed lent) refl f.names lent
 
-pub returns-clause-paired : goal.returns-clause-paired
-returns-clause-paired c = c.in_ok-walked.ensures.paired
-
 pub returns-in_err-walked-clause-first : goal.returns-in_err-walked-clause-first
 returns-in_err-walked-clause-first c =
     let p = err_from_is_err_and c.from_residual.result c.from_residual.ensures.1 in

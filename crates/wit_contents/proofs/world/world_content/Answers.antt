@@ -92,7 +92,7 @@ returns-clause-adds c = λ world has ss known.
           ∙ ap (λ (l : List Required). (c.args.required.now.items ++ c.deref-3.result.now) ++ l) c.deref-4.ensures.value
           ∙ ap (λ (l : List Required). (c.args.required.now.items ++ l) ++ m.required.items) c.deref-3.ensures.value
           ∙ append_assoc c.args.required.now.items names.required.items m.required.items;
-      holds = rw of.interfaces at (content_adds (walk_of c.args.item.now w) (others_of is.files) ws.arena old middle c.walked_sides.new.types c.args.inside.now c.walked_sides.new.inside names.required.items m of.walk added h.2 world ss known has.says (has.imports ∙ settled Imported) (has.exports ∙ settled Exported) (rw has.includes are) c.in_ok-walked.ensures.paired);
+      holds = rw of.interfaces at (content_adds (walk_of c.args.item.now w) (others_of is.files) ws.arena old middle c.walked_sides.new.types c.args.inside.now c.walked_sides.new.inside names.required.items m of.walk added h.2 world ss known has.says (has.imports ∙ settled Imported) (has.exports ∙ settled Exported) (rw has.includes are));
     }
 
 pub returns-clause-extended : goal.returns-clause-extended

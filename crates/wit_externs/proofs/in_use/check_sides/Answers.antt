@@ -12,42 +12,20 @@ use Rattle.wit_externs.proofs.FirstSetters.{AreMerged, lone_by, merged_side, non
 use Rattle.std.proofs.lemmas.Result.{err_from_is_err_and}
 use Rattle.wit_tree.specs.declared.tree.WorldSide.{WorldSide}
 use Rattle.wit_tree.specs.declared.tree.WorldSide.TheVariants.{Imported, Exported}
-use Rattle.wit_syntax.specs.Fault.{Fault}
 use Rattle.wit_syntax.specs.Sides.{SideItem, item_function, on_side}
-use Rattle.wit_syntax.specs.SignatureRules.{IsUnpairedSetter}
 use Rattle.wit_refusals.specs.NameScopes.{Name, IsFirstLoneSetter, IsLoneSetter}
 use Rattle.wit_rules.specs.BorrowedFunctions.{function_view}
 use Rattle.wit_externs.specs.Clash.{all_on}
 use Rattle.wit_externs.proofs.NoSetters.{none_there}
 use Rattle.wit_externs.proofs.PairedNames.{side_named}
-use Rattle.wit_externs.proofs.Paired.{AreNamed, lone_setter}
+use Rattle.wit_externs.proofs.Paired.{AreNamed}
 use Rattle.wit_externs.proofs.in_use.check_sides.Goals as goal
 
-pub returns-then-not-have_setter-clause-paired : goal.returns-then-not-have_setter-clause-paired
-returns-then-not-have_setter-clause-paired c = none_there c.args.functions.now (sym c.have_setter.ensures ∙ c.if-not-have_setter.true)
-
-pub returns-clause-paired : goal.returns-clause-paired
-returns-clause-paired c = on
-  where
-    on : (s : WorldSide) (f : Fault) → IsUnpairedSetter (on_side s (map function_view c.args.functions.now)) f → ⊥
-    on Imported f alone =
-        let ids = c.args.names.now in
-        let hs = c.args.functions.now in
-        let items = c.requires.0 in
-        let lone = lone_setter (all_on Imported ids items) (on_side Imported (map function_view hs)) (side_named Imported ids items hs c.requires.1) f alone in
-        c.in_ok-check_setters.ensures.paired lone.0 (subst (λ (l : List Name). IsLoneSetter l lone.0) (sym (c.requires.2 Imported)) lone.1)
-    on Exported f alone =
-        let ids = c.args.names.now in
-        let hs = c.args.functions.now in
-        let items = c.requires.0 in
-        let lone = lone_setter (all_on Exported ids items) (on_side Exported (map function_view hs)) (side_named Exported ids items hs c.requires.1) f alone in
-        c.in_ok-check_setters-2.ensures.paired lone.0 (subst (λ (l : List Name). IsLoneSetter l lone.0) (sym (c.requires.2 Exported)) lone.1)
-
-pub returns-then-not-have_setter-clause-first : goal.returns-then-not-have_setter-clause-first
-returns-then-not-have_setter-clause-first c =
+pub returns-then-not-have_setter : goal.returns-then-not-have_setter
+returns-then-not-have_setter c =
     let hs = c.args.functions.now in
     let none = none_there hs (sym c.have_setter.ensures ∙ c.if-not-have_setter.true) in
-    none_both (none_lone (on_side Imported (map function_view hs)) (none Imported)) (none_lone (on_side Exported (map function_view hs)) (none Exported))
+    record { first = none_both (none_lone (on_side Imported (map function_view hs)) (none Imported)) (none_lone (on_side Exported (map function_view hs)) (none Exported)) }
 
 -- what is found on a side
 side_finds : {T : Type 0} (side : WorldSide) (ids : List Id) (items : List SideItem) (hs : List BorrowedFunction) (names : List Name) (r : Result T ParseError) → flat_map item_function items ≡ map function_view hs → names ≡ all_on side ids items → OnOk r ((i : ℕ) → IsLoneSetter names i → ⊥) → IfErr r (Refused (IsFirstLoneSetter names)) → Finds (lone_setters (on_side side (map function_view hs))) r
@@ -55,24 +33,24 @@ side_finds side ids items hs names r are same paired refused =
     let fns = map function_view hs in
     lone_by names (on_side side fns) (subst (λ (l : List Name). AreNamed l (on_side side fns)) (sym same) (side_named side ids items hs are)) r (subst (λ (l : List Name). AreMerged l (on_side side fns)) (sym same) (merged_side side ids items fns are)) paired refused
 
-pub returns-in_err-check_setters-clause-first : goal.returns-in_err-check_setters-clause-first
-returns-in_err-check_setters-clause-first c =
+pub returns-in_err-check_setters : goal.returns-in_err-check_setters
+returns-in_err-check_setters c =
     let p = err_from_is_err_and c.from_residual.result c.from_residual.ensures.1 in
     let hs = c.args.functions.now in
     let own = side_finds {T = Unit {0}} Imported c.args.names.now c.requires.0 hs c.args.in_use.now.imports (Err _) c.requires.1 (c.requires.2 Imported) tt c.in_err-check_setters.ensures.refused in
-    rw (p.1, p.2) (reports_prefix (lone_setters (on_side Exported (map function_view hs))) own)
+    record { first = rw (p.1, p.2) (reports_prefix (lone_setters (on_side Exported (map function_view hs))) own) }
 
-pub returns-in_err-check_setters-2-clause-first : goal.returns-in_err-check_setters-2-clause-first
-returns-in_err-check_setters-2-clause-first c =
+pub returns-in_err-check_setters-2 : goal.returns-in_err-check_setters-2
+returns-in_err-check_setters-2 c =
     let p = err_from_is_err_and c.from_residual-in_err-check_setters-2.result c.from_residual-in_err-check_setters-2.ensures.1 in
     let hs = c.args.functions.now in
     let before = side_finds {T = Unit {0}} Imported c.args.names.now c.requires.0 hs c.args.in_use.now.imports (Ok tt) c.requires.1 (c.requires.2 Imported) c.in_ok-check_setters.ensures.paired tt in
     let own = side_finds {T = Unit {0}} Exported c.args.names.now c.requires.0 hs c.args.in_use.now.exports (Err _) c.requires.1 (c.requires.2 Exported) tt c.in_err-check_setters-2.ensures.refused in
-    rw (p.1, p.2) (reports_back before own)
+    record { first = rw (p.1, p.2) (reports_back before own) }
 
-pub returns-clause-first : goal.returns-clause-first
-returns-clause-first c =
+pub returns : goal.returns
+returns c =
     let hs = c.args.functions.now in
     let imports = side_finds {T = Unit {0}} Imported c.args.names.now c.requires.0 hs c.args.in_use.now.imports (Ok tt) c.requires.1 (c.requires.2 Imported) c.in_ok-check_setters.ensures.paired tt in
     let exports = side_finds {T = Unit {0}} Exported c.args.names.now c.requires.0 hs c.args.in_use.now.exports (Ok tt) c.requires.1 (c.requires.2 Exported) c.in_ok-check_setters-2.ensures.paired tt in
-    none_both imports exports
+    record { first = none_both imports exports }
