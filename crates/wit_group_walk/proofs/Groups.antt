@@ -1,38 +1,29 @@
--- Sources that make a group have no fault; and sources that are refused have one.
-use Rattle.std.proofs.Common.{◌≡◌, ◌⊎◌, List, [], ◌∷◌, ◌++◌, Option, Some, None, inl, inr, refl, sym, ap, ◌∙◌, subst, append_assoc, map}
-use Rattle.std.specs.Prelude.{string_bytes}
+-- Sources that make a group have no fault.
+use Rattle.std.proofs.Common.{◌≡◌, ◌⊎◌, List, [], ◌∷◌, ◌++◌, Option, Some, None, inl, inr, refl, sym, ap, ◌∙◌, subst, append_assoc}
 use Rattle.std.specs.List.{AllZip}
-use Rattle.std.specs.Option.{option_or}
 use Rattle.std.proofs.lemmas.List.{append-nil, map-append}
 use Rattle.wit_tree.specs.declared.tree.PackageFile.{PackageFile}
 use Rattle.wit_tree.specs.declared.tree.SourceFile.{SourceFile}
-use Rattle.wit_type_tree.specs.declared.error.ParseError.{ParseError}
-use Rattle.wit_type_tree.specs.RefusalText.{IsAllocationFailure}
-use Rattle.wit_lex.specs.declared.fault.ReadError.TheVariants.{Fault as Stopped, OutOfMemory as Wanting}
 use Rattle.wit_lex.specs.declared.source.Source.{Source}
 use Rattle.wit_bundle.specs.SourcePaths.{IsByPath}
 use Rattle.wit_model.specs.declared.unresolved.UnresolvedPackage.{UnresolvedPackage}
-use Rattle.wit_syntax.specs.Broken.{IsBroken, last_header}
-use Rattle.wit_syntax.specs.Fault.{Fault, fault_of}
+use Rattle.wit_syntax.specs.Broken.{last_header}
+use Rattle.wit_syntax.specs.Fault.{Fault}
 use Rattle.wit_arena.specs.Faithful.{IsMadeOf}
 use Rattle.wit_first.specs.First.{first_after}
 use Rattle.wit_first.proofs.Bridge.{or_none_both}
 use Rattle.wit_first.proofs.First.{or_none}
-use Rattle.wit_nested.specs.Nested.{GrowByNested, IsMadeByNested, IsUnfit}
-use Rattle.wit_groups.specs.Groups.{AreRefused, AreUsed, IsGroup, IsRefused, IsTree}
-use Rattle.wit_groups.specs.Groups.AreRefused.{Unread, Unfit, Illegal, Repeated}
+use Rattle.wit_nested.specs.Nested.{GrowByNested, IsMadeByNested}
+use Rattle.wit_groups.specs.Groups.{AreUsed, IsGroup, IsTree}
 use Rattle.wit_groups.specs.Groups.AreUsed.{None as NoneUsed, More}
-use Rattle.wit_groups.specs.Groups.IsRefused.{InTurn, Wanted}
-use Rattle.wit_text.specs.Files.{IsFaultOf}
-use Rattle.wit_text.specs.Files.IsFaultOf.{At, Wanted as FaultWanted}
 use Rattle.wit_walk.specs.Walk.{earliest}
-use Rattle.wit_nested.specs.GroupFaults.{joined_faults, names_fault, nested_names}
-use Rattle.wit_nested.specs.PushFaults.{IsWalk, files_of, nested_of, pushes_fault, source_fault}
-use Rattle.wit_groups.specs.SourceFaults.{Read, Tree, Stop, IsRead, IsStop, stop_fault, trees_of, SequenceComesTo, SourcesComeTo, IsFirstOfSources, AreFaultless, AreBroken}
+use Rattle.wit_nested.specs.GroupFaults.{names_fault, nested_names}
+use Rattle.wit_nested.specs.PushFaults.{IsWalk, files_of, nested_of}
+use Rattle.wit_groups.specs.SourceFaults.{Read, IsRead, trees_of, SequenceComesTo, SourcesComeTo, IsFirstOfSources, AreFaultless, AreBroken}
 use Rattle.wit_nested.proofs.Names.{made_names}
-use Rattle.wit_nested.proofs.Pushes.{a_walk, none_of, one_walk, some_of, source_agrees, walk_agrees}
-use Rattle.wit_groups.proofs.Used.{group_sequence, used_trees}
-use Rattle.wit_groups.proofs.Sequences.{or_here, pushed, sequence_broken, sequence_comes, sequence_one, sequence_prefix, sequence_trees}
+use Rattle.wit_nested.proofs.Pushes.{a_walk, one_walk, source_agrees}
+use Rattle.wit_groups.proofs.Used.{group_sequence}
+use Rattle.wit_groups.proofs.Sequences.{pushed, sequence_broken, sequence_comes, sequence_one, sequence_trees}
 
 module _ (walk : List PackageFile → Option Fault) (walks : IsWalk walk) where
   -- one of two lists, in two parts
@@ -60,53 +51,6 @@ module _ (walk : List PackageFile → Option Fault) (walks : IsWalk walk) where
       subst (λ (l : List Source). AreUsed l (files_of (before ++ t ∷ trees)) (packages ++ more)) (append_assoc done (s ∷ []) ordered)
       (subst (λ (l : List SourceFile). AreUsed ((done ++ s ∷ []) ++ ordered) (files_of l) (packages ++ more)) (append_assoc before (t ∷ []) trees)
       (subst (λ (l : List UnresolvedPackage). AreUsed ((done ++ s ∷ []) ++ ordered) (files_of ((before ++ t ∷ []) ++ trees)) l) (append_assoc packages it.0 it.1 ∙ ap (λ (l : List UnresolvedPackage). packages ++ l) (sym it.2)) all))
-
-  -- sources have a first fault, or an allocation failed
-  abbrev HaveFirst : List Source → ParseError → Type 0
-  HaveFirst ordered e = IsAllocationFailure e ⊎ ((reads : List Read) × (f : Fault) × SequenceComesTo walk [] ordered reads (Some f))
-
-  -- one that cannot be read
-  unread_first : (prefix rest : List Source) (s : Source) (trees : List SourceFile) (e : ParseError) → AllZip IsTree prefix trees → pushes_fault walk trees ≡ None → IsFaultOf (string_bytes s.contents) s.offset e → HaveFirst (prefix ++ s ∷ rest) e
-  unread_first prefix rest s trees e each none (FaultWanted wanted) = inl wanted
-  unread_first prefix rest s trees e each none (At Wanting runs within refusal) = inl refusal
-  unread_first prefix rest s trees e each none (At (Stopped stop from to) runs within refusal) =
-      let f = stop_fault s.offset stop from to in
-      let own : IsStop s f = (stop, from, to, runs, refl) in
-      inr (map Tree trees ++ Stop f ∷ [], f, sequence_prefix walk [] prefix trees (s ∷ rest) (Stop f ∷ []) (Some f) each none (own, refl))
-
-  -- one that cannot be pushed
-  unfit_first : (prefix rest : List Source) (s : Source) (trees : List SourceFile) (read : SourceFile) (e : ParseError) (f : Fault) → AllZip IsTree prefix trees → pushes_fault walk trees ≡ None → IsTree s read → IsUnfit (files_of trees) read f → HaveFirst (prefix ++ s ∷ rest) e
-  unfit_first prefix rest s trees read e f each none tree unfit =
-      let it = some_of (source_fault walk (files_of trees) read) (source_agrees walk walks (files_of trees) read) f unfit in
-      let later = SequenceComesTo walk (trees ++ read ∷ []) rest [] in
-      inr (map Tree trees ++ Tree read ∷ [], it.0, sequence_prefix walk [] prefix trees (s ∷ rest) (Tree read ∷ []) (Some it.0) each none (tree, or_here (source_fault walk (files_of trees) read) later it.0 it.1))
-
-  -- all are read and pushed
-  joined_first : (ordered : List Source) (trees : List SourceFile) (e : ParseError) (f : Fault) → AllZip IsTree ordered trees → pushes_fault walk trees ≡ None → earliest (joined_faults walk trees) ≡ Some f → HaveFirst ordered e
-  joined_first ordered trees e f each none is =
-      inr (map Tree trees ++ [], f, subst (λ (l : List Source). SequenceComesTo walk [] l (map Tree trees ++ []) (Some f)) (append-nil ordered) (sequence_prefix walk [] ordered trees [] [] (Some f) each none (sym is)))
-
-  refused_first : (ordered : List Source) (e : ParseError) → AreRefused ordered e → HaveFirst ordered e
-  refused_first ordered e (Unread prefix rest s is files packages used unread) =
-      let it = used_trees walk walks prefix files packages used in
-      subst (λ (l : List Source). HaveFirst l e) (sym is) (unread_first prefix rest s it.trees e it.each it.none unread.fault)
-  refused_first ordered e (Unfit prefix rest s is files packages read used tree (inl wanted)) = inl wanted
-  refused_first ordered e (Unfit prefix rest s is files packages read used tree (inr unfit)) =
-      let it = used_trees walk walks prefix files packages used in
-      subst (λ (l : List Source). HaveFirst l e) (sym is)
-      (unfit_first prefix rest s it.trees read e (fault_of e) it.each it.none tree (subst (λ (fs : List PackageFile). IsUnfit fs read (fault_of e)) it.files_are unfit))
-  refused_first ordered e (Illegal files packages used (inl wanted)) = inl wanted
-  refused_first ordered e (Illegal files packages used (inr broken)) =
-      let it = used_trees walk walks ordered files packages used in
-      let own = some_of (walk (files_of it.trees)) (walk_agrees walk walks (files_of it.trees)) (fault_of e) (subst (λ (fs : List PackageFile). IsBroken fs (fault_of e)) it.files_are broken) in
-      joined_first ordered it.trees e own.0 it.each it.none (ap (λ (o : Option Fault). option_or o (earliest (names_fault (last_header (files_of it.trees)) (nested_names it.trees) ∷ []))) own.1)
-  refused_first ordered e (Repeated files packages main used made again) =
-      let it = used_trees walk walks ordered files packages used in
-      let made_of : IsMadeOf (files_of it.trees) main = subst (λ (fs : List PackageFile). IsMadeOf fs main) it.files_are made in
-      let right : walk (files_of it.trees) ≡ None = none_of (walk (files_of it.trees)) (walk_agrees walk walks (files_of it.trees)) made_of.legal in
-      let names = ((made_names it.trees main packages made_of it.made).repeated (fault_of e)).1 again in
-      joined_first ordered it.trees e (fault_of e) it.each it.none
-      (ap (λ (o : Option Fault). option_or o (earliest (names_fault (last_header (files_of it.trees)) (nested_names it.trees) ∷ []))) right ∙ or_none (names_fault (last_header (files_of it.trees)) (nested_names it.trees)) ∙ names)
 
 pub one_first : (sources others : List Source) (reads : List Read) (first other : Option Fault) → SourcesComeTo sources reads first → SourcesComeTo others reads other → first ≡ other
 one_first sources others reads first other a b =
@@ -144,10 +88,3 @@ group sources reads main nested it made each =
       made = made;
       apart = (made_names trees main nested made each).apart.0 (sym (or_none names) ∙ both.1);
     }
-
-pub first : (sources : List Source) (e : ParseError) → IsRefused sources e → IsAllocationFailure e ⊎ ((reads : List Read) × (f : Fault) × IsFirstOfSources sources reads f)
-first sources e (Wanted wanted) = inl wanted
-first sources e (InTurn ordered by_path refused) = elim (refused_first a_walk.0 a_walk.1 ordered e refused) [
-  | inl wanted ↦ inl wanted
-  | inr it ↦ inr (it.0, it.1, record { ordered = ordered; by_path = by_path; walk = a_walk.0; walks = a_walk.1; is = it.2 })
-]

@@ -1,15 +1,13 @@
 -- What holds of the first fault of sources.
-use Rattle.std.specs.Prelude.{◌≡◌, ◌⊎◌, ℕ, List, Option, Some}
+use Rattle.std.specs.Prelude.{◌≡◌, ◌⊎◌, ℕ, List, Option}
 use Rattle.std.specs.List.{AllZip}
-use Rattle.wit_type_tree.specs.declared.error.ParseError.{ParseError}
-use Rattle.wit_type_tree.specs.RefusalText.{IsAllocationFailure}
 use Rattle.wit_lex.specs.declared.source.Source.{Source}
 use Rattle.wit_bundle.specs.SourcePaths.{IsByPath}
 use Rattle.wit_model.specs.declared.unresolved.UnresolvedPackage.{UnresolvedPackage}
 use Rattle.wit_syntax.specs.Fault.{Fault}
 use Rattle.wit_arena.specs.Faithful.{IsMadeOf}
 use Rattle.wit_nested.specs.Nested.{IsMadeByNested}
-use Rattle.wit_groups.specs.Groups.{IsGroup, IsRefused, IsUnparsed}
+use Rattle.wit_groups.specs.Groups.{IsGroup}
 use Rattle.wit_nested.specs.PushFaults.{files_of, nested_of}
 use Rattle.wit_groups.specs.SourceFaults.{Read, IsRead, AreAlike, TextComesTo, trees_of, SourcesComeTo, IsFirstOfSources, AreFaultless, AreBroken}
 
@@ -41,9 +39,3 @@ FaultlessIsGroup = (sources : List Source) (reads : List Read) (main : Unresolve
 
 abbrev pub OneFirstOfText : Type 0
 OneFirstOfText = (path text : List ℕ) (reads : List Read) (first other : Option Fault) → TextComesTo path text reads first → TextComesTo path text reads other → first ≡ other
-
-abbrev pub RefusedHaveFirst : Type 0
-RefusedHaveFirst = (sources : List Source) (e : ParseError) → IsRefused sources e → IsAllocationFailure e ⊎ ((reads : List Read) × (f : Fault) × IsFirstOfSources sources reads f)
-
-abbrev pub RefusedTextHasFirst : Type 0
-RefusedTextHasFirst = (path text : List ℕ) (sources : List Source) (e : ParseError) → IsUnparsed path text sources e → IsAllocationFailure e ⊎ ((reads : List Read) × (f : Fault) × TextComesTo path text reads (Some f))

@@ -1,6 +1,6 @@
 //! What holds of the first fault of a group, and of sources.
 ghost use Rattle.wit_group_walk.specs.Laws.{FaultlessGroupIsLegal, FirstOfGroupIsBroken, LegalGroupIsFaultless, LegalGroupOrFirst, NamesAgree, OneFirstOfGroup};
-ghost use Rattle.wit_group_walk.specs.SourceLaws.{FaultlessIsGroup, FaultlessOrFirst, FirstOfSourcesIsBroken, GroupIsFaultless, OneFirstOfSources, OneFirstOfText, OneReading, OnePathOrder, RefusedHaveFirst, RefusedTextHasFirst};
+ghost use Rattle.wit_group_walk.specs.SourceLaws.{FaultlessIsGroup, FaultlessOrFirst, FirstOfSourcesIsBroken, GroupIsFaultless, OneFirstOfSources, OneFirstOfText, OneReading, OnePathOrder};
 
 /// A group comes to one fault, or to none: two first faults are equal, and a group that has one is not
 /// without a fault.
@@ -72,17 +72,7 @@ pub fn faultless_is_group()
     ensures { FaultlessIsGroup }
 {}
 
-/// Sources that are refused have a first fault, unless an allocation failed.
-pub fn refused_have_first()
-    ensures { RefusedHaveFirst }
-{}
-
 /// A text comes to one fault, or to none, where the same is read of it.
 pub fn one_first_of_text()
     ensures { OneFirstOfText }
-{}
-
-/// A text that `parse` refuses has a first fault, unless an allocation failed.
-pub fn refused_text_has_first()
-    ensures { RefusedTextHasFirst }
 {}

@@ -52,11 +52,6 @@ pub none_of : {A : Fault → Type 0} (first : Option Fault) → Agrees first A �
 none_of None x none = refl
 none_of (Some f) x none = absurd (none f (x.broken f refl))
 
--- and where something is wrong there is one
-pub some_of : {A : Fault → Type 0} (first : Option Fault) → Agrees first A → (f : Fault) → A f → (g : Fault) × (first ≡ Some g)
-some_of None x f h = absurd (x.unbroken refl f h)
-some_of (Some g) x f h = (g, refl)
-
 -- there is one walk of files
 pub one_walk : (walk other : List PackageFile → Option Fault) → IsWalk walk → IsWalk other → walk ≡ other
 one_walk walk other a b = fun_ext (λ (files : List PackageFile). one_first files (walk files) (other files) (a.each files) (b.each files))
