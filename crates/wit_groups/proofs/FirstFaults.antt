@@ -1,6 +1,6 @@
 -- Sources that are refused come to the refusal, and those that make a group to none.
-use Rattle.std.proofs.Common.{◌≡◌, ◌⊎◌, ℕ, ◌+◌, ◌<◌, suc, List, [], ◌∷◌, ◌++◌, Bor, length, get_or, map, take, drop, Option, Some, None, inl, inr, refl, sym, ap, ◌∙◌, subst}
-use Rattle.std.specs.Prelude.{Result, Ok, Err, IfErr, IfOk, string_bytes}
+use Rattle.std.proofs.Common.{◌≡◌, ◌⊎◌, ℕ, ◌+◌, ◌<◌, ◌≤◌, suc, true, false, arith, lt-ltb, le-ltb, List, [], ◌∷◌, ◌++◌, Bor, length, get_or, map, take, drop, Option, Some, None, inl, inr, refl, sym, ap, ◌∙◌, subst}
+use Rattle.std.specs.Prelude.{Result, Ok, Err, IfOk, nat_lt, string_bytes}
 use Rattle.std.specs.List.{AllZip}
 use Rattle.std.proofs.lemmas.List.{append-nil}
 use Rattle.wit_values.specs.declared.span.Span.{Span}
@@ -13,6 +13,7 @@ use Rattle.wit_tree.specs.declared.tree.SourceFile.{SourceFile}
 use Rattle.wit_lex.specs.declared.fault.ReadFault.{ReadFault}
 use Rattle.wit_lex.specs.declared.fault.ReadError.TheVariants.{Fault as Stopped, OutOfMemory as Wanting}
 use Rattle.wit_lex.specs.TextFaults.{ReportsFault, rule_of}
+use Rattle.wit_lex.specs.Sources.{IsTooLarge, ReportsTooLarge, space}
 use Rattle.wit_lex.specs.declared.source.Source.{Source}
 use Rattle.wit_lex.specs.declared.source_map.SourceMap.{SourceMap}
 use Rattle.wit_bundle.specs.SourcePaths.{IsByPath}
@@ -27,10 +28,10 @@ use Rattle.wit_nested.specs.PushFaults.{IsWalk, files_of, pushes_fault, source_f
 use Rattle.wit_nested.proofs.Prefixes.{prefix_split}
 use Rattle.wit_nested.proofs.Pushes.{a_walk}
 use Rattle.wit_groups.specs.declared.group.UnresolvedPackageGroup.{UnresolvedPackageGroup}
-use Rattle.wit_groups.specs.Groups.{AreUsed, IsTree, IsUnread}
-use Rattle.wit_groups.specs.SourceFaults.{AreStopped, FindsBeside, HaveFirst, IsFirstOfText, IsStop, Read, SequenceComesTo, Stop, Tree, stop_fault}
+use Rattle.wit_groups.specs.Groups.{AreUsed, IsAlone, IsTree, IsUnread}
+use Rattle.wit_groups.specs.SourceFaults.{AreStopped, FindsBeside, HaveFirst, IsStop, Read, SequenceComesTo, Stop, TextHasFirst, Tree, size_fault, stop_fault}
 use Rattle.wit_groups.proofs.Outcome.{now_of}
-use Rattle.wit_groups.proofs.Sequences.{or_here, sequence_prefix}
+use Rattle.wit_groups.proofs.Sequences.{or_at, or_here, sequence_prefix}
 use Rattle.wit_groups.proofs.Used.{used_trees}
 
 -- a span by its ends
@@ -115,11 +116,47 @@ faultless_of own sources same it = subst (λ (l : List Source). HaveFirst l None
 pub beside : (own sources : List Source) (e : ParseError) → own ≡ sources → IsAllocationFailure e ⊎ HaveFirst own (Some (fault_of e)) → IsAllocationFailure e ⊎ HaveFirst sources (Some (fault_of e))
 beside own sources e same it = subst (λ (l : List Source). IsAllocationFailure e ⊎ HaveFirst l (Some (fault_of e))) same it
 
--- a text
+-- a text that makes a group
 pub text_faultless : (map : SourceMap) (r : Result UnresolvedPackageGroup (SourceMap × ParseError)) → FindsBeside (HaveFirst map.sources.items) r → IfOk r (λ g. g.source_map ≡ map) → IfOk r (λ g. HaveFirst g.source_map.sources.items None)
 text_faultless map (Ok g) it kept = subst (λ (m : SourceMap). HaveFirst m.sources.items None) (sym kept) it
 text_faultless map (Err e) it kept = tt
 
-pub text_stops : (text : List ℕ) (map : SourceMap) (r : Result UnresolvedPackageGroup (SourceMap × ParseError)) → FindsBeside (HaveFirst map.sources.items) r → IfErr r (λ e. e.0 ≡ map) → IfErr r (λ e. IsFirstOfText text e.0.sources.items e.1)
-text_stops text map (Ok g) it kept = tt
-text_stops text map (Err e) it kept = inr (subst (λ (m : SourceMap). IsAllocationFailure e.1 ⊎ HaveFirst m.sources.items (Some (fault_of e.1))) (sym kept) it)
+-- a text that is too large
+abbrev pub TextStops : (path text : List ℕ) → ParseError → Type 0
+TextStops path text e = IsAllocationFailure e ⊎ TextHasFirst path text (Some (fault_of e))
+
+pub size_stops : (path text : List ℕ) (e : ParseError) (kind : ParseErrorKind) → e.kind ≡ kind → ReportsTooLarge (length text + 1) e.rule kind → TextStops path text e
+size_stops path text e (Syntax span message) is h =
+    let none : Span = record { start = 0; end = 0 } in
+    let past : nat_lt 4294967295 (length text + 1) ≡ true = lt-ltb 4294967295 (length text + 1) h.1 in
+    let large : size_fault text ≡ Some (fault 52 none) = rw past refl in
+    let said : fault_of e ≡ fault 52 none = ap (as_stated e.rule) is ∙ ap (λ (n : ℕ). fault n span) h.0 ∙ ap (fault 52) (span_is span 0 0 h.2 h.3) in
+    inr ([], or_here (size_fault text) _ (fault_of e) (large ∙ ap Some (sym said)))
+size_stops path text e (ItemNotFound span name sort hint) is h = absurd h
+size_stops path text e (TypeCycle span name sort) is h = absurd h
+size_stops path text e OutOfMemory is h = inl (record { kind = is; rule = h })
+
+pub text_too_large : (path text : List ℕ) (sources : List Source) (e : ParseError) → sources ≡ [] → IsTooLarge (space sources + length text + 1) e → TextStops path text e
+text_too_large path text sources e none it =
+    let nothing : space sources ≡ 0 = ap space none in
+    let all : space sources + length text + 1 ≡ length text + 1 = omega arith in
+    size_stops path text e e.kind refl (subst (λ (n : ℕ). IsTooLarge n e) all it).gives
+
+-- and one that is not
+text_fits : (text : List ℕ) (sources : List Source) → sources ≡ [] → space sources + length text + 1 ≤ 4294967295 → size_fault text ≡ None
+text_fits text sources none fits =
+    let nothing : space sources ≡ 0 = ap space none in
+    let within : length text + 1 ≤ 4294967295 = omega arith in
+    let below : nat_lt 4294967295 (length text + 1) ≡ false = le-ltb 4294967295 (length text + 1) within in
+    rw below refl
+
+pub text_finds : (path text : List ℕ) (sources : List Source) (map : SourceMap) (r : Result UnresolvedPackageGroup (SourceMap × ParseError)) → sources ≡ [] → space sources + length text + 1 ≤ 4294967295 → IsAlone path text map.sources.items → FindsBeside (HaveFirst map.sources.items) r → FindsBeside (TextHasFirst path text) r
+text_finds path text sources map r none fits alone it = by r it
+  where
+    comes : (first : Option Fault) → HaveFirst map.sources.items first → TextHasFirst path text first
+    comes first own = (own.0, or_at (size_fault text) _ first (text_fits text sources none fits) (map.sources.items, alone, own.1))
+
+    by : (q : Result UnresolvedPackageGroup (SourceMap × ParseError)) → FindsBeside (HaveFirst map.sources.items) q → FindsBeside (TextHasFirst path text) q
+    by (Ok g) own = comes None own
+    by (Err e) (inl wanted) = inl wanted
+    by (Err e) (inr own) = inr (comes (Some (fault_of e.1)) own)

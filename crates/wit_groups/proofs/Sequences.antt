@@ -25,7 +25,7 @@ pub or_two : (o : Option Fault) (Later Other : Option Fault → Type 0) → ((x 
 or_two None Later Other one x y a b = one x y a b
 or_two (Some f) Later Other one x y a b = a ∙ sym b
 
-or_at : (o : Option Fault) (Later : Option Fault → Type 0) (first : Option Fault) → o ≡ None → Later first → IsOr o Later first
+pub or_at : (o : Option Fault) (Later : Option Fault → Type 0) (first : Option Fault) → o ≡ None → Later first → IsOr o Later first
 or_at None Later first none h = h
 or_at (Some f) Later first none h = absurd (let g : ⊥ = cc in g)
 

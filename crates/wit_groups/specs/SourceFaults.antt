@@ -5,7 +5,6 @@ use Rattle.wit_type_tree.specs.RefusalText.{IsAllocationFailure}
 use Rattle.wit_type_tree.specs.declared.error.ParseError.{ParseError}
 use Rattle.wit_tree.specs.declared.tree.PackageFile.{PackageFile}
 use Rattle.wit_tree.specs.declared.tree.SourceFile.{SourceFile}
-use Rattle.wit_lex.specs.Sources.{IsTooLarge}
 use Rattle.wit_lex.specs.TextFaults.{rule_of}
 use Rattle.wit_lex.specs.declared.fault.ReadFault.{ReadFault}
 use Rattle.wit_lex.specs.declared.source.Source.{Source}
@@ -75,10 +74,6 @@ HaveFirst sources first = (reads : List Read) × SourcesComeTo sources reads fir
 abbrev pub FindsBeside : {T S : Type 0} → (Option Fault → Type 0) → Result T (S × ParseError) → Type 0
 FindsBeside IsFirst r = MatchResult r (λ _. IsFirst None) (λ e. IsAllocationFailure e.1 ⊎ IsFirst (Some (fault_of e.1)))
 
--- sources have a first fault, which is the refusal, or their text is too large to be one
-abbrev pub IsFirstOfText : (text : List ℕ) → List Source → ParseError → Type 0
-IsFirstOfText text sources e = IsTooLarge (length text + 1) e ⊎ (IsAllocationFailure e ⊎ HaveFirst sources (Some (fault_of e)))
-
 -- sources in this order, from the first on, come to the refusal
 abbrev pub AreStopped : List Source → ParseError → Type 0
 AreStopped ordered e = (walk : List PackageFile → Option Fault) → IsWalk walk → IsAllocationFailure e ⊎ ((reads : List Read) × SequenceComesTo walk [] ordered reads (Some (fault_of e)))
@@ -96,6 +91,10 @@ size_fault text = if nat_lt 4294967295 (length text + 1) then Some (fault 52 (re
 -- what a text under a path comes to: that, or what it comes to as the only source
 abbrev pub TextComesTo : (path text : List ℕ) → List Read → Option Fault → Type 0
 TextComesTo path text reads first = IsOr (size_fault text) (λ later. (sources : List Source) × IsAlone path text sources × SourcesComeTo sources reads later) first
+
+-- by what is read of it, a text has this first fault, or none
+abbrev pub TextHasFirst : (path text : List ℕ) → Option Fault → Type 0
+TextHasFirst path text first = (reads : List Read) × TextComesTo path text reads first
 
 -- what is wrong with sources: one cannot be read, or its tree is unfit after the files of those before it; or the files of all break a rule, or a
 -- nested package has the name of the main one or of a nested one before it

@@ -3,7 +3,7 @@ ghost use Rattle.std.specs.Prelude.{◌≡◌, IfErr, IfOk, None, map};
 ghost use Rattle.wit_lex.specs.Sources.{as_stated};
 ghost use Rattle.wit_first.specs.First.{FindsBy};
 ghost use Rattle.wit_groups.specs.Groups.{AreRefused, AreUsed, IsAlone, IsGroup, IsRefused, IsTree, IsUnparsed, IsUnread};
-ghost use Rattle.wit_groups.specs.SourceFaults.{AreStopped, FindsBeside, HaveFirst, IsFirstOfText};
+ghost use Rattle.wit_groups.specs.SourceFaults.{AreStopped, FindsBeside, HaveFirst, TextHasFirst};
 
 use std::alloc::{AllocError, Global};
 use wit_bundle::by_path;
@@ -115,7 +115,7 @@ impl UnresolvedPackageGroup {
         ensures source { IfOk result (λ group. IsAlone path.now contents.now group.source_map.sources.items) }
         ensures group { IfOk result (λ group. IsGroup group.source_map.sources.items group.main group.nested) }
         ensures faultless { IfOk result (λ group. HaveFirst group.source_map.sources.items None) }
-        ensures first { IfErr result (λ e. IsFirstOfText contents.now e.0.sources.items e.1) }
+        ensures first { FindsBeside (TextHasFirst path.now contents.now) result }
         ensures refused { IfErr result (λ e. IsUnparsed path.now contents.now e.0.sources.items e.1) }
     {
         let mut map = SourceMap::new(alloc);

@@ -1,5 +1,5 @@
 //! The sources of a package, one after the other.
-ghost use Rattle.std.specs.Prelude.{◌≡◌, ◌+◌, ◌<◌, ◌++◌, ◌∷◌, [], ℕ, length, slice_get, OnOk, OnErr, IfErr, IfSome, IfNone, Some, IsTrue, ◌↔◌};
+ghost use Rattle.std.specs.Prelude.{◌≡◌, ◌+◌, ◌<◌, ◌≤◌, ◌++◌, ◌∷◌, [], ℕ, length, slice_get, OnOk, OnErr, IfErr, IfSome, IfNone, Some, IsTrue, ◌↔◌};
 ghost use Rattle.wit_lex.specs.declared.source.Source.{Source};
 ghost use Rattle.wit_lex.specs.Places.{IsPlace};
 ghost use Rattle.wit_lex.specs.Sources.{IsLocated, IsTooLarge, LiesIn, space, as_stated};
@@ -49,6 +49,7 @@ impl SourceMap {
     /// is as it was.
     pub fn push(&mut self, alloc: Global, path: &str, contents: &str) -> ParseResult<()>
         ensures sources { OnOk result ((s : _) × IsSource path.now contents.now (space self.old.sources.items) s × (self.new.sources.items ≡ self.old.sources.items ++ s ∷ [])) }
+        ensures fits { OnOk result (space self.old.sources.items + length contents.now + 1 ≤ 4294967295) }
         ensures too_large { IfErr result (λ e. IsTooLarge (space self.old.sources.items + length contents.now + 1) e) }
         ensures unchanged { OnErr result (self.new.sources.items ≡ self.old.sources.items) }
     {

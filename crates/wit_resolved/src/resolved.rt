@@ -5,7 +5,7 @@ ghost use Rattle.wit_arena.specs.Faithful.{IsMadeOf};
 ghost use Rattle.wit_first.specs.First.{FindsBy};
 ghost use Rattle.wit_walk.specs.Walk.{ComesTo};
 ghost use Rattle.wit_groups.specs.Groups.{IsAlone, IsGroup, IsRefused, IsUnparsed};
-ghost use Rattle.wit_groups.specs.SourceFaults.{FindsBeside, HaveFirst, IsFirstOfText};
+ghost use Rattle.wit_groups.specs.SourceFaults.{FindsBeside, HaveFirst, TextHasFirst};
 ghost use Rattle.wit_resolved.specs.Valid.{AreMade, IsMade};
 
 use crate::package_ref::{PackageRef, PackageRefs};
@@ -90,7 +90,7 @@ impl ResolvedGroup {
         ensures source { IfOk result (λ it. IsAlone path.now contents.now it.group.source_map.sources.items) }
         ensures group { IfOk result (λ it. IsGroup it.group.source_map.sources.items it.group.main it.group.nested) }
         ensures faultless { IfOk result (λ it. HaveFirst it.group.source_map.sources.items None) }
-        ensures first { IfErr result (λ e. IsFirstOfText contents.now e.0.sources.items e.1) }
+        ensures first { FindsBeside (TextHasFirst path.now contents.now) result }
         ensures refused { IfErr result (λ e. IsUnparsed path.now contents.now e.0.sources.items e.1) }
     {
         match UnresolvedPackageGroup::parse(alloc, path, contents) {

@@ -1,6 +1,4 @@
-use Rattle.std.proofs.Common.{◌≡◌, ℕ, ◌+◌, length, inl, ap, subst, arith}
-use Rattle.wit_lex.specs.Sources.{IsTooLarge, space}
-use Rattle.wit_groups.proofs.FirstFaults.{text_faultless, text_stops}
+use Rattle.wit_groups.proofs.FirstFaults.{text_faultless, text_finds, text_too_large}
 use Rattle.wit_groups.proofs.Outcome.{only_source, parsed, unparsed}
 use Rattle.wit_groups.proofs.group.UnresolvedPackageGroup.parse.Goals as goal
 
@@ -18,10 +16,10 @@ pub returns-in-Ok-clause-faultless : goal.returns-in-Ok-clause-faultless
 returns-in-Ok-clause-faultless c = text_faultless c.push.new.self c.from_sources.result c.from_sources.ensures.first c.from_sources.ensures.kept
 
 pub returns-in-Ok-clause-first : goal.returns-in-Ok-clause-first
-returns-in-Ok-clause-first c = text_stops c.args.contents.now c.push.new.self c.from_sources.result c.from_sources.ensures.first c.from_sources.ensures.returned
+returns-in-Ok-clause-first c =
+    let own = c.new-map.result.sources.items in
+    let alone = only_source c.args.path.now c.args.contents.now own c.push.new.self.sources.items c.new-map.ensures.sources c.in-Ok.ensures.sources in
+    text_finds c.args.path.now c.args.contents.now own c.push.new.self c.from_sources.result c.new-map.ensures.sources c.in-Ok.ensures.fits alone c.from_sources.ensures.first
 
 pub returns-in-Err-clause-first : goal.returns-in-Err-clause-first
-returns-in-Err-clause-first c =
-    let none : space c.new-map.result.sources.items ≡ 0 = ap space c.new-map.ensures.sources in
-    let all : space c.new-map.result.sources.items + length c.args.contents.now + 1 ≡ length c.args.contents.now + 1 = omega arith in
-    inl (subst (λ (n : ℕ). IsTooLarge n c.in-Err.e) all c.in-Err.ensures.too_large)
+returns-in-Err-clause-first c = text_too_large c.args.path.now c.args.contents.now c.new-map.result.sources.items c.in-Err.e c.new-map.ensures.sources c.in-Err.ensures.too_large
