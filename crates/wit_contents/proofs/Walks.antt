@@ -3,7 +3,6 @@ use Rattle.std.proofs.Common.{◌≡◌, List, map, sym, ap, ◌∙◌, subst, t
 use Rattle.wit_type_tree.specs.declared.leaves.Id.{Id}
 use Rattle.wit_types.specs.declared.types.TypeDef.{TypeDef}
 use Rattle.wit_types.specs.declared.types.TypeOwner.{TypeOwner}
-use Rattle.wit_model.specs.declared.interface.Interface.{Interface}
 use Rattle.wit_syntax.specs.Function.{functions}
 use Rattle.wit_syntax.specs.Source.{is_world, scope_names}
 use Rattle.wit_arena.specs.Resolving.{env_of, names_in}
@@ -18,6 +17,7 @@ use Rattle.wit_item_entries.specs.declared.names.ResolvedNames.{ResolvedNames}
 use Rattle.wit_item_entries.proofs.FunctionFaults.{all_names}
 use Rattle.wit_item_entries.proofs.Owners.{owners, turn_has}
 use Rattle.wit_uses.specs.NameOrder.{IsTurn}
+use Rattle.wit_contents.specs.declared.walk.Growing.{Growing}
 use Rattle.wit_contents.specs.declared.walk.Walk.{Walk}
 use Rattle.wit_contents.specs.declared.walk.Walked.{Walked}
 use Rattle.wit_contents.specs.Walk.{AddsAll, IsWalk, ItemWalk, walk_item, walk_of}
@@ -39,8 +39,8 @@ is_walk w ids item sort fns results turn listed lent =
     }
 
 -- a walk of a world, and what came of it
-pub sides_of : (w : Walk) (i : BorrowedItem) (old new : List TypeDef) (inside now : List Interface) (m : Walked) → AddsAll (walk_of i w) old new inside now m → (is : Interfaces) (names : ResolvedNames) → IsWalk (walk_of i w) → w.interfaces.now ≡ is → w.scope.names.now ≡ names.types → w.turn.now ≡ names.turn.items → AddsSidesOf i is names old new inside now m
-sides_of w i old new inside now m all is names walk interfaces types turn = (w, record { walk = walk; interfaces = interfaces; types = types; turn = turn }, all)
+pub sides_of : (w : Walk) (i : BorrowedItem) (old new : Growing) (m : Walked) → AddsAll (walk_of i w) old.types new.types old.inside new.inside m → (is : Interfaces) (names : ResolvedNames) → IsWalk (walk_of i w) → w.interfaces.now ≡ is → w.scope.names.now ≡ names.types → w.turn.now ≡ names.turn.items → AddsSidesOf i is names old new m
+sides_of w i old new m all is names walk interfaces types turn = (w, record { walk = walk; interfaces = interfaces; types = types; turn = turn }, all)
 
 -- its names were added in turn
 pub turn_of : (w : Walk) (i : BorrowedItem) (is : Interfaces) (names : ResolvedNames) → IsWalkOf w i is names → (old new : List TypeDef) (o : TypeOwner) → AddsTurn old new (resolved_scopes_of is) o (scope_names (item_view i)) names.types names.turn.items names.required.items → AddsTurn old new (resolved_scopes_of w.interfaces.now) o (scope_names (item_view i)) w.scope.names.now w.turn.now names.required.items

@@ -16,6 +16,8 @@ use Rattle.wit_items.specs.declared.interfaces.Interfaces.{Interfaces}
 use Rattle.wit_items.specs.declared.items.Item.{Item as BorrowedItem}
 use Rattle.wit_links.specs.declared.worlds.Worlds.{Worlds}
 use Rattle.wit_uses.specs.NewRequirements.{Appends}
+use Rattle.wit_contents.specs.declared.walk.Growing.{Growing}
+use Rattle.wit_contents.specs.declared.world.ResolvedWorlds.{ResolvedWorlds}
 use Rattle.wit_contents.specs.declared.world.WorldContent.{WorldContent}
 
 -- the worlds among items, in the order of their places
@@ -27,19 +29,19 @@ abbrev pub arenas : List World → List Interface → List Address → WorldAren
 arenas ws inside ss = record { worlds = ws; inside = inside; addresses = ss }
 
 -- the arena of worlds is now this one: an item was added to the arenas, as a world, wherever the interfaces that were written before it are
-abbrev pub AddsTo : Worlds → List World → BorrowedItem → List TypeDef → List TypeDef → List Interface → List Interface → List Required → List Required → Type 0
-AddsTo ws arena i old new inside now before after = (ss : List Address) → length ss ≡ length inside → Appends before after (λ rs. AddsWorld (prefix_of ws.interfaces.now.files) (others_of ws.interfaces.now.files) ws.interfaces.now.arena old new (arenas ws.arena inside ss) (arenas arena now (ss ++ map address (inline_items (item_view i)))) rs (item_view i))
+abbrev pub AddsTo : Worlds → List World → BorrowedItem → Growing → Growing → List Required → List Required → Type 0
+AddsTo ws arena i old new before after = (ss : List Address) → length ss ≡ length old.inside → Appends before after (λ rs. AddsWorld (prefix_of ws.interfaces.now.files) (others_of ws.interfaces.now.files) ws.interfaces.now.arena old.types new.types (arenas ws.arena old.inside ss) (arenas arena new.inside (ss ++ map address (inline_items (item_view i)))) rs (item_view i))
 
 -- as this world
-abbrev pub AddsOne : Worlds → World → BorrowedItem → List TypeDef → List TypeDef → List Interface → List Interface → List Required → List Required → Type 0
-AddsOne ws w i old new inside now before after = AddsTo ws (ws.arena ++ w ∷ []) i old new inside now before after
+abbrev pub AddsOne : Worlds → World → BorrowedItem → Growing → Growing → List Required → List Required → Type 0
+AddsOne ws w i old new before after = AddsTo ws (ws.arena ++ w ∷ []) i old new before after
 
 -- after worlds of other packages these are the worlds, and these the interfaces that are written in them: items were added, as worlds
 abbrev pub AddsWorldsTo : Interfaces → List World → List World → List Interface → List TypeDef → List TypeDef → List Required → List Required → List Item → Type 0
 AddsWorldsTo is prefix ws inside old new before after items = Appends before after (λ rs. (ss : List Address) × AddsWorlds (prefix_of is.files) (others_of is.files) is.arena old new (prefix_worlds prefix) (arenas ws inside ss) rs items)
 
-abbrev pub AddsWorldsAmong : Interfaces → List World → List World → List Interface → List TypeDef → List TypeDef → List Required → List Required → List BorrowedItem → List ℕ → Type 0
-AddsWorldsAmong is prefix ws inside old new before after items places = AddsWorldsTo is prefix ws inside old new before after (worlds_in items places)
+abbrev pub AddsWorldsAmong : Interfaces → List World → ResolvedWorlds → List TypeDef → List TypeDef → List BorrowedItem → List ℕ → Type 0
+AddsWorldsAmong is prefix r old new items places = AddsWorldsTo is prefix r.worlds r.inside old new [] r.required.items (worlds_in items places)
 
 -- a world of an item has this content
 pub record HasContent (i : BorrowedItem) (c : WorldContent) (w : World) : Type 0 where
@@ -49,8 +51,8 @@ pub record HasContent (i : BorrowedItem) (c : WorldContent) (w : World) : Type 0
   pub includes : w.includes ≡ c.includes
 
 -- a world of this content is added
-abbrev pub AddsContent : Worlds → BorrowedItem → List TypeDef → List TypeDef → List Interface → List Interface → List Required → List Required → WorldContent → Type 0
-AddsContent ws i old new inside now before after c = (w : World) → HasContent i c w → AddsTo ws (ws.arena ++ w ∷ []) i old new inside now before after
+abbrev pub AddsContent : Worlds → BorrowedItem → Growing → Growing → List Required → List Required → WorldContent → Type 0
+AddsContent ws i old new before after c = (w : World) → HasContent i c w → AddsTo ws (ws.arena ++ w ∷ []) i old new before after
 
 -- each world is found by its name
 abbrev pub AreIndexed : Worlds → Type 0

@@ -36,6 +36,7 @@ use Rattle.wit_links.specs.SideCounts.{IsSeen}
 use Rattle.wit_links.specs.Links.{path_place}
 use Rattle.wit_uses.specs.NameOrder.{IsTurn}
 use Rattle.wit_uses.specs.NewRequirements.{Appends}
+use Rattle.wit_contents.specs.declared.walk.Growing.{Growing}
 use Rattle.wit_contents.specs.declared.walk.Walk.{Walk}
 use Rattle.wit_contents.specs.declared.walk.Walked.{Walked}
 
@@ -78,6 +79,9 @@ pub record Stage : Type 0 where
 abbrev pub stage : List TypeDef → List Interface → Walked → Stage
 stage types inside walked = record { types = types; inside = inside; walked = walked }
 
+abbrev pub stage_of : Growing → Walked → Stage
+stage_of g m = stage g.types g.inside m
+
 -- these come next of what is on the sides
 pub record IsNext (w : ItemWalk) (xs : List SideItem) (m : Walked) : Type 0 where
   pub walk : IsWalk w
@@ -116,8 +120,8 @@ pub record AddsMembers (w : ItemWalk) (prefix xs : List SideItem) (a b : Stage) 
 abbrev pub AddsNext : ItemWalk → List SideItem → Stage → Stage → Type 0
 AddsNext w xs a b = (n : IsNext w xs a.walked) → AddsMembers w n.prefix xs a b
 
-abbrev pub AddsItems : BorrowedItem → Walk → List SideItem → List TypeDef → List Interface → Walked → List TypeDef → List Interface → Walked → Type 0
-AddsItems i w xs old inside a new now b = AddsNext (walk_of i w) xs (stage old inside a) (stage new now b)
+abbrev pub AddsItems : BorrowedItem → Walk → List SideItem → Growing → Walked → Growing → Walked → Type 0
+AddsItems i w xs old a new b = AddsNext (walk_of i w) xs (stage_of old a) (stage_of new b)
 
 -- so without inline interfaces, whatever these are so far
 abbrev pub AddsTyped : BorrowedItem → Walk → List SideItem → List TypeDef → List TypeDef → Walked → Walked → Type 0

@@ -1,7 +1,5 @@
 -- The walk of a world of the files, after its names, and what it adds.
-use Rattle.std.specs.Prelude.{◌≡◌, List, map}
-use Rattle.wit_types.specs.declared.types.TypeDef.{TypeDef}
-use Rattle.wit_model.specs.declared.interface.Interface.{Interface}
+use Rattle.std.specs.Prelude.{◌≡◌, map}
 use Rattle.wit_syntax.specs.Function.{functions as the_functions}
 use Rattle.wit_syntax.specs.ScopeTables.{includes}
 use Rattle.wit_syntax.specs.Source.{scope_names}
@@ -13,6 +11,7 @@ use Rattle.wit_items.specs.declared.items.Item.{Item as BorrowedItem}
 use Rattle.wit_world_sides.specs.Settled.{none_of}
 use Rattle.wit_uses.specs.NameOrder.{IsTurn}
 use Rattle.wit_item_entries.specs.declared.names.ResolvedNames.{ResolvedNames}
+use Rattle.wit_contents.specs.declared.walk.Growing.{Growing}
 use Rattle.wit_contents.specs.declared.walk.Walk.{Walk}
 use Rattle.wit_contents.specs.declared.walk.Walked.{Walked}
 use Rattle.wit_contents.specs.declared.world.WorldScope.{WorldScope}
@@ -33,5 +32,5 @@ pub record IsWalkOf (w : Walk) (i : BorrowedItem) (is : Interfaces) (names : Res
   pub turn : w.turn.now ≡ names.turn.items
 
 -- all that is on the sides of the world was added
-abbrev pub AddsSidesOf : BorrowedItem → Interfaces → ResolvedNames → List TypeDef → List TypeDef → List Interface → List Interface → Walked → Type 0
-AddsSidesOf i is names old new inside now m = (w : Walk) × IsWalkOf w i is names × AddsAll (walk_of i w) old new inside now m
+abbrev pub AddsSidesOf : BorrowedItem → Interfaces → ResolvedNames → Growing → Growing → Walked → Type 0
+AddsSidesOf i is names old new m = (w : Walk) × IsWalkOf w i is names × AddsAll (walk_of i w) old.types new.types old.inside new.inside m

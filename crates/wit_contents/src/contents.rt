@@ -70,13 +70,13 @@ fn resolve_files<'f, 'a>(
     };
     let mut required = Vec::new(alloc);
     resolve_interfaces(lent, types, &mut required, &mut interfaces, order)?;
-    let made = resolve_worlds(lent, types, &mut required, &interfaces, worlds, order)?;
-    let (worlds, mut inside) = made;
+    let mut made = resolve_worlds(lent, types, &interfaces, worlds, order)?;
+    required.append(&mut made.required)?;
     let mut interfaces = interfaces.arena;
-    interfaces.append(&mut inside)?;
+    interfaces.append(&mut made.inside)?;
     Ok(Resolved {
         interfaces,
-        worlds,
+        worlds: made.worlds,
         unknown_type_spans: spans,
         required,
     })

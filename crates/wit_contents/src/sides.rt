@@ -6,17 +6,14 @@ ghost use Rattle.wit_world_sides.specs.Settled.{none_of};
 ghost use Rattle.wit_contents.specs.Walk.{AddsAll, IsWalk, walk_of};
 ghost use Rattle.wit_contents.specs.WorldFaults.{FindsWalk};
 
-use crate::walk::{Walk, Walked, walk_parts};
-use wit_entries::entries::Entries;
+use crate::walk::{Growing, Walk, Walked, walk_parts};
 use wit_items::items::Item;
 use wit_links::inside::{Seen, declared_world};
-use wit_model::Interface;
 use wit_notes::is_same_side;
 use wit_rules::borrowed::BorrowedFunction;
 use wit_top_names::declaration::world_items;
 use wit_tree::ParseResult;
 use wit_tree::tree::{Extern, ExternKind, World, WorldItem, WorldSide};
-use wit_types::{Arena, InterfacePlace};
 use wit_world_sides::members::named_members;
 use wit_world_sides::sides_setters::check_closed;
 
@@ -62,14 +59,13 @@ fn side_room(world: &World<'_>, functions: &[BorrowedFunction<'_, '_>], side: Wo
 pub fn walk_sides<'f, 'a>(
     item: &Item<'f, 'a>,
     walk: &Walk<'f, 'a, '_, '_, '_>,
-    types: &mut Entries,
-    inside: &mut Arena<Interface, InterfacePlace>,
+    growing: &mut Growing,
     closed: bool,
 ) -> ParseResult<Walked>
     requires walk { IsWalk (walk_of item.now walk.now) }
     requires closed { closed ≡ none_of (includes (item_view item.now)) }
-    ensures adds { IfOk result (AddsAll (walk_of item.now walk.now) types.old types.new inside.old inside.new) }
-    ensures first { FindsWalk (walk_of item.now walk.now) types.old inside.old result }
+    ensures adds { IfOk result (AddsAll (walk_of item.now walk.now) growing.old.types growing.new.types growing.old.inside growing.new.inside) }
+    ensures first { FindsWalk (walk_of item.now walk.now) growing.old.types growing.old.inside result }
 {
     let alloc = *walk.interfaces.by_name.allocator();
     let world = declared_world(&item.declared);
@@ -82,7 +78,7 @@ pub fn walk_sides<'f, 'a>(
         required: Vec::new(alloc),
         seen: Seen::none(),
     };
-    walk_parts(item, walk, types, inside, &mut walked)?;
+    walk_parts(item, walk, growing, &mut walked)?;
     check_closed(closed, functions, &walked.members.in_use, walk.turn)?;
     Ok(walked)
 }

@@ -13,7 +13,7 @@ ghost use Rattle.wit_scopes.specs.BorrowedNames.{name_view};
 ghost use Rattle.wit_world_sides.specs.Members.{path_link};
 ghost use Rattle.wit_links.specs.SideCounts.{inline_side, seen_on};
 ghost use Rattle.wit_contents.specs.MemberFaults.{FindsInside, FindsNext, FindsTyped};
-ghost use Rattle.wit_contents.specs.Walk.{AddsInside, AddsItems, AddsTyped, IsNext, items_of, next_place, resource_items, stage, walk_of};
+ghost use Rattle.wit_contents.specs.Walk.{AddsInside, AddsItems, AddsTyped, IsNext, items_of, next_place, resource_items, stage_of, walk_of};
 
 use crate::interface::interface_of;
 use std::alloc::AllocError;
@@ -44,6 +44,14 @@ pub struct Walk<'f, 'a, 'w, 'n, 'e> {
     /// What its functions are read in.
     pub scope: FunctionScope<'w, 'f, 'a>,
     pub interfaces: &'w Interfaces<'n, 'e, 'f, 'a>,
+}
+
+/// What grows while worlds are resolved, for all of them.
+#[derive(Drop)]
+pub struct Growing {
+    pub types: Entries,
+    /// The interfaces that are written in worlds, in the order in which they are seen.
+    pub inside: Arena<Interface, InterfacePlace>,
 }
 
 /// What is on the sides of a world so far.
@@ -145,21 +153,26 @@ fn walk_inline<'f, 'a>(
     item: &Item<'f, 'a>,
     walk: &Walk<'f, 'a, '_, '_, '_>,
     inline: InlineInterface<'f, 'a>,
-    types: &mut Entries,
-    inside: &mut Arena<Interface, InterfacePlace>,
+    growing: &mut Growing,
     walked: &mut Walked,
 ) -> ParseResult<()>
     requires next { IsNext (walk_of item.now walk.now) (inline_side inline ∷ []) walked.old }
     requires world { inline.world.now ≡ item_name (item_view item.now) }
     requires place { inline.place ≡ (seen_on inline.written.now.side walked.old.seen).interfaces }
-    ensures adds { OnOk result (AddsItems item.now walk.now (inline_side inline.entry ∷ []) types.old inside.old walked.old types.new inside.new walked.new) }
-    ensures first { FindsNext (walk_of item.now walk.now) (inline_side inline.entry ∷ []) (stage types.old inside.old walked.old) result }
+    ensures adds { OnOk result (AddsItems item.now walk.now (inline_side inline.entry ∷ []) growing.old walked.old growing.new walked.new) }
+    ensures first { FindsNext (walk_of item.now walk.now) (inline_side inline.entry ∷ []) (stage_of growing.old walked.old) result }
 {
     let alloc = *walk.interfaces.by_name.allocator();
     let side = inline.written.side;
     let counts = walked.seen.on(side);
     let scope = inside_scope(item, inline, counts.inline);
-    let id = resolve_inline(&scope, types, &mut walked.required, walk.interfaces, inside)?;
+    let id = resolve_inline(
+        &scope,
+        &mut growing.types,
+        &mut walked.required,
+        walk.interfaces,
+        &mut growing.inside,
+    )?;
     check_metadata(alloc, &inline.written.attributes)?;
     put_inline(alloc, &mut walked.members, inline.written, inline.name, id)?;
     let seen = walked.seen.with_interface(side, 1)?;
@@ -204,24 +217,23 @@ fn walk_extern<'f, 'a>(
     item: &Item<'f, 'a>,
     walk: &Walk<'f, 'a, '_, '_, '_>,
     written: &'f Extern<'a>,
-    types: &mut Entries,
-    inside: &mut Arena<Interface, InterfacePlace>,
+    growing: &mut Growing,
     walked: &mut Walked,
 ) -> ParseResult<()>
     requires { IsNext (walk_of item.now walk.now) (items_of written.now) walked.old }
-    ensures adds { OnOk result (AddsItems item.now walk.now (items_of written.now) types.old inside.old walked.old types.new inside.new walked.new) }
-    ensures first { FindsNext (walk_of item.now walk.now) (items_of written.now) (stage types.old inside.old walked.old) result }
+    ensures adds { OnOk result (AddsItems item.now walk.now (items_of written.now) growing.old walked.old growing.new walked.new) }
+    ensures first { FindsNext (walk_of item.now walk.now) (items_of written.now) (stage_of growing.old walked.old) result }
 {
     match &written.kind {
         ExternKind::Interface(name, items) => {
             let counts = walked.seen.on(written.side);
             let world = declared_world(&item.declared);
             let inline = inline_at(world, counts.interfaces, written, *name, items);
-            walk_inline(item, walk, inline, types, inside, walked)
+            walk_inline(item, walk, inline, growing, walked)
         }
         ExternKind::Func(name, func) => {
             let borrowed = extern_part_function(written, *name, func);
-            walk_function(item, walk, borrowed, types, walked)
+            walk_function(item, walk, borrowed, &mut growing.types, walked)
         }
         ExternKind::Path(path) => {
             let name = None;
@@ -244,29 +256,14 @@ fn walk_extern<'f, 'a>(
     }
 }
 
-/// Resolves the functions of a resource of this name, which come next.
-fn walk_functions<'f, 'a>(
-    item: &Item<'f, 'a>,
-    walk: &Walk<'f, 'a, '_, '_, '_>,
-    resource: Id<'a>,
-    functions: &'f [ResourceFunc<'a>],
-    types: &mut Entries,
-    walked: &mut Walked,
-) -> ParseResult<()>
-    requires { IsNext (walk_of item.now walk.now) (resource_items resource functions.now) walked.old }
-    ensures adds { OnOk result (AddsTyped item.now walk.now (resource_items resource.entry functions.now) types.old types.new walked.old walked.new) }
-    ensures first { FindsTyped (walk_of item.now walk.now) (resource_items resource.entry functions.now) types.old walked.old result }
+/// The functions of a resource; none of another definition.
+fn resource_functions<'t, 'a>(definition: &'t TypeDef<'a>) -> &'t [ResourceFunc<'a>]
+    ensures { part_items (DefinitionPart definition.now) ≡ resource_items definition.now.name result.now }
 {
-    for function in functions {
-        walk_function(
-            item,
-            walk,
-            BorrowedFunction::Of(resource, function),
-            types,
-            walked,
-        )?;
+    match &definition.body {
+        TypeBody::Resource { funcs } => funcs,
+        _ => &[],
     }
-    Ok(())
 }
 
 /// Resolves the functions of a definition, which come next: those of a resource.
@@ -281,35 +278,42 @@ fn walk_definition<'f, 'a>(
     ensures adds { OnOk result (AddsTyped item.now walk.now (part_items (DefinitionPart definition.now)) types.old types.new walked.old walked.new) }
     ensures first { FindsTyped (walk_of item.now walk.now) (part_items (DefinitionPart definition.now)) types.old walked.old result }
 {
-    match &definition.body {
-        TypeBody::Resource { funcs } => {
-            walk_functions(item, walk, definition.name, funcs, types, walked)
-        }
-        _ => Ok(()),
+    for function in resource_functions(definition) {
+        walk_function(
+            item,
+            walk,
+            BorrowedFunction::Of(definition.name, function),
+            types,
+            walked,
+        )?;
     }
+    Ok(())
 }
 
 /// Resolves all that is on the sides of a world, in source order.
 pub(crate) fn walk_parts<'f, 'a>(
     item: &Item<'f, 'a>,
     walk: &Walk<'f, 'a, '_, '_, '_>,
-    types: &mut Entries,
-    inside: &mut Arena<Interface, InterfacePlace>,
+    growing: &mut Growing,
     walked: &mut Walked,
 ) -> ParseResult<()>
     requires { IsNext (walk_of item.now walk.now) (side_items (item_view item.now)) walked.old }
-    ensures adds { OnOk result (AddsItems item.now walk.now (side_items (item_view item.now)) types.old inside.old walked.old types.new inside.new walked.new) }
-    ensures first { FindsNext (walk_of item.now walk.now) (side_items (item_view item.now)) (stage types.old inside.old walked.old) result }
+    ensures adds { OnOk result (AddsItems item.now walk.now (side_items (item_view item.now)) growing.old walked.old growing.new walked.new) }
+    ensures first { FindsNext (walk_of item.now walk.now) (side_items (item_view item.now)) (stage_of growing.old walked.old) result }
 {
     let world = declared_world(&item.declared);
     for part in world_items(world) {
         match part {
             WorldItem::TypeDef(definition) => walk_definition(
-                item, walk, definition, types, walked,
+                item,
+                walk,
+                definition,
+                &mut growing.types,
+                walked,
             )?,
             WorldItem::Use(_) => {}
             WorldItem::Include(_) => {}
-            WorldItem::Extern(written) => walk_extern(item, walk, written, types, inside, walked)?,
+            WorldItem::Extern(written) => walk_extern(item, walk, written, growing, walked)?,
         }
     }
     Ok(())

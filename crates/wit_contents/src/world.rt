@@ -15,8 +15,9 @@ ghost use Rattle.wit_contents.specs.WorldFaults.{FindsSides, FindsWorld, FindsWo
 ghost use Rattle.wit_contents.specs.WorldWalk.{AddsSidesOf, IsScopeOfWorld};
 
 use crate::sides::walk_sides;
-use crate::walk::{Walk, Walked};
+use crate::walk::{Growing, Walk, Walked};
 use std::alloc::{AllocError, Global};
+use std::mem::replace;
 use wit_entries::entries::Entries;
 use wit_entries::scope::Required;
 use wit_item_entries::functions::{world_functions, written_results};
@@ -44,6 +45,14 @@ use wit_world_sides::sides_setters::{is_closed, settle};
 pub struct WorldContent {
     pub sides: WorldSides,
     pub includes: Row<WorldInclude>,
+}
+
+/// The worlds of other packages and of items, what is written in those of items, and what these require.
+#[derive(Drop)]
+pub struct ResolvedWorlds {
+    pub worlds: Arena<World, WorldPlace>,
+    pub inside: Arena<Interface, InterfacePlace>,
+    pub required: Vec<Required>,
 }
 
 /// What the functions of a world are read in: its names, which are resolved, the definitions that are
@@ -91,14 +100,13 @@ fn walked_sides<'f, 'a>(
     item: &Item<'f, 'a>,
     scope: &WorldScope<'f, 'a>,
     interfaces: &Interfaces<'_, '_, 'f, 'a>,
-    types: &mut Entries,
-    inside: &mut Arena<Interface, InterfacePlace>,
+    growing: &mut Growing,
 ) -> ParseResult<Walked>
     requires sort { is_world (item_view item.now) ≡ true }
     requires item { IsItemOf interfaces.now.files item.now }
     requires scope { IsScopeOfWorld scope.now item.now }
-    ensures adds { IfOk result (AddsSidesOf item.now interfaces.now scope.now.names types.old types.new inside.old inside.new) }
-    ensures first { FindsSides item.now interfaces.now scope.now.names types.old inside.old result }
+    ensures adds { IfOk result (AddsSidesOf item.now interfaces.now scope.now.names growing.old growing.new) }
+    ensures first { FindsSides item.now interfaces.now scope.now.names growing.old.types growing.old.inside result }
 {
     let functions = function_scope(scope);
     let walk = Walk {
@@ -106,27 +114,32 @@ fn walked_sides<'f, 'a>(
         scope: functions,
         interfaces,
     };
-    let walked = walk_sides(item, &walk, types, inside, scope.closed)?;
+    let walked = walk_sides(item, &walk, growing, scope.closed)?;
     Ok(walked)
 }
 
 /// What a world has on its sides, after its names, and its includes.
 fn world_content<'f, 'a>(
     item: &Item<'f, 'a>,
-    types: &mut Entries,
+    growing: &mut Growing,
     required: &mut Vec<Required>,
-    inside: &mut Arena<Interface, InterfacePlace>,
     worlds: &Worlds<'_, '_, '_, 'f, 'a>,
 ) -> ParseResult<WorldContent>
     requires sort { is_world (item_view item.now) ≡ true }
     requires item { IsItemOf worlds.now.interfaces.now.files item.now }
-    ensures adds { IfOk result (AddsContent worlds.now item.now types.old types.new inside.old inside.new required.old.items required.new.items) }
-    ensures extended { OnOk result (length inside.new ≡ length inside.old + length (inline_items (item_view item.now))) }
-    ensures first { item_stability (item_view item.now) ≡ None → FindsWorld worlds.now types.old inside.old item.now result }
+    ensures adds { IfOk result (AddsContent worlds.now item.now growing.old growing.new required.old.items required.new.items) }
+    ensures extended { OnOk result (length growing.new.inside ≡ length growing.old.inside + length (inline_items (item_view item.now))) }
+    ensures first { item_stability (item_view item.now) ≡ None → FindsWorld worlds.now growing.old.types growing.old.inside item.now result }
 {
     let alloc = *worlds.by_name.allocator();
     let owner = TypeOwner::World(worlds.arena.next_id());
-    let names = resolve_names(alloc, &item.names, types, worlds.interfaces, owner)?;
+    let names = resolve_names(
+        alloc,
+        &item.names,
+        &mut growing.types,
+        worlds.interfaces,
+        owner,
+    )?;
     let includes = declared_includes(alloc, &item.declared, worlds, item.place)?;
     let world = declared_world(&item.declared);
     let functions = world_functions(alloc, world)?;
@@ -138,7 +151,7 @@ fn world_content<'f, 'a>(
         functions,
         closed,
     };
-    let walked = walked_sides(item, &scope, worlds.interfaces, types, inside)?;
+    let walked = walked_sides(item, &scope, worlds.interfaces, growing)?;
     add_required(required, &scope.names.required)?;
     add_required(required, &walked.required)?;
     let members = walked.members;
@@ -177,21 +190,20 @@ fn world_with(
 /// it imports and exports.
 fn world_of<'f, 'a>(
     item: &Item<'f, 'a>,
-    types: &mut Entries,
+    growing: &mut Growing,
     required: &mut Vec<Required>,
-    inside: &mut Arena<Interface, InterfacePlace>,
     worlds: &Worlds<'_, '_, '_, 'f, 'a>,
 ) -> ParseResult<World>
     requires sort { is_world (item_view item.now) ≡ true }
     requires item { IsItemOf worlds.now.interfaces.now.files item.now }
     ensures named { IfOk result (λ w. w.name ≡ (about (declared_view item.now.declared)).id.name.now) }
-    ensures adds { IfOk result (λ w. AddsOne worlds.now w item.now types.old types.new inside.old inside.new required.old.items required.new.items) }
-    ensures extended { OnOk result (length inside.new ≡ length inside.old + length (inline_items (item_view item.now))) }
-    ensures first { FindsWorld worlds.now types.old inside.old item.now result }
+    ensures adds { IfOk result (λ w. AddsOne worlds.now w item.now growing.old growing.new required.old.items required.new.items) }
+    ensures extended { OnOk result (length growing.new.inside ≡ length growing.old.inside + length (inline_items (item_view item.now))) }
+    ensures first { FindsWorld worlds.now growing.old.types growing.old.inside item.now result }
 {
     let alloc = *worlds.by_name.allocator();
     let as_stated = item_metadata(alloc, &item.declared)?;
-    let content = world_content(item, types, required, inside, worlds);
+    let content = world_content(item, growing, required, worlds);
     let (metadata, content) = pair_with(as_stated, content)?;
     let id = declared_name(&item.declared);
     let world = world_with(alloc, id, metadata, content)?;
@@ -201,21 +213,20 @@ fn world_of<'f, 'a>(
 /// Adds a world with what it has.
 fn resolve_world<'f, 'a>(
     item: &Item<'f, 'a>,
-    types: &mut Entries,
+    growing: &mut Growing,
     required: &mut Vec<Required>,
-    inside: &mut Arena<Interface, InterfacePlace>,
     worlds: &mut Worlds<'_, '_, '_, 'f, 'a>,
 ) -> ParseResult<()>
     requires sort { is_world (item_view item.now) ≡ true }
     requires item { IsItemOf worlds.old.interfaces.now.files item.now }
     requires index { AreIndexed worlds.old }
     ensures interfaces { OnOk result (worlds.new.interfaces ≡ worlds.old.interfaces) }
-    ensures adds { OnOk result (AddsTo worlds.old worlds.new.arena item.now types.old types.new inside.old inside.new required.old.items required.new.items) }
-    ensures extended { OnOk result (length inside.new ≡ length inside.old + length (inline_items (item_view item.now))) }
+    ensures adds { OnOk result (AddsTo worlds.old worlds.new.arena item.now growing.old growing.new required.old.items required.new.items) }
+    ensures extended { OnOk result (length growing.new.inside ≡ length growing.old.inside + length (inline_items (item_view item.now))) }
     ensures index { OnOk result (AreIndexed worlds.new) }
-    ensures first { FindsWorld worlds.old types.old inside.old item.now result }
+    ensures first { FindsWorld worlds.old growing.old.types growing.old.inside item.now result }
 {
-    let world = world_of(item, types, required, inside, worlds)?;
+    let world = world_of(item, growing, required, worlds)?;
     let id = declared_name(&item.declared);
     add_world(worlds, id.name, world)?;
     Ok(())
@@ -257,27 +268,32 @@ fn make_room(
 }
 
 /// Adds the worlds among items, in the order of their places, to those of other packages, which are the
-/// prefix; gives all worlds, and the interfaces that are written in them, in the order in which they are
-/// seen.
+/// prefix; gives all worlds, the interfaces that are written in them, in the order in which they are
+/// seen, and what they require of types of other packages. Where it refuses, no types are left.
 pub fn resolve_worlds<'f, 'a>(
     items: &[Item<'f, 'a>],
     types: &mut Entries,
-    required: &mut Vec<Required>,
     interfaces: &Interfaces<'_, '_, 'f, 'a>,
     prefix: Arena<World, WorldPlace>,
     places: &[usize],
-) -> ParseResult<(Arena<World, WorldPlace>, Arena<Interface, InterfacePlace>)>
+) -> ParseResult<ResolvedWorlds>
     requires within { All (λ place. place < length items.now) places.now }
     requires items { AreItemsOf interfaces.now.files items.now }
     requires prefix { length (others_of interfaces.now.files) ≤ length prefix }
     requires index { IsWorldIndex (worlds_at (others_of interfaces.now.files) prefix) [] }
-    ensures added { IfOk result (λ m. AddsWorldsAmong interfaces.now prefix m.0 m.1 types.old types.new required.old.items required.new.items items.now places.now) }
+    ensures added { IfOk result (λ r. AddsWorldsAmong interfaces.now prefix r types.old types.new items.now places.now) }
     ensures first { FindsWorlds interfaces.now prefix types.old items.now places.now result }
 {
     let alloc = *interfaces.by_name.allocator();
-    let mut inside = Arena::new(alloc);
+    let none = Entries::new(alloc);
+    let inside = Arena::new(alloc);
+    let mut growing = Growing {
+        types: replace(types, none),
+        inside,
+    };
+    let mut required = Vec::new(alloc);
     let mut arena = prefix;
-    make_room(items, &mut inside, &mut arena)?;
+    make_room(items, &mut growing.inside, &mut arena)?;
     let mut worlds = Worlds {
         interfaces,
         arena,
@@ -287,11 +303,16 @@ pub fn resolve_worlds<'f, 'a>(
         let item = &items[*place];
         match item.declared {
             Declared::World(_) => {
-                resolve_world(item, types, required, &mut inside, &mut worlds)?;
+                resolve_world(item, &mut growing, &mut required, &mut worlds)?;
             }
             Declared::Interface(_) => {}
             Declared::Inline(_) => {}
         }
     }
-    Ok((worlds.arena, inside))
+    *types = growing.types;
+    Ok(ResolvedWorlds {
+        worlds: worlds.arena,
+        inside: growing.inside,
+        required,
+    })
 }

@@ -110,10 +110,9 @@ returns-clause-added c =
     let irs = c.resolve_interfaces.new.required.items in
     let from : Appends c.new-required.result.items irs (λ rs. AddsInterfaces (prefix_of files) types middle a.interfaces now.arena rs (interfaces_of (in_order (all_items files) places))) = rw (c.of-named.ensures, all) at c.in_ok-resolve_interfaces.ensures.added in
     let ws = c.in_ok-made.ensures in
-    let new = c.resolve_worlds.new in
     let made = c.in_ok-made.made in
-    let said : Appends irs new.required.items (λ rs. (ss : List Address) × AddsWorlds (prefix_of files) (others_of files) now.arena middle new.types (prefix_worlds a.worlds) (arenas made.0 made.1 ss) rs (worlds_of (in_order (all_items files) places))) = rw (kept, all) at ws.added in
-    let rest_after : WorldArenas = arenas made.0 made.1 said.holds.0 in
+    let said : Appends [] made.required.items (λ rs. (ss : List Address) × AddsWorlds (prefix_of files) (others_of files) now.arena middle c.resolve_worlds.new.types (prefix_worlds a.worlds) (arenas made.worlds made.inside ss) rs (worlds_of (in_order (all_items files) places))) = rw (kept, all) at ws.added in
+    let rest_after : WorldArenas = arenas made.worlds made.inside said.holds.0 in
     record {
       places = places;
       order = c.item_order-order.ensures;
@@ -126,11 +125,11 @@ returns-clause-added c =
       middle = middle;
       is = now.arena;
       arenas = rest_after;
-      interface_arena = c.in_ok-append.ensures.ok;
+      interface_arena = c.in_ok-append-2.ensures.ok;
       world_arena = refl;
       irs = from.own;
       wrs = said.own;
-      requires = said.list ∙ ap (λ (l : List Required). l ++ said.own) (from.list ∙ ap (λ (l : List Required). l ++ from.own) c.new-required.ensures.items);
+      requires = c.in_ok-append.ensures.items ∙ ap (λ (l : List Required). irs ++ l) said.list ∙ ap (λ (l : List Required). l ++ said.own) (from.list ∙ ap (λ (l : List Required). l ++ from.own) c.new-required.ensures.items);
       interfaces = from.holds;
       worlds = said.holds.1;
     }
@@ -191,6 +190,9 @@ returns-in_err-made-clause-first c =
 
 pub returns-in_err-append-clause-first : goal.returns-in_err-append-clause-first
 returns-in_err-append-clause-first c = (let p = err_from_is_err_and c.from_residual-in_err-append.result c.from_residual-in_err-append.ensures.1 in rw p.1 (λ known is. inl p.2))
+
+pub returns-in_err-append-2-clause-first : goal.returns-in_err-append-2-clause-first
+returns-in_err-append-2-clause-first c = (let p = err_from_is_err_and c.from_residual-in_err-append-2.result c.from_residual-in_err-append-2.ensures.1 in rw p.1 (λ known is. inl p.2))
 
 pub returns-clause-first : goal.returns-clause-first
 returns-clause-first c = λ known is.

@@ -51,27 +51,27 @@ returns-in-Interface-clause-adds c =
     let x = c.args.written.now in
     let name = c.in-Interface.name in
     let same : extern_items x x.kind ≡ inline_side c.inline_at-inline.result ∷ [] = ap (extern_items x) c.in-Interface.is ∙ ap (λ (items : List InterfaceItem). SideInline x name items ∷ []) (sym c.deref.ensures.value) ∙ ap (λ (y : SideItem). y ∷ []) (sym c.inline_at-inline.ensures.side) in
-    on_ok_weaker c.walk_inline.result (λ adds. subst (λ (xs : List SideItem). AddsNext (walk_of c.args.item.now c.args.walk.now) xs (stage c.args.types.now c.args.inside.now c.args.walked.now) (stage c.walk_inline.new.types c.walk_inline.new.inside c.walk_inline.new.walked)) (sym same) adds) c.walk_inline.ensures.adds
+    on_ok_weaker c.walk_inline.result (λ adds. subst (λ (xs : List SideItem). AddsNext (walk_of c.args.item.now c.args.walk.now) xs (stage c.args.growing.now.types c.args.growing.now.inside c.args.walked.now) (stage c.walk_inline.new.growing.types c.walk_inline.new.growing.inside c.walk_inline.new.walked)) (sym same) adds) c.walk_inline.ensures.adds
 
 pub returns-in-Func-clause-adds : goal.returns-in-Func-clause-adds
 returns-in-Func-clause-adds c =
     let x = c.args.written.now in
-    let i = c.args.inside.now in
+    let i = c.args.growing.now.inside in
     let same : extern_items x x.kind ≡ SideFunction (function_view c.extern_part_function-borrowed.result) ∷ [] = ap (extern_items x) c.in-Func.is ∙ ap (λ (fn : SourceFunction). SideFunction fn ∷ []) (sym c.extern_part_function-borrowed.ensures) in
-    on_ok_weaker c.walk_function.result (λ adds. subst (λ (xs : List SideItem). AddsNext (walk_of c.args.item.now c.args.walk.now) xs (stage c.args.types.now i c.args.walked.now) (stage c.walk_function.new.types i c.walk_function.new.walked)) (sym same) (adds i)) c.walk_function.ensures.adds
+    on_ok_weaker c.walk_function.result (λ adds. subst (λ (xs : List SideItem). AddsNext (walk_of c.args.item.now c.args.walk.now) xs (stage c.args.growing.now.types i c.args.walked.now) (stage c.walk_function.new.types i c.walk_function.new.walked)) (sym same) (adds i)) c.walk_function.ensures.adds
 
 pub returns-in-Path-clause-adds : goal.returns-in-Path-clause-adds
 returns-in-Path-clause-adds c =
     let x = c.args.written.now in
-    let ts = c.args.types.now in
-    let i = c.args.inside.now in
+    let ts = c.args.growing.now.types in
+    let i = c.args.growing.now.inside in
     on_ok_weaker c.walk_link.result (λ adds. subst (λ (xs : List SideItem). AddsNext (walk_of c.args.item.now c.args.walk.now) xs (stage ts i c.args.walked.now) (stage ts i c.walk_link.new.walked)) (sym (ap (extern_items x) c.in-Path.is)) (adds ts i)) c.walk_link.ensures.adds
 
 pub returns-in-NamedPath-clause-adds : goal.returns-in-NamedPath-clause-adds
 returns-in-NamedPath-clause-adds c =
     let x = c.args.written.now in
-    let ts = c.args.types.now in
-    let i = c.args.inside.now in
+    let ts = c.args.growing.now.types in
+    let i = c.args.growing.now.inside in
     on_ok_weaker c.walk_link-in-NamedPath.result (λ adds. subst (λ (xs : List SideItem). AddsNext (walk_of c.args.item.now c.args.walk.now) xs (stage ts i c.args.walked.now) (stage ts i c.walk_link-in-NamedPath.new.walked)) (sym (ap (extern_items x) c.in-NamedPath.is)) (adds ts i)) c.walk_link-in-NamedPath.ensures.adds
 
 pub returns-in-Interface-clause-first : goal.returns-in-Interface-clause-first
@@ -80,26 +80,26 @@ returns-in-Interface-clause-first c =
     let name = c.in-Interface.name in
     let w = walk_of c.args.item.now c.args.walk.now in
     let same : extern_items x x.kind ≡ inline_side c.inline_at-inline.result ∷ [] = ap (extern_items x) c.in-Interface.is ∙ ap (λ (items : List InterfaceItem). SideInline x name items ∷ []) (sym c.deref.ensures.value) ∙ ap (λ (y : SideItem). y ∷ []) (sym c.inline_at-inline.ensures.side) in
-    subst (λ (xs : List SideItem). FindsNext w xs (stage c.args.types.now c.args.inside.now c.args.walked.now) c.walk_inline.result) (sym same) c.walk_inline.ensures.first
+    subst (λ (xs : List SideItem). FindsNext w xs (stage c.args.growing.now.types c.args.growing.now.inside c.args.walked.now) c.walk_inline.result) (sym same) c.walk_inline.ensures.first
 
 pub returns-in-Func-clause-first : goal.returns-in-Func-clause-first
 returns-in-Func-clause-first c =
     let x = c.args.written.now in
     let w = walk_of c.args.item.now c.args.walk.now in
-    let i = c.args.inside.now in
+    let i = c.args.growing.now.inside in
     let same : extern_items x x.kind ≡ SideFunction (function_view c.extern_part_function-borrowed.result) ∷ [] = ap (extern_items x) c.in-Func.is ∙ ap (λ (fn : SourceFunction). SideFunction fn ∷ []) (sym c.extern_part_function-borrowed.ensures) in
-    subst (λ (xs : List SideItem). FindsNext w xs (stage c.args.types.now i c.args.walked.now) c.walk_function.result) (sym same) (c.walk_function.ensures.first i)
+    subst (λ (xs : List SideItem). FindsNext w xs (stage c.args.growing.now.types i c.args.walked.now) c.walk_function.result) (sym same) (c.walk_function.ensures.first i)
 
 pub returns-in-Path-clause-first : goal.returns-in-Path-clause-first
 returns-in-Path-clause-first c =
     let x = c.args.written.now in
-    let ts = c.args.types.now in
-    let i = c.args.inside.now in
+    let ts = c.args.growing.now.types in
+    let i = c.args.growing.now.inside in
     subst (λ (xs : List SideItem). FindsNext (walk_of c.args.item.now c.args.walk.now) xs (stage ts i c.args.walked.now) c.walk_link.result) (sym (ap (extern_items x) c.in-Path.is)) (c.walk_link.ensures.first ts i)
 
 pub returns-in-NamedPath-clause-first : goal.returns-in-NamedPath-clause-first
 returns-in-NamedPath-clause-first c =
     let x = c.args.written.now in
-    let ts = c.args.types.now in
-    let i = c.args.inside.now in
+    let ts = c.args.growing.now.types in
+    let i = c.args.growing.now.inside in
     subst (λ (xs : List SideItem). FindsNext (walk_of c.args.item.now c.args.walk.now) xs (stage ts i c.args.walked.now) c.walk_link-in-NamedPath.result) (sym (ap (extern_items x) c.in-NamedPath.is)) (c.walk_link-in-NamedPath.ensures.first ts i)

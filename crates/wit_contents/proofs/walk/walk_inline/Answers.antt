@@ -63,9 +63,9 @@ returns-clause-adds c = λ n.
     let types = c.resolve_inline.new.types in
     let inside = c.resolve_inline.new.inside in
     let here : inline_after (walk_item w) n.prefix (inline_side x ∷ []) ≡ u ∷ [] = inline_here (walk_item w) n.prefix x c.requires.world (c.requires.place ∙ n.seen.interfaces side) in
-    let step = subst (AddsInside w.walk.interfaces.now c.args.types.now types c.args.inside.now inside m.required.items c.resolve_inline.new.required.items) same says.adds in
+    let step = subst (AddsInside w.walk.interfaces.now c.args.growing.now.types types c.args.growing.now.inside inside m.required.items c.resolve_inline.new.required.items) same says.adds in
     let put = rw says.id at (c.in_ok-put_inline.ensures.puts x.items.now) in
-    member_inline w n.prefix (stage c.args.types.now c.args.inside.now m) x u types inside _ here step says.extended put (λ ys seen. c.in_ok-seen.ensures ys (inline_side x) (refl, refl, refl) seen)
+    member_inline w n.prefix (stage c.args.growing.now.types c.args.growing.now.inside m) x u types inside _ here step says.extended put (λ ys seen. c.in_ok-seen.ensures ys (inline_side x) (refl, refl, refl) seen)
 
 pub returns-in_err-id-clause-first : goal.returns-in_err-id-clause-first
 returns-in_err-id-clause-first c =
@@ -73,7 +73,7 @@ returns-in_err-id-clause-first c =
     let w = walk_of c.args.item.now c.args.walk.now in
     let x = c.args.inline in
     let m = c.args.walked.now in
-    let a = stage c.args.types.now c.args.inside.now m in
+    let a = stage c.args.growing.now.types c.args.growing.now.inside m in
     let s = c.inside_scope-scope.result in
     let e = c.inside_scope-scope.ensures in
     let count = ap (λ (k : Counts). k.inline) c.on-counts.ensures in
@@ -90,7 +90,7 @@ returns-in_err-check_metadata-clause-first c =
     let w = walk_of c.args.item.now c.args.walk.now in
     let x = c.args.inline in
     let m = c.args.walked.now in
-    let a = stage c.args.types.now c.args.inside.now m in
+    let a = stage c.args.growing.now.types c.args.growing.now.inside m in
     let s = c.inside_scope-scope.result in
     let e = c.inside_scope-scope.ensures in
     let count = ap (λ (k : Counts). k.inline) c.on-counts.ensures in
@@ -110,7 +110,7 @@ returns-in_err-put_inline-clause-first c =
     let w = walk_of c.args.item.now c.args.walk.now in
     let x = c.args.inline in
     let m = c.args.walked.now in
-    let a = stage c.args.types.now c.args.inside.now m in
+    let a = stage c.args.growing.now.types c.args.growing.now.inside m in
     let s = c.inside_scope-scope.result in
     let e = c.inside_scope-scope.ensures in
     let count = ap (λ (k : Counts). k.inline) c.on-counts.ensures in
@@ -134,7 +134,7 @@ returns-clause-first c = λ n test right.
     let w = walk_of c.args.item.now c.args.walk.now in
     let x = c.args.inline in
     let m = c.args.walked.now in
-    let a = stage c.args.types.now c.args.inside.now m in
+    let a = stage c.args.growing.now.types c.args.growing.now.inside m in
     let s = c.inside_scope-scope.result in
     let e = c.inside_scope-scope.ensures in
     let count = ap (λ (k : Counts). k.inline) c.on-counts.ensures in

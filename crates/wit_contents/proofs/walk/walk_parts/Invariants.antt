@@ -8,6 +8,6 @@ use Rattle.wit_contents.proofs.walk.walk_parts.Given as goal
 -- the parts up to here are added, and nothing of theirs has a fault
 abbrev pub invariant-loop-part : goal.invariant-loop-part
 invariant-loop-part l = record {
-  adds : (n : IsNext (walk_of l.item l.walk) (side_items (walk_item (walk_of l.item l.walk))) l.fn.walked) → AddsMembers (walk_of l.item l.walk) n.prefix (world_sides (take l.part-index l.part-items)) (stage l.fn.types l.fn.inside l.fn.walked) (stage l.types l.inside l.walked);
-  first : (n : IsNext (walk_of l.item l.walk) (side_items (walk_item (walk_of l.item l.walk))) l.fn.walked) → HaveNone (walk_of l.item l.walk) n.prefix (side_items (walk_item (walk_of l.item l.walk))) (world_sides (take l.part-index l.part-items)) (stage l.fn.types l.fn.inside l.fn.walked);
+  adds : (n : IsNext (walk_of l.item l.walk) (side_items (walk_item (walk_of l.item l.walk))) l.fn.walked) → AddsMembers (walk_of l.item l.walk) n.prefix (world_sides (take l.part-index l.part-items)) (stage l.fn.growing.types l.fn.growing.inside l.fn.walked) (stage l.growing.types l.growing.inside l.walked);
+  first : (n : IsNext (walk_of l.item l.walk) (side_items (walk_item (walk_of l.item l.walk))) l.fn.walked) → HaveNone (walk_of l.item l.walk) n.prefix (side_items (walk_item (walk_of l.item l.walk))) (world_sides (take l.part-index l.part-items)) (stage l.fn.growing.types l.fn.growing.inside l.fn.walked);
 }

@@ -26,8 +26,8 @@ item_at : (items : List BorrowedItem) (places : List ℕ) (k : ℕ) (x : Borrowe
 item_at items places k x within lt is = slice_get-get_or items (get_or places k 0) x (within k 0 lt) ∙ ap Some (sym is)
 
 pub loop-place-init : goal.loop-place-init
-loop-place-init c = rw (c.make_room.ensures.inside, c.make_room.ensures.worlds) (record {
-  added = worlds_none (prefix_of c.args.interfaces.now.files) (others_of c.args.interfaces.now.files) c.args.interfaces.now.arena c.args.types.now c.args.prefix c.new-inside.result c.args.required.now.items c.new-inside.ensures;
+loop-place-init c = rw (c.make_room.ensures.inside, c.make_room.ensures.worlds, c.replace.ensures.value, c.new-required.ensures.items) (record {
+  added = worlds_none (prefix_of c.args.interfaces.now.files) (others_of c.args.interfaces.now.files) c.args.interfaces.now.arena c.args.types.now c.args.prefix c.new-inside.result [] c.new-inside.ensures;
   interfaces = refl;
   index = rw c.new.ensures c.requires.index;
   first = λ test right. refl;
@@ -72,24 +72,24 @@ loop-place-preserved c =
           let more : worlds_of (in_order ws (take (i + 1) places)) ≡ prefix ++ w ∷ [] = kept_next is_world ws places i p w at there sort in
           let e = b.in_ok-resolve_world-in-World.ensures in
           let new = b.resolve_world.new.worlds.arena in
-          let types = b.resolve_world.new.types in
+          let types = b.resolve_world.new.growing.types in
           let required = b.resolve_world.new.required.items in
           let foreign = prefix_of c.args.interfaces.now.files in
           let others = others_of c.args.interfaces.now.files in
-          rw (b.worlds-is, b.types-is, b.required-is, b.inside-is) (record {
+          rw (b.worlds-is, b.growing-is, b.required-is) (record {
             interfaces = ap (λ r. r.now) e.interfaces ∙ was.interfaces;
-            added = rw more (worlds_more foreign others is c.args.types.now c.loop-place.types types c.args.prefix before new c.loop-place.inside b.resolve_world.new.inside c.args.required.now.items c.loop-place.required.items required prefix w was.added (rw was.interfaces at e.adds) e.extended);
+            added = rw more (worlds_more foreign others is c.args.types.now c.loop-place.growing.types types c.args.prefix before new c.loop-place.growing.inside b.resolve_world.new.growing.inside [] c.loop-place.required.items required prefix w was.added (rw was.interfaces at e.adds) e.extended);
             index = rw (ap (λ r. r.now) e.interfaces ∙ was.interfaces) at e.index;
-            first = λ test is_right. rw more (in-more test prefix w (was.first test is_right) ∙ e.first test (is_right.each c.loop-place.worlds c.loop-place.types (arenas before c.loop-place.inside (addresses_in prefix)) was.added.appends.own i p x was.interfaces at own sort (c.requires.items.each p x own) was.added.appends.holds refl (rw was.interfaces was.index)));
+            first = λ test is_right. rw more (in-more test prefix w (was.first test is_right) ∙ e.first test (is_right.each c.loop-place.worlds c.loop-place.growing.types (arenas before c.loop-place.growing.inside (addresses_in prefix)) was.added.appends.own i p x was.interfaces at own sort (c.requires.items.each p x own) was.added.appends.holds refl (rw was.interfaces was.index)));
           }))
       | in-Interface b ↦ (
           let sort : is_world w ≡ false = ap (λ (d : BorrowedDeclared). (about (declared_view d)).is_world) b.in-Interface.is in
           let past : worlds_of (in_order ws (take (i + 1) places)) ≡ prefix = kept_past is_world ws places i p w at there sort in
-          rw (b.worlds-is, b.types-is, b.required-is, b.inside-is) (record { interfaces = was.interfaces; added = rw past was.added; index = was.index; first = λ test is_right. rw past (was.first test is_right) }))
+          rw (b.worlds-is, b.growing-is, b.required-is) (record { interfaces = was.interfaces; added = rw past was.added; index = was.index; first = λ test is_right. rw past (was.first test is_right) }))
       | in-Inline b ↦ (
           let sort : is_world w ≡ false = ap (λ (d : BorrowedDeclared). (about (declared_view d)).is_world) b.in-Inline.is in
           let past : worlds_of (in_order ws (take (i + 1) places)) ≡ prefix = kept_past is_world ws places i p w at there sort in
-          rw (b.worlds-is, b.types-is, b.required-is, b.inside-is) (record { interfaces = was.interfaces; added = rw past was.added; index = was.index; first = λ test is_right. rw past (was.first test is_right) }))
+          rw (b.worlds-is, b.growing-is, b.required-is) (record { interfaces = was.interfaces; added = rw past was.added; index = was.index; first = λ test is_right. rw past (was.first test is_right) }))
     ]
 
 pub returns-clause-added : goal.returns-clause-added
@@ -98,7 +98,7 @@ returns-clause-added c =
     let places = c.args.places.now in
     let i = c.loop-place.place-index in
     let now = c.loop-place.worlds in
-    let p = subst (λ (l : List ℕ). AreWorldsTo (prefix_of c.args.interfaces.now.files) (others_of c.args.interfaces.now.files) c.args.interfaces.now.arena c.args.types.now c.loop-place.types c.args.prefix now.arena c.loop-place.inside c.args.required.now.items c.loop-place.required.items (worlds_of (in_order ws l))) (take_all i places c.loop-place-test.false) c.loop-place.invariant.added in
+    let p = subst (λ (l : List ℕ). AreWorldsTo (prefix_of c.args.interfaces.now.files) (others_of c.args.interfaces.now.files) c.args.interfaces.now.arena c.args.types.now c.loop-place.growing.types c.args.prefix now.arena c.loop-place.growing.inside [] c.loop-place.required.items (worlds_of (in_order ws l))) (take_all i places c.loop-place-test.false) c.loop-place.invariant.added in
     record { own = p.appends.own; list = p.appends.list; holds = (addresses_in (worlds_of (in_order ws places)), p.appends.holds) }
 
 pub returns-in_err-resolve_world-in-World-clause-first : goal.returns-in_err-resolve_world-in-World-clause-first
@@ -116,8 +116,8 @@ returns-in_err-resolve_world-in-World-clause-first c =
     let there : slice_get ws p ≡ Some w = read_map item_view c.args.items.now p x within c.index-items-place.is in
     let sort : is_world w ≡ true = ap (λ (d : BorrowedDeclared). (about (declared_view d)).is_world) c.in-World.is in
     let own = item_at c.args.items.now places i x c.requires.within c.loop-place-test.true c.index-items-place.is in
-    let before = arenas c.loop-place.worlds.arena c.loop-place.inside (addresses_in (worlds_of (in_order ws (take i places)))) in
-    rw (q.1, q.2) (λ test right. among_worlds test ws places i p w _ at there sort (was.first test right) (c.in_err-resolve_world-in-World.ensures.first test (right.each c.loop-place.worlds c.loop-place.types before was.added.appends.own i p x was.interfaces at own sort (c.requires.items.each p x own) was.added.appends.holds refl (rw was.interfaces was.index))))
+    let before = arenas c.loop-place.worlds.arena c.loop-place.growing.inside (addresses_in (worlds_of (in_order ws (take i places)))) in
+    rw (q.1, q.2) (λ test right. among_worlds test ws places i p w _ at there sort (was.first test right) (c.in_err-resolve_world-in-World.ensures.first test (right.each c.loop-place.worlds c.loop-place.growing.types before was.added.appends.own i p x was.interfaces at own sort (c.requires.items.each p x own) was.added.appends.holds refl (rw was.interfaces was.index))))
 
 pub returns-in_err-make_room-clause-first : goal.returns-in_err-make_room-clause-first
 returns-in_err-make_room-clause-first c =

@@ -1,4 +1,4 @@
-use Rattle.std.proofs.Common.{◌≡◌, None, Option, map, take}
+use Rattle.std.proofs.Common.{◌≡◌, [], None, Option, map, take}
 use Rattle.wit_syntax.specs.Fault.{Fault}
 use Rattle.wit_syntax.specs.ScopeTables.{in_order, worlds_of}
 use Rattle.wit_syntax.specs.Source.{Item}
@@ -13,7 +13,7 @@ use Rattle.wit_contents.proofs.world.resolve_worlds.Given as goal
 
 abbrev pub invariant-loop-place : goal.invariant-loop-place
 invariant-loop-place l = record {
-  added : AreWorldsTo (prefix_of l.interfaces.files) (others_of l.interfaces.files) l.interfaces.arena l.fn.types l.types l.fn.prefix l.worlds.arena l.inside l.fn.required.items l.required.items (worlds_of (in_order (map item_view l.items) (take l.place-index l.places)));
+  added : AreWorldsTo (prefix_of l.interfaces.files) (others_of l.interfaces.files) l.interfaces.arena l.fn.types l.growing.types l.fn.prefix l.worlds.arena l.growing.inside [] l.required.items (worlds_of (in_order (map item_view l.items) (take l.place-index l.places)));
   interfaces : l.worlds.interfaces.now ≡ l.interfaces;
   index : IsWorldIndex (worlds_at (others_of l.interfaces.files) l.worlds.arena) l.worlds.by_name;
   first : (wrong : Item → Option Fault) → AreRightOfWorlds wrong l.interfaces l.fn.prefix l.fn.types l.items l.places → first_in wrong (worlds_of (in_order (map item_view l.items) (take l.place-index l.places))) ≡ None;

@@ -31,7 +31,7 @@ returns-clause-adds c =
     let fns : map function_view c.function_scope-functions.result.functions.now ≡ functions (item_view c.args.item.now) = ap (map function_view) f.functions ∙ c.requires.scope.functions in
     let results : AreResults c.function_scope-functions.result.results.now (scope_names (item_view c.args.item.now)) = rw f.results c.requires.scope.results in
     let listed : names_in c.function_scope-functions.result.names.now ≡ map (λ id. id.name.now) scope.names.turn.items = rw f.names scope.names.listed in
-    sides_of _ c.args.item.now _ _ _ _ _ c.in_ok-walked.ensures.adds c.args.interfaces.now scope.names (is_walk _ scope.names.turn.items c.requires.item c.requires.sort fns results c.requires.scope.turn listed lent) refl f.names lent
+    sides_of _ c.args.item.now c.args.growing.now c.walk_sides.new.growing _ c.in_ok-walked.ensures.adds c.args.interfaces.now scope.names (is_walk _ scope.names.turn.items c.requires.item c.requires.sort fns results c.requires.scope.turn listed lent) refl f.names lent
 
 pub returns-in_err-walked-clause-first : goal.returns-in_err-walked-clause-first
 returns-in_err-walked-clause-first c =

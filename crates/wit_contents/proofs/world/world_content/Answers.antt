@@ -74,7 +74,7 @@ returns-clause-adds c = λ world has ss known.
     let same : map name_view c.deref.result.now ≡ scope_names item = ap (map name_view) c.deref.ensures.value ∙ c.requires.item.named in
     let n = rw (c.next_id.ensures, same) at c.in_ok-names.ensures.adds in
     let o = OfWorld (length ws.arena) in
-    let old = c.args.types.now in
+    let old = c.args.growing.now.types in
     let middle = c.resolve_names.new.types in
     let m = c.in_ok-walked.walked in
     let h = c.in_ok-walked.ensures.adds in
@@ -92,7 +92,7 @@ returns-clause-adds c = λ world has ss known.
           ∙ ap (λ (l : List Required). (c.args.required.now.items ++ c.deref-3.result.now) ++ l) c.deref-4.ensures.value
           ∙ ap (λ (l : List Required). (c.args.required.now.items ++ l) ++ m.required.items) c.deref-3.ensures.value
           ∙ append_assoc c.args.required.now.items names.required.items m.required.items;
-      holds = rw of.interfaces at (content_adds (walk_of c.args.item.now w) (others_of is.files) ws.arena old middle c.walked_sides.new.types c.args.inside.now c.walked_sides.new.inside names.required.items m of.walk added h.2 world ss known has.says (has.imports ∙ settled Imported) (has.exports ∙ settled Exported) (rw has.includes are));
+      holds = rw of.interfaces at (content_adds (walk_of c.args.item.now w) (others_of is.files) ws.arena old middle c.walked_sides.new.growing.types c.args.growing.now.inside c.walked_sides.new.growing.inside names.required.items m of.walk added h.2 world ss known has.says (has.imports ∙ settled Imported) (has.exports ∙ settled Exported) (rw has.includes are));
     }
 
 pub returns-clause-extended : goal.returns-clause-extended
@@ -106,8 +106,8 @@ returns-clause-extended c =
     let h = c.in_ok-walked.ensures.adds in
     let w = h.0 in
     let of : IsWalkOf w c.args.item.now is names = h.1 in
-    let added = turn_of w c.args.item.now is names of c.args.types.now c.resolve_names.new.types (OfWorld (length ws.arena)) n in
-    extended (walk_of c.args.item.now w) (others_of is.files) ws.arena c.args.types.now c.resolve_names.new.types c.walked_sides.new.types c.args.inside.now c.walked_sides.new.inside names.required.items c.in_ok-walked.walked of.walk added h.2
+    let added = turn_of w c.args.item.now is names of c.args.growing.now.types c.resolve_names.new.types (OfWorld (length ws.arena)) n in
+    extended (walk_of c.args.item.now w) (others_of is.files) ws.arena c.args.growing.now.types c.resolve_names.new.types c.walked_sides.new.growing.types c.args.growing.now.inside c.walked_sides.new.growing.inside names.required.items c.in_ok-walked.walked of.walk added h.2
 
 -- the first fault: of its names, of its includes, or of what is on its sides
 pub returns-in_err-names-clause-first : goal.returns-in_err-names-clause-first
@@ -115,11 +115,11 @@ returns-in_err-names-clause-first c =
     let p = err_from_is_err_and c.from_residual.result c.from_residual.ensures.1 in
     let ws = c.args.worlds.now in
     let i = c.args.item.now in
-    let old = c.args.types.now in
+    let old = c.args.growing.now.types in
     let found = rw (c.next_id.ensures, c.deref.ensures.value) at c.in_err-names.ensures.first in
     rw (p.1, p.2) (λ stable wrong right. elim found [
       | inl memory ↦ inl memory
-      | inr lost ↦ inr (head_fault wrong ws old c.args.inside.now i right _ (names_first ws i old c.requires.item.named stable _ lost))
+      | inr lost ↦ inr (head_fault wrong ws old c.args.growing.now.inside i right _ (names_first ws i old c.requires.item.named stable _ lost))
     ])
 
 pub returns-in_err-includes-clause-first : goal.returns-in_err-includes-clause-first
@@ -127,7 +127,7 @@ returns-in_err-includes-clause-first c =
     let p = err_from_is_err_and c.from_residual-in_err-includes.result c.from_residual-in_err-includes.ensures.1 in
     let ws = c.args.worlds.now in
     let i = c.args.item.now in
-    let old = c.args.types.now in
+    let old = c.args.growing.now.types in
     let middle = c.resolve_names.new.types in
     let names = c.in_ok-names.names in
     let same : map name_view c.deref.result.now ≡ scope_names (item_view i) = ap (map name_view) c.deref.ensures.value ∙ c.requires.item.named in
@@ -136,7 +136,7 @@ returns-in_err-includes-clause-first c =
     let found = rw (ap names_at_top c.requires.item.filed.file) at c.in_err-includes.ensures.first in
     rw (p.1, p.2) (λ stable wrong right. elim found [
       | inl memory ↦ inl memory
-      | inr lost ↦ inr (head_fault wrong ws old c.args.inside.now i right _ (includes_first ws i old c.requires.item.named stable names middle turn head _ lost))
+      | inr lost ↦ inr (head_fault wrong ws old c.args.growing.now.inside i right _ (includes_first ws i old c.requires.item.named stable names middle turn head _ lost))
     ])
 
 pub returns-in_err-functions-clause-first : goal.returns-in_err-functions-clause-first
@@ -154,14 +154,14 @@ returns-in_err-walked-clause-first c =
     let p = err_from_is_err_and c.from_residual-in_err-walked.result c.from_residual-in_err-walked.ensures.1 in
     let ws = c.args.worlds.now in
     let i = c.args.item.now in
-    let old = c.args.types.now in
+    let old = c.args.growing.now.types in
     let middle = c.resolve_names.new.types in
     let names = c.in_ok-names.names in
     let same : map name_view c.deref.result.now ≡ scope_names (item_view i) = ap (map name_view) c.deref.ensures.value ∙ c.requires.item.named in
     let turn = rw (c.next_id.ensures, same) at c.in_ok-names.ensures.adds in
     let head = rw c.deref.ensures.value at c.in_ok-names.ensures.first in
     let included = rw (ap names_at_top c.requires.item.filed.file) at c.in_ok-includes.ensures.first in
-    rw (p.1, p.2) (λ stable wrong right. world_reported ws i old c.requires.item.named stable names middle turn head included wrong c.args.inside.now right _ c.in_err-walked.ensures.first)
+    rw (p.1, p.2) (λ stable wrong right. world_reported ws i old c.requires.item.named stable names middle turn head included wrong c.args.growing.now.inside right _ c.in_err-walked.ensures.first)
 
 pub returns-in_err-add_required-clause-first : goal.returns-in_err-add_required-clause-first
 returns-in_err-add_required-clause-first c =
@@ -188,4 +188,4 @@ returns-clause-first c = λ stable wrong right.
     let turn = rw (c.next_id.ensures, same) at c.in_ok-names.ensures.adds in
     let head = rw c.deref.ensures.value at c.in_ok-names.ensures.first in
     let included = rw (ap names_at_top c.requires.item.filed.file) at c.in_ok-includes.ensures.first in
-    world_none ws i c.args.types.now c.requires.item.named stable names middle turn head included wrong c.args.inside.now right c.in_ok-walked.ensures.first
+    world_none ws i c.args.growing.now.types c.requires.item.named stable names middle turn head included wrong c.args.growing.now.inside right c.in_ok-walked.ensures.first

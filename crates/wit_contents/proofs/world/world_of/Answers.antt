@@ -39,7 +39,7 @@ returns-in_err-as_stated-clause-first c =
     let i = c.args.item.now in
     rw (p.1, p.2) (λ wrong right. elim c.in_err-as_stated.ensures.first [
       | inl memory ↦ inl memory
-      | inr unstable ↦ inr (head_fault wrong ws c.args.types.now c.args.inside.now i right _ (unstable_first ws i c.args.types.now _ unstable))
+      | inr unstable ↦ inr (head_fault wrong ws c.args.growing.now.types c.args.growing.now.inside i right _ (unstable_first ws i c.args.growing.now.types _ unstable))
     ])
 
 pub returns-in_err-metadata-clause-first : goal.returns-in_err-metadata-clause-first

@@ -1,0 +1,17 @@
+use Rattle.std.proofs.Common.{map, sym, ap, ◌∙◌}
+use Rattle.wit_type_tree.specs.declared.types.TypeBody.{TypeBody}
+use Rattle.wit_syntax.specs.Function.{definition_functions}
+use Rattle.wit_syntax.specs.Sides.{SideFunction}
+use Rattle.wit_contents.specs.Walk.{resource_items}
+use Rattle.wit_contents.proofs.PartItems.{no_functions}
+use Rattle.wit_contents.proofs.walk.resource_functions.Goals as goal
+
+pub returns-in-Resource : goal.returns-in-Resource
+returns-in-Resource c =
+    let d = c.args.definition.now in
+    ap (λ (b : TypeBody). map SideFunction (definition_functions d.name b)) c.in-Resource.is ∙ ap (resource_items d.name) (sym c.deref.ensures.value)
+
+pub returns-in_default : goal.returns-in_default
+returns-in_default c =
+    let d = c.args.definition.now in
+    ap (map SideFunction) (no_functions d.name d.body c.in_default.not-Resource)
