@@ -7,7 +7,7 @@ ghost use Rattle.wit_arena.specs.UnfoldedTypes.{At};
 ghost use Rattle.wit_arena.specs.Resolving.{IsUnnamedOf, IsInterned, named, unnamed};
 ghost use Rattle.wit_intern.specs.TypeKeys.{key_of};
 ghost use Rattle.wit_notes.specs.BorrowedMetadata.{metadata_view};
-ghost use Rattle.wit_entries.specs.ElementTypes.{inner_of};
+ghost use Rattle.wit_entries.specs.ElementTypes.{IsNotAfter, inner_of};
 ghost use Rattle.wit_entries.specs.Known.{AreKnown, IsSet};
 ghost use Rattle.wit_entries.specs.UnnamedTypes.{key_hashes_at, keys_at};
 ghost use Rattle.wit_entries.specs.EntryFaults.{end_in};
@@ -110,7 +110,7 @@ fn inner_of(kind: &TypeDefKind) -> Option<TypeId>
 /// was added if that was new too.
 fn find_aliased(types: &Arena<TypeDef, TypePlace>, kind: &TypeDefKind) -> Option<TypeId>
     ensures found { IfSome result (λ i. (e : TypeDef) × At types.now i e × IsUnnamedOf kind.now e) }
-    ensures none { IfNone result ((i : ℕ) (inner e : TypeDef) → inner_of kind.now ≡ Some i → At types.now i inner → inner.name ≡ None → At types.now (i + 1) e → IsUnnamedOf kind.now e → ⊥) }
+    ensures none { IfNone result (IsNotAfter types.now kind.now) }
 {
     let inner = inner_of(kind)?;
     let place = inner.index();

@@ -6,16 +6,25 @@ use Rattle.wit_tree.specs.declared.tree.ExternKind.{ExternKind}
 use Rattle.wit_tree.specs.declared.tree.ExternKind.TheVariants as extern
 use Rattle.wit_tree.specs.declared.tree.InterfaceItem.{InterfaceItem}
 use Rattle.wit_tree.specs.declared.tree.Use.{Use}
+use Rattle.wit_tree.specs.declared.tree.World.{World}
 use Rattle.wit_tree.specs.declared.tree.WorldSide.{WorldSide}
 use Rattle.wit_syntax.specs.ExternPart.{same_side, inline_uses}
-use Rattle.wit_syntax.specs.Source.{TopName, at_side, interface_part, part_names, Part, DefinitionPart, UsePart, IncludePart, FunctionPart, ExternPart, ScopeName}
-use Rattle.wit_syntax.specs.Sides.{SideItem, SideFunction, SideLink, SideInline}
+use Rattle.wit_syntax.specs.Source.{TopName, at_side, interface_part, part_names, world_part, Part, DefinitionPart, UsePart, IncludePart, FunctionPart, ExternPart, ScopeName}
+use Rattle.wit_syntax.specs.Sides.{SideItem, SideFunction, SideLink, SideInline, items_on, part_items}
+
+-- the parts of a world
+abbrev pub world_parts : World → List Part
+world_parts world = map world_part world.items.items
 
 -- the names of the interface that it is, if it is written there
 abbrev pub inline_names : List TopName → SideItem → List (List ScopeName)
 inline_names top (SideFunction fn) = []
 inline_names top (SideLink link) = []
 inline_names top (SideInline x name items) = flat_map (part_names top) (map interface_part items) ∷ []
+
+-- the names of each interface that is written on a side of a world
+abbrev pub names_inside : List TopName → WorldSide → World → List (List ScopeName)
+names_inside top side world = flat_map (inline_names top) (items_on side (flat_map part_items (world_parts world)))
 
 -- the items of the interface that it is, if it is written there
 abbrev pub kind_items : ExternKind → List (List InterfaceItem)

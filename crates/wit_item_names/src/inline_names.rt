@@ -3,13 +3,12 @@ ghost use Rattle.std.specs.Prelude.{◌≡◌, All, map, IfOk};
 ghost use Rattle.std.specs.List.{flat_map};
 ghost use Rattle.std.specs.Option.{option_copied, option_to_list};
 ghost use Rattle.wit_syntax.specs.Source.{TheWorld, world_part as the_world_part};
-ghost use Rattle.wit_syntax.specs.Sides.{items_on, part_items};
-ghost use Rattle.wit_syntax.specs.Foreign.{visited, foreign_interfaces};
 ghost use Rattle.wit_first.specs.First.{Finds};
 ghost use Rattle.wit_first.specs.UseFaults.{uses_fault};
 ghost use Rattle.wit_files.specs.FileNames.{top_at};
+ghost use Rattle.wit_item_names.specs.ForeignAddresses.{prefix_of};
 ghost use Rattle.wit_item_names.specs.ItemPaths.{HasItem};
-ghost use Rattle.wit_item_names.specs.InlineNames.{inline_names, kind_items, side_uses, written_items};
+ghost use Rattle.wit_item_names.specs.InlineNames.{kind_items, names_inside as the_names_inside, side_uses, world_parts, written_items};
 ghost use Rattle.wit_scopes.specs.BorrowedNames.{name_view};
 ghost use Rattle.wit_scopes.specs.PlacedNames.{AreNamesPlaced};
 
@@ -58,9 +57,9 @@ pub fn names_inside<'f, 'a>(
     place: usize,
 ) -> ParseResult<Vec<Vec<ScopeName<'f, 'a>>>>
     requires item { HasItem files.now place (TheWorld world.now) }
-    ensures names { IfOk result (λ inside. map (λ ns. map name_view ns.items) inside.items ≡ flat_map (inline_names (top_at files.now place)) (items_on side (flat_map part_items (map the_world_part world.now.items.items)))) }
-    ensures placed { IfOk result (λ inside. All (λ ns. AreNamesPlaced (map visited (foreign_interfaces files.now)) ns.items) inside.items) }
-    ensures first { Finds (uses_fault files.now (top_at files.now place) (flat_map (side_uses side) (map the_world_part world.now.items.items))) result }
+    ensures names { IfOk result (λ inside. map (λ ns. map name_view ns.items) inside.items ≡ the_names_inside (top_at files.now place) side world.now) }
+    ensures placed { IfOk result (λ inside. All (λ ns. AreNamesPlaced (prefix_of files.now) ns.items) inside.items) }
+    ensures first { Finds (uses_fault files.now (top_at files.now place) (flat_map (side_uses side) (world_parts world.now))) result }
 {
     let mut inside = Vec::new(alloc);
     for part in world_items(world) {

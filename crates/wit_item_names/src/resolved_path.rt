@@ -1,13 +1,13 @@
 //! What a path of an item leads to that wants an interface.
-ghost use Rattle.std.specs.Prelude.{◌≡◌, ◌<◌, length, map, IfOk};
+ghost use Rattle.std.specs.Prelude.{◌≡◌, ◌<◌, length, IfOk};
 ghost use Rattle.std.specs.Option.{option_copied};
 ghost use Rattle.wit_syntax.specs.Source.{Local, leads, path_scope};
-ghost use Rattle.wit_syntax.specs.Foreign.{visited, foreign_interfaces};
 ghost use Rattle.wit_first.specs.First.{Finds};
 ghost use Rattle.wit_first.specs.UseFaults.{path_fault};
 ghost use Rattle.wit_top_names.specs.Tops.{target_view};
 ghost use Rattle.wit_files.specs.FileNames.{top_at};
 ghost use Rattle.wit_scopes.specs.BorrowedNames.{source_view, IsPlaced};
+ghost use Rattle.wit_item_names.specs.ForeignAddresses.{prefix_of};
 ghost use Rattle.wit_item_names.specs.ItemPaths.{HasPath, item_place as the_item_place, other_place as the_other_place, entry_at, interface_entry, IsResolvedPath};
 
 use crate::files::Files;
@@ -145,7 +145,7 @@ pub fn path_source<'f, 'a>(
 ) -> ParseResult<Source<'f, 'a>>
     requires path { HasPath files.now place path.now }
     ensures source { IfOk result (λ source. source_view source ≡ path_scope (top_at files.now place) path.now) }
-    ensures placed { IfOk result (λ source. IsPlaced (map visited (foreign_interfaces files.now)) source) }
+    ensures placed { IfOk result (λ source. IsPlaced (prefix_of files.now) source) }
     ensures first { Finds (path_fault files.now (top_at files.now place) path.now) result }
 {
     match resolve_path(files, place, path) {

@@ -1,5 +1,6 @@
 -- The names of the packages of a group, and when one of them is named again.
-use Rattle.std.specs.Prelude.{◌≡◌, ℕ, List, ◌∷◌, Some, Contains, slice_get, map, take}
+use denote.Ref.{Bor}
+use Rattle.std.specs.Prelude.{◌≡◌, ℕ, Bool, List, [], ◌∷◌, ◌++◌, MatchBool, Some, Contains, slice_get, map, take}
 use Rattle.wit_package_names.specs.declared.package_name.PackageName.{PackageName}
 use Rattle.wit_tree.specs.declared.tree.PackageFile.{PackageFile}
 use Rattle.wit_model.specs.declared.unresolved.UnresolvedPackage.{UnresolvedPackage}
@@ -11,6 +12,14 @@ use Rattle.wit_arena.specs.Faithful.{IsMadeOf}
 -- the names of packages, with their versions
 abbrev pub package_names : List UnresolvedPackage → List PackageName
 package_names ps = map (λ p. p.name) ps
+
+-- names that are borrowed
+abbrev pub names_of : List (Bor PackageName) → List PackageName
+names_of ns = map (λ n. n.now) ns
+
+-- a name is new and comes after these, or it is one of them
+abbrev pub IsInserted : (old new : List (Bor PackageName)) → PackageName → Bool → Type 0
+IsInserted old new name is_new = MatchBool is_new ((names_of new ≡ names_of old ++ name ∷ []) × (Contains (names_of old) name → ⊥)) (Contains (names_of old) name)
 
 -- no two of a main package and nested ones have one name, in one version or both in none
 abbrev pub AreNamedApart : UnresolvedPackage → List UnresolvedPackage → Type 0

@@ -1,9 +1,9 @@
 //! The names of the packages of a group: no two of them may be equal.
-ghost use Rattle.std.specs.Prelude.{◌≡◌, ◌++◌, ◌∷◌, [], Contains, IfErr, IfNone, IfOk, IfSome, MatchBool, OnOk, codes, map, string_bytes};
+ghost use Rattle.std.specs.Prelude.{◌≡◌, ◌++◌, IfErr, IfNone, IfOk, IfSome, OnOk, codes, string_bytes};
 ghost use Rattle.std.specs.Map.{keys_of};
 ghost use Rattle.wit_package_names.specs.PackageName.{name_text};
 ghost use Rattle.wit_syntax.specs.Broken.{Refused};
-ghost use Rattle.wit_nested.specs.PackageNames.{AreNamedApart, IsNamedAgain, IsRepeatedPackage};
+ghost use Rattle.wit_nested.specs.PackageNames.{AreNamedApart, IsInserted, IsNamedAgain, IsRepeatedPackage};
 
 use std::alloc::{AllocError, Global};
 use wit_maps::Table;
@@ -17,7 +17,7 @@ fn insert<'p>(
     names: &mut Table<&'p PackageName, ()>,
     name: &'p PackageName,
 ) -> Result<bool, AllocError>
-    ensures { IfOk result (λ new. MatchBool new ((map (λ n. n.now) (keys_of names.new) ≡ map (λ n. n.now) (keys_of names.old) ++ name.now ∷ []) × (Contains (map (λ n. n.now) (keys_of names.old)) name.now → ⊥)) (Contains (map (λ n. n.now) (keys_of names.old)) name.now)) }
+    ensures { IfOk result (IsInserted (keys_of names.old) (keys_of names.new) name.now) }
 {
     Ok(names.insert(name, ())?.is_none())
 }

@@ -1,7 +1,8 @@
 -- What comments say, written line by line where no CR is in it.
-use Rattle.std.specs.Prelude.{◌≡◌, ◌≤◌, ◌==◌, ℕ, ⊤, Bool, true, false, List, [], ◌∷◌, ◌++◌, if◌then◌else◌}
+use Rattle.std.specs.Prelude.{◌≡◌, ◌≤◌, ◌==◌, ℕ, ⊤, Bool, true, false, List, [], ◌∷◌, ◌++◌, if◌then◌else◌, map}
 use Rattle.std.specs.List.{flat_map}
-use Rattle.wit_syntax.specs.Docs.{ended_lines, indent, is_written, without_spaces}
+use Rattle.wit_syntax.specs.Docs.{ended_lines, indent, is_written, said, without_spaces}
+use denote.Ref.{Bor}
 
 -- no byte is a CR
 abbrev pub HasNoReturn : List ℕ → Type 0
@@ -30,3 +31,11 @@ IsIndented n text = is_written text ≡ true → n ≤ indent text
 -- the lines of texts without n spaces in front, each with an LF
 abbrev pub all_lines : ℕ → List (List ℕ) → List ℕ
 all_lines n texts = flat_map (λ text. ended_lines (without_spaces n text)) texts
+
+-- what comments say
+abbrev pub all_said : List (Bor (List ℕ)) → List (List ℕ)
+all_said comments = map (λ c. said c.now) comments
+
+-- a text is what comments say, line by line without n spaces in front, unless a CR is in it
+abbrev pub IsPlainOf : ℕ → List (Bor (List ℕ)) → List ℕ → Type 0
+IsPlainOf n comments text = HasNoReturn text → text ≡ all_lines n (all_said comments)

@@ -6,7 +6,7 @@ ghost use Rattle.std.specs.Str.{trim_end};
 ghost use Rattle.wit_syntax.specs.Docs.{after_slashes, after_spaces, common_indent, ended, ended_lines, indent, joined, said, unmarked, without_end, without_last_lines, without_spaces};
 ghost use Rattle.wit_syntax.specs.Metadata.{docs_of};
 ghost use Rattle.wit_notes.specs.Indents.{written_indent};
-ghost use Rattle.wit_notes.specs.PlainComments.{HasNoReturn, IsIndented, IsPushed, all_lines, ends_in_line, first_indent};
+ghost use Rattle.wit_notes.specs.PlainComments.{IsIndented, IsPlainOf, IsPushed, all_lines, all_said, ends_in_line, first_indent};
 
 use memchr::memchr;
 use std::alloc::{AllocError, Global};
@@ -224,7 +224,7 @@ fn push_plain(text: &mut String, added: &str) -> Result<(), AllocError>
 /// What comments say, line by line without this many spaces, unless a CR is in it; none if the
 /// indent of one is less.
 fn plain_lines(alloc: Global, comments: &[&str], count: usize) -> Result<Option<String>, AllocError>
-    ensures lines { IfOk result (λ found. IfSome found (λ text. HasNoReturn (string_bytes text) → string_bytes text ≡ all_lines count (map (λ c. said c.now) comments.now))) }
+    ensures lines { IfOk result (λ found. IfSome found (λ text. IsPlainOf count comments.now (string_bytes text))) }
     ensures some { IfOk result (λ found. IfSome found (λ _. All (λ c. IsIndented count (said c.now)) comments.now)) }
     ensures none { IfOk result (λ found. IfNone found (All (λ c. IsIndented count (said c.now)) comments.now → ⊥)) }
 {
@@ -254,7 +254,7 @@ fn all_lines(alloc: Global, comments: &[&str], count: usize) -> Result<String, A
 /// The indent of the first is mostly the least, and a CR is in few: so what is written while this is
 /// found out is mostly what is wanted, and else is written anew.
 fn common_lines(alloc: Global, comments: &[&str]) -> Result<String, AllocError>
-    ensures { IfOk result (λ text. string_bytes text ≡ all_lines (common_indent (map (λ c. said c.now) comments.now)) (map (λ c. said c.now) comments.now)) }
+    ensures { IfOk result (λ text. string_bytes text ≡ all_lines (common_indent (all_said comments.now)) (all_said comments.now)) }
 {
     if let Some(text) = plain_lines(alloc, comments, first_indent(comments))? {
         if memchr(b'\r', text.as_str().as_bytes()).is_none() {

@@ -1,3 +1,4 @@
 pub mod Ids
 pub mod Marks
+pub mod OnePackage
 pub mod Stray

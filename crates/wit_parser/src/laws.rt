@@ -11,6 +11,7 @@ ghost use Rattle.wit_arena.specs.Made.{Makes};
 ghost use Rattle.wit_arena.specs.Whole.{IsPackage};
 ghost use Rattle.wit_parser.specs.Ids.{AreIdsWithin};
 ghost use Rattle.wit_parser.specs.Marks.{HaveMarks};
+ghost use Rattle.wit_parser.specs.OnePackage.{MakeOne};
 ghost use Rattle.wit_parser.specs.Stray.{PushesAgree};
 ghost use Rattle.wit_model.specs.declared.unresolved.UnresolvedPackage.{UnresolvedPackage as ThePackage};
 
@@ -57,14 +58,14 @@ pub fn splitting()
     ensures same { (files : List TheFile) (one : TheFile) → IsJoined files one → IsSplit files (one ∷ []) }
     ensures occurrences { (files : List TheFile) (one : TheFile) → IsJoined files one → HaveSameOccurrences files (one ∷ []) }
     ensures packages { (files : List TheFile) (one : TheFile) → IsJoined files one → HaveSamePackages files (one ∷ []) }
-    ensures equal { (files : List TheFile) (one : TheFile) (p q : ThePackage) → IsJoined files one → IsLegal files → IsPackage files p → IsPackage (one ∷ []) q → p ≡ q }
+    ensures equal { (files : List TheFile) (one : TheFile) → IsJoined files one → MakeOne files (one ∷ []) }
 {}
 
 /// Legal files make one package: two that they make are equal in all that a package holds, and so in
 /// the orders of its maps. So are two that are given by their parts.
 pub fn one_package()
     ensures made { (files : List TheFile) (p q : ThePackage) → IsLegal files → Makes files p → Makes files q → p ≡ q }
-    ensures parts { (files : List TheFile) (p q : ThePackage) → IsLegal files → IsPackage files p → IsPackage files q → p ≡ q }
+    ensures parts { (files : List TheFile) → MakeOne files files }
 {}
 
 /// The first fault of a source that [`Resolver::push`](crate::Resolver::push) reports breaks one of

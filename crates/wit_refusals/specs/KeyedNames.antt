@@ -1,7 +1,9 @@
 -- What a scope keeps: its names in order, each by its key.
-use Rattle.std.specs.Prelude.{◌≡◌, ℕ, List, Option, Some, None, map, slice_get}
+use Rattle.std.specs.Prelude.{◌≡◌, ℕ, IsTrue, List, Option, Some, None, map, slice_get}
 use Rattle.wit_names.specs.Folded.{folded_key}
+use Rattle.wit_names.specs.Setter.{getter_of, is_setter}
 use Rattle.wit_values.specs.declared.span.Span.{Span}
+use Rattle.wit_syntax.specs.Fault.{Fault, fault}
 use Rattle.wit_syntax.specs.Repeats.{AllDiffer}
 use Rattle.wit_refusals.specs.declared.name_scope.DefinedName.{DefinedName}
 use Rattle.wit_refusals.specs.NameScopes.{Name}
@@ -34,3 +36,7 @@ pub record HasName (names : List Name) (name : List ℕ) : Type 0 where
   pub place : ℕ
   pub span : Span
   pub at : slice_get names place ≡ Some (name, span)
+
+-- a name is a setter, and its getter is not there
+abbrev pub IsWithoutGetter : List Name → List ℕ → Span → Fault → Type 0
+IsWithoutGetter names name span f = IsTrue (is_setter name) × (HasName names (getter_of name) → ⊥) × (f ≡ fault 18 span)

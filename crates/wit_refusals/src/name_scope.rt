@@ -6,7 +6,7 @@ ghost use Rattle.wit_syntax.specs.Broken.{Refused};
 ghost use Rattle.wit_type_tree.specs.RefusalText.{IsAllocationFailure};
 ghost use Rattle.wit_syntax.specs.Fault.{fault, fault_of};
 ghost use Rattle.wit_refusals.specs.NameScopes.{IsDefinedAgain, IsFirstLoneSetter, IsLoneSetter, AreUsed};
-ghost use Rattle.wit_refusals.specs.KeyedNames.{HasName, IsKeyed, names_of, spelled, spelling};
+ghost use Rattle.wit_refusals.specs.KeyedNames.{HasName, IsKeyed, IsWithoutGetter, names_of, spelled, spelling};
 
 use crate::getters::is_getter_name;
 use crate::refusal::refuse_in;
@@ -136,7 +136,7 @@ fn check_setter(
 ) -> ParseResult<()>
     requires { IsKeyed names.now }
     ensures paired { OnOk result (IsTrue (is_setter name.now) → HasName (names_of names.now) (getter_of name.now)) }
-    ensures refused { IfErr result (Refused (λ f. IsTrue (is_setter name.now) × (HasName (names_of names.now) (getter_of name.now) → ⊥) × (f ≡ fault 18 span))) }
+    ensures refused { IfErr result (Refused (IsWithoutGetter (names_of names.now) name.now span)) }
 {
     if !is_setter(name) {
         return Ok(());

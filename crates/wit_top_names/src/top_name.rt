@@ -3,9 +3,10 @@ ghost use Rattle.std.specs.Prelude.{◌≡◌, ◌++◌, List, [], map, IfOk, On
 ghost use Rattle.wit_syntax.specs.Source.{Local as TheLocal, TopName as Top, Item, itself as the_itself, top_name as the_name, top_names as the_names, top_text, leads as the_leads, file_items, all_items};
 ghost use Rattle.wit_syntax.specs.ScopeTables.{local_target};
 ghost use Rattle.wit_syntax.specs.Fault.{fault};
-ghost use Rattle.wit_first.specs.FileFaults.{file_tops_fault, lost_fault, top_use_fault, unnamed_fault};
+ghost use Rattle.wit_first.specs.FileFaults.{file_tops_fault, lost_fault, top_use_fault};
 ghost use Rattle.wit_first.specs.First.{Finds, first_repeat};
 ghost use Rattle.wit_first.specs.NameFaults.{item_names_fault, top_names_fault};
+ghost use Rattle.wit_top_names.specs.Checks.{AddsEdge, FindsUnnamed};
 ghost use Rattle.wit_top_names.specs.Tops.{target_view, top_view, item_top, AreNamed, AreDeclared};
 
 use crate::declaration::declarations;
@@ -221,8 +222,8 @@ pub fn add_edge<'a>(
     edges: &mut Vec<Id<'a>>,
     path: &UsePath<'a>,
 ) -> ParseResult<()>
-    ensures edges { OnOk result ((top : List Top) → AreNamed top paths.entry.top.now → edges.new.items ≡ edges.old.items ++ local_target (the_leads top path.now)) }
-    ensures first { (top : List Top) (is : List Item) → AreNamed top paths.entry.top.now → AreDeclared is paths.entry.declared.now → Finds (unnamed_fault is top path.now) result }
+    ensures edges { OnOk result (AddsEdge paths.entry path.now edges.old.items edges.new.items) }
+    ensures first { FindsUnnamed paths.entry path.now result }
 {
     match path {
         UsePath::Id(id) => match paths.top.get_by(id.name) {

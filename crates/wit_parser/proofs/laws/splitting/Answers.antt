@@ -24,4 +24,4 @@ pub returns-clause-packages : goal.returns-clause-packages
 returns-clause-packages c = joined_packages
 
 pub returns-clause-equal : goal.returns-clause-equal
-returns-clause-equal c files one p q joined legal is_p is_q = one_package files p q legal is_p ((joined_packages files one joined q).1 is_q)
+returns-clause-equal c files one joined p q legal is_p is_q = one_package files p q legal is_p ((joined_packages files one joined q).1 is_q)
