@@ -11,6 +11,7 @@ mod Members
 mod Parts
 mod InterfaceFaults
 mod WorldFaults
+mod NamesAlone
 pub mod WalkedInterface
 pub mod UsesWalked
 pub mod EndsWalked

@@ -1,18 +1,19 @@
 -- What the imports and exports of a world add, one after another after its names.
-use Rattle.std.specs.Prelude.{◌≡◌, ◌+◌, ◌++◌, ◌∷◌, [], ℕ, Contains, List, Option, length, map, slice_get, Some, true}
+use Rattle.std.specs.Prelude.{◌≡◌, ◌+◌, ◌++◌, ◌∷◌, [], ℕ, Bool, Contains, List, Option, length, map, nat_eq, slice_get, Some, true}
 use Rattle.std.specs.List.{flat_map}
 use Rattle.wit_type_tree.specs.declared.leaves.Id.{Id}
 use Rattle.wit_type_tree.specs.declared.types.ResourceFunc.{ResourceFunc}
 use Rattle.wit_tree.specs.declared.tree.Extern.{Extern}
 use Rattle.wit_tree.specs.declared.tree.UsePath.{UsePath}
+use Rattle.wit_tree.specs.declared.tree.WorldItem.{WorldItem}
 use Rattle.wit_tree.specs.declared.tree.WorldSide.{WorldSide}
 use Rattle.wit_types.specs.declared.types.TypeDef.{TypeDef}
 use Rattle.wit_functions.specs.declared.function.Function.{Function}
 use Rattle.wit_model.specs.declared.interface.Interface.{Interface}
 use Rattle.wit_syntax.specs.Address.{Address}
 use Rattle.wit_syntax.specs.Function.{functions as the_functions, resource_function}
-use Rattle.wit_syntax.specs.Sides.{Link, SideFunction, SideItem, SideLink, extern_items, inline_after, item_function, item_inline, items_on, names_on, side_items}
-use Rattle.wit_syntax.specs.Source.{Item, ScopeName, address, is_world, local_id, scope_names}
+use Rattle.wit_syntax.specs.Sides.{Link, SideFunction, SideItem, SideLink, extern_items, inline_after, item_function, item_inline, items_on, names_on, part_items, side_items}
+use Rattle.wit_syntax.specs.Source.{Item, ScopeName, address, is_world, local_id, scope_names, world_part}
 use Rattle.wit_arena.specs.Resolving.{Required, env_of, names_in}
 use Rattle.wit_arena.specs.ResolvedArenas.{AddsInterface, AddsSides, interfaces_at}
 use Rattle.wit_arena.specs.SideItems.{AreSideItems}
@@ -39,6 +40,10 @@ use Rattle.wit_uses.specs.NewRequirements.{Appends}
 use Rattle.wit_contents.specs.declared.walk.Growing.{Growing}
 use Rattle.wit_contents.specs.declared.walk.Walk.{Walk}
 use Rattle.wit_contents.specs.declared.walk.Walked.{Walked}
+
+-- whether a part of a world puts nothing on its sides, after the names of its types
+abbrev pub puts_nothing : WorldItem → Bool
+puts_nothing x = nat_eq (length (part_items (world_part x))) 0
 
 -- an item, and what its imports and exports are resolved in
 pub record ItemWalk : Type 0 where

@@ -1,9 +1,10 @@
 //! What a world has on its sides: the names of its scope, and after them what it imports and exports.
 ghost use Rattle.std.specs.Prelude.{◌≡◌, IfOk};
+ghost use Rattle.std.specs.List.{list_all};
 ghost use Rattle.wit_syntax.specs.ScopeTables.{includes};
 ghost use Rattle.wit_items.specs.BorrowedItems.{item_view};
 ghost use Rattle.wit_world_sides.specs.Settled.{none_of};
-ghost use Rattle.wit_contents.specs.Walk.{AddsAll, IsWalk, walk_of};
+ghost use Rattle.wit_contents.specs.Walk.{AddsAll, IsWalk, puts_nothing, walk_of};
 ghost use Rattle.wit_contents.specs.WorldFaults.{FindsWalk};
 
 use crate::walk::{Growing, Walk, Walked, walk_parts};
@@ -13,7 +14,7 @@ use wit_notes::is_same_side;
 use wit_rules::borrowed::BorrowedFunction;
 use wit_top_names::declaration::world_items;
 use wit_tree::ParseResult;
-use wit_tree::tree::{Extern, ExternKind, World, WorldItem, WorldSide};
+use wit_tree::tree::{Extern, ExternKind, TypeBody, World, WorldItem, WorldSide};
 use wit_world_sides::members::named_members;
 use wit_world_sides::sides_setters::check_closed;
 
@@ -49,6 +50,28 @@ fn side_room(world: &World<'_>, functions: &[BorrowedFunction<'_, '_>], side: Wo
         }
     }
     count
+}
+
+/// Whether a part of a world puts nothing on a side, after the names of its types.
+fn puts_nothing(part: &WorldItem<'_>) -> bool
+    ensures { result ≡ puts_nothing part.now }
+{
+    match part {
+        WorldItem::TypeDef(definition) => match &definition.body {
+            TypeBody::Resource { funcs } => funcs.len() == 0,
+            _ => true,
+        },
+        WorldItem::Use(_) => true,
+        WorldItem::Include(_) => true,
+        WorldItem::Extern(_) => false,
+    }
+}
+
+/// Whether a world with these parts has nothing on its sides, after the names of its types.
+pub(crate) fn put_nothing(parts: &[WorldItem<'_>]) -> bool
+    ensures { result ≡ list_all puts_nothing parts.now }
+{
+    parts.iter().all(|part| puts_nothing(part))
 }
 
 /// What is on the sides of a world, after the names of its scope, which are resolved. Where the world

@@ -14,7 +14,7 @@ ghost use Rattle.wit_contents.specs.AddedWorlds.{AddsContent, AddsOne, AddsTo, A
 ghost use Rattle.wit_contents.specs.WorldFaults.{FindsSides, FindsWorld, FindsWorlds};
 ghost use Rattle.wit_contents.specs.WorldWalk.{AddsSidesOf, IsScopeOfWorld};
 
-use crate::sides::walk_sides;
+use crate::sides::{put_nothing, walk_sides};
 use crate::walk::{Growing, Walk, Walked};
 use std::alloc::{AllocError, Global};
 use std::mem::replace;
@@ -22,6 +22,7 @@ use wit_entries::entries::Entries;
 use wit_entries::scope::Required;
 use wit_item_entries::functions::{world_functions, written_results};
 use wit_item_entries::names::{ResolvedNames, resolve_names};
+use wit_item_entries::own_keys::have_upper_case;
 use wit_item_entries::required::add_required;
 use wit_items::interfaces::Interfaces;
 use wit_items::items::{Declared, Item};
@@ -33,11 +34,12 @@ use wit_maps::TextTable;
 use wit_model::{Interface, World, WorldInclude};
 use wit_rules::borrowed::BorrowedFunction;
 use wit_rules::function_scope::FunctionScope;
+use wit_top_names::declaration::world_items;
 use wit_tree::ParseResult;
 use wit_tree::tree::{Id, Type};
 use wit_types::{Arena, InterfacePlace, TypeOwner, WorldPlace};
 use wit_values::{Row, Text, pair_with};
-use wit_world_sides::sides::WorldSides;
+use wit_world_sides::sides::{WorldSides, named_sides};
 use wit_world_sides::sides_setters::{is_closed, settle};
 
 /// What a world has on its sides, and its includes.
@@ -118,7 +120,8 @@ fn walked_sides<'f, 'a>(
     Ok(walked)
 }
 
-/// What a world has on its sides, after its names, and its includes.
+/// What a world has on its sides, after its names, and its includes. Where nothing comes after names
+/// without a letter in upper case, which are their own keys, these need not be defined.
 fn world_content<'f, 'a>(
     item: &Item<'f, 'a>,
     growing: &mut Growing,
@@ -141,10 +144,18 @@ fn world_content<'f, 'a>(
         owner,
     )?;
     let includes = declared_includes(alloc, &item.declared, worlds, item.place)?;
+    let closed = is_closed(includes.as_slice());
     let world = declared_world(&item.declared);
+    if put_nothing(world_items(world)) {
+        if !have_upper_case(&names.turn) {
+            let named = named_sides(alloc, &names.turn, &names.types, 0, 0)?;
+            add_required(required, &names.required)?;
+            let sides = settle(alloc, named, closed)?;
+            return Ok(WorldContent { sides, includes });
+        }
+    }
     let functions = world_functions(alloc, world)?;
     let results = written_results(alloc, &item.names)?;
-    let closed = is_closed(includes.as_slice());
     let scope = WorldScope {
         names,
         results,

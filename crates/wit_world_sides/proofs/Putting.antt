@@ -12,6 +12,7 @@ use Rattle.wit_syntax.specs.Repeats.{AllDiffer}
 use Rattle.wit_syntax.specs.ScopeTables.{local_names}
 use Rattle.wit_syntax.specs.Sides.{Link, SideItem, SideLink, item_side, items_on, names_on}
 use Rattle.wit_syntax.specs.Source.{ScopeName, local_id}
+use Rattle.wit_syntax.proofs.Lists.{map_map}
 use Rattle.wit_syntax.proofs.Repeated.{differ_none}
 use Rattle.wit_arena.specs.Resolving.{Names, names_in}
 use Rattle.wit_arena.specs.SideItems.{link_item, link_key, put_on}
@@ -26,7 +27,7 @@ use Rattle.wit_world_sides.specs.Settled.{AreCalled}
 use Rattle.wit_world_sides.specs.FilledSides.{entries_of, inserted_on}
 use Rattle.wit_world_sides.proofs.Keyed.{key_of, put_one}
 use Rattle.wit_world_sides.proofs.SideCalled.{IsCalled, called_both, called_put, none_called, types_called}
-use Rattle.wit_world_sides.proofs.SideKeys.{entry_names, entry_places, keys_apart, names_both, places_both, texts_differ, type_names, type_places}
+use Rattle.wit_world_sides.proofs.SideKeys.{entry_names, entry_places, keys_apart, names_both, names_of, places_both, texts_differ, type_names, type_places}
 
 -- no key is twice on a side
 pub keyed_differ : (m : Members) → AreKeyed m → (s : WorldSide) → AllDiffer (map key_of (entries_of s m.sides))
@@ -89,7 +90,7 @@ pub names_itself : (link : Link) → link.name ≡ None → item_names (SideLink
 names_itself link bare = ap (λ (n : Option Id). option_map_or (λ (id : Id). name_of_id id ∷ []) n []) bare
 
 -- at first the names of a scope are there, as imports
-pub begun : (m : Members) (xs : List ScopeName) (types : Names) (ids : List Id) → ids ≡ map local_id xs → names_in types ≡ local_names xs → m.sides.imports ≡ type_imports xs types → m.sides.exports ≡ [] → ((s : WorldSide) → defined_on s m.in_use ≡ names_on s (map name_of_id ids)) → ((s : WorldSide) → AllDiffer (map name_key (defined_on s m.in_use))) → ((s : WorldSide) → linked_on s m.links ≡ []) → AreKeyed m
+begun : (m : Members) (xs : List ScopeName) (types : Names) (ids : List Id) → ids ≡ map local_id xs → names_in types ≡ local_names xs → m.sides.imports ≡ type_imports xs types → m.sides.exports ≡ [] → ((s : WorldSide) → defined_on s m.in_use ≡ names_on s (map name_of_id ids)) → ((s : WorldSide) → AllDiffer (map name_key (defined_on s m.in_use))) → ((s : WorldSide) → linked_on s m.links ≡ []) → AreKeyed m
 begun m xs types ids are listed imports exports in_use differ linked = record {
   names = names;
   places = places;
@@ -109,3 +110,10 @@ begun m xs types ids are listed imports exports in_use differ linked = record {
     called : (s : WorldSide) → AreCalled (entries_of s m.sides)
     called Imported = subst AreCalled (sym imports) (types_called xs types)
     called Exported = subst AreCalled (sym exports) none_called
+
+-- so by their ids
+pub begun_with : (m : Members) (types : Names) (ids : List Id) → names_in types ≡ map (λ id. id.name.now) ids → ((xs : List ScopeName) → ids ≡ map local_id xs → m.sides.imports ≡ type_imports xs types) → m.sides.exports ≡ [] → ((s : WorldSide) → defined_on s m.in_use ≡ names_on s (map name_of_id ids)) → ((s : WorldSide) → AllDiffer (map name_key (defined_on s m.in_use))) → ((s : WorldSide) → linked_on s m.links ≡ []) → AreKeyed m
+begun_with m types ids listed imports exports in_use differ linked =
+    let own = names_of ids in
+    let texts : names_in types ≡ local_names own.0 = listed ∙ ap (map (λ (id : Id). id.name.now)) own.1 ∙ map_map (λ (id : Id). id.name.now) local_id own.0 in
+    begun m own.0 types ids own.1 texts (imports own.0 own.1) exports in_use differ linked

@@ -26,7 +26,7 @@ ghost use Rattle.wit_world_sides.specs.PutFaults.{clash_fault, named_fault, put_
 ghost use Rattle.wit_world_sides.specs.Words.{conflict, side_word};
 
 use crate::sides::{
-    WorldSides, add_function, add_item, add_named, inline_item, path_item, type_imports,
+    WorldSides, add_function, add_item, add_named, inline_item, named_sides, path_item,
 };
 use std::alloc::{AllocError, Global};
 use wit_externs::in_use::define_names;
@@ -288,11 +288,10 @@ pub fn named_members(
 {
     let mut in_use = Sides::new(alloc);
     define_names(&mut in_use, turn)?;
-    let imports = type_imports(alloc, turn, types, imports)?;
-    let exports = Table::with_capacity(alloc, exports)?;
+    let sides = named_sides(alloc, turn, types, imports, exports)?;
     Ok(Members {
         in_use,
         links: Links::new(alloc),
-        sides: WorldSides { imports, exports },
+        sides,
     })
 }

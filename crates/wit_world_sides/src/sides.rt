@@ -1,5 +1,5 @@
 //! What a world has on its sides: the names of its scope as imports, and what is put there.
-ghost use Rattle.std.specs.Prelude.{◌≡◌, ◌<◌, List, IfOk, OnOk, map};
+ghost use Rattle.std.specs.Prelude.{◌≡◌, ◌<◌, List, [], IfOk, OnOk, map};
 ghost use Rattle.indexmap.specs.IndexMap.{insert_entry};
 ghost use Rattle.wit_type_tree.specs.Attributes.{stated_text};
 ghost use Rattle.wit_type_tree.specs.declared.attribute_kind.AttributeKind.TheVariants.{ExternalId};
@@ -46,7 +46,7 @@ fn add_import(
 
 /// The names of a scope as imports of a world: each with the type that it means. After them is room
 /// for so many more.
-pub(crate) fn type_imports(
+fn type_imports(
     alloc: Global,
     turn: &[Id<'_>],
     types: &TextTable<TypeId>,
@@ -72,6 +72,24 @@ pub struct WorldSides {
     pub imports: Table<WorldKey, WorldItem>,
     /// The exports.
     pub exports: Table<WorldKey, WorldItem>,
+}
+
+/// The names of a scope as imports of a world, each with the type that it means, and no exports. After
+/// them is room for so many imports and exports more.
+pub fn named_sides(
+    alloc: Global,
+    turn: &[Id<'_>],
+    types: &TextTable<TypeId>,
+    imports: usize,
+    exports: usize,
+) -> Result<WorldSides, AllocError>
+    requires distinct { AllDiffer (map (λ id. id.name.now) turn.now) }
+    ensures imports { IfOk result (λ sides. (xs : List ScopeName) → turn.now ≡ map local_id xs → sides.imports ≡ the_imports xs types.now) }
+    ensures exports { IfOk result (λ sides. sides.exports ≡ []) }
+{
+    let imports = type_imports(alloc, turn, types, imports)?;
+    let exports = Table::with_capacity(alloc, exports)?;
+    Ok(WorldSides { imports, exports })
 }
 
 /// Puts an item at a key of a side.

@@ -4,16 +4,11 @@ use Rattle.wit_type_tree.specs.declared.leaves.Id.{Id}
 use Rattle.wit_tree.specs.declared.tree.WorldSide.{WorldSide}
 use Rattle.wit_tree.specs.declared.tree.WorldSide.TheVariants.{Imported}
 use Rattle.wit_syntax.specs.Repeats.{AllDiffer}
-use Rattle.wit_syntax.specs.ScopeTables.{local_names}
 use Rattle.wit_syntax.specs.Sides.{names_on}
-use Rattle.wit_syntax.specs.Source.{local_id}
-use Rattle.wit_syntax.proofs.Lists.{map_map}
 use Rattle.wit_syntax.proofs.Repeated.{differ_none}
-use Rattle.wit_arena.specs.Resolving.{names_in}
 use Rattle.wit_refusals.specs.NameScopes.{Name}
 use Rattle.wit_signatures.specs.ForeignName.{name_key, name_of_id}
-use Rattle.wit_world_sides.proofs.Putting.{begun}
-use Rattle.wit_world_sides.proofs.SideKeys.{names_of}
+use Rattle.wit_world_sides.proofs.Putting.{begun_with}
 use Rattle.wit_first.proofs.First.{reports_same}
 use Rattle.wit_externs.specs.AloneFaults.{defined_fault}
 use Rattle.wit_world_sides.proofs.members.named_members.Goals as goal
@@ -24,12 +19,9 @@ returns-clause-in_use c = λ s. c.in_ok-define_names.ensures.defined s ∙ ap (�
 pub returns-clause-keyed : goal.returns-clause-keyed
 returns-clause-keyed c =
     let ids = c.args.turn.now in
-    let types = c.args.types.now in
-    let own = names_of ids in
-    let listed : names_in types ≡ local_names own.0 = c.requires.listed ∙ ap (map (λ (id : Id). id.name.now)) own.1 ∙ map_map (λ (id : Id). id.name.now) local_id own.0 in
     let in_use = λ (s : WorldSide). c.in_ok-define_names.ensures.defined s ∙ ap (λ (l : List Name). l ++ names_on s (map name_of_id ids)) (c.new-in_use.ensures s) in
     let differ = λ (s : WorldSide). c.in_ok-define_names.ensures.differ s (subst (λ (l : List Name). AllDiffer (map name_key l)) (sym (c.new-in_use.ensures s)) differ_none) in
-    begun _ own.0 types ids own.1 listed (c.in_ok-imports.ensures own.0 own.1) c.in_ok-exports.ensures in_use differ c.new.ensures
+    begun_with _ c.args.types.now ids c.requires.listed c.in_ok-sides.ensures.imports c.in_ok-sides.ensures.exports in_use differ c.new.ensures
 
 pub returns-in_err-define_names-clause-first : goal.returns-in_err-define_names-clause-first
 returns-in_err-define_names-clause-first c =

@@ -1,0 +1,145 @@
+-- A world that has nothing on its sides after its names, which are their own keys.
+use Rattle.std.proofs.Common.{◌≡◌, ◌+◌, ℕ, true, false, List, [], ◌∷◌, ◌++◌, length, map, Option, None, refl, sym, ap, ◌∙◌, subst, arith}
+use Rattle.std.specs.Char.{is_ascii_uppercase}
+use Rattle.std.specs.List.{flat_map, list_all, list_any}
+use Rattle.std.proofs.lemmas.Bool.{and_parts, eqb-true}
+use Rattle.std.proofs.lemmas.List.{append-nil, nil_from_length}
+use Rattle.wit_type_tree.specs.declared.leaves.Id.{Id}
+use Rattle.wit_tree.specs.declared.tree.Include.{Include}
+use Rattle.wit_tree.specs.declared.tree.World.{World as Written}
+use Rattle.wit_tree.specs.declared.tree.WorldItem.{WorldItem}
+use Rattle.wit_tree.specs.declared.tree.WorldSide.{WorldSide}
+use Rattle.wit_tree.specs.declared.tree.WorldSide.TheVariants.{Imported, Exported}
+use Rattle.wit_types.specs.declared.types.TypeDef.{TypeDef}
+use Rattle.wit_types.specs.declared.types.TypeOwner.TheVariants as owner
+use Rattle.wit_model.specs.declared.interface.Interface.{Interface}
+use Rattle.wit_model.specs.declared.world.World.{World}
+use Rattle.wit_syntax.specs.Address.{Address}
+use Rattle.wit_syntax.specs.Fault.{fault}
+use Rattle.wit_syntax.specs.Function.{functions}
+use Rattle.wit_syntax.specs.Repeats.{AllDiffer}
+use Rattle.wit_syntax.specs.ScopeTables.{in_turn, includes}
+use Rattle.wit_syntax.specs.Sides.{SideItem, inline_after, inline_items, item_function, names_on, part_items, side_items}
+use Rattle.wit_syntax.specs.Source.{Declared, Item, ScopeName, TheWorld, about, address, declared_metadata, local_id, scope_names, world_part}
+use Rattle.wit_syntax.proofs.Legal.{functions_items}
+use Rattle.wit_syntax.proofs.Turns.{in_turn_distinct}
+use Rattle.wit_first.specs.First.{first_after}
+use Rattle.wit_first.proofs.First.{no_repeats, none_both}
+use Rattle.wit_walk.specs.Setters.{setters_beside, setters_fault}
+use Rattle.wit_arena.specs.UnfoldedTypes.{IsWorld}
+use Rattle.wit_arena.specs.Resolving.{Names, Required, names_in}
+use Rattle.wit_arena.specs.ResolvedArenas.{AddsSides, AddsWorld, interfaces_at, worlds_at}
+use Rattle.wit_arena.specs.SideItems.{AreSideItems, settled}
+use Rattle.wit_arena.specs.Whole.{AreIncludes, type_imports}
+use Rattle.wit_refusals.specs.NameScopes.{Name}
+use Rattle.wit_sides.specs.SideNames.{defined_on}
+use Rattle.wit_signatures.specs.ForeignName.{name_key, name_of_id}
+use Rattle.wit_externs.specs.AloneFaults.{sides_setters}
+use Rattle.wit_externs.specs.Next.{linked_on}
+use Rattle.wit_item_names.specs.ForeignAddresses.{prefix_of}
+use Rattle.wit_items.specs.BorrowedItems.{declared_view, item_view}
+use Rattle.wit_items.specs.ResolvedInterfaces.{resolved_scopes_of}
+use Rattle.wit_items.specs.declared.interfaces.Interfaces.{Interfaces}
+use Rattle.wit_items.specs.declared.items.Item.{Item as BorrowedItem}
+use Rattle.wit_uses.specs.NameOrder.{IsTurn}
+use Rattle.wit_item_entries.specs.AddedNames.{AddsTurn}
+use Rattle.wit_item_entries.proofs.FunctionFaults.{turn_texts}
+use Rattle.wit_item_entries.proofs.NoFunctions.{names_alone}
+use Rattle.wit_world_sides.specs.FilledSides.{entries_of}
+use Rattle.wit_world_sides.specs.Members.{AreKeyed}
+use Rattle.wit_world_sides.specs.Settled.{AreCalled}
+use Rattle.wit_world_sides.specs.declared.members.Members.{Members}
+use Rattle.wit_world_sides.specs.declared.sides.WorldSides.{WorldSides}
+use Rattle.wit_world_sides.proofs.Putting.{begun_with, keyed_differ}
+use Rattle.wit_contents.specs.AddedWorlds.{arenas}
+use Rattle.wit_contents.specs.MemberFaults.{MemberTest}
+use Rattle.wit_contents.specs.Walk.{puts_nothing}
+use Rattle.wit_contents.specs.WorldFaults.{sides_fault}
+use Rattle.wit_contents.proofs.Adding.{sides_none}
+use Rattle.wit_contents.proofs.PartItems.{world_sides}
+
+-- parts that put nothing on a side
+put_none : (xs : List WorldItem) → list_all puts_nothing xs ≡ true → world_sides xs ≡ []
+put_none [] all = refl
+put_none (x ∷ xs) all =
+    let both = and_parts (puts_nothing x) (list_all puts_nothing xs) all in
+    ap (λ (l : List SideItem). l ++ world_sides xs) (nil_from_length (part_items (world_part x)) (eqb-true (length (part_items (world_part x))) 0 both.0)) ∙ put_none xs both.1
+
+pub none_there : (i : BorrowedItem) (world : Written) (xs : List WorldItem) → declared_view i.declared ≡ TheWorld world → xs ≡ world.items.items → list_all puts_nothing xs ≡ true → side_items (item_view i) ≡ []
+none_there i world xs is same all = ap (λ (d : Declared). flat_map part_items (about d).parts) is ∙ ap world_sides (sym same) ∙ put_none xs all
+
+-- the names of a world differ
+pub texts_differ : (xs : List ScopeName) (ids : List Id) → IsTurn xs ids → AllDiffer (map (λ id. id.name.now) ids)
+texts_differ xs ids turn = subst AllDiffer (sym (turn_texts xs turn.order ids turn.are)) (in_turn_distinct xs turn.order turn.least turn.distinct)
+
+-- without functions no setter is without its getter
+by_includes : (i : Item) (ns : List Include) → functions i ≡ [] → setters_beside i ns ≡ None
+by_includes i [] none = ap sides_setters none
+by_includes i (n ∷ ns) none = refl
+
+pub setters_none : (i : Item) → side_items i ≡ [] → setters_fault i ≡ None
+setters_none i empty = by_includes i (includes i) (functions_items i ∙ ap (flat_map item_function) empty)
+
+-- a world of the files whose names are these in turn, which are its sides
+module _ (item : Item) (types : Names) (ids : List Id) (turn : IsTurn (scope_names item) ids) (listed : names_in types ≡ map (λ id. id.name.now) ids) (empty : side_items item ≡ []) (lower : list_any (λ (id : Id). list_any is_ascii_uppercase id.name.now) ids ≡ false) (sides : WorldSides) (imports : (xs : List ScopeName) → ids ≡ map local_id xs → sides.imports ≡ type_imports xs types) (exports : sides.exports ≡ []) where
+  -- as if the names were defined
+  abbrev alone : Members
+  alone = record { in_use = record { imports = map name_of_id ids; exports = [] }; links = record { imports = []; exports = [] }; sides = sides }
+
+  names_then : (s : WorldSide) → defined_on s alone.in_use ≡ names_on s (map name_of_id ids)
+  names_then Imported = refl
+  names_then Exported = refl
+
+  links_then : (s : WorldSide) → linked_on s alone.links ≡ []
+  links_then Imported = refl
+  links_then Exported = refl
+
+  differ : (s : WorldSide) → AllDiffer (map name_key (defined_on s alone.in_use))
+  differ s = subst (λ (l : List Name). AllDiffer (map name_key l)) (append-nil (names_on s (map name_of_id ids)) ∙ sym (names_then s)) (names_alone s (scope_names item) ids [] refl turn lower)
+
+  keyed : AreKeyed alone
+  keyed = begun_with alone types ids listed imports exports names_then differ links_then
+
+  pub alone_differ : (s : WorldSide) → AllDiffer (map (λ e. e.0) (entries_of s sides))
+  alone_differ = keyed_differ alone keyed
+
+  pub alone_called : (s : WorldSide) → AreCalled (entries_of s sides)
+  alone_called = keyed.called
+
+  -- nothing has a fault
+  pub alone_none : (member : MemberTest) → sides_fault item ids member ≡ None
+  alone_none member = none_both (no_repeats name_key (λ (m : Name). fault 17 m.1) (map name_of_id ids) (differ Imported)) (none_both (ap (first_after member []) empty) (setters_none item empty))
+
+  pub alone_extended : (count : ℕ) → count ≡ count + length (inline_items item)
+  alone_extended count = let none : length (inline_items item) ≡ 0 = ap (λ (xs : List SideItem). length (inline_after item [] xs)) empty in omega (arith, none)
+
+  -- and only the names are added
+  module _ (is : Interfaces) (others : List Address) (ws : List World) (old middle : List TypeDef) (inside : List Interface) (required : List Required) (n : AddsTurn old middle (resolved_scopes_of is) (owner.World (length ws)) (scope_names item) types ids required) where
+    pub alone_adds : (added : World) (ss : List Address) → IsWorld (about item.declared).id.name.now (about item.declared).id.span (declared_metadata item.declared) added → added.imports ≡ settled (includes item) sides.imports → added.exports ≡ settled (includes item) sides.exports → AreIncludes (worlds_at others ws) item added.includes → AddsWorld (prefix_of is.files) others is.arena old middle (arenas ws inside ss) (arenas (ws ++ added ∷ []) inside (ss ++ map address (inline_items item))) required item
+    alone_adds added ss says imported exported included =
+        let us = inline_items item in
+        let total = interfaces_at (prefix_of is.files) is.arena ++ (ss ++ map address us) in
+        let none = λ (s : WorldSide). subst (λ (xs : List SideItem). AreSideItems total item.top s xs [] (map address us) []) (sym empty) refl in
+        let names = type_imports (in_turn (scope_names item) n.adds.order) types in
+        record {
+          added = added;
+          last = refl;
+          more = refl;
+          says = says;
+          types = types;
+          middle = middle;
+          adds = n.adds;
+          own = n.handled.list;
+          ended = n.handled.ended;
+          functions = [];
+          rest = [];
+          requires = n.handled.added ∙ sym (append-nil n.handled.list);
+          sides = subst (λ (xs : List SideItem). AddsSides (resolved_scopes_of is) (length is.arena) (address item) types middle middle inside inside [] [] xs us) (sym empty) (sides_none (resolved_scopes_of is) (length is.arena) (address item) types middle inside us);
+          imported = [];
+          are_imported = none Imported;
+          imports = imported ∙ ap (settled (includes item)) (imports (in_turn (scope_names item) n.adds.order) n.turn ∙ sym (append-nil names));
+          exported = [];
+          are_exported = none Exported;
+          exports = exported ∙ ap (settled (includes item)) exports;
+          includes = included;
+        }
