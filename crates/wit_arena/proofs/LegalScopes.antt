@@ -10,7 +10,7 @@ use Rattle.wit_syntax.specs.Address.{Address, InterfaceNamed, WorldNamed, Inline
 use Rattle.wit_syntax.specs.Bodies.{IsSecond}
 use Rattle.wit_syntax.specs.Broken.{is_world_at, IsBrokenNames, DuplicateItem, Items, DefinedTwice, MissingUse, WorldUsed, Scope, Use, IsLegal}
 use Rattle.wit_syntax.specs.ExternPart.{extern_paths, inline_uses}
-use Rattle.wit_syntax.specs.Fault.{Fault, fault, missing_at, item_word}
+use Rattle.wit_syntax.specs.Fault.{Fault, missing_at, item_word, item_twice, name_twice, world_there}
 use Rattle.wit_syntax.specs.Foreign.{foreign_at, ForeignVisit}
 use Rattle.wit_syntax.specs.Repeats.{AllDiffer}
 use Rattle.wit_syntax.specs.ScopeTables.{AreDistinct, used, defined, use_path, use_paths, part_uses, uses}
@@ -38,7 +38,7 @@ all_differ key as_stated xs never = differ_by key xs (λ i j x y at_x at_y same.
 
 -- where no rule about names is broken, the names of items differ
 pub distinct_items : (files : List PackageFile) → ((f : Fault) → IsBrokenNames files f → ⊥) → AllDiffer (map item_name (all_items files))
-distinct_items files legal = all_differ item_name (λ (i : Item). fault 5 (about i.declared).id.span) (all_items files) (λ f second. legal f (Items (DuplicateItem second)))
+distinct_items files legal = all_differ item_name (λ (i : Item). item_twice (about i.declared).id) (all_items files) (λ f second. legal f (Items (DuplicateItem second)))
 
 -- the path of a `use` of a part is one of it
 path_of_use : (x : Part) (j : ℕ) (u : WrittenUse) → slice_get (part_uses x) j ≡ Some u → (i : ℕ) × (slice_get (use_path x) i ≡ Some u.from)
@@ -61,7 +61,7 @@ path_among w u used =
 module _ (files : List PackageFile) (legal : IsLegal files) where
   -- the names of an item differ
   pub names_differ : (i : Item) → Contains (all_scopes files) i → AreDistinct (scope_names i)
-  names_differ i among = distinct_names (scope_names i) (all_differ local_name (λ x. fault 14 (local_id x).span) (used (scope_names i) ++ defined (scope_names i)) (λ f second. legal f (Scope i among (DefinedTwice second))))
+  names_differ i among = distinct_names (scope_names i) (all_differ local_name (λ x. name_twice (local_id x)) (used (scope_names i) ++ defined (scope_names i)) (λ f second. legal f (Scope i among (DefinedTwice second))))
 
   -- what is at an address is a scope of the files
   pub scope_among : (s : Address) (i : Item) → item_at (all_scopes files) s ≡ Some i → Contains (all_scopes files) i
@@ -83,7 +83,7 @@ module _ (files : List PackageFile) (legal : IsLegal files) where
 
   -- no `use` leads to a world
   no_world_used : (w : Item) (u : WrittenUse) → Contains (all_items files) w → Contains (uses w) u → is_world_at files (leads w.top u.from) ≡ Some true → ⊥
-  no_world_used w u among used to = legal (fault 10 (path_id u.from).span) (Use w among (WorldUsed u.from (path_among w u used) to refl))
+  no_world_used w u among used to = legal (world_there (path_id u.from)) (Use w among (WorldUsed u.from (path_among w u used) to refl))
 
   -- where a `use` leads to a name, an item of that name is there, and it is an interface
   local_use : (w : Item) (u : WrittenUse) → Contains (all_items files) w → Contains (uses w) u → (t : Target) → leads w.top u.from ≡ t → (o : Option Item) → is_world_at files t ≡ option_map is_world o → (o ≡ None → ⊥) → is_world_at files t ≡ Some false

@@ -1,12 +1,12 @@
 -- Sources one after the other, one more at a time.
-use Rattle.std.proofs.Common.{◌≡◌, ℕ, ◌+◌, ◌<◌, ◌≤◌, List, [], ◌∷◌, ◌++◌, Option, Some, None, length, string_bytes, refl, sym, ap, ap₂, ◌∙◌, append_assoc, append-nil, arith}
+use Rattle.std.proofs.Common.{◌≡◌, ℕ, ◌+◌, ◌≤◌, List, [], ◌∷◌, ◌++◌, Option, Some, None, length, string_bytes, refl, sym, ap, ap₂, ◌∙◌, append_assoc, arith}
 use Rattle.std.proofs.lemmas.List.Sums.{sum_by-append, sum_by-cons}
 use Rattle.wit_type_tree.specs.declared.error.ParseError.{ParseError}
 use Rattle.wit_type_tree.specs.declared.error.ParseErrorKind.{ParseErrorKind}
 use Rattle.wit_type_tree.specs.declared.error.ParseErrorKind.TheVariants.{Syntax, ItemNotFound, TypeCycle, OutOfMemory}
 use Rattle.wit_lex.specs.declared.source.Source.{Source}
 use Rattle.wit_lex.specs.Sources.{IsSource, IsTooLarge, ReportsTooLarge, space, as_stated, stated_of}
-use Rattle.wit_bundle.specs.Bundle.{mark, sources_of, unnamed}
+use Rattle.wit_bundle.specs.Bundle.{mark, sources_of}
 use Rattle.wit_bundle.specs.Laid.{AreLaid, laid_out, room}
 use Rattle.wit_bundle.specs.SplitText.{parts, sources_after}
 
@@ -75,9 +75,6 @@ pub record AreSplit (text : List ℕ) (rest : Option (List ℕ)) (sources : List
   pub laid : AreLaid pairs sources
   pub whole : sources_of text ≡ pairs ++ sources_after rest
 
-pub split_first : (text prefix : List ℕ) (rest : Option (List ℕ)) (sources : List Source) → parts text ≡ (prefix, sources_after rest) → AreLaid (unnamed prefix) sources → AreSplit text rest sources
-split_first text prefix rest sources e laid = record { pairs = unnamed prefix; laid = laid; whole = ap (λ p. unnamed p.0 ++ p.1) e }
-
 pub split_more : (text rest_after path contents body : List ℕ) (next : Option (List ℕ)) (sources more : List Source) (s : Source) → AreSplit text (Some rest_after) sources →
     parts (mark ++ rest_after) ≡ ([], (path, (parts contents).0) ∷ (parts contents).1) → parts contents ≡ (body, sources_after next) → IsSource path body (space sources) s → more ≡ sources ++ s ∷ [] → AreSplit text next more
 split_more text rest_after path contents body next sources more s split e f is g = record {
@@ -85,14 +82,6 @@ split_more text rest_after path contents body next sources more s split e f is g
   laid = laid_more sources more split.pairs path body s split.laid is g;
   whole = split.whole ∙ (ap (λ ps. split.pairs ++ ps) (after_more rest_after path contents body next e f) ∙ sym (append_assoc split.pairs ((path, body) ∷ []) (sources_after next)));
 }
-
-pub split_last : (text : List ℕ) (sources : List Source) → AreSplit text None sources → AreLaid (sources_of text) sources
-split_last text sources split = rw (split.whole ∙ append-nil split.pairs) split.laid
-
-pub first_large : (text prefix : List ℕ) (rest : Option (List ℕ)) (fault : ParseError) → parts text ≡ (prefix, sources_after rest) → IsTooLarge (room (unnamed prefix)) fault → IsTooLarge (room (sources_of text)) fault
-first_large text prefix rest fault e large =
-    let whole : room (sources_of text) ≡ room (unnamed prefix) + room (sources_after rest) = ap (λ p. room (unnamed p.0 ++ p.1)) e ∙ sum_by-append (λ s. length s.1 + 1) (unnamed prefix) (sources_after rest) in
-    too_large_more (room (unnamed prefix)) (room (sources_of text)) fault large (omega arith)
 
 pub more_large : (text rest_after path contents body : List ℕ) (next : Option (List ℕ)) (sources : List Source) (fault : ParseError) → AreSplit text (Some rest_after) sources →
     parts (mark ++ rest_after) ≡ ([], (path, (parts contents).0) ∷ (parts contents).1) → parts contents ≡ (body, sources_after next) → IsTooLarge (space sources + length body + 1) fault → IsTooLarge (room (sources_of text)) fault

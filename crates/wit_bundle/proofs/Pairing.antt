@@ -1,5 +1,5 @@
 -- Sources of pieces, two at a time.
-use Rattle.std.proofs.Common.{Bor, ◌≡◌, ℕ, ◌*◌, ◌%◌, ◌+◌, ◌<◌, ◌≤◌, List, [], ◌∷◌, ◌++◌, ◌-◌, drop, length, length-drop, map, slice_index_or, take, take_all, refl, sym, ap, ◌∙◌, subst, append_assoc, append-nil, arith}
+use Rattle.std.proofs.Common.{Bor, ◌≡◌, ℕ, ◌*◌, ◌%◌, ◌+◌, ◌≤◌, List, [], ◌∷◌, ◌++◌, ◌-◌, drop, length, length-drop, map, slice_index_or, take, take_all, refl, sym, ap, ◌∙◌, subst, append_assoc, arith}
 use Rattle.std.proofs.lemmas.List.{length-map}
 use Rattle.std.proofs.lemmas.List.Sums.{sum_by-append}
 use Rattle.wit_type_tree.specs.declared.error.ParseError.{ParseError}
@@ -14,9 +14,6 @@ pub record ArePaired (pieces rest : List (List ℕ)) (sources : List Source) : T
   pub done : List (List ℕ × List ℕ)
   pub laid : AreLaid done sources
   pub whole : pairs_of pieces ≡ done ++ pairs_of rest
-
-pub paired_first : (pieces : List (List ℕ)) (sources : List Source) → sources ≡ [] → ArePaired pieces pieces sources
-paired_first pieces sources none = record { done = []; laid = record { are = rw none refl }; whole = refl }
 
 pub paired_rest : (pieces rest other : List (List ℕ)) (sources : List Source) → ArePaired pieces rest sources → rest ≡ other → ArePaired pieces other sources
 paired_rest pieces rest other sources p same = subst (λ r. ArePaired pieces r sources) same p
@@ -41,14 +38,6 @@ pub first_two : (xs : List (Bor (List ℕ))) (d : Bor (List ℕ)) → 2 ≤ leng
 first_two [] d some = absurd (omega arith)
 first_two (x ∷ []) d some = absurd (omega arith)
 first_two (x ∷ y ∷ xs) d some = refl
-
-pairs_short : (rest : List (List ℕ)) → length rest < 2 → pairs_of rest ≡ []
-pairs_short [] short = refl
-pairs_short (p ∷ []) short = refl
-pairs_short (p ∷ t ∷ rest) short = absurd (omega arith)
-
-pub paired_last : (pieces rest : List (List ℕ)) (sources : List Source) → ArePaired pieces rest sources → length rest < 2 → AreLaid (pairs_of pieces) sources
-paired_last pieces rest sources p short = subst (λ ps. AreLaid ps sources) (sym (p.whole ∙ ap (λ r. p.done ++ r) (pairs_short rest short) ∙ append-nil p.done)) p.laid
 
 pub paired_large : (pieces : List (List ℕ)) (path text : List ℕ) (rest : List (List ℕ)) (sources : List Source) (e : ParseError) → ArePaired pieces (path ∷ text ∷ rest) sources → IsTooLarge (space sources + length text + 1) e → IsTooLarge (room (pairs_of pieces)) e
 paired_large pieces path text rest sources e p large =

@@ -1,12 +1,12 @@
 -- Texts one after the other are distinguished by their lengths.
 use Rattle.std.proofs.Common.{◌≡◌, ℕ, suc, ◌+◌, ◌<◌, ◌≤◌, List, [], ◌∷◌, ◌++◌, length, take, drop, map, refl, sym, ap, ◌∙◌, subst, append_assoc, append-nil, arith, length-take-le, slice_index}
 use Rattle.std.specs.Prelude.{All, IsUtf8}
-use Rattle.std.specs.List.{concat, flat_map}
+use Rattle.std.specs.List.{concat}
 use Rattle.std.proofs.Math.Seq.{take-append_seam, drop-append_seam}
 use Rattle.std.proofs.lemmas.List.{drop_all, drop_more, length-append, map-append, take-append-drop}
 use Rattle.std.proofs.lemmas.List.Elements.{All-append, All-cons, All-nil}
 use Rattle.std.proofs.lemmas.List.Folds.{concat-append}
-use Rattle.wit_bundle.specs.Apart.{ArePieces, flat, pairs_of}
+use Rattle.wit_bundle.specs.Apart.{ArePieces}
 
 -- where texts of one length begin two lists, they are one, and so are the rests
 prefix_same : (xs ys us vs : List ℕ) → length xs ≡ length ys → xs ++ us ≡ ys ++ vs → (xs ≡ ys) × (us ≡ vs)
@@ -33,9 +33,6 @@ pub record AreCut (bytes lens : List ℕ) (pieces : List (List ℕ)) (rest : Lis
   pub lengths : lens ≡ map length pieces ++ drop k lens
   pub texts : All IsUtf8 pieces
 
-pub cut_first : (bytes lens : List ℕ) → AreCut bytes lens [] bytes 0
-cut_first bytes lens = record { joined = refl; lengths = refl; texts = All-nil IsUtf8 }
-
 pub cut_more : (bytes lens : List ℕ) (pieces : List (List ℕ)) (rest : List ℕ) (k n : ℕ) → AreCut bytes lens pieces rest k → drop k lens ≡ n ∷ drop (k + 1) lens → n ≤ length rest → IsUtf8 (take n rest) →
     AreCut bytes lens (pieces ++ take n rest ∷ []) (drop n rest) (k + 1)
 cut_more bytes lens pieces rest k n cut next fits text = record {
@@ -51,13 +48,6 @@ pub cut_on : (bytes lens : List ℕ) (pieces more : List (List ℕ)) (rest rest_
 cut_on bytes lens pieces more rest rest_after k n piece text cut next fits prefix back same utf8 e =
     let all : more ≡ pieces ++ take n rest ∷ [] = e ∙ ap (λ t. pieces ++ t ∷ []) (same ∙ prefix) in
     rw (all, back) (cut_more bytes lens pieces rest k n cut next fits (subst IsUtf8 prefix utf8))
-
-pub cut_whole : (bytes lens : List ℕ) (pieces : List (List ℕ)) (rest : List ℕ) (k : ℕ) → AreCut bytes lens pieces rest k → length lens ≤ k → rest ≡ [] → ArePieces bytes lens pieces
-cut_whole bytes lens pieces rest k cut end none = record {
-  joined = sym (cut.joined ∙ ap (λ r. concat pieces ++ r) none ∙ append-nil (concat pieces));
-  lengths = sym (cut.lengths ∙ ap (λ r. map length pieces ++ r) (drop_all k lens end) ∙ append-nil (map length pieces));
-  texts = cut.texts;
-}
 
 -- the pieces after those that are cut off
 after_cut : (bytes lens : List ℕ) (pieces : List (List ℕ)) (rest : List ℕ) (k : ℕ) → AreCut bytes lens pieces rest k → (ws : List (List ℕ)) → ArePieces bytes lens ws →

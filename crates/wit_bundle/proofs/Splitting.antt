@@ -4,7 +4,7 @@ use Rattle.std.specs.Prelude.{◌==◌, if◌then◌else◌, codes}
 use Rattle.std.specs.Str.Pattern.{LacksTextAt, HasTextAt}
 use Rattle.std.proofs.lemmas.Bool.Decides.{Decides-eqb}
 use Rattle.std.proofs.lemmas.Slice.Eq.{starts_is}
-use Rattle.wit_bundle.specs.Bundle.{put_first, lines_of, without_end, mark, is_marked, with_line, parts_of}
+use Rattle.wit_bundle.specs.Bundle.{put_first, lines_of, without_end, mark, is_marked, parts_of}
 use Rattle.wit_bundle.specs.SplitText.{parts}
 use Rattle.wit_bundle.proofs.Lines.{HasNoFeed, no_feed_more, joined, joined_lines, lines_append, line_then, line_last, without_end-there, without_feed}
 
@@ -74,9 +74,6 @@ first_marked (line ∷ lines) = refl
 -- nothing comes before a line that starts a source
 pub marked_prefix : (rest_after : List ℕ) → (parts (mark ++ rest_after)).0 ≡ []
 marked_prefix rest_after = first_marked (lines_of rest_after)
-
-pub marked_parts : (text rest_after : List ℕ) → text ≡ mark ++ rest_after → parts text ≡ ([], (parts (mark ++ rest_after)).1)
-marked_parts text rest_after e = ap parts e ∙ ap (λ t. (t, (parts (mark ++ rest_after)).1)) (marked_prefix rest_after)
 
 -- a text in which no line starts a source
 pub plain_whole : (text : List ℕ) → HasNoNext text → StartsNone text → parts text ≡ (text, [])

@@ -17,7 +17,7 @@ use Rattle.wit_model.specs.declared.world.World.{World}
 use Rattle.wit_graph.specs.Table.{IsOrder}
 use Rattle.wit_syntax.specs.Address.{Address, ForeignNamed, WorldNamed}
 use Rattle.wit_syntax.specs.Broken.{is_world_at}
-use Rattle.wit_syntax.specs.Fault.{Fault, fault}
+use Rattle.wit_syntax.specs.Fault.{Fault, interface_there}
 use Rattle.wit_syntax.specs.Foreign.{ForeignVisit, foreign_at, foreign_interfaces, foreign_worlds, visited}
 use Rattle.wit_syntax.specs.Repeats.{AllDiffer}
 use Rattle.wit_syntax.specs.ScopeTables.{in_order, include_path, include_paths, includes, item_rows, part_includes, worlds_of}
@@ -130,15 +130,15 @@ module _ (files : List PackageFile) (places : List ℕ) (order : IsOrder (item_r
         let own : slice_get (parts w) part.0 ≡ Some (IncludePart n) = part.2 ∙ ap Some (include_part part.1 part.3.0 n part.3.1) in
         let path = flat_map_has include_path (parts w) part.0 0 (IncludePart n) n.from own refl in
         let t = leads w.top n.from in
-        let g = fault 11 (path_id n.from).span in
-        let by : (o : Option ℕ) → world_at files by_name t ≡ o → (if is_none (world_at files by_name t) then Some g else None) ≡ interface_fault (is_world_at files t) (path_id n.from).span = of_place n t (λ none. lost n.from (contains_at (include_paths w) path.0 n.from path.1) t refl (world_missing files by_name t (visits n part.0 own) none)) (present t) in
+        let g = interface_there (path_id n.from) in
+        let by : (o : Option ℕ) → world_at files by_name t ≡ o → (if is_none (world_at files by_name t) then Some g else None) ≡ interface_fault (is_world_at files t) (path_id n.from) = of_place n t (λ none. lost n.from (contains_at (include_paths w) path.0 n.from path.1) t refl (world_missing files by_name t (visits n part.0 own) none)) (present t) in
         ap (λ (fs : List PackageFile). option_or (stability_fault n.attributes.items) (if is_none (world_at fs ws.by_name t) then Some g else None)) same_files
         ∙ ap (λ (names : Names). option_or (stability_fault n.attributes.items) (if is_none (world_at files names t) then Some g else None)) same_names
         ∙ ap (option_or (stability_fault n.attributes.items)) (by (world_at files by_name t) refl)
       where
-        of_place : (n : Include) (t : Target) → (world_at files by_name t ≡ None → is_world_at files t ≡ Some false) → ((i : ℕ) → world_at files by_name t ≡ Some i → is_world_at files t ≡ Some true) → (o : Option ℕ) → world_at files by_name t ≡ o → (if is_none (world_at files by_name t) then Some (fault 11 (path_id n.from).span) else None) ≡ interface_fault (is_world_at files t) (path_id n.from).span
-        of_place n t none some None is = ap (λ (o : Option ℕ). if is_none o then Some (fault 11 (path_id n.from).span) else None) is ∙ sym (ap (λ (o : Option Bool). interface_fault o (path_id n.from).span) (none is))
-        of_place n t none some (Some i) is = ap (λ (o : Option ℕ). if is_none o then Some (fault 11 (path_id n.from).span) else None) is ∙ sym (ap (λ (o : Option Bool). interface_fault o (path_id n.from).span) (some i is))
+        of_place : (n : Include) (t : Target) → (world_at files by_name t ≡ None → is_world_at files t ≡ Some false) → ((i : ℕ) → world_at files by_name t ≡ Some i → is_world_at files t ≡ Some true) → (o : Option ℕ) → world_at files by_name t ≡ o → (if is_none (world_at files by_name t) then Some (interface_there (path_id n.from)) else None) ≡ interface_fault (is_world_at files t) (path_id n.from)
+        of_place n t none some None is = ap (λ (o : Option ℕ). if is_none o then Some (interface_there (path_id n.from)) else None) is ∙ sym (ap (λ (o : Option Bool). interface_fault o (path_id n.from)) (none is))
+        of_place n t none some (Some i) is = ap (λ (o : Option ℕ). if is_none o then Some (interface_there (path_id n.from)) else None) is ∙ sym (ap (λ (o : Option Bool). interface_fault o (path_id n.from)) (some i is))
 
     pub includes_walked : first_in (included_fault ws w.top) (includes w) ≡ first_in (include_fault files w.top) (includes w)
     includes_walked = in_same (included_fault ws w.top) (include_fault files w.top) (includes w) (λ j n there. included n j there)

@@ -11,7 +11,7 @@ use Rattle.wit_tree.specs.declared.tree.UsePath.{UsePath}
 use Rattle.wit_package_names.specs.declared.package_name.PackageName.{PackageName}
 use Rattle.wit_syntax.specs.Address.{Address, ForeignNamed, InterfaceNamed, same_address}
 use Rattle.wit_syntax.specs.Broken.{is_world_at}
-use Rattle.wit_syntax.specs.Fault.{Fault, fault, item_word, missing_at}
+use Rattle.wit_syntax.specs.Fault.{Fault, item_word, missing_at, world_there, linked_twice}
 use Rattle.wit_syntax.specs.Foreign.{ForeignVisit, foreign_at, foreign_interfaces, foreign_items, visited}
 use Rattle.wit_syntax.specs.Sides.{Link, SideFunction, SideInline, SideItem, SideLink, item_link, items_on}
 use Rattle.wit_syntax.specs.Source.{Foreign, Item, Local, Target, TopName, all_items, is_world, item_named, leads, path_id, path_scope, target_scope}
@@ -151,7 +151,7 @@ module _ (top : List TopName) (lead : UsePath → Option ℕ) (link : Link) (id 
 
   -- it is one of them again
   pub again_linked_walked : (before : List SideItem) → HaveOwnPlaces (items_on link.side before) → again_linked (bare_places lead (items_on link.side before)) link id ≡ again_fault top before link
-  again_linked_walked before have = ap (λ (b : Bool). if b then Some (fault 43 (path_id link.path).span) else None) (any_walked (items_on link.side before) have)
+  again_linked_walked before have = ap (λ (b : Bool). if b then Some (linked_twice link.side (path_id link.path).span) else None) (any_walked (items_on link.side before) have)
 
 -- a link, where this is what comes of its place and its name
 module _ (files : List PackageFile) (by_name : Names) (top : List TopName) (before : List SideItem) (link : Link) (leading : IsLeading files by_name (leads top link.path)) (put : ℕ → Option Fault) (named : Option Fault) (both : (id : ℕ) → path_place files by_name top link.path ≡ Some id → put id ≡ option_or (again_fault top before link) named) where
@@ -181,17 +181,17 @@ module _ (files : List PackageFile) (by_name : Names) (top : List TopName) (befo
 
   -- by what is there
   abbrev tables_at : Option Bool → Option Fault
-  tables_at o = option_or noted (option_or (option_or (reached_fault o (path_id link.path).span lost) unresolved) (option_map_or put placed None))
+  tables_at o = option_or noted (option_or (option_or (reached_fault o (path_id link.path) lost) unresolved) (option_map_or put placed None))
 
   abbrev files_at : Option Bool → Option Fault
-  files_at o = option_or (option_or noted (there_fault o (path_id link.path).span lost twice)) named
+  files_at o = option_or (option_or noted (there_fault o (path_id link.path) lost twice)) named
 
   by : (o : Option Bool) → is_world_at files t ≡ o → tables_at o ≡ files_at o
   by None is =
       let it = lost_there files by_name t leading is in
       ap (λ (o : Option Fault). option_or noted (option_or (option_or o unresolved) (option_map_or put placed None))) it.1
       ∙ sym (ap (λ (o : Option Fault). option_or (option_or noted o) named) it.1 ∙ or_assoc noted (Some it.0) named)
-  by (Some true) is = sym (or_assoc noted (Some (fault 10 (path_id link.path).span)) named)
+  by (Some true) is = sym (or_assoc noted (Some (world_there (path_id link.path))) named)
   by (Some false) is =
       let it = usable_place files by_name t leading is in
       ap (λ (o : Option Fault). option_or noted (option_or o (option_map_or put placed None))) it.2

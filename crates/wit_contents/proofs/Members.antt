@@ -6,6 +6,7 @@ use Rattle.std.specs.Option.{option_map_or, option_to_list}
 use Rattle.std.proofs.lemmas.Grind.{flat_map-append}
 use Rattle.std.proofs.lemmas.List.{append-nil, length-append}
 use Rattle.wit_type_tree.specs.declared.leaves.Id.{Id}
+use Rattle.wit_tree.specs.declared.tree.WorldSide.{WorldSide}
 use Rattle.wit_types.specs.declared.types.TypeDef.{TypeDef}
 use Rattle.wit_functions.specs.declared.function.Function.{Function}
 use Rattle.wit_model.specs.declared.interface.Interface.{Interface}
@@ -13,11 +14,12 @@ use Rattle.wit_syntax.specs.Address.{Address}
 use Rattle.wit_syntax.specs.ExternPart.{same_side}
 use Rattle.wit_syntax.specs.Function.{SourceFunction, functions, written_types}
 use Rattle.wit_syntax.specs.Shape.{all_handles}
-use Rattle.wit_syntax.specs.Sides.{Link, SideItem, SideFunction, SideLink, inline_after, item_function, item_side, side_items}
+use Rattle.wit_syntax.specs.Sides.{Link, SideItem, SideFunction, SideLink, inline_after, item_function, item_side, items_on, side_items}
 use Rattle.wit_syntax.specs.Source.{Item, TheInline, address, item_name, path_scope}
 use Rattle.wit_syntax.proofs.Inline.{interfaces_on}
 use Rattle.wit_syntax.proofs.Legal.{functions_items}
 use Rattle.wit_item_names.proofs.Usable.{contains_one}
+use Rattle.wit_walk.specs.Members.{Sorted, item_sorted}
 use Rattle.wit_arena.specs.SourceFunctions.{function_item}
 use Rattle.wit_arena.specs.Resolving.{AddsFunctions, env_of}
 use Rattle.wit_arena.specs.ResolvedArenas.{AddsSides, interfaces_at}
@@ -30,7 +32,9 @@ use Rattle.wit_externs.proofs.Steps.{at_middle, kept_nothing, kept_one}
 use Rattle.wit_item_names.specs.ForeignAddresses.{prefix_of}
 use Rattle.wit_items.specs.declared.items.InlineInterface.{InlineInterface}
 use Rattle.wit_items.specs.ResolvedInterfaces.{resolved_scopes_of}
-use Rattle.wit_world_sides.specs.Members.{Puts, bare_id}
+use Rattle.wit_world_sides.specs.FilledSides.{entries_of}
+use Rattle.wit_world_sides.specs.Members.{Entry, Puts, bare_id, entry_sorted, sorted_on}
+use Rattle.wit_world_sides.specs.declared.members.Members.{Members}
 use Rattle.wit_links.specs.SideCounts.{IsSeen, inline_of, inline_side}
 use Rattle.wit_contents.specs.declared.walk.Walked.{Walked}
 use Rattle.wit_contents.specs.Walk.{AddsInside, AddsMembers, ItemWalk, Stage, lead, next_place, stage, walk_item}
@@ -40,6 +44,17 @@ use Rattle.wit_contents.proofs.Adding.{sides_function, sides_inline, sides_link}
 none_either : (none : List ℕ) (b : Bool) → (if b then none else none) ≡ none
 none_either none true = refl
 none_either none false = refl
+
+-- the words for what is on a side, and for one more
+sorted_one : (b : Bool) (x : SideItem) (e : Entry) → entry_sorted e ≡ item_sorted x → flat_map entry_sorted (if b then e ∷ [] else []) ≡ flat_map item_sorted (if b then x ∷ [] else [])
+sorted_one true x e same = append-nil (entry_sorted e) ∙ same ∙ sym (append-nil (item_sorted x))
+sorted_one false x e same = refl
+
+sorted_put : (m m' : Members) (x : SideItem) (ids : List ℕ) (e : Entry) → Puts m m' x ids e → (s : WorldSide) → sorted_on s m'.sides ≡ sorted_on s m.sides ++ flat_map item_sorted (items_on s (x ∷ []))
+sorted_put m m' x ids e put s =
+    ap (flat_map entry_sorted) (put.put s)
+    ∙ flat_map-append entry_sorted (entries_of s m.sides) (put_on s (item_side x) e [])
+    ∙ ap (λ (l : List Sorted). sorted_on s m.sides ++ l) (sorted_one (same_side s (item_side x)) x e put.sorted)
 
 -- the function that comes next is the one at its place
 pub function_there : (i : Item) (prefix rest : List SideItem) (fn : SourceFunction) (place : ℕ) → side_items i ≡ prefix ++ (SideFunction fn ∷ rest) → place ≡ length (flat_map item_function prefix) → slice_get (functions i) place ≡ Some fn
@@ -67,6 +82,7 @@ module _ (w : ItemWalk) (prefix : List SideItem) (a : Stage) where
     seen = seen;
     in_use = put.in_use;
     linked = λ s. put.linked s ∙ ap (λ (l : List ℕ). linked_on s a.walked.members.links ++ l) (none_either [] (same_side s (item_side (SideFunction fn))) ∙ kept_nothing (bare_place (lead w)) (λ y. same_side s (item_side y)) (SideFunction fn) refl);
+    sorted = sorted_put a.walked.members m.members (SideFunction fn) [] (function_item made) put;
     keyed = put.keyed;
     are_present = λ all places s. record { more = put_on s (item_side (SideFunction fn)) (function_item made) []; put = put.put s; are = ([], refl, refl) };
     leads = λ link among. absurd (let same : SideFunction fn ≡ SideLink link = contains_one (SideFunction fn) (SideLink link) among in let wrong : ⊥ = cc in wrong);
@@ -83,6 +99,7 @@ module _ (w : ItemWalk) (prefix : List SideItem) (a : Stage) where
     seen = seen;
     in_use = put.in_use;
     linked = λ s. put.linked s ∙ ap (λ (l : List ℕ). linked_on s a.walked.members.links ++ l) (kept_one (bare_place (lead w)) (λ y. same_side s (item_side y)) (SideLink link) (bare_id link.name id) (ap (λ (o : Option ℕ). option_map_or (λ (own : Id). []) link.name (option_to_list o)) leads));
+    sorted = sorted_put a.walked.members m.members (SideLink link) (bare_id link.name id) (link_item link id) put;
     keyed = put.keyed;
     are_present = λ all places s. record { more = put_on s link.side (link_item link id) []; put = put.put s; are = (id, [], places.interfaces id _ present, refl, refl) };
     leads = λ l among. (id, subst (λ (k : Link). lead w k.path ≡ Some id) (let both : SideLink link ≡ SideLink l = contains_one (SideLink link) (SideLink l) among in let same : link ≡ l = cc in same) leads);
@@ -109,6 +126,7 @@ module _ (w : ItemWalk) (prefix : List SideItem) (a : Stage) where
     seen = seen;
     in_use = put.in_use;
     linked = λ s. put.linked s ∙ ap (λ (l : List ℕ). linked_on s a.walked.members.links ++ l) (none_either [] (same_side s (item_side (inline_side x))) ∙ kept_nothing (bare_place (lead w)) (λ y. same_side s (item_side y)) (inline_side x) refl);
+    sorted = sorted_put a.walked.members m.members (inline_side x) [] (inline_entry x.written.now x.name (next_place w.walk.interfaces.now a.inside)) put;
     keyed = put.keyed;
     are_present = λ all places s.
         let id = next_place w.walk.interfaces.now a.inside in

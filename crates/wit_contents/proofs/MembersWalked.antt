@@ -15,7 +15,7 @@ use Rattle.wit_syntax.specs.ExternPart.{same_side}
 use Rattle.wit_syntax.specs.Fault.{Fault}
 use Rattle.wit_syntax.specs.Function.{SourceFunction}
 use Rattle.wit_syntax.specs.ScopeTables.{in_turn}
-use Rattle.wit_syntax.specs.Sides.{Link, SideFunction, SideInline, SideItem, SideLink, inline_after, inline_item, is_interface, item_called, item_function, item_side, items_on, names_on, side_called, side_items}
+use Rattle.wit_syntax.specs.Sides.{Link, SideFunction, SideInline, SideItem, SideLink, inline_after, inline_item, is_interface, item_function, item_side, items_on, names_on, side_items}
 use Rattle.wit_syntax.specs.Source.{Item, ScopeName, TheInline, about, address, item_name, leads, local_id, path_scope, scope_names}
 use Rattle.wit_syntax.proofs.Found.{contains_at}
 use Rattle.wit_syntax.proofs.Kept.{kept_at}
@@ -24,10 +24,10 @@ use Rattle.wit_first.specs.First.{first_in}
 use Rattle.wit_first.proofs.Bridge.{or_none_both}
 use Rattle.wit_walk.specs.Definitions.{handle_fault}
 use Rattle.wit_walk.specs.Functions.{function_fault, signed_fault}
-use Rattle.wit_walk.specs.Members.{called_fault, is_extern, member_fault}
+use Rattle.wit_walk.specs.Members.{Sorted, item_sorted, member_fault, own_fault, side_sorted}
 use Rattle.wit_walk.specs.Paths.{linked_fault as again_fault}
 use Rattle.wit_walk.specs.Walk.{Known, inline_fault}
-use Rattle.wit_arena.specs.Resolving.{env_of}
+use Rattle.wit_arena.specs.Resolving.{env_of, names_in}
 use Rattle.wit_arena.specs.ResolvedArenas.{interfaces_at}
 use Rattle.wit_entries.specs.Requiring.{IsExtended}
 use Rattle.wit_entries.proofs.Requiring.{extended_then}
@@ -43,6 +43,7 @@ use Rattle.wit_item_names.specs.ForeignAddresses.{prefix_of}
 use Rattle.wit_items.specs.declared.interfaces.Interfaces.{Interfaces}
 use Rattle.wit_links.specs.Links.{interface_place, path_place}
 use Rattle.wit_links.proofs.Leading.{called_at}
+use Rattle.wit_world_sides.specs.Members.{sorted_on}
 use Rattle.wit_world_sides.specs.PutFaults.{again_linked, put_fault, put_link_fault}
 use Rattle.wit_world_sides.specs.declared.members.Members.{Members}
 use Rattle.wit_contents.specs.InterfaceFaults.{IsRightOf}
@@ -50,9 +51,9 @@ use Rattle.wit_contents.specs.MemberFaults.{AreRightMembers, HasNoFaultInside, I
 use Rattle.wit_contents.specs.Walk.{AddsMembers, IsStart, ItemWalk, Stage, lead, next_place, stage, walk_item}
 use Rattle.wit_contents.specs.declared.walk.Walked.{Walked}
 use Rattle.wit_contents.proofs.LinksWalked.{HaveOwnPlaces, IsLeading, again_linked_walked, link_walked}
-use Rattle.wit_contents.proofs.NamesWalked.{put_walked}
+use Rattle.wit_contents.proofs.NamesWalked.{put_walked, start_sorted}
 
-module _ (wk : ItemWalk) (known : Known) (order : List ℕ) (turned : wk.walk.turn.now ≡ map local_id (in_turn (scope_names (walk_item wk)) order)) (start : Walked) (begun : IsStart wk start) (old : List TypeDef) (inside : List Interface) where
+module _ (wk : ItemWalk) (known : Known) (order : List ℕ) (turned : wk.walk.turn.now ≡ map local_id (in_turn (scope_names (walk_item wk)) order)) (listed : names_in wk.walk.scope.names.now ≡ map (λ id. id.name.now) wk.walk.turn.now) (start : Walked) (begun : IsStart wk start) (old : List TypeDef) (inside : List Interface) where
   abbrev is : Interfaces
   is = wk.walk.interfaces.now
 
@@ -76,7 +77,7 @@ module _ (wk : ItemWalk) (known : Known) (order : List ℕ) (turned : wk.walk.tu
 
   -- the walk's fault of a name after these
   abbrev named : List SideItem → SideItem → Option Fault
-  named before x = first_in (called_fault (is_extern x) (side_called (item_side x) xs (items_on (item_side x) before) order)) (item_called x)
+  named before x = own_fault xs (items_on (item_side x) before) order x
 
   module _ (ends : (new : List TypeDef) → IsExtended old new → EndsIn (env_of wk.walk.scope.names.now) new handle) (leading : (link : Link) → Contains (side_items item) (SideLink link) → IsLeading files is.by_name (leads item.top link.path)) (insides : (done : List SideItem) (now : Stage) → AddsMembers wk [] done (stage old inside start) now → (x : SideItem) (rest : List SideItem) → side_items item ≡ done ++ (x ∷ rest) → (u : Item) → inline_after item done (x ∷ []) ≡ u ∷ [] → IsRightOf inner is now.types (next_place is now.inside) u) where
     module _ (done : List SideItem) (now : Stage) (adds : AddsMembers wk [] done (stage old inside start) now) where
@@ -87,8 +88,13 @@ module _ (wk : ItemWalk) (known : Known) (order : List ℕ) (turned : wk.walk.tu
       in_use : (s : WorldSide) → defined_on s m.in_use ≡ names_on s (map name_of_id wk.walk.turn.now) ++ names_of_items (items_on s done)
       in_use s = adds.in_use s ∙ ap (λ l. l ++ names_of_items (items_on s done)) (begun.in_use s)
 
+      sorts : (s : WorldSide) → sorted_on s m.sides ≡ side_sorted s xs (items_on s done) order
+      sorts s =
+          let there = in_turn xs order in
+          adds.sorted s ∙ ap (λ (l : List Sorted). l ++ flat_map item_sorted (items_on s done)) (start_sorted start.members there wk.walk.scope.names.now wk.walk.turn.now turned listed (begun.imports there turned) begun.exports s)
+
       put : (x : SideItem) → put_fault m x ≡ named done x
-      put x = put_walked m xs order wk.walk.turn.now done x turned in_use
+      put x = put_walked m xs order wk.walk.turn.now done x turned in_use sorts
 
       linked : (s : WorldSide) → linked_on s m.links ≡ bare_places (lead wk) (items_on s done)
       linked s = adds.linked s ∙ ap (λ l. l ++ bare_places (lead wk) (items_on s done)) (begun.linked s)

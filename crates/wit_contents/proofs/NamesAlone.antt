@@ -1,5 +1,5 @@
 -- A world that has nothing on its sides after its names, which are their own keys.
-use Rattle.std.proofs.Common.{◌≡◌, ◌+◌, ℕ, true, false, List, [], ◌∷◌, ◌++◌, length, map, Option, None, refl, sym, ap, ◌∙◌, subst, arith}
+use Rattle.std.proofs.Common.{◌≡◌, ◌+◌, ℕ, true, false, List, [], ◌∷◌, ◌++◌, length, map, None, refl, sym, ap, ◌∙◌, subst, arith}
 use Rattle.std.specs.Char.{is_ascii_uppercase}
 use Rattle.std.specs.List.{flat_map, list_all, list_any}
 use Rattle.std.proofs.lemmas.Bool.{and_parts, eqb-true}
@@ -15,7 +15,6 @@ use Rattle.wit_types.specs.declared.types.TypeOwner.TheVariants as owner
 use Rattle.wit_model.specs.declared.interface.Interface.{Interface}
 use Rattle.wit_model.specs.declared.world.World.{World}
 use Rattle.wit_syntax.specs.Address.{Address}
-use Rattle.wit_syntax.specs.Fault.{fault}
 use Rattle.wit_syntax.specs.Function.{functions}
 use Rattle.wit_syntax.specs.Repeats.{AllDiffer}
 use Rattle.wit_syntax.specs.ScopeTables.{in_turn, includes}
@@ -24,7 +23,8 @@ use Rattle.wit_syntax.specs.Source.{Declared, Item, ScopeName, TheWorld, about, 
 use Rattle.wit_syntax.proofs.Legal.{functions_items}
 use Rattle.wit_syntax.proofs.Turns.{in_turn_distinct}
 use Rattle.wit_first.specs.First.{first_after}
-use Rattle.wit_first.proofs.First.{no_repeats, none_both}
+use Rattle.wit_first.proofs.Clashes.{no_clashes}
+use Rattle.wit_first.proofs.First.{none_both}
 use Rattle.wit_walk.specs.Setters.{setters_beside, setters_fault}
 use Rattle.wit_arena.specs.UnfoldedTypes.{IsWorld}
 use Rattle.wit_arena.specs.Resolving.{Names, Required, names_in}
@@ -34,7 +34,7 @@ use Rattle.wit_arena.specs.Whole.{AreIncludes, type_imports}
 use Rattle.wit_refusals.specs.NameScopes.{Name}
 use Rattle.wit_sides.specs.SideNames.{defined_on}
 use Rattle.wit_signatures.specs.ForeignName.{name_key, name_of_id}
-use Rattle.wit_externs.specs.AloneFaults.{sides_setters}
+use Rattle.wit_externs.specs.AloneFaults.{again, sides_setters}
 use Rattle.wit_externs.specs.Next.{linked_on}
 use Rattle.wit_item_names.specs.ForeignAddresses.{prefix_of}
 use Rattle.wit_items.specs.BorrowedItems.{declared_view, item_view}
@@ -46,7 +46,7 @@ use Rattle.wit_item_entries.specs.AddedNames.{AddsTurn}
 use Rattle.wit_item_entries.proofs.FunctionFaults.{turn_texts}
 use Rattle.wit_item_entries.proofs.NoFunctions.{names_alone}
 use Rattle.wit_world_sides.specs.FilledSides.{entries_of}
-use Rattle.wit_world_sides.specs.Members.{AreKeyed}
+use Rattle.wit_world_sides.specs.Members.{AreKeyed, Entry}
 use Rattle.wit_world_sides.specs.Settled.{AreCalled}
 use Rattle.wit_world_sides.specs.declared.members.Members.{Members}
 use Rattle.wit_world_sides.specs.declared.sides.WorldSides.{WorldSides}
@@ -80,47 +80,56 @@ by_includes i (n ∷ ns) none = refl
 pub setters_none : (i : Item) → side_items i ≡ [] → setters_fault i ≡ None
 setters_none i empty = by_includes i (includes i) (functions_items i ∙ ap (flat_map item_function) empty)
 
--- a world of the files whose names are these in turn, which are its sides
-module _ (item : Item) (types : Names) (ids : List Id) (turn : IsTurn (scope_names item) ids) (listed : names_in types ≡ map (λ id. id.name.now) ids) (empty : side_items item ≡ []) (lower : list_any (λ (id : Id). list_any is_ascii_uppercase id.name.now) ids ≡ false) (sides : WorldSides) (imports : (xs : List ScopeName) → ids ≡ map local_id xs → sides.imports ≡ type_imports xs types) (exports : sides.exports ≡ []) where
-  -- as if the names were defined
-  abbrev alone : Members
-  alone = record { in_use = record { imports = map name_of_id ids; exports = [] }; links = record { imports = []; exports = [] }; sides = sides }
+-- names in turn without a letter in upper case
+module _ (xs : List ScopeName) (ids : List Id) (turn : IsTurn xs ids) (lower : list_any (λ (id : Id). list_any is_ascii_uppercase id.name.now) ids ≡ false) where
+  keys_differ : (s : WorldSide) → AllDiffer (map name_key (names_on s (map name_of_id ids)))
+  keys_differ s = subst (λ (l : List Name). AllDiffer (map name_key l)) (append-nil (names_on s (map name_of_id ids))) (names_alone s xs ids [] refl turn lower)
 
-  names_then : (s : WorldSide) → defined_on s alone.in_use ≡ names_on s (map name_of_id ids)
-  names_then Imported = refl
-  names_then Exported = refl
+  -- which are the sides of a world
+  module _ (types : Names) (listed : names_in types ≡ map (λ id. id.name.now) ids) (sides : WorldSides) (imports : (ys : List ScopeName) → ids ≡ map local_id ys → sides.imports ≡ type_imports ys types) (exports : sides.exports ≡ []) where
+    -- as if the names were defined
+    abbrev alone : Members
+    alone = record { in_use = record { imports = map name_of_id ids; exports = [] }; links = record { imports = []; exports = [] }; sides = sides }
 
-  links_then : (s : WorldSide) → linked_on s alone.links ≡ []
-  links_then Imported = refl
-  links_then Exported = refl
+    names_then : (s : WorldSide) → defined_on s alone.in_use ≡ names_on s (map name_of_id ids)
+    names_then Imported = refl
+    names_then Exported = refl
 
-  differ : (s : WorldSide) → AllDiffer (map name_key (defined_on s alone.in_use))
-  differ s = subst (λ (l : List Name). AllDiffer (map name_key l)) (append-nil (names_on s (map name_of_id ids)) ∙ sym (names_then s)) (names_alone s (scope_names item) ids [] refl turn lower)
+    links_then : (s : WorldSide) → linked_on s alone.links ≡ []
+    links_then Imported = refl
+    links_then Exported = refl
 
-  keyed : AreKeyed alone
-  keyed = begun_with alone types ids listed imports exports names_then differ links_then
+    differ : (s : WorldSide) → AllDiffer (map name_key (defined_on s alone.in_use))
+    differ s = subst (λ (l : List Name). AllDiffer (map name_key l)) (sym (names_then s)) (keys_differ s)
 
-  pub alone_differ : (s : WorldSide) → AllDiffer (map (λ e. e.0) (entries_of s sides))
-  alone_differ = keyed_differ alone keyed
+    keyed : AreKeyed alone
+    keyed = begun_with alone types ids listed imports exports names_then differ links_then
 
-  pub alone_called : (s : WorldSide) → AreCalled (entries_of s sides)
-  alone_called = keyed.called
+    pub alone_differ : (s : WorldSide) → AllDiffer (map (λ e. e.0) (entries_of s sides))
+    alone_differ = keyed_differ alone keyed
 
-  -- nothing has a fault
-  pub alone_none : (member : MemberTest) → sides_fault item ids member ≡ None
-  alone_none member = none_both (no_repeats name_key (λ (m : Name). fault 17 m.1) (map name_of_id ids) (differ Imported)) (none_both (ap (first_after member []) empty) (setters_none item empty))
+    pub alone_called : (s : WorldSide) → AreCalled (entries_of s sides)
+    alone_called = keyed.called
 
+-- a world of the files that has nothing on its sides after its names
+module _ (item : Item) (empty : side_items item ≡ []) where
   pub alone_extended : (count : ℕ) → count ≡ count + length (inline_items item)
   alone_extended count = let none : length (inline_items item) ≡ 0 = ap (λ (xs : List SideItem). length (inline_after item [] xs)) empty in omega (arith, none)
 
+  -- nothing has a fault
+  pub alone_none : (ids : List Id) → IsTurn (scope_names item) ids → list_any (λ (id : Id). list_any is_ascii_uppercase id.name.now) ids ≡ false → (member : MemberTest) → sides_fault item ids member ≡ None
+  alone_none ids turn lower member = none_both (no_clashes name_key again (map name_of_id ids) (keys_differ (scope_names item) ids turn lower Imported)) (none_both (ap (first_after member []) empty) (setters_none item empty))
+
   -- and only the names are added
-  module _ (is : Interfaces) (others : List Address) (ws : List World) (old middle : List TypeDef) (inside : List Interface) (required : List Required) (n : AddsTurn old middle (resolved_scopes_of is) (owner.World (length ws)) (scope_names item) types ids required) where
-    pub alone_adds : (added : World) (ss : List Address) → IsWorld (about item.declared).id.name.now (about item.declared).id.span (declared_metadata item.declared) added → added.imports ≡ settled (includes item) sides.imports → added.exports ≡ settled (includes item) sides.exports → AreIncludes (worlds_at others ws) item added.includes → AddsWorld (prefix_of is.files) others is.arena old middle (arenas ws inside ss) (arenas (ws ++ added ∷ []) inside (ss ++ map address (inline_items item))) required item
+  module _ (is : Interfaces) (others : List Address) (ws : List World) (old middle : List TypeDef) (inside : List Interface) (types : Names) (ids : List Id) (required : List Required) (n : AddsTurn old middle (resolved_scopes_of is) (owner.World (length ws)) (scope_names item) types ids required) where
+    abbrev names : List Entry
+    names = type_imports (in_turn (scope_names item) n.adds.order) types
+
+    pub alone_adds : (added : World) (ss : List Address) → IsWorld (about item.declared).id.name.now (about item.declared).id.span (declared_metadata item.declared) added → added.imports ≡ settled (includes item) names → added.exports ≡ settled (includes item) [] → AreIncludes (worlds_at others ws) item added.includes → AddsWorld (prefix_of is.files) others is.arena old middle (arenas ws inside ss) (arenas (ws ++ added ∷ []) inside (ss ++ map address (inline_items item))) required item
     alone_adds added ss says imported exported included =
         let us = inline_items item in
         let total = interfaces_at (prefix_of is.files) is.arena ++ (ss ++ map address us) in
         let none = λ (s : WorldSide). subst (λ (xs : List SideItem). AreSideItems total item.top s xs [] (map address us) []) (sym empty) refl in
-        let names = type_imports (in_turn (scope_names item) n.adds.order) types in
         record {
           added = added;
           last = refl;
@@ -137,9 +146,9 @@ module _ (item : Item) (types : Names) (ids : List Id) (turn : IsTurn (scope_nam
           sides = subst (λ (xs : List SideItem). AddsSides (resolved_scopes_of is) (length is.arena) (address item) types middle middle inside inside [] [] xs us) (sym empty) (sides_none (resolved_scopes_of is) (length is.arena) (address item) types middle inside us);
           imported = [];
           are_imported = none Imported;
-          imports = imported ∙ ap (settled (includes item)) (imports (in_turn (scope_names item) n.adds.order) n.turn ∙ sym (append-nil names));
+          imports = imported ∙ ap (settled (includes item)) (sym (append-nil names));
           exported = [];
           are_exported = none Exported;
-          exports = exported ∙ ap (settled (includes item)) exports;
+          exports = exported;
           includes = included;
         }

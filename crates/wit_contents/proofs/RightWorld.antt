@@ -270,7 +270,7 @@ module _ (ws : Worlds) (places : List ℕ) (es : List TypeDef) (prefix : List In
         let turn = own.walk.turn in
         let ordered : outcome ≡ InOrder turn.order = outcome_one (rows_of xs) outcome (InOrder turn.order) (outcomes.each (rows_of xs)) turn.least in
         subst (λ (js : Interfaces). AreRightMembers (member_fault js.files known.steps (inline_fault js.files known) w (order_of outcome)) (walk_of i walk) [] (side_items w) (stage named a.inside start)) own.interfaces (
-        right_members (walk_of i walk) known (order_of outcome) (turn.are ∙ ap (λ (o : Outcome). map local_id (in_turn xs (order_of o))) (sym ordered)) start begun named a.inside
+        right_members (walk_of i walk) known (order_of outcome) (turn.are ∙ ap (λ (o : Outcome). map local_id (in_turn xs (order_of o))) (sym ordered)) own.walk.listed start begun named a.inside
         (λ new extended. subst (λ (js : Interfaces). EndsIn (env_of walk.scope.names.now) new (handle_fault js.files known.steps (address w))) (sym own.interfaces) (subst (λ (ns : Names). EndsIn (env_of ns) new (handle_fault files known.steps (address w))) (sym own.types) (all_ends names.types named scoped new extended)))
         (λ link among. subst (λ (js : Interfaces). IsLeading js.files js.by_name (leads w.top link.path)) (sym own.interfaces) (leading link among))
         (λ first now members x rest split u inner. subst (λ (js : Interfaces). IsRightOf (inline_fault js.files known) js now.types (next_place js now.inside) u) (sym own.interfaces) (right_inside names.types named scoped names refl walk own start first now members x rest split u inner)))

@@ -16,31 +16,33 @@ use Rattle.wit_tree.specs.declared.tree.InterfaceItem.TheVariants as interface_i
 use Rattle.wit_tree.specs.declared.tree.PackageFile.{PackageFile}
 use Rattle.wit_tree.specs.declared.tree.WorldSide.{WorldSide}
 use Rattle.wit_tree.specs.declared.tree.WorldSide.TheVariants.{Imported, Exported}
+use Rattle.wit_values.specs.declared.span.Span.{Span}
 use Rattle.wit_syntax.specs.ExternPart.{same_side}
-use Rattle.wit_syntax.specs.Fault.{Fault, fault, missing_type_at, cyclic_at, type_word}
+use Rattle.wit_syntax.specs.Fault.{Fault, missing_type_at, cyclic_at, type_word, name_twice}
 use Rattle.wit_syntax.specs.Function.{SourceFunction, functions, part_functions, definition_functions, free_function, resource_function}
 use Rattle.wit_syntax.specs.ScopeTables.{defined, in_order, in_turn, includes, part_includes, used}
-use Rattle.wit_syntax.specs.Sides.{SideItem, SideFunction, item_called, item_function, items_on, names_on, on_side, role_side, side_called, side_items}
+use Rattle.wit_syntax.specs.Sides.{SideItem, SideFunction, item_function, items_on, names_on, on_side, role_side, side_called, side_items}
 use Rattle.wit_syntax.specs.SignatureRules.{Called, name_called}
 use Rattle.wit_syntax.specs.Source.{Declared, TheInterface, TheWorld, TheInline, Item, ScopeName, Used, Defined, ForeignName, about, address, interface_part, is_world, local_id, local_name, scope_names}
 use Rattle.wit_syntax.proofs.Lists.{flat_map_at, map_at}
 use Rattle.wit_syntax.proofs.Sides.{functions_imported, kept_all, kept_none, side_items_functions}
 use Rattle.wit_first.specs.First.{first_after, first_in, repeat_of}
 use Rattle.wit_first.specs.NameFaults.{local_names_fault}
+use Rattle.wit_first.proofs.Clashes.{clash-made, clash-map}
 use Rattle.wit_first.proofs.First.{after-append, or_none, repeat-map}
 use Rattle.wit_first.proofs.Repeats.{after_kept}
 use Rattle.wit_first.proofs.Bridge.{or_none_both}
 use Rattle.wit_walk.specs.Definitions.{handle_fault}
 use Rattle.wit_walk.specs.Functions.{function_fault, signed_fault, word_fault}
-use Rattle.wit_walk.specs.Members.{called_fault, is_on_side, member_fault}
-use Rattle.wit_walk.specs.Names.{folded_fault, name_fault, use_fault}
+use Rattle.wit_walk.specs.Members.{called_fault, crossed, is_on_side, member_fault, own_fault, side_sorted}
+use Rattle.wit_walk.specs.Names.{folded_clash, folded_fault, name_fault, use_fault}
 use Rattle.wit_walk.specs.Orders.{Outcome, order_fault, order_of}
 use Rattle.wit_walk.specs.Paths.{include_fault}
 use Rattle.wit_walk.specs.Setters.{setters_beside, setters_fault, side_setters_fault}
 use Rattle.wit_walk.specs.Walk.{earliest, scope_faults}
 use Rattle.wit_refusals.specs.NameScopes.{Name}
 use Rattle.wit_signatures.specs.ForeignName.{name_key, name_of_function, name_of_id}
-use Rattle.wit_externs.specs.AloneFaults.{again_fault, alone_fault, alone_faults, defined_fault, lone_setters}
+use Rattle.wit_externs.specs.AloneFaults.{again, again_fault, alone_fault, alone_faults, defined_fault, lone_setters}
 use Rattle.wit_externs.specs.Clash.{names_of_items}
 use Rattle.wit_scopes.specs.BorrowedNames.{own_use, use_view}
 use Rattle.wit_scopes.specs.declared.scope_name.UsedName.{UsedName}
@@ -64,7 +66,7 @@ repeat-made key as_fault f before x = ap (λ (b : Bool). if b then Some (as_faul
 
 -- a name of a scope that an earlier one is, spelled alike
 abbrev spelled : List ScopeName → ScopeName → Option Fault
-spelled before x = repeat_of local_name (λ (y : ScopeName). fault 14 (local_id y).span) before x
+spelled before x = repeat_of local_name (λ (y : ScopeName). name_twice (local_id y)) before x
 
 -- the interfaces that are resolved say of used names what files do
 pub record AreAsWalked (files : List PackageFile) (is : Interfaces) (us : List UsedName) : Type 0 where
@@ -75,8 +77,8 @@ uses_walked files is before [] say = refl
 uses_walked files is before (u ∷ us) say =
     let rest = first_after (local_fault is) (before ++ u ∷ []) us in
     let one : local_fault is before u ≡ name_fault files (map use_view before) (use_view u) =
-    ap (λ (o : Option Fault). option_or o (repeat_of (λ (v : UsedName). local_name (use_view v)) (λ (v : UsedName). fault 14 (local_id (use_view v)).span) before u)) (say.each 0 u refl)
-    ∙ ap (option_or (use_fault files (use_view u))) (sym (repeat-made local_name (λ (y : ScopeName). fault 14 (local_id y).span) use_view before u)) in
+    ap (λ (o : Option Fault). option_or o (repeat_of (λ (v : UsedName). local_name (use_view v)) (λ (v : UsedName). name_twice (local_id (use_view v))) before u)) (say.each 0 u refl)
+    ∙ ap (option_or (use_fault files (use_view u))) (sym (repeat-made local_name (λ (y : ScopeName). name_twice (local_id y)) use_view before u)) in
     let more : AreAsWalked files is us = record { each = λ k v at. say.each (suc k) v at } in
     ap (λ (o : Option Fault). option_or o rest) one
     ∙ ap (option_or (name_fault files (map use_view before) (use_view u))) (uses_walked files is (before ++ u ∷ []) us more ∙ ap (λ (l : List ScopeName). first_after (name_fault files) l (map use_view us)) (map-append use_view before (u ∷ [])))
@@ -102,7 +104,7 @@ names_walked files is us xs view say =
     let b = first_after spelled [] (used xs) in
     let c = first_after spelled (used xs) (defined xs) in
     let own : local_faults is us ≡ a = uses_walked files is [] us say ∙ ap (first_after (name_fault files) []) view in
-    let twice : local_names_fault (map local_id (used xs ++ defined xs)) ≡ option_or b c = repeat-map (λ (id : Id). id.name.now) (λ (id : Id). fault 14 id.span) local_id (used xs ++ defined xs) ∙ after-append spelled [] (used xs) (defined xs) in
+    let twice : local_names_fault (map local_id (used xs ++ defined xs)) ≡ option_or b c = repeat-map (λ (id : Id). id.name.now) (λ (id : Id). name_twice id) local_id (used xs ++ defined xs) ∙ after-append spelled [] (used xs) (defined xs) in
     ap (λ (o : Option Fault). option_or o (local_names_fault (map local_id (used xs ++ defined xs)))) own
     ∙ ap (option_or a) twice
     ∙ either_first a b c (after_kept (name_fault files) spelled (spelled_kept files) [] (used xs))
@@ -111,9 +113,9 @@ names_walked files is us xs view say =
 -- names in turn, once case is folded
 pub turn_walked : (ys : List ScopeName) → defined_fault [] (map name_of_id (map local_id ys)) ≡ first_after folded_fault [] (map name_called ys)
 turn_walked ys =
-    repeat-map name_key (λ (m : Name). fault 17 m.1) name_of_id (map local_id ys)
-    ∙ repeat-map (λ (id : Id). name_key (name_of_id id)) (λ (id : Id). fault 17 id.span) local_id ys
-    ∙ sym (repeat-map (λ (c : Called). folded_key c.name) (λ (c : Called). fault 17 c.span) name_called ys)
+    clash-map name_key again name_of_id (map local_id ys)
+    ∙ clash-map (λ (id : Id). name_key (name_of_id id)) (λ (x y : Id). again (name_of_id x) (name_of_id y)) local_id ys
+    ∙ sym (clash-map (λ (c : Called). folded_key c.name) folded_clash name_called ys)
 
 -- no function of an interface is what a world imports or exports
 resource_free : (r : Id) (g : ResourceFunc) → is_on_side (resource_function r g).role ≡ false
@@ -184,9 +186,9 @@ module _ (files : List PackageFile) (steps : ℕ) (inside : Item → Option Faul
   abbrev alone : List SourceFunction → SourceFunction → Option Fault
   alone = alone_fault (word_fault xs) handle xs taken
 
-  called_free : (extern : Bool) (before : List Called) (c : Called) → extern ≡ false → called_fault extern before c ≡ folded_fault before c
-  called_free true before c own = absurd (let f : ⊥ = cc in f)
-  called_free false before c own = refl
+  called_free : (extern : Bool) (as_crossed : List ℕ → Span → Fault) (before : List Called) (c : Called) → extern ≡ false → called_fault extern as_crossed before c ≡ folded_fault before c
+  called_free true as_crossed before c own = absurd (let f : ⊥ = cc in f)
+  called_free false as_crossed before c own = refl
 
   member_walked : (before : List SourceFunction) (fn : SourceFunction) → is_on_side fn.role ≡ false → alone before fn ≡ member (map SideFunction before) (SideFunction fn)
   member_walked before fn own =
@@ -195,8 +197,9 @@ module _ (files : List PackageFile) (steps : ℕ) (inside : Item → Option Faul
       let c : Called = record { name = fn.name; span = fn.span } in
       let names = taken side ++ names_of_items there in
       let signed : function_fault (signed_fault xs (before ++ fn ∷ []) handle) xs fn ≡ function_fault (signed_fault xs (flat_map item_function (map SideFunction before) ++ fn ∷ []) handle) xs fn = ap (λ (l : List SourceFunction). function_fault (signed_fault xs (l ++ fn ∷ []) handle) xs fn) (sym (functions_back before)) in
-      let again : again_fault names (name_of_function fn) ≡ folded_fault (side_called side xs there order) c = sym (repeat-made (λ (d : Called). folded_key d.name) (λ (d : Called). fault 17 d.span) called names (name_of_function fn)) ∙ ap (λ (l : List Called). folded_fault l c) (all_used side xs there order ids refl) in
-      let one : again_fault names (name_of_function fn) ≡ first_in (called_fault (is_on_side fn.role) (side_called side xs there order)) (item_called (SideFunction fn)) = again ∙ sym (called_free (is_on_side fn.role) (side_called side xs there order) c own) ∙ sym (or_none (called_fault (is_on_side fn.role) (side_called side xs there order) c)) in
+      let as_crossed = crossed side (side_sorted side xs there order) in
+      let folded : again_fault names (name_of_function fn) ≡ folded_fault (side_called side xs there order) c = sym (clash-made (λ (d : Called). folded_key d.name) folded_clash called names (name_of_function fn)) ∙ ap (λ (l : List Called). folded_fault l c) (all_used side xs there order ids refl) in
+      let one : again_fault names (name_of_function fn) ≡ own_fault xs there order (SideFunction fn) = folded ∙ sym (called_free (is_on_side fn.role) as_crossed (side_called side xs there order) c own) ∙ sym (or_none (called_fault (is_on_side fn.role) as_crossed (side_called side xs there order) c)) in
       ap (λ (o : Option Fault). option_or o (again_fault names (name_of_function fn))) signed ∙ ap (option_or (function_fault (signed_fault xs (flat_map item_function (map SideFunction before) ++ fn ∷ []) handle) xs fn)) one
 
   members_walked : (before fns : List SourceFunction) → ((k : ℕ) (fn : SourceFunction) → slice_get fns k ≡ Some fn → is_on_side fn.role ≡ false) → first_after alone before fns ≡ first_after member (map SideFunction before) (map SideFunction fns)

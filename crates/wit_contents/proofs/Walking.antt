@@ -14,6 +14,7 @@ use Rattle.wit_syntax.specs.Sides.{SideItem, SideFunction, SideLink, SideInline,
 use Rattle.wit_syntax.specs.Source.{Item, TopName, address}
 use Rattle.wit_syntax.proofs.Inline.{inline_after-append, length-inline_after}
 use Rattle.wit_syntax.proofs.Lists.{at_back, at_prefix}
+use Rattle.wit_walk.specs.Members.{Sorted, item_sorted}
 use Rattle.wit_arena.specs.SourceFunctions.{function_item}
 use Rattle.wit_arena.specs.Resolving.{Required}
 use Rattle.wit_arena.specs.ResolvedArenas.{AddsSides}
@@ -26,7 +27,7 @@ use Rattle.wit_externs.specs.Clash.{item_names, names_of_items}
 use Rattle.wit_externs.specs.Links.{bare_place, bare_places}
 use Rattle.wit_externs.specs.Next.{linked_on}
 use Rattle.wit_items.specs.ResolvedInterfaces.{resolved_scopes_of}
-use Rattle.wit_world_sides.specs.Members.{AreKeyed, Entry}
+use Rattle.wit_world_sides.specs.Members.{AreKeyed, Entry, sorted_on}
 use Rattle.wit_world_sides.specs.FilledSides.{entries_of}
 use Rattle.wit_links.specs.SideCounts.{IsSeen}
 use Rattle.wit_contents.specs.Walk.{AddsMembers, HasMore, HavePlaces, IsNext, ItemWalk, Stage, lead, next_place, walk_item}
@@ -64,9 +65,12 @@ items_then is top side (SideInline x name items ∷ xs) ys fs gs (s ∷ ss) ts a
   items_then is top side xs ys fs gs ss ts h.1 b made (omega (arith, seen)) h.4 k,
 )
 
--- the names and the places of what is on a side, with more after it
+-- the names, the words for them and the places of what is on a side, with more after it
 names_then : (s : WorldSide) (xs ys : List SideItem) → names_of_items (items_on s (xs ++ ys)) ≡ names_of_items (items_on s xs) ++ names_of_items (items_on s ys)
 names_then s xs ys = ap names_of_items (filter-append (λ x. same_side s (item_side x)) xs ys) ∙ flat_map-append item_names (items_on s xs) (items_on s ys)
+
+sorts_then : (s : WorldSide) (xs ys : List SideItem) → flat_map item_sorted (items_on s (xs ++ ys)) ≡ flat_map item_sorted (items_on s xs) ++ flat_map item_sorted (items_on s ys)
+sorts_then s xs ys = ap (flat_map item_sorted) (filter-append (λ x. same_side s (item_side x)) xs ys) ∙ flat_map-append item_sorted (items_on s xs) (items_on s ys)
 
 module _ (w : ItemWalk) where
   places_then : (s : WorldSide) (xs ys : List SideItem) → bare_places (lead w) (items_on s (xs ++ ys)) ≡ bare_places (lead w) (items_on s xs) ++ bare_places (lead w) (items_on s ys)
@@ -83,6 +87,7 @@ module _ (w : ItemWalk) where
     seen = λ ys seen. subst (λ (l : List SideItem). IsSeen l a.walked.seen) (sym (append-nil ys)) seen;
     in_use = λ s. sym (append-nil (defined_on s a.walked.members.in_use));
     linked = λ s. sym (append-nil (linked_on s a.walked.members.links));
+    sorted = λ s. sym (append-nil (sorted_on s a.walked.members.sides));
     keyed = keyed;
     are_present = λ all places s. record { more = []; put = sym (append-nil _); are = refl };
     leads = λ link among. absurd (let lt = among.1 in let wrong : ⊥ = omega arith in wrong);
@@ -153,6 +158,7 @@ module _ (w : ItemWalk) where
       seen = λ zs seen. subst (λ (l : List SideItem). IsSeen l c.walked.seen) (append_assoc zs xs ys) (q.seen (zs ++ xs) (p.seen zs seen));
       in_use = λ s. q.in_use s ∙ ap (λ (l : List Name). l ++ names_of_items (items_on s ys)) (p.in_use s) ∙ append_assoc (defined_on s a.walked.members.in_use) (names_of_items (items_on s xs)) (names_of_items (items_on s ys)) ∙ ap (λ (l : List Name). defined_on s a.walked.members.in_use ++ l) (sym (names_then s xs ys));
       linked = λ s. q.linked s ∙ ap (λ (l : List ℕ). l ++ bare_places (lead w) (items_on s ys)) (p.linked s) ∙ append_assoc (linked_on s a.walked.members.links) (bare_places (lead w) (items_on s xs)) (bare_places (lead w) (items_on s ys)) ∙ ap (λ (l : List ℕ). linked_on s a.walked.members.links ++ l) (sym (places_then s xs ys));
+      sorted = λ s. q.sorted s ∙ ap (λ (l : List Sorted). l ++ flat_map item_sorted (items_on s ys)) (p.sorted s) ∙ append_assoc (sorted_on s a.walked.members.sides) (flat_map item_sorted (items_on s xs)) (flat_map item_sorted (items_on s ys)) ∙ ap (λ (l : List Sorted). sorted_on s a.walked.members.sides ++ l) (sym (sorts_then s xs ys));
       keyed = q.keyed;
       are_present = present_both;
       leads = λ link among. elim (Contains-append_cases xs ys (SideLink link) among) [

@@ -14,7 +14,7 @@ use Rattle.wit_types.specs.declared.types.TypeOwner.{TypeOwner}
 use Rattle.wit_types.specs.declared.types.TypeOwner.TheVariants as owner
 use Rattle.wit_model.specs.declared.interface.Interface.{Interface}
 use Rattle.wit_syntax.specs.Address.{Address}
-use Rattle.wit_syntax.specs.Fault.{Fault, fault}
+use Rattle.wit_syntax.specs.Fault.{Fault}
 use Rattle.wit_syntax.specs.Function.{SourceFunction, functions}
 use Rattle.wit_syntax.specs.Repeats.{AllDiffer}
 use Rattle.wit_syntax.specs.ScopeTables.{in_order, in_turn, includes, rows_of, worlds_of}
@@ -22,7 +22,8 @@ use Rattle.wit_syntax.specs.Sides.{side_items}
 use Rattle.wit_syntax.specs.Source.{Item, ScopeName, is_world, local_id, scope_names}
 use Rattle.wit_syntax.proofs.Kept.{kept_next}
 use Rattle.wit_first.specs.First.{Reports, first_after, first_in}
-use Rattle.wit_first.proofs.First.{in-append, in-more, no_repeats, none_both, reports_prefix, reports_same}
+use Rattle.wit_first.proofs.Clashes.{no_clashes}
+use Rattle.wit_first.proofs.First.{in-append, in-more, none_both, reports_prefix, reports_same}
 use Rattle.wit_walk.specs.Orders.{InOrder, IsOutcome, Outcome, order_of}
 use Rattle.wit_walk.specs.Setters.{setters_beside, setters_fault}
 use Rattle.wit_walk.proofs.One.{outcome_one}
@@ -30,7 +31,7 @@ use Rattle.wit_arena.specs.Resolving.{Defines, ResolvedScope, env_of}
 use Rattle.wit_arena.proofs.DefinitionPart.{defines_none}
 use Rattle.wit_refusals.specs.NameScopes.{Name}
 use Rattle.wit_signatures.specs.ForeignName.{name_key, name_of_id}
-use Rattle.wit_externs.specs.AloneFaults.{EndsIn, IsSafe, sides_setters}
+use Rattle.wit_externs.specs.AloneFaults.{EndsIn, IsSafe, again, sides_setters}
 use Rattle.wit_externs.proofs.AloneFaults.{safe_of}
 use Rattle.wit_items.specs.BorrowedItems.{item_view, names_view}
 use Rattle.wit_items.specs.ResolvedInterfaces.{resolved_scopes_of}
@@ -64,7 +65,7 @@ setters_closed i fns are closed same =
 pub turn_differs : (w : ItemWalk) (start : Walked) → IsStart w start → turn_fault w.walk.turn.now ≡ None
 turn_differs w start is =
     let names = map name_of_id w.walk.turn.now in
-    no_repeats name_key (λ (m : Name). fault 17 m.1) names (subst (λ (l : List Name). AllDiffer (map name_key l)) (is.in_use Imported) (is.keyed.differ Imported))
+    no_clashes name_key again names (subst (λ (l : List Name). AllDiffer (map name_key l)) (is.in_use Imported) (is.keyed.differ Imported))
 
 -- at first all of what is on the sides comes next
 abbrev pub next_all : (w : ItemWalk) (start : Walked) → IsWalk w → IsStart w start → IsNext w (side_items (walk_item w)) start

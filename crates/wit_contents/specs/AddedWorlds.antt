@@ -1,21 +1,25 @@
 -- What a world adds to the arenas.
 use Rattle.std.specs.Prelude.{◌≡◌, ℕ, List, ◌∷◌, [], ◌++◌, length, map}
 use Rattle.wit_types.specs.declared.types.TypeDef.{TypeDef}
+use Rattle.wit_types.specs.declared.types.TypeOwner.TheVariants as owner
 use Rattle.wit_model.specs.declared.interface.Interface.{Interface}
 use Rattle.wit_model.specs.declared.world.World.{World}
 use Rattle.wit_syntax.specs.Address.{Address}
 use Rattle.wit_syntax.specs.ScopeTables.{in_order, worlds_of}
 use Rattle.wit_syntax.specs.Sides.{inline_items}
-use Rattle.wit_syntax.specs.Source.{Item, about, address, declared_metadata}
+use Rattle.wit_syntax.specs.Source.{Item, about, address, declared_metadata, scope_names}
 use Rattle.wit_arena.specs.UnfoldedTypes.{IsWorld}
 use Rattle.wit_arena.specs.Resolving.{IsWorldIndex, Required}
 use Rattle.wit_arena.specs.ResolvedArenas.{AddsWorld, AddsWorlds, WorldArenas, prefix_worlds, worlds_at}
 use Rattle.wit_item_names.specs.ForeignAddresses.{prefix_of}
 use Rattle.wit_items.specs.BorrowedItems.{item_view, others_of}
+use Rattle.wit_items.specs.ResolvedInterfaces.{resolved_scopes_of}
 use Rattle.wit_items.specs.declared.interfaces.Interfaces.{Interfaces}
 use Rattle.wit_items.specs.declared.items.Item.{Item as BorrowedItem}
 use Rattle.wit_links.specs.declared.worlds.Worlds.{Worlds}
 use Rattle.wit_uses.specs.NewRequirements.{Appends}
+use Rattle.wit_item_entries.specs.AddedNames.{AddsTurn}
+use Rattle.wit_item_entries.specs.declared.names.ResolvedNames.{ResolvedNames}
 use Rattle.wit_contents.specs.declared.walk.Growing.{Growing}
 use Rattle.wit_contents.specs.declared.world.ResolvedWorlds.{ResolvedWorlds}
 use Rattle.wit_contents.specs.declared.world.WorldContent.{WorldContent}
@@ -42,6 +46,10 @@ AddsWorldsTo is prefix ws inside old new before after items = Appends before aft
 
 abbrev pub AddsWorldsAmong : Interfaces → List World → ResolvedWorlds → List TypeDef → List TypeDef → List BorrowedItem → List ℕ → Type 0
 AddsWorldsAmong is prefix r old new items places = AddsWorldsTo is prefix r.worlds r.inside old new [] r.required.items (worlds_in items places)
+
+-- the names of a world that comes next were added
+abbrev pub AddsNamesOf : Worlds → BorrowedItem → List TypeDef → List TypeDef → ResolvedNames → Type 0
+AddsNamesOf ws i old new n = AddsTurn old new (resolved_scopes_of ws.interfaces.now) (owner.World (length ws.arena)) (scope_names (item_view i)) n.types n.turn.items n.required.items
 
 -- a world of an item has this content
 pub record HasContent (i : BorrowedItem) (c : WorldContent) (w : World) : Type 0 where

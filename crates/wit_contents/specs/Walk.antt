@@ -18,6 +18,7 @@ use Rattle.wit_arena.specs.Resolving.{Required, env_of, names_in}
 use Rattle.wit_arena.specs.ResolvedArenas.{AddsInterface, AddsSides, interfaces_at}
 use Rattle.wit_arena.specs.SideItems.{AreSideItems}
 use Rattle.wit_arena.specs.Whole.{type_imports}
+use Rattle.wit_walk.specs.Members.{item_sorted}
 use Rattle.wit_entries.specs.Requiring.{IsExtended}
 use Rattle.wit_sides.specs.SideNames.{defined_on}
 use Rattle.wit_rules.specs.Signatures.{HaveOwners, IsScopeOf, functions_view}
@@ -31,7 +32,7 @@ use Rattle.wit_items.specs.ResolvedInterfaces.{resolved_scopes_of}
 use Rattle.wit_items.specs.BorrowedItems.{item_view}
 use Rattle.wit_items.specs.declared.interfaces.Interfaces.{Interfaces}
 use Rattle.wit_items.specs.declared.items.Item.{Item as BorrowedItem}
-use Rattle.wit_world_sides.specs.Members.{AreKeyed, Entry}
+use Rattle.wit_world_sides.specs.Members.{AreKeyed, Entry, sorted_on}
 use Rattle.wit_world_sides.specs.FilledSides.{entries_of}
 use Rattle.wit_links.specs.SideCounts.{IsSeen}
 use Rattle.wit_links.specs.Links.{path_place}
@@ -117,6 +118,7 @@ pub record AddsMembers (w : ItemWalk) (prefix xs : List SideItem) (a b : Stage) 
   pub seen : (ys : List SideItem) → IsSeen ys a.walked.seen → IsSeen (ys ++ xs) b.walked.seen
   pub in_use : (s : WorldSide) → defined_on s b.walked.members.in_use ≡ defined_on s a.walked.members.in_use ++ names_of_items (items_on s xs)
   pub linked : (s : WorldSide) → linked_on s b.walked.members.links ≡ linked_on s a.walked.members.links ++ bare_places (lead w) (items_on s xs)
+  pub sorted : (s : WorldSide) → sorted_on s b.walked.members.sides ≡ sorted_on s a.walked.members.sides ++ flat_map item_sorted (items_on s xs)
   pub keyed : AreKeyed b.walked.members
   pub are_present : (all : List Address) → HavePlaces w a.inside (inline_after (walk_item w) prefix xs) all → (s : WorldSide) → HasMore all w s xs functions (inline_after (walk_item w) prefix xs) (entries_of s a.walked.members.sides) (entries_of s b.walked.members.sides)
   pub leads : (link : Link) → Contains xs (SideLink link) → (id : ℕ) × (lead w link.path ≡ Some id)

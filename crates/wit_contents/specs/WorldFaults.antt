@@ -26,7 +26,7 @@ use Rattle.wit_links.specs.Includes.{includes_fault}
 use Rattle.wit_links.specs.declared.worlds.Worlds.{Worlds}
 use Rattle.wit_signatures.specs.ForeignName.{name_of_id}
 use Rattle.wit_externs.specs.AloneFaults.{defined_fault}
-use Rattle.wit_item_entries.specs.ReachedFaults.{IsFaultless, Reaches, item_stability, names_fault}
+use Rattle.wit_item_entries.specs.ReachedFaults.{FindsAt, HaveNames, IsFaultless, IsNamesFault, Reaches, item_stability, names_fault}
 use Rattle.wit_item_entries.specs.declared.names.ResolvedNames.{ResolvedNames}
 use Rattle.wit_contents.specs.AddedWorlds.{AreIndexed, worlds_in}
 use Rattle.wit_contents.specs.MemberFaults.{AreRightMembers, MemberTest}
@@ -57,6 +57,10 @@ AreRightSides member i is names old inside = (w : Walk) (start : Walked) → IsW
 
 abbrev pub FindsSides : {T : Type 0} → BorrowedItem → Interfaces → ResolvedNames → List TypeDef → List Interface → Result T ParseError → Type 0
 FindsSides i is names old inside r = (member : MemberTest) → AreRightSides member i is names old inside → Finds (sides_fault (item_view i) names.turn.items member) r
+
+-- a call adds its names, or finds the first fault of these
+abbrev pub FindsNames : Worlds → BorrowedItem → List TypeDef → List TypeDef → Result ResolvedNames ParseError → Type 0
+FindsNames ws i old new r = FindsAt (λ n. HaveNames None ws.interfaces.now i.names.items n.types new) (IsNamesFault None ws.interfaces.now (owner.World (length ws.arena)) old i.names.items) r
 
 -- of a world before its members: its own attributes, its names, its includes, and E17 of the names
 abbrev pub world_head : Worlds → BorrowedItem → Outcome → (Id → Option Fault) → Option Fault

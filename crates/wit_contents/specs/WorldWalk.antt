@@ -1,14 +1,18 @@
 -- The walk of a world of the files, after its names, and what it adds.
-use Rattle.std.specs.Prelude.{◌≡◌, map}
+use Rattle.std.specs.Prelude.{◌≡◌, Bool, List, [], map}
+use Rattle.wit_tree.specs.declared.tree.Include.{Include}
 use Rattle.wit_syntax.specs.Function.{functions as the_functions}
 use Rattle.wit_syntax.specs.ScopeTables.{includes}
-use Rattle.wit_syntax.specs.Source.{scope_names}
+use Rattle.wit_syntax.specs.Source.{ScopeName, local_id, scope_names}
+use Rattle.wit_arena.specs.SideItems.{settled}
+use Rattle.wit_arena.specs.Whole.{type_imports}
 use Rattle.wit_rules.specs.BorrowedFunctions.{function_view}
 use Rattle.wit_rules.specs.Signatures.{AreResults}
 use Rattle.wit_items.specs.BorrowedItems.{item_view}
 use Rattle.wit_items.specs.declared.interfaces.Interfaces.{Interfaces}
 use Rattle.wit_items.specs.declared.items.Item.{Item as BorrowedItem}
 use Rattle.wit_world_sides.specs.Settled.{none_of}
+use Rattle.wit_world_sides.specs.declared.sides.WorldSides.{WorldSides}
 use Rattle.wit_uses.specs.NameOrder.{IsTurn}
 use Rattle.wit_item_entries.specs.declared.names.ResolvedNames.{ResolvedNames}
 use Rattle.wit_contents.specs.declared.walk.Growing.{Growing}
@@ -30,6 +34,11 @@ pub record IsWalkOf (w : Walk) (i : BorrowedItem) (is : Interfaces) (names : Res
   pub interfaces : w.interfaces.now ≡ is
   pub types : w.scope.names.now ≡ names.types
   pub turn : w.turn.now ≡ names.turn.items
+
+-- where nothing comes after names, these are the sides of a world, by its includes
+pub record AreNamesAlone (n : ResolvedNames) (closed : Bool) (sides : WorldSides) : Type 0 where
+  pub imports : (xs : List ScopeName) (written : List Include) → n.turn.items ≡ map local_id xs → closed ≡ none_of written → sides.imports ≡ settled written (type_imports xs n.types)
+  pub exports : (written : List Include) → closed ≡ none_of written → sides.exports ≡ settled written []
 
 -- all that is on the sides of the world was added
 abbrev pub AddsSidesOf : BorrowedItem → Interfaces → ResolvedNames → Growing → Growing → Walked → Type 0

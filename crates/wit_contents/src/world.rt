@@ -1,7 +1,9 @@
 //! Declared worlds.
-ghost use Rattle.std.specs.Prelude.{◌≡◌, ◌<◌, ◌≤◌, ◌+◌, ◌++◌, ◌∷◌, [], All, None, true, length, IfOk, IfErr, OnOk};
+ghost use Rattle.std.specs.Prelude.{◌≡◌, ◌<◌, ◌≤◌, ◌+◌, ◌++◌, ◌∷◌, [], All, List, None, false, true, length, IfOk, IfErr, OnOk};
+ghost use Rattle.std.specs.Char.{is_ascii_uppercase};
+ghost use Rattle.std.specs.List.{list_any};
 ghost use Rattle.wit_type_tree.specs.RefusalText.{IsAllocationFailure};
-ghost use Rattle.wit_syntax.specs.Source.{is_world, about};
+ghost use Rattle.wit_syntax.specs.Source.{ScopeName, about, is_world};
 ghost use Rattle.wit_syntax.specs.Sides.{inline_items};
 ghost use Rattle.wit_arena.specs.UnfoldedTypes.{IsWorld};
 ghost use Rattle.wit_arena.specs.Resolving.{IsWorldIndex};
@@ -9,10 +11,11 @@ ghost use Rattle.wit_arena.specs.ResolvedArenas.{worlds_at};
 ghost use Rattle.wit_items.specs.BorrowedItems.{declared_view, item_view, others_of};
 ghost use Rattle.wit_items.specs.SourceItems.{metadata_view};
 ghost use Rattle.wit_items.specs.Gathered.{AreItemsOf, IsItemOf};
+ghost use Rattle.wit_uses.specs.NameOrder.{IsTurn};
 ghost use Rattle.wit_item_entries.specs.ReachedFaults.{item_stability};
-ghost use Rattle.wit_contents.specs.AddedWorlds.{AddsContent, AddsOne, AddsTo, AddsWorldsAmong, AreIndexed};
-ghost use Rattle.wit_contents.specs.WorldFaults.{FindsSides, FindsWorld, FindsWorlds};
-ghost use Rattle.wit_contents.specs.WorldWalk.{AddsSidesOf, IsScopeOfWorld};
+ghost use Rattle.wit_contents.specs.AddedWorlds.{AddsContent, AddsNamesOf, AddsOne, AddsTo, AddsWorldsAmong, AreIndexed};
+ghost use Rattle.wit_contents.specs.WorldFaults.{FindsNames, FindsSides, FindsWorld, FindsWorlds};
+ghost use Rattle.wit_contents.specs.WorldWalk.{AddsSidesOf, AreNamesAlone, IsScopeOfWorld};
 
 use crate::sides::{put_nothing, walk_sides};
 use crate::walk::{Growing, Walk, Walked};
@@ -120,8 +123,41 @@ fn walked_sides<'f, 'a>(
     Ok(walked)
 }
 
-/// What a world has on its sides, after its names, and its includes. Where nothing comes after names
-/// without a letter in upper case, which are their own keys, these need not be defined.
+/// The names of a world that comes next, and what is in them.
+fn world_names<'f, 'a>(
+    item: &Item<'f, 'a>,
+    types: &mut Entries,
+    worlds: &Worlds<'_, '_, '_, 'f, 'a>,
+) -> ParseResult<ResolvedNames<'a>>
+    requires { IsItemOf worlds.now.interfaces.now.files item.now }
+    ensures adds { IfOk result (AddsNamesOf worlds.now item.now types.old types.new) }
+    ensures first { FindsNames worlds.now item.now types.old types.new result }
+{
+    let alloc = *worlds.by_name.allocator();
+    let owner = TypeOwner::World(worlds.arena.next_id());
+    resolve_names(alloc, &item.names, types, worlds.interfaces, owner)
+}
+
+/// The sides of a world that has nothing there but these names, which have no letter in upper case: they
+/// are their own keys, and need not be defined.
+fn sides_of_names(
+    alloc: Global,
+    names: &ResolvedNames<'_>,
+    required: &mut Vec<Required>,
+    closed: bool,
+) -> Result<WorldSides, AllocError>
+    requires turn { (xs : List ScopeName) × IsTurn xs names.now.turn.items }
+    requires lower { list_any (λ id. list_any is_ascii_uppercase id.name.now) names.now.turn.items ≡ false }
+    ensures sides { IfOk result (AreNamesAlone names.now closed) }
+    ensures required { OnOk result (required.new.items ≡ required.old.items ++ names.now.required.items) }
+{
+    let named = named_sides(alloc, &names.turn, &names.types, 0, 0)?;
+    add_required(required, &names.required)?;
+    let sides = settle(alloc, named, closed)?;
+    Ok(sides)
+}
+
+/// What a world has on its sides, after its names, and its includes.
 fn world_content<'f, 'a>(
     item: &Item<'f, 'a>,
     growing: &mut Growing,
@@ -135,22 +171,13 @@ fn world_content<'f, 'a>(
     ensures first { item_stability (item_view item.now) ≡ None → FindsWorld worlds.now growing.old.types growing.old.inside item.now result }
 {
     let alloc = *worlds.by_name.allocator();
-    let owner = TypeOwner::World(worlds.arena.next_id());
-    let names = resolve_names(
-        alloc,
-        &item.names,
-        &mut growing.types,
-        worlds.interfaces,
-        owner,
-    )?;
+    let names = world_names(item, &mut growing.types, worlds)?;
     let includes = declared_includes(alloc, &item.declared, worlds, item.place)?;
     let closed = is_closed(includes.as_slice());
     let world = declared_world(&item.declared);
     if put_nothing(world_items(world)) {
         if !have_upper_case(&names.turn) {
-            let named = named_sides(alloc, &names.turn, &names.types, 0, 0)?;
-            add_required(required, &names.required)?;
-            let sides = settle(alloc, named, closed)?;
+            let sides = sides_of_names(alloc, &names, required, closed)?;
             return Ok(WorldContent { sides, includes });
         }
     }

@@ -8,7 +8,7 @@ use Rattle.wit_type_tree.specs.declared.types.TypeBody.{TypeBody}
 use Rattle.wit_type_tree.specs.declared.types.TypeDef.{TypeDef as Definition}
 use Rattle.wit_type_tree.specs.TypeParts.{body_types}
 use Rattle.wit_types.specs.declared.types.TypeDef.{TypeDef}
-use Rattle.wit_syntax.specs.Fault.{Fault, fault, missing_type_at}
+use Rattle.wit_syntax.specs.Fault.{Fault, missing_type_at, no_resource}
 use Rattle.wit_first.specs.AttributeFaults.{metadata_fault}
 use Rattle.wit_first.specs.First.{first_in}
 use Rattle.wit_first.specs.ListFaults.{list_fault}
@@ -30,7 +30,7 @@ name_fault lost env id = unless_found (lost id) (env id.name.now)
 
 -- one in a handle means nothing, or it ends at something else than a resource
 abbrev pub end_fault : Id → Option EntryEnd → Option Fault
-end_fault id (Some IsOther) = Some (fault 27 id.span)
+end_fault id (Some IsOther) = Some (no_resource id)
 end_fault id end = None
 
 abbrev pub handled_fault : (Id → Fault) → List TypeDef → Id → Option ℕ → Option Fault

@@ -1,7 +1,8 @@
 //! Names that are written in types: what they mean, and whether a handle may name them.
-ghost use Rattle.std.specs.Prelude.{◌≡◌, ◌⊎◌, [], ◌∷◌, IfOk, OnOk, Some};
+ghost use Rattle.std.specs.Prelude.{◌≡◌, ◌⊎◌, [], ◌∷◌, IfOk, OnOk, Some, string_bytes};
 ghost use Rattle.wit_type_tree.specs.RefusalText.{IsAllocationFailure};
-ghost use Rattle.wit_syntax.specs.Fault.{fault, fault_of, missing_type_at};
+ghost use Rattle.wit_syntax.specs.Words.{handle_words};
+ghost use Rattle.wit_syntax.specs.Fault.{fault_of, missing_type_at, no_resource};
 ghost use Rattle.wit_first.specs.First.{Finds};
 ghost use Rattle.wit_arena.specs.Resolving.{env_of};
 ghost use Rattle.wit_entries.specs.EntryFaults.{handle_fault, name_fault};
@@ -10,7 +11,7 @@ ghost use Rattle.wit_entries.specs.Requiring.{Requires};
 use crate::ends::End;
 use crate::entries::Entries;
 use crate::scope::Required;
-use std::alloc::Global;
+use std::alloc::{AllocError, Global};
 use wit_maps::TextTable;
 use wit_refusals::refusal::{refuse_in, refuse_missing_type};
 use wit_tree::tree::Id;
@@ -28,15 +29,20 @@ pub fn find_name(alloc: Global, names: &TextTable<TypeId>, id: Id<'_>) -> ParseR
     }
 }
 
+/// The words for a name in a handle that ends at no resource.
+fn handle_words(alloc: Global, name: &str) -> Result<String, AllocError>
+    ensures { IfOk result (λ words. string_bytes words ≡ handle_words name.now) }
+{
+    format!(in alloc; "type `{name}` used in a handle must be a resource")
+}
+
 /// A name in a handle that ends at no resource.
 #[cold]
 #[inline(never)]
 fn refuse_handle(alloc: Global, id: Id<'_>) -> ParseError
-    ensures { IsAllocationFailure result ⊎ (fault_of result ≡ fault 27 id.entry.span) }
+    ensures { IsAllocationFailure result ⊎ (fault_of result ≡ no_resource id.entry) }
 {
-    let name = id.name;
-    let words = format!(in alloc; "type `{name}` used in a handle must be a resource");
-    refuse_in(27, id.span, words)
+    refuse_in(27, id.span, handle_words(alloc, id.name))
 }
 
 /// What a name in a handle means: a resource, or a type of another package, which has to be one.

@@ -1,8 +1,8 @@
 -- The first fault of functions where nothing else is on the sides of a scope: names again, and tests of names in handles in an arena that grows.
 use Rattle.std.proofs.Common.{◌≡◌, ℕ, suc, Bool, true, false, List, [], ◌∷◌, ◌++◌, map, take, Option, Some, None, Result, Ok, Err, inl, inr, refl, sym, ap, ◌∙◌, add-one}
-use Rattle.std.specs.Prelude.{IfErr, OnOk, if◌then◌else◌, slice_get}
+use Rattle.std.specs.Prelude.{IfErr, OnOk, slice_get}
 use Rattle.std.specs.List.{list_any}
-use Rattle.std.specs.Option.{option_or}
+use Rattle.std.specs.Option.{option_map, option_or}
 use Rattle.std.specs.Str.{bytes_eq}
 use Rattle.std.proofs.lemmas.Bool.{false_from_ne_true}
 use mathlib.Core.Path.{fun_ext}
@@ -16,7 +16,7 @@ use Rattle.wit_type_tree.specs.declared.types.«Type».TheVariants as written
 use Rattle.wit_types.specs.declared.types.TypeDef.{TypeDef}
 use Rattle.wit_syntax.specs.Bodies.{folded}
 use Rattle.wit_syntax.specs.Broken.{Refused}
-use Rattle.wit_syntax.specs.Fault.{Fault, fault}
+use Rattle.wit_syntax.specs.Fault.{Fault, param_twice}
 use Rattle.wit_syntax.specs.Function.{SourceFunction, SourceParam, written_param}
 use Rattle.wit_syntax.specs.Source.{ScopeName}
 use Rattle.wit_syntax.proofs.Names.{name_equal, name_itself}
@@ -25,7 +25,8 @@ use Rattle.wit_first.specs.First.{Finds, Reports, first_after, repeat_of}
 use Rattle.wit_first.specs.FunctionFaults.{given_fault, gives_fault}
 use Rattle.wit_first.specs.TypeFaults.{type_fault}
 use Rattle.wit_first.proofs.Bridge.{any_found, or_none_both}
-use Rattle.wit_first.proofs.First.{any_some, none_both}
+use Rattle.wit_first.proofs.Clashes.{find-only, find_none}
+use Rattle.wit_first.proofs.First.{none_both}
 use Rattle.wit_first.proofs.Repeats.{after_kept}
 use Rattle.wit_first.proofs.TypeFaults.{type_kept}
 use Rattle.wit_walk.specs.Functions.{function_fault, lost_word, param_fault, return_fault}
@@ -36,18 +37,19 @@ use Rattle.wit_entries.specs.Requiring.{IsExtended}
 use Rattle.wit_entries.proofs.Faults.{written_extended}
 use Rattle.wit_signatures.specs.ForeignName.{name_key}
 use Rattle.wit_signatures.specs.SignatureFaults.{function_fault as signature_function_fault}
-use Rattle.wit_externs.specs.AloneFaults.{EndsIn, IsSafe, again_fault, signed_by, words_in}
+use Rattle.wit_externs.specs.AloneFaults.{EndsIn, IsSafe, again, again_fault, signed_by, words_in}
 use Rattle.wit_externs.proofs.Steps.{used_next}
 
 -- a name that is defined again, and one that is not
 pub again_report : (names : List Name) (name : List ℕ) (span : Span) (e : ParseError) → Refused (IsDefinedAgain names name span) e → Reports (again_fault names (name, span)) e
 again_report names name span e h = elim h [
   | inl memory ↦ inl memory
-  | inr again ↦ (
-      let old = again.in_use in
-      let same : bytes_eq (name_key old.earlier) (name_key (name, span)) ≡ true = ap (λ (k : List ℕ). bytes_eq k (folded_key name)) old.same ∙ name_itself (folded_key name) in
-      let hit = any_some (λ (m : Name). bytes_eq (name_key m) (name_key (name, span))) names old.place old.earlier old.at same in
-      inr (ap (λ (b : Bool). if b then Some (fault 17 span) else None) hit ∙ ap Some (sym again.is)))
+  | inr twice ↦ (
+      let old = twice.in_use in
+      let test = λ (m : Name). bytes_eq (name_key m) (name_key (name, span)) in
+      let same : test old.earlier ≡ true = ap (λ (k : List ℕ). bytes_eq k (folded_key name)) old.same ∙ name_itself (folded_key name) in
+      let found = find-only test names old.place old.earlier old.at same (λ i n at passes. twice.only i n at (name_equal (name_key n) (name_key (name, span)) passes)) in
+      inr (ap (option_map (λ (m : Name). again m (name, span))) found ∙ ap Some (sym twice.is)))
 ]
 
 pub again_free : (names : List Name) (name : List ℕ) (span : Span) → (AreUsed names name → ⊥) → again_fault names (name, span) ≡ None
@@ -56,7 +58,7 @@ again_free names name span free =
     let miss : list_any test names ≡ false = false_from_ne_true (list_any test names) (λ hit. (
     let it = any_found test names hit in
     free (record { place = it.0; earlier = it.1; at = it.2; same = name_equal (name_key it.1) (name_key (name, span)) it.3 }))) in
-    ap (λ (b : Bool). if b then Some (fault 17 span) else None) miss
+    ap (option_map (λ (m : Name). again m (name, span))) (find_none test names miss)
 
 pub again_by : {T : Type 0} (r : Result T ParseError) (names : List Name) (name : List ℕ) (span : Span) → OnOk r (AreUsed names name → ⊥) → IfErr r (Refused (IsDefinedAgain names name span)) → Finds (again_fault names (name, span)) r
 again_by (Ok x) names name span free refused = again_free names name span free
@@ -82,7 +84,7 @@ module _ (wrong wrong' : Written → Option Fault) (kept : (t : Written) → wro
       none_both (kept t all.0) all.1
 
   abbrev given_repeat : List Param → Param → Option Fault
-  given_repeat before p = repeat_of (λ (q : SourceParam). folded q.name) (λ (q : SourceParam). fault 38 q.span) (fn.given ++ map written_param before) (written_param p)
+  given_repeat before p = repeat_of (λ (q : SourceParam). folded q.name) (λ (q : SourceParam). param_twice q.name q.span) (fn.given ++ map written_param before) (written_param p)
 
   param_kept : (before : List Param) (p : Param) → param_fault wrong fn before p ≡ None → param_fault wrong' fn before p ≡ None
   param_kept before p h =

@@ -11,7 +11,7 @@ use Rattle.wit_tree.specs.declared.tree.WorldSide.{WorldSide}
 use Rattle.wit_tree.specs.declared.tree.WorldSide.TheVariants.{Imported, Exported}
 use Rattle.wit_syntax.specs.Broken.{Refused}
 use Rattle.wit_syntax.specs.ExternPart.{same_side}
-use Rattle.wit_syntax.specs.Fault.{Fault, fault, fault_of}
+use Rattle.wit_syntax.specs.Fault.{Fault, fault_of, lone_setter as lone_fault}
 use Rattle.wit_syntax.specs.Function.{SourceFunction}
 use Rattle.wit_syntax.specs.Sides.{SideItem, SideFunction, SideLink, SideInline, item_function, item_side, items_on, names_on, on_side, role_side}
 use Rattle.wit_syntax.specs.SignatureRules.{IsUnpairedSetter}
@@ -104,7 +104,7 @@ module _ (names : List Name) (fns : List SourceFunction) (are : AreNamed names f
               let it = are.has k.0 other k.1 in
               lone.none it.0 other.span (it.1 ∙ ap (λ (n : List ℕ). Some (n, other.span)) same ∙ ap (λ (n : Name). Some (getter_of n.0, other.span)) (sym named)));
         } in
-        setter_found fns fn alone ∙ ap (λ (n : Name). Some (fault 18 n.1)) (sym named) ∙ ap Some (sym l.is)
+        setter_found fns fn alone ∙ ap (λ (n : Name). Some (lone_fault n.0 n.1)) (sym named) ∙ ap Some (sym l.is)
 
     -- one before it
     none_before : (fn : SourceFunction) → Contains fns fn → (p : ℕ) → slice_get names p ≡ Some (name_of_function fn) → p < l.place → (o : Option Fault) → setter_fault fns fn ≡ o → setter_fault fns fn ≡ None

@@ -1,5 +1,5 @@
 -- The first fault of names that are defined, E17, and of the functions of a scope where nothing else is on its sides: E17, E22, E26 to E42; and of setters, E18.
-use Rattle.std.specs.Prelude.{◌≡◌, ◌⊎◌, ℕ, List, [], ◌∷◌, ◌++◌, MatchResult, None, Option, Result, Some, map}
+use Rattle.std.specs.Prelude.{◌≡◌, ◌⊎◌, ℕ, List, [], ◌∷◌, ◌++◌, codes, MatchResult, None, Option, Result, Some, map}
 use Rattle.std.specs.Option.{option_or}
 use Rattle.wit_type_tree.specs.RefusalText.{IsAllocationFailure}
 use Rattle.wit_type_tree.specs.declared.error.ParseError.{ParseError}
@@ -8,11 +8,12 @@ use Rattle.wit_type_tree.specs.declared.types.«Type».{«Type» as Written}
 use Rattle.wit_tree.specs.declared.tree.WorldSide.{WorldSide}
 use Rattle.wit_tree.specs.declared.tree.WorldSide.TheVariants.{Imported, Exported}
 use Rattle.wit_types.specs.declared.types.TypeDef.{TypeDef}
-use Rattle.wit_syntax.specs.Fault.{Fault, fault, fault_of}
+use Rattle.wit_syntax.specs.Fault.{Fault, fault_in, fault_of}
 use Rattle.wit_syntax.specs.Function.{SourceFunction}
 use Rattle.wit_syntax.specs.Sides.{SideFunction, items_on, on_side, role_side}
 use Rattle.wit_syntax.specs.Source.{ScopeName}
-use Rattle.wit_first.specs.First.{first_after, first_in, repeat_of}
+use Rattle.wit_syntax.specs.Words.{clash}
+use Rattle.wit_first.specs.First.{clash_of, first_after, first_in}
 use Rattle.wit_first.specs.TypeFaults.{type_fault}
 use Rattle.wit_walk.specs.Functions.{function_fault, lost_word}
 use Rattle.wit_walk.specs.Setters.{setter_fault}
@@ -38,8 +39,11 @@ abbrev pub FindsIn : {T : Type 0} → Env → List TypeDef → ((Id → Option F
 FindsIn env es wrong r = MatchResult r (λ _. (handle : Id → Option Fault) → IsSafe env es handle → wrong handle ≡ None) (λ e. IsAllocationFailure e ⊎ ((handle : Id → Option Fault) → EndsIn env es handle → wrong handle ≡ Some (fault_of e)))
 
 -- one of these names has the key of a name
+abbrev pub again : Name → Name → Fault
+again earlier later = fault_in 17 later.1 (clash (codes "name") earlier.0 later.0)
+
 abbrev pub again_fault : List Name → Name → Option Fault
-again_fault before n = repeat_of name_key (λ (m : Name). fault 17 m.1) before n
+again_fault before n = clash_of name_key again before n
 
 -- of a function whose name is defined on its side
 abbrev pub next_fault : Sides → SourceFunction → Option Fault

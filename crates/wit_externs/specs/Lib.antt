@@ -4,4 +4,3 @@ pub mod Links
 pub mod Next
 pub mod ScopeFunctions
 pub mod SetterFunctions
-pub mod SideWords

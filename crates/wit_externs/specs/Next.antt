@@ -5,7 +5,7 @@ use Rattle.wit_values.specs.declared.span.Span.{Span}
 use Rattle.wit_tree.specs.declared.tree.WorldSide.{WorldSide}
 use Rattle.wit_tree.specs.declared.tree.WorldSide.TheVariants.{Imported, Exported}
 use Rattle.wit_syntax.specs.ExternPart.{same_side}
-use Rattle.wit_syntax.specs.Fault.{Fault, fault}
+use Rattle.wit_syntax.specs.Fault.{Fault, linked_twice}
 use Rattle.wit_externs.specs.declared.links.Links.{Links}
 
 -- the places of the interfaces on a side that have no name of their own
@@ -22,6 +22,6 @@ abbrev pub IsPutAfter : List ℕ → List ℕ → ℕ → Type 0
 IsPutAfter old new id = (new ≡ old ++ id ∷ []) × (Contains old id → ⊥)
 
 -- an interface is one of these
-pub record IsLinked (ids : List ℕ) (id : ℕ) (span : Span) (f : Fault) : Type 0 where
+pub record IsLinked (side : WorldSide) (ids : List ℕ) (id : ℕ) (span : Span) (f : Fault) : Type 0 where
   pub among : Contains ids id
-  pub is : f ≡ fault 43 span
+  pub is : f ≡ linked_twice side span

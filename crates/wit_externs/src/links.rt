@@ -2,8 +2,8 @@
 ghost use Rattle.std.specs.Prelude.{◌≡◌, ◌++◌, [], Contains, IfErr, IfOk, MatchBool, OnOk, OnErr};
 ghost use Rattle.std.specs.Map.{keys_of};
 ghost use Rattle.wit_syntax.specs.Broken.{Refused};
+ghost use Rattle.wit_syntax.specs.Words.{linked_words};
 ghost use Rattle.wit_externs.specs.Next.{IsLinked, IsPutAfter, linked_on, only_place};
-ghost use Rattle.wit_externs.specs.SideWords.{repeated};
 
 use std::alloc::{AllocError, Global};
 use wit_maps::Table;
@@ -37,7 +37,7 @@ fn insert(links: &mut Table<usize, ()>, interface: usize) -> Result<bool, AllocE
 
 /// The words for an interface that is on a side again.
 fn repeated(side: WorldSide) -> &'static str
-    ensures { result.now ≡ repeated side }
+    ensures { result.now ≡ linked_words side }
 {
     match side {
         WorldSide::Imported => "interface cannot be imported more than once",
@@ -70,7 +70,7 @@ impl Links {
     ) -> ParseResult<()>
         ensures defined { OnOk result ((s : WorldSide) → linked_on s self.new ≡ linked_on s self.old ++ only_place s side interface) }
         ensures free { OnOk result (Contains (linked_on side self.old) interface → ⊥) }
-        ensures refused { IfErr result (Refused (IsLinked (linked_on side self.old) interface span)) }
+        ensures refused { IfErr result (Refused (IsLinked side (linked_on side self.old) interface span)) }
     {
         let new = match side {
             WorldSide::Imported => insert(&mut self.imports, interface)?,

@@ -1,16 +1,16 @@
 //! The table of the items that files declare, and its order.
-ghost use Rattle.std.specs.Prelude.{◌≡◌, ◌++◌, List, map, IfOk, OnOk};
+ghost use Rattle.std.specs.Prelude.{◌≡◌, ◌++◌, [], List, map, IfOk, OnOk};
 ghost use Rattle.std.specs.List.{flat_map};
 ghost use Rattle.wit_graph.specs.Table.{rows, IsOrder};
-ghost use Rattle.wit_syntax.specs.Source.{TopName as Top, Item, interface_part, world_part, top_names, file_items, item_name, is_world};
+ghost use Rattle.wit_syntax.specs.Source.{Item, interface_part, world_part, top_names, file_items, item_name, is_world};
 ghost use Rattle.wit_syntax.specs.ScopeTables.{use_path, include_path, item_row};
 ghost use Rattle.wit_syntax.specs.Fault.{cyclic_at, missing_at, item_word};
 ghost use Rattle.wit_syntax.specs.Repeats.{AllDiffer};
 ghost use Rattle.wit_top_names.specs.Tops.{AreNamed, AreDeclared};
-ghost use Rattle.wit_first.specs.FileFaults.{paths_fault, unnamed_fault};
+ghost use Rattle.wit_first.specs.FileFaults.{paths_fault};
 ghost use Rattle.wit_first.specs.First.{Finds, FindsBy, first_in};
 ghost use Rattle.wit_first.specs.OrderFaults.{IsOrderFault};
-ghost use Rattle.wit_top_names.specs.Checks.{edges_of};
+ghost use Rattle.wit_top_names.specs.Checks.{AddsEdges, FindsUnnamedIn};
 
 use crate::order_refusal::refuse_item_order;
 use std::alloc::{AllocError, Global};
@@ -28,8 +28,8 @@ fn add_use<'a>(
     edges: &mut Vec<Id<'a>>,
     part: &InterfaceItem<'a>,
 ) -> ParseResult<()>
-    ensures edges { OnOk result ((top : List Top) → AreNamed top paths.entry.top.now → edges.new.items ≡ edges.old.items ++ edges_of top (use_path (interface_part part.now))) }
-    ensures first { (top : List Top) (is : List Item) → AreNamed top paths.entry.top.now → AreDeclared is paths.entry.declared.now → Finds (first_in (unnamed_fault is top) (use_path (interface_part part.now))) result }
+    ensures edges { OnOk result (AddsEdges paths.entry (use_path (interface_part part.now)) edges.old.items edges.new.items) }
+    ensures first { FindsUnnamedIn paths.entry (use_path (interface_part part.now)) result }
 {
     match part {
         InterfaceItem::TypeDef(_) | InterfaceItem::Func(_) => {}
@@ -46,8 +46,8 @@ fn interface_edges<'a>(
     paths: Paths<'_, '_, 'a>,
     interface: &Interface<'a>,
 ) -> ParseResult<Vec<Id<'a>>>
-    ensures edges { IfOk result (λ edges. (top : List Top) → AreNamed top paths.entry.top.now → edges.items ≡ edges_of top (flat_map use_path (map interface_part interface.now.items.items))) }
-    ensures first { (top : List Top) (is : List Item) → AreNamed top paths.entry.top.now → AreDeclared is paths.entry.declared.now → Finds (first_in (unnamed_fault is top) (flat_map use_path (map interface_part interface.now.items.items))) result }
+    ensures edges { IfOk result (λ edges. AddsEdges paths.entry (flat_map use_path (map interface_part interface.now.items.items)) [] edges.items) }
+    ensures first { FindsUnnamedIn paths.entry (flat_map use_path (map interface_part interface.now.items.items)) result }
 {
     let mut edges = Vec::new(alloc);
     for part in interface_items(interface) {
@@ -63,8 +63,8 @@ fn add_include<'a>(
     edges: &mut Vec<Id<'a>>,
     part: &WorldItem<'a>,
 ) -> ParseResult<()>
-    ensures edges { OnOk result ((top : List Top) → AreNamed top paths.entry.top.now → edges.new.items ≡ edges.old.items ++ edges_of top (include_path (world_part part.now))) }
-    ensures first { (top : List Top) (is : List Item) → AreNamed top paths.entry.top.now → AreDeclared is paths.entry.declared.now → Finds (first_in (unnamed_fault is top) (include_path (world_part part.now))) result }
+    ensures edges { OnOk result (AddsEdges paths.entry (include_path (world_part part.now)) edges.old.items edges.new.items) }
+    ensures first { FindsUnnamedIn paths.entry (include_path (world_part part.now)) result }
 {
     match part {
         WorldItem::TypeDef(_) | WorldItem::Use(_) | WorldItem::Extern(_) => {}
@@ -81,8 +81,8 @@ fn world_edges<'a>(
     world: &World<'a>,
     paths: Paths<'_, '_, 'a>,
 ) -> ParseResult<Vec<Id<'a>>>
-    ensures edges { IfOk result (λ edges. (top : List Top) → AreNamed top paths.entry.top.now → edges.items ≡ edges_of top (flat_map include_path (map world_part world.now.items.items))) }
-    ensures first { (top : List Top) (is : List Item) → AreNamed top paths.entry.top.now → AreDeclared is paths.entry.declared.now → Finds (first_in (unnamed_fault is top) (flat_map include_path (map world_part world.now.items.items))) result }
+    ensures edges { IfOk result (λ edges. AddsEdges paths.entry (flat_map include_path (map world_part world.now.items.items)) [] edges.items) }
+    ensures first { FindsUnnamedIn paths.entry (flat_map include_path (map world_part world.now.items.items)) result }
 {
     let mut edges = Vec::new(alloc);
     for part in world_items(world) {

@@ -1,6 +1,6 @@
 -- The first fault is a broken rule; and where there is no first fault, no rule is broken.
 use Rattle.std.proofs.Common.{◌≡◌, ◌≢◌, ℕ, zero, suc, ◌<◌, Bool, true, false, List, [], ◌∷◌, ◌++◌, take, Option, Some, None, ◌⊎◌, inl, inr, refl, sym, ap, ◌∙◌, subst, append_assoc, arith}
-use Rattle.std.specs.Prelude.{Contains, slice_get, not, map}
+use Rattle.std.specs.Prelude.{Contains, slice_get, not, map, find, codes}
 use Rattle.std.specs.Option.{option_or}
 use Rattle.std.specs.List.{list_any}
 use Rattle.std.specs.Str.{bytes_eq}
@@ -26,20 +26,21 @@ use Rattle.wit_type_tree.specs.declared.types.TypeBody.TheVariants as body
 use Rattle.wit_type_tree.specs.Attributes.{attribute_span, is_of, kind_of, first_of}
 use Rattle.wit_tree.specs.declared.tree.PackageFile.{PackageFile}
 use Rattle.wit_graph.proofs.Tables.{slice_get-take}
-use Rattle.wit_syntax.specs.Bodies.{folded, CanBeKey, IsKey, IsInvalidKey, IsSecond, IsEmpty, IsFlagTooMany, IsDuplicateName, AreBroken, IsBrokenList}
+use Rattle.wit_syntax.specs.Bodies.{folded, CanBeKey, IsKey, IsInvalidKey, IsSecond, IsSecondIn, IsEmpty, IsFlagTooMany, IsDuplicateName, AreBroken, IsBrokenList}
 use Rattle.wit_syntax.specs.Broken.{Refused}
-use Rattle.wit_syntax.specs.Fault.{Fault, fault}
+use Rattle.wit_syntax.specs.Fault.{Fault, fault, fault_in, item_twice, name_twice, top_twice}
+use Rattle.wit_syntax.specs.Words.{clash}
 use Rattle.wit_syntax.specs.Metadata.{IsTwice, IsBrokenStability, IsBrokenMetadata, SinceTwice, DeprecatedTwice, UnstableTwice, SinceAndUnstable, DeprecatedAlone}
 use Rattle.wit_syntax.specs.Repeats.{AllDiffer}
 use Rattle.wit_syntax.specs.Source.{TopName, top_text, top_names, Item, item_name, all_items, about}
-use Rattle.wit_syntax.proofs.Found.{at_contains, contains_at}
+use Rattle.wit_syntax.proofs.Found.{at_contains, contains_at, find_at, find_passes, find_some}
 use Rattle.wit_syntax.proofs.Lists.{at_take, map_at}
 use Rattle.wit_syntax.proofs.Names.{name_equal, name_itself}
 use Rattle.wit_first.specs.AttributeFaults.{number_of, repeat_fault, counted_fault, each_once_fault, kinds_fault, together_fault, stability_fault, external_fault, metadata_fault}
-use Rattle.wit_first.specs.First.{first_in, first_after, Reports, repeat_of, first_repeat}
+use Rattle.wit_first.specs.First.{first_in, first_after, Reports, repeat_of, first_repeat, clash_of, first_clash}
 use Rattle.wit_first.specs.KeyFaults.{can_be_key, is_key, key_fault}
 use Rattle.wit_first.specs.Laws.{Agrees}
-use Rattle.wit_first.specs.ListFaults.{empty_fault, names_fault, flag_fault, members_fault, flags_fault, list_fault}
+use Rattle.wit_first.specs.ListFaults.{empty_fault, clash_fault, names_fault, flag_fault, members_fault, flags_fault, list_fault}
 use Rattle.wit_first.specs.NameFaults.{item_names_fault, top_names_fault, local_names_fault}
 use Rattle.wit_first.proofs.First.{any_some}
 
@@ -277,23 +278,69 @@ repeat_differs key as_fault xs none = record {
         repeat_unbroken key as_fault xs none (as_fault later.0) (later.0, (i, j, before, earlier.0, earlier.1, later.1, earlier.2 ∙ sym later.2), refl)
 
 -- names that repeat, spelled alike
-pub item_names_agree : (files : List PackageFile) → Agrees (item_names_fault files) (IsSecond item_name (λ (i : Item). fault 5 (about i.declared).id.span) (all_items files))
-item_names_agree files = repeat_agrees item_name (λ (i : Item). fault 5 (about i.declared).id.span) (all_items files)
+pub item_names_agree : (files : List PackageFile) → Agrees (item_names_fault files) (IsSecond item_name (λ (i : Item). item_twice (about i.declared).id) (all_items files))
+item_names_agree files = repeat_agrees item_name (λ (i : Item). item_twice (about i.declared).id) (all_items files)
 
 pub item_names_differ : (files : List PackageFile) → item_names_fault files ≡ None → AllDiffer (map item_name (all_items files))
-item_names_differ files none = repeat_differs item_name (λ (i : Item). fault 5 (about i.declared).id.span) (all_items files) none
+item_names_differ files none = repeat_differs item_name (λ (i : Item). item_twice (about i.declared).id) (all_items files) none
 
-pub top_names_agree : (file : PackageFile) → Agrees (top_names_fault file) (IsSecond top_text (λ (n : TopName). fault 6 n.id.span) (top_names file))
-top_names_agree file = repeat_agrees top_text (λ (n : TopName). fault 6 n.id.span) (top_names file)
+pub top_names_agree : (file : PackageFile) → Agrees (top_names_fault file) (IsSecond top_text (λ (n : TopName). top_twice n.id) (top_names file))
+top_names_agree file = repeat_agrees top_text (λ (n : TopName). top_twice n.id) (top_names file)
 
 pub local_names_differ : (ids : List Id) → local_names_fault ids ≡ None → AllDiffer (map (λ (id : Id). id.name.now) ids)
-local_names_differ ids none = repeat_differs (λ (id : Id). id.name.now) (λ (id : Id). fault 14 id.span) ids none
+local_names_differ ids none = repeat_differs (λ (id : Id). id.name.now) (λ (id : Id). name_twice id) ids none
 
--- or once case is folded
-pub names_agree : (names : List Id) → Agrees (names_fault names) (IsDuplicateName names)
-names_agree names = record {
-  broken = repeat_broken (λ (id : Id). folded id.name.now) (λ (id : Id). fault 25 id.span) names;
-  unbroken = repeat_unbroken (λ (id : Id). folded id.name.now) (λ (id : Id). fault 25 id.span) names;
+-- or once case is folded: the fault is made of both
+clash_some : {X : Type 0} (key : X → List ℕ) (as_fault : X → X → Fault) (before : List X) (x : X) (f : Fault) → clash_of key as_fault before x ≡ Some f → (y : X) × (find (λ z. bytes_eq (key z) (key x)) before ≡ Some y) × (f ≡ as_fault y x)
+clash_some {X} key as_fault before x f h = by (find (λ z. bytes_eq (key z) (key x)) before) refl
+  where
+    by : (o : Option X) → find (λ z. bytes_eq (key z) (key x)) before ≡ o → (y : X) × (find (λ z. bytes_eq (key z) (key x)) before ≡ Some y) × (f ≡ as_fault y x)
+    by None is = (let wrong : None ≡ Some f = rw is at h in let g : ⊥ = cc in absurd g)
+    by (Some y) is = (y, is, (let own : Some (as_fault y x) ≡ Some f = rw is at h in cc))
+
+pub clash_broken : {X : Type 0} (key : X → List ℕ) (as_stated : X → List ℕ → Fault) (words : X → X → List ℕ) (xs : List X) (f : Fault) → first_clash key (λ y x. as_stated x (words y x)) xs ≡ Some f → IsSecondIn key as_stated xs f
+clash_broken key as_stated words xs f h =
+    let it = after_some (clash_of key (λ y x. as_stated x (words y x))) [] xs f h in
+    let own = clash_some key (λ y x. as_stated x (words y x)) (take it.0 xs) it.1 f it.3 in
+    let found = find_at (λ z. bytes_eq (key z) (key it.1)) (take it.0 xs) own.0 own.1 in
+    let there = at_take xs it.0 found.0 own.0 found.1 in
+    (words own.0 it.1, (it.1, (found.0, it.0, there.1, own.0, there.0, it.2, name_equal (key own.0) (key it.1) (find_passes (λ z. bytes_eq (key z) (key it.1)) (take it.0 xs) own.0 own.1)), own.2))
+
+pub clash_unbroken : {X : Type 0} (key : X → List ℕ) (as_stated : X → List ℕ → Fault) (as_fault : X → X → Fault) (xs : List X) → first_clash key as_fault xs ≡ None → (f : Fault) → IsSecondIn key as_stated xs f → ⊥
+clash_unbroken {X} key as_stated as_fault xs none f s =
+    let later = s.1.0 in
+    let r = s.1.1 in
+    let own : clash_of key as_fault (take r.1 xs) later ≡ None = after_only (clash_of key as_fault) [] xs none r.1 later r.5 in
+    let found = find_some (λ y. bytes_eq (key y) (key later)) (take r.1 xs) r.0 r.3 (slice_get-take xs r.1 r.0 r.2 ∙ r.4) (ap (λ k. bytes_eq k (key later)) r.6 ∙ name_itself (key later)) in
+    let wrong : Some (as_fault found.0 later) ≡ None = rw found.1 at own in
+    (let g : ⊥ = cc in g)
+
+-- so it repeats one, in those words
+pub clash_repeat : {X : Type 0} (key : X → List ℕ) (as_stated : X → List ℕ → Fault) (words : X → X → List ℕ) (before : List X) (x : X) (f : Fault) → clash_of key (λ y z. as_stated z (words y z)) before x ≡ Some f → (w : List ℕ) × (repeat_of key (λ z. as_stated z w) before x ≡ Some f)
+clash_repeat key as_stated words before x f h =
+    let own = clash_some key (λ y z. as_stated z (words y z)) before x f h in
+    let found = find_at (λ z. bytes_eq (key z) (key x)) before own.0 own.1 in
+    let any : list_any (λ z. bytes_eq (key z) (key x)) before ≡ true = any_some (λ z. bytes_eq (key z) (key x)) before found.0 own.0 found.1 (find_passes (λ z. bytes_eq (key z) (key x)) before own.0 own.1) in
+    (words own.0 x, rw any (ap Some (sym own.2)))
+
+pub clash_differs : {X : Type 0} (key : X → List ℕ) (as_fault : X → X → Fault) (xs : List X) → first_clash key as_fault xs ≡ None → AllDiffer (map key xs)
+clash_differs key as_fault xs none = record {
+  differ = λ i j k at_i at_j. (
+      let one = twice i j k at_i at_j in
+      let other = twice j i k at_j at_i in
+      omega arith);
+}
+  where
+    twice : (i j : ℕ) (k : List ℕ) → slice_get (map key xs) i ≡ Some k → slice_get (map key xs) j ≡ Some k → i < j → ⊥
+    twice i j k at_i at_j before =
+        let earlier = map_at key xs i k at_i in
+        let later = map_at key xs j k at_j in
+        clash_unbroken key (λ x w. as_fault x x) as_fault xs none (as_fault later.0 later.0) ([], (later.0, (i, j, before, earlier.0, earlier.1, later.1, earlier.2 ∙ sym later.2), refl))
+
+pub names_agree : (desc : List ℕ) (names : List Id) → Agrees (names_fault desc names) (IsDuplicateName names)
+names_agree desc names = record {
+  broken = clash_broken (λ (id : Id). folded id.name.now) (λ (id : Id) (words : List ℕ). fault_in 25 id.span words) (λ (y : Id) (x : Id). clash desc y.name.now x.name.now) names;
+  unbroken = clash_unbroken (λ (id : Id). folded id.name.now) (λ (id : Id) (words : List ℕ). fault_in 25 id.span words) (clash_fault desc) names;
 }
 
 -- lists that are empty
@@ -309,56 +356,56 @@ pub empty_agrees : {X : Type 0} (number : ℕ) (xs : List X) (span : Span) → A
 empty_agrees number xs span = record { broken = empty_broken number xs span; unbroken = empty_unbroken number xs span }
 
 -- fields and cases
-members_broken : {X : Type 0} (number : ℕ) (name : X → Id) (span : Span) (xs : List X) (f : Fault) → members_fault number name span xs ≡ Some f → AreBroken number name xs span f
-members_broken number name span xs f h = elim (or_some (empty_fault number xs span) (names_fault (map name xs)) f h) [
+members_broken : {X : Type 0} (number : ℕ) (desc : List ℕ) (name : X → Id) (span : Span) (xs : List X) (f : Fault) → members_fault number desc name span xs ≡ Some f → AreBroken number name xs span f
+members_broken number desc name span xs f h = elim (or_some (empty_fault number xs span) (names_fault desc (map name xs)) f h) [
   | inl empty ↦ inl (empty_broken number xs span f empty)
-  | inr far ↦ inr ((names_agree (map name xs)).broken f far.1)
+  | inr far ↦ inr ((names_agree desc (map name xs)).broken f far.1)
 ]
 
-members_unbroken : {X : Type 0} (number : ℕ) (name : X → Id) (span : Span) (xs : List X) → members_fault number name span xs ≡ None → (f : Fault) → AreBroken number name xs span f → ⊥
-members_unbroken number name span xs none f broken =
-    let both = or_none_both (empty_fault number xs span) (names_fault (map name xs)) none in
+members_unbroken : {X : Type 0} (number : ℕ) (desc : List ℕ) (name : X → Id) (span : Span) (xs : List X) → members_fault number desc name span xs ≡ None → (f : Fault) → AreBroken number name xs span f → ⊥
+members_unbroken number desc name span xs none f broken =
+    let both = or_none_both (empty_fault number xs span) (names_fault desc (map name xs)) none in
     elim broken [
       | inl empty ↦ empty_unbroken number xs span both.0 f empty
-      | inr repeat ↦ (names_agree (map name xs)).unbroken both.1 f repeat
+      | inr repeat ↦ (names_agree desc (map name xs)).unbroken both.1 f repeat
     ]
 
 -- flags
 flags_broken : (span : Span) (flags : List Flag) (f : Fault) → flags_fault span flags ≡ Some f → AreBroken 20 (λ (x : Flag). x.name) flags span f ⊎ IsFlagTooMany flags f
-flags_broken span flags f h = elim (or_some (empty_fault 20 flags span) (option_or (flag_fault flags) (names_fault (map (λ (x : Flag). x.name) flags))) f h) [
+flags_broken span flags f h = elim (or_some (empty_fault 20 flags span) (option_or (flag_fault flags) (names_fault (codes "flag") (map (λ (x : Flag). x.name) flags))) f h) [
   | inl empty ↦ inl (inl (empty_broken 20 flags span f empty))
-  | inr far ↦ elim (or_some (flag_fault flags) (names_fault (map (λ (x : Flag). x.name) flags)) f far.1) [
+  | inr far ↦ elim (or_some (flag_fault flags) (names_fault (codes "flag") (map (λ (x : Flag). x.name) flags)) f far.1) [
     | inl many ↦ inr many
-    | inr names ↦ inl (inr ((names_agree (map (λ (x : Flag). x.name) flags)).broken f names.1))
+    | inr names ↦ inl (inr ((names_agree (codes "flag") (map (λ (x : Flag). x.name) flags)).broken f names.1))
   ]
 ]
 
 flags_unbroken : (span : Span) (flags : List Flag) → flags_fault span flags ≡ None → (f : Fault) → AreBroken 20 (λ (x : Flag). x.name) flags span f ⊎ IsFlagTooMany flags f → ⊥
 flags_unbroken span flags none f broken =
-    let both = or_none_both (empty_fault 20 flags span) (option_or (flag_fault flags) (names_fault (map (λ (x : Flag). x.name) flags))) none in
-    let rest = or_none_both (flag_fault flags) (names_fault (map (λ (x : Flag). x.name) flags)) both.1 in
+    let both = or_none_both (empty_fault 20 flags span) (option_or (flag_fault flags) (names_fault (codes "flag") (map (λ (x : Flag). x.name) flags))) none in
+    let rest = or_none_both (flag_fault flags) (names_fault (codes "flag") (map (λ (x : Flag). x.name) flags)) both.1 in
     elim broken [
       | inl are ↦ elim are [
         | inl empty ↦ empty_unbroken 20 flags span both.0 f empty
-        | inr repeat ↦ (names_agree (map (λ (x : Flag). x.name) flags)).unbroken rest.1 f repeat
+        | inr repeat ↦ (names_agree (codes "flag") (map (λ (x : Flag). x.name) flags)).unbroken rest.1 f repeat
       ]
       | inr many ↦ none-some f (sym rest.0 ∙ many)
     ]
 
 -- the list in the body of a definition
 list_broken : (b : TypeBody) (f : Fault) → list_fault b ≡ Some f → IsBrokenList b f
-list_broken (body.Record span fields) f h = members_broken 19 (λ (x : Field). x.name) span fields.items f h
+list_broken (body.Record span fields) f h = members_broken 19 (codes "field") (λ (x : Field). x.name) span fields.items f h
 list_broken (body.Flags span flags) f h = flags_broken span flags.items f h
-list_broken (body.Variant span cases) f h = members_broken 23 (λ (x : Case). x.name) span cases.items f h
-list_broken (body.Enum span cases) f h = members_broken 24 (λ (x : EnumCase). x.name) span cases.items f h
+list_broken (body.Variant span cases) f h = members_broken 23 (codes "case") (λ (x : Case). x.name) span cases.items f h
+list_broken (body.Enum span cases) f h = members_broken 24 (codes "case") (λ (x : EnumCase). x.name) span cases.items f h
 list_broken (body.Resource fns) f h = absurd (let g : ⊥ = cc in g)
 list_broken (body.Plain t) f h = absurd (let g : ⊥ = cc in g)
 
 list_unbroken : (b : TypeBody) → list_fault b ≡ None → (f : Fault) → IsBrokenList b f → ⊥
-list_unbroken (body.Record span fields) none f broken = members_unbroken 19 (λ (x : Field). x.name) span fields.items none f broken
+list_unbroken (body.Record span fields) none f broken = members_unbroken 19 (codes "field") (λ (x : Field). x.name) span fields.items none f broken
 list_unbroken (body.Flags span flags) none f broken = flags_unbroken span flags.items none f broken
-list_unbroken (body.Variant span cases) none f broken = members_unbroken 23 (λ (x : Case). x.name) span cases.items none f broken
-list_unbroken (body.Enum span cases) none f broken = members_unbroken 24 (λ (x : EnumCase). x.name) span cases.items none f broken
+list_unbroken (body.Variant span cases) none f broken = members_unbroken 23 (codes "case") (λ (x : Case). x.name) span cases.items none f broken
+list_unbroken (body.Enum span cases) none f broken = members_unbroken 24 (codes "case") (λ (x : EnumCase). x.name) span cases.items none f broken
 list_unbroken (body.Resource fns) none f broken = broken
 list_unbroken (body.Plain t) none f broken = broken
 

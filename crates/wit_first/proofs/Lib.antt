@@ -1,4 +1,5 @@
 pub mod First
+pub mod Clashes
 pub mod Bridge
 pub mod FunctionFaults
 pub mod FileFaults

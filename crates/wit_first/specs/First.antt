@@ -1,7 +1,7 @@
 -- The first fault, in the order in which faults are looked for.
-use Rattle.std.specs.Prelude.{◌≡◌, ◌⊎◌, ℕ, if◌then◌else◌, List, [], ◌∷◌, ◌++◌, map, take, Option, Some, None, Result, MatchResult}
+use Rattle.std.specs.Prelude.{◌≡◌, ◌⊎◌, ℕ, if◌then◌else◌, List, [], ◌∷◌, ◌++◌, map, take, find, Option, Some, None, Result, MatchResult}
 use Rattle.std.specs.List.{list_any}
-use Rattle.std.specs.Option.{option_or}
+use Rattle.std.specs.Option.{option_map, option_or}
 use Rattle.std.specs.Str.{bytes_eq}
 use Rattle.wit_type_tree.specs.declared.error.ParseError.{ParseError}
 use Rattle.wit_type_tree.specs.RefusalText.{IsAllocationFailure}
@@ -39,6 +39,10 @@ FindsBy IsFirst r = MatchResult r (λ _. IsFirst None) (λ e. IsAllocationFailur
 abbrev pub repeat_of : {X : Type 0} → (X → List ℕ) → (X → Fault) → List X → X → Option Fault
 repeat_of key as_fault before x = if list_any (λ y. bytes_eq (key y) (key x)) before then Some (as_fault x) else None
 
+-- the same, where the fault is made of both: the earlier one is the first that has the key
+abbrev pub clash_of : {X : Type 0} → (X → List ℕ) → (X → X → Fault) → List X → X → Option Fault
+clash_of key as_fault before x = option_map (λ y. as_fault y x) (find (λ y. bytes_eq (key y) (key x)) before)
+
 -- the place of the first item that has, if one has
 abbrev pub IsFirstRepeat : {X : Type 0} → (X → List ℕ) → List X → Option ℕ → Type 0
 IsFirstRepeat key xs None = AllDiffer (map key xs)
@@ -47,3 +51,6 @@ IsFirstRepeat key xs (Some place) = (first : ℕ) × IsRepeatAt (map key xs) fir
 -- the first item that has
 abbrev pub first_repeat : {X : Type 0} → (X → List ℕ) → (X → Fault) → List X → Option Fault
 first_repeat key as_fault xs = first_after (repeat_of key as_fault) [] xs
+
+abbrev pub first_clash : {X : Type 0} → (X → List ℕ) → (X → X → Fault) → List X → Option Fault
+first_clash key as_fault xs = first_after (clash_of key as_fault) [] xs

@@ -7,13 +7,14 @@ use Rattle.wit_tree.specs.declared.tree.PackageFile.{PackageFile}
 use Rattle.wit_tree.specs.declared.tree.SourceFile.{SourceFile}
 use Rattle.wit_syntax.specs.Address.{package_of, same_package}
 use Rattle.wit_syntax.specs.Broken.{headers, last_header}
-use Rattle.wit_syntax.specs.Fault.{Fault, fault}
+use Rattle.wit_syntax.specs.Fault.{Fault, fault, fault_in}
+use Rattle.wit_syntax.specs.Words.{mismatch}
 
 -- a header names another package than the one before it
 abbrev pub other_fault : Option Header → Option Header → Option Fault
 other_fault None own = None
 other_fault (Some before) None = None
-other_fault (Some before) (Some own) = if same_package (package_of before) (package_of own) then None else Some (fault 1 own.span)
+other_fault (Some before) (Some own) = if same_package (package_of before) (package_of own) then None else Some (fault_in 1 own.span (mismatch (package_of own) (package_of before)))
 
 -- whether a header has docs, and whether one of some has
 abbrev pub is_documented : Header → Bool

@@ -1,5 +1,5 @@
 -- The first fault of fields, flags and cases: E19 to E21 and E23 to E25.
-use Rattle.std.specs.Prelude.{ℕ, List, [], ◌∷◌, map, Option, None, Some, slice_get}
+use Rattle.std.specs.Prelude.{ℕ, List, [], ◌∷◌, map, Option, None, Some, codes, slice_get}
 use Rattle.std.specs.Option.{option_map, option_or}
 use Rattle.wit_values.specs.declared.span.Span.{Span}
 use Rattle.wit_type_tree.specs.declared.leaves.Id.{Id}
@@ -10,34 +10,39 @@ use Rattle.wit_type_tree.specs.declared.types.EnumCase.{EnumCase}
 use Rattle.wit_type_tree.specs.declared.types.TypeBody.{TypeBody}
 use Rattle.wit_type_tree.specs.declared.types.TypeBody.TheVariants.{Record, Flags, Variant, Enum}
 use Rattle.wit_syntax.specs.Bodies.{folded}
-use Rattle.wit_syntax.specs.Fault.{Fault, fault}
-use Rattle.wit_first.specs.First.{first_repeat}
+use Rattle.wit_syntax.specs.Fault.{Fault, fault, fault_in}
+use Rattle.wit_syntax.specs.Words.{clash}
+use Rattle.wit_first.specs.First.{first_clash}
 
 -- a list is empty: the fault of this number
 abbrev pub empty_fault : {X : Type 0} → ℕ → List X → Span → Option Fault
 empty_fault number [] span = Some (fault number span)
 empty_fault number (x ∷ xs) span = None
 
--- the first name that an earlier one is, once case is folded
-abbrev pub names_fault : List Id → Option Fault
-names_fault names = first_repeat (λ (id : Id). folded id.name.now) (λ (id : Id). fault 25 id.span) names
+-- a name is an earlier one, once case is folded: `desc` says what they are names of
+abbrev pub clash_fault : List ℕ → Id → Id → Fault
+clash_fault desc earlier later = fault_in 25 later.span (clash desc earlier.name.now later.name.now)
+
+-- the first name that is
+abbrev pub names_fault : List ℕ → List Id → Option Fault
+names_fault desc names = first_clash (λ (id : Id). folded id.name.now) (clash_fault desc) names
 
 -- the thirty-third flag
 abbrev pub flag_fault : List Flag → Option Fault
 flag_fault flags = option_map (λ (flag : Flag). fault 21 flag.name.span) (slice_get flags 32)
 
 -- the first fault of fields or cases: there is none of them, and then a name that repeats
-abbrev pub members_fault : {X : Type 0} → ℕ → (X → Id) → Span → List X → Option Fault
-members_fault number name span xs = option_or (empty_fault number xs span) (names_fault (map name xs))
+abbrev pub members_fault : {X : Type 0} → ℕ → List ℕ → (X → Id) → Span → List X → Option Fault
+members_fault number desc name span xs = option_or (empty_fault number xs span) (names_fault desc (map name xs))
 
 -- of flags: there is none of them, then one too many, and then a name that repeats
 abbrev pub flags_fault : Span → List Flag → Option Fault
-flags_fault span flags = option_or (empty_fault 20 flags span) (option_or (flag_fault flags) (names_fault (map (λ (x : Flag). x.name) flags)))
+flags_fault span flags = option_or (empty_fault 20 flags span) (option_or (flag_fault flags) (names_fault (codes "flag") (map (λ (x : Flag). x.name) flags)))
 
 -- of the list in the body of a definition
 abbrev pub list_fault : TypeBody → Option Fault
-list_fault (Record span fields) = members_fault 19 (λ (x : Field). x.name) span fields.items
+list_fault (Record span fields) = members_fault 19 (codes "field") (λ (x : Field). x.name) span fields.items
 list_fault (Flags span flags) = flags_fault span flags.items
-list_fault (Variant span cases) = members_fault 23 (λ (x : Case). x.name) span cases.items
-list_fault (Enum span cases) = members_fault 24 (λ (x : EnumCase). x.name) span cases.items
+list_fault (Variant span cases) = members_fault 23 (codes "case") (λ (x : Case). x.name) span cases.items
+list_fault (Enum span cases) = members_fault 24 (codes "case") (λ (x : EnumCase). x.name) span cases.items
 list_fault _ = None

@@ -1,5 +1,6 @@
 -- What comes before the arenas, while it is made.
-use Rattle.std.specs.Prelude.{◌≡◌, ℕ, suc, List, [], ◌∷◌, ◌++◌, not, None, map, if◌then◌else◌}
+use Rattle.std.specs.Prelude.{◌≡◌, ℕ, suc, List, [], ◌∷◌, ◌++◌, not, None, All, Vec, map, if◌then◌else◌}
+use Rattle.std.specs.declared.alloc.Global.{Global}
 use Rattle.std.specs.List.{filter, flat_map}
 use Rattle.wit_values.specs.declared.span.Span.{Span}
 use Rattle.wit_tree.specs.declared.tree.PackageFile.{PackageFile}
@@ -11,17 +12,21 @@ use Rattle.wit_model.specs.declared.ast_item.AstItem.TheVariants as entry
 use Rattle.wit_model.specs.declared.interface.Interface.{Interface}
 use Rattle.wit_model.specs.declared.world.World.{World}
 use Rattle.wit_syntax.specs.Address.{Address, same_address, is_foreign}
-use Rattle.wit_syntax.specs.Source.{ScopeName, Used, Defined, ForeignName, ForeignUse, use_of_foreign, same_foreign_use, first_foreign_uses}
+use Rattle.wit_syntax.specs.Source.{ScopeName, Used, Defined, ForeignName, ForeignUse, all_items, scope_names, use_of_foreign, same_foreign_use, first_foreign_uses}
 use Rattle.wit_syntax.specs.Metadata.{metadata, no_docs}
 use Rattle.wit_syntax.specs.Repeats.{AllDiffer, firsts}
 use Rattle.wit_syntax.specs.Foreign.{ForeignVisit, visited, foreign_items}
 use Rattle.wit_arena.specs.Whole.{foreign_entry, owner_at}
 use Rattle.wit_arena.specs.Resolving.{Names, named}
 use Rattle.wit_arena.specs.ResolvedArenas.{AddsForeign}
+use Rattle.wit_tree.specs.declared.tree.WorldSide.{WorldSide}
 use Rattle.wit_tree.specs.declared.tree.WorldSide.TheVariants.{Imported, Exported}
 use Rattle.wit_items.specs.declared.items.Item.{Item as BorrowedItem}
+use Rattle.wit_scopes.specs.BorrowedNames.{Borrowed, name_view}
+use Rattle.wit_scopes.specs.PlacedNames.{AreNamesPlaced}
 use Rattle.wit_items.specs.BorrowedItems.{names_view}
-use Rattle.wit_items.specs.InlineNames.{inside_view}
+use Rattle.wit_items.specs.PlacedItems.{AreItemsPlaced}
+use Rattle.wit_items.specs.InlineNames.{inside_view, names_written}
 use Rattle.wit_front.specs.declared.foreign.ForeignArenas.{ForeignArenas}
 
 -- an interface of another package with these types
@@ -102,8 +107,24 @@ pub record HasUsed (types : List TypeDef) (a : ForeignArenas) (Placed : List Add
   pub in_use : AreAdded vs ts types a
   pub placed : Placed (addresses_among vs)
 
+-- the names of what is written in items are placed, and what they use of other packages
+abbrev pub ArePlacedInside : List Address → List (Vec Borrowed Global) → Type 0
+ArePlacedInside prefix inside = All (λ ns. AreNamesPlaced prefix ns.items) inside
+
+abbrev pub inside_uses : List (Vec Borrowed Global) → List ForeignUse
+inside_uses inside = flat_map names_foreign_uses (map (λ ns. map name_view ns.items) inside)
+
+-- these names are added to those that were used from some items, which are apart, where what is at hand is placed
+abbrev pub AddsUsed : (old : List TypeDef) (before : ForeignArenas) (new : List TypeDef) (after : ForeignArenas) → (List Address → Type 0) → List ForeignUse → Type 0
+AddsUsed old before new after Placed uses = (vs : List ForeignVisit) (ts : List ForeignUse) → AreApart vs → Placed (addresses_among vs) → AreAdded vs ts old before → AreAdded vs (ts ++ uses) new after
+
 -- what files name of other packages comes before the arenas
 pub record IsPrefix (files : List PackageFile) (types : List TypeDef) (a : ForeignArenas) : Type 0 where
   pub adds : AddsForeign files types a.interfaces a.worlds
   pub entries : a.entries.items ≡ map (foreign_entry files) (foreign_items files)
   pub spans : a.spans.items ≡ map (λ t. t.id.span) (first_foreign_uses files)
+
+-- what files use of other packages is added to the items of these, where the names of their own, which these are, are placed
+abbrev pub AddsPrefix : (old : List TypeDef) (before : ForeignArenas) (new : List TypeDef) (after : ForeignArenas) → List BorrowedItem → Type 0
+AddsPrefix old before new after items = (files : List PackageFile) → AreAdded (foreign_items files) [] old before → AreItemsPlaced (addresses_among (foreign_items files)) items
+    → map names_view items ≡ map scope_names (all_items files) → ((side : WorldSide) → map (inside_view side) items ≡ map (names_written side) (all_items files)) → IsPrefix files new after

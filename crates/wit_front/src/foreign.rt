@@ -1,22 +1,18 @@
 //! What other packages' items put before the arenas.
-ghost use Rattle.std.specs.Prelude.{◌≡◌, ◌++◌, ◌∷◌, ◌<◌, All, List, [], Some, true, false, length, map, nat_eq, slice_get, IfOk, IfErr, OnOk};
-ghost use Rattle.std.specs.List.{flat_map};
+ghost use Rattle.std.specs.Prelude.{◌≡◌, ◌++◌, ◌∷◌, ◌<◌, List, [], Some, true, false, length, map, nat_eq, slice_get, IfOk, IfErr, OnOk};
 ghost use Rattle.std.specs.Cmp.Lexicographic.{pointwise};
 ghost use Rattle.indexmap.specs.IndexMap.{insert_entry};
 ghost use Rattle.wit_tree.specs.declared.tree.PackageFile.{PackageFile as TheFile};
-ghost use Rattle.wit_tree.specs.declared.tree.WorldSide.{WorldSide as TheSide};
 ghost use Rattle.wit_type_tree.specs.RefusalText.{IsAllocationFailure};
 ghost use Rattle.wit_syntax.specs.Address.{Address};
-ghost use Rattle.wit_syntax.specs.Source.{all_items, scope_names, ForeignUse, use_of_foreign};
+ghost use Rattle.wit_syntax.specs.Source.{use_of_foreign};
 ghost use Rattle.wit_syntax.specs.Foreign.{ForeignVisit as TheVisit, foreign_items};
 ghost use Rattle.wit_arena.specs.Whole.{foreign_entry};
 ghost use Rattle.wit_files.specs.ForeignPaths.{foreign_view};
 ghost use Rattle.wit_scopes.specs.BorrowedNames.{name_view};
-ghost use Rattle.wit_items.specs.BorrowedItems.{names_view};
-ghost use Rattle.wit_items.specs.InlineNames.{inside_view, names_written};
 ghost use Rattle.wit_scopes.specs.PlacedNames.{IsNamePlaced, AreNamesPlaced};
 ghost use Rattle.wit_items.specs.PlacedItems.{AreItemsPlaced};
-ghost use Rattle.wit_front.specs.ForeignPrefix.{interface_with, with_types, bare_world, addresses_among, AreAdded, AreApart, HasUsed, name_foreign_uses, names_foreign_uses, borrowed_foreign_uses, IsPrefix};
+ghost use Rattle.wit_front.specs.ForeignPrefix.{AddsPrefix, AddsUsed, ArePlacedInside, inside_uses, interface_with, with_types, bare_world, AreAdded, HasUsed, name_foreign_uses, names_foreign_uses, borrowed_foreign_uses};
 
 use std::alloc::{AllocError, Global};
 use wit_entries::entries::Entries;
@@ -173,7 +169,7 @@ impl ForeignArenas {
         name: &UseName<'_>,
     ) -> ParseResult<()>
         requires within { place < length self.old.interfaces }
-        ensures in_use { OnOk result ((vs : List TheVisit) (ts : List ForeignUse) (s : Address) → AreApart vs → slice_get (addresses_among vs) place ≡ Some s → AreAdded vs ts types.old self.old → AreAdded vs (ts ++ use_of_foreign s attributes.now name.now ∷ []) types.new self.new) }
+        ensures in_use { OnOk result ((s : Address) → AddsUsed types.old self.old types.new self.new (λ p. slice_get p place ≡ Some s) (use_of_foreign s attributes.now name.now ∷ [])) }
         ensures refused { IfErr result IsAllocationFailure }
     {
         let used = name.name;
@@ -200,7 +196,7 @@ impl ForeignArenas {
         name: &ScopeName<'_, '_>,
     ) -> ParseResult<()>
         requires { HasUsed types.old self.old (λ prefix. IsNamePlaced prefix name.now) }
-        ensures in_use { OnOk result ((vs : List TheVisit) (ts : List ForeignUse) → AreApart vs → IsNamePlaced (addresses_among vs) name.now → AreAdded vs ts types.old self.old → AreAdded vs (ts ++ name_foreign_uses (name_view name.now)) types.new self.new) }
+        ensures in_use { OnOk result (AddsUsed types.old self.old types.new self.new (λ p. IsNamePlaced p name.now) (name_foreign_uses (name_view name.now))) }
         ensures refused { IfErr result IsAllocationFailure }
     {
         if let ScopeName::Used(used) = name {
@@ -221,7 +217,7 @@ impl ForeignArenas {
         names: &[ScopeName<'_, '_>],
     ) -> ParseResult<()>
         requires { HasUsed types.old self.old (λ prefix. AreNamesPlaced prefix names.now) }
-        ensures in_use { OnOk result ((vs : List TheVisit) (ts : List ForeignUse) → AreApart vs → AreNamesPlaced (addresses_among vs) names.now → AreAdded vs ts types.old self.old → AreAdded vs (ts ++ names_foreign_uses (map name_view names.now)) types.new self.new) }
+        ensures in_use { OnOk result (AddsUsed types.old self.old types.new self.new (λ p. AreNamesPlaced p names.now) (names_foreign_uses (map name_view names.now))) }
         ensures refused { IfErr result IsAllocationFailure }
     {
         for name in names {
@@ -239,8 +235,8 @@ impl ForeignArenas {
         types: &mut Entries,
         inside: &[Vec<ScopeName<'_, '_>>],
     ) -> ParseResult<()>
-        requires { HasUsed types.old self.old (λ prefix. All (λ ns. AreNamesPlaced prefix ns.items) inside.now) }
-        ensures in_use { OnOk result ((vs : List TheVisit) (ts : List ForeignUse) → AreApart vs → All (λ ns. AreNamesPlaced (addresses_among vs) ns.items) inside.now → AreAdded vs ts types.old self.old → AreAdded vs (ts ++ flat_map names_foreign_uses (map (λ ns. map name_view ns.items) inside.now)) types.new self.new) }
+        requires { HasUsed types.old self.old (λ prefix. ArePlacedInside prefix inside.now) }
+        ensures in_use { OnOk result (AddsUsed types.old self.old types.new self.new (λ p. ArePlacedInside p inside.now) (inside_uses inside.now)) }
         ensures refused { IfErr result IsAllocationFailure }
     {
         for names in inside {
@@ -260,7 +256,7 @@ impl ForeignArenas {
         item: &Item<'_, '_>,
     ) -> ParseResult<()>
         requires { HasUsed types.old self.old (λ prefix. AreItemsPlaced prefix (item.now ∷ [])) }
-        ensures in_use { OnOk result ((vs : List TheVisit) (ts : List ForeignUse) → AreApart vs → AreItemsPlaced (addresses_among vs) (item.now ∷ []) → AreAdded vs ts types.old self.old → AreAdded vs (ts ++ borrowed_foreign_uses item.now) types.new self.new) }
+        ensures in_use { OnOk result (AddsUsed types.old self.old types.new self.new (λ p. AreItemsPlaced p (item.now ∷ [])) (borrowed_foreign_uses item.now)) }
         ensures refused { IfErr result IsAllocationFailure }
     {
         self.take_names(alloc, types, &item.names)?;
@@ -279,7 +275,7 @@ impl ForeignArenas {
         items: &[Item<'_, '_>],
     ) -> ParseResult<()>
         requires { HasUsed types.old self.old (λ prefix. AreItemsPlaced prefix items.now) }
-        ensures in_use { OnOk result ((files : List TheFile) → AreAdded (foreign_items files) [] types.old self.old → AreItemsPlaced (addresses_among (foreign_items files)) items.now → map names_view items.now ≡ map scope_names (all_items files) → ((side : TheSide) → map (inside_view side) items.now ≡ map (names_written side) (all_items files)) → IsPrefix files types.new self.new) }
+        ensures in_use { OnOk result (AddsPrefix types.old self.old types.new self.new items.now) }
         ensures refused { IfErr result IsAllocationFailure }
     {
         for item in items {

@@ -1,7 +1,6 @@
 -- Keys that differ still do once setters are placed in turn.
 use Rattle.std.specs.Prelude.{⊤}
-use Rattle.std.proofs.Common.{◌≡◌, ℕ, zero, suc, List, [], ◌∷◌, Option, Some, None, Bool, insert, sym, ap, ◌∙◌}
-use Rattle.std.specs.Prelude.{slice_get}
+use Rattle.std.proofs.Common.{◌≡◌, ℕ, zero, suc, List, [], ◌∷◌, Option, Some, None, Bool, insert, sym}
 use Rattle.std.specs.List.{position_from}
 use Rattle.wit_functions.proofs.InTurn.{in_turn, put_at}
 

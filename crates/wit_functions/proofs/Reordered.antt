@@ -2,13 +2,12 @@
 use Rattle.std.specs.Prelude.{⊤}
 use Rattle.std.proofs.Common.{◌≡◌, ℕ, zero, suc, ◌+◌, ◌<◌, ◌≤◌, ◌++◌, ◌||◌, Bool, List, [], ◌∷◌, Option, Some, None, nat_eq, insert, length, map, slice_get, take, take_all, refl, sym, ap, ◌∙◌, inl, inr, arith, subst}
 use Rattle.std.specs.List.{IsDistinct, enumerate_from, filter, flat_map, list_any, position_from}
-use Rattle.std.specs.Option.{option_and_then}
 use Rattle.std.specs.Cmp.Lexicographic.{pointwise}
 use Rattle.std.proofs.lemmas.Bool.{cases_Bool}
 use Rattle.std.proofs.lemmas.Option.{slice_get_within}
 use Rattle.wit_functions.specs.declared.function.Function.{Function}
 use Rattle.wit_functions.specs.Reordered.{IsOrder, Shows}
-use Rattle.wit_functions.specs.SettersPlaced.{HaveDistinctNames, early, goes_with, name_in, others, pairs, placed, setters_placed, stated_names, with_setters}
+use Rattle.wit_functions.specs.SettersPlaced.{HaveDistinctNames, early, goes_with, name_in, others, pairs, setters_placed, stated_names, with_setters}
 use Rattle.wit_functions.specs.MaybeFunction.{HaveOwnNames, goes}
 use Rattle.wit_functions.proofs.InTurn.{in_turn, put_at}
 use Rattle.wit_functions.proofs.Keys.{Differ, Lacks, differ-in_turn}

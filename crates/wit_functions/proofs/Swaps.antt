@@ -1,10 +1,9 @@
 -- Two elements of a list change places.
-use Rattle.std.proofs.Common.{◌≡◌, ℕ, zero, suc, ◌+◌, ◌++◌, ◌<◌, ◌≤◌, ◌⊎◌, List, [], ◌∷◌, Option, Some, None, get_or, length, swap, slice_get, slice_set, refl, sym, ap, ◌∙◌, inl, inr, arith, length-append}
+use Rattle.std.proofs.Common.{◌≡◌, ℕ, zero, suc, ◌+◌, ◌<◌, ◌≤◌, ◌⊎◌, List, [], ◌∷◌, Option, Some, get_or, length, swap, slice_get, slice_set, refl, sym, ap, ◌∙◌, inl, inr, arith}
 use Rattle.std.specs.Option.{option_and_then}
 use Rattle.std.proofs.lemmas.Option.{slice_get-get_or, slice_get_past, slice_get_cases, slice_get_within}
 use Rattle.std.proofs.lemmas.List.Edits.{length-swap}
-use Rattle.wit_types.proofs.Moving.{some_at}
-use Rattle.wit_functions.specs.Reordered.{AreBrought, AreFirst, ArePositions, IsExchange, IsOrder, Shows, TurnsBack}
+use Rattle.wit_functions.specs.Reordered.{AreBrought, ArePositions, IsExchange, IsOrder, Shows, TurnsBack}
 
 same_or_not : (m n : ℕ) → (m ≡ n) ⊎ (m ≡ n → ⊥)
 same_or_not m n = elim (three_ways m n) [
@@ -162,14 +161,6 @@ module _ (entries after : List ℕ) (place entry from : ℕ) (moved : IsExchange
     pub brought_next : AreBrought first (swap cur place from) order after (place + 1)
     brought_next = rw moved.exchanged (record { long = length-swap cur place from ∙ so_far.long; shown = shown_swapped; done = done_more })
 
--- before any is brought
-pub none_brought : {E : Type 0} (first : List E) (order entries : List ℕ) → AreFirst entries → length entries ≡ length first → AreBrought first first order entries 0
-none_brought first order entries firsts long = record { long = refl; shown = λ k. go k (slice_get_cases entries k).1; done = λ k lt. absurd (let f : ⊥ = omega (arith, lt) in f) }
-  where
-    go : (k : ℕ) → (((x : ℕ) × (k < length entries) × (slice_get entries k ≡ Some x) × (get_or entries k x ≡ x)) ⊎ ((length entries ≤ k) × (slice_get entries k ≡ None))) → slice_get first k ≡ option_and_then (slice_get first) (slice_get entries k)
-    go k (inl w) = ap (slice_get first) (sym (firsts k w.0 w.2)) ∙ ap (λ o. option_and_then (slice_get first) o) (sym w.2)
-    go k (inr w) = slice_get_past first k (omega (arith, w.0, long)) ∙ ap (λ o. option_and_then (slice_get first) o) (sym w.1)
-
 -- once all are brought
 pub all_brought : {E : Type 0} (first cur now : List E) (order entries : List ℕ) (n : ℕ) → IsOrder first order now → length order ≤ n → AreBrought first cur order entries n → length entries ≡ length first → cur ≡ now
 all_brought first cur now order entries n is end brought long = same_lists cur now (λ k. brought.shown k ∙ ap (λ o. option_and_then (slice_get first) o) (same k) ∙ sym (is.shows k))
@@ -179,42 +170,6 @@ all_brought first cur now order entries n is end brought long = same_lists cur n
       | inl w ↦ brought.done k (omega (arith, w.1, end))
       | inr w ↦ (let past : length entries ≤ k = omega (arith, w.0, long, is.all) in slice_get_past entries k past ∙ sym w.1)
     ]
-
--- one more place in its place
-pub first_more : (places : List ℕ) (n : ℕ) → length places ≡ n → AreFirst places → AreFirst (places ++ n ∷ [])
-first_more places n long firsts k w at = elim (same_or_not k (length places)) [
-  | inl here ↦ (let is : Some n ≡ Some w = sym (last places) ∙ ap (slice_get (places ++ n ∷ [])) (sym here) ∙ at in let same : n ≡ w = cc in omega (arith, same, here, long))
-  | inr not_last ↦ (
-      let in_all = slice_get_within (places ++ n ∷ []) k w at in
-      let all = length-append places (n ∷ []) in
-      let before : k < length places = grind (arith, in_all, all, not_last) in
-      firsts k w (sym (earlier places k before) ∙ at))
-]
-  where
-    last : (xs : List ℕ) → slice_get (xs ++ n ∷ []) (length xs) ≡ Some n
-    last [] = refl
-    last (x ∷ xs) = last xs
-
-    earlier : (xs : List ℕ) (k : ℕ) → k < length xs → slice_get (xs ++ n ∷ []) k ≡ slice_get xs k
-    earlier [] k lt = absurd (let f : ⊥ = omega (arith, lt) in f)
-    earlier (x ∷ xs) zero lt = refl
-    earlier (x ∷ xs) (suc k) lt = earlier xs k (omega (arith, lt))
-
--- where all are at their first places
-pub first_present : (n : ℕ) (entries places : List ℕ) → length entries ≡ n → length places ≡ n → AreFirst entries → AreFirst places → ArePositions n entries places
-first_present n entries places all_entries all_places of_entries of_places = record {
-  all_entries = all_entries;
-  all_places = all_places;
-  found = λ k w at. back entries places k w of_entries of_places (omega (arith, all_entries, all_places)) at;
-  kept = λ k w at. back places entries k w of_places of_entries (omega (arith, all_entries, all_places)) at;
-}
-  where
-    back : (xs ys : List ℕ) (k w : ℕ) → AreFirst xs → AreFirst ys → length xs ≤ length ys → slice_get xs k ≡ Some w → slice_get ys w ≡ Some k
-    back xs ys k w of_xs of_ys le at =
-        let same = of_xs k w at in
-        let lt = slice_get_within xs k w at in
-        let y = some_at ys w (omega (arith, lt, le, same)) in
-        y.1 ∙ ap (λ (n : ℕ). Some n) (of_ys w y.0 y.1 ∙ same)
 
 -- an entry that is wanted at a place is there, and the place too
 pub no_less : {E : Type 0} (entries : List ℕ) (place entry n : ℕ) (first cur now : List E) (order : List ℕ) → IsOrder first order now → slice_get order place ≡ Some entry → AreBrought first cur order entries place → length cur ≡ n → (place < n → entry < n → ⊥) → ⊥

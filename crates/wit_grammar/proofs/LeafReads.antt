@@ -95,9 +95,6 @@ pub fits_token : (k : Terminal) (s : Spot) (r : Result Lexeme ReadError) → mat
 fits_token k s (Ok t) h = (t, refl, h)
 fits_token k s (Err e) h = absurd (true≢false (sym h))
 
-pub token_of : (k : Terminal) (s : Spot) → fits k s ≡ true → (t : Lexeme) × (lexed s ≡ Ok t) × (matches k s t ≡ true)
-token_of k s h = fits_token k s (lexed s) h
-
 -- ---- the leaves
 past_ahead : (s e : Spot) (t : Lexeme) → IsInside s → lexed s ≡ Ok t → past s t ≡ Ok e → Ahead s e
 unfolding past

@@ -2,7 +2,7 @@
 use Rattle.std.proofs.Common.{◌≡◌, ℕ, ◌⊎◌, List, [], ◌∷◌, ◌++◌, length, ap, ◌∙◌, sym, arith, refl, true, false, Bool, not, inl, inr, Some, None}
 use Rattle.std.specs.Prelude.{Ok, ◌==◌, ◌||◌}
 use Rattle.std.specs.Str.{bytes_eq}
-use Rattle.std.proofs.lemmas.Bool.{and_parts, and_from, and_left, and_right, cases_Bool, eqb-true, false_from_ne_true, ne_eqb, or_cases, or_left, or_right, or_parts, or_from, true≢false}
+use Rattle.std.proofs.lemmas.Bool.{and_parts, and_from, and_left, and_right, cases_Bool, eqb-true, false_from_ne_true, or_cases, or_left, or_right, or_parts, or_from, true≢false}
 use Rattle.std.proofs.lemmas.Slice.Eq.{bytes_eq-Decides}
 use Rattle.wit_lex.specs.declared.kind.Kind.{Kind}
 use Rattle.wit_lex.specs.declared.kind.Kind.TheVariants.{Comma}
@@ -56,10 +56,6 @@ among_token (k ∷ ks) s h = elim (or_cases (fits k s) (among ks s) h) [ inl f �
 same_code : (a b : Kind) → same_kind a b ≡ true → kind_code a ≡ kind_code b
 unfolding same_kind
 same_code a b h = eqb-true (kind_code a) (kind_code b) h
-
-other_code : (a b : Kind) → (kind_code a ≡ kind_code b → ⊥) → same_kind a b ≡ false
-unfolding same_kind
-other_code a b h = ne_eqb (kind_code a) (kind_code b) h
 
 unlike : (c k j : Kind) → same_kind k j ≡ false → same_kind c k ≡ true → same_kind c j ≡ false
 unfolding same_kind

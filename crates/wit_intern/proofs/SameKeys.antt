@@ -1,5 +1,5 @@
 -- The test for equality of keys decides whether they are the same.
-use Rattle.std.proofs.Common.{◌≡◌, ◌&&◌, ℕ, nat_eq, Option, ap, refl, rules}
+use Rattle.std.proofs.Common.{◌≡◌, Option, ap, refl, rules}
 use Rattle.std.specs.Bool.{Decides}
 use Rattle.std.specs.Option.{option_eq}
 use Rattle.std.proofs.lemmas.Bool.Decides.{Decides-and, Decides-eqb, Decides-like}

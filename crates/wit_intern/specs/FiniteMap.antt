@@ -1,5 +1,5 @@
 -- A finite map from keys to types, and what it replies to finds and inserts.
-use Rattle.std.specs.Prelude.{ℕ, Bool, List, [], ◌∷◌, Option, Some, None, if◌then◌else◌}
+use Rattle.std.specs.Prelude.{ℕ, List, [], ◌∷◌, Option, Some, if◌then◌else◌}
 use Rattle.wit_intern.specs.declared.key.InternKey.{InternKey}
 use Rattle.wit_intern.specs.declared.run.InternStep.{InternStep}
 use Rattle.wit_intern.specs.declared.run.InternStep.TheVariants.{Find, Insert}

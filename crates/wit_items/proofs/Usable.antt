@@ -4,7 +4,6 @@ use Rattle.std.specs.Prelude.{slice_get}
 use Rattle.std.specs.List.{flat_map}
 use Rattle.std.specs.Option.{option_map}
 use Rattle.std.proofs.lemmas.Option.{slice_get_within}
-use Rattle.wit_values.specs.declared.span.Span.{Span}
 use Rattle.wit_type_tree.specs.declared.leaves.Id.{Id}
 use Rattle.wit_tree.specs.declared.tree.PackageFile.{PackageFile}
 use Rattle.wit_package_names.specs.declared.package_name.PackageName.{PackageName}
@@ -72,14 +71,14 @@ none_mapped : (o : Option Item) → option_map is_world o ≡ None → o ≡ Non
 none_mapped None h = refl
 none_mapped (Some i) h = absurd (let f : ⊥ = cc in f)
 
-usable_by : (files : List PackageFile) (to : Target) (span : Span) (o : Option Bool) → is_world_at files to ≡ o → ((p : PackageName) (id : Id) → to ≡ Foreign p id → (v : ForeignVisit) × (foreign_at files (ForeignNamed p id.name.now) ≡ Some v)) → reached_fault o span (lost_fault (all_items files) to) ≡ None → is_world_at files to ≡ Some false
-usable_by files to span (Some false) is visited none = is
-usable_by files to span (Some true) is visited none = absurd (let f : ⊥ = cc in f)
-usable_by files (Local id) span None is visited none =
+usable_by : (files : List PackageFile) (to : Target) (from : Id) (o : Option Bool) → is_world_at files to ≡ o → ((p : PackageName) (id : Id) → to ≡ Foreign p id → (v : ForeignVisit) × (foreign_at files (ForeignNamed p id.name.now) ≡ Some v)) → reached_fault o from (lost_fault (all_items files) to) ≡ None → is_world_at files to ≡ Some false
+usable_by files to from (Some false) is visited none = is
+usable_by files to from (Some true) is visited none = absurd (let f : ⊥ = cc in f)
+usable_by files (Local id) from None is visited none =
     let lost = lost_at (all_items files) id (none_mapped (item_named (all_items files) id.name.now) is) in
     let wrong : None ≡ Some (missing_at 7 item_word id) = sym none ∙ lost in
     absurd (let f : ⊥ = cc in f)
-usable_by files (Foreign p id) span None is visited none =
+usable_by files (Foreign p id) from None is visited none =
     let v = visited p id refl in
     let wrong : None ≡ Some v.0.wants_world = sym is ∙ ap (option_map (λ (w : ForeignVisit). w.wants_world)) v.1 in
     absurd (let f : ⊥ = cc in f)
@@ -93,7 +92,7 @@ uses_sound files none = record {
         let both = or_none_both (metadata_fault u.attributes.items) (path_fault files i.top u.from) right in
         record {
           noted = (metadata_agree u.attributes.items).unbroken both.0;
-          usable = usable_by files (leads i.top u.from) (path_id u.from).span (is_world_at files (leads i.top u.from)) refl (used_visited files i u.from here (path_of_use (parts i) u among)) both.1;
+          usable = usable_by files (leads i.top u.from) (path_id u.from) (is_world_at files (leads i.top u.from)) refl (used_visited files i u.from here (path_of_use (parts i) u among)) both.1;
         });
   };
 }

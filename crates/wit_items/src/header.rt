@@ -5,10 +5,10 @@ ghost use Rattle.semver.specs.Identifiers.{parts_of};
 ghost use Rattle.wit_tree.specs.declared.tree.PackageName.{PackageName as Header};
 ghost use Rattle.wit_syntax.specs.Address.{package_of};
 ghost use Rattle.wit_syntax.specs.Broken.{IsSamePackage, headers};
+ghost use Rattle.wit_syntax.specs.Words.{mismatch};
 ghost use Rattle.wit_arena.specs.Whole.{first_docs};
 ghost use Rattle.wit_first.specs.First.{Finds};
 ghost use Rattle.wit_first.specs.HeaderFaults.{have_docs, is_documented, second_docs_fault};
-ghost use Rattle.wit_items.specs.FileHeaders.{mismatch};
 
 use semver::Version;
 use std::alloc::{AllocError, Global};

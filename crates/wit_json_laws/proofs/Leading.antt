@@ -17,7 +17,7 @@ use Rattle.wit_package_names.specs.declared.package_name.PackageName.{PackageNam
 use Rattle.wit_syntax.specs.Address.{Address, InterfaceNamed}
 use Rattle.wit_syntax.specs.Broken.{is_world_at, MissingUse, WorldUsed, Use, IsLegal}
 use Rattle.wit_syntax.specs.ExternPart.{extern_paths, inline_uses}
-use Rattle.wit_syntax.specs.Fault.{fault, missing_at, item_word}
+use Rattle.wit_syntax.specs.Fault.{missing_at, item_word, world_there}
 use Rattle.wit_syntax.specs.Foreign.{ForeignVisit, visited, path_visits, part_visits, extern_visits, foreign_at, foreign_items, foreign_interfaces}
 use Rattle.wit_syntax.specs.Function.{definition_functions}
 use Rattle.wit_syntax.specs.Repeats.{AllDiffer}
@@ -163,5 +163,5 @@ module _ (files : List PackageFile) (legal : IsLegal files) (items : List Item) 
       let listed = crossed_path w path c in
       target_linked (leads w.top path)
       (λ id lead none. legal (missing_at 7 item_word id) (Use w among (MissingUse path id listed lead none refl)))
-      (λ world. legal (fault 10 (path_id path).span) (Use w among (WorldUsed path listed world refl)))
+      (λ world. legal (world_there (path_id path)) (Use w among (WorldUsed path listed world refl)))
       (λ q id lead. path_among files p.0 w c.x.attributes.items false path q id p.2 (crossed_visit w path c) lead)

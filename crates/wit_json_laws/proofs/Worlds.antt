@@ -19,7 +19,7 @@ use Rattle.wit_model.specs.ItemsOfWorlds.{function_of}
 use Rattle.wit_syntax.specs.Address.{Address}
 use Rattle.wit_syntax.specs.Broken.{LinkedTwice, IsLegal}
 use Rattle.wit_syntax.specs.ExternPart.{same_side}
-use Rattle.wit_syntax.specs.Fault.{fault}
+use Rattle.wit_syntax.specs.Fault.{linked_twice}
 use Rattle.wit_syntax.specs.Foreign.{ForeignVisit, foreign_worlds}
 use Rattle.wit_syntax.specs.Repeats.{AllDiffer}
 use Rattle.wit_syntax.specs.ScopeTables.{includes, rows_of, worlds_of}
@@ -90,7 +90,7 @@ module _ (files : List PackageFile) (legal : IsLegal files) (items : List Item) 
         let one = linked side p a at_a in
         let other = linked side q b at_b in
         let scopes : path_scope w.top a.path ≡ path_scope w.top b.path = place_determines ss (path_scope w.top a.path) (path_scope w.top b.path) one.placed other.placed same in
-        legal (fault 43 (path_id b.path).span) (LinkedTwice w among (side, q, a, b, earlier, at_b, bare_a, bare_b, scopes, other.sort, refl))
+        legal (linked_twice b.side (path_id b.path).span) (LinkedTwice w among (side, q, a, b, earlier, at_b, bare_a, bare_b, scopes, other.sort, refl))
 
     names_differ : (side : WorldSide) → AllDiffer (map called_name (all_called side))
     names_differ side = called_differ (all_called side) (side_keys files legal w scope_among (order (address w)) least side)

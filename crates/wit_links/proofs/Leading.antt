@@ -39,7 +39,7 @@ source_local by_name (borrowed_source.Foreign p of name) none = absurd (let f : 
 
 -- a path to an interface leads to an item, and to no world
 pub path_usable : (files : List PackageFile) (top : List TopName) (path : UsePath) → is_world_at files (leads top path) ≡ Some false → path_fault files top path ≡ None
-path_usable files top path usable = ap (λ (o : Option Bool). reached_fault o (path_id path).span (lost_fault (all_items files) (leads top path))) usable
+path_usable files top path usable = ap (λ (o : Option Bool). reached_fault o (path_id path) (lost_fault (all_items files) (leads top path))) usable
 
 -- one that is resolved, and one that is not
 resolved_at : (by_name : Names) (source : BorrowedSource) (t : Target) (place : ℕ) → source_view source ≡ target_scope InterfaceNamed t → source_place by_name source ≡ Some place → unresolved_fault by_name t ≡ None

@@ -4,7 +4,7 @@ use Rattle.std.specs.Option.{option_or}
 use Rattle.wit_tree.specs.declared.tree.Include.{Include}
 use Rattle.wit_syntax.specs.Address.{Address}
 use Rattle.wit_syntax.specs.Source.{Declared, Item, TopName, leads, path_id}
-use Rattle.wit_syntax.specs.Fault.{Fault, fault}
+use Rattle.wit_syntax.specs.Fault.{Fault, interface_there}
 use Rattle.wit_syntax.specs.ScopeTables.{includes}
 use Rattle.wit_first.specs.AttributeFaults.{stability_fault}
 use Rattle.wit_first.specs.First.{first_in}
@@ -28,7 +28,7 @@ item_in ws place declared = record { top = top_of ws place; declared = declared 
 
 -- the first fault of an include: its attributes, and then that its path leads to no world that is resolved
 abbrev pub included_fault : Worlds → List TopName → Include → Option Fault
-included_fault ws top n = option_or (stability_fault n.attributes.items) (if is_none (world_at ws.interfaces.now.files ws.by_name (leads top n.from)) then Some (fault 11 (path_id n.from).span) else None)
+included_fault ws top n = option_or (stability_fault n.attributes.items) (if is_none (world_at ws.interfaces.now.files ws.by_name (leads top n.from)) then Some (interface_there (path_id n.from)) else None)
 
 -- of the includes of an item
 abbrev pub includes_fault : Worlds → Item → Option Fault

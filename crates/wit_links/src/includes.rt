@@ -1,7 +1,8 @@
 //! Includes of worlds.
-ghost use Rattle.std.specs.Prelude.{◌≡◌, ◌<◌, ◌++◌, IfOk, length, map, true, codes, string_bytes};
+ghost use Rattle.std.specs.Prelude.{◌≡◌, ◌<◌, IfOk, length, map, true, string_bytes};
 ghost use Rattle.std.specs.Option.{option_copied};
 ghost use Rattle.wit_syntax.specs.Source.{leads, TheWorld, IncludePart, about};
+ghost use Rattle.wit_syntax.specs.Words.{interface_words};
 ghost use Rattle.wit_first.specs.First.{Finds};
 ghost use Rattle.wit_arena.specs.Whole.{renamed, IsInclude, AreIncludes};
 ghost use Rattle.wit_item_names.specs.ItemPaths.{HasItem, HasPart, world_entry, world_at};
@@ -15,7 +16,7 @@ use wit_items::items::Declared;
 use wit_model::{AstItem as Entry, IncludeName, WorldInclude};
 use wit_notes::attributes::check_stability;
 use wit_notes::{path_id, stated_stability};
-use wit_refusals::refusal::refuse;
+use wit_refusals::refusal::refuse_in;
 use wit_top_names::Target;
 use wit_top_names::declaration::world_items;
 use wit_tree::ParseResult;
@@ -39,7 +40,7 @@ fn renames(alloc: Global, names: &[tree::IncludeName<'_>]) -> Result<Row<Include
 
 /// The words for an include of an interface.
 fn not_a_world(alloc: Global, name: &str) -> Result<String, AllocError>
-    ensures { IfOk result (λ words. string_bytes words ≡ codes "name `" ++ (name.now ++ codes "` is defined as an interface, not a world")) }
+    ensures { IfOk result (λ words. string_bytes words ≡ interface_words name.now) }
 {
     format!(in alloc; "name `{name}` is defined as an interface, not a world")
 }
@@ -89,10 +90,7 @@ fn resolve_include<'f, 'a>(
     let path = path_id(&include.from);
     let id = match included_world(worlds, place, &include.from) {
         Some(id) => id,
-        None => {
-            let message = not_a_world(alloc, path.name)?;
-            return Err(refuse(alloc, 11, path.span, message.as_str()));
-        }
+        None => return Err(refuse_in(11, path.span, not_a_world(alloc, path.name))),
     };
     let names = renames(alloc, &include.names)?;
     let stability = stated_stability(alloc, &include.attributes)?;

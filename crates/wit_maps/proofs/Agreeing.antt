@@ -1,20 +1,13 @@
 -- Lists of entries whose keys find equal values in both.
-use Rattle.std.proofs.Common.{◌≡◌, ℕ, zero, suc, ◌+◌, ◌<◌, ◌≤◌, Bool, true, false, ◌&&◌, List, [], ◌∷◌, ◌++◌, length, slice_get, Some, None, Option, Bor, refl, sym, ap, ◌∙◌, arith, option_map, unwrap_or, inl, inr}
-use native.Mathlib.Decide.{dec_lt}
+use Rattle.std.proofs.Common.{◌≡◌, ℕ, zero, suc, ◌<◌, ◌≤◌, Bool, true, false, ◌&&◌, List, [], ◌∷◌, length, slice_get, Some, None, Option, Bor, refl, ap, ◌∙◌, arith, option_map, unwrap_or, inl, inr}
 use Rattle.std.proofs.lemmas.Bool.{cases_Bool}
 use Rattle.std.specs.HashMap.{entries_eq}
-use Rattle.std.specs.List.{AllZip, list_all}
+use Rattle.std.specs.List.{list_all}
 use Rattle.std.specs.Map.{keys_of, lookup, lookup_entry}
 use Rattle.std.specs.Option.{option_copied, option_eq}
 
 same_entry : {A : Type 0} {x y : A} → Some x ≡ Some y → x ≡ y
 same_entry {A} {x} e = ap (λ r. unwrap_or r x) e
-
-pub AllZip-append : {X Y : Type 0} (R : X → Y → Type 0) (xs ys : List X) (us vs : List Y) → AllZip R xs us → AllZip R ys vs → AllZip R (xs ++ ys) (us ++ vs)
-AllZip-append R [] ys [] vs h k = k
-AllZip-append R [] ys (u ∷ us) vs h k = absurd h
-AllZip-append R (x ∷ xs) ys [] vs h k = absurd h
-AllZip-append R (x ∷ xs) ys (u ∷ us) vs h k = (h.0, AllZip-append R xs ys us vs h.1 k)
 
 option_eq-copied : {X : Type 0} (E : X → X → Bool) (r s : Option (Bor X)) → option_eq {T = Bor X} (λ a b. E a.now b.now) r s ≡ option_eq E (option_copied r) (option_copied s)
 option_eq-copied E None None = refl
@@ -64,12 +57,6 @@ module _ {K X : Type 0} where
     list_all-not [] i e at miss = absurd (let f : ⊥ = cc in f)
     list_all-not (x ∷ es) zero e at miss = ap (λ b. b && list_all p (keys_of es)) (ap (λ (y : K × X). p y.0) (same_entry at) ∙ miss)
     list_all-not (x ∷ es) (suc i) e at miss = ap (λ b. p x.0 && b) (list_all-not es i e at miss) ∙ and-false (p x.0)
-
-    pub all_next : (es : List (K × X)) (i : ℕ) (e : K × X) → AllBefore es i → slice_get es i ≡ Some e → p e.0 ≡ true → AllBefore es (i + 1)
-    all_next es i e all at hit j f l found = elim (dec_lt j i) [
-      | yes before ↦ all j f before found
-      | no here ↦ let same : j ≡ i = omega (arith, l, here) in ap (λ r. p (unwrap_or r f).0) (sym found ∙ ap (slice_get es) same ∙ at) ∙ hit
-    ]
 
   module _ (eq : K → K → Bool) (E : X → X → Bool) (es fs : List (K × X)) where
     -- a key has equal values in both lists, or none

@@ -1,5 +1,5 @@
 -- What an index of keys finds.
-use Rattle.std.proofs.Common.{◌≡◌, ◌⊎◌, ℕ, zero, suc, ◌+◌, ◌<◌, Bool, false, cond, not, nat_lt, List, [], ◌∷◌, ◌++◌, length, slice_get, slice_set, option_map, is_some, subst, position, Some, None, Option, refl, sym, ap, ◌∙◌, arith, unwrap_or, inl, inr, lt-ltb, le-ltb, true≢false, IsTrue, IfSome, IfNone, Box}
+use Rattle.std.proofs.Common.{◌≡◌, ◌⊎◌, ℕ, zero, suc, ◌+◌, ◌<◌, Bool, false, cond, not, nat_lt, List, [], ◌∷◌, ◌++◌, length, slice_get, slice_set, option_map, subst, position, Some, None, Option, refl, sym, ap, ◌∙◌, arith, unwrap_or, inl, inr, lt-ltb, le-ltb, true≢false, IsTrue, IfSome, IfNone, Box}
 use native.Mathlib.Decide.{dec_lt}
 use Rattle.std.proofs.lemmas.Bool.{cases_Bool}
 use Rattle.std.specs.BTreeMap.{BTreeMap, get}
@@ -16,9 +16,6 @@ use Rattle.wit_maps.specs.Slots.{key_hash_of, home_of, AreFilled, IsAt, IsFull, 
 
 same_key : {A : Type 0} {x y : A} → Some x ≡ Some y → x ≡ y
 same_key {A} {x} e = ap (λ r. unwrap_or r x) e
-
-none_some : {i : ℕ} → None ≡ Some i → ⊥
-none_some e = true≢false (sym (ap is_some e))
 
 module _ {K : Type 0} (t : K → Bool) where
   -- no key before a place passes
@@ -67,13 +64,6 @@ module _ {K : Type 0} (eq : K → K → Bool) (ks : List K) (apart : AreApart eq
   pub position_found : (r : Option ℕ) → IfSome r (IsAt t ks) → IfNone r (IsNowhere t ks) → r ≡ position t ks
   position_found (Some i) found missed = sym (position_apart i found)
   position_found None found missed = sym (position_nowhere t ks missed)
-
-  -- a key without a place differs from all
-  pub nowhere_of : position t ks ≡ None → IsNowhere t ks
-  nowhere_of none j l at = elim (cases_Bool (t l)) [
-    | inl hit ↦ absurd (none_some (sym none ∙ position_apart j (l, at, hit)))
-    | inr miss ↦ miss
-  ]
 
 -- what is sought in slots, where its hash has this home
 module _ {K : Type 0} (cmp : K → K → Ordering) (writes : K → List (List ℕ)) (slots : List ℕ) (keys : BTreeMap K ℕ) (ks : List K) (known : AreKnown cmp writes slots keys ks (length ks)) (t : K → Bool) (h : ℕ) (home : (k : K) → IsTrue (t k) → h ≡ home_of (length slots) (key_hash_of (writes k))) (far : IsNowhereNear t ks slots h) where
@@ -141,13 +131,6 @@ module _ {K : Type 0} (eq : K → K → Bool) (cmp : K → K → Ordering) (writ
     ]
   ]
 
-  -- an index of the same keys, where all is still known
-  pub indexed_still : (slots slots' : List ℕ) (keys keys' : BTreeMap K ℕ) (ks : List K)
-      → IsIndexed eq cmp writes slots keys ks
-      → ((j : ℕ) (l : K) → slice_get ks j ≡ Some l → IsKnown cmp writes slots keys l j → IsKnown cmp writes slots' keys' l j)
-      → IsIndexed eq cmp writes slots' keys' ks
-  indexed_still slots slots' keys keys' ks ix still = record { apart = ix.apart; known = λ j k below at. still j k at (ix.known j k below at) }
-
   -- a key after the others, whose place is known
   pub indexed_push : (slots slots' : List ℕ) (keys keys' : BTreeMap K ℕ) (ks : List K) (key : K) (place : ℕ)
       → place ≡ length ks
@@ -180,16 +163,8 @@ module _ {K : Type 0} (eq : K → K → Bool) (cmp : K → K → Ordering) (writ
   kept_with key symm index ix None found = (found.0, indexed_push eq cmp writes index.value.slots.items index.value.slots.items index.value.keys index.value.keys ks key (length ks) refl ix (λ j l at. symm l ∙ found.0 j l at) (λ j l at known. known) found.1)
 
 module _ {K X : Type 0} where
-  pub keys_of-push : (es : List (K × X)) (k : K) (v : X) → keys_of (es ++ (k, v) ∷ []) ≡ keys_of es ++ k ∷ []
-  keys_of-push [] k v = refl
-  keys_of-push (x ∷ es) k v = ap (λ ks. x.0 ∷ ks) (keys_of-push es k v)
-
   pub slice_get-keys_of : (es : List (K × X)) (i : ℕ) (e : K × X) → slice_get es i ≡ Some e → slice_get (keys_of es) i ≡ Some e.0
   slice_get-keys_of es i e at = slice_get-map (λ (e : K × X). e.0) es i ∙ ap (option_map (λ (e : K × X). e.0)) at
-
-  pub length-keys_of : (es : List (K × X)) → length (keys_of es) ≡ length es
-  length-keys_of [] = refl
-  length-keys_of (x ∷ es) = ap suc (length-keys_of es)
 
   pub keys_of-slice_set : (es : List (K × X)) (i : ℕ) (e : K × X) (w : X) → slice_get es i ≡ Some e → keys_of (slice_set es i (e.0, w)) ≡ keys_of es
   keys_of-slice_set [] i e w at = refl

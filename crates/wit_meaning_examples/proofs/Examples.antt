@@ -45,7 +45,7 @@ use Rattle.wit_arena.specs.Expr.{Prim, one}
 use Rattle.wit_arena.specs.Occurrences.{Def, Whole, Occurrence, IsSeen, Collects}
 use Rattle.wit_syntax.specs.ScopeTables.{rows_of, item_rows, in_turn}
 use Rattle.wit_type_tree.specs.RefusalText.{Missing, Cyclic}
-use Rattle.wit_syntax.specs.Fault.{fault, missing_type_at, type_word}
+use Rattle.wit_syntax.specs.Fault.{fault, missing_type_at, type_word, top_twice}
 use Rattle.wit_syntax.specs.Shape.{Word}
 use Rattle.wit_syntax.specs.Bodies.{folded, IsSecond, IsDuplicateName}
 use Rattle.wit_syntax.specs.Broken.{last_header, IsMissingEdge, IsCyclicEdge, IsBroken, Headerless, IsWrongTop, LostUse}
@@ -373,7 +373,7 @@ module _ (ptr : Ptr) (alloc : Global) where
     tree_of_alias = refl
 
     -- use z as x; interface x {}
-    twice_on_top : IsSecond top_text (λ (n : TopName). fault 6 n.id.span) (record { id = id (codes "x") (at 9 10) refl; target = Local (id (codes "z") (at 4 5) refl) } ∷ record { id = id (codes "x") (at 22 23) refl; target = Local (id (codes "x") (at 22 23) refl) } ∷ []) (fault 6 (at 22 23))
+    twice_on_top : IsSecond top_text (λ (n : TopName). top_twice n.id) (record { id = id (codes "x") (at 9 10) refl; target = Local (id (codes "z") (at 4 5) refl) } ∷ record { id = id (codes "x") (at 22 23) refl; target = Local (id (codes "x") (at 22 23) refl) } ∷ []) (fault 6 (at 22 23))
     twice_on_top = (record { id = id (codes "x") (at 22 23) refl; target = Local (id (codes "x") (at 22 23) refl) }, (0, 1, lit< tt, record { id = id (codes "x") (at 9 10) refl; target = Local (id (codes "z") (at 4 5) refl) }, refl, refl, refl), refl)
 
     -- use x as y; use y as z;

@@ -1,5 +1,5 @@
 -- The value at the first key of a list that passes.
-use Rattle.std.proofs.Common.{◌≡◌, ℕ, zero, suc, ◌<◌, ◌≤◌, Bool, true, false, cond, List, [], ◌∷◌, length, slice_get, Option, Some, None, refl, ap, ◌∙◌, arith, unwrap_or}
+use Rattle.std.proofs.Common.{◌≡◌, ℕ, zero, suc, ◌<◌, ◌≤◌, Bool, true, false, cond, List, [], ◌∷◌, length, slice_get, Some, None, refl, ap, ◌∙◌, arith, unwrap_or}
 use Rattle.std.specs.Map.{lookup}
 
 same_entry : {A : Type 0} {x y : A} → Some x ≡ Some y → x ≡ y

@@ -1,5 +1,5 @@
 -- Tests for equality of what worlds are made of, which decide whether they are the same.
-use Rattle.std.proofs.Common.{◌≡◌, ℕ, nat_eq, List, ◌&&◌, Option, ap, refl, rules}
+use Rattle.std.proofs.Common.{◌≡◌, ℕ, nat_eq, List, ◌&&◌, Option, refl, rules}
 use Rattle.std.specs.Bool.{Decides}
 use Rattle.std.specs.Option.{option_eq}
 use Rattle.std.specs.Cmp.Lexicographic.{pointwise}
@@ -10,7 +10,7 @@ use Rattle.wit_types.specs.contracts.docs.DocsPartialEq.TheImpl.{eq-value as doc
 use Rattle.wit_types.specs.contracts.stability.StabilityPartialEq.TheImpl.{eq-value as stability_test}
 use Rattle.wit_types.specs.declared.docs.Docs.{Docs}
 use Rattle.wit_types.specs.declared.stability.Stability.{Stability}
-use Rattle.wit_types.proofs.Same.{Decides-docs, Decides-optional_text, Decides-row, Decides-span, Decides-stability, Decides-text}
+use Rattle.wit_types.proofs.Same.{Decides-docs, Decides-optional_text, Decides-row, Decides-span, Decides-stability}
 use Rattle.wit_functions.proofs.Same.{Decides-function}
 use Rattle.wit_model.specs.contracts.world.WorldItemPartialEq.TheImpl.{eq-value as world_item_test}
 use Rattle.wit_model.specs.declared.world.WorldItem.{WorldItem}

@@ -9,16 +9,21 @@ use Rattle.wit_tree.specs.declared.tree.SourceFile.{SourceFile}
 use Rattle.wit_model.specs.declared.unresolved.UnresolvedPackage.{UnresolvedPackage}
 use Rattle.wit_syntax.specs.Address.{package_of, same_package}
 use Rattle.wit_syntax.specs.Broken.{IsBroken, IsSamePackage, last_header}
-use Rattle.wit_syntax.specs.Fault.{Fault, fault}
+use Rattle.wit_syntax.specs.Fault.{Fault, fault_in}
+use Rattle.wit_syntax.specs.Words.{package_words}
 use Rattle.wit_first.specs.First.{first_after}
 use Rattle.wit_nested.specs.Nested.{IsMadeByNested, IsUnfit}
 use Rattle.wit_nested.specs.PackageNames.{AreNamedApart, IsRepeatedPackage}
 use Rattle.wit_walk.specs.Walk.{earliest}
 use Rattle.wit_nested.specs.PushFaults.{FindsWalked, IsWalk, files_of, nested_of, pushes_fault}
 
+-- the name of a package is one that another package of its group has
+abbrev pub named_twice : Header → Fault
+named_twice own = fault_in 53 own.span (package_words (package_of own))
+
 -- a package has the name of one of these, in one version or both in none: E53
 abbrev pub repeat_fault : List Header → Header → Option Fault
-repeat_fault before own = if list_any (λ (h : Header). same_package (package_of h) (package_of own)) before then Some (fault 53 own.span) else None
+repeat_fault before own = if list_any (λ (h : Header). same_package (package_of h) (package_of own)) before then Some (named_twice own) else None
 
 -- of the names of nested packages, after that of the main one
 abbrev pub names_fault : Option Header → List Header → Option Fault
@@ -67,7 +72,7 @@ pub record IsNamedTwice (main : Option Header) (nested : List Header) (f : Fault
   pub before : Header
   pub among : Contains (own ∷ take place nested) before
   pub same : IsSamePackage before later
-  pub is : f ≡ fault 53 later.span
+  pub is : f ≡ named_twice later
 
 -- what is wrong with a group: with a source of it, with the files of all, or with the names of its packages
 pub data IsBrokenGroup (sources : List SourceFile) (f : Fault) : Type 0 where

@@ -4,7 +4,8 @@ use Rattle.std.specs.Prelude.{◌≡◌, ℕ, Bool, List, [], ◌∷◌, ◌++�
 use Rattle.wit_package_names.specs.declared.package_name.PackageName.{PackageName}
 use Rattle.wit_tree.specs.declared.tree.PackageFile.{PackageFile}
 use Rattle.wit_model.specs.declared.unresolved.UnresolvedPackage.{UnresolvedPackage}
-use Rattle.wit_syntax.specs.Fault.{Fault, fault}
+use Rattle.wit_syntax.specs.Fault.{Fault, fault_in}
+use Rattle.wit_syntax.specs.Words.{package_words}
 use Rattle.wit_syntax.specs.Broken.{IsBroken}
 use Rattle.wit_syntax.specs.Repeats.{AllDiffer}
 use Rattle.wit_arena.specs.Faithful.{IsMadeOf}
@@ -36,7 +37,7 @@ pub record IsNamedAgain (main : UnresolvedPackage) (nested : List UnresolvedPack
 pub record IsRepeatedPackage (main : UnresolvedPackage) (nested : List UnresolvedPackage) (f : Fault) : Type 0 where
   pub later : UnresolvedPackage
   pub again : IsNamedAgain main nested later
-  pub is : f ≡ fault 53 later.name_span
+  pub is : f ≡ fault_in 53 later.name_span (package_words later.name)
 
 -- what is wrong with files and the packages that were nested in them: the files break a rule; or they break none, and with the package that they
 -- make one of the nested ones has a name again

@@ -14,7 +14,7 @@ use Rattle.wit_type_tree.specs.declared.leaves.Attribute.{Attribute}
 use Rattle.wit_graph.specs.Table.{IsOrder}
 use Rattle.wit_syntax.specs.Address.{Address, InterfaceNamed, WorldNamed, InlineAt, ForeignNamed, is_foreign}
 use Rattle.wit_syntax.specs.Broken.{IsLegal, MissingName, Names}
-use Rattle.wit_syntax.specs.Fault.{fault, missing_at, name_word}
+use Rattle.wit_syntax.specs.Fault.{missing_at, name_word, function_used}
 use Rattle.wit_syntax.specs.Function.{SourceFunction, functions, role_names}
 use Rattle.wit_syntax.specs.Repeats.{AllDiffer}
 use Rattle.wit_syntax.specs.ScopeTables.{in_order, item_rows, interfaces_of, worlds_of}
@@ -109,7 +109,7 @@ module _ (files : List PackageFile) (legal : IsLegal files) (order : Address →
       let first = named_found all q v differ at in
       let called = flat_map (λ (fn : SourceFunction). role_names fn.role) (functions v) in
       by_meaning there (meaning (scope_names v) name) refl (λ none. (
-      let free : Contains called name → ⊥ = λ h. legal (fault 13 n.name.span) (MissingName o.item here from attributes n among v (sym there) first none (OfFunction h refl)) in
+      let free : Contains called name → ⊥ = λ h. legal (function_used n.name) (MissingName o.item here from attributes n among v (sym there) first none (OfFunction h refl)) in
       legal (missing_at 12 name_word n.name) (MissingName o.item here from attributes n among v (sym there) first none (OfNothing free refl))))
     where
       by_meaning : address v ≡ from → (m : Option ScopeName) → meaning (scope_names v) n.name.name.now ≡ m → (m ≡ None → ⊥) → (p : ℕ) × (x : ScopeName) × (slice_get (scope_names v) p ≡ Some x) × (Def (address v) (local_name x) ≡ Def from n.name.name.now)

@@ -18,7 +18,7 @@ use Rattle.wit_package_names.specs.declared.package_name.PackageName.{PackageNam
 use Rattle.wit_syntax.specs.Address.{Address, InterfaceNamed, WorldNamed}
 use Rattle.wit_syntax.specs.Broken.{is_world_at, Names, MissingUse, WorldUsed, InterfaceIncluded, Use, IsLegal}
 use Rattle.wit_syntax.specs.ExternPart.{extern_paths, inline_uses}
-use Rattle.wit_syntax.specs.Fault.{fault, missing_at, item_word}
+use Rattle.wit_syntax.specs.Fault.{missing_at, item_word, interface_there, world_there}
 use Rattle.wit_syntax.specs.Foreign.{ForeignVisit, visited, path_visits, part_visits, extern_visits, foreign_at, foreign_items, foreign_interfaces, foreign_worlds}
 use Rattle.wit_syntax.specs.Function.{definition_functions}
 use Rattle.wit_syntax.specs.Repeats.{AllDiffer}
@@ -228,7 +228,7 @@ module _ (files : List PackageFile) (legal : IsLegal files) (items : List Item) 
         let listed = crossed_path w path c in
         target_placed false (leads w.top path)
         (λ id lead none. legal (missing_at 7 item_word id) (Use w among (MissingUse path id listed lead none refl)))
-        (λ world. legal (fault 10 (path_id path).span) (Use w among (WorldUsed path listed world refl)))
+        (λ world. legal (world_there (path_id path)) (Use w among (WorldUsed path listed world refl)))
         (λ p id lead. path_among files spot.1 w c.x.attributes.items false path p id spot.3 (crossed_visit w path c) lead)
 
     -- and each world that it includes, among worlds
@@ -243,5 +243,5 @@ module _ (files : List PackageFile) (legal : IsLegal files) (items : List Item) 
         let both : Some v.2 ≡ None = sym (named_at files differ id.name.now v.1 v.2 v.5 v.6) ∙ none in
         let f : ⊥ = cc in
         f))
-        (λ interface. legal (fault 11 (path_id n.from).span) (InterfaceIncluded w among n.from listed interface refl))
+        (λ interface. legal (interface_there (path_id n.from)) (InterfaceIncluded w among n.from listed interface refl))
         (λ p id lead. path_visited files spot.1 w i.place (IncludePart n) n.attributes.items true n.from p id spot.3 i.part refl lead)

@@ -14,7 +14,7 @@ use Rattle.wit_type_tree.specs.declared.leaves.Id.{Id}
 use Rattle.wit_graph.specs.Table.{Row, IsEdge, Leads, IsOrder, target}
 use Rattle.wit_syntax.specs.Address.{Address}
 use Rattle.wit_syntax.specs.Broken.{IsLegal, Scope, Function}
-use Rattle.wit_syntax.specs.Fault.{fault, missing_at, name_word}
+use Rattle.wit_syntax.specs.Fault.{missing_at, name_word, function_as_type}
 use Rattle.wit_syntax.specs.Function.{SourceFunction, functions, signature}
 use Rattle.wit_syntax.specs.ScopeTables.{rows_of, in_order, used, defined, is_defined, needed_ids}
 use Rattle.wit_syntax.specs.Shape.{Shape, words}
@@ -176,7 +176,7 @@ module _ (files : List PackageFile) (legal : IsLegal files) (o : Ordered) (it : 
       let w = flat_map_has words (signature fn) j i x id there is in
       let written = contains_at (flat_map words (signature fn)) w.0 id w.1 in
       let m = word_meant id (meaning xs id.name.now) refl (λ none. (
-      let free : IsEntered (functions o.item) k id.name.now → ⊥ = λ h. legal (fault 28 id.span) (Scope o.item among (Function k fn at (MissingInSignature id written none (OfFunction h refl)))) in
+      let free : IsEntered (functions o.item) k id.name.now → ⊥ = λ h. legal (function_as_type id) (Scope o.item among (Function k fn at (MissingInSignature id written none (OfFunction h refl)))) in
       legal (missing_at 29 name_word id) (Scope o.item among (Function k fn at (MissingInSignature id written none (OfNothing free refl)))))) in
       subst (λ (name : List ℕ). a (Def s name)) m.3 (known m.0 m.1 m.2)
 

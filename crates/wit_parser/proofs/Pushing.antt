@@ -13,7 +13,8 @@ use Rattle.wit_tree.specs.declared.tree.SourceFile.{SourceFile}
 use Rattle.wit_package_names.specs.declared.package_name.PackageName.{PackageName}
 use Rattle.wit_syntax.specs.Address.{package_of, release_of, same_package}
 use Rattle.wit_syntax.specs.Broken.{IsMismatch, IsSamePackage, headers, last_header}
-use Rattle.wit_syntax.specs.Fault.{Fault, fault}
+use Rattle.wit_syntax.specs.Fault.{Fault, fault, fault_in}
+use Rattle.wit_syntax.specs.Words.{mismatch}
 use Rattle.wit_syntax.proofs.Addresses.{same_package-equal, same_package-from}
 use Rattle.wit_syntax.proofs.Found.{at_contains, contains_at}
 use Rattle.wit_first.specs.HeaderFaults.{nesting_fault, other_fault, push_fault, second_docs_fault}
@@ -57,8 +58,12 @@ same_by a b h = same_package-from (package_of a) (package_of b) (
     ∙ ap (λ (n : List ℕ). made_of b.namespace.name.now n (option_map release_of a.version)) h.name
     ∙ ap (made_of b.namespace.name.now b.name.name.now) (releases_same a.version b.version h.version))
 
--- a header after one of another package, and after one of the same
-pub other_here : (before own : Header) → (IsSamePackage before own → ⊥) → other_fault (Some before) (Some own) ≡ Some (fault 1 own.span)
+-- a header after one of another package: its fault
+abbrev pub another : (before own : Header) → Fault
+another before own = fault_in 1 own.span (mismatch (package_of own) (package_of before))
+
+-- that, and a header after one of the same package
+pub other_here : (before own : Header) → (IsSamePackage before own → ⊥) → other_fault (Some before) (Some own) ≡ Some (another before own)
 other_here before own other = (
     let differs = false_from_ne_true (same_package (package_of before) (package_of own)) (λ same. other (package_same before own same)) in
     rw differs refl)
@@ -74,20 +79,20 @@ other_broken (Some before) (Some own) f h = by (same_package (package_of before)
     by : (b : Bool) → same_package (package_of before) (package_of own) ≡ b → IsMismatch (Some before) (Some own) f
     by true is = absurd (let wrong : None ≡ Some f = rw is at h in let g : ⊥ = cc in g)
     by false is = (
-        let same : Some (fault 1 own.span) ≡ Some f = rw is at h in
+        let same : Some (another before own) ≡ Some f = rw is at h in
         record {
           before = before;
           own = own;
           was = refl;
           now = refl;
           other = λ one. (let wrong : true ≡ false = sym (same_by before own one) ∙ is in let g : ⊥ = cc in g);
-          is = (let says : f ≡ fault 1 own.span = cc in says);
+          is = (let says : f ≡ another before own = cc in says);
         })
 
 other_unbroken : (previous current : Option Header) → other_fault previous current ≡ None → (f : Fault) → IsMismatch previous current f → ⊥
 other_unbroken previous current none f h =
     let there = ap (λ (o : Option Header). other_fault o current) h.was ∙ ap (other_fault (Some h.before)) h.now ∙ other_here h.before h.own h.other in
-    let wrong : None ≡ Some (fault 1 h.own.span) = sym none ∙ there in
+    let wrong : None ≡ Some (another h.before h.own) = sym none ∙ there in
     (let g : ⊥ = cc in g)
 
 -- a package that is nested

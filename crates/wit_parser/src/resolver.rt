@@ -19,7 +19,7 @@ use wit_items::header::{check_docs, have_docs, is_same, mismatch, package_docs};
 use wit_model::UnresolvedPackage;
 use wit_notes::package_name;
 use wit_package_names::PackageName;
-use wit_refusals::refusal::refuse;
+use wit_refusals::refusal::{refuse, refuse_in};
 use wit_tree::tree::{self, NestedPackage, PackageFile, SourceFile};
 use wit_tree::{ParseResult, Span};
 use wit_types::Docs;
@@ -54,8 +54,7 @@ fn check_same(
     if is_same(before, own) {
         return Ok(());
     }
-    let message = mismatch(alloc, own, before)?;
-    Err(refuse(alloc, 1, own.span, message.as_str()))
+    Err(refuse_in(1, own.span, mismatch(alloc, own, before)))
 }
 
 /// Refuses a header that names another package than the last one before it.

@@ -1,6 +1,6 @@
 -- Scopes: what a key finds among their names, and setters with their getters.
 use Rattle.std.proofs.Common.{◌≡◌, ℕ, ◌<◌, Bool, true, false, List, [], ◌∷◌, ◌++◌, length, take, drop, Some, None, Option, nat_eq, inl, inr, IfNone, IfSome, refl, subst, sym, ap, ◌∙◌}
-use Rattle.std.specs.Prelude.{slice_get, map, codes, position}
+use Rattle.std.specs.Prelude.{slice_get, map, find, codes, position}
 use Rattle.std.specs.Cmp.Lexicographic.{pointwise}
 use Rattle.std.specs.Map.{keys_of, lookup}
 use Rattle.std.specs.List.{starts_with}
@@ -17,11 +17,14 @@ use Rattle.wit_names.proofs.MadeNames.{is_mangled-get, is_mangled-method_get, is
 use Rattle.indexmap.proofs.MapLemmas.{Found-position}
 use Rattle.wit_maps.proofs.Indexed.{lookup_nowhere}
 use Rattle.wit_syntax.proofs.Lists.{at_either, at_within, map_at}
+use Rattle.std.proofs.lemmas.List.Folds.{find_at}
+use Rattle.wit_syntax.proofs.Found.{find_passes}
 use Rattle.wit_syntax.proofs.Names.{name_equal}
-use Rattle.wit_syntax.proofs.Repeated.{differ_more}
+use Rattle.wit_syntax.proofs.Repeated.{differ_at, differ_more}
 use Rattle.wit_refusals.specs.declared.name_scope.DefinedName.{DefinedName}
 use Rattle.wit_type_tree.specs.declared.error.ParseError.{ParseError}
-use Rattle.wit_syntax.specs.Fault.{fault}
+use Rattle.wit_syntax.specs.Fault.{fault_in}
+use Rattle.wit_syntax.specs.Words.{setter_words}
 use Rattle.wit_syntax.specs.Broken.{Refused}
 use Rattle.wit_refusals.specs.NameScopes.{Name, AreUsed, IsLoneSetter, IsFirstLoneSetter}
 use Rattle.wit_refusals.specs.KeyedNames.{Entry, spelled, name_of, names_of, IsKeyed, HasName}
@@ -51,19 +54,23 @@ pub keyed-put : (es new : List Entry) (name k : List ℕ) (d : DefinedName) (pla
 keyed-put es new name k d (Some i) is fits named at fresh there = subst IsKeyed (sym there) is
 keyed-put es new name k d None is fits named at fresh there = subst IsKeyed (sym fresh) (keyed-more es k d is (lookup_nowhere (pointwise nat_eq k) es (sym at)) (fits ∙ ap folded_key (sym named)))
 
--- a key that is found is taken, and one that is not found is free
-pub in_use-found : (es : List Entry) (name k : List ℕ) (d : DefinedName) → IsKeyed es → k ≡ folded_key name → lookup (pointwise nat_eq k) es ≡ Some d → AreUsed (names_of es) name
-in_use-found es name k d is fits h =
-    let found = lookup-at es k d h in
-    record { place = found.0; earlier = (spelled k d, d.span); at = slice_get-map name_of es found.0 ∙ ap (option_map name_of) found.1; same = sym (is.keyed found.0 (k, d) found.1) ∙ fits }
-
--- a key that is at a place is taken
-pub in_use-at : (es : List Entry) (name k : List ℕ) (place : ℕ) → IsKeyed es → k ≡ folded_key name → position (pointwise nat_eq k) (keys_of es) ≡ Some place → AreUsed (names_of es) name
-in_use-at es name k place is fits h =
+-- what is at the place of a key has it
+pub used-at : (es : List Entry) (name k : List ℕ) (place : ℕ) → IsKeyed es → k ≡ folded_key name → position (pointwise nat_eq k) (keys_of es) ≡ Some place → (e : Entry) × (slice_get es place ≡ Some e) × (folded_key (spelled e.0 e.1) ≡ folded_key name)
+used-at es name k place is fits h =
     let found = Found-position (pointwise nat_eq k) es place h in
     let there = at_within es place found.within in
-    in_use-found es name k there.0.1 is fits (found.value ∙ slice_get-map (λ (e : Entry). e.1) es place ∙ ap (option_map (λ (e : Entry). e.1)) there.1)
+    let here : find (pointwise nat_eq k) (keys_of es) ≡ Some there.0.0 = find_at (pointwise nat_eq k) (keys_of es) ∙ ap (slice_get (keys_of es)) found.or_len ∙ slice_get-map key es place ∙ ap (option_map key) there.1 in
+    let same : k ≡ there.0.0 = name_equal k there.0.0 (find_passes (pointwise nat_eq k) (keys_of es) there.0.0 here) in
+    (there.0, there.1, sym (is.keyed place there.0 there.1) ∙ sym same ∙ fits)
 
+-- and no other place has a name with that key
+pub used-only : (es : List Entry) (name : List ℕ) (place : ℕ) (e : Entry) → IsKeyed es → slice_get es place ≡ Some e → folded_key (spelled e.0 e.1) ≡ folded_key name → (i : ℕ) (n : Name) → slice_get (names_of es) i ≡ Some n → folded_key n.0 ≡ folded_key name → i ≡ place
+used-only es name place e is at same i n at_i same_i =
+    let it = entry_at es i n at_i in
+    let named : folded_key (spelled it.0.0 it.0.1) ≡ folded_key name = ap (λ (m : Name). folded_key m.0) it.2 ∙ same_i in
+    differ_at key es is.differ i place it.0 e it.1 at (is.keyed i it.0 it.1 ∙ named ∙ sym same ∙ sym (is.keyed place e at))
+
+-- a key that is not found is free
 pub free-none : (es : List Entry) (name k : List ℕ) → IsKeyed es → k ≡ folded_key name → lookup (pointwise nat_eq k) es ≡ None → AreUsed (names_of es) name → ⊥
 free-none es name k is fits none in_use =
     let found = entry_at es in_use.place in_use.earlier in_use.at in
@@ -134,7 +141,7 @@ paired-more names place n at paired lone =
     let has = paired sets in
     lone.none has.place has.span (has.at ∙ ap (λ (m : Name). Some (getter_of m.0, has.span)) one)
 
-pub first-lone : (names : List Name) (place : ℕ) (n : Name) (e : ParseError) → slice_get names place ≡ Some n → ((i : ℕ) → i < place → IsLoneSetter names i → ⊥) → Refused (λ f. (is_setter n.0 ≡ true) × (HasName names (getter_of n.0) → ⊥) × (f ≡ fault 18 n.1)) e → Refused (IsFirstLoneSetter names) e
+pub first-lone : (names : List Name) (place : ℕ) (n : Name) (e : ParseError) → slice_get names place ≡ Some n → ((i : ℕ) → i < place → IsLoneSetter names i → ⊥) → Refused (λ f. (is_setter n.0 ≡ true) × (HasName names (getter_of n.0) → ⊥) × (f ≡ fault_in 18 n.1 (setter_words n.0))) e → Refused (IsFirstLoneSetter names) e
 first-lone names place n e at first r = elim r [
   | inl memory ↦ inl memory
   | inr h ↦ inr (record {

@@ -3,7 +3,8 @@ use Rattle.std.specs.Prelude.{◌≡◌, ℕ, IsTrue, List, Option, Some, None, 
 use Rattle.wit_names.specs.Folded.{folded_key}
 use Rattle.wit_names.specs.Setter.{getter_of, is_setter}
 use Rattle.wit_values.specs.declared.span.Span.{Span}
-use Rattle.wit_syntax.specs.Fault.{Fault, fault}
+use Rattle.wit_syntax.specs.Fault.{Fault, fault_in}
+use Rattle.wit_syntax.specs.Words.{setter_words}
 use Rattle.wit_syntax.specs.Repeats.{AllDiffer}
 use Rattle.wit_refusals.specs.declared.name_scope.DefinedName.{DefinedName}
 use Rattle.wit_refusals.specs.NameScopes.{Name}
@@ -39,4 +40,4 @@ pub record HasName (names : List Name) (name : List ℕ) : Type 0 where
 
 -- a name is a setter, and its getter is not there
 abbrev pub IsWithoutGetter : List Name → List ℕ → Span → Fault → Type 0
-IsWithoutGetter names name span f = IsTrue (is_setter name) × (HasName names (getter_of name) → ⊥) × (f ≡ fault 18 span)
+IsWithoutGetter names name span f = IsTrue (is_setter name) × (HasName names (getter_of name) → ⊥) × (f ≡ fault_in 18 span (setter_words name))

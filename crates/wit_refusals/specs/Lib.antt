@@ -2,4 +2,3 @@ pub mod KeyHashes
 pub mod Lent
 pub mod NameScopes
 pub mod KeyedNames
-pub mod RepeatWords

@@ -1,9 +1,10 @@
 -- Names that must not be side by side, and setters without a getter.
-use Rattle.std.specs.Prelude.{◌≡◌, ℕ, ◌<◌, List, Some, slice_get, IsTrue}
+use Rattle.std.specs.Prelude.{◌≡◌, ℕ, ◌<◌, List, Some, slice_get, IsTrue, codes}
 use Rattle.wit_names.specs.Folded.{folded_key}
 use Rattle.wit_names.specs.Setter.{getter_of, is_setter}
 use Rattle.wit_values.specs.declared.span.Span.{Span}
-use Rattle.wit_syntax.specs.Fault.{Fault, fault}
+use Rattle.wit_syntax.specs.Fault.{Fault, fault_in}
+use Rattle.wit_syntax.specs.Words.{clash, setter_words}
 
 -- a name of a scope, with the place where it is written
 abbrev pub Name : Type 0
@@ -16,10 +17,11 @@ pub record AreUsed (names : List Name) (name : List ℕ) : Type 0 where
   pub at : slice_get names place ≡ Some earlier
   pub same : folded_key earlier.0 ≡ folded_key name
 
--- a name is defined whose key an earlier one has
+-- a name is defined whose key one earlier one has
 pub record IsDefinedAgain (names : List Name) (name : List ℕ) (span : Span) (f : Fault) : Type 0 where
   pub in_use : AreUsed names name
-  pub is : f ≡ fault 17 span
+  pub only : (i : ℕ) (n : Name) → slice_get names i ≡ Some n → folded_key n.0 ≡ folded_key name → i ≡ in_use.place
+  pub is : f ≡ fault_in 17 span (clash (codes "name") in_use.earlier.0 name)
 
 -- the name at this place is a setter, and the scope has no getter of its exact spelling
 pub record IsLoneSetter (names : List Name) (place : ℕ) : Type 0 where
@@ -33,4 +35,4 @@ pub record IsFirstLoneSetter (names : List Name) (f : Fault) : Type 0 where
   pub place : ℕ
   pub lone : IsLoneSetter names place
   pub first : (i : ℕ) → i < place → IsLoneSetter names i → ⊥
-  pub is : f ≡ fault 18 lone.setter.1
+  pub is : f ≡ fault_in 18 lone.setter.1 (setter_words lone.setter.0)

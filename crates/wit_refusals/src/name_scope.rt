@@ -1,12 +1,14 @@
 //! The names of a scope, which differ once folded.
-ghost use Rattle.std.specs.Prelude.{◌≡◌, ◌⊎◌, ◌++◌, ◌∷◌, [], ◌↔◌, ℕ, IfErr, IfOk, IsTrue, OnErr, OnOk, codes, string_bytes};
+ghost use Rattle.std.specs.Prelude.{◌≡◌, ◌⊎◌, ◌++◌, ◌∷◌, [], ◌↔◌, ℕ, IfErr, IfOk, IsTrue, OnErr, OnOk, Some, codes, string_bytes};
 ghost use Rattle.wit_names.specs.Mangled.{is_mangled};
 ghost use Rattle.wit_names.specs.Setter.{getter_of, is_setter};
 ghost use Rattle.wit_syntax.specs.Broken.{Refused};
 ghost use Rattle.wit_type_tree.specs.RefusalText.{IsAllocationFailure};
-ghost use Rattle.wit_syntax.specs.Fault.{fault, fault_of};
+ghost use Rattle.wit_syntax.specs.Fault.{fault_in, fault_of};
+ghost use Rattle.wit_syntax.specs.Words.{clash as clash_words, setter_words};
+ghost use Rattle.std.specs.Prelude.{slice_get};
 ghost use Rattle.wit_refusals.specs.NameScopes.{IsDefinedAgain, IsFirstLoneSetter, IsLoneSetter, AreUsed};
-ghost use Rattle.wit_refusals.specs.KeyedNames.{HasName, IsKeyed, IsWithoutGetter, names_of, spelled, spelling};
+ghost use Rattle.wit_refusals.specs.KeyedNames.{Entry, HasName, IsKeyed, IsWithoutGetter, names_of, spelled, spelling};
 
 use crate::getters::is_getter_name;
 use crate::refusal::refuse_in;
@@ -83,7 +85,7 @@ fn defined_again(
     name: &str,
     span: Span,
 ) -> ParseError
-    ensures { IsAllocationFailure result ⊎ (fault_of result ≡ fault 17 span) }
+    ensures { (earlier : Entry) → slice_get names.now place ≡ Some earlier → IsAllocationFailure result ⊎ (fault_of result ≡ fault_in 17 span (clash_words (codes "name") (spelled earlier.0 earlier.1) name.now)) }
 {
     let words = match names.get_index(place) {
         Some((key, earlier)) => clash(alloc, "name", earlier.spelled(key), name),
@@ -121,7 +123,7 @@ fn is_getter_at(names: &Table<Folded, DefinedName>, place: usize, setter: &str) 
 
 /// The words for a setter whose getter is missing.
 fn lone_setter(alloc: Global, setter: &str, getter: &str) -> Result<String, AllocError>
-    ensures { IfOk result (λ words. string_bytes words ≡ codes "setter `" ++ (setter.now ++ (codes "` has no corresponding getter `" ++ (getter.now ++ codes "`")))) }
+    ensures { getter.now ≡ getter_of setter.now → IfOk result (λ words. string_bytes words ≡ setter_words setter.now) }
 {
     format!(in alloc; "setter `{setter}` has no corresponding getter `{getter}`")
 }

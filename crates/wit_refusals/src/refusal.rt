@@ -1,8 +1,9 @@
 //! Refusals of a broken rule.
-ghost use Rattle.std.specs.Prelude.{◌≡◌, ◌⊎◌, ◌++◌, IfErr, IfOk, None, Some, codes, string_bytes};
+ghost use Rattle.std.specs.Prelude.{◌≡◌, ◌⊎◌, IfOk, List, None, Some, ℕ, string_bytes};
 ghost use Rattle.std.specs.Option.{option_map};
-ghost use Rattle.wit_type_tree.specs.RefusalText.{IsAllocationFailure, IsItemNotFound, IsTypeCycle, kind_text};
-ghost use Rattle.wit_syntax.specs.Fault.{fault, fault_of, missing_at, missing_type_at, cyclic_at, type_word};
+ghost use Rattle.wit_type_tree.specs.RefusalText.{IsAllocationFailure, IsItemNotFound, IsTypeCycle};
+ghost use Rattle.wit_syntax.specs.Fault.{fault_in, fault_of, missing_at, missing_type_at, cyclic_at, type_word};
+ghost use Rattle.wit_syntax.specs.Words.{world_words};
 ghost use Rattle.wit_syntax.specs.Hint.{hint_of, renamed, type_hint};
 
 use std::alloc::{AllocError, Global};
@@ -14,9 +15,7 @@ use wit_values::Span;
 #[cold]
 #[inline(never)]
 pub fn refuse_in(rule: u8, span: Span, words: Result<String, AllocError>) -> ParseError
-    ensures fault { IsAllocationFailure result ⊎ (fault_of result ≡ fault rule span) }
-    ensures words { IfOk words (λ text. kind_text result.kind ≡ string_bytes text) }
-    ensures wanting { IfErr words (λ _. IsAllocationFailure result) }
+    ensures { (said : List ℕ) → IfOk words (λ text. string_bytes text ≡ said) → IsAllocationFailure result ⊎ (fault_of result ≡ fault_in rule span said) }
 {
     match words {
         Ok(message) => ParseError::new_syntax(span, message).with_rule(rule),
@@ -28,7 +27,7 @@ pub fn refuse_in(rule: u8, span: Span, words: Result<String, AllocError>) -> Par
 #[cold]
 #[inline(never)]
 pub fn refuse(alloc: Global, rule: u8, span: Span, message: &str) -> ParseError
-    ensures { IsAllocationFailure result ⊎ (fault_of result ≡ fault rule span) }
+    ensures { IsAllocationFailure result ⊎ (fault_of result ≡ fault_in rule span message.now) }
 {
     refuse_in(rule, span, String::from_str(alloc, message))
 }
@@ -65,7 +64,7 @@ pub fn refuse_missing(alloc: Global, rule: u8, sort: &str, id: Id<'_>) -> ParseE
 
 /// The words for a name that leads to a world where an interface is wanted.
 fn a_world(alloc: Global, name: &str) -> Result<String, AllocError>
-    ensures { IfOk result (λ words. string_bytes words ≡ codes "name `" ++ (name.now ++ codes "` is defined as a world, not an interface")) }
+    ensures { IfOk result (λ words. string_bytes words ≡ world_words name.now) }
 {
     format!(in alloc; "name `{name}` is defined as a world, not an interface")
 }
@@ -74,7 +73,7 @@ fn a_world(alloc: Global, name: &str) -> Result<String, AllocError>
 #[cold]
 #[inline(never)]
 pub fn refuse_world(alloc: Global, id: Id<'_>) -> ParseError
-    ensures { IsAllocationFailure result ⊎ (fault_of result ≡ fault 10 id.entry.span) }
+    ensures { IsAllocationFailure result ⊎ (fault_of result ≡ fault_in 10 id.entry.span (world_words id.entry.name.now)) }
 {
     refuse_in(10, id.span, a_world(alloc, id.name))
 }

@@ -1,6 +1,6 @@
 //! The words of refusals of a name that occurs twice.
 ghost use Rattle.std.specs.Prelude.{◌≡◌, IfOk, string_bytes};
-ghost use Rattle.wit_refusals.specs.RepeatWords.{clash, conflicting, defined_twice, duplicate};
+ghost use Rattle.wit_syntax.specs.Words.{clash, conflicting, defined_twice, duplicate};
 
 use std::alloc::{AllocError, Global};
 

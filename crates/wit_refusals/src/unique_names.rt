@@ -26,7 +26,7 @@ fn spelled<'a>(alloc: Global, names: &[Id<'a>]) -> Result<Vec<&'a str>, AllocErr
 ///
 /// The error is E25 at the later name, or a failed allocation.
 pub fn check_unique_names(alloc: Global, desc: &str, names: &[Id<'_>]) -> ParseResult<()>
-    ensures { Finds (names_fault names.now) result }
+    ensures { Finds (names_fault desc.now names.now) result }
 {
     let texts = spelled(alloc, names)?;
     match first_folded_repeat(alloc, &texts)? {

@@ -1,5 +1,5 @@
 -- What the functions of a scope are resolved in, and a name in one of them that is lost.
-use Rattle.std.specs.Prelude.{◌≡◌, ℕ, nat_eq, List, length, map, Option, Some, None, IsSome, slice_get, ⊤}
+use Rattle.std.specs.Prelude.{[], ◌≡◌, ℕ, nat_eq, List, length, map, Option, Some, None, IsSome, slice_get, ⊤}
 use Rattle.std.specs.Cmp.Lexicographic.{pointwise}
 use Rattle.std.specs.Map.{lookup}
 use Rattle.std.specs.Option.{option_to_list}
@@ -13,7 +13,8 @@ use Rattle.wit_types.specs.declared.types.TypeDef.{TypeDef}
 use Rattle.wit_functions.specs.declared.function.Param.{Param}
 use Rattle.wit_syntax.specs.Address.{Address}
 use Rattle.wit_arena.specs.Adding.{AreShapes, SaysParam}
-use Rattle.wit_syntax.specs.Fault.{Fault, fault, name_word}
+use Rattle.wit_syntax.specs.Words.{function_words}
+use Rattle.wit_syntax.specs.Fault.{Fault, fault_in, name_word}
 use Rattle.wit_syntax.specs.Shape.{Shape}
 use Rattle.wit_syntax.specs.Source.{ScopeName, meaning}
 use Rattle.wit_syntax.specs.Function.{Role, Freestanding, Method, Static, Constructor, OnSide, SourceParam, SourceFunction}
@@ -62,8 +63,8 @@ IsFree (OnSide side id form) name = ⊥
 
 -- a name that is written at a span is that of a function up to a place, or of none
 pub data IsLostAt (fns : List SourceFunction) (k : ℕ) (span : Span) (name : List ℕ) (f : Fault) : Type 0 where
-  AtFunction : IsEntered fns k name → f ≡ fault 28 span → IsLostAt fns k span name f
-  AtNothing : (IsEntered fns k name → ⊥) → f ≡ record { rule = 29; span = span; name = Some name; sort = Missing name_word; hint = None } → IsLostAt fns k span name f
+  AtFunction : IsEntered fns k name → f ≡ fault_in 28 span (function_words name) → IsLostAt fns k span name f
+  AtNothing : (IsEntered fns k name → ⊥) → f ≡ record { rule = 29; span = span; name = Some name; sort = Missing name_word; hint = None; said = [] } → IsLostAt fns k span name f
 
 -- these are the parameters, over their types, which were added to the arena
 pub record AreParamsOver (old new : List TypeDef) (env : Env) (ws : List SourceParam) (ps : List Param) : Type 0 where

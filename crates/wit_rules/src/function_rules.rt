@@ -1,9 +1,10 @@
 //! The rules of functions: of their parameters and of their results.
-ghost use Rattle.std.specs.Prelude.{◌≡◌, ◌⊎◌, List, Some, IfOk, map};
+ghost use Rattle.std.specs.Prelude.{◌≡◌, ◌⊎◌, List, Some, IfOk, codes, map};
 ghost use Rattle.wit_type_tree.specs.RefusalText.{IsAllocationFailure};
 ghost use Rattle.wit_type_tree.specs.declared.types.FuncForm.TheVariants.{Getter, Setter};
 ghost use Rattle.wit_syntax.specs.Bodies.{folded};
-ghost use Rattle.wit_syntax.specs.Fault.{fault, fault_of};
+ghost use Rattle.wit_syntax.specs.Fault.{fault_in, fault_of};
+ghost use Rattle.wit_syntax.specs.Words.{defined_twice as twice_words};
 ghost use Rattle.wit_first.specs.First.{Finds, IsFirstRepeat};
 ghost use Rattle.wit_first.specs.FunctionFaults.{given_fault, gives_fault, is_written_as, made_fault, no_result_fault, setter_fault};
 ghost use Rattle.wit_syntax.specs.Source.{ScopeName};
@@ -112,7 +113,7 @@ pub fn repeated_param(
 
 /// The refusal of a parameter whose name an earlier one has (E38).
 pub fn refuse_param(alloc: Global, name: Id<'_>) -> ParseError
-    ensures { IsAllocationFailure result ⊎ (fault_of result ≡ fault 38 name.entry.span) }
+    ensures { IsAllocationFailure result ⊎ (fault_of result ≡ fault_in 38 name.entry.span (twice_words (codes "param") name.entry.name.now)) }
 {
     refuse_in(38, name.span, defined_twice(alloc, "param", name.name))
 }

@@ -1,5 +1,5 @@
 //! The rules of types, fields, flags and cases.
-ghost use Rattle.std.specs.Prelude.{◌≡◌, IfOk, map};
+ghost use Rattle.std.specs.Prelude.{◌≡◌, IfOk, codes, map};
 ghost use Rattle.wit_first.specs.First.{Finds};
 ghost use Rattle.wit_first.specs.KeyFaults.{can_be_key, is_key, key_fault};
 ghost use Rattle.wit_first.specs.ListFaults.{empty_fault, flag_fault, flags_fault, members_fault};
@@ -87,7 +87,7 @@ fn enum_case_names<'a>(alloc: Global, cases: &[EnumCase<'a>]) -> Result<Vec<Id<'
 
 /// Refuses a record without fields (E19), and one with two fields of one name once case is folded (E25).
 pub fn check_record(alloc: Global, span: Span, fields: &[Field<'_>]) -> ParseResult<()>
-    ensures { Finds (members_fault 19 (λ x. x.name) span fields.now) result }
+    ensures { Finds (members_fault 19 (codes "field") (λ x. x.name) span fields.now) result }
 {
     if fields.is_empty() {
         return Err(refuse(alloc, 19, span, "empty record"));
@@ -122,7 +122,7 @@ pub fn check_flags(alloc: Global, span: Span, flags: &[Flag<'_>]) -> ParseResult
 
 /// Refuses a variant without cases (E23), and one with two cases of one name once case is folded (E25).
 pub fn check_variant(alloc: Global, span: Span, cases: &[Case<'_>]) -> ParseResult<()>
-    ensures { Finds (members_fault 23 (λ x. x.name) span cases.now) result }
+    ensures { Finds (members_fault 23 (codes "case") (λ x. x.name) span cases.now) result }
 {
     if cases.is_empty() {
         return Err(refuse(alloc, 23, span, "empty variant"));
@@ -134,7 +134,7 @@ pub fn check_variant(alloc: Global, span: Span, cases: &[Case<'_>]) -> ParseResu
 
 /// Refuses an enum without cases (E24), and one with two cases of one name once case is folded (E25).
 pub fn check_enum(alloc: Global, span: Span, cases: &[EnumCase<'_>]) -> ParseResult<()>
-    ensures { Finds (members_fault 24 (λ x. x.name) span cases.now) result }
+    ensures { Finds (members_fault 24 (codes "case") (λ x. x.name) span cases.now) result }
 {
     if cases.is_empty() {
         return Err(refuse(alloc, 24, span, "empty enum"));

@@ -7,7 +7,7 @@ ghost use Rattle.wit_scopes.specs.BorrowedNames.{use_view, definition_view};
 
 use crate::scope_name::{DefinedName, UsedName, local_of};
 use std::alloc::{AllocError, Global};
-use wit_refusals::refusal::refuse;
+use wit_refusals::refusal::refuse_in;
 use wit_refusals::repeat_words::defined_twice;
 use wit_refusals::repeats::first_repeat;
 use wit_tree::ParseResult;
@@ -63,8 +63,7 @@ pub fn check_unique_names(alloc: Global, ids: &[Id<'_>]) -> ParseResult<()>
     match first_repeat(alloc, &texts)? {
         Some((_, second)) => {
             let later = &ids[second];
-            let message = defined_twice(alloc, "name", later.name)?;
-            Err(refuse(alloc, 14, later.span, message.as_str()))
+            Err(refuse_in(14, later.span, defined_twice(alloc, "name", later.name)))
         }
         None => Ok(()),
     }

@@ -9,7 +9,7 @@ use Rattle.std.proofs.lemmas.Option.{slice_get-map}
 use Rattle.wit_type_tree.specs.declared.types.Param.{Param}
 use Rattle.wit_types.specs.declared.types.TypeDef.{TypeDef}
 use Rattle.wit_syntax.specs.Bodies.{folded}
-use Rattle.wit_syntax.specs.Fault.{Fault, fault}
+use Rattle.wit_syntax.specs.Fault.{Fault, param_twice}
 use Rattle.wit_syntax.specs.Function.{SourceParam, SourceFunction, written_param}
 use Rattle.wit_syntax.specs.Source.{ScopeName}
 use Rattle.wit_syntax.proofs.Lists.{at_back}
@@ -29,7 +29,7 @@ abbrev key : SourceParam → List ℕ
 key q = folded q.name
 
 abbrev as_stated : SourceParam → Fault
-as_stated q = fault 38 q.span
+as_stated q = param_twice q.name q.span
 
 -- the parameters before a written one
 params_before : (given : List SourceParam) (ps : List Param) (i : ℕ) → take (length given + i) (given ++ map written_param ps) ≡ given ++ map written_param (take i ps)
@@ -39,8 +39,8 @@ param_at : (given : List SourceParam) (ps : List Param) (i : ℕ) (p : Param) �
 param_at given ps i p at = at_back given (map written_param ps) i (written_param p) (slice_get-map written_param ps i ∙ ap (option_map written_param) at)
 
 -- one that is the first repeated one, and one before that
-pub param_repeated : (given : List SourceParam) (ps : List Param) (found : Option ℕ) (i : ℕ) (p : Param) → IsFirstRepeat key (given ++ map written_param ps) found → found ≡ Some (length given + i) → slice_get ps i ≡ Some p → repeat_of key as_stated (given ++ map written_param (take i ps)) (written_param p) ≡ Some (fault 38 p.name.span)
-param_repeated given ps found i p first is at = subst (λ (l : List SourceParam). repeat_of key as_stated l (written_param p) ≡ Some (fault 38 p.name.span)) (params_before given ps i) (repeat_found key as_stated (given ++ map written_param ps) (length given + i) (written_param p) (subst (IsFirstRepeat key (given ++ map written_param ps)) is first) (param_at given ps i p at))
+pub param_repeated : (given : List SourceParam) (ps : List Param) (found : Option ℕ) (i : ℕ) (p : Param) → IsFirstRepeat key (given ++ map written_param ps) found → found ≡ Some (length given + i) → slice_get ps i ≡ Some p → repeat_of key as_stated (given ++ map written_param (take i ps)) (written_param p) ≡ Some (param_twice p.name.name.now p.name.span)
+param_repeated given ps found i p first is at = subst (λ (l : List SourceParam). repeat_of key as_stated l (written_param p) ≡ Some (param_twice p.name.name.now p.name.span)) (params_before given ps i) (repeat_found key as_stated (given ++ map written_param ps) (length given + i) (written_param p) (subst (IsFirstRepeat key (given ++ map written_param ps)) is first) (param_at given ps i p at))
 
 pub param_unrepeated : (given : List SourceParam) (ps : List Param) (found : Option ℕ) (i : ℕ) (p : Param) → length given ≤ 1 → IsFirstRepeat key (given ++ map written_param ps) found → ((k : ℕ) → found ≡ Some k → length given ≤ k → length given + i ≤ k) → (found ≡ Some (length given + i) → ⊥) → slice_get ps i ≡ Some p → repeat_of key as_stated (given ++ map written_param (take i ps)) (written_param p) ≡ None
 param_unrepeated given ps found i p few first past other at =

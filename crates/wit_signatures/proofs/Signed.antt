@@ -16,7 +16,7 @@ use Rattle.wit_type_tree.specs.declared.types.«Type».TheVariants as written
 use Rattle.wit_type_tree.specs.TypeParts.{row_types, part_types}
 use Rattle.wit_types.specs.declared.types.TypeDef.{TypeDef}
 use Rattle.wit_syntax.specs.Broken.{Refused}
-use Rattle.wit_syntax.specs.Fault.{Fault, fault, fault_of, as_stated, missing_at, missing_type_at, name_word}
+use Rattle.wit_syntax.specs.Fault.{Fault, fault_of, as_stated, missing_at, missing_type_at, name_word, function_as_type, no_resource}
 use Rattle.wit_syntax.specs.Function.{Role, Freestanding, Method, Static, Constructor, OnSide, SourceFunction}
 use Rattle.wit_syntax.specs.SignatureRules.{IsEntered}
 use Rattle.wit_syntax.proofs.Lists.{at_take}
@@ -54,7 +54,7 @@ end_rule : (id : Id) (x : Option EntryEnd) (f : Fault) → end_fault id x ≡ So
 end_rule id None f h is = (let g : ⊥ = cc in g)
 end_rule id (Some IsResource) f h is = (let g : ⊥ = cc in g)
 end_rule id (Some (IsUnknown place)) f h is = (let g : ⊥ = cc in g)
-end_rule id (Some IsOther) f h is = (let it = ap (λ (x : Fault). x.rule) (same_Some (fault 27 id.span) f h) in let g : ⊥ = omega arith in g)
+end_rule id (Some IsOther) f h is = (let it = ap (λ (x : Fault). x.rule) (same_Some (no_resource id) f h) in let g : ⊥ = omega arith in g)
 
 turned_handled : (lost : Id → Fault) (es : List TypeDef) (id : Id) (o : Option ℕ) → IsTurned lost (handled_fault missing_type_at es id o) (handled_fault lost es id o)
 turned_handled lost es id None = inl (id, refl, refl)
@@ -157,7 +157,7 @@ entered_among fns k name e =
 
 -- which of both faults it is, where a name is lost
 abbrev chosen : Id → Bool → Fault
-chosen id b = if b then fault 28 id.span else missing_at 29 name_word id
+chosen id b = if b then function_as_type id else missing_at 29 name_word id
 
 pub lost_is : (fns : List SourceFunction) (k : ℕ) (id : Id) (f : Fault) → IsLostAt fns k id.span id.name.now f → f ≡ lost_at fns k id
 lost_is fns k id f l = by (is_among id.name.now (take (suc k) fns)) refl l

@@ -9,7 +9,7 @@ use Rattle.wit_type_tree.specs.declared.types.Param.{Param}
 use Rattle.wit_type_tree.specs.declared.types.«Type».{«Type» as Written}
 use Rattle.wit_types.specs.declared.types.TypeDef.{TypeDef}
 use Rattle.wit_syntax.specs.Bodies.{folded}
-use Rattle.wit_syntax.specs.Fault.{Fault, fault, missing_at, name_word}
+use Rattle.wit_syntax.specs.Fault.{Fault, missing_at, name_word, function_as_type, param_twice}
 use Rattle.wit_syntax.specs.Function.{Role, Freestanding, SourceParam, SourceFunction, written_param}
 use Rattle.wit_syntax.specs.Source.{ScopeName}
 use Rattle.wit_first.specs.AttributeFaults.{metadata_fault}
@@ -28,7 +28,7 @@ is_among name fns = list_any (λ (fn : SourceFunction). is_free name fn.role) fn
 
 -- a name in the signature of the function at a place means nothing: it is that of a function up to there, or of none
 abbrev pub lost_at : List SourceFunction → ℕ → Id → Fault
-lost_at fns k id = if is_among id.name.now (take (suc k) fns) then fault 28 id.span else missing_at 29 name_word id
+lost_at fns k id = if is_among id.name.now (take (suc k) fns) then function_as_type id else missing_at 29 name_word id
 
 -- of a type in it
 abbrev pub signed_fault : Env → List TypeDef → List SourceFunction → ℕ → Written → Option Fault
@@ -36,7 +36,7 @@ signed_fault env es fns k t = named_fault (lost_at fns k) env es t
 
 -- of a parameter, beside those before it: its name is one of theirs, and then its type
 abbrev pub param_fault : (Written → Option Fault) → List SourceParam → List Param → Param → Option Fault
-param_fault wrong given before p = option_or (repeat_of (λ (q : SourceParam). folded q.name) (λ (q : SourceParam). fault 38 q.span) (given ++ map written_param before) (written_param p)) (wrong p.ty)
+param_fault wrong given before p = option_or (repeat_of (λ (q : SourceParam). folded q.name) (λ (q : SourceParam). param_twice q.name q.span) (given ++ map written_param before) (written_param p)) (wrong p.ty)
 
 abbrev pub params_fault : (Written → Option Fault) → List SourceParam → List Param → Option Fault
 params_fault wrong given ps = first_after (param_fault wrong given) [] ps

@@ -1,10 +1,11 @@
 //! Types in signatures.
-ghost use Rattle.std.specs.Prelude.{◌≡◌, ◌<◌, ◌↔◌, ◌++◌, None, IfOk, IsTrue, OnOk, length, map, codes, string_bytes};
+ghost use Rattle.std.specs.Prelude.{◌≡◌, ◌<◌, ◌↔◌, None, IfOk, IsTrue, OnOk, length, map, string_bytes};
 ghost use Rattle.wit_type_tree.specs.RefusalText.{IsItemNotFound};
 ghost use Rattle.wit_types.specs.declared.stability.Stability.TheVariants.{Unknown};
 ghost use Rattle.wit_syntax.specs.Shape.{shape_of, handles};
 ghost use Rattle.wit_syntax.specs.Hint.{hint_of};
 ghost use Rattle.wit_syntax.specs.Fault.{name_word};
+ghost use Rattle.wit_syntax.specs.Words.{function_words};
 ghost use Rattle.wit_syntax.specs.Broken.{Refused};
 ghost use Rattle.wit_syntax.specs.SignatureRules.{IsEntered};
 ghost use Rattle.wit_first.specs.First.{Finds};
@@ -53,7 +54,7 @@ fn is_entered(functions: &[BorrowedFunction<'_, '_>], place: usize, name: &str) 
 
 /// The words for a function that is used as a type.
 fn function_as_type(alloc: Global, name: &str) -> Result<String, AllocError>
-    ensures { IfOk result (λ words. string_bytes words ≡ codes "cannot use function `" ++ (name.now ++ codes "` as a type")) }
+    ensures { IfOk result (λ words. string_bytes words ≡ function_words name.now) }
 {
     format!(in alloc; "cannot use function `{name}` as a type")
 }

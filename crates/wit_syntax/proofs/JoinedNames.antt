@@ -7,7 +7,7 @@ use Rattle.wit_tree.specs.declared.tree.AstItem.{AstItem}
 use Rattle.wit_tree.specs.declared.tree.AstItem.TheVariants as ast
 use Rattle.wit_tree.specs.declared.tree.PackageFile.{PackageFile}
 use Rattle.wit_graph.proofs.Tables.{matched}
-use Rattle.wit_syntax.specs.Fault.{Fault, fault}
+use Rattle.wit_syntax.specs.Fault.{Fault, item_twice, top_twice}
 use Rattle.wit_syntax.specs.Source.{TopName, top_name, top_names, top_text, Item, item_name, declared_items, file_items, all_items, about}
 use Rattle.wit_syntax.specs.Bodies.{IsSecond}
 use Rattle.wit_syntax.specs.Splitting.{file_declarations, declarations}
@@ -30,7 +30,7 @@ tops_of_items top (ast.Interface i ∷ ds) none = ap (λ (l : List Id). i.name �
 tops_of_items top (ast.World w ∷ ds) none = ap (λ (l : List Id). w.name ∷ l) (tops_of_items top ds (no_use_after (ast.World w) ds none))
 tops_of_items top (ast.Use u ∷ ds) none = absurd (none u (contains_at (ast.Use u ∷ ds) 0 (ast.Use u) refl))
 
-pub top_repeated : (files : List PackageFile) (file : PackageFile) (f : Fault) → HasNoUse (declarations files) → Contains files file → IsSecond top_text (λ (n : TopName). fault 6 n.id.span) (top_names file) f → (g : Fault) × IsSecond item_name (λ (i : Item). fault 5 (about i.declared).id.span) (all_items files) g
+pub top_repeated : (files : List PackageFile) (file : PackageFile) (f : Fault) → HasNoUse (declarations files) → Contains files file → IsSecond top_text (λ (n : TopName). top_twice n.id) (top_names file) f → (g : Fault) × IsSecond item_name (λ (i : Item). item_twice (about i.declared).id) (all_items files) g
 top_repeated files file f none is h =
     let r = h.1 in
     let same : map top_id (top_names file) ≡ map (λ (i : Item). (about i.declared).id) (file_items file) = tops_of_items (top_names file) (file_declarations file) (no_use_in_file files none file is) in
@@ -39,7 +39,7 @@ top_repeated files file f none is h =
     let place = at_contains files file is in
     let from = flat_map_from file_items files place.0 file place.1 in
     let before = r.2 in (
-      fault 5 (about y.0.declared).id.span,
+      item_twice (about y.0.declared).id,
       (
         y.0,
         (
@@ -56,7 +56,7 @@ top_repeated files file f none is h =
     )
 
 -- an item whose name occurs twice among items is one whose name does among their twins
-pub repeated_onward : (is js : List Item) (f : Fault) → AreTwins is js → IsSecond item_name (λ (i : Item). fault 5 (about i.declared).id.span) is f → IsSecond item_name (λ (i : Item). fault 5 (about i.declared).id.span) js f
+pub repeated_onward : (is js : List Item) (f : Fault) → AreTwins is js → IsSecond item_name (λ (i : Item). item_twice (about i.declared).id) is f → IsSecond item_name (λ (i : Item). item_twice (about i.declared).id) js f
 repeated_onward is js f t h =
     let r = h.1 in
     let x = twin_at is js t r.0 r.3 r.4 in

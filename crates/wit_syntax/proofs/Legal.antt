@@ -16,6 +16,7 @@ use Rattle.wit_graph.proofs.Tables.{not_missing}
 use Rattle.wit_graph.proofs.Forward.{no_cycle}
 use Rattle.wit_graph.proofs.SameEdges.{one_answer}
 use Rattle.wit_syntax.specs.Source.{Part, DefinitionPart, UsePart, IncludePart, FunctionPart, ExternPart, Item, parts, ScopeName}
+use Rattle.wit_syntax.specs.Words.{words_of}
 use Rattle.wit_syntax.specs.Fault.{Fault, fault}
 use Rattle.wit_syntax.specs.ScopeTables.{rows_of, in_turn}
 use Rattle.wit_syntax.specs.Bodies.{IsRepeated}
@@ -43,7 +44,7 @@ no_cyclic_edge number sort rs places f order h = no_cycle (Leads rs) (length rs)
 pub no_fold : (xs : List ScopeName) (items : List SideItem) (order : List ℕ) (f : Fault) → IsOrder (rows_of xs) order → ((side : WorldSide) → AllDiffer (map called_key (side_called side xs (items_on side items) order))) → IsFoldedTwice xs items f → ⊥
 no_fold xs items order f least differ h =
     let same : h.1 ≡ order = (one_answer (rows_of xs)).one h.1 order h.2 least in
-    no_repeat called_key (side_called h.0 xs (items_on h.0 items) order) h.3.0 (differ h.0) (subst (λ places. IsRepeated called_key (side_called h.0 xs (items_on h.0 items) places) h.3.0) same h.3.1)
+    no_repeat called_key (side_called h.0 xs (items_on h.0 items) order) h.3.1.0 (differ h.0) (subst (λ places. IsRepeated called_key (side_called h.0 xs (items_on h.0 items) places) h.3.1.0) same h.3.1.1)
 
 -- what is at a place is the first after those before it
 at_drop : {X : Type 0} (xs : List X) (n : ℕ) (x : X) → slice_get xs n ≡ Some x → slice_get (drop n xs) 0 ≡ Some x
@@ -154,17 +155,20 @@ function_twice xs items order least i j x y before at_x at_y same =
       order,
       least,
       (
-        function_called y,
+        words_of 17,
         (
-          length names + it.0,
-          length names + it.1,
-          omega (arith, lt),
-          function_called x,
-          at_back names ours it.0 (function_called x) it.3,
-          at_back names ours it.1 (function_called y) it.4,
-          ap folded_key name,
+          function_called y,
+          (
+            length names + it.0,
+            length names + it.1,
+            omega (arith, lt),
+            function_called x,
+            at_back names ours it.0 (function_called x) it.3,
+            at_back names ours it.1 (function_called y) it.4,
+            ap folded_key name,
+          ),
+          refl,
         ),
-        refl,
       ),
     )
 

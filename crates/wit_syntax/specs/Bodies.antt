@@ -15,7 +15,7 @@ use Rattle.wit_type_tree.specs.declared.types.«Type».TheVariants as written
 use Rattle.wit_type_tree.specs.declared.types.TypeBody.{TypeBody}
 use Rattle.wit_type_tree.specs.declared.types.TypeBody.TheVariants.{Record, Flags, Variant, Enum}
 use Rattle.wit_type_tree.specs.TypeParts.{part_types, row_types, body_types}
-use Rattle.wit_syntax.specs.Fault.{Fault, fault}
+use Rattle.wit_syntax.specs.Fault.{Fault, fault, fault_in}
 
 -- the key by which labels are distinguished: the label in lower case
 abbrev pub folded : List ℕ → List ℕ
@@ -29,6 +29,10 @@ IsRepeated {X} key xs later = (first second : ℕ) × (first < second) × (earli
 abbrev pub IsSecond : {X : Type 0} → (X → List ℕ) → (X → Fault) → List X → Fault → Type 0
 IsSecond {X} key as_stated xs f = (later : X) × IsRepeated key xs later × (f ≡ as_stated later)
 
+-- the same, where the words of the fault have more in them than the later item: in some words
+abbrev pub IsSecondIn : {X : Type 0} → (X → List ℕ) → (X → List ℕ → Fault) → List X → Fault → Type 0
+IsSecondIn {X} key as_stated xs f = (words : List ℕ) × IsSecond key (λ (x : X). as_stated x words) xs f
+
 -- a list has nothing in it, and the fault of this number says of it
 abbrev pub IsEmpty : {X : Type 0} → ℕ → List X → Span → Fault → Type 0
 IsEmpty number xs span f = (xs ≡ []) × (f ≡ fault number span)
@@ -39,7 +43,7 @@ IsFlagTooMany flags f = option_map (λ (flag : Flag). fault 21 flag.name.span) (
 
 -- an earlier one of the names of fields, flags or cases is the same once case is folded
 abbrev pub IsDuplicateName : List Id → Fault → Type 0
-IsDuplicateName names f = IsSecond (λ (id : Id). folded id.name.now) (λ (id : Id). fault 25 id.span) names f
+IsDuplicateName names f = IsSecondIn (λ (id : Id). folded id.name.now) (λ (id : Id) (words : List ℕ). fault_in 25 id.span words) names f
 
 -- the keys of a map can be of a primitive type, but of no float and no context of errors
 abbrev pub CanBeKey : Primitive → Type 0

@@ -22,8 +22,9 @@ use Rattle.wit_graph.specs.Order.{ReachesCycle}
 use Rattle.wit_graph.specs.Table.{Row, IsEdge, Leads, target}
 use Rattle.wit_syntax.specs.Metadata.{IsBrokenStability, IsBrokenMetadata}
 use Rattle.wit_syntax.specs.Bodies.{IsSecond, IsBrokenBody}
-use Rattle.wit_syntax.specs.Fault.{Fault, fault_of, fault, missing_at, missing_type_at, cyclic_at, item_word, type_word, name_word}
-use Rattle.wit_syntax.specs.Address.{Address, ForeignNamed}
+use Rattle.wit_syntax.specs.Fault.{Fault, fault_of, fault, fault_in, missing_at, missing_type_at, cyclic_at, item_word, type_word, name_word, function_used, interface_there, item_twice, name_twice, top_twice, world_there, linked_twice}
+use Rattle.wit_syntax.specs.Address.{Address, ForeignNamed, package_of}
+use Rattle.wit_syntax.specs.Words.{mismatch}
 use Rattle.wit_syntax.specs.Source.{path_id, path_scope, Target, Local, Foreign, leads, TopName, top_names, top_text, Item, item_name, is_world, all_items, item_named, ScopeName, Used, Defined, local_id, local_name, scope_names, meaning, address, about}
 use Rattle.wit_syntax.specs.Foreign.{ForeignVisit, foreign_visits, foreign_at}
 use Rattle.wit_syntax.specs.Function.{SourceFunction, functions, item_types, role_names}
@@ -59,7 +60,7 @@ pub record IsMismatch (previous current : Option Header) (f : Fault) : Type 0 wh
   pub was : previous ≡ Some before
   pub now : current ≡ Some own
   pub other : IsSamePackage before own → ⊥
-  pub is : f ≡ fault 1 own.span
+  pub is : f ≡ fault_in 1 own.span (mismatch (package_of own) (package_of before))
 
 -- a header that has docs comes after one that has docs
 pub record IsSecondDocs (earlier : List Header) (current : Option Header) (f : Fault) : Type 0 where
@@ -94,7 +95,7 @@ is_world_at files (Foreign p id) = option_map (λ (v : ForeignVisit). v.wants_wo
 
 -- what is wrong with a scope by itself, where it has these functions
 pub data IsBrokenScope (xs : List ScopeName) (fns : List SourceFunction) (f : Fault) : Type 0 where
-  DefinedTwice : IsSecond local_name (λ (x : ScopeName). fault 14 (local_id x).span) (used xs ++ defined xs) f → IsBrokenScope xs fns f
+  DefinedTwice : IsSecond local_name (λ (x : ScopeName). name_twice (local_id x)) (used xs ++ defined xs) f → IsBrokenScope xs fns f
   MissingType : IsMissingEdge missing_type_at (rows_of xs) f → IsBrokenScope xs fns f
   CyclicType : IsCyclicEdge 16 type_word (rows_of xs) f → IsBrokenScope xs fns f
   Metadata : (d : TypeDef) → Contains xs (Defined d) → IsBrokenMetadata d.attributes.items f → IsBrokenScope xs fns f
@@ -103,8 +104,8 @@ pub data IsBrokenScope (xs : List ScopeName) (fns : List SourceFunction) (f : Fa
 
 -- what is wrong with the names of the items that files declare, with those at the top of each, and with what paths of items lead to
 pub data IsBrokenItems (files : List PackageFile) (f : Fault) : Type 0 where
-  DuplicateItem : IsSecond item_name (λ (i : Item). fault 5 (about i.declared).id.span) (all_items files) f → IsBrokenItems files f
-  DuplicateTopName : (file : PackageFile) → Contains files file → IsSecond top_text (λ (n : TopName). fault 6 n.id.span) (top_names file) f → IsBrokenItems files f
+  DuplicateItem : IsSecond item_name (λ (i : Item). item_twice (about i.declared).id) (all_items files) f → IsBrokenItems files f
+  DuplicateTopName : (file : PackageFile) → Contains files file → IsSecond top_text (λ (n : TopName). top_twice n.id) (top_names file) f → IsBrokenItems files f
   MissingItem : IsMissingEdge (missing_at 7 item_word) (item_rows files) f → IsBrokenItems files f
   CyclicItem : IsCyclicEdge 8 item_word (item_rows files) f → IsBrokenItems files f
 
@@ -126,7 +127,7 @@ pub data IsBrokenUse (files : List PackageFile) (i : Item) (f : Fault) : Type 0 
   -- it leads to no item
   MissingUse : (path : UsePath) (id : Id) → Contains (use_paths i) path → leads i.top path ≡ Local id → item_named (all_items files) id.name.now ≡ None → f ≡ missing_at 7 item_word id → IsBrokenUse files i f
   -- it leads to a world
-  WorldUsed : (path : UsePath) → Contains (use_paths i) path → is_world_at files (leads i.top path) ≡ Some true → f ≡ fault 10 (path_id path).span → IsBrokenUse files i f
+  WorldUsed : (path : UsePath) → Contains (use_paths i) path → is_world_at files (leads i.top path) ≡ Some true → f ≡ world_there (path_id path) → IsBrokenUse files i f
 
 -- a setter has no getter on its side of an item that includes nothing: where a world is included, the getter may come with it
 abbrev pub IsSetterAlone : Item → Fault → Type 0
@@ -135,7 +136,7 @@ IsSetterAlone i f = (includes i ≡ []) × (side : WorldSide) × IsUnpairedSette
 -- an earlier interface on a side of an item is the same one, where both have no name of their own
 abbrev pub IsLinkedTwice : List PackageFile → Item → Fault → Type 0
 IsLinkedTwice files i f = (side : WorldSide) × (place : ℕ) × (earlier later : Link) × Contains (take place (items_on side (side_items i))) (SideLink earlier) × (slice_get (items_on side (side_items i)) place ≡ Some (SideLink later))
-    × (earlier.name ≡ None) × (later.name ≡ None) × (path_scope i.top earlier.path ≡ path_scope i.top later.path) × (is_world_at files (leads i.top later.path) ≡ Some false) × (f ≡ fault 43 (path_id later.path).span)
+    × (earlier.name ≡ None) × (later.name ≡ None) × (path_scope i.top earlier.path ≡ path_scope i.top later.path) × (is_world_at files (leads i.top later.path) ≡ Some false) × (f ≡ linked_twice later.side (path_id later.path).span)
 
 -- what is wrong with files
 pub data IsBroken (files : List PackageFile) (f : Fault) : Type 0 where
@@ -147,10 +148,10 @@ pub data IsBroken (files : List PackageFile) (f : Fault) : Type 0 where
   IncludeStability : (i : Item) → Contains (all_items files) i → (n : Include) → Contains (includes i) n → IsBrokenStability n.attributes.items f → IsBroken files f
   Use : (i : Item) → Contains (all_items files) i → IsBrokenUse files i f → IsBroken files f
   -- the path of an include leads to an interface
-  InterfaceIncluded : (i : Item) → Contains (all_items files) i → (path : UsePath) → Contains (include_paths i) path → is_world_at files (leads i.top path) ≡ Some false → f ≡ fault 11 (path_id path).span → IsBroken files f
+  InterfaceIncluded : (i : Item) → Contains (all_items files) i → (path : UsePath) → Contains (include_paths i) path → is_world_at files (leads i.top path) ≡ Some false → f ≡ interface_there (path_id path) → IsBroken files f
   -- a used name is none of the interface that it comes from, which is the first item of its name
   MissingName : (i : Item) → Contains (all_scopes files) i → (from : Address) (metadata : List Attribute) (n : UseName) → Contains (scope_names i) (Used from metadata n) → (target : Item) → from ≡ address target → item_named (all_items files) (item_name target) ≡ Some target
-      → meaning (scope_names target) n.name.name.now ≡ None → IsNoType (Contains (flat_map (λ fn. role_names fn.role) (functions target)) n.name.name.now) (fault 13 n.name.span) (missing_at 12 name_word n.name) f → IsBroken files f
+      → meaning (scope_names target) n.name.name.now ≡ None → IsNoType (Contains (flat_map (λ fn. role_names fn.role) (functions target)) n.name.name.now) (function_used n.name) (missing_at 12 name_word n.name) f → IsBroken files f
   Scope : (i : Item) → Contains (all_scopes files) i → IsBrokenScope (scope_names i) (functions i) f → IsBroken files f
   Sides : (i : Item) → Contains (all_scopes files) i → IsBrokenSides i f → IsBroken files f
   LinkedTwice : (i : Item) → Contains (all_items files) i → IsLinkedTwice files i f → IsBroken files f

@@ -3,6 +3,7 @@ pub mod ExternPart
 pub mod Address
 pub mod Docs
 pub mod Hint
+pub mod Words
 pub mod Fault
 pub mod Metadata
 pub mod Form

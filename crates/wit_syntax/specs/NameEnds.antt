@@ -8,7 +8,7 @@ use Rattle.wit_syntax.specs.Form.{Form, AliasForm, ResourceForm, UnknownForm}
 use Rattle.wit_syntax.specs.Address.{Address}
 use Rattle.wit_syntax.specs.Shape.{Shape, Shapes, Word, More, all_handles}
 use Rattle.wit_syntax.specs.Source.{ScopeName, local_name, meaning, about_name}
-use Rattle.wit_syntax.specs.Fault.{Fault, fault}
+use Rattle.wit_syntax.specs.Fault.{Fault, no_resource}
 use Rattle.wit_syntax.specs.ScopesOfTrees.{scope}
 use Rattle.std.specs.Option.{unwrap_or}
 
@@ -37,4 +37,4 @@ EndsAt files s id end = (steps : ℕ) × (shape_end files steps s (Word id) ≡ 
 
 -- a name in a handle ends at no resource
 abbrev pub IsNoResource : List PackageFile → Address → List Written → Fault → Type 0
-IsNoResource files s types f = (id : Id) × Contains (all_handles types) id × EndsAt files s id Elsewhere × (f ≡ fault 27 id.span)
+IsNoResource files s types f = (id : Id) × Contains (all_handles types) id × EndsAt files s id Elsewhere × (f ≡ no_resource id)

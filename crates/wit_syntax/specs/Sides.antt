@@ -16,9 +16,9 @@ use Rattle.wit_tree.specs.declared.tree.WorldSide.{WorldSide}
 use Rattle.wit_tree.specs.declared.tree.WorldSide.TheVariants.{Imported, Exported}
 use Rattle.wit_graph.specs.Table.{IsOrder}
 use Rattle.wit_syntax.specs.ExternPart.{same_side}
-use Rattle.wit_syntax.specs.Fault.{Fault, fault}
+use Rattle.wit_syntax.specs.Fault.{Fault, fault_in}
 use Rattle.wit_syntax.specs.Metadata.{IsBrokenMetadata}
-use Rattle.wit_syntax.specs.Bodies.{IsSecond}
+use Rattle.wit_syntax.specs.Bodies.{IsSecondIn}
 use Rattle.wit_syntax.specs.Source.{TheInline, Part, DefinitionPart, FunctionPart, ExternPart, Item, item_name, parts, all_items, ScopeName, scope_names}
 use Rattle.wit_syntax.specs.ScopeTables.{rows_of, in_turn}
 use Rattle.wit_syntax.specs.Function.{Role, OnSide, SourceFunction, definition_functions, free_function, side_function}
@@ -147,7 +147,7 @@ side_called side xs there order = map name_called (names_on side (in_turn xs ord
 
 -- an earlier name on a side has the key of a later one
 abbrev pub IsFoldedTwice : List ScopeName → List SideItem → Fault → Type 0
-IsFoldedTwice xs items f = (side : WorldSide) × (order : List ℕ) × IsOrder (rows_of xs) order × IsSecond (λ (c : Called). folded_key c.name) (λ (c : Called). fault 17 c.span) (side_called side xs (items_on side items) order) f
+IsFoldedTwice xs items f = (side : WorldSide) × (order : List ℕ) × IsOrder (rows_of xs) order × IsSecondIn (λ (c : Called). folded_key c.name) (λ (c : Called) (words : List ℕ). fault_in 17 c.span words) (side_called side xs (items_on side items) order) f
 
 -- what a world imports or exports under a name
 abbrev pub IsExternPart : SideItem → Type 0
@@ -157,7 +157,7 @@ IsExternPart _ = ⊤
 -- an earlier name on a side is that of an import or an export
 abbrev pub IsCrossedTwice : List ScopeName → List SideItem → Fault → Type 0
 IsCrossedTwice xs items f = (side : WorldSide) × (order : List ℕ) × IsOrder (rows_of xs) order × (place : ℕ) × (later : SideItem) × (slice_get (items_on side items) place ≡ Some later) × IsExternPart later × (called : Called)
-    × (item_called later ≡ called ∷ []) × (earlier : Called) × Contains (side_called side xs (take place (items_on side items)) order) earlier × (earlier.name ≡ called.name) × (f ≡ fault 44 called.span)
+    × (item_called later ≡ called ∷ []) × (earlier : Called) × Contains (side_called side xs (take place (items_on side items)) order) earlier × (earlier.name ≡ called.name) × (words : List ℕ) × (f ≡ fault_in 44 called.span words)
 
 -- the attributes before an interface, by its path or written there; those of a function are stated with it
 abbrev pub interface_attributes : SideItem → List Attribute

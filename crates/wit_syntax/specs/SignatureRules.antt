@@ -13,7 +13,7 @@ use Rattle.wit_type_tree.specs.declared.types.TypeBody.TheVariants as body
 use Rattle.wit_type_tree.specs.declared.types.«Type».{«Type» as Written}
 use Rattle.wit_type_tree.specs.declared.types.«Type».TheVariants as written
 use Rattle.wit_type_tree.specs.TypeParts.{ok_type}
-use Rattle.wit_syntax.specs.Fault.{Fault, fault, missing_at, name_word}
+use Rattle.wit_syntax.specs.Fault.{Fault, fault, missing_at, name_word, function_as_type, lone_setter, param_twice}
 use Rattle.wit_syntax.specs.Shape.{Word, shape_of, words}
 use Rattle.wit_syntax.specs.Source.{ScopeName, Defined, local_id, local_name, meaning}
 use Rattle.wit_syntax.specs.Function.{Freestanding, Constructor, SourceParam, SourceFunction, all_params, written_types, signature}
@@ -84,7 +84,7 @@ IsSetterGiven fn f = (fn.func.form ≡ form.Setter) × (length fn.func.params.it
 
 -- an earlier parameter has the name once case is folded
 abbrev pub IsDuplicateParam : SourceFunction → Fault → Type 0
-IsDuplicateParam fn f = IsSecond (λ (p : SourceParam). folded p.name) (λ (p : SourceParam). fault 38 p.span) (all_params fn) f
+IsDuplicateParam fn f = IsSecond (λ (p : SourceParam). folded p.name) (λ (p : SourceParam). param_twice p.name p.span) (all_params fn) f
 
 -- a getter gives nothing
 abbrev pub IsGetterWithoutResult : SourceFunction → Fault → Type 0
@@ -113,7 +113,7 @@ pub data IsBrokenFunction (xs : List ScopeName) (fs : List SourceFunction) (k : 
   BrokenMetadata : IsBrokenMetadata fn.attributes f → IsBrokenFunction xs fs k fn f
   BrokenTypes : IsBrokenPart (written_types fn) f → IsBrokenFunction xs fs k fn f
   -- a name in its signature is none of the scope
-  MissingInSignature : (id : Id) → Contains (flat_map words (signature fn)) id → meaning xs id.name.now ≡ None → IsNoType (IsEntered fs k id.name.now) (fault 28 id.span) (missing_at 29 name_word id) f → IsBrokenFunction xs fs k fn f
+  MissingInSignature : (id : Id) → Contains (flat_map words (signature fn)) id → meaning xs id.name.now ≡ None → IsNoType (IsEntered fs k id.name.now) (function_as_type id) (missing_at 29 name_word id) f → IsBrokenFunction xs fs k fn f
   GetterGiven : IsGetterGiven fn f → IsBrokenFunction xs fs k fn f
   SetterGiven : IsSetterGiven fn f → IsBrokenFunction xs fs k fn f
   DuplicateParam : IsDuplicateParam fn f → IsBrokenFunction xs fs k fn f
@@ -124,4 +124,4 @@ pub data IsBrokenFunction (xs : List ScopeName) (fs : List SourceFunction) (k : 
 
 -- a setter has no getter of its spelling
 abbrev pub IsUnpairedSetter : List SourceFunction → Fault → Type 0
-IsUnpairedSetter fs f = (fn : SourceFunction) × Contains fs fn × (fn.func.form ≡ form.Setter) × ((g : SourceFunction) → Contains fs g → g.name ≡ getter_of fn.name → ⊥) × (f ≡ fault 18 fn.span)
+IsUnpairedSetter fs f = (fn : SourceFunction) × Contains fs fn × (fn.func.form ≡ form.Setter) × ((g : SourceFunction) → Contains fs g → g.name ≡ getter_of fn.name → ⊥) × (f ≡ lone_setter fn.name fn.span)

@@ -1,22 +1,22 @@
 -- Which declaration a token begins, and what is a declaration.
-use Rattle.std.proofs.Common.{◌≡◌, ℕ, zero, suc, ◌+◌, ◌<◌, ◌≤◌, Bool, Option, List, true, false, ap, ◌∙◌, sym, arith, refl}
-use Rattle.std.specs.Prelude.{Ok, Err, ◌||◌, if◌then◌else◌}
+use Rattle.std.proofs.Common.{◌≡◌, ℕ, zero, suc, Bool, Option, List, true, false, ◌∙◌, sym, arith, refl}
+use Rattle.std.specs.Prelude.{Err, ◌||◌, if◌then◌else◌}
 use Rattle.wit_values.specs.declared.span.Span.{Span}
 use Rattle.wit_lex.specs.declared.fault.ReadError.{ReadError}
 use Rattle.wit_lex.specs.declared.fault.ReadError.TheVariants.{Fault, OutOfMemory}
 use Rattle.wit_lex.specs.declared.kind.Kind.TheVariants as kind
 use Rattle.wit_lex.specs.declared.word.Word.TheVariants as word
-use Rattle.wit_lex.specs.Lexis.{Stops, lexeme}
+use Rattle.wit_lex.specs.Lexis.{Stops}
 use Rattle.wit_grammar.specs.TokenKinds.{same_kind}
-use Rattle.wit_grammar.specs.Trees.{Attribute, Documents, Prefix, Name, Path, InterfaceItem, WorldItem, Declaration, Item, PackageId, Release, declares, of_interface, of_world, of_use}
-use Rattle.wit_grammar.specs.Leaves.{Read, Spot, docs_at, ◌>>=◌}
+use Rattle.wit_grammar.specs.Trees.{Attribute, Documents, Prefix, Name, Path, InterfaceItem, WorldItem, Declaration, Item, declares, of_interface, of_world, of_use}
+use Rattle.wit_grammar.specs.Leaves.{Read, Spot, docs_at}
 use Rattle.wit_grammar.specs.Grammar.{Gram, act, both, docs, either, fits, of_kind, run, starts}
 use Rattle.wit_grammar.specs.Rules.{attributes, prefix, top_used, top_use_of}
-use Rattle.wit_grammar.specs.ItemRules.{declaration, interface_of, interface_rule, item_of, item_to, nest, package_names, package_to, two_names, world_of, world_rule}
+use Rattle.wit_grammar.specs.ItemRules.{declaration, interface_of, interface_rule, item_to, nest, package_names, package_to, two_names, world_of, world_rule}
 use Rattle.wit_grammar.proofs.LeafReads.{docs_same, same_fits}
 use Rattle.wit_reader.specs.declared.reader.Reader.{Reader}
 use Rattle.wit_reader.specs.Reading.{Parses, ParsesOn, spot}
-use Rattle.wit_reader.proofs.Courses.{first_way, made, second_way, starts_with, stops_first}
+use Rattle.wit_reader.proofs.Courses.{first_way, second_way, starts_with}
 
 -- ---- what begins with a word
 use_starts : (r : Reader) (b : Bool) → same_kind r.token.kind (kind.Word word.Use) ≡ b → starts top_used (spot r) ≡ b

@@ -1,8 +1,7 @@
 -- A file, from its beginning to the end of its source.
-use Rattle.std.proofs.Common.{◌≡◌, ℕ, suc, ◌+◌, ◌<◌, ◌≤◌, Bool, Option, Some, None, List, [], ◌∷◌, ◌++◌, map, true, false, ap, ◌∙◌, sym, arith, refl}
+use Rattle.std.proofs.Common.{◌≡◌, Bool, Option, Some, None, List, [], ◌∷◌, true, false, ap, ◌∙◌, sym, arith, refl}
 use Rattle.std.specs.Prelude.{Ok, Err, Result, Vec, ◌||◌}
 use Rattle.std.specs.declared.alloc.Global.{Global}
-use Rattle.std.specs.List.{flat_map}
 use Rattle.std.specs.Option.{option_map}
 use Rattle.wit_tree.specs.declared.tree.AstItem.{AstItem}
 use Rattle.wit_tree.specs.declared.tree.NestedPackage.{NestedPackage}
@@ -16,12 +15,12 @@ use Rattle.wit_lex.specs.declared.kind.Kind.TheVariants.{End}
 use Rattle.wit_lex.specs.declared.word.Word.TheVariants as word
 use Rattle.wit_lex.specs.Lexis.{Stops, lexeme}
 use Rattle.wit_grammar.specs.TokenKinds.{same_kind}
-use Rattle.wit_grammar.specs.Trees.{File, Item}
-use Rattle.wit_grammar.specs.Seen.{see_declaration, see_nested, see_package_id}
-use Rattle.wit_grammar.specs.Leaves.{Read, Spot, docs_at, docs_of, lexed, mark_at, moved, nothing_at, ◌>>=◌}
+use Rattle.wit_grammar.specs.Trees.{Item}
+use Rattle.wit_grammar.specs.Seen.{see_package_id}
+use Rattle.wit_grammar.specs.Leaves.{Spot, docs_at, docs_of, lexed, mark_at, moved, nothing_at}
 use Rattle.wit_grammar.specs.Grammar.{Gram, Terminal, act, among, closes, either, first, fits, matches, matches_first, of_kind, run, seq, starts, until_at}
 use Rattle.wit_grammar.specs.Rules.{attribute, attributes, prefix, top_used}
-use Rattle.wit_grammar.specs.ItemRules.{Beginning, beginning, declaration, declaration_in, file, file_from, file_of, first_item, header, interface_rule, items_to_end, nested_in, package_first, package_names, two_names, world_rule}
+use Rattle.wit_grammar.specs.ItemRules.{Beginning, beginning, declaration, file, file_of, first_item, header, interface_rule, items_to_end, package_first, package_names, two_names, world_rule}
 use Rattle.wit_grammar.proofs.Spelled.{sound}
 use Rattle.wit_reader.specs.declared.reader.Reader.{Reader}
 use Rattle.wit_reader.specs.Reading.{Parses, ParsesOn, spot}

@@ -1,9 +1,8 @@
 -- What a file begins with, and its items up to its end.
-use Rattle.std.proofs.Common.{◌≡◌, ℕ, zero, suc, ◌+◌, ◌<◌, ◌≤◌, Bool, Option, Some, None, List, [], ◌∷◌, ◌++◌, length, map, true, false, ap, ◌∙◌, sym, arith, refl, append_assoc}
-use Rattle.std.specs.Prelude.{Ok, Err, Vec, not}
+use Rattle.std.proofs.Common.{◌≡◌, suc, ◌+◌, Bool, Option, Some, None, List, [], ◌∷◌, ◌++◌, length, map, true, false, ap, ◌∙◌, sym, arith, refl, append_assoc}
+use Rattle.std.specs.Prelude.{Ok, Vec}
 use Rattle.std.specs.declared.alloc.Global.{Global}
 use Rattle.std.specs.List.{flat_map}
-use Rattle.std.specs.Option.{option_map}
 use Rattle.std.proofs.lemmas.List.{append-nil}
 use Rattle.std.proofs.lemmas.Grind.{flat_map-append}
 use Rattle.wit_values.specs.declared.span.Span.{Span}
@@ -16,21 +15,21 @@ use Rattle.wit_lex.specs.declared.fault.ReadError.TheVariants.{Fault, OutOfMemor
 use Rattle.wit_lex.specs.declared.kind.Kind.TheVariants as kind
 use Rattle.wit_lex.specs.declared.kind.Kind.TheVariants.{End, OpenBrace, Semicolon}
 use Rattle.wit_lex.specs.declared.word.Word.TheVariants as word
-use Rattle.wit_lex.specs.Lexis.{Stops, lexeme}
+use Rattle.wit_lex.specs.Lexis.{Stops}
 use Rattle.wit_grammar.specs.TokenKinds.{same_kind}
-use Rattle.wit_grammar.specs.Trees.{Declaration, Documents, File, Item, Name, Nested, PackageId, Release, declares, items_of, nests}
-use Rattle.wit_grammar.specs.Seen.{see_declaration, see_docs, see_nested, see_package_id}
-use Rattle.wit_grammar.specs.Leaves.{Read, Spot, docs_at, mark_at, ◌>>=◌}
-use Rattle.wit_grammar.specs.Grammar.{Gram, act, either, fits, mark, of_kind, run, starts}
-use Rattle.wit_grammar.specs.ItemRules.{Beginning, beginning, braced, declaration, declaration_in, first_item, header, header_or_nested, item_to, items_to_end, nested_in, nested_of, package_first, package_names, package_of, two_names}
+use Rattle.wit_grammar.specs.Trees.{Declaration, Documents, Item, Name, Nested, PackageId, Release, declares, items_of, nests}
+use Rattle.wit_grammar.specs.Seen.{see_declaration, see_docs, see_nested}
+use Rattle.wit_grammar.specs.Leaves.{Read, docs_at, mark_at, ◌>>=◌}
+use Rattle.wit_grammar.specs.Grammar.{Gram, act, either, mark, of_kind, run, starts}
+use Rattle.wit_grammar.specs.ItemRules.{Beginning, beginning, braced, declaration, declaration_in, first_item, header, item_to, items_to_end, nested_in, nested_of, package_first, package_names, package_of, two_names}
 use Rattle.wit_reader.specs.declared.reader.Reader.{Reader}
-use Rattle.wit_reader.specs.Reading.{Parses, ParsesOn, Passes, Reads, spot}
-use Rattle.wit_reader.proofs.Courses.{first_way, made, made_twice, second_way, starts_with, stops_first, value_read}
+use Rattle.wit_reader.specs.Reading.{Parses, ParsesOn, Passes, spot}
+use Rattle.wit_reader.proofs.Courses.{first_way, made, made_twice, second_way, starts_with, value_read}
 use Rattle.wit_reader.proofs.Lists.{map_more}
 use Rattle.wit_reader.proofs.Several.{IsSeveral, goes_on, goes_until, several_closed, several_more, several_opened, several_stops, until_is_many}
-use Rattle.wit_text.specs.Files.{AddsItem, AddsItems, AddsPackage, AddsBeginning, AreAdded, header_first, item_first}
+use Rattle.wit_text.specs.Files.{AddsItem, AddsItems, AddsPackage, AddsBeginning, AreAdded, item_first}
 use Rattle.wit_text.specs.Packages.{Begins}
-use Rattle.wit_text.proofs.Declared.{any_package, or_none, package_token}
+use Rattle.wit_text.proofs.Declared.{any_package, package_token}
 use Rattle.wit_text.proofs.Kept.{inner_named_stops, inner_read, inner_stops, itself, map_itself, package_item_stops, package_read}
 use Rattle.wit_text.proofs.Makings.{same_answer}
 

@@ -1,13 +1,13 @@
 -- What a world includes, after its path.
-use Rattle.std.proofs.Common.{◌≡◌, ◌+◌, ◌<◌, ◌≤◌, ◌∙◌, arith, refl}
-use Rattle.std.specs.Prelude.{List, Ok, Err}
+use Rattle.std.proofs.Common.{◌≡◌, ◌∙◌, arith, refl}
+use Rattle.std.specs.Prelude.{List}
 use Rattle.wit_lex.specs.declared.fault.ReadError.{ReadError}
 use Rattle.wit_lex.specs.declared.fault.ReadError.TheVariants.{Fault, OutOfMemory}
 use Rattle.wit_lex.specs.declared.kind.Kind.TheVariants.{Word}
 use Rattle.wit_lex.specs.declared.word.Word.TheVariants as word
 use Rattle.wit_lex.specs.Lexis.{Stops}
 use Rattle.wit_grammar.specs.Trees.{Include, Path, RenamedName}
-use Rattle.wit_grammar.specs.Leaves.{mark_at, ◌>>=◌}
+use Rattle.wit_grammar.specs.Leaves.{mark_at}
 use Rattle.wit_grammar.specs.Grammar.{act, run}
 use Rattle.wit_grammar.specs.Rules.{path}
 use Rattle.wit_grammar.specs.ItemRules.{include, renames}

@@ -1,6 +1,6 @@
 -- Items in braces, and what is kept of them.
-use Rattle.std.proofs.Common.{◌≡◌, ℕ, zero, suc, ◌+◌, ◌<◌, ◌≤◌, Bool, Option, List, [], ◌∷◌, ◌++◌, map, true, false, ap, ◌∙◌, sym, arith, refl, append_assoc, subst}
-use Rattle.std.specs.Prelude.{Ok, Err, cond, Vec}
+use Rattle.std.proofs.Common.{◌≡◌, ℕ, suc, ◌+◌, Option, List, [], ◌∷◌, ◌++◌, map, true, false, ap, ◌∙◌, sym, arith, refl, append_assoc, subst}
+use Rattle.std.specs.Prelude.{Err, cond}
 use Rattle.std.proofs.lemmas.List.{append-nil}
 use Rattle.wit_values.specs.declared.span.Span.{Span}
 use Rattle.wit_type_tree.specs.declared.leaves.Docs.{Docs}
@@ -14,13 +14,13 @@ use Rattle.wit_lex.specs.declared.kind.Kind.TheVariants.{OpenBrace, CloseBrace}
 use Rattle.wit_lex.specs.declared.word.Word.TheVariants as word
 use Rattle.wit_lex.specs.Lexis.{Stops, lexeme}
 use Rattle.wit_grammar.specs.TokenKinds.{same_kind}
-use Rattle.wit_grammar.specs.Trees.{Declaration, Documents, Item, Items, Name, Nested, PackageId, Release, declares, items_of, nests}
+use Rattle.wit_grammar.specs.Trees.{Declaration, Documents, Item, Name, Nested, PackageId, Release, declares, items_of, nests}
 use Rattle.wit_grammar.specs.Seen.{see_declaration, see_docs, see_package_id}
-use Rattle.wit_grammar.specs.Leaves.{Read, Spot, deeper_at, docs_at, mark_at, past, ◌>>=◌}
+use Rattle.wit_grammar.specs.Leaves.{Read, Spot, deeper_at, mark_at, past, ◌>>=◌}
 use Rattle.wit_grammar.specs.Grammar.{Gram, act, run}
 use Rattle.wit_grammar.specs.ItemRules.{braced, declaration_in, declarations_in, item_to, name_in, names_in, nest, nested_of, package_names, package_of, package_to}
 use Rattle.wit_reader.specs.declared.reader.Reader.{Reader}
-use Rattle.wit_reader.specs.Reading.{Parses, ParsesOn, Passes, Reads, spot}
+use Rattle.wit_reader.specs.Reading.{Parses, Passes, Reads, spot}
 use Rattle.wit_reader.proofs.Courses.{made, made_twice, value_read}
 use Rattle.wit_reader.proofs.KindCodes.{same}
 use Rattle.wit_reader.proofs.Lists.{map_more}

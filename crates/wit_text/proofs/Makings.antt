@@ -1,6 +1,6 @@
 -- Steps of reading, one after another, and what is made of what they give.
-use Rattle.std.proofs.Common.{◌≡◌, ◌+◌, ◌<◌, ◌≤◌, ap, ◌∙◌, sym, arith, refl}
-use Rattle.std.specs.Prelude.{Ok, Err}
+use Rattle.std.proofs.Common.{◌≡◌, ap, ◌∙◌, sym, arith, refl}
+use Rattle.std.specs.Prelude.{Ok}
 use Rattle.wit_lex.specs.declared.fault.ReadError.{ReadError}
 use Rattle.wit_lex.specs.declared.fault.ReadError.TheVariants.{Fault, OutOfMemory}
 use Rattle.wit_lex.specs.Lexis.{Stops}
@@ -26,12 +26,6 @@ same_stops OutOfMemory h k = tt
 pub made_stops : {A B : Type 0} (make : A → B) (g : Gram A) (s : Spot) (e : ReadError) → Stops (run g s) e → Stops (run (act make g) s) e
 made_stops make g s (Fault f start end) h = rw h refl
 made_stops make g s OutOfMemory h = tt
-
--- at least one token was read, so perhaps none
-pub on : {A : Type 0} {a b : Reader} {course : Read A} {v : A} → Parses a course v b → ParsesOn a course v b
-on p =
-    let onward = p.onward in
-    record { source = p.source; offset = p.offset; onward = omega arith; parses = p.parses }
 
 -- of a value an answer was made
 abbrev pair : {A : Type 0} → A → Spot → A × Spot

@@ -1,6 +1,5 @@
 -- What reading a file comes to: the tree that its source spells, or the fault at which reading stops.
 use Rattle.std.proofs.Common.{◌≡◌, ℕ, List, ◌∙◌, sym, arith}
-use Rattle.std.specs.Prelude.{Ok, Err}
 use Rattle.wit_type_tree.specs.declared.error.ParseError.{ParseError}
 use Rattle.wit_type_tree.specs.RefusalText.{IsAllocationFailure}
 use Rattle.wit_lex.specs.declared.fault.ReadError.{ReadError}

@@ -1,5 +1,5 @@
 -- Which item of a world a token begins.
-use Rattle.std.proofs.Common.{◌≡◌, ◌+◌, ◌<◌, ◌≤◌, Bool, Option, true, false, ap, ◌∙◌, arith, refl}
+use Rattle.std.proofs.Common.{◌≡◌, Bool, true, false, ◌∙◌, refl}
 use Rattle.std.specs.Prelude.{List, Vec}
 use Rattle.std.specs.declared.alloc.Global.{Global}
 use Rattle.wit_tree.specs.declared.tree.WorldItem.{WorldItem as Written}

@@ -7,7 +7,7 @@ use Rattle.wit_tree.specs.declared.tree.UsePath.{UsePath}
 use Rattle.wit_syntax.specs.Source.{Item, TopName, leads}
 use Rattle.wit_syntax.specs.ScopeTables.{local_target}
 use Rattle.wit_first.specs.FileFaults.{unnamed_fault}
-use Rattle.wit_first.specs.First.{Finds}
+use Rattle.wit_first.specs.First.{Finds, first_in}
 use Rattle.wit_top_names.specs.Tops.{AreDeclared, AreNamed}
 use Rattle.wit_top_names.specs.declared.top_name.Paths.{Paths}
 
@@ -22,3 +22,10 @@ AddsEdge paths path old new = (top : List TopName) → AreNamed top paths.top.no
 -- a call finds whether a path is a name of nothing
 abbrev pub FindsUnnamed : {T : Type 0} → Paths → UsePath → Result T ParseError → Type 0
 FindsUnnamed paths path r = (top : List TopName) (is : List Item) → AreNamed top paths.top.now → AreDeclared is paths.declared.now → Finds (unnamed_fault is top path) r
+
+-- so of paths
+abbrev pub AddsEdges : Paths → List UsePath → (old new : List Id) → Type 0
+AddsEdges paths written old new = (top : List TopName) → AreNamed top paths.top.now → new ≡ old ++ edges_of top written
+
+abbrev pub FindsUnnamedIn : {T : Type 0} → Paths → List UsePath → Result T ParseError → Type 0
+FindsUnnamedIn paths written r = (top : List TopName) (is : List Item) → AreNamed top paths.top.now → AreDeclared is paths.declared.now → Finds (first_in (unnamed_fault is top) written) r

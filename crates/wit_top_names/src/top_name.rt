@@ -2,7 +2,8 @@
 ghost use Rattle.std.specs.Prelude.{◌≡◌, ◌++◌, List, [], map, IfOk, OnOk, codes, string_bytes};
 ghost use Rattle.wit_syntax.specs.Source.{Local as TheLocal, TopName as Top, Item, itself as the_itself, top_name as the_name, top_names as the_names, top_text, leads as the_leads, file_items, all_items};
 ghost use Rattle.wit_syntax.specs.ScopeTables.{local_target};
-ghost use Rattle.wit_syntax.specs.Fault.{fault};
+ghost use Rattle.wit_syntax.specs.Words.{around};
+ghost use Rattle.wit_syntax.specs.Fault.{fault_in};
 ghost use Rattle.wit_first.specs.FileFaults.{file_tops_fault, lost_fault, top_use_fault};
 ghost use Rattle.wit_first.specs.First.{Finds, first_repeat};
 ghost use Rattle.wit_first.specs.NameFaults.{item_names_fault, top_names_fault};
@@ -126,7 +127,7 @@ fn declared_names<'f, 'a>(
 
 /// The words for a name that occurs twice.
 fn repeated(alloc: Global, prefix: &str, name: &str, back: &str) -> Result<String, AllocError>
-    ensures { IfOk result (λ words. string_bytes words ≡ prefix.now ++ (codes "`" ++ (name.now ++ (codes "`" ++ back.now)))) }
+    ensures { IfOk result (λ words. string_bytes words ≡ around prefix.now name.now back.now) }
 {
     format!(in alloc; "{prefix}`{name}`{back}")
 }
@@ -140,7 +141,7 @@ fn unique_names<'f, 'a>(
     names: &[TopName<'f, 'a>],
 ) -> ParseResult<Table<&'a str, Target<'f, 'a>>>
     ensures named { IfOk result (AreNamed (map top_view names.now)) }
-    ensures first { Finds (first_repeat top_text (λ n. fault rule n.id.span) (map top_view names.now)) result }
+    ensures first { Finds (first_repeat top_text (λ n. fault_in rule n.id.span (around prefix.now n.id.name.now back.now)) (map top_view names.now)) result }
 {
     let mut found = Table::with_capacity(alloc, names.len())?;
     for name in names {

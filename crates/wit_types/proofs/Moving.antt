@@ -1,5 +1,5 @@
 -- Steps of loops that go over the values of a list from the prefix, and what fits of all their spans.
-use Rattle.std.proofs.Common.{◌≡◌, ℕ, zero, suc, ◌+◌, ◌<◌, ◌≤◌, ◌++◌, ◌∙◌, List, [], ◌∷◌, Some, drop, length, map, slice_get, slice_set, take, refl, ap, sym, subst, arith, inl, inr, add-one}
+use Rattle.std.proofs.Common.{◌≡◌, ℕ, zero, suc, ◌+◌, ◌<◌, ◌++◌, ◌∙◌, List, [], ◌∷◌, Some, drop, length, map, slice_get, slice_set, take, refl, ap, sym, subst, arith, inl, inr, add-one}
 use Rattle.std.proofs.lemmas.Bool.Decides.{leb_tells}
 use Rattle.std.specs.List.{flat_map}
 use Rattle.std.specs.Map.{values_of}
@@ -62,24 +62,12 @@ abbrev pub turned : {X : Type 0} → (X → X) → ℕ → List X → List X
 turned f i xs = map f (take i xs) ++ drop i xs
 
 module _ {X : Type 0} (f : X → X) where
-  pub length-turned : (xs : List X) (i : ℕ) → length (turned f i xs) ≡ length xs
-  length-turned [] zero = refl
-  length-turned [] (suc i) = refl
-  length-turned (x ∷ xs) zero = refl
-  length-turned (x ∷ xs) (suc i) = ap suc (length-turned xs i)
-
   -- what is at the place is still the value of the list
   pub seen : (xs : List X) (i : ℕ) → slice_get (turned f i xs) i ≡ slice_get xs i
   seen [] zero = refl
   seen [] (suc i) = refl
   seen (x ∷ xs) zero = refl
   seen (x ∷ xs) (suc i) = seen xs i
-
-  pub turned-all : (xs : List X) (i : ℕ) → length xs ≤ i → turned f i xs ≡ map f xs
-  turned-all [] zero h = refl
-  turned-all [] (suc i) h = refl
-  turned-all (x ∷ xs) zero h = absurd (omega (arith, h))
-  turned-all (x ∷ xs) (suc i) h = ap (λ l. f x ∷ l) (turned-all xs i (omega (arith, h)))
 
   pub slice_set-turned : (xs : List X) (i : ℕ) (x : X) → slice_get xs i ≡ Some x → slice_set (turned f i xs) i (f x) ≡ turned f (i + 1) xs
   slice_set-turned xs i x h = step xs i h ∙ ap (λ (k : ℕ). turned f k xs) (sym (add-one i)) where

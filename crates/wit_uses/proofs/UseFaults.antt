@@ -8,7 +8,7 @@ use Rattle.std.specs.Str.{bytes_eq}
 use Rattle.std.proofs.lemmas.Bool.{false_from_ne_true}
 use Rattle.wit_type_tree.specs.declared.leaves.Id.{Id}
 use Rattle.wit_model.specs.declared.interface.Interface.{Interface}
-use Rattle.wit_syntax.specs.Fault.{Fault, fault, missing_at, name_word}
+use Rattle.wit_syntax.specs.Fault.{Fault, missing_at, name_word, function_used, name_twice}
 use Rattle.wit_syntax.specs.ScopeTables.{local_names}
 use Rattle.wit_syntax.specs.Source.{local_id, local_name}
 use Rattle.wit_syntax.proofs.Found.{at_contains, contains_at}
@@ -27,7 +27,7 @@ use Rattle.wit_uses.specs.UseFaults.{interface_of, source_fault, lost_name, aske
 use Rattle.wit_uses.proofs.ResolvedScopes.{named_found, prefix_found}
 
 -- a name that is that of a function, or of nothing
-pub of_function : (fns : List (List ℕ)) (id : Id) → Contains fns id.name.now → lost_name fns id ≡ fault 13 id.span
+pub of_function : (fns : List (List ℕ)) (id : Id) → Contains fns id.name.now → lost_name fns id ≡ function_used id
 of_function fns id among =
     let it = at_contains fns id.name.now among in
     rw (any_some (bytes_eq id.name.now) fns it.0 id.name.now it.1 (name_itself id.name.now)) refl
@@ -70,7 +70,7 @@ local_next is names before u listed =
     let id = local_id (use_view u) in
     let name = local_name (use_view u) in
     let one : list_any (λ (v : UsedName). bytes_eq (local_name (use_view v)) name) before ≡ is_some (env_of names name) = any_names before name ∙ ap (list_any (λ (k : List ℕ). bytes_eq k name)) (sym listed) ∙ any_in names name in
-    ap (λ (b : Bool). option_or (used_fault is u) (if b then Some (fault 14 id.span) else None)) one
+    ap (λ (b : Bool). option_or (used_fault is u) (if b then Some (name_twice id) else None)) one
 
 -- an interface that is resolved is found
 pub found_of : (is : Interfaces) (from : BorrowedSource) (i : Interface) → IsPlaced (prefix_of is.files) from → interface_of is from ≡ Some i → IsFound (resolved_scopes_of is) (source_view from) (resolved_scope_at (source_view from) i)

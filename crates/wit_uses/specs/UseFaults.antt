@@ -5,7 +5,7 @@ use Rattle.std.specs.Option.{option_and_then, option_map_or, option_or}
 use Rattle.std.specs.Str.{bytes_eq}
 use Rattle.wit_type_tree.specs.declared.leaves.Id.{Id}
 use Rattle.wit_model.specs.declared.interface.Interface.{Interface}
-use Rattle.wit_syntax.specs.Fault.{Fault, fault, missing_at, item_word, name_word}
+use Rattle.wit_syntax.specs.Fault.{Fault, missing_at, item_word, name_word, function_used, name_twice}
 use Rattle.wit_syntax.specs.Source.{local_id, local_name}
 use Rattle.wit_first.specs.First.{first_after, repeat_of}
 use Rattle.wit_arena.specs.Resolving.{Names, env_of, free_functions}
@@ -28,7 +28,7 @@ source_fault by_name (borrowed_source.Foreign place of name) = None
 
 -- a name that means no type of an interface is that of one of its functions, or of nothing
 abbrev pub lost_name : List (List ℕ) → Id → Fault
-lost_name fns id = if list_any (bytes_eq id.name.now) fns then fault 13 id.span else missing_at 12 name_word id
+lost_name fns id = if list_any (bytes_eq id.name.now) fns then function_used id else missing_at 12 name_word id
 
 abbrev pub asked_fault : Id → Interface → Option Fault
 asked_fault id i = unless_found (lost_name (free_functions i) id) (env_of i.types id.name.now)
@@ -39,11 +39,11 @@ used_fault is u = option_or (source_fault is.by_name u.from) (option_map_or (ask
 
 -- a name of a scope is spelled alike
 abbrev pub spelled_fault : Names → Id → Option Fault
-spelled_fault names id = if is_some (env_of names id.name.now) then Some (fault 14 id.span) else None
+spelled_fault names id = if is_some (env_of names id.name.now) then Some (name_twice id) else None
 
 -- of a used name, and then an earlier one is spelled alike
 abbrev pub local_fault : Interfaces → List UsedName → UsedName → Option Fault
-local_fault is before u = option_or (used_fault is u) (repeat_of (λ (v : UsedName). local_name (use_view v)) (λ (v : UsedName). fault 14 (local_id (use_view v)).span) before u)
+local_fault is before u = option_or (used_fault is u) (repeat_of (λ (v : UsedName). local_name (use_view v)) (λ (v : UsedName). name_twice (local_id (use_view v))) before u)
 
 -- of used names, in their order
 abbrev pub local_faults : Interfaces → List UsedName → Option Fault

@@ -1,9 +1,10 @@
 //! Names that a scope uses from interfaces.
-ghost use Rattle.std.specs.Prelude.{◌≡◌, ◌↔◌, [], ◌++◌, Contains, Some, map, OnOk, IfOk, IsTrue, codes, string_bytes};
+ghost use Rattle.std.specs.Prelude.{◌≡◌, ◌↔◌, [], Contains, Some, map, OnOk, IfOk, IsTrue, string_bytes};
 ghost use Rattle.std.specs.List.{flat_map};
 ghost use Rattle.std.specs.Option.{option_copied, option_or, option_to_list};
 ghost use Rattle.wit_syntax.specs.Source.{local_id};
-ghost use Rattle.wit_syntax.specs.ScopeTables.{used, local_names};
+ghost use Rattle.wit_syntax.specs.ScopeTables.{local_names};
+ghost use Rattle.wit_syntax.specs.Words.{used_words};
 ghost use Rattle.wit_first.specs.First.{Finds, Reports};
 ghost use Rattle.wit_arena.specs.SourceFunctions.{freestanding_names};
 ghost use Rattle.wit_entries.specs.Requiring.{IsExtended};
@@ -22,7 +23,7 @@ use wit_maps::TextTable;
 use wit_model::{Function, FunctionKind, Interface};
 use wit_names::prefix::rest_after;
 use wit_notes::stated_metadata;
-use wit_refusals::refusal::{refuse, refuse_in, refuse_missing};
+use wit_refusals::refusal::{refuse_in, refuse_missing};
 use wit_refusals::repeat_words::defined_twice;
 use wit_scopes::scope_name::{Source, UsedName, local_of};
 use wit_tree::tree::Id;
@@ -91,7 +92,7 @@ fn has_function(functions: &TextTable<Function>, name: &str) -> bool
 
 /// The words for a function that is used as a name.
 fn function_used(alloc: Global, name: &str) -> Result<String, AllocError>
-    ensures { IfOk result (λ words. string_bytes words ≡ codes "cannot import function `" ++ (name.now ++ codes "`")) }
+    ensures { IfOk result (λ words. string_bytes words ≡ used_words name.now) }
 {
     format!(in alloc; "cannot import function `{name}`")
 }
@@ -132,8 +133,7 @@ fn resolve_use<'f, 'a>(
     };
     let local = local_of(name);
     if scope.names.get(local.name).is_some() {
-        let message = defined_twice(alloc, "name", local.name)?;
-        return Err(refuse(alloc, 14, local.span, message.as_str()));
+        return Err(refuse_in(14, local.span, defined_twice(alloc, "name", local.name)));
     }
     let metadata = stated_metadata(alloc, used.attributes)?;
     let kind = TypeDefKind::Type_(Type::Id(original));

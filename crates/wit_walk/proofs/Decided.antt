@@ -17,7 +17,7 @@ use Rattle.wit_syntax.specs.Source.{Item, address, all_items, scope_names}
 use Rattle.wit_first.specs.First.{first_in, first_after}
 use Rattle.wit_walk.specs.Definitions.{definition_fault, end_fault, handle_fault}
 use Rattle.wit_walk.specs.Functions.{function_fault, signed_fault}
-use Rattle.wit_walk.specs.Members.{called_fault, is_extern, item_fault, member_fault}
+use Rattle.wit_walk.specs.Members.{item_fault, member_fault, own_fault}
 use Rattle.wit_walk.specs.Orders.{Outcome, AreOutcomes, order_of}
 use Rattle.wit_walk.specs.Walk.{Known, ComesTo, IsFirst, earliest, scope_faults, ordered_fault, inline_fault, contents_fault, walk_faults, first_fault}
 use Rattle.wit_walk.proofs.Legal.{legal}
@@ -48,7 +48,7 @@ module _ (files : List PackageFile) (outcome : List Row → Outcome) (n m : ℕ)
   item_same inside i before (SideInline x name items) = refl
 
   member_same : (inside : Item → Option Fault) (i : Item) (order : List ℕ) → member_fault files n inside i order ≡ member_fault files m inside i order
-  member_same inside i order = fun_ext (λ (before : List SideItem). fun_ext (λ (x : SideItem). ap (λ (o : Option Fault). option_or o (first_in (called_fault (is_extern x) (side_called (item_side x) (scope_names i) (items_on (item_side x) before) order)) (item_called x))) (item_same inside i before x)))
+  member_same inside i order = fun_ext (λ (before : List SideItem). fun_ext (λ (x : SideItem). ap (λ (o : Option Fault). option_or o (own_fault (scope_names i) (items_on (item_side x) before) order x)) (item_same inside i before x)))
 
   scope_same : (inside : Item → Option Fault) (i : Item) (o : Outcome) → scope_faults files n inside i o ≡ scope_faults files m inside i o
   scope_same inside i o = eight _ _ _ _ _ _ _ _ _ _ (ap (λ (h : Id → Option Fault). first_in (definition_fault h) (defined (in_order (scope_names i) (order_of o)))) (handle_same (address i))) (ap (λ (w : List SideItem → SideItem → Option Fault). first_after w [] (side_items i)) (member_same inside i (order_of o)))

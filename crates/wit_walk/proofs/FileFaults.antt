@@ -16,7 +16,7 @@ use Rattle.wit_tree.specs.declared.tree.WorldSide.TheVariants.{Imported, Exporte
 use Rattle.wit_graph.specs.Table.{place_of}
 use Rattle.wit_syntax.specs.Broken.{is_world_at, IsBrokenItems, DuplicateTopName, MissingItem, IsBrokenUse, MissingUse, WorldUsed, IsBroken, UseMetadata, Use}
 use Rattle.wit_syntax.specs.ExternPart.{inline_uses, extern_paths, same_side}
-use Rattle.wit_syntax.specs.Fault.{Fault, fault}
+use Rattle.wit_syntax.specs.Fault.{Fault, world_there}
 use Rattle.wit_syntax.specs.ScopeTables.{local_target, item_row, needed_paths, part_uses, use_path, use_paths, uses}
 use Rattle.wit_syntax.specs.Source.{Target, leads, path_id, Part, DefinitionPart, UsePart, IncludePart, FunctionPart, ExternPart, Item, parts, file_items, all_items, item_name, item_named, at_side, walk}
 use Rattle.wit_syntax.proofs.Found.{at_contains, contains_at, find_some}
@@ -67,9 +67,9 @@ files_broken files f h = let it = in_some (file_fault (all_items files)) files f
 pub path_broken : (files : List PackageFile) (i : Item) (from : UsePath) (f : Fault) → Contains (use_paths i) from → path_fault files i.top from ≡ Some f → IsBrokenUse files i f
 path_broken files i from f among h = by (is_world_at files (leads i.top from)) refl h
   where
-    by : (o : Option Bool) → is_world_at files (leads i.top from) ≡ o → reached_fault o (path_id from).span (lost_fault (all_items files) (leads i.top from)) ≡ Some f → IsBrokenUse files i f
+    by : (o : Option Bool) → is_world_at files (leads i.top from) ≡ o → reached_fault o (path_id from) (lost_fault (all_items files) (leads i.top from)) ≡ Some f → IsBrokenUse files i f
     by None is h = (let lost = (lost_agrees (all_items files) (leads i.top from)).broken f h in MissingUse from lost.id among lost.local lost.missing lost.is)
-    by (Some true) is h = (let same : Some (fault 10 (path_id from).span) ≡ Some f = h in WorldUsed from among is (let says : f ≡ fault 10 (path_id from).span = cc in says))
+    by (Some true) is h = (let same : Some (world_there (path_id from)) ≡ Some f = h in WorldUsed from among is (let says : f ≡ world_there (path_id from) = cc in says))
     by (Some false) is h = absurd (let g : ⊥ = cc in g)
 
 -- what each part brings is among what parts bring that bring more

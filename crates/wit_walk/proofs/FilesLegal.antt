@@ -18,7 +18,7 @@ use Rattle.wit_tree.specs.declared.tree.WorldSide.TheVariants.{Imported, Exporte
 use Rattle.wit_syntax.specs.Bodies.{IsSecond}
 use Rattle.wit_syntax.specs.Broken.{is_world_at, IsBrokenUse, MissingUse, WorldUsed}
 use Rattle.wit_syntax.specs.ExternPart.{inline_uses, extern_paths, same_side}
-use Rattle.wit_syntax.specs.Fault.{Fault, fault, missing_at, item_word}
+use Rattle.wit_syntax.specs.Fault.{Fault, fault, missing_at, item_word, interface_there, world_there, top_twice}
 use Rattle.wit_syntax.specs.Metadata.{IsBrokenMetadata, IsBrokenStability}
 use Rattle.wit_syntax.specs.ScopeTables.{include_path, include_paths, includes, part_includes, part_uses, use_path, use_paths, uses}
 use Rattle.wit_syntax.specs.Sides.{Link, SideItem, SideLink, extern_items, extern_link, part_items, side_items}
@@ -47,7 +47,7 @@ pub flat_has : {X A : Type 0} (f : X → List A) (xs : List X) (a : A) → Conta
 flat_has f xs a h = let k = at_contains (flat_map f xs) a h in flat_map_at f xs k.0 a k.1
 
 -- names at the tops of files
-pub tops_legal : (files : List PackageFile) → files_fault files ≡ None → (file : PackageFile) → Contains files file → (f : Fault) → IsSecond top_text (λ (n : TopName). fault 6 n.id.span) (top_names file) f → ⊥
+pub tops_legal : (files : List PackageFile) → files_fault files ≡ None → (file : PackageFile) → Contains files file → (f : Fault) → IsSecond top_text (λ (n : TopName). top_twice n.id) (top_names file) f → ⊥
 tops_legal files none file among f broken =
     let k = at_contains files file among in
     let own = or_none_both (top_names_fault file) (first_in (paths_fault (all_items files)) (file_items file)) (in_only (file_fault (all_items files)) files none k.0 file k.1) in
@@ -127,25 +127,25 @@ path_cases i path h =
     ]
 
 -- where nothing is wrong with a path, something is there, and it is no world
-world_none : (o : Option Bool) (span : Span) (lost : Option Fault) → reached_fault o span lost ≡ None → o ≡ Some true → ⊥
-world_none o span lost none is =
-    let wrong : Some (fault 10 span) ≡ None = subst (λ (p : Option Bool). reached_fault p span lost ≡ None) is none in
+world_none : (o : Option Bool) (id : Id) (lost : Option Fault) → reached_fault o id lost ≡ None → o ≡ Some true → ⊥
+world_none o id lost none is =
+    let wrong : Some (world_there id) ≡ None = subst (λ (p : Option Bool). reached_fault p id lost ≡ None) is none in
     (let f : ⊥ = cc in f)
 
-lost_none : (o : Option Bool) (span : Span) (lost : Option Fault) → reached_fault o span lost ≡ None → o ≡ None → lost ≡ None
-lost_none o span lost none is = subst (λ (p : Option Bool). reached_fault p span lost ≡ None) is none
+lost_none : (o : Option Bool) (id : Id) (lost : Option Fault) → reached_fault o id lost ≡ None → o ≡ None → lost ≡ None
+lost_none o id lost none is = subst (λ (p : Option Bool). reached_fault p id lost ≡ None) is none
 
 path_legal : (files : List PackageFile) (top : List TopName) (path : UsePath) → path_fault files top path ≡ None → (id : Id) → leads top path ≡ Local id → item_named (all_items files) id.name.now ≡ None → ⊥
 path_legal files top path none id local missing =
     let there : is_world_at files (leads top path) ≡ None = ap (is_world_at files) local ∙ ap (option_map is_world) missing in
-    let lost = lost_none (is_world_at files (leads top path)) (path_id path).span (lost_fault (all_items files) (leads top path)) none there in
+    let lost = lost_none (is_world_at files (leads top path)) (path_id path) (lost_fault (all_items files) (leads top path)) none there in
     (lost_agrees (all_items files) (leads top path)).unbroken lost (missing_at 7 item_word id) (record { id = id; local = local; missing = missing; is = refl })
 
 -- so the paths of an item lead where they have to, where nothing is wrong with those of its links
 pub paths_legal : (files : List PackageFile) → all_uses_fault files ≡ None → (i : Item) → Contains (all_items files) i → ((k : ℕ) (link : Link) → slice_get (side_items i) k ≡ Some (SideLink link) → path_fault files i.top link.path ≡ None) → (f : Fault) → IsBrokenUse files i f → ⊥
 paths_legal files none i here links f broken = elim broken [
   | MissingUse path id among local missing says ↦ path_legal files i.top path (right path among) id local missing
-  | WorldUsed path among is says ↦ world_none (is_world_at files (leads i.top path)) (path_id path).span (lost_fault (all_items files) (leads i.top path)) (right path among) is
+  | WorldUsed path among is says ↦ world_none (is_world_at files (leads i.top path)) (path_id path) (lost_fault (all_items files) (leads i.top path)) (right path among) is
 ]
   where
     right : (path : UsePath) → Contains (use_paths i) path → path_fault files i.top path ≡ None
@@ -155,10 +155,10 @@ paths_legal files none i here links f broken = elim broken [
     ]
 
 -- an include
-include_none : (files : List PackageFile) (i : Item) → first_in (include_fault files i.top) (includes i) ≡ None → (n : Include) → Contains (includes i) n → (stability_fault n.attributes.items ≡ None) × (interface_fault (is_world_at files (leads i.top n.from)) (path_id n.from).span ≡ None)
+include_none : (files : List PackageFile) (i : Item) → first_in (include_fault files i.top) (includes i) ≡ None → (n : Include) → Contains (includes i) n → (stability_fault n.attributes.items ≡ None) × (interface_fault (is_world_at files (leads i.top n.from)) (path_id n.from) ≡ None)
 include_none files i none n among =
     let k = at_contains (includes i) n among in
-    or_none_both (stability_fault n.attributes.items) (interface_fault (is_world_at files (leads i.top n.from)) (path_id n.from).span) (in_only (include_fault files i.top) (includes i) none k.0 n k.1)
+    or_none_both (stability_fault n.attributes.items) (interface_fault (is_world_at files (leads i.top n.from)) (path_id n.from)) (in_only (include_fault files i.top) (includes i) none k.0 n k.1)
 
 pub include_legal : (files : List PackageFile) (i : Item) → first_in (include_fault files i.top) (includes i) ≡ None → (n : Include) → Contains (includes i) n → (f : Fault) → IsBrokenStability n.attributes.items f → ⊥
 include_legal files i none n among = (stability_agrees n.attributes.items).unbroken (include_none files i none n among).0
@@ -173,5 +173,5 @@ pub included_legal : (files : List PackageFile) (i : Item) → first_in (include
 included_legal files i none path among is =
     let n = include_of i path among in
     let there : is_world_at files (leads i.top n.0.from) ≡ Some false = ap (λ (p : UsePath). is_world_at files (leads i.top p)) n.2 ∙ is in
-    let wrong : Some (fault 11 (path_id n.0.from).span) ≡ None = subst (λ (o : Option Bool). interface_fault o (path_id n.0.from).span ≡ None) there (include_none files i none n.0 n.1).1 in
+    let wrong : Some (interface_there (path_id n.0.from)) ≡ None = subst (λ (o : Option Bool). interface_fault o (path_id n.0.from) ≡ None) there (include_none files i none n.0 n.1).1 in
     (let f : ⊥ = cc in f)

@@ -29,7 +29,7 @@ use Rattle.wit_tree.specs.declared.tree.PackageFile.{PackageFile}
 use Rattle.wit_tree.specs.declared.tree.WorldSide.{WorldSide}
 use Rattle.wit_syntax.specs.Bodies.{folded}
 use Rattle.wit_syntax.specs.Broken.{IsBroken, Function, Scope}
-use Rattle.wit_syntax.specs.Fault.{Fault, fault, missing_at, name_word}
+use Rattle.wit_syntax.specs.Fault.{Fault, missing_at, name_word, function_as_type, param_twice}
 use Rattle.wit_syntax.specs.Function.{Role, Freestanding, Method, Static, Constructor, OnSide, SourceParam, SourceFunction, written_param, all_params, written_types, free_function, side_function, extern_functions, resource_function, definition_functions, part_functions, functions, item_types, name_types, signature}
 use Rattle.wit_syntax.specs.Shape.{Word, shape_of, words}
 use Rattle.wit_syntax.specs.ScopesOfTrees.{scope}
@@ -171,10 +171,10 @@ module _ (prefix rest all : List SourceFunction) (fn : SourceFunction) (split : 
         | inr far ↦ absurd (let there = far.1 in let f : ⊥ = omega (arith, le, long, there) in f)
       ]
 
-  pub lost_is : (id : Id) (f : Fault) → f ≡ lost_word upto id → IsNoType (IsEntered all (length prefix + 0) id.name.now) (fault 28 id.span) (missing_at 29 name_word id) f
+  pub lost_is : (id : Id) (f : Fault) → f ≡ lost_word upto id → IsNoType (IsEntered all (length prefix + 0) id.name.now) (function_as_type id) (missing_at 29 name_word id) f
   lost_is id f is = elim (cases_Bool (list_any (λ (g : SourceFunction). is_free id.name.now g.role) upto)) [
-    | inl hit ↦ OfFunction (entered id.name.now hit) (is ∙ if_true (list_any (λ (g : SourceFunction). is_free id.name.now g.role) upto) (fault 28 id.span) (missing_at 29 name_word id) hit)
-    | inr miss ↦ OfNothing (λ e. (let wrong : false ≡ true = sym miss ∙ among_upto id.name.now e in let g : ⊥ = cc in g)) (is ∙ if_false (list_any (λ (g : SourceFunction). is_free id.name.now g.role) upto) (fault 28 id.span) (missing_at 29 name_word id) miss)
+    | inl hit ↦ OfFunction (entered id.name.now hit) (is ∙ if_true (list_any (λ (g : SourceFunction). is_free id.name.now g.role) upto) (function_as_type id) (missing_at 29 name_word id) hit)
+    | inr miss ↦ OfNothing (λ e. (let wrong : false ≡ true = sym miss ∙ among_upto id.name.now e in let g : ⊥ = cc in g)) (is ∙ if_false (list_any (λ (g : SourceFunction). is_free id.name.now g.role) upto) (function_as_type id) (missing_at 29 name_word id) miss)
   ]
 
 -- a function of a scope among all
@@ -225,7 +225,7 @@ module _ (files : List PackageFile) (i : Item) (among : Contains (all_scopes fil
   ]
 
   abbrev as_stated : SourceParam → Fault
-  as_stated q = fault 38 q.span
+  as_stated q = param_twice q.name q.span
 
   abbrev key : SourceParam → List ℕ
   key q = folded q.name

@@ -20,7 +20,7 @@ use Rattle.wit_type_tree.specs.declared.types.TypeDef.{TypeDef}
 use Rattle.wit_type_tree.specs.declared.types.«Type».{«Type» as Written}
 use Rattle.wit_tree.specs.declared.tree.WorldSide.{WorldSide}
 use Rattle.wit_syntax.specs.Bodies.{folded, IsSecond}
-use Rattle.wit_syntax.specs.Fault.{Fault, fault}
+use Rattle.wit_syntax.specs.Fault.{Fault, param_twice}
 use Rattle.wit_syntax.specs.Function.{SourceParam, SourceFunction, written_param, all_params, written_types, free_function, side_function, resource_function, definition_functions, part_functions, functions, self_param, signature}
 use Rattle.wit_syntax.specs.Shape.{Shape, Word, shape_of, words}
 use Rattle.wit_syntax.specs.SignatureRules.{IsBrokenFunction, BrokenMetadata, BrokenTypes, MissingInSignature, GetterGiven, SetterGiven, DuplicateParam, GetterWithoutResult, SetterWithResult, ConstructorWithoutResult, ConstructorOfOther, IsGetterWithoutResult, IsSetterWithResult, IsConstructorWithoutResult, IsConstructorOfOther}
@@ -113,7 +113,7 @@ abbrev key : SourceParam → List ℕ
 key q = folded q.name
 
 abbrev as_stated : SourceParam → Fault
-as_stated q = fault 38 q.span
+as_stated q = param_twice q.name q.span
 
 -- a function of an item without a fault, where these are the functions up to it, and this the fault of a name in a handle
 module _ (i : Item) (k : ℕ) (fn : SourceFunction) (at : slice_get (functions i) k ≡ Some fn) (upto : List SourceFunction) (handle : Id → Option Fault)

@@ -1,6 +1,6 @@
 -- What the first fault of what is on the sides of an item breaks.
 use Rattle.std.proofs.Common.{◌≡◌, ◌⊎◌, ◌+◌, ℕ, zero, suc, Bool, true, false, ◌&&◌, List, [], ◌∷◌, ◌++◌, length, take, Option, Some, None, inl, inr, refl, sym, ap, ◌∙◌, subst, append_assoc, Contains}
-use Rattle.std.specs.Prelude.{slice_get, map, is_none, if◌then◌else◌}
+use Rattle.std.specs.Prelude.{codes, slice_get, map, is_none, if◌then◌else◌}
 use Rattle.std.specs.List.{filter, flat_map, list_any}
 use Rattle.std.specs.Option.{option_map_or}
 use Rattle.std.specs.Str.{bytes_eq}
@@ -23,7 +23,8 @@ use Rattle.wit_syntax.specs.Address.{same_address}
 use Rattle.wit_syntax.specs.Bodies.{IsSecond}
 use Rattle.wit_syntax.specs.Broken.{is_world_at, IsBroken, MissingUse, WorldUsed, Use, Sides, LinkedTwice, IsLinkedTwice}
 use Rattle.wit_syntax.specs.ExternPart.{inline_uses, extern_paths, same_side}
-use Rattle.wit_syntax.specs.Fault.{Fault, fault}
+use Rattle.wit_syntax.specs.Words.{clash, conflict}
+use Rattle.wit_syntax.specs.Fault.{Fault, fault, fault_in, world_there, linked_twice}
 use Rattle.wit_syntax.specs.Function.{Role, Freestanding, Method, Static, Constructor, OnSide, SourceFunction, definition_functions, functions}
 use Rattle.wit_syntax.specs.ScopeTables.{rows_of, use_path, use_paths, in_turn}
 use Rattle.wit_syntax.specs.ScopesOfTrees.{scope}
@@ -40,13 +41,13 @@ use Rattle.wit_syntax.proofs.Sides.{links_none}
 use Rattle.wit_first.specs.AttributeFaults.{external_fault, metadata_fault}
 use Rattle.wit_first.specs.FileFaults.{lost_fault}
 use Rattle.wit_first.specs.First.{first_in, first_after, repeat_of}
-use Rattle.wit_first.proofs.Bridge.{after_some, any_found, external_agrees, in_some, metadata_agree, or_some, repeat_some}
+use Rattle.wit_first.proofs.Bridge.{clash_repeat, after_some, any_found, external_agrees, in_some, metadata_agree, or_some, repeat_some}
 use Rattle.wit_first.proofs.FileFaults.{lost_agrees}
 use Rattle.wit_first.proofs.First.{split_at}
 use Rattle.wit_first.proofs.Repeats.{repeat_second}
 use Rattle.wit_walk.specs.Definitions.{handle_fault}
 use Rattle.wit_walk.specs.Functions.{function_fault, signed_fault}
-use Rattle.wit_walk.specs.Members.{called_fault, is_extern, is_on_side, item_fault, member_fault}
+use Rattle.wit_walk.specs.Members.{called_fault, crossed, is_extern, is_on_side, item_fault, member_fault, own_fault, side_sorted, sort_among}
 use Rattle.wit_walk.specs.Names.{folded_fault}
 use Rattle.wit_walk.specs.Paths.{is_same_link, link_fault, linked_fault, there_fault}
 use Rattle.wit_walk.proofs.FunctionFaults.{function_broken}
@@ -98,9 +99,9 @@ extern_is (SideFunction fn) h = on_side_is fn.role h
 extern_is (SideLink link) h = tt
 extern_is (SideInline x name items) h = tt
 
-crossed_is : (b : Bool) (before : List Called) (c : Called) (f : Fault) → (if b then repeat_of (λ (d : Called). d.name) (λ (d : Called). fault 44 d.span) before c else None) ≡ Some f → (b ≡ true) × (repeat_of (λ (d : Called). d.name) (λ (d : Called). fault 44 d.span) before c ≡ Some f)
-crossed_is true before c f h = (refl, h)
-crossed_is false before c f h = absurd (let g : ⊥ = cc in g)
+crossed_is : (as_crossed : Called → Fault) (b : Bool) (before : List Called) (c : Called) (f : Fault) → (if b then repeat_of (λ (d : Called). d.name) as_crossed before c else None) ≡ Some f → (b ≡ true) × (repeat_of (λ (d : Called). d.name) as_crossed before c ≡ Some f)
+crossed_is as_crossed true before c f h = (refl, h)
+crossed_is as_crossed false before c f h = absurd (let g : ⊥ = cc in g)
 
 -- a path of an import or export is one of its item
 path_extern : (x : Extern) (kind : ExternKind) (j : ℕ) (link : Link) → slice_get (extern_items x kind) j ≡ Some (SideLink link) → Contains (map (λ (u : WrittenUse). u.from) (inline_uses kind) ++ extern_paths kind) link.path
@@ -174,10 +175,10 @@ module _ (files : List PackageFile) (i : Item) (known : IsScope files i) (n : �
       function_broken files i known.among known.meant n prefix rest fn split f h
 
   -- a link: an earlier one on its side is the same
-  linked_twice : (k : ℕ) (link : Link) (f : Fault) → slice_get all k ≡ Some (SideLink link) → is_world_at files (leads i.top link.path) ≡ Some false → linked_fault i.top (take k all) link ≡ Some f → IsLinkedTwice files i f
-  linked_twice k link f at there h =
+  linked_again : (k : ℕ) (link : Link) (f : Fault) → slice_get all k ≡ Some (SideLink link) → is_world_at files (leads i.top link.path) ≡ Some false → linked_fault i.top (take k all) link ≡ Some f → IsLinkedTwice files i f
+  linked_again k link f at there h =
       let before = items_on link.side (take k all) in
-      let found = if_some (list_any (λ (l : Link). is_same_link i.top l link) (flat_map item_link before)) (fault 43 (path_id link.path).span) f h in
+      let found = if_some (list_any (λ (l : Link). is_same_link i.top l link) (flat_map item_link before)) (linked_twice link.side (path_id link.path).span) f h in
       let it = any_found (λ (l : Link). is_same_link i.top l link) (flat_map item_link before) found.0 in
       let y = flat_map_at item_link before it.0 it.1 it.2 in
       let is = link_is y.1 y.3.0 it.1 y.3.1 in
@@ -191,15 +192,15 @@ module _ (files : List PackageFile) (i : Item) (known : IsScope files i) (n : �
       let has : Contains (take (length before) (items_on link.side all)) (SideLink it.1) = subst (λ (l : List SideItem). Contains l (SideLink it.1)) (sym prefix) (contains_at before y.0 (SideLink it.1) (y.2 ∙ ap Some is)) in
       (link.side, length before, it.1, link, has, own, none_is it.1.name names.0, none_is link.name paths.0, same_address-equal (path_scope i.top it.1.path) (path_scope i.top link.path) paths.1, there, found.1)
 
-  there_broken : (k : ℕ) (link : Link) (f : Fault) → slice_get all k ≡ Some (SideLink link) → (o : Option Bool) → is_world_at files (leads i.top link.path) ≡ o → there_fault o (path_id link.path).span (lost_fault (all_items files) (leads i.top link.path)) (linked_fault i.top (take k all) link) ≡ Some f → IsBroken files f
+  there_broken : (k : ℕ) (link : Link) (f : Fault) → slice_get all k ≡ Some (SideLink link) → (o : Option Bool) → is_world_at files (leads i.top link.path) ≡ o → there_fault o (path_id link.path) (lost_fault (all_items files) (leads i.top link.path)) (linked_fault i.top (take k all) link) ≡ Some f → IsBroken files f
   there_broken k link f at None is h = (let lost = (lost_agrees (all_items files) (leads i.top link.path)).broken f h in Use i (here k link at) (MissingUse link.path lost.id (path_among i k link at) lost.local lost.missing lost.is))
-  there_broken k link f at (Some true) is h = Use i (here k link at) (WorldUsed link.path (path_among i k link at) is (same_fault f (fault 10 (path_id link.path).span) h))
-  there_broken k link f at (Some false) is h = LinkedTwice i (here k link at) (linked_twice k link f at is h)
+  there_broken k link f at (Some true) is h = Use i (here k link at) (WorldUsed link.path (path_among i k link at) is (same_fault f (world_there (path_id link.path)) h))
+  there_broken k link f at (Some false) is h = LinkedTwice i (here k link at) (linked_again k link f at is h)
 
   link_on : (k : ℕ) (link : Link) (f : Fault) → slice_get all k ≡ Some (SideLink link) → link_fault files i.top (take k all) link ≡ Some f → IsBroken files f
   link_on k link f at h =
       let there = is_world_at files (leads i.top link.path) in
-      elim (or_some (metadata_fault link.attributes) (there_fault there (path_id link.path).span (lost_fault (all_items files) (leads i.top link.path)) (linked_fault i.top (take k all) link)) f h) [
+      elim (or_some (metadata_fault link.attributes) (there_fault there (path_id link.path) (lost_fault (all_items files) (leads i.top link.path)) (linked_fault i.top (take k all) link)) f h) [
         | inl metadata ↦ Sides i known.among (InterfaceMetadata (SideLink link) (contains_at all k (SideLink link) at) ((metadata_agree link.attributes).broken f metadata))
         | inr later ↦ there_broken k link f at there refl later.1
       ]
@@ -224,28 +225,31 @@ module _ (files : List PackageFile) (i : Item) (known : IsScope files i) (n : �
       ]
 
   -- a name
-  called_broken : (k : ℕ) (x : SideItem) (f : Fault) → slice_get all k ≡ Some x → first_in (called_fault (is_extern x) (side_called (item_side x) xs (items_on (item_side x) (take k all)) order)) (item_called x) ≡ Some f → IsBroken files f
+  called_broken : (k : ℕ) (x : SideItem) (f : Fault) → slice_get all k ≡ Some x → own_fault xs (items_on (item_side x) (take k all)) order x ≡ Some f → IsBroken files f
   called_broken k x f at h =
       let side = item_side x in
       let before = items_on side (take k all) in
       let names = side_called side xs before order in
       let types = map name_called (names_on side (in_turn xs order)) in
-      let it = in_some (called_fault (is_extern x) names) (item_called x) f h in
+      let there = side_sorted side xs before order in
+      let as_crossed = λ (d : Called). crossed side there d.name d.span in
+      let it = in_some (called_fault (is_extern x) (crossed side there) names) (item_called x) f h in
       let c = it.1 in
       let only = called_one x it.0 c it.2 in
       let split = split_at all k x at in
       let rest = items_on side split.0 in
       let on : items_on side all ≡ before ++ x ∷ rest = on_split side all (take k all) split.0 x refl split.1 in
-      elim (or_some (if is_extern x then repeat_of (λ (d : Called). d.name) (λ (d : Called). fault 44 d.span) names c else None) (folded_fault names c) f it.3) [
+      elim (or_some (if is_extern x then repeat_of (λ (d : Called). d.name) as_crossed names c else None) (folded_fault names c) f it.3) [
         | inl own ↦ (
-            let crossed = crossed_is (is_extern x) names c f own in
-            let twice = repeat_some (λ (d : Called). d.name) (λ (d : Called). fault 44 d.span) names c f crossed.1 in
+            let own_crossed = crossed_is as_crossed (is_extern x) names c f own in
+            let twice = repeat_some (λ (d : Called). d.name) as_crossed names c f own_crossed.1 in
             let e = any_found (λ (d : Called). bytes_eq d.name c.name) names twice.0 in
-            let there : slice_get (items_on side all) (length before) ≡ Some x = ap (λ (l : List SideItem). slice_get l (length before)) on ∙ middle before x rest in
+            let at_place : slice_get (items_on side all) (length before) ≡ Some x = ap (λ (l : List SideItem). slice_get l (length before)) on ∙ middle before x rest in
             let prefix : take (length before) (items_on side all) ≡ before = ap (take (length before)) on ∙ take_seam before (x ∷ rest) in
             let has : Contains (side_called side xs (take (length before) (items_on side all)) order) e.1 = subst (λ (l : List SideItem). Contains (side_called side xs l order) e.1) (sym prefix) (contains_at names e.0 e.1 e.2) in
-            Sides i known.among (CrossedTwice (side, order, least, length before, x, there, extern_is x crossed.0, c, only, e.1, has, name_equal e.1.name c.name e.3, twice.1)))
+            Sides i known.among (CrossedTwice (side, order, least, length before, x, at_place, extern_is x own_crossed.0, c, only, e.1, has, name_equal e.1.name c.name e.3, conflict side c.name (sort_among there c.name), twice.1)))
         | inr far ↦ (
+            let again = clash_repeat (λ (d : Called). folded_key d.name) (λ (d : Called) (w : List ℕ). fault_in 17 d.span w) (λ (y : Called) (d : Called). clash (codes "name") y.name d.name) names c f far.1 in
             let own = flat_map item_called before in
             let more = flat_map item_called rest in
             let whole : side_called side xs (items_on side all) order ≡ names ++ c ∷ more =
@@ -253,7 +257,7 @@ module _ (files : List PackageFile) (i : Item) (known : IsScope files i) (n : �
             ∙ ap (λ (l : List Called). types ++ l) (flat_map-append item_called before (x ∷ rest))
             ∙ ap (λ (l : List Called). types ++ (own ++ (l ++ more))) only
             ∙ sym (append_assoc types own (c ∷ more)) in
-            Sides i known.among (FoldedTwice (side, order, least, subst (λ (l : List Called). IsSecond (λ (d : Called). folded_key d.name) (λ (d : Called). fault 17 d.span) l f) (sym whole) (second_here (λ (d : Called). folded_key d.name) (λ (d : Called). fault 17 d.span) names more c f far.1))))
+            Sides i known.among (FoldedTwice (side, order, least, (again.0, subst (λ (l : List Called). IsSecond (λ (d : Called). folded_key d.name) (λ (d : Called). fault_in 17 d.span again.0) l f) (sym whole) (second_here (λ (d : Called). folded_key d.name) (λ (d : Called). fault_in 17 d.span again.0) names more c f again.1)))))
       ]
 
   pub members_broken : (inside : Item → Option Fault) → BreaksInside files i inside → (f : Fault) → first_after (member_fault files n inside i order) [] all ≡ Some f → IsBroken files f
@@ -261,7 +265,7 @@ module _ (files : List PackageFile) (i : Item) (known : IsScope files i) (n : �
       let it = after_some (member_fault files n inside i order) [] all f h in
       let k = it.0 in
       let x = it.1 in
-      let names = first_in (called_fault (is_extern x) (side_called (item_side x) xs (items_on (item_side x) (take k all)) order)) (item_called x) in
+      let names = own_fault xs (items_on (item_side x) (take k all)) order x in
       elim (or_some (item_fault files n inside i (take k all) x) names f it.3) [
         | inl own ↦ item_broken inside breaks k x f it.2 own
         | inr far ↦ called_broken k x f it.2 far.1
@@ -272,5 +276,6 @@ module _ (files : List PackageFile) (i : Item) (known : IsScope files i) (n : �
   turned_broken f h =
       let names = map name_called (in_turn xs order) in
       let it = after_some folded_fault [] names f h in
-      let second = repeat_second (λ (d : Called). folded_key d.name) (λ (d : Called). fault 17 d.span) names it.0 it.1 f it.2 it.3 in
-      Sides i known.among (FoldedTwice (Imported, order, least, second_prefix (λ (d : Called). folded_key d.name) (λ (d : Called). fault 17 d.span) names (flat_map item_called (items_on Imported all)) f second))
+      let again = clash_repeat (λ (d : Called). folded_key d.name) (λ (d : Called) (w : List ℕ). fault_in 17 d.span w) (λ (y : Called) (d : Called). clash (codes "name") y.name d.name) (take it.0 names) it.1 f it.3 in
+      let second = repeat_second (λ (d : Called). folded_key d.name) (λ (d : Called). fault_in 17 d.span again.0) names it.0 it.1 f it.2 again.1 in
+      Sides i known.among (FoldedTwice (Imported, order, least, (again.0, second_prefix (λ (d : Called). folded_key d.name) (λ (d : Called). fault_in 17 d.span again.0) names (flat_map item_called (items_on Imported all)) f second)))

@@ -20,7 +20,7 @@ use Rattle.wit_graph.specs.Table.{IsOrder}
 use Rattle.wit_syntax.specs.Address.{same_address}
 use Rattle.wit_syntax.specs.Broken.{is_world_at, IsLinkedTwice}
 use Rattle.wit_syntax.specs.ExternPart.{same_side}
-use Rattle.wit_syntax.specs.Fault.{Fault, fault}
+use Rattle.wit_syntax.specs.Fault.{Fault, fault, linked_twice}
 use Rattle.wit_syntax.specs.Function.{SourceFunction, functions, written_types}
 use Rattle.wit_syntax.specs.Metadata.{IsBrokenMetadata}
 use Rattle.wit_syntax.specs.Repeats.{AllDiffer}
@@ -37,12 +37,12 @@ use Rattle.wit_first.specs.AttributeFaults.{external_fault, metadata_fault, stab
 use Rattle.wit_first.specs.FileFaults.{lost_fault}
 use Rattle.wit_first.specs.First.{first_in, first_after, repeat_of}
 use Rattle.wit_first.specs.UseFaults.{path_fault, reached_fault}
-use Rattle.wit_first.proofs.Bridge.{after_only, metadata_agree, or_none_both, repeat_differs}
+use Rattle.wit_first.proofs.Bridge.{after_only, metadata_agree, or_none_both, clash_differs}
 use Rattle.wit_first.proofs.First.{after-append, any_some, none_both}
 use Rattle.wit_walk.specs.Definitions.{handle_fault}
 use Rattle.wit_walk.specs.Functions.{function_fault, signed_fault, word_fault}
-use Rattle.wit_walk.specs.Members.{called_fault, is_extern, item_fault, member_fault}
-use Rattle.wit_walk.specs.Names.{folded_fault}
+use Rattle.wit_walk.specs.Members.{called_fault, crossed, is_extern, item_fault, member_fault, own_fault, side_sorted}
+use Rattle.wit_walk.specs.Names.{folded_clash, folded_fault}
 use Rattle.wit_walk.specs.Paths.{is_same_link, linked_fault, there_fault}
 use Rattle.wit_walk.proofs.FilesLegal.{flat_has}
 use Rattle.wit_walk.proofs.FunctionsLegal.{function_legal, type_none}
@@ -70,12 +70,12 @@ kept_split {X} test (y ∷ ys) place x at = elim (cases_Bool (test y)) [
         (suc it.0, it.1, it.2, cond-true (test y) (y ∷ filter test (take it.0 ys)) (filter test (take it.0 ys)) hit ∙ ap (λ (l : List X). y ∷ l) it.3 ∙ sym (ap (take (suc n)) kept))
 
 -- what is on a side has at most one name, and nothing is wrong with it
-called_none : (extern : Bool) (before cs : List Called) → length cs ≤ 1 → first_in (called_fault extern before) cs ≡ None → first_after folded_fault before cs ≡ None
-called_none extern before [] few none = refl
-called_none extern before (c ∷ []) few none =
-    let own = or_none_both (called_fault extern before c) None none in
-    none_both (or_none_both (if extern then repeat_of (λ (d : Called). d.name) (λ (d : Called). fault 44 d.span) before c else None) (folded_fault before c) own.0).1 refl
-called_none extern before (c ∷ d ∷ cs) few none = absurd (let f : ⊥ = omega (arith, few) in f)
+called_none : (extern : Bool) (as_crossed : List ℕ → Span → Fault) (before cs : List Called) → length cs ≤ 1 → first_in (called_fault extern as_crossed before) cs ≡ None → first_after folded_fault before cs ≡ None
+called_none extern as_crossed before [] few none = refl
+called_none extern as_crossed before (c ∷ []) few none =
+    let own = or_none_both (called_fault extern as_crossed before c) None none in
+    none_both (or_none_both (if extern then repeat_of (λ (d : Called). d.name) (λ (d : Called). as_crossed d.name d.span) before c else None) (folded_fault before c) own.0).1 refl
+called_none extern as_crossed before (c ∷ d ∷ cs) few none = absurd (let f : ⊥ = omega (arith, few) in f)
 
 called_few : (x : SideItem) → length (item_called x) ≤ 1
 called_few (SideFunction fn) = omega arith
@@ -93,10 +93,10 @@ function_is (SideLink link) r fn at = absurd (let f : ⊥ = cc in f)
 function_is (SideInline x name items) r fn at = absurd (let f : ⊥ = cc in f)
 
 -- a path by which an interface is imported or exported leads where it has to
-there_reached : (o : Option Bool) (span : Span) (lost twice : Option Fault) → there_fault o span lost twice ≡ None → reached_fault o span lost ≡ None
-there_reached None span lost twice none = none
-there_reached (Some true) span lost twice none = none
-there_reached (Some false) span lost twice none = refl
+there_reached : (o : Option Bool) (id : Id) (lost twice : Option Fault) → there_fault o id lost twice ≡ None → reached_fault o id lost ≡ None
+there_reached None id lost twice none = none
+there_reached (Some true) id lost twice none = none
+there_reached (Some false) id lost twice none = refl
 
 module _ (files : List PackageFile) (n : ℕ) (inside : Item → Option Fault) (i : Item) (order : List ℕ) (none : first_after (member_fault files n inside i order) [] (side_items i) ≡ None) where
   abbrev xs : List ScopeName
@@ -106,7 +106,7 @@ module _ (files : List PackageFile) (n : ℕ) (inside : Item → Option Fault) (
   all = side_items i
 
   abbrev own_names : SideItem → List SideItem → Option Fault
-  own_names x before = first_in (called_fault (is_extern x) (side_called (item_side x) xs (items_on (item_side x) before) order)) (item_called x)
+  own_names x before = own_fault xs (items_on (item_side x) before) order x
 
   pub item_none : (k : ℕ) (x : SideItem) → slice_get all k ≡ Some x → item_fault files n inside i (take k all) x ≡ None
   item_none k x at = (or_none_both (item_fault files n inside i (take k all) x) (own_names x (take k all)) (after_only (member_fault files n inside i order) [] all none k x at)).0
@@ -138,13 +138,13 @@ module _ (files : List PackageFile) (n : ℕ) (inside : Item → Option Fault) (
 
   -- links
   abbrev there_none : ℕ → Link → Option Fault
-  there_none k link = there_fault (is_world_at files (leads i.top link.path)) (path_id link.path).span (lost_fault (all_items files) (leads i.top link.path)) (linked_fault i.top (take k all) link)
+  there_none k link = there_fault (is_world_at files (leads i.top link.path)) (path_id link.path) (lost_fault (all_items files) (leads i.top link.path)) (linked_fault i.top (take k all) link)
 
   link_none : (k : ℕ) (link : Link) → slice_get all k ≡ Some (SideLink link) → (metadata_fault link.attributes ≡ None) × (there_none k link ≡ None)
   link_none k link at = or_none_both (metadata_fault link.attributes) (there_none k link) (item_none k (SideLink link) at)
 
   pub link_reached : (k : ℕ) (link : Link) → slice_get all k ≡ Some (SideLink link) → path_fault files i.top link.path ≡ None
-  link_reached k link at = there_reached (is_world_at files (leads i.top link.path)) (path_id link.path).span (lost_fault (all_items files) (leads i.top link.path)) (linked_fault i.top (take k all) link) (link_none k link at).1
+  link_reached k link at = there_reached (is_world_at files (leads i.top link.path)) (path_id link.path) (lost_fault (all_items files) (leads i.top link.path)) (linked_fault i.top (take k all) link) (link_none k link at).1
 
   same_link : (a b : Link) → a.name ≡ None → b.name ≡ None → path_scope i.top a.path ≡ path_scope i.top b.path → is_same_link i.top a b ≡ true
   same_link a b no_a no_b paths =
@@ -162,8 +162,8 @@ module _ (files : List PackageFile) (n : ℕ) (inside : Item → Option Fault) (
       let own = flat_map_has item_link (items_on later.side (take k all)) e.0 0 (SideLink earlier) earlier (ap (λ (l : List SideItem). slice_get l e.0) before ∙ e.1) refl in
       let test = λ (l : Link). is_same_link i.top l later in
       let found = any_some test (flat_map item_link (items_on later.side (take k all))) own.0 earlier own.1 (same_link earlier later no_a no_b paths) in
-      let right : linked_fault i.top (take k all) later ≡ None = subst (λ (o : Option Bool). there_fault o (path_id later.path).span (lost_fault (all_items files) (leads i.top later.path)) (linked_fault i.top (take k all) later) ≡ None) there (link_none k later it.1).1 in
-      if_none (list_any test (flat_map item_link (items_on later.side (take k all)))) (fault 43 (path_id later.path).span) right found
+      let right : linked_fault i.top (take k all) later ≡ None = subst (λ (o : Option Bool). there_fault o (path_id later.path) (lost_fault (all_items files) (leads i.top later.path)) (linked_fault i.top (take k all) later) ≡ None) there (link_none k later it.1).1 in
+      if_none (list_any test (flat_map item_link (items_on later.side (take k all)))) (linked_twice later.side (path_id later.path).span) right found
 
   -- the attributes of interfaces, where nothing is wrong with those that say how stable one is that is written here
   pub attributes_legal : ((k : ℕ) (x : Extern) (name : Id) (items : List InterfaceItem) → slice_get all k ≡ Some (SideInline x name items) → stability_fault x.attributes.items ≡ None) → (k : ℕ) (x : SideItem) → slice_get all k ≡ Some x → (f : Fault) → IsBrokenMetadata (interface_attributes x) f → ⊥
@@ -207,7 +207,8 @@ module _ (files : List PackageFile) (n : ℕ) (inside : Item → Option Fault) (
         | inl hit ↦ (
             let its : side ≡ item_side x = same_side-equal side (item_side x) hit in
             let own = (or_none_both (item_fault files n inside i before x) (own_names x before) both.0).1 in
-            let here = called_none (is_extern x) (names side before) (item_called x) (called_few x) (subst (λ (s : WorldSide). first_in (called_fault (is_extern x) (names s before)) (item_called x) ≡ None) (sym its) own) in
+            let as_crossed = λ (s : WorldSide). crossed s (side_sorted s xs (items_on s before) order) in
+            let here = called_none (is_extern x) (as_crossed side) (names side before) (item_called x) (called_few x) (subst (λ (s : WorldSide). first_in (called_fault (is_extern x) (as_crossed s) (names s before)) (item_called x) ≡ None) (sym its) own) in
             let more : first_after folded_fault (names side before ++ item_called x) called ≡ None = subst (λ (l : List Called). first_after folded_fault l called ≡ None) (names_more side before x hit) later in
             ap (λ (l : List SideItem). first_after folded_fault (names side before) (flat_map item_called l)) (cond-true (on x) (x ∷ items_on side rest) (items_on side rest) hit)
             ∙ after-append folded_fault (names side before) (item_called x) called
@@ -228,7 +229,7 @@ module _ (files : List PackageFile) (n : ℕ) (inside : Item → Option Fault) (
         let called = flat_map item_called (items_on side all) in
         let nothing : types side ≡ names side [] = sym (append-nil (types side)) in
         let later : first_after folded_fault (types side) called ≡ None = ap (λ (l : List Called). first_after folded_fault l called) nothing ∙ names_from side [] all none in
-        repeat_differs (λ (c : Called). folded_key c.name) (λ (c : Called). fault 17 c.span) (types side ++ called) (after-append folded_fault [] (types side) called ∙ none_both (types_none side) later)
+        clash_differs (λ (c : Called). folded_key c.name) folded_clash (types side ++ called) (after-append folded_fault [] (types side) called ∙ none_both (types_none side) later)
 
     pub sides_legal : IsOrder (rows_of xs) order → ((k : ℕ) (x : Extern) (name : Id) (items : List InterfaceItem) → slice_get all k ≡ Some (SideInline x name items) → stability_fault x.attributes.items ≡ None) → (f : Fault) → IsBrokenSides i f → ⊥
     sides_legal least stable f broken = elim broken [

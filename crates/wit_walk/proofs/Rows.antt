@@ -29,7 +29,7 @@ use Rattle.wit_tree.specs.declared.tree.UsePath.TheVariants as path
 use Rattle.wit_tree.specs.declared.tree.WorldItem.TheVariants as world_item
 use Rattle.wit_tree.specs.declared.tree.WorldSide.TheVariants.{Imported}
 use Rattle.wit_graph.specs.Table.{Row}
-use Rattle.wit_syntax.specs.Fault.{fault, missing_at, missing_type_at, item_word}
+use Rattle.wit_syntax.specs.Fault.{fault, missing_at, missing_type_at, item_word, fault_in}
 use Rattle.wit_walk.specs.Orders.{Outcome, InOrder, AtMissing}
 use Rattle.wit_walk.specs.Walk.{first_fault}
 
@@ -83,11 +83,11 @@ module _ (ptr : Ptr) (alloc : Global) where
   row_1 = refl
 
   -- package foo:foo; interface a {} interface a {}
-  row_2 : first_fault (file_of (Some header) (vec (ast.Interface (record { docs = no_comments; attributes = unstated; name = (id (codes "a") (at 27 28) refl); items = (vec [] (lit< tt)) }) ∷ ast.Interface (record { docs = no_comments; attributes = unstated; name = (id (codes "a") (at 42 43) refl); items = (vec [] (lit< tt)) }) ∷ []) (lit< tt)) ∷ []) (record { outcome = in_source; steps = 2 }) ≡ Some (fault 5 (at 42 43))
+  row_2 : first_fault (file_of (Some header) (vec (ast.Interface (record { docs = no_comments; attributes = unstated; name = (id (codes "a") (at 27 28) refl); items = (vec [] (lit< tt)) }) ∷ ast.Interface (record { docs = no_comments; attributes = unstated; name = (id (codes "a") (at 42 43) refl); items = (vec [] (lit< tt)) }) ∷ []) (lit< tt)) ∷ []) (record { outcome = in_source; steps = 2 }) ≡ Some (fault_in 5 (at 42 43) (codes "duplicate item named `a`"))
   row_2 = refl
 
   -- package foo:foo; use x; use x;
-  row_3 : first_fault (file_of (Some header) (vec (ast.Use (record { span = (at 17 20); attributes = unstated; item = path.Id (id (codes "x") (at 21 22) refl); as_ = None }) ∷ ast.Use (record { span = (at 24 27); attributes = unstated; item = path.Id (id (codes "x") (at 28 29) refl); as_ = None }) ∷ []) (lit< tt)) ∷ []) (record { outcome = in_source; steps = 2 }) ≡ Some (fault 6 (at 28 29))
+  row_3 : first_fault (file_of (Some header) (vec (ast.Use (record { span = (at 17 20); attributes = unstated; item = path.Id (id (codes "x") (at 21 22) refl); as_ = None }) ∷ ast.Use (record { span = (at 24 27); attributes = unstated; item = path.Id (id (codes "x") (at 28 29) refl); as_ = None }) ∷ []) (lit< tt)) ∷ []) (record { outcome = in_source; steps = 2 }) ≡ Some (fault_in 6 (at 28 29) (codes "duplicate name `x` in this file"))
   row_3 = refl
 
   -- package foo:foo; use k; interface i { use j.{t}; }
@@ -95,7 +95,7 @@ module _ (ptr : Ptr) (alloc : Global) where
   row_4 = refl
 
   -- package foo:foo; interface i { type t = u; type t = u8; }
-  row_5 : first_fault (file_of (Some header) (vec (ast.Interface (record { docs = no_comments; attributes = unstated; name = (id (codes "i") (at 27 28) refl); items = (vec (interface_item.TypeDef (definition (id (codes "t") (at 36 37) refl) (body.Plain (written.Name (id (codes "u") (at 40 41) refl)))) ∷ interface_item.TypeDef (definition (id (codes "t") (at 48 49) refl) (body.Plain (written.Primitive (at 52 54) primitive.U8))) ∷ []) (lit< tt)) }) ∷ []) (lit< tt)) ∷ []) (record { outcome = in_source; steps = 2 }) ≡ Some (fault 14 (at 48 49))
+  row_5 : first_fault (file_of (Some header) (vec (ast.Interface (record { docs = no_comments; attributes = unstated; name = (id (codes "i") (at 27 28) refl); items = (vec (interface_item.TypeDef (definition (id (codes "t") (at 36 37) refl) (body.Plain (written.Name (id (codes "u") (at 40 41) refl)))) ∷ interface_item.TypeDef (definition (id (codes "t") (at 48 49) refl) (body.Plain (written.Primitive (at 52 54) primitive.U8))) ∷ []) (lit< tt)) }) ∷ []) (lit< tt)) ∷ []) (record { outcome = in_source; steps = 2 }) ≡ Some (fault_in 14 (at 48 49) (codes "name `t` is defined more than once"))
   row_5 = refl
 
   -- package foo:foo; interface i { record r {} type t = u; }
@@ -115,7 +115,7 @@ module _ (ptr : Ptr) (alloc : Global) where
   row_9 = refl
 
   -- package foo:foo; interface i { f: func(a: u8, a: y); }
-  row_10 : first_fault (file_of (Some header) (vec (ast.Interface (record { docs = no_comments; attributes = unstated; name = (id (codes "i") (at 27 28) refl); items = (vec (interface_item.Func (record { docs = no_comments; attributes = unstated; name = (id (codes "f") (at 31 32) refl); func = (func (at 34 38) form.Plain (vec (record { name = (id (codes "a") (at 39 40) refl); ty = (written.Primitive (at 42 44) primitive.U8) } ∷ record { name = (id (codes "a") (at 46 47) refl); ty = (written.Name (id (codes "y") (at 49 50) refl)) } ∷ []) (lit< tt)) None) }) ∷ []) (lit< tt)) }) ∷ []) (lit< tt)) ∷ []) (record { outcome = in_source; steps = 2 }) ≡ Some (fault 38 (at 46 47))
+  row_10 : first_fault (file_of (Some header) (vec (ast.Interface (record { docs = no_comments; attributes = unstated; name = (id (codes "i") (at 27 28) refl); items = (vec (interface_item.Func (record { docs = no_comments; attributes = unstated; name = (id (codes "f") (at 31 32) refl); func = (func (at 34 38) form.Plain (vec (record { name = (id (codes "a") (at 39 40) refl); ty = (written.Primitive (at 42 44) primitive.U8) } ∷ record { name = (id (codes "a") (at 46 47) refl); ty = (written.Name (id (codes "y") (at 49 50) refl)) } ∷ []) (lit< tt)) None) }) ∷ []) (lit< tt)) }) ∷ []) (lit< tt)) ∷ []) (record { outcome = in_source; steps = 2 }) ≡ Some (fault_in 38 (at 46 47) (codes "param `a` is defined more than once"))
   row_10 = refl
 
   -- package foo:foo; interface i { x: set(a: u8) -> u8; }
@@ -127,7 +127,7 @@ module _ (ptr : Ptr) (alloc : Global) where
   row_12 = refl
 
   -- package foo:foo; world w { import f: func(); import f: func(); }
-  row_13 : first_fault (file_of (Some header) (vec (ast.World (record { docs = no_comments; attributes = unstated; name = (id (codes "w") (at 23 24) refl); items = (vec (world_item.Extern (record { side = Imported; docs = no_comments; attributes = unstated; kind = extern.Func (id (codes "f") (at 34 35) refl) (func (at 37 41) form.Plain (vec [] (lit< tt)) None) }) ∷ world_item.Extern (record { side = Imported; docs = no_comments; attributes = unstated; kind = extern.Func (id (codes "f") (at 52 53) refl) (func (at 55 59) form.Plain (vec [] (lit< tt)) None) }) ∷ []) (lit< tt)) }) ∷ []) (lit< tt)) ∷ []) (record { outcome = in_source; steps = 2 }) ≡ Some (fault 44 (at 52 53))
+  row_13 : first_fault (file_of (Some header) (vec (ast.World (record { docs = no_comments; attributes = unstated; name = (id (codes "w") (at 23 24) refl); items = (vec (world_item.Extern (record { side = Imported; docs = no_comments; attributes = unstated; kind = extern.Func (id (codes "f") (at 34 35) refl) (func (at 37 41) form.Plain (vec [] (lit< tt)) None) }) ∷ world_item.Extern (record { side = Imported; docs = no_comments; attributes = unstated; kind = extern.Func (id (codes "f") (at 52 53) refl) (func (at 55 59) form.Plain (vec [] (lit< tt)) None) }) ∷ []) (lit< tt)) }) ∷ []) (lit< tt)) ∷ []) (record { outcome = in_source; steps = 2 }) ≡ Some (fault_in 44 (at 52 53) (codes "import `f` conflicts with prior func of same name"))
   row_13 = refl
 
   -- package foo:foo; @unstable(feature = a) @unstable(feature = a) interface i { record r {} }

@@ -19,7 +19,7 @@ use Rattle.wit_graph.specs.Table.{Row, IsOrder}
 use Rattle.wit_syntax.specs.Address.{Address, same_address}
 use Rattle.wit_syntax.specs.Broken.{is_world_at, IsMissingEdge, IsCyclicEdge, DefinedTwice, Metadata, Body, IsBroken, IncludeStability, InterfaceIncluded, MissingName, Scope, Handle}
 use Rattle.wit_syntax.specs.NameEnds.{End, AtResource, Elsewhere, AtForeign, shape_end}
-use Rattle.wit_syntax.specs.Fault.{Fault, fault, missing_at, cyclic_at, name_word}
+use Rattle.wit_syntax.specs.Fault.{Fault, fault, interface_there, missing_at, cyclic_at, name_word, function_used, name_twice, no_resource}
 use Rattle.wit_syntax.specs.Function.{SourceFunction, functions, item_types, name_types, role_names, written_types}
 use Rattle.wit_syntax.specs.Repeats.{AllDiffer}
 use Rattle.wit_syntax.specs.ScopeTables.{used, defined, part_includes, include_path, includes}
@@ -86,17 +86,17 @@ named_first ws t w d at =
 abbrev free_names : Item → List (List ℕ)
 free_names i = flat_map (λ (fn : SourceFunction). role_names fn.role) (functions i)
 
-no_type : (target : Item) (id : Id) (f : Fault) → f ≡ lost_use target id → IsNoType (Contains (free_names target) id.name.now) (fault 13 id.span) (missing_at 12 name_word id) f
+no_type : (target : Item) (id : Id) (f : Fault) → f ≡ lost_use target id → IsNoType (Contains (free_names target) id.name.now) (function_used id) (missing_at 12 name_word id) f
 no_type target id f is = elim (cases_Bool (list_any (bytes_eq id.name.now) (free_names target))) [
   | inl hit ↦ (
       let it = any_found (bytes_eq id.name.now) (free_names target) hit in
       let same = name_equal id.name.now it.1 it.3 in
-      OfFunction (contains_at (free_names target) it.0 id.name.now (it.2 ∙ ap Some (sym same))) (is ∙ if_true (list_any (bytes_eq id.name.now) (free_names target)) (fault 13 id.span) (missing_at 12 name_word id) hit))
+      OfFunction (contains_at (free_names target) it.0 id.name.now (it.2 ∙ ap Some (sym same))) (is ∙ if_true (list_any (bytes_eq id.name.now) (free_names target)) (function_used id) (missing_at 12 name_word id) hit))
   | inr miss ↦ OfNothing (λ among. (
       let k = at_contains (free_names target) id.name.now among in
       let wrong : false ≡ true = sym miss ∙ any_some (bytes_eq id.name.now) (free_names target) k.0 id.name.now k.1 (name_itself id.name.now) in
       let g : ⊥ = cc in
-      g)) (is ∙ if_false (list_any (bytes_eq id.name.now) (free_names target)) (fault 13 id.span) (missing_at 12 name_word id) miss)
+      g)) (is ∙ if_false (list_any (bytes_eq id.name.now) (free_names target)) (function_used id) (missing_at 12 name_word id) miss)
 ]
 
 -- a used name that means nothing in the interface of this package that it comes from
@@ -122,11 +122,11 @@ outcome_order lost round rs (AtMissing id) x h = absurd (let g : ⊥ = cc in g)
 outcome_order lost round rs (AtCycle id) x h = absurd (let g : ⊥ = cc in g)
 
 -- a name in a handle
-end_wrong : (id : Id) (e : Option End) (f : Fault) → end_fault id e ≡ Some f → (e ≡ Some Elsewhere) × (f ≡ fault 27 id.span)
+end_wrong : (id : Id) (e : Option End) (f : Fault) → end_fault id e ≡ Some f → (e ≡ Some Elsewhere) × (f ≡ no_resource id)
 end_wrong id None f h = absurd (let g : ⊥ = cc in g)
 end_wrong id (Some AtResource) f h = absurd (let g : ⊥ = cc in g)
 end_wrong id (Some (AtForeign s name)) f h = absurd (let g : ⊥ = cc in g)
-end_wrong id (Some Elsewhere) f h = (refl, same_fault f (fault 27 id.span) h)
+end_wrong id (Some Elsewhere) f h = (refl, same_fault f (no_resource id) h)
 
 -- an include
 include_has : (ps : List Part) (n : Include) → Contains (flat_map part_includes ps) n → Contains (flat_map include_path ps) n.from
@@ -137,10 +137,10 @@ include_has ps n among =
     let it = flat_map_has include_path ps p.0 p.3.0 p.1 n.from p.2 own in
     contains_at (flat_map include_path ps) it.0 n.from it.1
 
-interface_wrong : (o : Option Bool) (span : Span) (f : Fault) → interface_fault o span ≡ Some f → (o ≡ Some false) × (f ≡ fault 11 span)
-interface_wrong None span f h = absurd (let g : ⊥ = cc in g)
-interface_wrong (Some true) span f h = absurd (let g : ⊥ = cc in g)
-interface_wrong (Some false) span f h = (refl, same_fault f (fault 11 span) h)
+interface_wrong : (o : Option Bool) (id : Id) (f : Fault) → interface_fault o id ≡ Some f → (o ≡ Some false) × (f ≡ interface_there id)
+interface_wrong None id f h = absurd (let g : ⊥ = cc in g)
+interface_wrong (Some true) id f h = absurd (let g : ⊥ = cc in g)
+interface_wrong (Some false) id f h = (refl, same_fault f (interface_there id) h)
 
 pub includes_broken : (files : List PackageFile) (i : Item) → Contains (all_items files) i → (f : Fault) → first_in (include_fault files i.top) (includes i) ≡ Some f → IsBroken files f
 includes_broken files i here f h =
@@ -148,9 +148,9 @@ includes_broken files i here f h =
     let n = it.1 in
     let among = contains_at (includes i) it.0 n it.2 in
     let there = is_world_at files (leads i.top n.from) in
-    elim (or_some (stability_fault n.attributes.items) (interface_fault there (path_id n.from).span) f it.3) [
+    elim (or_some (stability_fault n.attributes.items) (interface_fault there (path_id n.from)) f it.3) [
       | inl own ↦ IncludeStability i here n among ((stability_agrees n.attributes.items).broken f own)
-      | inr far ↦ (let wrong = interface_wrong there (path_id n.from).span f far.1 in InterfaceIncluded i here n.from (include_has (parts i) n among) wrong.0 wrong.1)
+      | inr far ↦ (let wrong = interface_wrong there (path_id n.from) f far.1 in InterfaceIncluded i here n.from (include_has (parts i) n among) wrong.0 wrong.1)
     ]
 
 -- a scope among all
@@ -176,9 +176,9 @@ module _ (files : List PackageFile) (i : Item) (among : Contains (all_scopes fil
         | inl own ↦ (let p = used_at xs own.0 x own.1 in contains_at xs p.0 x p.1)
         | inr own ↦ (let p = defined_at xs own.0 x own.1 in contains_at xs p.0 x p.1)
       ] in
-      elim (or_some (use_fault files x) (repeat_of local_name (λ (y : ScopeName). fault 14 (local_id y).span) (take it.0 (used xs ++ defined xs)) x) f it.3) [
+      elim (or_some (use_fault files x) (repeat_of local_name (λ (y : ScopeName). name_twice (local_id y)) (take it.0 (used xs ++ defined xs)) x) f it.3) [
         | inl own ↦ use_broken d x f has own
-        | inr far ↦ Scope i among (DefinedTwice (repeat_second local_name (λ (y : ScopeName). fault 14 (local_id y).span) (used xs ++ defined xs) it.0 x f it.2 far.1))
+        | inr far ↦ Scope i among (DefinedTwice (repeat_second local_name (λ (y : ScopeName). name_twice (local_id y)) (used xs ++ defined xs) it.0 x f it.2 far.1))
       ]
 
   pub handle_broken : scope files (address i) ≡ xs → (n : ℕ) (t : Written) (f : Fault) → Contains (item_types i) t → IsOf (handles t) (words (shape_of t)) (handle_fault files n (address i)) f → IsBroken files f

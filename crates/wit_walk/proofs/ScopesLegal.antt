@@ -14,7 +14,7 @@ use Rattle.wit_tree.specs.declared.tree.PackageFile.{PackageFile}
 use Rattle.wit_graph.specs.Table.{IsOrder}
 use Rattle.wit_syntax.specs.Address.{Address}
 use Rattle.wit_syntax.specs.Bodies.{IsSecond, IsBrokenBody}
-use Rattle.wit_syntax.specs.Fault.{Fault, fault}
+use Rattle.wit_syntax.specs.Fault.{Fault, name_twice, no_resource}
 use Rattle.wit_syntax.specs.Form.{Form, AliasForm}
 use Rattle.wit_syntax.specs.Function.{functions, item_types, name_types, written_types}
 use Rattle.wit_syntax.specs.Metadata.{IsBrokenMetadata}
@@ -65,7 +65,7 @@ module _ (files : List PackageFile) (i : Item) (none : first_after (name_fault f
   xs = scope_names i
 
   abbrev as_stated : ScopeName → Fault
-  as_stated x = fault 14 (local_id x).span
+  as_stated x = name_twice (local_id x)
 
   use_none : (from : Address) (attributes : List Attribute) (n : UseName) → Contains xs (Used from attributes n) → use_fault files (Used from attributes n) ≡ None
   use_none from attributes n among =
@@ -124,7 +124,7 @@ module _ (xs : List ScopeName) (order : List ℕ) (least : IsOrder (rows_of xs) 
 -- so each name in a handle of an item ends at a resource, where nothing is wrong with those in its functions
 ends_none : (id : Id) (o : Option End) → end_fault id o ≡ None → o ≡ Some Elsewhere → ⊥
 ends_none id o none is =
-    let wrong : Some (fault 27 id.span) ≡ None = subst (λ (p : Option End). end_fault id p ≡ None) is none in
+    let wrong : Some (no_resource id) ≡ None = subst (λ (p : Option End). end_fault id p ≡ None) is none in
     (let f : ⊥ = cc in f)
 
 pub handle_legal : (files : List PackageFile) (i : Item) (n : ℕ) → ((t : Written) → Contains (flat_map name_types (scope_names i)) t → (id : Id) → Contains (handles t) id → handle_fault files n (address i) id ≡ None)

@@ -11,7 +11,7 @@ use Rattle.wit_tree.specs.declared.tree.Include.{Include}
 use Rattle.wit_tree.specs.declared.tree.WorldSide.{WorldSide}
 use Rattle.wit_tree.specs.declared.tree.WorldSide.TheVariants.{Imported, Exported}
 use Rattle.wit_syntax.specs.Broken.{IsSetterAlone}
-use Rattle.wit_syntax.specs.Fault.{Fault, fault}
+use Rattle.wit_syntax.specs.Fault.{Fault, lone_setter}
 use Rattle.wit_syntax.specs.Function.{SourceFunction, functions}
 use Rattle.wit_syntax.specs.ScopeTables.{includes}
 use Rattle.wit_syntax.specs.Sides.{on_side}
@@ -36,10 +36,10 @@ pub record IsAlone (fns : List SourceFunction) (fn : SourceFunction) : Type 0 wh
   pub none : (other : SourceFunction) → Contains fns other → other.name ≡ getter_of fn.name → ⊥
 
 -- what it is that is wrong
-pub setter_alone_at : (fns : List SourceFunction) (fn : SourceFunction) (f : Fault) → setter_fault fns fn ≡ Some f → IsAlone fns fn × (f ≡ fault 18 fn.span)
+pub setter_alone_at : (fns : List SourceFunction) (fn : SourceFunction) (f : Fault) → setter_fault fns fn ≡ Some f → IsAlone fns fn × (f ≡ lone_setter fn.name fn.span)
 setter_alone_at fns fn f h =
     let getters = list_any (λ (g : SourceFunction). bytes_eq g.name (getter_of fn.name)) fns in
-    let found = if_some (is_setter fn.func.form && not getters) (fault 18 fn.span) f h in
+    let found = if_some (is_setter fn.func.form && not getters) (lone_setter fn.name fn.span) f h in
     let parts = and_parts (is_setter fn.func.form) (not getters) found.0 in
     let alone = not-true getters parts.1 in (
       record {
@@ -55,13 +55,13 @@ setter_alone_at fns fn f h =
     )
 
 -- and where it is
-pub setter_found : (fns : List SourceFunction) (fn : SourceFunction) → IsAlone fns fn → setter_fault fns fn ≡ Some (fault 18 fn.span)
+pub setter_found : (fns : List SourceFunction) (fn : SourceFunction) → IsAlone fns fn → setter_fault fns fn ≡ Some (lone_setter fn.name fn.span)
 setter_found fns fn alone =
     let test = λ (g : SourceFunction). bytes_eq g.name (getter_of fn.name) in
     let miss : list_any test fns ≡ false = false_from_ne_true (list_any test fns) (λ hit. (
     let it = any_found test fns hit in
     alone.none it.1 (contains_at fns it.0 it.1 it.2) (name_equal it.1.name (getter_of fn.name) it.3))) in
-    ap (λ (it : FuncForm). if is_setter it && not (list_any test fns) then Some (fault 18 fn.span) else None) alone.setter ∙ ap (λ (b : Bool). if true && not b then Some (fault 18 fn.span) else None) miss
+    ap (λ (it : FuncForm). if is_setter it && not (list_any test fns) then Some (lone_setter fn.name fn.span) else None) alone.setter ∙ ap (λ (b : Bool). if true && not b then Some (lone_setter fn.name fn.span) else None) miss
 
 pub setter_wrong : (fns : List SourceFunction) (k : ℕ) (fn : SourceFunction) (f : Fault) → slice_get fns k ≡ Some fn → setter_fault fns fn ≡ Some f → IsUnpairedSetter fns f
 setter_wrong fns k fn f at h =

@@ -8,7 +8,7 @@ use Rattle.wit_tree.specs.declared.tree.Include.{Include}
 use Rattle.wit_tree.specs.declared.tree.WorldSide.{WorldSide}
 use Rattle.wit_tree.specs.declared.tree.WorldSide.TheVariants.{Imported, Exported}
 use Rattle.wit_syntax.specs.Broken.{IsSetterAlone}
-use Rattle.wit_syntax.specs.Fault.{Fault, fault}
+use Rattle.wit_syntax.specs.Fault.{Fault, lone_setter}
 use Rattle.wit_syntax.specs.Function.{SourceFunction, functions}
 use Rattle.wit_syntax.specs.Sides.{on_side}
 use Rattle.wit_syntax.specs.Source.{Item}
@@ -30,5 +30,5 @@ setters_legal i none f (empty, side, (fn, among, is, alone, says)) =
     let test = λ (g : SourceFunction). bytes_eq g.name (getter_of fn.name) in
     elim (cases_Bool (list_any test fns)) [
       | inl hit ↦ (let it = any_found test fns hit in alone it.1 (contains_at fns it.0 it.1 it.2) (name_equal it.1.name (getter_of fn.name) it.3))
-      | inr miss ↦ if_none (is_setter fn.func.form && not (list_any test fns)) (fault 18 fn.span) (in_only (setter_fault fns) fns right k.0 fn k.1) (and_from (is_setter fn.func.form) (not (list_any test fns)) (ap is_setter is) (not_from_false (list_any test fns) miss))
+      | inr miss ↦ if_none (is_setter fn.func.form && not (list_any test fns)) (lone_setter fn.name fn.span) (in_only (setter_fault fns) fns right k.0 fn k.1) (and_from (is_setter fn.func.form) (not (list_any test fns)) (ap is_setter is) (not_from_false (list_any test fns) miss))
     ]

@@ -6,7 +6,7 @@ use Rattle.wit_type_tree.specs.TypeParts.{body_types}
 use Rattle.wit_tree.specs.declared.tree.PackageFile.{PackageFile}
 use Rattle.wit_syntax.specs.Address.{Address}
 use Rattle.wit_syntax.specs.NameEnds.{End, Elsewhere, shape_end}
-use Rattle.wit_syntax.specs.Fault.{Fault, fault}
+use Rattle.wit_syntax.specs.Fault.{Fault, no_resource}
 use Rattle.wit_syntax.specs.Shape.{Word}
 use Rattle.wit_syntax.specs.Source.{ScopeName, Defined}
 use Rattle.wit_first.specs.AttributeFaults.{metadata_fault}
@@ -16,7 +16,7 @@ use Rattle.wit_first.specs.TypeFaults.{type_fault}
 
 -- a name in a handle ends neither at a resource nor at a name of another package
 abbrev pub end_fault : Id → Option End → Option Fault
-end_fault id (Some Elsewhere) = Some (fault 27 id.span)
+end_fault id (Some Elsewhere) = Some (no_resource id)
 end_fault id end = None
 
 -- the same, where its end is looked for in so many steps

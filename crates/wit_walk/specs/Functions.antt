@@ -7,7 +7,7 @@ use Rattle.wit_type_tree.specs.declared.leaves.Id.{Id}
 use Rattle.wit_type_tree.specs.declared.types.Param.{Param}
 use Rattle.wit_type_tree.specs.declared.types.«Type».{«Type» as Written}
 use Rattle.wit_syntax.specs.Bodies.{folded}
-use Rattle.wit_syntax.specs.Fault.{Fault, fault, missing_at, name_word}
+use Rattle.wit_syntax.specs.Fault.{Fault, missing_at, name_word, function_as_type, param_twice}
 use Rattle.wit_syntax.specs.Function.{Role, Freestanding, SourceParam, SourceFunction, written_param}
 use Rattle.wit_syntax.specs.Source.{ScopeName, meaning}
 use Rattle.wit_first.specs.AttributeFaults.{metadata_fault}
@@ -23,7 +23,7 @@ is_free name role = false
 
 -- a name in a signature that means nothing is that of one of these functions, or of none
 abbrev pub lost_word : List SourceFunction → Id → Fault
-lost_word fns id = if list_any (λ (fn : SourceFunction). is_free id.name.now fn.role) fns then fault 28 id.span else missing_at 29 name_word id
+lost_word fns id = if list_any (λ (fn : SourceFunction). is_free id.name.now fn.role) fns then function_as_type id else missing_at 29 name_word id
 
 abbrev pub word_fault : List ScopeName → List SourceFunction → Id → Option Fault
 word_fault xs fns id = unless_meant (meaning xs id.name.now) (lost_word fns id)
@@ -34,7 +34,7 @@ signed_fault xs fns handle t = type_fault (word_fault xs fns) (λ (id : Id). opt
 
 -- of a parameter, where `wrong` is the fault of a type: an earlier one has its name once case is folded, and then its type
 abbrev pub param_fault : (Written → Option Fault) → SourceFunction → List Param → Param → Option Fault
-param_fault wrong fn before p = option_or (repeat_of (λ (q : SourceParam). folded q.name) (λ (q : SourceParam). fault 38 q.span) (fn.given ++ map written_param before) (written_param p)) (wrong p.ty)
+param_fault wrong fn before p = option_or (repeat_of (λ (q : SourceParam). folded q.name) (λ (q : SourceParam). param_twice q.name q.span) (fn.given ++ map written_param before) (written_param p)) (wrong p.ty)
 
 -- of the result: where one is written, its type first
 abbrev pub return_fault : (Written → Option Fault) → List ScopeName → SourceFunction → Option Written → Option Fault

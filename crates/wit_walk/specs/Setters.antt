@@ -9,7 +9,7 @@ use Rattle.wit_type_tree.specs.declared.types.FuncForm.TheVariants as form
 use Rattle.wit_tree.specs.declared.tree.Include.{Include}
 use Rattle.wit_tree.specs.declared.tree.WorldSide.{WorldSide}
 use Rattle.wit_tree.specs.declared.tree.WorldSide.TheVariants.{Imported, Exported}
-use Rattle.wit_syntax.specs.Fault.{Fault, fault}
+use Rattle.wit_syntax.specs.Fault.{Fault, lone_setter}
 use Rattle.wit_syntax.specs.Function.{SourceFunction, functions}
 use Rattle.wit_syntax.specs.ScopeTables.{includes}
 use Rattle.wit_syntax.specs.Sides.{on_side}
@@ -22,7 +22,7 @@ is_setter other = false
 
 -- a setter, where none of these functions is its getter
 abbrev pub setter_fault : List SourceFunction → SourceFunction → Option Fault
-setter_fault fns fn = if is_setter fn.func.form && not (list_any (λ (g : SourceFunction). bytes_eq g.name (getter_of fn.name)) fns) then Some (fault 18 fn.span) else None
+setter_fault fns fn = if is_setter fn.func.form && not (list_any (λ (g : SourceFunction). bytes_eq g.name (getter_of fn.name)) fns) then Some (lone_setter fn.name fn.span) else None
 
 abbrev pub side_setters_fault : Item → WorldSide → Option Fault
 side_setters_fault i side = first_in (setter_fault (on_side side (functions i))) (on_side side (functions i))

@@ -2,5 +2,6 @@ mod Importing
 mod Keyed
 mod SideKeys
 mod SideCalled
+mod Sorts
 pub mod Putting
 pub mod PutFaults

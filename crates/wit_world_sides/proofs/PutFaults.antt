@@ -11,7 +11,7 @@ use Rattle.wit_type_tree.specs.declared.error.ParseError.{ParseError}
 use Rattle.wit_type_tree.specs.declared.leaves.Id.{Id}
 use Rattle.wit_tree.specs.declared.tree.WorldSide.{WorldSide}
 use Rattle.wit_syntax.specs.Broken.{Refused}
-use Rattle.wit_syntax.specs.Fault.{Fault, fault, fault_of}
+use Rattle.wit_syntax.specs.Fault.{Fault, fault_of, linked_twice}
 use Rattle.wit_syntax.specs.Function.{Role, Freestanding, Method, Static, Constructor, OnSide}
 use Rattle.wit_syntax.specs.Sides.{Link, SideItem, SideLink, item_side}
 use Rattle.wit_syntax.specs.Source.{path_id}
@@ -24,7 +24,6 @@ use Rattle.wit_walk.specs.Members.{is_extern, is_on_side}
 use Rattle.wit_refusals.specs.KeyedNames.{HasName}
 use Rattle.wit_refusals.specs.NameScopes.{Name, AreUsed, IsDefinedAgain}
 use Rattle.wit_rules.specs.BorrowedFunctions.{across_of}
-use Rattle.wit_sides.specs.SideNames.{defined_on}
 use Rattle.wit_sides.specs.declared.sides.Sides.{Sides}
 use Rattle.wit_signatures.specs.ForeignName.{name_of_id}
 use Rattle.wit_externs.specs.AloneFaults.{again_fault}
@@ -32,36 +31,37 @@ use Rattle.wit_externs.specs.Clash.{item_names}
 use Rattle.wit_externs.specs.Next.{IsLinked, linked_on}
 use Rattle.wit_externs.proofs.AloneFaults.{again_free, again_report}
 use Rattle.wit_world_sides.specs.declared.members.Members.{Members}
+use Rattle.wit_world_sides.specs.declared.sides.WorldSides.{WorldSides}
 use Rattle.wit_world_sides.specs.Members.{text}
-use Rattle.wit_world_sides.specs.PutFaults.{again_linked, clash_fault, crossed_fault, named_fault, put_fault, put_link_fault}
+use Rattle.wit_world_sides.specs.PutFaults.{again_linked, clash_fault, crossed_fault, named_fault, put_fault, put_link_fault, side_fault}
 use Rattle.wit_world_sides.proofs.Putting.{names_itself, names_under}
 
 -- a name that is spelled like one of these, and one that is not
-crossed_has : (names : List Name) (name : List ℕ) (span : Span) → HasName names name → crossed_fault names (name, span) ≡ Some (fault 44 span)
-crossed_has names name span has =
+crossed_has : (as_crossed : List ℕ → Span → Fault) (names : List Name) (name : List ℕ) (span : Span) → HasName names name → crossed_fault as_crossed names (name, span) ≡ Some (as_crossed name span)
+crossed_has as_crossed names name span has =
     let hit = any_some (λ (m : Name). bytes_eq (text m) name) names has.place (name, has.span) has.at (name_itself name) in
-    ap (λ (b : Bool). if b then Some (fault 44 span) else None) hit
+    ap (λ (b : Bool). if b then Some (as_crossed name span) else None) hit
 
-crossed_free : (names : List Name) (name : List ℕ) (span : Span) → (HasName names name → ⊥) → crossed_fault names (name, span) ≡ None
-crossed_free names name span free =
+crossed_free : (as_crossed : List ℕ → Span → Fault) (names : List Name) (name : List ℕ) (span : Span) → (HasName names name → ⊥) → crossed_fault as_crossed names (name, span) ≡ None
+crossed_free as_crossed names name span free =
     let test = λ (m : Name). bytes_eq (text m) name in
     let miss : list_any test names ≡ false = false_from_ne_true (list_any test names) (λ hit. (
     let it = any_found test names hit in
     free (record { place = it.0; span = it.1.1; at = it.2 ∙ ap (λ (n : List ℕ). Some (n, it.1.1)) (name_equal it.1.0 name it.3) }))) in
-    ap (λ (b : Bool). if b then Some (fault 44 span) else None) miss
+    ap (λ (b : Bool). if b then Some (as_crossed name span) else None) miss
 
 -- of the name of an import or an export: its key is new on its side; or the name is there, or it is not, and something is wrong
-pub named_free : (names : List Name) (name : List ℕ) (span : Span) → (AreUsed names name → ⊥) → named_fault true names (name, span) ≡ None
-named_free names name span free = none_both (crossed_free names name span (λ has. free (record { place = has.place; earlier = (name, has.span); at = has.at; same = refl }))) (again_free names name span free)
+pub named_free : (as_crossed : List ℕ → Span → Fault) (names : List Name) (name : List ℕ) (span : Span) → (AreUsed names name → ⊥) → named_fault true as_crossed names (name, span) ≡ None
+named_free as_crossed names name span free = none_both (crossed_free as_crossed names name span (λ has. free (record { place = has.place; earlier = (name, has.span); at = has.at; same = refl }))) (again_free names name span free)
 
-pub named_has : (names : List Name) (name : List ℕ) (span : Span) (e : ParseError) → HasName names name → IsAllocationFailure e ⊎ (fault_of e ≡ fault 44 span) → Reports (named_fault true names (name, span)) e
-named_has names name span e has h = elim h [
+pub named_has : (as_crossed : List ℕ → Span → Fault) (names : List Name) (name : List ℕ) (span : Span) (e : ParseError) → HasName names name → IsAllocationFailure e ⊎ (fault_of e ≡ as_crossed name span) → Reports (named_fault true as_crossed names (name, span)) e
+named_has as_crossed names name span e has h = elim h [
   | inl memory ↦ inl memory
-  | inr is ↦ inr (ap (λ (o : Option Fault). option_or o (again_fault names (name, span))) (crossed_has names name span has) ∙ ap Some (sym is))
+  | inr is ↦ inr (ap (λ (o : Option Fault). option_or o (again_fault names (name, span))) (crossed_has as_crossed names name span has) ∙ ap Some (sym is))
 ]
 
-pub named_other : (names : List Name) (name : List ℕ) (span : Span) (e : ParseError) → (HasName names name → ⊥) → Refused (IsDefinedAgain names name span) e → Reports (named_fault true names (name, span)) e
-named_other names name span e other h = reports_back (crossed_free names name span other) (again_report names name span e h)
+pub named_other : (as_crossed : List ℕ → Span → Fault) (names : List Name) (name : List ℕ) (span : Span) (e : ParseError) → (HasName names name → ⊥) → Refused (IsDefinedAgain names name span) e → Reports (named_fault true as_crossed names (name, span)) e
+named_other as_crossed names name span e other h = reports_back (crossed_free as_crossed names name span other) (again_report names name span e h)
 
 -- what is no import and no export
 pub extern_none : (role : Role) → across_of role ≡ None → is_on_side role ≡ false
@@ -72,35 +72,35 @@ extern_none (Constructor of) is = refl
 extern_none (OnSide side id form) is = absurd (let f : ⊥ = cc in f)
 
 -- of what has one name, and of what has none
-pub clash_one : (names : Sides) (x : SideItem) (side : WorldSide) (extern : Bool) (n : Name) → item_side x ≡ side → is_extern x ≡ extern → item_names x ≡ n ∷ [] → clash_fault names x ≡ named_fault extern (defined_on side names) n
-clash_one names x side extern n there crosses named =
-    ap (first_in (named_fault (is_extern x) (defined_on (item_side x) names))) named
-    ∙ or_none (named_fault (is_extern x) (defined_on (item_side x) names) n)
-    ∙ ap (λ (b : Bool). named_fault b (defined_on (item_side x) names) n) crosses
-    ∙ ap (λ (s : WorldSide). named_fault extern (defined_on s names) n) there
+pub clash_one : (names : Sides) (sides : WorldSides) (x : SideItem) (side : WorldSide) (extern : Bool) (n : Name) → item_side x ≡ side → is_extern x ≡ extern → item_names x ≡ n ∷ [] → clash_fault names sides x ≡ side_fault names sides side extern n
+clash_one names sides x side extern n there crosses named =
+    ap (first_in (side_fault names sides (item_side x) (is_extern x))) named
+    ∙ or_none (side_fault names sides (item_side x) (is_extern x) n)
+    ∙ ap (λ (b : Bool). side_fault names sides (item_side x) b n) crosses
+    ∙ ap (λ (s : WorldSide). side_fault names sides s extern n) there
 
-clash_none : (names : Sides) (x : SideItem) → item_names x ≡ [] → clash_fault names x ≡ None
-clash_none names x none = ap (first_in (named_fault (is_extern x) (defined_on (item_side x) names))) none
+clash_none : (names : Sides) (sides : WorldSides) (x : SideItem) → item_names x ≡ [] → clash_fault names sides x ≡ None
+clash_none names sides x none = ap (first_in (side_fault names sides (item_side x) (is_extern x))) none
 
 -- of a link under a name of its own
 linked_named : (ids : List ℕ) (link : Link) (id : ℕ) (own : Id) → link.name ≡ Some own → again_linked ids link id ≡ None
-linked_named ids link id own named = ap (λ (n : Option Id). if is_none n && list_any (nat_eq id) ids then Some (fault 43 (path_id link.path).span) else None) named
+linked_named ids link id own named = ap (λ (n : Option Id). if is_none n && list_any (nat_eq id) ids then Some (linked_twice link.side (path_id link.path).span) else None) named
 
-pub put_link_named : (m : Members) (link : Link) (id : ℕ) (own : Id) → link.name ≡ Some own → put_link_fault m link id ≡ named_fault true (defined_on link.side m.in_use) (name_of_id own)
+pub put_link_named : (m : Members) (link : Link) (id : ℕ) (own : Id) → link.name ≡ Some own → put_link_fault m link id ≡ side_fault m.in_use m.sides link.side true (name_of_id own)
 put_link_named m link id own named =
     ap (λ (o : Option Fault). option_or o (put_fault m (SideLink link))) (linked_named (linked_on link.side m.links) link id own named)
-    ∙ clash_one m.in_use (SideLink link) link.side true (name_of_id own) refl refl (names_under link own named)
+    ∙ clash_one m.in_use m.sides (SideLink link) link.side true (name_of_id own) refl refl (names_under link own named)
 
 -- and of one without: its interface is there, or it is not
-linked_bare : (ids : List ℕ) (link : Link) (id : ℕ) (found : Bool) → link.name ≡ None → list_any (nat_eq id) ids ≡ found → again_linked ids link id ≡ (if found then Some (fault 43 (path_id link.path).span) else None)
+linked_bare : (ids : List ℕ) (link : Link) (id : ℕ) (found : Bool) → link.name ≡ None → list_any (nat_eq id) ids ≡ found → again_linked ids link id ≡ (if found then Some (linked_twice link.side (path_id link.path).span) else None)
 linked_bare ids link id found bare is =
-    ap (λ (n : Option Id). if is_none n && list_any (nat_eq id) ids then Some (fault 43 (path_id link.path).span) else None) bare
-    ∙ ap (λ (b : Bool). if b then Some (fault 43 (path_id link.path).span) else None) is
+    ap (λ (n : Option Id). if is_none n && list_any (nat_eq id) ids then Some (linked_twice link.side (path_id link.path).span) else None) bare
+    ∙ ap (λ (b : Bool). if b then Some (linked_twice link.side (path_id link.path).span) else None) is
 
 put_link_bare : (m : Members) (link : Link) (id : ℕ) → link.name ≡ None → put_link_fault m link id ≡ again_linked (linked_on link.side m.links) link id
 put_link_bare m link id bare =
     let first = again_linked (linked_on link.side m.links) link id in
-    ap (option_or first) (clash_none m.in_use (SideLink link) (names_itself link bare)) ∙ or_none first
+    ap (option_or first) (clash_none m.in_use m.sides (SideLink link) (names_itself link bare)) ∙ or_none first
 
 pub linked_free : (m : Members) (link : Link) (id : ℕ) → link.name ≡ None → (Contains (linked_on link.side m.links) id → ⊥) → put_link_fault m link id ≡ None
 linked_free m link id bare free =
@@ -110,7 +110,7 @@ linked_free m link id bare free =
     free (contains_at ids it.0 id (it.2 ∙ ap Some (sym (eqb-true id it.1 it.3)))))) in
     put_link_bare m link id bare ∙ linked_bare ids link id false bare miss
 
-pub linked_report : (m : Members) (link : Link) (id : ℕ) (e : ParseError) → link.name ≡ None → Refused (IsLinked (linked_on link.side m.links) id (path_id link.path).span) e → Reports (put_link_fault m link id) e
+pub linked_report : (m : Members) (link : Link) (id : ℕ) (e : ParseError) → link.name ≡ None → Refused (IsLinked link.side (linked_on link.side m.links) id (path_id link.path).span) e → Reports (put_link_fault m link id) e
 linked_report m link id e bare h = elim h [
   | inl memory ↦ inl memory
   | inr again ↦ (

@@ -1,5 +1,6 @@
 -- One more on a side of a world: where its name, or the place that it is, was not in use there, it comes last.
 use Rattle.std.proofs.Common.{◌≡◌, ◌++◌, ℕ, List, [], ◌∷◌, Option, Some, None, map, if◌then◌else◌, sym, ap, ◌∙◌, subst}
+use Rattle.std.specs.Prelude.{codes}
 use Rattle.std.specs.Option.{option_map_or}
 use Rattle.std.proofs.lemmas.List.{map-append}
 use Rattle.wit_type_tree.specs.declared.leaves.Id.{Id}
@@ -11,9 +12,11 @@ use Rattle.wit_syntax.specs.ExternPart.{same_side}
 use Rattle.wit_syntax.specs.Repeats.{AllDiffer}
 use Rattle.wit_syntax.specs.ScopeTables.{local_names}
 use Rattle.wit_syntax.specs.Sides.{Link, SideItem, SideLink, item_side, items_on, names_on}
+use Rattle.wit_syntax.specs.SignatureRules.{Called}
 use Rattle.wit_syntax.specs.Source.{ScopeName, local_id}
 use Rattle.wit_syntax.proofs.Lists.{map_map}
 use Rattle.wit_syntax.proofs.Repeated.{differ_none}
+use Rattle.wit_walk.specs.Members.{item_sorted}
 use Rattle.wit_arena.specs.Resolving.{Names, names_in}
 use Rattle.wit_arena.specs.SideItems.{link_item, link_key, put_on}
 use Rattle.wit_arena.specs.Whole.{type_imports}
@@ -22,7 +25,7 @@ use Rattle.wit_signatures.specs.ForeignName.{name_key, name_of_id}
 use Rattle.wit_externs.specs.Clash.{item_names, names_of_items}
 use Rattle.wit_externs.specs.Next.{linked_on}
 use Rattle.wit_world_sides.specs.declared.members.Members.{Members}
-use Rattle.wit_world_sides.specs.Members.{AreKeyed, Entry, Puts, bare_id, key_names, key_places, names_among, places_among, text}
+use Rattle.wit_world_sides.specs.Members.{AreKeyed, Entry, Puts, bare_id, entry_sorted, key_names, key_places, names_among, places_among, text}
 use Rattle.wit_world_sides.specs.Settled.{AreCalled}
 use Rattle.wit_world_sides.specs.FilledSides.{entries_of, inserted_on}
 use Rattle.wit_world_sides.proofs.Keyed.{key_of, put_one}
@@ -33,7 +36,7 @@ use Rattle.wit_world_sides.proofs.SideKeys.{entry_names, entry_places, keys_apar
 pub keyed_differ : (m : Members) → AreKeyed m → (s : WorldSide) → AllDiffer (map key_of (entries_of s m.sides))
 keyed_differ m keyed s = keys_apart (map key_of (entries_of s m.sides)) (subst AllDiffer (sym (keyed.names s)) (texts_differ (defined_on s m.in_use) (keyed.differ s))) (subst AllDiffer (sym (keyed.places s)) (keyed.apart s))
 
-module _ (m m' : Members) (x : SideItem) (ids : List ℕ) (e : Entry) (keyed : AreKeyed m) (in_use : (s : WorldSide) → defined_on s m'.in_use ≡ defined_on s m.in_use ++ names_of_items (items_on s (x ∷ []))) (differ : (s : WorldSide) → AllDiffer (map name_key (defined_on s m'.in_use))) (linked : (s : WorldSide) → linked_on s m'.links ≡ linked_on s m.links ++ (if same_side s (item_side x) then ids else [])) (apart : (s : WorldSide) → AllDiffer (linked_on s m'.links)) (names : key_names e.0 ≡ map text (item_names x)) (places : key_places e.0 ≡ ids) (called : IsCalled e) (inserted : (s : WorldSide) → entries_of s m'.sides ≡ inserted_on s (item_side x) e (entries_of s m.sides)) where
+module _ (m m' : Members) (x : SideItem) (ids : List ℕ) (e : Entry) (keyed : AreKeyed m) (in_use : (s : WorldSide) → defined_on s m'.in_use ≡ defined_on s m.in_use ++ names_of_items (items_on s (x ∷ []))) (differ : (s : WorldSide) → AllDiffer (map name_key (defined_on s m'.in_use))) (linked : (s : WorldSide) → linked_on s m'.links ≡ linked_on s m.links ++ (if same_side s (item_side x) then ids else [])) (apart : (s : WorldSide) → AllDiffer (linked_on s m'.links)) (names : key_names e.0 ≡ map text (item_names x)) (places : key_places e.0 ≡ ids) (called : IsCalled e) (sorts : entry_sorted e ≡ item_sorted x) (inserted : (s : WorldSide) → entries_of s m'.sides ≡ inserted_on s (item_side x) e (entries_of s m.sides)) where
   names_then : (s : WorldSide) → names_among (entries_of s m.sides ++ put_on s (item_side x) e []) ≡ map text (defined_on s m'.in_use)
   names_then s =
       names_both (entries_of s m.sides) (put_on s (item_side x) e [])
@@ -60,6 +63,7 @@ module _ (m m' : Members) (x : SideItem) (ids : List ℕ) (e : Entry) (keyed : A
     in_use = in_use;
     linked = linked;
     put = put_then;
+    sorted = sorts;
     keyed = record {
       names = λ s. ap names_among (put_then s) ∙ names_then s;
       places = λ s. ap places_among (put_then s) ∙ places_then s;
@@ -88,6 +92,16 @@ names_under link own named = ap (λ (n : Option Id). option_map_or (λ (id : Id)
 
 pub names_itself : (link : Link) → link.name ≡ None → item_names (SideLink link) ≡ []
 names_itself link bare = ap (λ (n : Option Id). option_map_or (λ (id : Id). name_of_id id ∷ []) n []) bare
+
+-- and with the word for an interface
+abbrev called_by : Option Id → List Called
+called_by o = option_map_or (λ (id : Id). (record { name = id.name.now; span = id.span } ∷ [])) o []
+
+pub sorted_under : (link : Link) (own : Id) → link.name ≡ Some own → item_sorted (SideLink link) ≡ (own.name.now, codes "interface") ∷ []
+sorted_under link own named = ap (λ (n : Option Id). map (λ (c : Called). (c.name, codes "interface")) (called_by n)) named
+
+pub sorted_itself : (link : Link) → link.name ≡ None → item_sorted (SideLink link) ≡ []
+sorted_itself link bare = ap (λ (n : Option Id). map (λ (c : Called). (c.name, codes "interface")) (called_by n)) bare
 
 -- at first the names of a scope are there, as imports
 begun : (m : Members) (xs : List ScopeName) (types : Names) (ids : List Id) → ids ≡ map local_id xs → names_in types ≡ local_names xs → m.sides.imports ≡ type_imports xs types → m.sides.exports ≡ [] → ((s : WorldSide) → defined_on s m.in_use ≡ names_on s (map name_of_id ids)) → ((s : WorldSide) → AllDiffer (map name_key (defined_on s m.in_use))) → ((s : WorldSide) → linked_on s m.links ≡ []) → AreKeyed m

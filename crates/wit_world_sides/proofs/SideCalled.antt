@@ -1,9 +1,12 @@
 -- The functions that a world has on a side are at their names.
-use Rattle.std.proofs.Common.{◌≡◌, List, [], ◌∷◌, ◌++◌, Some, None, inl, inr, sym, ap, ◌∙◌, subst}
+use Rattle.std.proofs.Common.{◌≡◌, List, [], ◌∷◌, ◌++◌, length, refl, Some, None, inl, inr, sym, ap, ◌∙◌, subst}
+use Rattle.std.specs.Prelude.{codes}
 use Rattle.std.proofs.lemmas.Bool.{cases_Bool, cond-true, cond-false}
 use Rattle.wit_tree.specs.declared.tree.WorldSide.{WorldSide}
 use Rattle.wit_model.specs.ItemsOfWorlds.{function_of}
 use Rattle.wit_functions.specs.declared.function.Function.{Function}
+use Rattle.wit_model.specs.declared.world.WorldItem.{WorldItem}
+use Rattle.wit_model.specs.declared.world.WorldItem.TheVariants as item
 use Rattle.wit_model.specs.declared.world.WorldKey.TheVariants as key
 use Rattle.wit_syntax.specs.ExternPart.{same_side}
 use Rattle.wit_syntax.specs.Source.{ScopeName}
@@ -15,7 +18,7 @@ use Rattle.wit_arena.specs.SideItems.{put_on}
 use Rattle.wit_arena.specs.Whole.{type_imports}
 use Rattle.wit_arena.proofs.Settled.{types_stated}
 use Rattle.wit_world_sides.specs.Settled.{AreCalled}
-use Rattle.wit_world_sides.specs.Members.{Entry}
+use Rattle.wit_world_sides.specs.Members.{Entry, item_word}
 
 -- an entry is at its name, if it is a function
 abbrev pub IsCalled : Entry → Type 0
@@ -47,6 +50,12 @@ types_called xs types k e f at is = absurd (let wrong : None ≡ Some f = sym (t
 
 pub none_called : AreCalled []
 none_called k e f at is = absurd (let g : ⊥ = cc in g)
+
+-- what the word for an interface means is no function
+pub interface_none : (it : WorldItem) → item_word it ≡ codes "interface" → function_of it ≡ None
+interface_none (item.Interface id stability external_id docs span) is = refl
+interface_none (item.Function f) is = absurd (let wrong : 4 ≡ 9 = ap length is in let g : ⊥ = cc in g)
+interface_none (item.Type_ id span) is = refl
 
 -- an interface is no function
 pub other_called : (x : Entry) → function_of x.1 ≡ None → IsCalled x

@@ -1,5 +1,4 @@
 pub mod Members
 pub mod Settled
 pub mod FilledSides
-pub mod Words
 pub mod PutFaults

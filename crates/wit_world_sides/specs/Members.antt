@@ -1,5 +1,5 @@
 -- What is on the sides of a world so far, with the names and the interfaces there, and one more of it.
-use Rattle.std.specs.Prelude.{◌≡◌, ◌++◌, ℕ, List, [], ◌∷◌, Option, map, if◌then◌else◌}
+use Rattle.std.specs.Prelude.{◌≡◌, ◌++◌, ℕ, List, [], ◌∷◌, Option, codes, map, if◌then◌else◌}
 use Rattle.std.specs.List.{flat_map}
 use Rattle.std.specs.Option.{option_map_or}
 use Rattle.wit_type_tree.specs.declared.leaves.Id.{Id}
@@ -9,9 +9,11 @@ use Rattle.wit_tree.specs.declared.tree.WorldSide.{WorldSide}
 use Rattle.wit_model.specs.declared.world.WorldKey.{WorldKey}
 use Rattle.wit_model.specs.declared.world.WorldKey.TheVariants as key
 use Rattle.wit_model.specs.declared.world.WorldItem.{WorldItem}
+use Rattle.wit_model.specs.declared.world.WorldItem.TheVariants as item
 use Rattle.wit_syntax.specs.ExternPart.{same_side}
 use Rattle.wit_syntax.specs.Repeats.{AllDiffer}
 use Rattle.wit_syntax.specs.Sides.{Link, SideInline, SideItem, extern_link, item_side, items_on}
+use Rattle.wit_walk.specs.Members.{Sorted, item_sorted}
 use Rattle.wit_arena.specs.SideItems.{inline_entry, put_on}
 use Rattle.wit_refusals.specs.NameScopes.{Name}
 use Rattle.wit_sides.specs.SideNames.{defined_on}
@@ -22,10 +24,25 @@ use Rattle.wit_world_sides.specs.Settled.{AreCalled}
 use Rattle.wit_world_sides.specs.FilledSides.{entries_of}
 use Rattle.wit_world_sides.specs.declared.members.Members.{Members}
 use Rattle.wit_world_sides.specs.declared.members.PathExtern.{PathExtern}
+use Rattle.wit_world_sides.specs.declared.sides.WorldSides.{WorldSides}
 
 -- what is at a key of a side
 abbrev pub Entry : Type 0
 Entry = WorldKey × WorldItem
+
+-- the word for an item
+abbrev pub item_word : WorldItem → List ℕ
+item_word (item.Interface id stability external_id docs span) = codes "interface"
+item_word (item.Function f) = codes "func"
+item_word (item.Type_ id span) = codes "type"
+
+-- the name at a key, with the word for what is there
+abbrev pub entry_sorted : Entry → List Sorted
+entry_sorted (key.Name name, it) = (name, item_word it) ∷ []
+entry_sorted (key.Interface id, it) = []
+
+abbrev pub sorted_on : WorldSide → WorldSides → List Sorted
+sorted_on side sides = flat_map entry_sorted (entries_of side sides)
 
 -- the name that a key is, or the place
 abbrev pub key_names : WorldKey → List (List ℕ)
@@ -60,11 +77,12 @@ pub record Puts (m m' : Members) (x : SideItem) (ids : List ℕ) (e : Entry) : T
   pub in_use : (s : WorldSide) → defined_on s m'.in_use ≡ defined_on s m.in_use ++ names_of_items (items_on s (x ∷ []))
   pub linked : (s : WorldSide) → linked_on s m'.links ≡ linked_on s m.links ++ (if same_side s (item_side x) then ids else [])
   pub put : (s : WorldSide) → entries_of s m'.sides ≡ entries_of s m.sides ++ put_on s (item_side x) e []
+  pub sorted : entry_sorted e ≡ item_sorted x
   pub keyed : AreKeyed m'
 
--- it is on this side, under this name
+-- it is an interface on this side, under this name
 abbrev pub IsNamedOn : WorldSide → Id → SideItem → Type 0
-IsNamedOn side name x = (item_side x ≡ side) × (item_names x ≡ name_of_id name ∷ [])
+IsNamedOn side name x = (item_side x ≡ side) × (item_names x ≡ name_of_id name ∷ []) × (item_sorted x ≡ (name.name.now, codes "interface") ∷ [])
 
 -- an inline interface was put on its side, under its name
 abbrev pub PutsInline : Members → Members → Extern → Id → ℕ → Type 0

@@ -1,10 +1,10 @@
 //! What is on the sides of a world, one after another: its name is defined, or the interface that it is,
 //! and then it is put there.
-ghost use Rattle.std.specs.Prelude.{◌≡◌, ◌++◌, ◌∷◌, [], true, List, None, IfOk, IsTrue, OnOk, map, string_bytes};
+ghost use Rattle.std.specs.Prelude.{◌≡◌, ◌++◌, ◌∷◌, [], true, List, None, IfOk, IsTrue, OnOk, codes, map, string_bytes};
+ghost use Rattle.std.specs.List.{flat_map};
 ghost use Rattle.wit_names.specs.Mangled.{is_mangled};
 ghost use Rattle.wit_tree.specs.declared.tree.InterfaceItem.{InterfaceItem as TheItem};
 ghost use Rattle.wit_tree.specs.declared.tree.WorldSide.{WorldSide as TheSide};
-ghost use Rattle.wit_model.specs.ItemsOfWorlds.{function_of};
 ghost use Rattle.wit_model.specs.declared.world.WorldKey.TheVariants.{Name};
 ghost use Rattle.wit_syntax.specs.Repeats.{AllDiffer};
 ghost use Rattle.wit_syntax.specs.Sides.{SideFunction, SideInline, SideItem, SideLink, names_on};
@@ -21,9 +21,10 @@ ghost use Rattle.wit_signatures.specs.ForeignName.{name_of_function, name_of_id,
 ghost use Rattle.wit_externs.specs.AloneFaults.{defined_fault};
 ghost use Rattle.wit_externs.specs.Clash.{DefinesNames, StayApart};
 ghost use Rattle.wit_externs.specs.Next.{linked_on};
-ghost use Rattle.wit_world_sides.specs.Members.{AreKeyed, IsNamedOn, Puts, PutsInline, bare_id, path_link};
-ghost use Rattle.wit_world_sides.specs.PutFaults.{clash_fault, named_fault, put_fault, put_link_fault};
-ghost use Rattle.wit_world_sides.specs.Words.{conflict, side_word};
+ghost use Rattle.wit_walk.specs.Members.{sort_among};
+ghost use Rattle.wit_world_sides.specs.Members.{AreKeyed, IsNamedOn, Puts, PutsInline, bare_id, entry_sorted, item_word, path_link, sorted_on};
+ghost use Rattle.wit_world_sides.specs.PutFaults.{clash_fault, put_fault, put_link_fault, side_fault};
+ghost use Rattle.wit_syntax.specs.Words.{conflict, side_word};
 
 use crate::sides::{
     WorldSides, add_function, add_item, add_named, inline_item, named_sides, path_item,
@@ -62,7 +63,9 @@ pub struct PathExtern<'f, 'a> {
 }
 
 /// The word for what is on a side of a world.
-fn sort_of(item: &WorldItem) -> &'static str {
+fn sort_of(item: &WorldItem) -> &'static str
+    ensures { result.now ≡ item_word item.now }
+{
     match item {
         WorldItem::Interface { .. } => "interface",
         WorldItem::Function(_) => "func",
@@ -71,7 +74,9 @@ fn sort_of(item: &WorldItem) -> &'static str {
 }
 
 /// The word for what is at a name.
-fn sort_at(items: &Table<WorldKey, WorldItem>, name: &str) -> &'static str {
+fn sort_at(items: &Table<WorldKey, WorldItem>, name: &str) -> &'static str
+    ensures { result.now ≡ sort_among (flat_map entry_sorted items.now) name.now }
+{
     match get_name(items, name) {
         Some(item) => sort_of(item),
         None => "func",
@@ -79,7 +84,9 @@ fn sort_at(items: &Table<WorldKey, WorldItem>, name: &str) -> &'static str {
 }
 
 /// The word for what is on a side under a name.
-fn sort_on(sides: &WorldSides, side: WorldSide, name: &str) -> &'static str {
+fn sort_on(sides: &WorldSides, side: WorldSide, name: &str) -> &'static str
+    ensures { result.now ≡ sort_among (sorted_on side sides.now) name.now }
+{
     match side {
         WorldSide::Imported => sort_at(&sides.imports, name),
         WorldSide::Exported => sort_at(&sides.exports, name),
@@ -118,7 +125,7 @@ fn define_extern_part(
     requires { IsTrue (is_mangled name.now) }
     ensures defined { OnOk result ((s : TheSide) → defined_on s in_use.new ≡ defined_on s in_use.old ++ only_on s side (name.now, span)) }
     ensures free { OnOk result (AreUsed (defined_on side in_use.old) name.now → ⊥) }
-    ensures first { Finds (named_fault true (defined_on side in_use.old) (name.now, span)) result }
+    ensures first { Finds (side_fault in_use.old sides.now side true (name.now, span)) result }
 {
     match in_use.define(side, name, span) {
         Ok(()) => Ok(()),
@@ -147,7 +154,7 @@ fn define_function(
     requires borrowed { name_of_made function.now ≡ name_of_function (function_view borrowed) }
     ensures defined { OnOk result (DefinesNames in_use.old in_use.new (SideFunction (function_view borrowed.entry) ∷ [])) }
     ensures differ { OnOk result (StayApart in_use.old in_use.new) }
-    ensures first { Finds (clash_fault in_use.old (SideFunction (function_view borrowed.entry))) result }
+    ensures first { Finds (clash_fault in_use.old sides.now (SideFunction (function_view borrowed.entry))) result }
 {
     let name = function.name.as_str();
     match borrowed.across() {
@@ -188,9 +195,9 @@ fn put_named(
     item: WorldItem,
 ) -> ParseResult<()>
     requires keyed { AreKeyed members.old }
-    requires interface { function_of item ≡ None }
+    requires interface { item_word item ≡ codes "interface" }
     ensures puts { OnOk result ((x : SideItem) → IsNamedOn side name.entry x → Puts members.old members.new x [] (Name name.entry.name.now, item)) }
-    ensures first { Finds (named_fault true (defined_on side members.old.in_use) (name_of_id name.entry)) result }
+    ensures first { Finds (side_fault members.old.in_use members.old.sides side true (name_of_id name.entry)) result }
 {
     define_extern_part(
         &mut members.in_use,

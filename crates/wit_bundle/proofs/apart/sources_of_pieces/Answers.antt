@@ -1,4 +1,3 @@
-use Rattle.std.proofs.Common.{Bor, List, ℕ, arith, map}
 use Rattle.std.proofs.lemmas.Result.{err_from_is_err_and}
 use Rattle.wit_bundle.proofs.Pairing.{first_two, paired_after, paired_large, paired_more, paired_rest}
 use Rattle.wit_bundle.proofs.apart.sources_of_pieces.Goals as goal

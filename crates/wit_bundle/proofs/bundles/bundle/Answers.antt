@@ -1,7 +1,6 @@
 use Rattle.std.specs.Option.{option_copied}
-use Rattle.std.proofs.Common.{◌∷◌}
 use Rattle.std.proofs.lemmas.Result.{err_from_is_err_and}
-use Rattle.wit_bundle.proofs.Laying.{first_large, more_large, split_more}
+use Rattle.wit_bundle.proofs.Laying.{more_large, split_more}
 use Rattle.wit_bundle.proofs.bundles.bundle.Goals as goal
 
 pub returns-in_err-push-clause-too_large : goal.returns-in_err-push-clause-too_large

@@ -1,4 +1,4 @@
-use Rattle.std.proofs.Common.{◌≡◌, ◌<◌, arith, is_none, true, rules}
+use Rattle.std.proofs.Common.{◌≡◌, arith, is_none, true, rules}
 use Rattle.memchr.specs.Find.{FindsNeedle}
 use Rattle.wit_bundle.proofs.Searching.{found_nowhere}
 use Rattle.wit_bundle.proofs.Splitting.{next, found_is, found_prefix, found_none}

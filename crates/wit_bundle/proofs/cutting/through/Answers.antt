@@ -1,4 +1,4 @@
-use Rattle.std.proofs.Common.{◌<◌, ◌+◌, get_or, arith}
+use Rattle.std.proofs.Common.{◌<◌, get_or, arith}
 use Rattle.std.proofs.lemmas.Str.{lead_after_ascii}
 use Rattle.wit_bundle.proofs.cutting.through.Goals as goal
 

@@ -1,4 +1,3 @@
-use Rattle.std.proofs.Common.{◌≡◌}
 use Rattle.std.specs.Option.{option_copied}
 use Rattle.wit_functions.proofs.Reordered.{own_stated, placed_order}
 use Rattle.wit_functions.proofs.function_items.new_order.Goals as goal

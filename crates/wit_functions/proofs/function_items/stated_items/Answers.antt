@@ -1,6 +1,5 @@
-use Rattle.std.proofs.Common.{◌≡◌, ◌≤◌, ◌∙◌, ℕ, Option, Some, length, slice_get, rules, arith, ap, sym, refl}
+use Rattle.std.proofs.Common.{◌≡◌, ◌≤◌, ◌∙◌, Option, Some, length, slice_get, rules, ap, sym}
 use Rattle.std.specs.Option.{option_copied}
-use Rattle.wit_types.proofs.Moving.{some_at}
 use Rattle.std.proofs.lemmas.Option.{slice_get-get_or}
 use Rattle.wit_functions.specs.declared.function.Function.{Function}
 use Rattle.wit_functions.proofs.Reordered.{stated_all, stated_more}

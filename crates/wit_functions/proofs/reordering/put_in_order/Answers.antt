@@ -1,4 +1,4 @@
-use Rattle.std.proofs.Common.{◌≡◌, ◌≤◌, ◌∙◌, ap, length, rules, arith, refl, sym}
+use Rattle.std.proofs.Common.{◌≤◌, ◌∙◌, ap, length, rules, arith, refl, sym}
 use Rattle.std.proofs.lemmas.List.Edits.{length-swap}
 use Rattle.std.proofs.lemmas.Option.{slice_get_read}
 use Rattle.wit_functions.proofs.Swaps.{all_brought, brought_next, no_less, same_after}

@@ -1,4 +1,4 @@
-use Rattle.std.proofs.Common.{◌≡◌, ◌≤◌, ◌∙◌, ℕ, Option, length, rules, arith, ap, refl}
+use Rattle.std.proofs.Common.{◌≤◌, Option, length, rules, ap}
 use Rattle.std.specs.Option.{option_copied}
 use Rattle.wit_types.proofs.Moving.{some_at}
 use Rattle.wit_functions.specs.declared.function.Function.{Function}

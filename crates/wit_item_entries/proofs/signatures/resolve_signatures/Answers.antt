@@ -8,10 +8,11 @@ use mathlib.Core.Path.{fun_ext}
 use Rattle.wit_type_tree.specs.declared.leaves.Id.{Id}
 use Rattle.wit_tree.specs.declared.tree.WorldSide.{WorldSide}
 use Rattle.wit_tree.specs.declared.tree.WorldSide.TheVariants.{Imported}
-use Rattle.wit_syntax.specs.Fault.{Fault, fault}
+use Rattle.wit_syntax.specs.Fault.{Fault}
 use Rattle.wit_syntax.specs.Function.{SourceFunction}
 use Rattle.wit_syntax.specs.Source.{ScopeName}
-use Rattle.wit_first.proofs.First.{no_repeats, none_both}
+use Rattle.wit_first.proofs.Clashes.{no_clashes}
+use Rattle.wit_first.proofs.First.{none_both}
 use Rattle.wit_walk.specs.Functions.{word_fault}
 use Rattle.wit_syntax.specs.Repeats.{AllDiffer}
 use Rattle.wit_syntax.specs.Sides.{SideFunction, items_on, names_on}
@@ -21,7 +22,7 @@ use Rattle.wit_arena.specs.Resolving.{Names, env_of, names_in}
 use Rattle.wit_refusals.specs.NameScopes.{Name}
 use Rattle.wit_rules.specs.BorrowedFunctions.{function_view}
 use Rattle.wit_signatures.specs.ForeignName.{name_key, name_of_id}
-use Rattle.wit_externs.specs.AloneFaults.{alone_faults, defined_fault, words_in}
+use Rattle.wit_externs.specs.AloneFaults.{again, alone_faults, defined_fault, words_in}
 use Rattle.wit_externs.specs.Clash.{all_on, names_of_items}
 use Rattle.wit_scopes.specs.BorrowedNames.{name_view}
 use Rattle.wit_uses.specs.NameOrder.{IsTurn}
@@ -68,7 +69,7 @@ returns-then-not-have_upper_case-clause-first c = λ handle safe.
     let lower : list_any (λ (id : Id). list_any is_ascii_uppercase id.name.now) ids ≡ false = ap (list_any (λ (id : Id). list_any is_ascii_uppercase id.name.now)) (sym c.deref.ensures.value) ∙ sym c.have_upper_case.ensures ∙ c.if-not-have_upper_case.true in
     let apart : AllDiffer (map name_key (map name_of_id ids)) = subst (λ (l : List Name). AllDiffer (map name_key l)) (append-nil (map name_of_id ids)) (turn_keys xs ids c.requires.turn lower) in
     let none : map function_view c.args.written.now ≡ [] = no_functions c.args.written.now (omega (arith, c.if-written-eq0.true)) in
-    none_both (no_repeats name_key (λ (m : Name). fault 17 m.1) (map name_of_id ids) apart) (ap (alone_faults (word_fault xs) handle xs (λ side. names_on side (map name_of_id ids))) none)
+    none_both (no_clashes name_key again (map name_of_id ids) apart) (ap (alone_faults (word_fault xs) handle xs (λ side. names_on side (map name_of_id ids))) none)
 
 pub returns-in_err-define_names-clause-first : goal.returns-in_err-define_names-clause-first
 returns-in_err-define_names-clause-first c =

@@ -2,7 +2,8 @@ use Rattle.std.proofs.Common.{◌≡◌, map, None, Some, inl, inr, refl, sym, a
 use Rattle.std.proofs.lemmas.Result.{err_from_is_err_and}
 use Rattle.wit_type_tree.specs.declared.leaves.Id.{Id}
 use Rattle.wit_syntax.specs.Source.{Target, leads}
-use Rattle.wit_syntax.specs.Fault.{fault}
+use Rattle.wit_syntax.specs.Fault.{interface_there}
+use Rattle.wit_syntax.specs.Words.{interface_words}
 use Rattle.wit_first.specs.AttributeFaults.{stability_fault}
 use Rattle.wit_first.proofs.First.{none_both, reports_back, reports_prefix}
 use Rattle.wit_arena.specs.Whole.{renamed}
@@ -19,9 +20,9 @@ returns-in-None-clause-first c =
     let n = c.args.include.now in
     let none : world_at files by_name (leads (top_at files c.args.place) n.from) ≡ None = sym c.included_world.ensures ∙ c.in-None.is in
     let stable : stability_fault n.attributes.items ≡ None = rw c.deref.ensures.value at c.in_ok-check_stability.ensures in
-    elim c.refuse.ensures [
+    elim (c.refuse_in.ensures (interface_words c.path_id-path.result.name.now) c.not_a_world.ensures) [
       | inl memory ↦ inl memory
-      | inr says ↦ reports_back stable (inr (rw none (ap Some (sym (says ∙ ap (λ (id : Id). fault 11 id.span) c.path_id-path.ensures)))))
+      | inr says ↦ reports_back stable (inr (rw none (ap Some (sym (says ∙ ap (λ (id : Id). interface_there id) c.path_id-path.ensures)))))
     ]
 
 pub returns-clause-is : goal.returns-clause-is

@@ -3,7 +3,7 @@ use Rattle.std.specs.Option.{option_map}
 use Rattle.wit_type_tree.specs.declared.leaves.Id.{Id}
 use Rattle.wit_syntax.specs.Address.{is_foreign}
 use Rattle.wit_syntax.specs.Broken.{is_world_at}
-use Rattle.wit_syntax.specs.Fault.{fault, missing_at, item_word}
+use Rattle.wit_syntax.specs.Fault.{missing_at, item_word, world_there}
 use Rattle.wit_syntax.specs.Source.{Target, Local, leads, path_id, all_items, is_world}
 use Rattle.wit_first.specs.FileFaults.{lost_fault}
 use Rattle.wit_first.specs.UseFaults.{reached_fault}
@@ -62,7 +62,7 @@ returns-in-World-clause-first c =
     let world = rw c.in-World.is at c.resolve_path.ensures in
     elim c.refuse_world.ensures [
       | inl memory ↦ inl memory
-      | inr is ↦ reports_prefix (unresolved_fault c.args.interfaces.now.by_name (leads top path)) (inr (ap (λ (o : Option Bool). reached_fault o (path_id path).span lost) world ∙ ap Some (sym (is ∙ ap (λ (id : Id). fault 10 id.span) c.path_id.ensures))))
+      | inr is ↦ reports_prefix (unresolved_fault c.args.interfaces.now.by_name (leads top path)) (inr (ap (λ (o : Option Bool). reached_fault o (path_id path) lost) world ∙ ap Some (sym (is ∙ ap (λ (id : Id). world_there id) c.path_id.ensures))))
     ]
 
 pub returns-in-Nothing-clause-first : goal.returns-in-Nothing-clause-first
@@ -76,5 +76,5 @@ returns-in-Nothing-clause-first c =
     let nothing : is_world_at files to ≡ None = ap (is_world_at files) none.0 ∙ ap (option_map is_world) none.1 in
     elim c.refuse_missing-in-Nothing.ensures [
       | inl memory ↦ inl memory
-      | inr is ↦ reports_prefix (unresolved_fault c.args.interfaces.now.by_name to) (inr (ap (λ (o : Option Bool). reached_fault o (path_id path).span (lost_fault all to)) nothing ∙ ap (lost_fault all) none.0 ∙ lost_at all c.in-Nothing.id none.1 ∙ ap Some (sym is)))
+      | inr is ↦ reports_prefix (unresolved_fault c.args.interfaces.now.by_name to) (inr (ap (λ (o : Option Bool). reached_fault o (path_id path) (lost_fault all to)) nothing ∙ ap (lost_fault all) none.0 ∙ lost_at all c.in-Nothing.id none.1 ∙ ap Some (sym is)))
     ]

@@ -1,4 +1,4 @@
-use Rattle.std.proofs.Common.{◌≡◌, ◌∙◌}
+use Rattle.std.proofs.Common.{◌∙◌}
 use Rattle.wit_outcome.specs.Plain.IsPlaced.{Within}
 use Rattle.wit_outcome.proofs.Placing.{placed_in}
 use Rattle.wit_outcome.proofs.plain.plain_of.Goals as goal

@@ -3,10 +3,11 @@ use Rattle.std.specs.Prelude.{map, slice_get}
 use Rattle.std.specs.Borrow.{Bor}
 use Rattle.std.proofs.lemmas.Option.{slice_get-get_or, slice_get_within}
 use Rattle.wit_type_tree.specs.declared.leaves.Id.{Id}
-use Rattle.wit_first.proofs.First.{no_repeats, repeat_first}
+use Rattle.wit_first.proofs.Clashes.{no_clashes, clash_first}
+use Rattle.wit_first.specs.ListFaults.{clash_fault}
 use Rattle.wit_syntax.proofs.Lists.{map_at}
 use Rattle.wit_syntax.specs.Bodies.{folded}
-use Rattle.wit_syntax.specs.Fault.{fault}
+use Rattle.wit_syntax.specs.Words.{clash}
 use Rattle.wit_syntax.specs.Repeats.{IsRepeatAt, AllDiffer}
 use Rattle.wit_refusals.proofs.Cases.{names-folded}
 use Rattle.wit_refusals.proofs.unique_names.check_unique_names.Goals as goal
@@ -22,13 +23,16 @@ returns-in-Some c =
     let d : AllDiffer (take second (map (λ (id : Id). folded id.name.now) names)) = subst (λ ks. AllDiffer (take second ks)) keys (rw c.in-Some.is at c.in_ok-first.ensures.first) in
     let x = map_at (λ (id : Id). folded id.name.now) names second r.x r.at_second in
     let at : slice_get names second ≡ Some later = slice_get-get_or names second later (slice_get_within names second x.0 x.1) ∙ ap Some (sym c.index-names-second.is) in
-    elim c.refuse_in.ensures.fault [
+    let e = map_at (λ (id : Id). folded id.name.now) names first r.x r.at_first in
+    let earlier = c.index-names-first.result in
+    let before : slice_get names first ≡ Some earlier = slice_get-get_or names first earlier (slice_get_within names first e.0 e.1) ∙ ap Some (sym c.index-names-first.is) in
+    elim (c.refuse_in.ensures (clash c.args.desc.now earlier.name.now later.name.now) c.clash-words.ensures) [
       | inl memory ↦ inl memory
-      | inr says ↦ inr (repeat_first (λ (id : Id). folded id.name.now) (λ (id : Id). fault 25 id.span) names first second later r d at ∙ ap Some (sym says))
+      | inr says ↦ inr (clash_first (λ (id : Id). folded id.name.now) (clash_fault c.args.desc.now) names first second earlier later r d before at ∙ ap Some (sym says))
     ]
 
 pub returns : goal.returns
 returns c =
     let names = c.args.names.now in
     let keys = ap (map (λ (t : Bor (List ℕ)). folded t.now)) c.deref.ensures.value ∙ names-folded c.in_ok-texts.texts.items names c.in_ok-texts.ensures in
-    no_repeats (λ (id : Id). folded id.name.now) (λ (id : Id). fault 25 id.span) names (subst AllDiffer keys (rw c.in-None.is at c.in_ok-first.ensures.none))
+    no_clashes (λ (id : Id). folded id.name.now) (clash_fault c.args.desc.now) names (subst AllDiffer keys (rw c.in-None.is at c.in_ok-first.ensures.none))

@@ -1,9 +1,10 @@
 use Rattle.std.proofs.Common.{◌≡◌, ℕ, List, Some, inl, inr, map, take, ap, sym, ◌∙◌, subst}
-use Rattle.std.specs.Prelude.{slice_get}
+use Rattle.std.specs.Prelude.{codes, slice_get}
 use Rattle.std.proofs.lemmas.Option.{slice_get-get_or, slice_get_within}
 use Rattle.wit_type_tree.specs.declared.leaves.Id.{Id}
-use Rattle.wit_syntax.specs.Fault.{Fault, fault}
+use Rattle.wit_syntax.specs.Fault.{name_twice}
 use Rattle.wit_syntax.specs.Repeats.{IsRepeatAt, AllDiffer}
+use Rattle.wit_syntax.specs.Words.{defined_twice}
 use Rattle.wit_syntax.proofs.Lists.{map_at}
 use Rattle.wit_first.proofs.First.{no_repeats, repeat_first}
 use Rattle.wit_scopes.proofs.Repeating.{few_differ}
@@ -11,9 +12,6 @@ use Rattle.wit_scopes.proofs.distinct.check_unique_names.Goals as goal
 
 abbrev text : Id → List ℕ
 text id = id.name.now
-
-abbrev as_fault : Id → Fault
-as_fault id = fault 14 id.span
 
 pub returns-in-Some : goal.returns-in-Some
 returns-in-Some c =
@@ -27,16 +25,16 @@ returns-in-Some c =
     let d : AllDiffer (take second (map text ids)) = subst (λ ks. AllDiffer (take second ks)) keyed (rw c.in-Some.is at c.in_ok-second.ensures.first) in
     let x = map_at text ids second r.x r.at_second in
     let at : slice_get ids second ≡ Some later = slice_get-get_or ids second later (slice_get_within ids second x.0 x.1) ∙ ap Some (sym c.index-ids-second.is) in
-    elim c.refuse.ensures [
+    elim (c.refuse_in.ensures (defined_twice (codes "name") later.name.now) c.defined_twice.ensures) [
       | inl memory ↦ inl memory
-      | inr says ↦ inr (repeat_first text as_fault ids first second later r d at ∙ ap Some (sym says))
+      | inr says ↦ inr (repeat_first text name_twice ids first second later r d at ∙ ap Some (sym says))
     ]
 
 pub returns : goal.returns
 returns c =
     let keys = map (λ t. t.now) c.deref.result.now in
     let keyed : keys ≡ map text c.args.ids.now = ap (map (λ t. t.now)) c.deref.ensures.value ∙ c.in_ok-texts.ensures in
-    no_repeats text as_fault c.args.ids.now (subst AllDiffer keyed (rw c.in-None.is at c.in_ok-second.ensures.none))
+    no_repeats text name_twice c.args.ids.now (subst AllDiffer keyed (rw c.in-None.is at c.in_ok-second.ensures.none))
 
 pub returns-then-ids-lt2 : goal.returns-then-ids-lt2
-returns-then-ids-lt2 c = no_repeats text as_fault c.args.ids.now (few_differ text c.args.ids.now c.if-ids-lt2.true)
+returns-then-ids-lt2 c = no_repeats text name_twice c.args.ids.now (few_differ text c.args.ids.now c.if-ids-lt2.true)

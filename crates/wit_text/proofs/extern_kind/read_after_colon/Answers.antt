@@ -1,7 +1,6 @@
 use Rattle.std.proofs.Common.{rules}
 use Rattle.std.proofs.lemmas.Result.{err_from_is_err_and}
 use Rattle.wit_grammar.specs.Seen.{see_name}
-use Rattle.wit_grammar.specs.Grammar.{run}
 use Rattle.wit_grammar.specs.ItemRules.{extern_path, get_or_set, inline_items, worded_function}
 use Rattle.wit_reader.specs.Reading.{spot}
 use Rattle.wit_text.proofs.Externs.{at_accessor, at_inline, at_second, at_worded, inline_way, name_stops, same_made, second_parsed, second_stops, way_made, worded_way}

@@ -1,4 +1,3 @@
-use Rattle.std.proofs.Common.{map}
 use Rattle.std.proofs.lemmas.Result.{err_from_is_err_and}
 use Rattle.wit_grammar.specs.Seen.{see_prefix}
 use Rattle.wit_grammar.specs.ItemRules.{extern, extern_kind, extern_of, side}

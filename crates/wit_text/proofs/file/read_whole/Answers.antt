@@ -1,4 +1,4 @@
-use Rattle.std.proofs.Common.{◌∙◌, rules, refl}
+use Rattle.std.proofs.Common.{◌∙◌, rules}
 use Rattle.std.proofs.lemmas.Result.{err_from_is_err_and}
 use Rattle.wit_text.proofs.Ends.{begins_stop_file, empty_file, file_made, file_parsed, items_stop_file}
 use Rattle.wit_text.proofs.file.read_whole.Goals as goal

@@ -1,6 +1,6 @@
 use Rattle.std.proofs.Common.{◌≡◌, Option, List, map, sym, ap, ◌∙◌}
 use Rattle.std.proofs.lemmas.Result.{err_from_is_err_and}
-use Rattle.wit_syntax.specs.Fault.{Fault, fault}
+use Rattle.wit_syntax.specs.Fault.{Fault, top_twice}
 use Rattle.wit_syntax.specs.Source.{TopName, top_text, top_name, top_names}
 use Rattle.wit_first.specs.First.{first_repeat}
 use Rattle.wit_first.proofs.First.{reports_same}
@@ -8,7 +8,7 @@ use Rattle.wit_top_names.specs.Tops.{top_view}
 use Rattle.wit_top_names.proofs.top_name.file_names.Goals as goal
 
 abbrev names_fault : List TopName → Option Fault
-names_fault names = first_repeat top_text (λ (n : TopName). fault 6 n.id.span) names
+names_fault names = first_repeat top_text (λ (n : TopName). top_twice n.id) names
 
 pub returns-in_err-unique_names-clause-first : goal.returns-in_err-unique_names-clause-first
 returns-in_err-unique_names-clause-first c =

@@ -1,6 +1,6 @@
 use Rattle.std.proofs.Common.{◌≡◌, List, map, sym, ap, ◌∙◌, subst}
 use Rattle.std.proofs.lemmas.Result.{err_from_is_err_and}
-use Rattle.wit_syntax.specs.Fault.{Fault, fault}
+use Rattle.wit_syntax.specs.Fault.{Fault, item_twice}
 use Rattle.wit_syntax.specs.Source.{TopName, top_text, all_items}
 use Rattle.wit_first.specs.First.{first_repeat}
 use Rattle.wit_first.proofs.First.{repeat-map, reports_same}
@@ -9,7 +9,7 @@ use Rattle.wit_top_names.proofs.FirstNames.{named_items}
 use Rattle.wit_top_names.proofs.top_name.item_names.Goals as goal
 
 abbrev as_fault : TopName → Fault
-as_fault n = fault 5 n.id.span
+as_fault n = item_twice n.id
 
 pub returns-in_err-unique_names-clause-first : goal.returns-in_err-unique_names-clause-first
 returns-in_err-unique_names-clause-first c =

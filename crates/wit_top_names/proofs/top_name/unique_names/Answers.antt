@@ -1,7 +1,8 @@
 use Rattle.std.proofs.Common.{◌≡◌, refl, List, ◌+◌, ◌++◌, ◌∷◌, [], Some, map, take, inl, inr, sym, ap, ◌∙◌, subst}
 use Rattle.std.specs.Prelude.{slice_get}
 use Rattle.std.proofs.lemmas.List.{map-append, take-map, take_more, take_all}
-use Rattle.wit_syntax.specs.Fault.{fault}
+use Rattle.wit_syntax.specs.Fault.{fault_in}
+use Rattle.wit_syntax.specs.Words.{around}
 use Rattle.wit_syntax.specs.Repeats.{IsRepeatAt, AllDiffer}
 use Rattle.wit_syntax.specs.Source.{TopName, top_text}
 use Rattle.wit_syntax.proofs.Lists.{read_map, at_take}
@@ -23,15 +24,15 @@ returns-then-is_some-clause-first c =
     let there = at_take xs i p.0 p.1 (ap (λ (l : List TopName). slice_get l p.0) (take-map top_view i names) ∙ p.2) in
     let r : IsRepeatAt (map top_text xs) p.0 i = record { x = top_text t; before = there.1; at_first = key_at top_text xs p.0 p.1 there.0 ∙ ap Some p.3; at_second = key_at top_text xs i t at } in
     let d : AllDiffer (take i (map top_text xs)) = subst AllDiffer (sym (take-map top_text i xs ∙ ap (map top_text) (take-map top_view i names))) c.loop-name.invariant.distinct in
-    elim c.refuse_in.ensures.fault [
+    elim (c.refuse_in.ensures (around c.args.prefix.now t.id.name.now c.args.back.now) c.repeated-words.ensures) [
       | inl memory ↦ inl memory
-      | inr says ↦ inr (repeat_first top_text (λ (n : TopName). fault c.args.rule n.id.span) xs p.0 i t r d at ∙ ap Some (sym says))
+      | inr says ↦ inr (repeat_first top_text (λ (n : TopName). fault_in c.args.rule n.id.span (around c.args.prefix.now n.id.name.now c.args.back.now)) xs p.0 i t r d at ∙ ap Some (sym says))
     ]
 
 pub returns-clause-first : goal.returns-clause-first
 returns-clause-first c =
     let names = c.args.names.now in
-    no_repeats top_text (λ (n : TopName). fault c.args.rule n.id.span) (map top_view names) (subst (λ l. AllDiffer (map top_text (map top_view l))) (take_all c.loop-name.name-index names c.loop-name-test.false) c.loop-name.invariant.distinct)
+    no_repeats top_text (λ (n : TopName). fault_in c.args.rule n.id.span (around c.args.prefix.now n.id.name.now c.args.back.now)) (map top_view names) (subst (λ l. AllDiffer (map top_text (map top_view l))) (take_all c.loop-name.name-index names c.loop-name-test.false) c.loop-name.invariant.distinct)
 
 pub loop-name-preserved : goal.loop-name-preserved
 loop-name-preserved c =

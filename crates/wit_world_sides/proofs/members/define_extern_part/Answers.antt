@@ -1,12 +1,16 @@
-use Rattle.std.proofs.Common.{◌≡◌, true, false, List, sym, ◌∙◌, subst}
+use Rattle.std.proofs.Common.{◌≡◌, ℕ, true, false, List, sym, ◌∙◌, subst}
+use Rattle.std.specs.Prelude.{IfOk, string_bytes}
+use Rattle.wit_syntax.specs.Words.{conflict}
+use Rattle.wit_walk.specs.Members.{crossed, sort_among}
 use Rattle.wit_refusals.specs.KeyedNames.{HasName}
 use Rattle.wit_refusals.specs.NameScopes.{Name}
 use Rattle.wit_sides.specs.SideNames.{defined_on}
+use Rattle.wit_world_sides.specs.Members.{sorted_on}
 use Rattle.wit_world_sides.proofs.PutFaults.{named_free, named_has, named_other}
 use Rattle.wit_world_sides.proofs.members.define_extern_part.Goals as goal
 
 pub returns-in-Ok-clause-first : goal.returns-in-Ok-clause-first
-returns-in-Ok-clause-first c = named_free (defined_on c.args.side c.args.in_use.now) c.args.name.now c.args.span c.in-Ok.ensures.free
+returns-in-Ok-clause-first c = named_free (crossed c.args.side (sorted_on c.args.side c.args.sides.now)) (defined_on c.args.side c.args.in_use.now) c.args.name.now c.args.span c.in-Ok.ensures.free
 
 pub returns-then-not-branch-clause-first : goal.returns-then-not-branch-clause-first
 returns-then-not-branch-clause-first c =
@@ -17,10 +21,13 @@ returns-then-not-branch-clause-first c =
     let wrong : true ≡ false = sym (c.in_ok-has-in-Err.ensures.1 there) ∙ c.if-not-branch.true in
     let f : ⊥ = cc in
     f) in
-    named_other old name c.args.span c.in-Err.refusal other c.in-Err.ensures.refused
+    named_other (crossed c.args.side (sorted_on c.args.side c.args.sides.now)) old name c.args.span c.in-Err.refusal other c.in-Err.ensures.refused
 
 pub returns-else-not-branch-clause-first : goal.returns-else-not-branch-clause-first
 returns-else-not-branch-clause-first c =
     let name = c.args.name.now in
     let there = subst (λ (l : List Name). HasName l name) (c.in-Err.ensures.unchanged c.args.side) (c.in_ok-has-in-Err.ensures.0 c.if-not-branch.false) in
-    named_has (defined_on c.args.side c.args.in_use.now) name c.args.span c.refuse_in.result there c.refuse_in.ensures.fault
+    let sorts = sorted_on c.args.side c.args.sides.now in
+    let word = sort_among sorts name in
+    let says = subst (λ (w : List ℕ). IfOk c.conflict.result (λ t. string_bytes t ≡ conflict c.args.side name w)) c.sort_on-what.ensures c.conflict.ensures in
+    named_has (crossed c.args.side sorts) (defined_on c.args.side c.args.in_use.now) name c.args.span c.refuse_in.result there (c.refuse_in.ensures (conflict c.args.side name word) says)

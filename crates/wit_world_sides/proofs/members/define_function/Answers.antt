@@ -43,7 +43,7 @@ returns-in-None-clause-first c =
     let span = c.args.function.now.span in
     let called : item_names (SideFunction fn) ≡ (name, span) ∷ [] = ap (λ (n : Name). n ∷ []) (sym (ap (λ (n : List ℕ). (n, span)) c.as_str-name.ensures ∙ c.requires.borrowed)) in
     let plain = sym c.across.ensures ∙ c.in-None.is in
-    let one = clash_one c.args.in_use.now (SideFunction fn) Imported false (name, span) (side_imported fn.role plain) (extern_none fn.role plain) called in
+    let one = clash_one c.args.in_use.now c.args.sides.now (SideFunction fn) Imported false (name, span) (side_imported fn.role plain) (extern_none fn.role plain) called in
     subst (λ (o : Option Fault). Finds o c.define.result) (sym one) (again_by c.define.result (defined_on Imported c.args.in_use.now) name span c.define.ensures.free c.define.ensures.refused)
 
 pub returns-in-Some-clause-first : goal.returns-in-Some-clause-first
@@ -53,5 +53,5 @@ returns-in-Some-clause-first c =
     let span = c.args.function.now.span in
     let called : item_names (SideFunction fn) ≡ (name, span) ∷ [] = ap (λ (n : Name). n ∷ []) (sym (ap (λ (n : List ℕ). (n, span)) c.as_str-name.ensures ∙ c.requires.borrowed)) in
     let crosses = side_across fn.role c.in-Some.side (sym c.across.ensures ∙ c.in-Some.is) in
-    let one = clash_one c.args.in_use.now (SideFunction fn) c.in-Some.side true (name, span) (ap role_side crosses.2) (ap is_on_side crosses.2) called in
+    let one = clash_one c.args.in_use.now c.args.sides.now (SideFunction fn) c.in-Some.side true (name, span) (ap role_side crosses.2) (ap is_on_side crosses.2) called in
     subst (λ (o : Option Fault). Finds o c.define_extern_part.result) (sym one) c.define_extern_part.ensures.first

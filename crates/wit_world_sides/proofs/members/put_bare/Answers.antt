@@ -16,7 +16,7 @@ use Rattle.wit_externs.specs.Next.{IsLinked, linked_on, only_place}
 use Rattle.wit_externs.proofs.Linked.{places_differ}
 use Rattle.wit_externs.proofs.Steps.{kept_nothing}
 use Rattle.wit_world_sides.specs.Members.{path_link, text}
-use Rattle.wit_world_sides.proofs.Putting.{names_itself, put_itself, puts}
+use Rattle.wit_world_sides.proofs.Putting.{names_itself, put_itself, puts, sorted_itself}
 use Rattle.wit_world_sides.proofs.SideCalled.{other_called}
 use Rattle.wit_world_sides.proofs.PutFaults.{linked_free, linked_report}
 use Rattle.wit_world_sides.proofs.members.put_bare.Goals as goal
@@ -34,7 +34,7 @@ returns-clause-puts c =
     let more = λ (s : WorldSide). subst (λ (n : ℕ). linked_on s new ≡ linked_on s m.links ++ only_place s link.side n) c.index.ensures (c.in_ok-define.ensures.defined s) in
     let apart = λ (s : WorldSide). places_differ link.side (λ t. linked_on t m.links) (λ t. linked_on t new) c.index.result c.in_ok-define.ensures.defined c.in_ok-define.ensures.free s (keyed.apart s) in
     let same = λ (s : WorldSide). sym (append-nil (defined_on s m.in_use)) ∙ ap (λ (l : List Name). defined_on s m.in_use ++ l) (kept_nothing item_names (λ y. same_side s (item_side y)) x named) in
-    put_itself m _ link id item c.requires.bare c.requires.interface (puts m _ x (id ∷ []) (key.Interface id, item) keyed same keyed.differ more apart (sym (ap (map text) named)) refl (other_called (key.Interface id, item) (ap function_of c.requires.interface)) c.in_ok-add_item.ensures)
+    put_itself m _ link id item c.requires.bare c.requires.interface (puts m _ x (id ∷ []) (key.Interface id, item) keyed same keyed.differ more apart (sym (ap (map text) named)) refl (other_called (key.Interface id, item) (ap function_of c.requires.interface)) (sym (sorted_itself link c.requires.bare)) c.in_ok-add_item.ensures)
 
 pub returns-in_err-define-clause-first : goal.returns-in_err-define-clause-first
 returns-in_err-define-clause-first c =
@@ -42,9 +42,9 @@ returns-in_err-define-clause-first c =
     let m = c.args.members.now in
     let link = path_link c.args.link in
     let ids = linked_on link.side m.links in
-    let again = IsLinked ids c.index.result c.path_id-path.result.span in
-    let here = IsLinked ids c.args.id (path_id link.path).span in
-    rw (p.1, p.2) (linked_report m link c.args.id _ c.requires.bare (refused_weaker again here _ (λ f h. subst (λ (n : Id). IsLinked ids c.args.id n.span f) c.path_id-path.ensures (subst (λ (n : ℕ). IsLinked ids n c.path_id-path.result.span f) c.index.ensures h)) c.in_err-define.ensures.refused))
+    let again = IsLinked link.side ids c.index.result c.path_id-path.result.span in
+    let here = IsLinked link.side ids c.args.id (path_id link.path).span in
+    rw (p.1, p.2) (linked_report m link c.args.id _ c.requires.bare (refused_weaker again here _ (λ f h. subst (λ (n : Id). IsLinked link.side ids c.args.id n.span f) c.path_id-path.ensures (subst (λ (n : ℕ). IsLinked link.side ids n c.path_id-path.result.span f) c.index.ensures h)) c.in_err-define.ensures.refused))
 
 pub returns-clause-first : goal.returns-clause-first
 returns-clause-first c =

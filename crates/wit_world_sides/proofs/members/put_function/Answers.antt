@@ -1,4 +1,5 @@
 use Rattle.std.proofs.Common.{◌∷◌, [], refl, ap, ◌∙◌}
+use Rattle.std.specs.Prelude.{codes}
 use Rattle.wit_tree.specs.declared.tree.WorldSide.{WorldSide}
 use Rattle.wit_syntax.specs.ExternPart.{same_side}
 use Rattle.wit_syntax.specs.Sides.{SideFunction, role_side}
@@ -19,4 +20,4 @@ returns-clause-puts c =
     let f = c.args.function in
     let keyed = c.requires.keyed in
     let put = λ (s : WorldSide). c.in_ok-add_function.ensures s ∙ ap (λ (own : WorldSide). inserted_on s own (function_item f) (entries_of s m.sides)) c.side.ensures in
-    puts m _ (SideFunction fn) [] (function_item f) keyed c.in_ok-define_function.ensures.defined (λ s. c.in_ok-define_function.ensures.differ s (keyed.differ s)) (λ s. nothing_more (same_side s (role_side fn.role)) (linked_on s m.links)) keyed.apart (ap (λ (n : Name). n.0 ∷ []) c.requires.borrowed) refl (function_called f) put
+    puts m _ (SideFunction fn) [] (function_item f) keyed c.in_ok-define_function.ensures.defined (λ s. c.in_ok-define_function.ensures.differ s (keyed.differ s)) (λ s. nothing_more (same_side s (role_side fn.role)) (linked_on s m.links)) keyed.apart (ap (λ (n : Name). n.0 ∷ []) c.requires.borrowed) refl (function_called f) (ap (λ (n : Name). (n.0, codes "func") ∷ []) c.requires.borrowed) put

@@ -1,22 +1,21 @@
 use Rattle.std.proofs.Common.{refl, ap, Option, subst, sym}
 use Rattle.std.proofs.lemmas.Result.{on_ok_weaker}
-use Rattle.wit_model.specs.ItemsOfWorlds.{function_of}
 use Rattle.wit_syntax.specs.Sides.{SideLink}
-use Rattle.wit_world_sides.specs.Members.{path_link}
-use Rattle.wit_world_sides.proofs.Putting.{names_under, put_under}
+use Rattle.wit_world_sides.specs.Members.{item_word, path_link}
+use Rattle.wit_world_sides.proofs.Putting.{names_under, put_under, sorted_under}
 use Rattle.wit_syntax.specs.Fault.{Fault}
 use Rattle.wit_first.specs.First.{Finds}
 use Rattle.wit_world_sides.proofs.PutFaults.{put_link_named}
 use Rattle.wit_world_sides.proofs.members.put_link.Goals as goal
 
 pub put_named-requires-clause-interface : goal.put_named-requires-clause-interface
-put_named-requires-clause-interface c = ap function_of c.in_ok-item.ensures
+put_named-requires-clause-interface c = ap item_word c.in_ok-item.ensures
 
 pub returns-in-Some-clause-puts : goal.returns-in-Some-clause-puts
 returns-in-Some-clause-puts c =
     let link = path_link c.args.link in
     let own = c.in-Some.name in
-    on_ok_weaker c.put_named.result (λ done. put_under c.args.members.now c.put_named.new.members link own c.args.id c.in_ok-item.item c.in-Some.is c.in_ok-item.ensures (done (SideLink link) (refl, names_under link own c.in-Some.is))) c.put_named.ensures.puts
+    on_ok_weaker c.put_named.result (λ done. put_under c.args.members.now c.put_named.new.members link own c.args.id c.in_ok-item.item c.in-Some.is c.in_ok-item.ensures (done (SideLink link) (refl, names_under link own c.in-Some.is, sorted_under link own c.in-Some.is))) c.put_named.ensures.puts
 
 pub returns-in-Some-clause-first : goal.returns-in-Some-clause-first
 returns-in-Some-clause-first c = subst (λ (o : Option Fault). Finds o c.put_named.result) (sym (put_link_named c.args.members.now (path_link c.args.link) c.args.id c.in-Some.name c.in-Some.is)) c.put_named.ensures.first

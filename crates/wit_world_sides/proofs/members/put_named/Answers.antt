@@ -1,4 +1,4 @@
-use Rattle.std.proofs.Common.{◌++◌, [], List, map, refl, sym, ap, ◌∙◌}
+use Rattle.std.proofs.Common.{ℕ, ◌++◌, [], ◌∷◌, List, map, refl, sym, ap, ◌∙◌}
 use Rattle.wit_tree.specs.declared.tree.WorldSide.{WorldSide}
 use Rattle.wit_model.specs.declared.world.WorldKey.TheVariants as key
 use Rattle.wit_syntax.specs.ExternPart.{same_side}
@@ -11,7 +11,7 @@ use Rattle.wit_externs.proofs.Clashing.{item_on, sides_differ}
 use Rattle.wit_world_sides.specs.Members.{text}
 use Rattle.wit_world_sides.specs.FilledSides.{entries_of, inserted_on}
 use Rattle.wit_world_sides.proofs.Putting.{puts}
-use Rattle.wit_world_sides.proofs.SideCalled.{other_called}
+use Rattle.wit_world_sides.proofs.SideCalled.{interface_none, other_called}
 use Rattle.wit_world_sides.proofs.SideKeys.{nothing_more}
 use Rattle.wit_world_sides.proofs.members.put_named.Goals as goal
 
@@ -27,4 +27,4 @@ returns-clause-puts c = λ x on.
     let more = λ (s : WorldSide). defined s ∙ ap (λ (l : List Name). defined_on s m.in_use ++ l) (item_on s c.args.side x (name_of_id own) there named) in
     let differ = λ (s : WorldSide). sides_differ c.args.side (λ t. defined_on t m.in_use) (λ t. defined_on t c.define_extern_part.new.in_use) own.name.now own.span defined c.in_ok-define_extern_part.ensures.free s (keyed.differ s) in
     let put = λ (s : WorldSide). c.in_ok-add_named.ensures s ∙ ap (λ (t : WorldSide). inserted_on s t (key.Name own.name.now, item) (entries_of s m.sides)) (sym there) in
-    puts m _ x [] (key.Name own.name.now, item) keyed more differ (λ s. nothing_more (same_side s (item_side x)) (linked_on s m.links)) keyed.apart (sym (ap (map text) named)) refl (other_called (key.Name own.name.now, item) c.requires.interface) put
+    puts m _ x [] (key.Name own.name.now, item) keyed more differ (λ s. nothing_more (same_side s (item_side x)) (linked_on s m.links)) keyed.apart (sym (ap (map text) named)) refl (other_called (key.Name own.name.now, item) (interface_none item c.requires.interface)) (ap (λ (w : List ℕ). (own.name.now, w) ∷ []) c.requires.interface ∙ sym on.2) put

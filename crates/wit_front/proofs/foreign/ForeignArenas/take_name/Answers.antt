@@ -17,7 +17,7 @@ returns-clause-in_use c = λ vs ts apart placed before. elim c.match-name.branch
       let from : IsPlaced (addresses_among vs) u.from = subst (IsNamePlaced (addresses_among vs)) w.in-Used.is placed in
       let place = subst (IsPlaced (addresses_among vs)) w.in-Foreign.is from in
       let names : name_foreign_uses (name_view c.args.name.now) ≡ use_of_foreign s u.attributes.now u.name.now ∷ [] = ap (λ (x : ScopeName). name_foreign_uses (name_view x)) w.in-Used.is ∙ ap (λ (f : Source). name_foreign_uses (Used (source_view f) u.attributes.now u.name.now)) w.in-Foreign.is in
-      rw (w.self-is, w.types-is, names) (w.in_ok-take.ensures.in_use vs ts s apart place before))
+      rw (w.self-is, w.types-is, names) (w.in_ok-take.ensures.in_use s vs ts apart place before))
   | in-Used+in_default-from w ↦ (
       let names : name_foreign_uses (name_view c.args.name.now) ≡ [] = ap (λ (x : ScopeName). name_foreign_uses (name_view x)) w.in-Used.is ∙ ap (λ (f : Source). name_foreign_uses (Used (source_view f) w.in-Used.used.attributes.now w.in-Used.used.name.now)) w.in_default-from.is in
       rw (w.self-is, w.types-is, names, append-nil ts) before)

@@ -1,7 +1,6 @@
-use Rattle.std.proofs.Common.{◌≡◌, ◌<◌, ◌∙◌, Some, slice_get, length, refl, sym, ap, arith}
+use Rattle.std.proofs.Common.{refl, sym, arith}
 use Rattle.std.proofs.lemmas.List.Edits.{length-swap}
 use Rattle.std.proofs.lemmas.Option.{slice_get_read}
-use Rattle.wit_functions.specs.Reordered.{ArePositions, IsExchange}
 use Rattle.wit_functions.proofs.Swaps.{from_within, other_within, still_present}
 use Rattle.wit_functions.proofs.reordering.Positions.exchange.Goals as goal
 

@@ -1,0 +1,19 @@
+use Rattle.std.proofs.Common.{◌≡◌, map, sym, ap, ◌∙◌, subst, refl}
+use Rattle.wit_syntax.specs.Source.{scope_names}
+use Rattle.wit_scopes.specs.BorrowedNames.{name_view}
+use Rattle.wit_scopes.specs.PlacedNames.{AreNamesPlaced}
+use Rattle.wit_item_names.specs.ForeignAddresses.{prefix_of}
+use Rattle.wit_items.specs.BorrowedItems.{item_view}
+use Rattle.wit_contents.proofs.world.world_names.Goals as goal
+
+pub resolve_names-requires : goal.resolve_names-requires
+resolve_names-requires c =
+    record { placed = subst (AreNamesPlaced (prefix_of c.args.worlds.now.interfaces.now.files)) (sym c.deref.ensures.value) (c.requires.placed.each 0 c.args.item.now refl) }
+
+pub returns-clause-adds : goal.returns-clause-adds
+returns-clause-adds c =
+    let same : map name_view c.deref.result.now ≡ scope_names (item_view c.args.item.now) = ap (map name_view) c.deref.ensures.value ∙ c.requires.named in
+    rw (c.next_id.ensures, same) at c.resolve_names.ensures.adds
+
+pub returns-clause-first : goal.returns-clause-first
+returns-clause-first c = rw (c.next_id.ensures, c.deref.ensures.value) at c.resolve_names.ensures.first
