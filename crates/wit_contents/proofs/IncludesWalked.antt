@@ -41,8 +41,8 @@ use Rattle.wit_arena.proofs.Members.{DoneScope}
 use Rattle.wit_arena.proofs.ScopesInTurn.{entry_of_item}
 use Rattle.wit_arena.proofs.Turns.{own_item}
 use Rattle.wit_arena.proofs.Visits.{visited_foreign}
-use Rattle.wit_item_names.specs.ItemPaths.{world_at, world_entry}
-use Rattle.wit_item_names.proofs.Others.{world_missing}
+use Rattle.wit_items.specs.ItemPaths.{world_at, world_entry}
+use Rattle.wit_items.proofs.Others.{world_missing}
 use Rattle.wit_links.specs.Includes.{included_fault}
 use Rattle.wit_links.specs.declared.worlds.Worlds.{Worlds}
 

@@ -28,7 +28,7 @@ use Rattle.wit_arena.specs.Whole.{place_at}
 use Rattle.wit_arena.proofs.Interfaces.{place_at-found}
 use Rattle.wit_arena.proofs.Visits.{interfaces_differ}
 use Rattle.wit_externs.specs.Links.{bare_places}
-use Rattle.wit_item_names.specs.ForeignAddresses.{prefix_of}
+use Rattle.wit_items.specs.ForeignAddresses.{prefix_of}
 use Rattle.wit_links.specs.Links.{interface_place, linked_fault, path_place, unresolved_fault}
 use Rattle.wit_world_sides.specs.PutFaults.{again_linked}
 

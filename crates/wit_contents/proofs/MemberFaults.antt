@@ -25,7 +25,7 @@ use Rattle.wit_rules.specs.Signatures.{functions_view}
 use Rattle.wit_signatures.specs.SignatureFaults.{function_fault as signature_function_fault}
 use Rattle.wit_externs.specs.AloneFaults.{EndsIn, IsSafe, signed_by, words_in}
 use Rattle.wit_externs.proofs.AloneFaults.{function_safe, function_same, safe_of}
-use Rattle.wit_item_names.specs.ForeignAddresses.{prefix_of}
+use Rattle.wit_items.specs.ForeignAddresses.{prefix_of}
 use Rattle.wit_scopes.specs.BorrowedNames.{name_view}
 use Rattle.wit_scopes.specs.PlacedNames.{AreNamesPlaced}
 use Rattle.wit_items.specs.BorrowedItems.{scope_item}

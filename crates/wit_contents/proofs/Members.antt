@@ -18,7 +18,7 @@ use Rattle.wit_syntax.specs.Sides.{Link, SideItem, SideFunction, SideLink, inlin
 use Rattle.wit_syntax.specs.Source.{Item, TheInline, address, item_name, path_scope}
 use Rattle.wit_syntax.proofs.Inline.{interfaces_on}
 use Rattle.wit_syntax.proofs.Legal.{functions_items}
-use Rattle.wit_item_names.proofs.Usable.{contains_one}
+use Rattle.wit_items.proofs.UsableNames.{contains_one}
 use Rattle.wit_walk.specs.Members.{Sorted, item_sorted}
 use Rattle.wit_arena.specs.SourceFunctions.{function_item}
 use Rattle.wit_arena.specs.Resolving.{AddsFunctions, env_of}
@@ -29,7 +29,7 @@ use Rattle.wit_externs.specs.Links.{bare_place}
 use Rattle.wit_externs.specs.Next.{linked_on}
 use Rattle.wit_externs.proofs.DoneFunctions.{same_name}
 use Rattle.wit_externs.proofs.Steps.{at_middle, kept_nothing, kept_one}
-use Rattle.wit_item_names.specs.ForeignAddresses.{prefix_of}
+use Rattle.wit_items.specs.ForeignAddresses.{prefix_of}
 use Rattle.wit_items.specs.declared.items.InlineInterface.{InlineInterface}
 use Rattle.wit_items.specs.ResolvedInterfaces.{resolved_scopes_of}
 use Rattle.wit_world_sides.specs.FilledSides.{entries_of}

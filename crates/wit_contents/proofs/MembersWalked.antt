@@ -39,7 +39,7 @@ use Rattle.wit_externs.specs.Links.{bare_places}
 use Rattle.wit_externs.specs.Next.{linked_on}
 use Rattle.wit_externs.proofs.AloneFaults.{safe_of}
 use Rattle.wit_externs.proofs.Steps.{at_middle}
-use Rattle.wit_item_names.specs.ForeignAddresses.{prefix_of}
+use Rattle.wit_items.specs.ForeignAddresses.{prefix_of}
 use Rattle.wit_items.specs.declared.interfaces.Interfaces.{Interfaces}
 use Rattle.wit_links.specs.Links.{interface_place, path_place}
 use Rattle.wit_links.proofs.Leading.{called_at}

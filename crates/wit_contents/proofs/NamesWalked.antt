@@ -26,7 +26,7 @@ use Rattle.wit_signatures.specs.ForeignName.{name_of_id}
 use Rattle.wit_sides.specs.SideNames.{defined_on}
 use Rattle.wit_externs.specs.AloneFaults.{again_fault}
 use Rattle.wit_externs.specs.Clash.{item_names, names_of_items}
-use Rattle.wit_uses.proofs.NameOrder.{all_used, called, called_item}
+use Rattle.wit_item_entries.proofs.NameOrder.{all_used, called, called_item}
 use Rattle.wit_world_sides.specs.Members.{entry_sorted, sorted_on}
 use Rattle.wit_world_sides.specs.PutFaults.{crossed_fault, named_fault, put_fault}
 use Rattle.wit_world_sides.specs.declared.members.Members.{Members}

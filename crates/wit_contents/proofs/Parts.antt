@@ -18,7 +18,7 @@ use Rattle.wit_arena.specs.Resolving.{Required}
 use Rattle.wit_arena.specs.ResolvedArenas.{AddsWorld, interfaces_at, worlds_at}
 use Rattle.wit_arena.specs.SideItems.{settled}
 use Rattle.wit_arena.specs.Whole.{AreIncludes}
-use Rattle.wit_item_names.specs.ForeignAddresses.{prefix_of}
+use Rattle.wit_items.specs.ForeignAddresses.{prefix_of}
 use Rattle.wit_items.specs.ResolvedInterfaces.{resolved_scopes_of}
 use Rattle.wit_world_sides.specs.Members.{Entry}
 use Rattle.wit_links.proofs.Leading.{addresses_count}

@@ -35,7 +35,7 @@ use Rattle.wit_items.specs.BorrowedItems.{scope_item}
 use Rattle.wit_items.specs.ResolvedInterfaces.{resolved_scopes_of}
 use Rattle.wit_items.specs.declared.interfaces.Interfaces.{Interfaces}
 use Rattle.wit_items.specs.declared.items.ItemScope.{ItemScope}
-use Rattle.wit_uses.specs.UseFaults.{local_faults}
+use Rattle.wit_item_entries.specs.UseFaults.{local_faults}
 use Rattle.wit_item_entries.specs.ReachedFaults.{Reaches, definitions_fault, item_stability}
 use Rattle.wit_contents.specs.InterfaceFaults.{IsLent, IsRightOf, interface_fault, names_of, rest_fault}
 use Rattle.wit_contents.proofs.ReachedEnds.{IsReached}

@@ -51,9 +51,9 @@ use Rattle.wit_externs.proofs.Steps.{at_middle}
 use Rattle.wit_files.specs.FileNames.{names_at_top}
 use Rattle.wit_scopes.specs.BorrowedNames.{Borrowed, name_view, own_use, source_view}
 use Rattle.wit_scopes.specs.PlacedNames.{AreNamesPlaced}
-use Rattle.wit_item_names.specs.ForeignAddresses.{prefix_of}
-use Rattle.wit_item_names.specs.ItemPaths.{HasPart}
-use Rattle.wit_item_names.proofs.Others.{part_visited, used_visited}
+use Rattle.wit_items.specs.ForeignAddresses.{prefix_of}
+use Rattle.wit_items.specs.ItemPaths.{HasPart}
+use Rattle.wit_items.proofs.Others.{part_visited, used_visited}
 use Rattle.wit_items.specs.BorrowedItems.{declared_view, item_view, others_of}
 use Rattle.wit_items.specs.Gathered.{IsItemOf}
 use Rattle.wit_items.specs.ResolvedInterfaces.{resolved_scopes_of}

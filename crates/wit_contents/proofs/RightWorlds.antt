@@ -17,7 +17,7 @@ use Rattle.wit_walk.specs.Orders.{AreOutcomes}
 use Rattle.wit_walk.specs.Walk.{Known, contents_fault}
 use Rattle.wit_arena.specs.Resolving.{Required}
 use Rattle.wit_arena.specs.ResolvedArenas.{AddsForeign, AddsInterfaces, AddsWorlds, AreUsableUses, WorldArenas, prefix_worlds}
-use Rattle.wit_item_names.specs.ForeignAddresses.{prefix_of}
+use Rattle.wit_items.specs.ForeignAddresses.{prefix_of}
 use Rattle.wit_items.specs.BorrowedItems.{item_view, others_of}
 use Rattle.wit_items.specs.Gathered.{IsItemOf}
 use Rattle.wit_items.specs.declared.interfaces.Interfaces.{Interfaces}

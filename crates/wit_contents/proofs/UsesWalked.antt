@@ -55,9 +55,9 @@ use Rattle.wit_scopes.specs.declared.scope_name.UsedName.{UsedName}
 use Rattle.wit_scopes.specs.declared.scope_name.Source.{Source as BorrowedSource}
 use Rattle.wit_scopes.specs.declared.scope_name.Source.TheVariants as borrowed_source
 use Rattle.wit_items.specs.declared.interfaces.Interfaces.{Interfaces}
-use Rattle.wit_uses.specs.UseFaults.{asked_fault, interface_of, lost_name, source_fault, used_fault}
-use Rattle.wit_uses.proofs.ResolvedScopes.{named_within}
-use Rattle.wit_uses.proofs.UseFaults.{found_of, of_function, of_nothing, used_from}
+use Rattle.wit_item_entries.specs.UseFaults.{asked_fault, interface_of, lost_name, source_fault, used_fault}
+use Rattle.wit_item_entries.proofs.ResolvedScopes.{named_within}
+use Rattle.wit_item_entries.proofs.UseFaults.{found_of, of_function, of_nothing, used_from}
 use Rattle.wit_contents.proofs.WalkedInterface.{AreAsWalked}
 
 -- names that are the same say the same of one that means nothing

@@ -50,8 +50,8 @@ use Rattle.wit_scopes.proofs.UsedNames.{uses_viewed}
 use Rattle.wit_items.specs.BorrowedItems.{scope_item}
 use Rattle.wit_items.specs.declared.interfaces.Interfaces.{Interfaces}
 use Rattle.wit_items.specs.declared.items.ItemScope.{ItemScope}
-use Rattle.wit_uses.specs.UseFaults.{local_fault, local_faults, used_fault}
-use Rattle.wit_uses.proofs.NameOrder.{all_used, called}
+use Rattle.wit_item_entries.specs.UseFaults.{local_fault, local_faults, used_fault}
+use Rattle.wit_item_entries.proofs.NameOrder.{all_used, called}
 use Rattle.wit_item_entries.specs.ReachedFaults.{definitions_fault, item_stability, ordered_fault}
 use Rattle.wit_item_entries.specs.ScopeFunctionFaults.{functions_fault}
 use Rattle.wit_contents.specs.InterfaceFaults.{interface_fault, names_of}

@@ -33,7 +33,7 @@ use Rattle.wit_items.specs.ResolvedInterfaces.{resolved_scopes_of}
 use Rattle.wit_items.specs.declared.items.Item.{Item as BorrowedItem}
 use Rattle.wit_links.specs.Includes.{includes_fault}
 use Rattle.wit_links.specs.declared.worlds.Worlds.{Worlds}
-use Rattle.wit_uses.specs.UseFaults.{local_faults}
+use Rattle.wit_item_entries.specs.UseFaults.{local_faults}
 use Rattle.wit_item_entries.specs.ReachedFaults.{definitions_fault, item_stability, ordered_fault}
 use Rattle.wit_contents.specs.WorldFaults.{IsWorldHeadFault, turn_fault, world_head}
 use Rattle.wit_contents.proofs.FoundBy.{found_by, in_some_order}

@@ -11,7 +11,7 @@ use Rattle.wit_syntax.specs.Sides.{inline_items}
 use Rattle.wit_syntax.specs.Source.{Item, address}
 use Rattle.wit_arena.specs.Resolving.{Required}
 use Rattle.wit_arena.specs.ResolvedArenas.{AddsEach, AddsWorld, AddsWorlds, prefix_worlds}
-use Rattle.wit_uses.specs.NewRequirements.{Appends}
+use Rattle.wit_item_entries.specs.NewRequirements.{Appends}
 use Rattle.wit_contents.specs.AddedWorlds.{arenas}
 
 -- what items add, and one after them

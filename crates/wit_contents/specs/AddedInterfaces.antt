@@ -9,12 +9,12 @@ use Rattle.wit_syntax.specs.Source.{Item}
 use Rattle.wit_arena.specs.SourceFunctions.{placed_functions}
 use Rattle.wit_arena.specs.Resolving.{IsIndex, Required, ResolvedScope}
 use Rattle.wit_arena.specs.ResolvedArenas.{AddsDeclared, AddsInterface, AddsInterfaces}
-use Rattle.wit_item_names.specs.ForeignAddresses.{prefix_of}
+use Rattle.wit_items.specs.ForeignAddresses.{prefix_of}
 use Rattle.wit_items.specs.ResolvedInterfaces.{resolved_scopes_of}
 use Rattle.wit_items.specs.BorrowedItems.{item_view}
 use Rattle.wit_items.specs.declared.interfaces.Interfaces.{Interfaces}
 use Rattle.wit_items.specs.declared.items.Item.{Item as BorrowedItem}
-use Rattle.wit_uses.specs.NewRequirements.{Appends}
+use Rattle.wit_item_entries.specs.NewRequirements.{Appends}
 use Rattle.wit_item_entries.specs.Body.{AddsBody, HasTurn}
 use Rattle.wit_item_entries.specs.declared.names.ResolvedNames.{ResolvedNames}
 

@@ -11,13 +11,13 @@ use Rattle.wit_syntax.specs.Source.{Item, about, address, declared_metadata, sco
 use Rattle.wit_arena.specs.UnfoldedTypes.{IsWorld}
 use Rattle.wit_arena.specs.Resolving.{IsWorldIndex, Required}
 use Rattle.wit_arena.specs.ResolvedArenas.{AddsWorld, AddsWorlds, WorldArenas, prefix_worlds, worlds_at}
-use Rattle.wit_item_names.specs.ForeignAddresses.{prefix_of}
+use Rattle.wit_items.specs.ForeignAddresses.{prefix_of}
 use Rattle.wit_items.specs.BorrowedItems.{item_view, others_of}
 use Rattle.wit_items.specs.ResolvedInterfaces.{resolved_scopes_of}
 use Rattle.wit_items.specs.declared.interfaces.Interfaces.{Interfaces}
 use Rattle.wit_items.specs.declared.items.Item.{Item as BorrowedItem}
 use Rattle.wit_links.specs.declared.worlds.Worlds.{Worlds}
-use Rattle.wit_uses.specs.NewRequirements.{Appends}
+use Rattle.wit_item_entries.specs.NewRequirements.{Appends}
 use Rattle.wit_item_entries.specs.AddedNames.{AddsTurn}
 use Rattle.wit_item_entries.specs.declared.names.ResolvedNames.{ResolvedNames}
 use Rattle.wit_contents.specs.declared.walk.Growing.{Growing}

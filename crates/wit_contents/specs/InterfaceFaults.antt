@@ -17,7 +17,7 @@ use Rattle.wit_arena.specs.ResolvedArenas.{AddsInterface, AddsInterfaces, IsNext
 use Rattle.wit_externs.specs.AloneFaults.{lone_setters}
 use Rattle.wit_scopes.specs.BorrowedNames.{name_view}
 use Rattle.wit_scopes.specs.PlacedNames.{AreNamesPlaced}
-use Rattle.wit_item_names.specs.ForeignAddresses.{prefix_of}
+use Rattle.wit_items.specs.ForeignAddresses.{prefix_of}
 use Rattle.wit_items.specs.BorrowedItems.{declared_view, item_view, scope_item}
 use Rattle.wit_items.specs.ResolvedInterfaces.{resolved_scopes_of}
 use Rattle.wit_items.specs.declared.interfaces.Interfaces.{Interfaces}

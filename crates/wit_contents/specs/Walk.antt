@@ -26,7 +26,7 @@ use Rattle.wit_signatures.specs.ForeignName.{name_of_function, name_of_id, name_
 use Rattle.wit_externs.specs.Clash.{names_of_items}
 use Rattle.wit_externs.specs.Links.{bare_places}
 use Rattle.wit_externs.specs.Next.{linked_on}
-use Rattle.wit_item_names.specs.ForeignAddresses.{prefix_of}
+use Rattle.wit_items.specs.ForeignAddresses.{prefix_of}
 use Rattle.wit_items.specs.Gathered.{IsItemOf}
 use Rattle.wit_items.specs.ResolvedInterfaces.{resolved_scopes_of}
 use Rattle.wit_items.specs.BorrowedItems.{item_view}
@@ -36,8 +36,8 @@ use Rattle.wit_world_sides.specs.Members.{AreKeyed, Entry, sorted_on}
 use Rattle.wit_world_sides.specs.FilledSides.{entries_of}
 use Rattle.wit_links.specs.SideCounts.{IsSeen}
 use Rattle.wit_links.specs.Links.{path_place}
-use Rattle.wit_uses.specs.NameOrder.{IsTurn}
-use Rattle.wit_uses.specs.NewRequirements.{Appends}
+use Rattle.wit_item_entries.specs.NameOrder.{IsTurn}
+use Rattle.wit_item_entries.specs.NewRequirements.{Appends}
 use Rattle.wit_contents.specs.declared.walk.Growing.{Growing}
 use Rattle.wit_contents.specs.declared.walk.Walk.{Walk}
 use Rattle.wit_contents.specs.declared.walk.Walked.{Walked}

@@ -16,7 +16,7 @@ use Rattle.wit_walk.specs.Orders.{IsOutcome, Outcome, order_of}
 use Rattle.wit_walk.specs.Setters.{setters_fault}
 use Rattle.wit_arena.specs.Resolving.{Names, Required}
 use Rattle.wit_arena.specs.ResolvedArenas.{AddsScope, AddsWorlds, WorldArenas, prefix_worlds}
-use Rattle.wit_item_names.specs.ForeignAddresses.{prefix_of}
+use Rattle.wit_items.specs.ForeignAddresses.{prefix_of}
 use Rattle.wit_items.specs.BorrowedItems.{item_view, others_of}
 use Rattle.wit_items.specs.Gathered.{IsItemOf}
 use Rattle.wit_items.specs.ResolvedInterfaces.{resolved_scopes_of}

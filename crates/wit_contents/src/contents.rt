@@ -17,7 +17,7 @@ use wit_entries::scope::Required;
 use wit_files::FileNames;
 use wit_foreign::foreign_deps;
 use wit_front::foreign::ForeignArenas;
-use wit_item_names::files::Files;
+use wit_items::files::Files;
 use wit_items::interfaces::Interfaces;
 use wit_items::items::{Item, declared_items};
 use wit_maps::TextTable;

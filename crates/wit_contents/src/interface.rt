@@ -10,7 +10,7 @@ ghost use Rattle.wit_items.specs.BorrowedItems.{declared_view, scope_item};
 ghost use Rattle.wit_first.specs.First.{Finds};
 ghost use Rattle.wit_arena.specs.Resolving.{ResolvedScope, env_of};
 ghost use Rattle.wit_externs.specs.AloneFaults.{FindsIn, lone_setters};
-ghost use Rattle.wit_item_names.specs.ForeignAddresses.{prefix_of};
+ghost use Rattle.wit_items.specs.ForeignAddresses.{prefix_of};
 ghost use Rattle.wit_scopes.specs.PlacedNames.{AreNamesPlaced};
 ghost use Rattle.wit_scopes.specs.BorrowedNames.{name_view};
 ghost use Rattle.wit_item_entries.specs.Body.{HasTurn};

@@ -6,7 +6,7 @@ ghost use Rattle.wit_syntax.specs.Sides.{SideFunction, SideInline, SideLink, par
 ghost use Rattle.wit_syntax.specs.Source.{DefinitionPart, is_world, item_name, scope_names as the_names};
 ghost use Rattle.wit_entries.specs.Requiring.{IsExtended};
 ghost use Rattle.wit_rules.specs.BorrowedFunctions.{function_view};
-ghost use Rattle.wit_item_names.specs.ForeignAddresses.{prefix_of};
+ghost use Rattle.wit_items.specs.ForeignAddresses.{prefix_of};
 ghost use Rattle.wit_items.specs.BorrowedItems.{item_view, scope_item};
 ghost use Rattle.wit_scopes.specs.PlacedNames.{AreNamesPlaced};
 ghost use Rattle.wit_scopes.specs.BorrowedNames.{name_view};

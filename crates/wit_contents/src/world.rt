@@ -11,7 +11,7 @@ ghost use Rattle.wit_arena.specs.ResolvedArenas.{worlds_at};
 ghost use Rattle.wit_items.specs.BorrowedItems.{declared_view, item_view, others_of};
 ghost use Rattle.wit_items.specs.SourceItems.{metadata_view};
 ghost use Rattle.wit_items.specs.Gathered.{AreItemsOf, IsItemOf};
-ghost use Rattle.wit_uses.specs.NameOrder.{IsTurn};
+ghost use Rattle.wit_item_entries.specs.NameOrder.{IsTurn};
 ghost use Rattle.wit_item_entries.specs.ReachedFaults.{item_stability};
 ghost use Rattle.wit_contents.specs.AddedWorlds.{AddsContent, AddsNamesOf, AddsOne, AddsTo, AddsWorldsAmong, AreIndexed};
 ghost use Rattle.wit_contents.specs.WorldFaults.{FindsNames, FindsSides, FindsWorld, FindsWorlds};

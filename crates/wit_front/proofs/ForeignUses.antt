@@ -20,9 +20,9 @@ use Rattle.wit_scopes.specs.PlacedNames.{AreNamesPlaced}
 use Rattle.wit_items.specs.declared.items.Item.{Item as BorrowedItem}
 use Rattle.wit_items.specs.PlacedItems.{AreItemsPlaced}
 use Rattle.wit_items.specs.BorrowedItems.{names_view}
-use Rattle.wit_item_names.specs.InlineNames.{written_items, side_uses}
+use Rattle.wit_items.specs.NamesInside.{written_items, side_uses}
 use Rattle.wit_items.specs.InlineNames.{inside_view, names_written}
-use Rattle.wit_item_names.proofs.Written.{items_names, uses_written, names_written_in}
+use Rattle.wit_items.proofs.WrittenNames.{items_names, uses_written, names_written_in}
 use Rattle.wit_front.specs.ForeignPrefix.{name_foreign_uses, names_foreign_uses, borrowed_foreign_uses}
 use Rattle.wit_tree.specs.declared.tree.Extern.{Extern}
 use Rattle.wit_syntax.proofs.JoinedItems.{item_foreign_uses}

@@ -26,7 +26,7 @@ use Rattle.wit_rules.specs.Signatures.{AreAllNames}
 use Rattle.wit_entries.specs.EntryFaults.{unless_found}
 use Rattle.wit_signatures.specs.ForeignName.{name_of_id}
 use Rattle.wit_externs.specs.AloneFaults.{words_in}
-use Rattle.wit_uses.specs.NameOrder.{IsTurn}
+use Rattle.wit_item_entries.specs.NameOrder.{IsTurn}
 
 -- once the names of a scope are defined where nothing was, they are on their side
 pub used_before : (side : WorldSide) (old new : Sides) (borrowed ids : List Id) → ((s : WorldSide) → defined_on s old ≡ []) → ((s : WorldSide) → defined_on s new ≡ defined_on s old ++ names_on s (map name_of_id borrowed)) → borrowed ≡ ids → defined_on side new ≡ names_on side (map name_of_id ids)

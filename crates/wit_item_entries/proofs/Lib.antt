@@ -10,3 +10,9 @@ pub mod NoFunctions
 pub mod Owners
 mod PlacedNames
 pub mod InterfaceSides
+mod Calling
+pub mod ResolvedScopes
+pub mod Telling
+pub mod Emitting
+pub mod NameOrder
+pub mod UseFaults

@@ -14,7 +14,7 @@ use Rattle.wit_rules.specs.declared.borrowed.BorrowedFunction.{BorrowedFunction}
 use Rattle.wit_rules.specs.BorrowedFunctions.{function_view}
 use Rattle.wit_signatures.specs.ForeignName.{name_of_id, name_key}
 use Rattle.wit_externs.specs.Clash.{all_on}
-use Rattle.wit_uses.specs.NameOrder.{IsTurn}
+use Rattle.wit_item_entries.specs.NameOrder.{IsTurn}
 use Rattle.wit_item_entries.proofs.OwnKeys.{turn_keys}
 
 pub no_functions : (hs : List BorrowedFunction) → length hs ≡ 0 → map function_view hs ≡ []

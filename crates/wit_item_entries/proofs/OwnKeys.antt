@@ -13,7 +13,7 @@ use Rattle.wit_syntax.proofs.Lists.{map_map}
 use Rattle.wit_syntax.proofs.Turns.{in_turn_distinct}
 use Rattle.wit_refusals.proofs.Cases.{texts-lower, names-folded}
 use Rattle.wit_signatures.specs.ForeignName.{name_of_id, name_key}
-use Rattle.wit_uses.specs.NameOrder.{IsTurn}
+use Rattle.wit_item_entries.specs.NameOrder.{IsTurn}
 use Rattle.wit_item_entries.proofs.FunctionFaults.{turn_texts}
 
 -- the key of a label is the label in lower case

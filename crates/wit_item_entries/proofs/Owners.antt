@@ -17,7 +17,7 @@ use Rattle.wit_syntax.proofs.Turns.{in_turn_has}
 use Rattle.wit_arena.proofs.UsePart.{lookup-listed}
 use Rattle.wit_rules.specs.BorrowedFunctions.{owner_of}
 use Rattle.wit_rules.specs.Signatures.{HasOwner, HaveOwners}
-use Rattle.wit_uses.specs.NameOrder.{IsTurn}
+use Rattle.wit_item_entries.specs.NameOrder.{IsTurn}
 use Rattle.wit_item_entries.proofs.FunctionFaults.{turn_texts}
 use Rattle.wit_syntax.proofs.Externs.{extern_at}
 

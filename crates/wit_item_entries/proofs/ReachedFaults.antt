@@ -45,7 +45,7 @@ use Rattle.wit_scopes.specs.DefinitionOrder.{AreInTurn}
 use Rattle.wit_scopes.proofs.Turning.{none_unknown}
 use Rattle.wit_items.specs.ResolvedInterfaces.{resolved_scopes_of}
 use Rattle.wit_items.specs.declared.interfaces.Interfaces.{Interfaces}
-use Rattle.wit_uses.specs.UseFaults.{local_faults}
+use Rattle.wit_item_entries.specs.UseFaults.{local_faults}
 use Rattle.wit_externs.specs.AloneFaults.{EndsIn, IsSafe}
 use Rattle.wit_item_entries.specs.ReachedFaults.{Reaches, IsFaultless, IsDefinitionsFault, HaveOrdered, IsOrderedFault, HaveNames, IsNamesFault, definitions_fault, ordered_fault, names_fault}
 use Rattle.wit_item_entries.proofs.Handled.{take_after}

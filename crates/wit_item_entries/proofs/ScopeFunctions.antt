@@ -25,9 +25,9 @@ use Rattle.wit_entries.specs.Requiring.{IsExtended, Requires}
 use Rattle.wit_signatures.specs.ForeignName.{name_of_function, name_of_made, name_key}
 use Rattle.wit_externs.specs.Clash.{DifferOnSides, all_on}
 use Rattle.wit_item_entries.specs.AddedNames.{AddsTurn}
-use Rattle.wit_uses.specs.NameOrder.{IsTurn}
+use Rattle.wit_item_entries.specs.NameOrder.{IsTurn}
 use Rattle.wit_item_entries.specs.Body.{AddsBody}
-use Rattle.wit_uses.proofs.NameOrder.{differ_called}
+use Rattle.wit_item_entries.proofs.NameOrder.{differ_called}
 
 -- the names of a scope that was added, in turn
 pub turn_added : (old mid : List TypeDef) (cs : List ResolvedScope) (o : TypeOwner) (xs : List ScopeName) (types : Names) (ids : List Id) (rs : List Required) → AddsTurn old mid cs o xs types ids rs → IsTurn xs ids

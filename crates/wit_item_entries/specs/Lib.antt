@@ -2,3 +2,7 @@ pub mod AddedNames
 pub mod ScopeFunctionFaults
 pub mod Body
 pub mod ReachedFaults
+pub mod NewRequirements
+pub mod NameOrder
+pub mod Uses
+pub mod UseFaults

@@ -24,7 +24,7 @@ use Rattle.wit_items.specs.BorrowedItems.{scope_item}
 use Rattle.wit_items.specs.ResolvedInterfaces.{resolved_scopes_of}
 use Rattle.wit_items.specs.declared.items.ItemScope.{ItemScope}
 use Rattle.wit_items.specs.declared.interfaces.Interfaces.{Interfaces}
-use Rattle.wit_uses.specs.UseFaults.{local_faults}
+use Rattle.wit_item_entries.specs.UseFaults.{local_faults}
 
 -- Once so many of these names were added to others, and some types after them: this is the first fault by each test of names in handles that is
 -- right of that arena.

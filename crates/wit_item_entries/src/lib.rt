@@ -1,4 +1,4 @@
-//! The names and the functions of a scope as entries of the arena of types.
+//! The names of a scope, used ones and definitions, and its functions as entries of the arena of types.
 #![tactic(auto)]
 
 pub mod body;
@@ -7,3 +7,4 @@ pub mod names;
 pub mod own_keys;
 pub mod required;
 pub mod signatures;
+pub mod uses;

@@ -4,13 +4,14 @@ ghost use Rattle.wit_syntax.specs.ScopeTables.{used, local_names};
 ghost use Rattle.wit_syntax.specs.Repeats.{AllDiffer};
 ghost use Rattle.wit_entries.specs.Requiring.{IsExtended};
 ghost use Rattle.wit_scopes.specs.BorrowedNames.{name_view, use_view, definition_view};
-ghost use Rattle.wit_item_names.specs.ForeignAddresses.{prefix_of};
+ghost use Rattle.wit_items.specs.ForeignAddresses.{prefix_of};
 ghost use Rattle.wit_scopes.specs.PlacedNames.{AreNamesPlaced};
 ghost use Rattle.wit_scopes.specs.DefinitionOrder.{AreInTurn};
 ghost use Rattle.wit_arena.specs.Resolving.{env_of, HasNames, names_in};
 ghost use Rattle.wit_item_entries.specs.AddedNames.{AddsNames, DefinesAfter, DefinesIn, DefinitionsRequire};
 ghost use Rattle.wit_item_entries.specs.ReachedFaults.{FindsAt, FindsDefinitions, FindsOrdered, HaveNames, IsNamesFault};
 
+use crate::uses::resolve_uses;
 use std::alloc::Global;
 use wit_definitions::definitions::define;
 use wit_entries::entries::Entries;
@@ -23,7 +24,6 @@ use wit_scopes::scope_name::{DefinedName, ScopeName, UsedName, used_names};
 use wit_tree::ParseResult;
 use wit_tree::tree::Id;
 use wit_types::{TypeId, TypeOwner};
-use wit_uses::uses::resolve_uses;
 
 /// The names of a scope that is resolved.
 #[derive(Drop)]

@@ -9,7 +9,7 @@ ghost use Rattle.wit_rules.specs.BorrowedFunctions.{function_view};
 ghost use Rattle.wit_entries.specs.Requiring.{IsExtended};
 ghost use Rattle.wit_rules.specs.Signatures.{HaveOwners};
 ghost use Rattle.wit_signatures.specs.ForeignName.{name_of_function, name_of_made};
-ghost use Rattle.wit_uses.specs.NameOrder.{IsTurn};
+ghost use Rattle.wit_item_entries.specs.NameOrder.{IsTurn};
 ghost use Rattle.wit_item_entries.specs.Body.{AreNamesInUse};
 ghost use Rattle.wit_item_entries.specs.ScopeFunctionFaults.{FindsSigned};
 ghost use Rattle.wit_scopes.specs.BorrowedNames.{name_view};

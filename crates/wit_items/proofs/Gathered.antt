@@ -8,7 +8,7 @@ use Rattle.wit_syntax.specs.Source.{all_items, scope_names}
 use Rattle.wit_syntax.proofs.Lists.{map_map}
 use Rattle.wit_scopes.specs.PlacedNames.{AreNamesPlaced}
 use Rattle.wit_scopes.proofs.Declaring.{alike}
-use Rattle.wit_item_names.specs.ForeignAddresses.{prefix_of}
+use Rattle.wit_items.specs.ForeignAddresses.{prefix_of}
 use Rattle.wit_items.specs.declared.items.Item.{Item}
 use Rattle.wit_items.specs.PlacedItems.{AreItemsPlaced}
 use Rattle.wit_items.specs.Gathered.{AreItemsOf}

@@ -4,3 +4,8 @@ pub mod Written
 pub mod Documented
 pub mod Found
 pub mod Gathered
+mod Finding
+pub mod Others
+mod PlacedNames
+pub mod UsableNames
+pub mod WrittenNames

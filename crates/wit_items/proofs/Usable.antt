@@ -22,10 +22,10 @@ use Rattle.wit_first.proofs.FileFaults.{lost_at}
 use Rattle.wit_top_names.proofs.Lost.{at_flat}
 use Rattle.wit_files.specs.FileNames.{names_at_top}
 use Rattle.wit_items.specs.declared.items.Item.{Item as Borrowed}
-use Rattle.wit_item_names.specs.ItemPaths.{HasItem}
+use Rattle.wit_items.specs.ItemPaths.{HasItem}
 use Rattle.wit_items.specs.BorrowedItems.{declared_view, IsFiled, AreFiled, HaveSoundUses}
-use Rattle.wit_item_names.proofs.Others.{used_visited}
-use Rattle.wit_item_names.proofs.Usable.{path_of_use}
+use Rattle.wit_items.proofs.Others.{used_visited}
+use Rattle.wit_items.proofs.UsableNames.{path_of_use}
 use Rattle.wit_items.proofs.Written.{right_use}
 
 -- items of files, one more

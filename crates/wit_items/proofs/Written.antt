@@ -23,10 +23,10 @@ use Rattle.wit_first.proofs.Bridge.{in_only, or_none_both}
 use Rattle.wit_first.proofs.First.{in-append}
 use Rattle.wit_scopes.specs.BorrowedNames.{name_view}
 use Rattle.wit_items.specs.declared.items.Item.{Item as Borrowed}
-use Rattle.wit_item_names.specs.InlineNames.{written_items, side_uses}
+use Rattle.wit_items.specs.NamesInside.{written_items, side_uses}
 use Rattle.wit_items.specs.InlineNames.{names_written, inside_view}
-use Rattle.wit_item_names.proofs.Usable.{among_flat}
-use Rattle.wit_item_names.proofs.Written.{items_names, names_written_in}
+use Rattle.wit_items.proofs.UsableNames.{among_flat}
+use Rattle.wit_items.proofs.WrittenNames.{items_names, names_written_in}
 
 pub items_uses : (xs : List InterfaceItem) → flat_map part_uses (map interface_part xs) ≡ flat_map item_uses xs
 items_uses [] = refl

@@ -10,7 +10,7 @@ use Rattle.wit_items.specs.declared.items.Declared.TheVariants as borrowed_item
 use Rattle.wit_items.specs.declared.items.Item.{Item as Borrowed}
 use Rattle.wit_items.specs.declared.items.ItemScope.{ItemScope as BorrowedScope}
 use Rattle.wit_scopes.specs.BorrowedNames.{name_view}
-use Rattle.wit_item_names.specs.ItemPaths.{AreSound}
+use Rattle.wit_items.specs.ItemPaths.{AreSound}
 
 -- the interface or the world that is borrowed
 abbrev pub declared_view : BorrowedDeclared → Declared

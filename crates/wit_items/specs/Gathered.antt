@@ -3,7 +3,7 @@ use Rattle.std.specs.Prelude.{◌≡◌, ℕ, List, [], ◌∷◌, Some, slice_g
 use Rattle.wit_tree.specs.declared.tree.PackageFile.{PackageFile}
 use Rattle.wit_tree.specs.declared.tree.WorldSide.{WorldSide}
 use Rattle.wit_syntax.specs.Source.{scope_names}
-use Rattle.wit_item_names.specs.ForeignAddresses.{prefix_of}
+use Rattle.wit_items.specs.ForeignAddresses.{prefix_of}
 use Rattle.wit_items.specs.declared.items.Item.{Item}
 use Rattle.wit_items.specs.PlacedItems.{AreItemsPlaced}
 use Rattle.wit_items.specs.InlineNames.{inside_view, names_written}

@@ -7,7 +7,7 @@ use Rattle.wit_syntax.specs.Source.{Item, ScopeName}
 use Rattle.wit_syntax.specs.Sides.{side_items, items_on}
 use Rattle.wit_scopes.specs.BorrowedNames.{name_view}
 use Rattle.wit_items.specs.declared.items.Item.{Item as Borrowed}
-use Rattle.wit_item_names.specs.InlineNames.{inline_names}
+use Rattle.wit_items.specs.NamesInside.{inline_names}
 
 -- those of the interfaces that are written on a side of an item
 abbrev pub names_written : WorldSide → Item → List (List ScopeName)

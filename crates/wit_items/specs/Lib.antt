@@ -6,3 +6,6 @@ pub mod SourceItems
 pub mod ResolvedInterfaces
 pub mod Found
 pub mod Gathered
+pub mod ItemPaths
+pub mod NamesInside
+pub mod ForeignAddresses

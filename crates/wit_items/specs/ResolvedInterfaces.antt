@@ -2,7 +2,7 @@
 use Rattle.std.specs.Prelude.{List}
 use Rattle.wit_items.specs.declared.interfaces.Interfaces.{Interfaces}
 use Rattle.wit_arena.specs.Resolving.{ResolvedScope, resolved_scopes}
-use Rattle.wit_item_names.specs.ForeignAddresses.{prefix_of}
+use Rattle.wit_items.specs.ForeignAddresses.{prefix_of}
 
 -- the scopes of the interfaces that were resolved: those of other packages come first
 abbrev pub resolved_scopes_of : Interfaces → List ResolvedScope

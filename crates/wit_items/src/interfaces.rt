@@ -1,9 +1,9 @@
 //! The interfaces that are resolved, of this package and of other ones.
 ghost use Rattle.std.specs.Prelude.{◌≤◌, length};
-ghost use Rattle.wit_item_names.specs.ForeignAddresses.{prefix_of};
+ghost use Rattle.wit_items.specs.ForeignAddresses.{prefix_of};
 ghost use Rattle.wit_items.specs.Found.{AreFound, interface_name};
 
-use wit_item_names::files::Files;
+use crate::files::Files;
 use wit_maps::TextTable;
 use wit_model::Interface;
 use wit_types::{Arena, InterfaceId, InterfacePlace};

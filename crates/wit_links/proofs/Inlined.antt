@@ -14,7 +14,7 @@ use Rattle.wit_syntax.specs.Source.{Item, ScopeName, TopName, interface_part, pa
 use Rattle.wit_syntax.specs.Sides.{SideItem, SideFunction, SideLink, SideInline, inline_item, item_inline, item_side, items_on, side_items}
 use Rattle.wit_syntax.proofs.Addresses.{side_itself}
 use Rattle.wit_syntax.proofs.Lists.{at_back}
-use Rattle.wit_item_names.specs.InlineNames.{inline_names}
+use Rattle.wit_items.specs.NamesInside.{inline_names}
 use Rattle.wit_items.specs.InlineNames.{names_written}
 
 -- there are as many lists of names as interfaces

@@ -19,7 +19,7 @@ use Rattle.wit_arena.specs.Resolving.{ResolvedScope, Names, env_of, resolved_sco
 use Rattle.wit_arena.specs.ResolvedArenas.{interfaces_at}
 use Rattle.wit_arena.proofs.Interfaces.{place_at-found}
 use Rattle.wit_arena.proofs.Visits.{interfaces_differ}
-use Rattle.wit_item_names.specs.ForeignAddresses.{prefix_of}
+use Rattle.wit_items.specs.ForeignAddresses.{prefix_of}
 use Rattle.wit_items.specs.Found.{AreFound, interface_name}
 use Rattle.wit_items.proofs.Found.{found_resolved_scope}
 use Rattle.wit_scopes.specs.BorrowedNames.{source_view, IsPlaced}

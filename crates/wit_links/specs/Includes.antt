@@ -10,7 +10,7 @@ use Rattle.wit_first.specs.AttributeFaults.{stability_fault}
 use Rattle.wit_first.specs.First.{first_in}
 use Rattle.wit_arena.specs.ResolvedArenas.{worlds_at}
 use Rattle.wit_files.specs.FileNames.{top_at}
-use Rattle.wit_item_names.specs.ItemPaths.{world_at}
+use Rattle.wit_items.specs.ItemPaths.{world_at}
 use Rattle.wit_items.specs.BorrowedItems.{others_of}
 use Rattle.wit_links.specs.declared.worlds.Worlds.{Worlds}
 

@@ -10,7 +10,7 @@ use Rattle.wit_syntax.specs.Source.{Target, Local, Foreign, leads, path_scope, T
 use Rattle.wit_first.specs.UseFaults.{path_fault}
 use Rattle.wit_arena.specs.Whole.{place_at}
 use Rattle.wit_arena.specs.Resolving.{Names, env_of}
-use Rattle.wit_item_names.specs.ForeignAddresses.{prefix_of}
+use Rattle.wit_items.specs.ForeignAddresses.{prefix_of}
 use Rattle.wit_scopes.specs.declared.scope_name.Source.{Source as BorrowedSource}
 use Rattle.wit_scopes.specs.declared.scope_name.Source.TheVariants as borrowed_source
 

@@ -5,14 +5,14 @@ ghost use Rattle.wit_syntax.specs.Source.{leads, TheWorld, IncludePart, about};
 ghost use Rattle.wit_syntax.specs.Words.{interface_words};
 ghost use Rattle.wit_first.specs.First.{Finds};
 ghost use Rattle.wit_arena.specs.Whole.{renamed, IsInclude, AreIncludes};
-ghost use Rattle.wit_item_names.specs.ItemPaths.{HasItem, HasPart, world_entry, world_at};
+ghost use Rattle.wit_items.specs.ItemPaths.{HasItem, HasPart, world_entry, world_at};
 ghost use Rattle.wit_items.specs.BorrowedItems.{declared_view};
 ghost use Rattle.wit_links.specs.Includes.{addresses_of, included_fault, includes_fault, item_in, top_of};
 
 use crate::worlds::Worlds;
 use std::alloc::{AllocError, Global};
-use wit_item_names::resolved_path::entry_of;
 use wit_items::items::Declared;
+use wit_items::resolved_path::entry_of;
 use wit_model::{AstItem as Entry, IncludeName, WorldInclude};
 use wit_notes::attributes::check_stability;
 use wit_notes::{path_id, stated_stability};

@@ -4,13 +4,13 @@ ghost use Rattle.wit_syntax.specs.Address.{is_foreign};
 ghost use Rattle.wit_syntax.specs.Source.{Local, leads, path_scope};
 ghost use Rattle.wit_first.specs.First.{Finds};
 ghost use Rattle.wit_files.specs.FileNames.{top_at};
-ghost use Rattle.wit_item_names.specs.ItemPaths.{HasPath};
+ghost use Rattle.wit_items.specs.ItemPaths.{HasPath};
 ghost use Rattle.wit_links.specs.Links.{IsLinkedTo, linked_fault, source_place};
 
 use std::alloc::Global;
-use wit_item_names::files::Files;
-use wit_item_names::resolved_path::{ResolvedPath, resolve_path};
+use wit_items::files::Files;
 use wit_items::interfaces::Interfaces;
+use wit_items::resolved_path::{ResolvedPath, resolve_path};
 use wit_notes::path_id;
 use wit_refusals::refusal::{refuse_missing, refuse_world};
 use wit_scopes::scope_name::Source;

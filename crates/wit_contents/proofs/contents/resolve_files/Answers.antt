@@ -14,9 +14,9 @@ use Rattle.wit_items.proofs.Usable.{uses_sound}
 use Rattle.wit_items.specs.Found.{interface_name}
 use Rattle.wit_items.proofs.Found.{found_none}
 use Rattle.wit_items.proofs.Gathered.{items_of}
-use Rattle.wit_item_names.specs.ForeignAddresses.{prefix_of}
+use Rattle.wit_items.specs.ForeignAddresses.{prefix_of}
 use Rattle.wit_front.specs.ForeignPrefix.{IsPrefix}
-use Rattle.wit_uses.specs.NewRequirements.{Appends}
+use Rattle.wit_item_entries.specs.NewRequirements.{Appends}
 use Rattle.wit_contents.specs.Outer.{AreOuter}
 use Rattle.wit_contents.proofs.Outer.{all_outer}
 use Rattle.wit_contents.specs.AddedWorlds.{arenas}

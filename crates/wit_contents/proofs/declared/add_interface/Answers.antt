@@ -1,6 +1,6 @@
 use Rattle.std.proofs.Common.{[], ◌∷◌, length}
 use Rattle.wit_arena.proofs.Indexing.{index_interface}
-use Rattle.wit_item_names.specs.ForeignAddresses.{prefix_of}
+use Rattle.wit_items.specs.ForeignAddresses.{prefix_of}
 use Rattle.wit_items.specs.Found.{interface_name}
 use Rattle.wit_items.proofs.Found.{found_put, found_wider, prefix_wider}
 use Rattle.wit_contents.proofs.declared.add_interface.Goals as goal

@@ -5,7 +5,7 @@ use Rattle.wit_syntax.specs.Source.{Item, is_world, scope_names, about}
 use Rattle.wit_arena.specs.ResolvedArenas.{AddsInterface}
 use Rattle.wit_items.specs.BorrowedItems.{item_view}
 use Rattle.wit_items.specs.ResolvedInterfaces.{resolved_scopes_of}
-use Rattle.wit_uses.specs.NewRequirements.{Appends}
+use Rattle.wit_item_entries.specs.NewRequirements.{Appends}
 use Rattle.wit_contents.specs.InterfaceFaults.{IsLent}
 use Rattle.wit_contents.proofs.declared.resolve_interface.Goals as goal
 

@@ -10,12 +10,12 @@ use Rattle.wit_syntax.specs.ScopeTables.{in_order, interfaces_of}
 use Rattle.wit_first.specs.First.{first_in}
 use Rattle.wit_first.proofs.First.{in-append, in-more, reports_prefix, reports_same}
 use Rattle.wit_arena.specs.ResolvedArenas.{AddsDeclared, IsNext}
-use Rattle.wit_item_names.specs.ForeignAddresses.{prefix_of}
-use Rattle.wit_uses.specs.NewRequirements.{Appends}
+use Rattle.wit_items.specs.ForeignAddresses.{prefix_of}
+use Rattle.wit_item_entries.specs.NewRequirements.{Appends}
 use Rattle.wit_items.specs.declared.items.Item.{Item as BorrowedItem}
 use Rattle.wit_syntax.proofs.Lists.{read_map}
 use Rattle.wit_syntax.proofs.Kept.{kept_next, kept_past}
-use Rattle.wit_uses.proofs.Emitting.{appends_more}
+use Rattle.wit_item_entries.proofs.Emitting.{appends_more}
 use Rattle.wit_items.specs.declared.items.Declared.{Declared as BorrowedDeclared}
 use Rattle.wit_items.specs.BorrowedItems.{declared_view, item_view}
 use Rattle.wit_contents.proofs.declared.resolve_interfaces.Goals.{in-Interface+in_ok-resolve_interface-in-Interface, in-World, in-Inline}

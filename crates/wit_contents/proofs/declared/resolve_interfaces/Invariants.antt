@@ -5,9 +5,9 @@ use Rattle.wit_syntax.specs.Source.{Item}
 use Rattle.wit_first.specs.First.{first_in}
 use Rattle.wit_arena.specs.Resolving.{resolved_scopes, IsIndex}
 use Rattle.wit_arena.specs.ResolvedArenas.{AddsInterfaces}
-use Rattle.wit_item_names.specs.ForeignAddresses.{prefix_of}
+use Rattle.wit_items.specs.ForeignAddresses.{prefix_of}
 use Rattle.wit_items.specs.BorrowedItems.{item_view}
-use Rattle.wit_uses.specs.NewRequirements.{Appends}
+use Rattle.wit_item_entries.specs.NewRequirements.{Appends}
 use Rattle.wit_contents.specs.InterfaceFaults.{AreRightOf}
 use Rattle.wit_contents.proofs.declared.resolve_interfaces.Given as goal
 

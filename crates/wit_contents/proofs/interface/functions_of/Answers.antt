@@ -15,7 +15,7 @@ use Rattle.wit_externs.specs.AloneFaults.{lone_setters}
 use Rattle.wit_externs.proofs.AloneFaults.{safe_of}
 use Rattle.wit_externs.specs.Clash.{all_on}
 use Rattle.wit_items.specs.BorrowedItems.{scope_item, declared_view}
-use Rattle.wit_uses.specs.NameOrder.{IsTurn}
+use Rattle.wit_item_entries.specs.NameOrder.{IsTurn}
 use Rattle.wit_item_entries.specs.Body.{HasNames, functions_in}
 use Rattle.wit_item_entries.proofs.InterfaceSides.{all_imported, names_imported}
 use Rattle.wit_item_entries.proofs.ScopeFunctions.{turn_added, made_differ}

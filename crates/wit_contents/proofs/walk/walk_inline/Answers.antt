@@ -7,7 +7,7 @@ use Rattle.wit_syntax.specs.Sides.{inline_after, inline_item, item_inline, items
 use Rattle.wit_syntax.specs.Source.{Item, TheInline, is_world}
 use Rattle.wit_first.specs.AttributeFaults.{metadata_fault}
 use Rattle.wit_first.proofs.First.{none_both}
-use Rattle.wit_item_names.specs.ForeignAddresses.{prefix_of}
+use Rattle.wit_items.specs.ForeignAddresses.{prefix_of}
 use Rattle.wit_scopes.specs.BorrowedNames.{name_view}
 use Rattle.wit_items.specs.InlineNames.{inside_view}
 use Rattle.wit_items.specs.BorrowedItems.{scope_item}

@@ -8,7 +8,7 @@ use Rattle.wit_first.specs.AttributeFaults.{metadata_fault}
 use Rattle.wit_arena.specs.ResolvedArenas.{interfaces_at}
 use Rattle.wit_externs.proofs.Steps.{at_middle}
 use Rattle.wit_files.specs.FileNames.{names_at_top, top_at}
-use Rattle.wit_item_names.specs.ForeignAddresses.{prefix_of}
+use Rattle.wit_items.specs.ForeignAddresses.{prefix_of}
 use Rattle.wit_items.specs.BorrowedItems.{declared_view}
 use Rattle.wit_items.proofs.Usable.{filed_item}
 use Rattle.wit_world_sides.specs.Members.{path_link}

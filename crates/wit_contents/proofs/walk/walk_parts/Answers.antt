@@ -6,7 +6,7 @@ use Rattle.std.proofs.lemmas.Result.{err_from_is_err_and}
 use Rattle.wit_tree.specs.declared.tree.WorldItem.{WorldItem}
 use Rattle.wit_syntax.specs.Sides.{SideItem, extern_items, part_items, side_items}
 use Rattle.wit_syntax.specs.Source.{DefinitionPart, world_part}
-use Rattle.wit_item_names.proofs.Usable.{parts_more}
+use Rattle.wit_items.proofs.UsableNames.{parts_more}
 use Rattle.wit_contents.specs.Walk.{AddsMembers, stage, walk_item, walk_of}
 use Rattle.wit_contents.proofs.MemberFaults.{HaveNone, first_later, none_first, none_later}
 use Rattle.wit_contents.proofs.PartItems.{all_sides, parts_split, world_sides}

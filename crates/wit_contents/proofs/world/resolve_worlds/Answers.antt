@@ -4,7 +4,7 @@ use Rattle.std.proofs.lemmas.List.{take_all}
 use Rattle.std.proofs.lemmas.Option.{slice_get-get_or}
 use Rattle.std.proofs.lemmas.Result.{err_from_is_err_and}
 use Rattle.wit_items.specs.declared.items.Item.{Item as BorrowedItem}
-use Rattle.wit_item_names.specs.ForeignAddresses.{prefix_of}
+use Rattle.wit_items.specs.ForeignAddresses.{prefix_of}
 use Rattle.wit_syntax.specs.Source.{is_world, about}
 use Rattle.wit_syntax.specs.ScopeTables.{in_order, worlds_of}
 use Rattle.wit_first.specs.First.{first_in}

@@ -5,7 +5,7 @@ use Rattle.wit_syntax.specs.Source.{Item}
 use Rattle.wit_first.specs.First.{first_in}
 use Rattle.wit_arena.specs.Resolving.{IsWorldIndex}
 use Rattle.wit_arena.specs.ResolvedArenas.{worlds_at}
-use Rattle.wit_item_names.specs.ForeignAddresses.{prefix_of}
+use Rattle.wit_items.specs.ForeignAddresses.{prefix_of}
 use Rattle.wit_items.specs.BorrowedItems.{item_view, others_of}
 use Rattle.wit_contents.specs.WorldFaults.{AreRightOfWorlds}
 use Rattle.wit_contents.proofs.WorldsMore.{AreWorldsTo}

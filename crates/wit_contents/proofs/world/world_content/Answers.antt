@@ -17,7 +17,7 @@ use Rattle.wit_items.specs.BorrowedItems.{item_view, others_of}
 use Rattle.wit_items.proofs.Usable.{filed_item}
 use Rattle.wit_item_entries.proofs.ScopeFunctions.{turn_added}
 use Rattle.wit_scopes.specs.BorrowedNames.{name_view}
-use Rattle.wit_uses.specs.NameOrder.{IsTurn}
+use Rattle.wit_item_entries.specs.NameOrder.{IsTurn}
 use Rattle.wit_world_sides.proofs.Putting.{keyed_differ}
 use Rattle.wit_contents.specs.Walk.{walk_of}
 use Rattle.wit_contents.specs.WorldWalk.{IsWalkOf}

@@ -2,7 +2,7 @@ use Rattle.std.proofs.Common.{◌≡◌, map, sym, ap, ◌∙◌, subst, refl}
 use Rattle.wit_syntax.specs.Source.{scope_names}
 use Rattle.wit_scopes.specs.BorrowedNames.{name_view}
 use Rattle.wit_scopes.specs.PlacedNames.{AreNamesPlaced}
-use Rattle.wit_item_names.specs.ForeignAddresses.{prefix_of}
+use Rattle.wit_items.specs.ForeignAddresses.{prefix_of}
 use Rattle.wit_items.specs.BorrowedItems.{item_view}
 use Rattle.wit_contents.proofs.world.world_names.Goals as goal
 

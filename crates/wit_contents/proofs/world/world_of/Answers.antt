@@ -3,7 +3,7 @@ use Rattle.std.proofs.lemmas.Result.{err_from_is_err_and}
 use Rattle.wit_type_tree.specs.declared.leaves.Id.{Id}
 use Rattle.wit_syntax.specs.Source.{about, declared_metadata}
 use Rattle.wit_items.specs.BorrowedItems.{item_view}
-use Rattle.wit_uses.proofs.Telling.{world_stated}
+use Rattle.wit_item_entries.proofs.Telling.{world_stated}
 use Rattle.wit_arena.specs.UnfoldedTypes.{IsWorld}
 use Rattle.wit_items.specs.SourceItems.{metadata_view}
 use Rattle.wit_contents.specs.AddedWorlds.{HasContent}

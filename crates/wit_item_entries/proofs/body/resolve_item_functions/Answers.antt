@@ -12,7 +12,7 @@ use Rattle.wit_signatures.specs.ForeignName.{name_of_function}
 use Rattle.wit_externs.specs.Clash.{DifferOnSides}
 use Rattle.wit_items.specs.BorrowedItems.{declared_view}
 use Rattle.wit_scopes.specs.BorrowedNames.{name_view}
-use Rattle.wit_uses.specs.NameOrder.{IsTurn}
+use Rattle.wit_item_entries.specs.NameOrder.{IsTurn}
 use Rattle.wit_item_entries.specs.ScopeFunctionFaults.{functions_fault}
 use Rattle.wit_item_entries.specs.Body.{functions_in}
 use Rattle.wit_item_entries.proofs.InterfaceSides.{declared_functions, declared_interface}

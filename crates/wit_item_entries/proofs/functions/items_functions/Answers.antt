@@ -5,7 +5,7 @@ use Rattle.wit_tree.specs.declared.tree.InterfaceItem.{InterfaceItem}
 use Rattle.wit_syntax.specs.Source.{interface_part}
 use Rattle.wit_syntax.specs.Function.{SourceFunction, definition_functions, free_function, part_functions}
 use Rattle.wit_rules.specs.BorrowedFunctions.{function_view}
-use Rattle.wit_item_names.proofs.Usable.{parts_more}
+use Rattle.wit_items.proofs.UsableNames.{parts_more}
 use Rattle.wit_item_entries.proofs.functions.items_functions.Goals.{in-TypeDef+in_ok-add_definition-in-TypeDef, in-Func+in_ok-push-in-Func, in-Use}
 use Rattle.wit_item_entries.proofs.functions.items_functions.Goals as goal
 

@@ -15,9 +15,9 @@ use Rattle.wit_entries.proofs.Requiring.{extended_then}
 use Rattle.wit_scopes.specs.BorrowedNames.{name_view, own_use, use_view}
 use Rattle.wit_scopes.proofs.Placed.{uses_placed}
 use Rattle.wit_scopes.proofs.UsedNames.{uses_viewed}
-use Rattle.wit_item_names.specs.ForeignAddresses.{prefix_of}
+use Rattle.wit_items.specs.ForeignAddresses.{prefix_of}
 use Rattle.wit_items.specs.ResolvedInterfaces.{resolved_scopes_of}
-use Rattle.wit_uses.specs.UseFaults.{local_faults}
+use Rattle.wit_item_entries.specs.UseFaults.{local_faults}
 use Rattle.wit_item_entries.specs.ReachedFaults.{IsNamesFault, IsOrderedFault}
 use Rattle.wit_item_entries.proofs.ReachedFaults.{by_weaker, types_first, types_none, used_first}
 use Rattle.wit_item_entries.specs.AddedNames.{DefinesTurn}

@@ -25,7 +25,7 @@ use Rattle.wit_signatures.specs.ForeignName.{name_key, name_of_id}
 use Rattle.wit_externs.specs.AloneFaults.{again, alone_faults, defined_fault, words_in}
 use Rattle.wit_externs.specs.Clash.{all_on, names_of_items}
 use Rattle.wit_scopes.specs.BorrowedNames.{name_view}
-use Rattle.wit_uses.specs.NameOrder.{IsTurn}
+use Rattle.wit_item_entries.specs.NameOrder.{IsTurn}
 use Rattle.wit_item_entries.proofs.FunctionFaults.{all_names, used_before, words_same}
 use Rattle.wit_item_entries.proofs.NoFunctions.{names_alone, no_functions}
 use Rattle.wit_item_entries.proofs.OwnKeys.{turn_keys}

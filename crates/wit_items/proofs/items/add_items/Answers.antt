@@ -20,10 +20,10 @@ use Rattle.wit_top_names.proofs.Lost.{flat_more}
 use Rattle.wit_scopes.specs.PlacedNames.{AreNamesPlaced}
 use Rattle.wit_scopes.proofs.Declaring.{one_more}
 use Rattle.wit_items.specs.BorrowedItems.{item_view, names_view}
-use Rattle.wit_item_names.specs.InlineNames.{side_uses}
+use Rattle.wit_items.specs.NamesInside.{side_uses}
 use Rattle.wit_items.specs.InlineNames.{inside_view, names_written}
 use Rattle.wit_items.proofs.Placed.{item_placed, none_all, items_more}
-use Rattle.wit_item_names.proofs.Usable.{use_has_path}
+use Rattle.wit_items.proofs.UsableNames.{use_has_path}
 use Rattle.wit_items.proofs.Usable.{declared_among, item_among, item_here, filed_more}
 use Rattle.wit_items.proofs.Written.{items_uses, interface_uses, world_uses, interface_inside, inside_is}
 use Rattle.wit_items.proofs.items.add_items.Goals.{in-Interface+in_ok-interface_names-in-Interface+in_ok-push-in-Interface, in-World+in_ok-world_names-in-World+in_ok-names_inside-in-World+in_ok-names_inside-in-World-2+in_ok-push-in-World, in-Use}

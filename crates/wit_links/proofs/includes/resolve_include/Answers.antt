@@ -8,8 +8,8 @@ use Rattle.wit_first.specs.AttributeFaults.{stability_fault}
 use Rattle.wit_first.proofs.First.{none_both, reports_back, reports_prefix}
 use Rattle.wit_arena.specs.Whole.{renamed}
 use Rattle.wit_files.specs.FileNames.{top_at}
-use Rattle.wit_item_names.specs.ItemPaths.{world_at}
-use Rattle.wit_item_names.proofs.Others.{world_found}
+use Rattle.wit_items.specs.ItemPaths.{world_at}
+use Rattle.wit_items.proofs.Others.{world_found}
 use Rattle.wit_items.proofs.Found.{worlds_found}
 use Rattle.wit_links.proofs.includes.resolve_include.Goals as goal
 

@@ -11,7 +11,7 @@ use Rattle.wit_first.proofs.FileFaults.{lost_at}
 use Rattle.wit_first.proofs.First.{none_both, reports_back, reports_prefix}
 use Rattle.wit_arena.specs.Resolving.{env_of}
 use Rattle.wit_files.specs.FileNames.{top_at}
-use Rattle.wit_item_names.specs.ForeignAddresses.{prefix_of}
+use Rattle.wit_items.specs.ForeignAddresses.{prefix_of}
 use Rattle.wit_links.specs.Links.{interface_place, unresolved_fault}
 use Rattle.wit_links.proofs.Leading.{path_usable, resolved_none, source_local, source_placed, unresolved_none}
 use Rattle.wit_links.proofs.links.linked_place.Goals as goal

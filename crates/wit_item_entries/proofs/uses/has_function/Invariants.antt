@@ -1,0 +1,5 @@
+use Rattle.wit_item_entries.proofs.Calling.{AreOthers}
+use Rattle.wit_item_entries.proofs.uses.has_function.Given as goal
+
+abbrev pub invariant-loop-place : goal.invariant-loop-place
+invariant-loop-place l = AreOthers l.functions l.place l.name

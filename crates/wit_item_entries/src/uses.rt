@@ -1,0 +1,166 @@
+//! Names that a scope uses from interfaces.
+ghost use Rattle.std.specs.Prelude.{◌≡◌, ◌↔◌, [], Contains, Some, map, OnOk, IfOk, IsTrue, string_bytes};
+ghost use Rattle.std.specs.List.{flat_map};
+ghost use Rattle.std.specs.Option.{option_copied, option_or, option_to_list};
+ghost use Rattle.wit_syntax.specs.Source.{local_id};
+ghost use Rattle.wit_syntax.specs.ScopeTables.{local_names};
+ghost use Rattle.wit_syntax.specs.Words.{used_words};
+ghost use Rattle.wit_first.specs.First.{Finds, Reports};
+ghost use Rattle.wit_arena.specs.SourceFunctions.{freestanding_names};
+ghost use Rattle.wit_entries.specs.Requiring.{IsExtended};
+ghost use Rattle.wit_scopes.specs.BorrowedNames.{source_view, use_view, IsPlaced, ArePlaced};
+ghost use Rattle.wit_items.specs.ForeignAddresses.{prefix_of};
+ghost use Rattle.wit_items.specs.ResolvedInterfaces.{resolved_scopes_of};
+ghost use Rattle.wit_arena.specs.Resolving.{resolved_scope_at, env_of, free_functions, HasNames, IsFound, names_in};
+ghost use Rattle.wit_item_entries.specs.UseFaults.{interface_of, local_faults, lost_name, source_fault, spelled_fault, used_fault};
+ghost use Rattle.wit_item_entries.specs.Uses.{AddsAllUsed, AddsUsed};
+
+use std::alloc::{AllocError, Global};
+use wit_entries::entries::Entries;
+use wit_entries::scope::Scope;
+use wit_items::interfaces::Interfaces;
+use wit_maps::TextTable;
+use wit_model::{Function, FunctionKind, Interface};
+use wit_names::prefix::rest_after;
+use wit_notes::stated_metadata;
+use wit_refusals::refusal::{refuse_in, refuse_missing};
+use wit_refusals::repeat_words::defined_twice;
+use wit_scopes::scope_name::{Source, UsedName, local_of};
+use wit_tree::tree::Id;
+use wit_tree::{ParseError, ParseResult};
+use wit_types::{Type, TypeDefKind};
+
+/// The interface that a name comes from.
+fn used_interface<'i>(
+    alloc: Global,
+    from: &Source<'_, '_>,
+    interfaces: &'i Interfaces<'_, '_, '_, '_>,
+) -> ParseResult<&'i Interface>
+    requires placed { IsPlaced (prefix_of interfaces.now.files) from.now }
+    ensures found { IfOk result (λ i. IsFound (resolved_scopes_of interfaces.now) (source_view from.now) (resolved_scope_at (source_view from.now) i.now)) }
+    ensures at { IfOk result (λ i. interface_of interfaces.now from.now ≡ Some i.now) }
+    ensures first { Finds (source_fault interfaces.now.by_name from.now) result }
+{
+    match from {
+        Source::Declared(path) => match interfaces.by_name.get(path.name) {
+            Some(id) => Ok(interfaces.arena.get(*id)),
+            None => Err(refuse_missing(alloc, 7, "interface or world", *path)),
+        },
+        Source::Foreign { place, .. } => {
+            let id = interfaces.arena.id_at(*place);
+            Ok(interfaces.arena.get(id))
+        }
+    }
+}
+
+/// The written name of a function that is one by itself.
+fn free_name(function: &Function) -> Option<&str>
+    ensures { option_to_list (option_copied result) ≡ freestanding_names function.now.kind function.now.name }
+{
+    let called = function.name.as_str();
+    match function.kind {
+        FunctionKind::Freestanding | FunctionKind::AsyncFreestanding => Some(called),
+        FunctionKind::Getter => rest_after(called, "[get]"),
+        FunctionKind::Setter => rest_after(called, "[set]"),
+        _ => None,
+    }
+}
+
+/// Whether a function is one by itself, of this written name.
+fn is_called(function: &Function, name: &str) -> bool
+    ensures { IsTrue result ↔ Contains (freestanding_names function.now.kind function.now.name) name.now }
+{
+    match free_name(function) {
+        Some(written) => written == name,
+        None => false,
+    }
+}
+
+/// Whether a function of an interface, one by itself, has a name.
+fn has_function(functions: &TextTable<Function>, name: &str) -> bool
+    ensures { IsTrue result ↔ Contains (flat_map (λ f. freestanding_names f.1.kind f.1.name) functions.now) name.now }
+{
+    for place in 0..functions.len() {
+        if let Some((_, function)) = functions.get_index(place) {
+            if is_called(function, name) {
+                return true;
+            }
+        }
+    }
+    false
+}
+
+/// The words for a function that is used as a name.
+fn function_used(alloc: Global, name: &str) -> Result<String, AllocError>
+    ensures { IfOk result (λ words. string_bytes words ≡ used_words name.now) }
+{
+    format!(in alloc; "cannot import function `{name}`")
+}
+
+/// The refusal of a used name that is none of the interface's: that of a function (13), or of
+/// nothing (12).
+#[cold]
+#[inline(never)]
+fn refuse_used(alloc: Global, interface: &Interface, name: Id<'_>) -> ParseError
+    ensures { Reports (Some (lost_name (free_functions interface.now) name.entry)) result }
+{
+    if has_function(&interface.functions, name.name) {
+        return refuse_in(13, name.span, function_used(alloc, name.name));
+    }
+    refuse_missing(alloc, 12, "name", name)
+}
+
+/// Adds a name that is used from an interface.
+fn resolve_use<'f, 'a>(
+    alloc: Global,
+    used: &UsedName<'f, 'a>,
+    types: &mut Entries,
+    interfaces: &Interfaces<'_, '_, '_, '_>,
+    scope: &mut Scope,
+) -> ParseResult<()>
+    requires placed { IsPlaced (prefix_of interfaces.now.files) used.now.from }
+    ensures used { OnOk result (AddsUsed interfaces.now scope.old scope.new types.old types.new used.now) }
+    ensures owner { OnOk result (scope.new.owner ≡ scope.old.owner) }
+    ensures required { scope.new.required ≡ scope.old.required }
+    ensures extended { OnOk result (IsExtended types.old types.new) }
+    ensures first { Finds (option_or (used_fault interfaces.now used.now) (spelled_fault scope.old.names (local_id (use_view used.now)))) result }
+{
+    let name = used.name;
+    let interface = used_interface(alloc, &used.from, interfaces)?;
+    let original = match interface.types.get(name.name.name) {
+        Some(original) => *original,
+        None => return Err(refuse_used(alloc, interface, name.name)),
+    };
+    let local = local_of(name);
+    if scope.names.get(local.name).is_some() {
+        return Err(refuse_in(14, local.span, defined_twice(alloc, "name", local.name)));
+    }
+    let metadata = stated_metadata(alloc, used.attributes)?;
+    let kind = TypeDefKind::Type_(Type::Id(original));
+    scope.declare(alloc, types, local.name, metadata, name.name.span, kind)?;
+    Ok(())
+}
+
+/// Adds the names that a scope uses, in source order.
+pub fn resolve_uses<'f, 'a>(
+    alloc: Global,
+    uses: &[UsedName<'f, 'a>],
+    types: &mut Entries,
+    interfaces: &Interfaces<'_, '_, '_, '_>,
+    scope: &mut Scope,
+) -> ParseResult<()>
+    requires placed { ArePlaced (prefix_of interfaces.now.files) uses.now }
+    requires empty { scope.old.names ≡ [] }
+    ensures defines { OnOk result (AddsAllUsed interfaces.now scope.old scope.new types.old types.new (map use_view uses.now)) }
+    ensures owner { OnOk result (scope.new.owner ≡ scope.old.owner) }
+    ensures listed { OnOk result (names_in scope.new.names ≡ local_names (map use_view uses.now)) }
+    ensures required { scope.new.required ≡ scope.old.required }
+    ensures has { OnOk result (HasNames (env_of scope.new.names) (map use_view uses.now)) }
+    ensures extended { OnOk result (IsExtended types.old types.new) }
+    ensures first { Finds (local_faults interfaces.now uses.now) result }
+{
+    for name in uses {
+        resolve_use(alloc, name, types, interfaces, scope)?;
+    }
+    Ok(())
+}

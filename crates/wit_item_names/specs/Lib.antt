@@ -1,3 +1,0 @@
-pub mod ItemPaths
-pub mod InlineNames
-pub mod ForeignAddresses

@@ -1,0 +1,54 @@
+use Rattle.std.proofs.Common.{◌++◌, ◌∷◌, [], map, refl, sym, ap, ◌∙◌}
+use Rattle.std.proofs.lemmas.List.{map-append, append-nil}
+use Rattle.std.proofs.lemmas.Result.{err_from_is_err_and}
+use Rattle.wit_tree.specs.declared.tree.Use.{Use}
+use Rattle.wit_syntax.specs.Address.{Address}
+use Rattle.wit_syntax.specs.Source.{Used}
+use Rattle.wit_syntax.proofs.Found.{contains_at}
+use Rattle.wit_first.specs.UseFaults.{use_fault}
+use Rattle.wit_first.proofs.First.{or_none, reports_same}
+use Rattle.wit_scopes.specs.BorrowedNames.{name_view}
+use Rattle.wit_syntax.specs.Foreign.{visited, foreign_interfaces}
+use Rattle.wit_scopes.proofs.Placed.{names_more}
+use Rattle.wit_items.proofs.part_names.add_part.Goals.{in-DefinitionPart+in_ok-push-in-DefinitionPart, in-UsePart+in_ok-from-in-UsePart+in_ok-add_used_names-in-UsePart, in-IncludePart, in-FunctionPart, in-ExternPart}
+use Rattle.wit_files.specs.FileNames.{top_at}
+use Rattle.wit_items.proofs.part_names.add_part.Goals as goal
+
+pub sound_source-requires : goal.sound_source-requires
+sound_source-requires c = let u : Use = c.in-UsePart.used.now in record { path = (rw c.in-UsePart.is at c.requires.paths) u (contains_at (u ∷ []) 0 u refl) }
+
+pub returns-in_err-from-in-UsePart-clause-first : goal.returns-in_err-from-in-UsePart-clause-first
+returns-in_err-from-in-UsePart-clause-first c =
+    let files = c.args.files.now in
+    let top = top_at files c.args.place in
+    let p = err_from_is_err_and c.from_residual-in_err-from-in-UsePart.result c.from_residual-in_err-from-in-UsePart.ensures.1 in
+    rw (c.in-UsePart.is, p.1, p.2) (reports_same (sym (or_none (use_fault files top c.in-UsePart.used.now))) c.in_err-from-in-UsePart.ensures.first)
+
+pub returns-clause-names : goal.returns-clause-names
+returns-clause-names c = elim c.match-part.branch [
+  | in-DefinitionPart+in_ok-push-in-DefinitionPart b ↦ rw (b.names-is, b.in-DefinitionPart.is) (ap (map name_view) b.in_ok-push-in-DefinitionPart.ensures.items ∙ map-append name_view c.args.names.now.items (_ ∷ []))
+  | in-UsePart+in_ok-from-in-UsePart+in_ok-add_used_names-in-UsePart b ↦ (
+      let from = ap (λ (s : Address). map name_view c.args.names.now.items ++ map (Used s b.in-UsePart.used.now.attributes.items) b.in-UsePart.used.now.names.items) b.in_ok-from-in-UsePart.ensures.source in
+      rw (b.names-is, b.in-UsePart.is) ((rw (b.deref.ensures.value, b.deref-in-UsePart.ensures.value) at b.in_ok-add_used_names-in-UsePart.ensures.names) ∙ from))
+  | in-IncludePart b ↦ rw (b.names-is, b.in-IncludePart.is) (sym (append-nil (map name_view c.args.names.now.items)))
+  | in-FunctionPart b ↦ rw (b.names-is, b.in-FunctionPart.is) (sym (append-nil (map name_view c.args.names.now.items)))
+  | in-ExternPart b ↦ rw (b.names-is, b.in-ExternPart.is) (sym (append-nil (map name_view c.args.names.now.items)))
+]
+
+pub returns-clause-first : goal.returns-clause-first
+returns-clause-first c = elim c.match-part.branch [
+  | in-DefinitionPart+in_ok-push-in-DefinitionPart b ↦ rw b.in-DefinitionPart.is refl
+  | in-UsePart+in_ok-from-in-UsePart+in_ok-add_used_names-in-UsePart b ↦ rw b.in-UsePart.is (or_none (use_fault c.args.files.now (top_at c.args.files.now c.args.place) b.in-UsePart.used.now) ∙ b.in_ok-from-in-UsePart.ensures.first)
+  | in-IncludePart b ↦ rw b.in-IncludePart.is refl
+  | in-FunctionPart b ↦ rw b.in-FunctionPart.is refl
+  | in-ExternPart b ↦ rw b.in-ExternPart.is refl
+]
+
+pub returns-clause-placed : goal.returns-clause-placed
+returns-clause-placed c = elim c.match-part.branch [
+  | in-DefinitionPart+in_ok-push-in-DefinitionPart b ↦ λ before. rw b.names-is (names_more (map visited (foreign_interfaces c.args.files.now)) c.args.names.now.items _ _ b.in_ok-push-in-DefinitionPart.ensures.items before tt)
+  | in-UsePart+in_ok-from-in-UsePart+in_ok-add_used_names-in-UsePart b ↦ λ before. rw b.names-is (b.in_ok-add_used_names-in-UsePart.ensures.placed (map visited (foreign_interfaces c.args.files.now)) b.in_ok-from-in-UsePart.ensures.placed before)
+  | in-IncludePart b ↦ λ before. rw b.names-is before
+  | in-FunctionPart b ↦ λ before. rw b.names-is before
+  | in-ExternPart b ↦ λ before. rw b.names-is before
+]

@@ -1,0 +1,81 @@
+use Rattle.std.proofs.Common.{◌≡◌, ◌+◌, ◌++◌, List, ◌∷◌, [], Option, Some, map, take, refl, sym, ap, ◌∙◌}
+use Rattle.std.specs.List.{flat_map}
+use Rattle.std.specs.Prelude.{slice_get}
+use Rattle.std.proofs.lemmas.List.{take_more, take_all}
+use Rattle.std.proofs.lemmas.Option.{slice_get_read}
+use Rattle.std.proofs.lemmas.Result.{err_from_is_err_and}
+use Rattle.wit_tree.specs.declared.tree.InterfaceItem.{InterfaceItem}
+use Rattle.wit_tree.specs.declared.tree.PackageFile.{PackageFile}
+use Rattle.wit_syntax.specs.ExternPart.{item_uses}
+use Rattle.wit_syntax.specs.Fault.{Fault}
+use Rattle.wit_syntax.specs.Source.{TopName, interface_part, part_names}
+use Rattle.wit_syntax.specs.Foreign.{visited, foreign_interfaces}
+use Rattle.wit_first.specs.UseFaults.{own_uses, use_fault, uses_fault}
+use Rattle.wit_first.proofs.First.{in-all, in-flat, in-following, reports-in, reports_same}
+use Rattle.wit_items.specs.ItemPaths.{part_view}
+use Rattle.wit_items.proofs.WrittenNames.{item_own}
+use Rattle.wit_items.proofs.PlacedNames.{names_none}
+use Rattle.wit_items.proofs.UsableNames.{among_flat, parts_more}
+use Rattle.wit_files.specs.FileNames.{top_at}
+use Rattle.wit_items.proofs.part_names.interface_names.Goals as goal
+
+-- of the uses of an item
+abbrev wrong : List PackageFile → List TopName → InterfaceItem → Option Fault
+wrong files top x = uses_fault files top (item_uses x)
+
+pub loop-part-init : goal.loop-part-init
+loop-part-init c = rw c.in_ok-names.ensures.items (record {
+  names = refl;
+  placed = names_none (map visited (foreign_interfaces c.args.files.now));
+  none = refl;
+})
+
+pub add_part-requires : goal.add_part-requires
+add_part-requires c = record {
+  paths = λ u among. (
+      let xs = c.args.items.now in
+      let i = c.loop-part.part-index in
+      let x = c.part-item.result in
+      let own = ap own_uses c.interface_part.ensures ∙ item_own x in
+      c.requires.paths u (among_flat item_uses xs i x u (slice_get_read xs _ i x refl c.loop-part-test.true c.part-item.is) (rw own at among)));
+}
+
+pub returns-in_err-add_part-clause-first : goal.returns-in_err-add_part-clause-first
+returns-in_err-add_part-clause-first c =
+    let files = c.args.files.now in
+    let top = top_at files c.args.place in
+    let p = err_from_is_err_and c.from_residual-in_err-add_part.result c.from_residual-in_err-add_part.ensures.1 in
+    let xs = c.args.items.now in
+    let i = c.loop-part.part-index in
+    let x = c.part-item.result in
+    let own = ap own_uses c.interface_part.ensures ∙ item_own x in
+    let at : slice_get xs i ≡ Some x = slice_get_read xs _ i x refl c.loop-part-test.true c.part-item.is in
+    rw (p.1, p.2) (reports_same (sym (in-flat (use_fault files top) item_uses xs)) (reports-in (wrong files top) xs i x _ at c.loop-part.invariant.none (rw own at c.in_err-add_part.ensures.first)))
+
+pub loop-part-preserved : goal.loop-part-preserved
+loop-part-preserved c =
+    let files = c.args.files.now in
+    let top = top_at files c.args.place in
+    let xs = c.args.items.now in
+    let i = c.loop-part.part-index in
+    let x = c.part-item.result in
+    let q = part_view c.interface_part.result in
+    let was = c.loop-part.invariant in
+    let e = c.in_ok-add_part.ensures in
+    let own = ap own_uses c.interface_part.ensures ∙ item_own x in
+    let more : take (i + 1) xs ≡ take i xs ++ x ∷ [] = take_more xs i x c.loop-part-test.true ∙ ap (λ y. take i xs ++ y ∷ []) (sym c.part-item.is) in
+    record {
+      names = e.names ∙ ap (λ l. l ++ part_names top q) was.names ∙ sym (parts_more (part_names top) interface_part (take i xs) (take (i + 1) xs) x q more c.interface_part.ensures);
+      placed = e.placed was.placed;
+      none = in-following (wrong files top) xs i x (slice_get_read xs _ i x refl c.loop-part-test.true c.part-item.is) was.none (rw own at e.first);
+    }
+
+pub returns-clause-names : goal.returns-clause-names
+returns-clause-names c = c.loop-part.invariant.names ∙ ap (λ l. flat_map (part_names (top_at c.args.files.now c.args.place)) (map interface_part l)) (take_all c.loop-part.part-index c.args.items.now c.loop-part-test.false)
+
+pub returns-clause-first : goal.returns-clause-first
+returns-clause-first c =
+    let files = c.args.files.now in
+    let top = top_at files c.args.place in
+    let xs = c.args.items.now in
+    in-flat (use_fault files top) item_uses xs ∙ in-all (wrong files top) xs c.loop-part.part-index c.loop-part-test.false c.loop-part.invariant.none

@@ -1,0 +1,18 @@
+use Rattle.std.proofs.Common.{◌≡◌, None, map, take}
+use Rattle.std.specs.List.{flat_map}
+use Rattle.wit_tree.specs.declared.tree.WorldItem.{WorldItem}
+use Rattle.wit_syntax.specs.Source.{world_part, part_names}
+use Rattle.wit_syntax.specs.Foreign.{visited, foreign_interfaces}
+use Rattle.wit_first.specs.First.{first_in}
+use Rattle.wit_first.specs.UseFaults.{own_uses, uses_fault}
+use Rattle.wit_scopes.specs.PlacedNames.{AreNamesPlaced}
+use Rattle.wit_scopes.specs.BorrowedNames.{name_view}
+use Rattle.wit_files.specs.FileNames.{top_at}
+use Rattle.wit_items.proofs.part_names.world_names.Given as goal
+
+abbrev pub invariant-loop-part : goal.invariant-loop-part
+invariant-loop-part l = record {
+  names : map name_view l.names.items ≡ flat_map (part_names (top_at l.files l.place)) (map world_part (take l.part-index l.written));
+  placed : AreNamesPlaced (map visited (foreign_interfaces l.files)) l.names.items;
+  none : first_in (λ (x : WorldItem). uses_fault l.files (top_at l.files l.place) (own_uses (world_part x))) (take l.part-index l.written) ≡ None;
+}

@@ -1,0 +1,87 @@
+//! The files of a package, by their names, with the entries of other packages' items.
+ghost use Rattle.std.specs.Prelude.{◌≡◌, ◌<◌, Some, length, map, slice_get};
+ghost use Rattle.wit_syntax.specs.Source.{leads, all_items, is_world as is_the_world};
+ghost use Rattle.wit_top_names.specs.Tops.{target_view};
+ghost use Rattle.wit_files.specs.FileNames.{found_at, top_at};
+ghost use Rattle.wit_items.specs.ItemPaths.{AreEntriesOf};
+
+use std::marker::Model;
+use wit_files::{FileNames, Found};
+use wit_model::AstItem as Entry;
+use wit_top_names::Target;
+use wit_tree::tree::UsePath;
+
+/// The files of a package, by their names, with the entries of other packages' items.
+///
+/// Contracts see the list of the files.
+pub struct Files<'n, 'e, 'f, 'a> {
+    names: &'n FileNames<'f, 'a>,
+    entries: &'e [Entry],
+}
+
+impl Drop for Files<'_, '_, '_, '_> {
+    fn drop(self) {
+        let Files {
+            names: _,
+            entries: _,
+        } = self;
+    }
+}
+
+impl<'n, 'e, 'f, 'a> Model for Files<'n, 'e, 'f, 'a> {
+    ghost use Rattle.std.specs.Prelude.{List, []};
+    ghost use Rattle.wit_tree.specs.declared.tree.PackageFile.{PackageFile};
+    ghost use Rattle.wit_items.specs.ItemPaths.{AreEntriesOf};
+    ghost use Rattle.wit_type_tree.specs.contracts.types.Type as written;
+    ghost use Rattle.std.specs.Coded.{codes};
+    ghost use mir.Syntax.{named};
+
+    ghost Value = { List PackageFile };
+
+    ghost coded = { Prim.hlevel (codes, (written.the_row (record { mir = named 0; lft = [] })).coded) };
+
+    ghost view = { λ f. f.names.now };
+
+    ghost invariant = { λ f. AreEntriesOf f.names.now f.entries.now };
+}
+
+impl<'n, 'e, 'f, 'a> Files<'n, 'e, 'f, 'a> {
+    /// The files with these names, where these are the entries of other packages' items.
+    pub fn of(names: &'n FileNames<'f, 'a>, entries: &'e [Entry]) -> Self
+        requires { AreEntriesOf names.now entries.now }
+        ensures { result ≡ names.now }
+    {
+        Files { names, entries }
+    }
+
+    /// The entries of other packages' items, in the order of their first visits.
+    pub fn entries(&self) -> &[Entry]
+        ensures { AreEntriesOf self.now result.now }
+    {
+        self.entries
+    }
+
+    /// Where a path in an item of the file at a place leads.
+    pub fn target(&self, file: usize, path: &'f UsePath<'a>) -> Target<'f, 'a>
+        requires within { file < length self.now }
+        ensures { target_view result ≡ leads (top_at self.now file) path.now }
+    {
+        self.names.target(file, path)
+    }
+
+    /// What is where a path leads; none where no item has the name, or no path of the files leads
+    /// to that item of another package.
+    pub fn found(&self, target: Target<'f, 'a>) -> Option<Found>
+        ensures { result ≡ found_at self.now (target_view target.entry) }
+    {
+        self.names.found(target)
+    }
+
+    /// Whether the item at a place among all of them is a world.
+    pub fn is_world(&self, place: usize) -> bool
+        requires within { place < length (all_items self.now) }
+        ensures { slice_get (map is_the_world (all_items self.now)) place ≡ Some result }
+    {
+        self.names.is_world(place)
+    }
+}

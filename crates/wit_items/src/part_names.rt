@@ -1,0 +1,170 @@
+//! The names that the parts of an item bring.
+ghost use Rattle.std.specs.Prelude.{◌≡◌, ◌++◌, Contains, map, IfOk, OnOk};
+ghost use Rattle.std.specs.List.{flat_map};
+ghost use Rattle.wit_tree.specs.declared.tree.Use.{Use as TheUse};
+ghost use Rattle.wit_syntax.specs.ExternPart.{item_uses};
+ghost use Rattle.wit_syntax.specs.Source.{TheWorld, interface_part as the_interface_part, world_part as the_world_part, part_names, path_scope};
+ghost use Rattle.wit_first.specs.First.{Finds};
+ghost use Rattle.wit_first.specs.UseFaults.{own_uses, use_fault, uses_fault};
+ghost use Rattle.wit_files.specs.FileNames.{top_at};
+ghost use Rattle.wit_scopes.specs.BorrowedNames.{source_view, name_view, IsPlaced};
+ghost use Rattle.wit_items.specs.ForeignAddresses.{prefix_of};
+ghost use Rattle.wit_items.specs.NamesInside.{world_parts};
+ghost use Rattle.wit_items.specs.ItemPaths.{part_view, HasItem, HasPath};
+ghost use Rattle.wit_scopes.specs.PlacedNames.{AreNamesPlaced};
+
+use crate::files::Files;
+use crate::resolved_path::path_source;
+use std::alloc::Global;
+use wit_notes::check_metadata;
+use wit_scopes::scope_name::{DefinedName, ScopeName, Source, add_used_names};
+use wit_top_names::declaration::world_items;
+use wit_tree::ParseResult;
+use wit_tree::tree::{Extern, Include, InterfaceItem, NamedFunc, TypeDef, Use, World, WorldItem};
+
+/// A part of an item.
+#[derive(Clone, Copy)]
+pub enum Part<'f, 'a> {
+    DefinitionPart(&'f TypeDef<'a>),
+    UsePart(&'f Use<'a>),
+    IncludePart(&'f Include<'a>),
+    FunctionPart(&'f NamedFunc<'a>),
+    ExternPart(&'f Extern<'a>),
+}
+
+/// A part of an interface.
+fn interface_part<'f, 'a>(part: &'f InterfaceItem<'a>) -> Part<'f, 'a>
+    ensures { part_view result ≡ the_interface_part part.now }
+{
+    match part {
+        InterfaceItem::TypeDef(definition) => Part::DefinitionPart(definition),
+        InterfaceItem::Use(used) => Part::UsePart(used),
+        InterfaceItem::Func(function) => Part::FunctionPart(function),
+    }
+}
+
+/// A part of a world.
+fn world_part<'f, 'a>(part: &'f WorldItem<'a>) -> Part<'f, 'a>
+    ensures { part_view result ≡ the_world_part part.now }
+{
+    match part {
+        WorldItem::TypeDef(definition) => Part::DefinitionPart(definition),
+        WorldItem::Use(used) => Part::UsePart(used),
+        WorldItem::Include(include) => Part::IncludePart(include),
+        WorldItem::Extern(external) => Part::ExternPart(external),
+    }
+}
+
+/// The interface that a `use` in the file at a place leads to; refuses attributes that break a rule, and
+/// then a path that leads to no item, or to a world.
+fn sound_source<'f, 'a>(
+    alloc: Global,
+    files: &Files<'_, '_, 'f, 'a>,
+    place: usize,
+    used: &'f Use<'a>,
+) -> ParseResult<Source<'f, 'a>>
+    requires path { HasPath files.now place used.now.from }
+    ensures source { IfOk result (λ source. source_view source ≡ path_scope (top_at files.now place) used.now.from) }
+    ensures placed { IfOk result (λ source. IsPlaced (prefix_of files.now) source) }
+    ensures first { Finds (use_fault files.now (top_at files.now place) used.now) result }
+{
+    check_metadata(alloc, &used.attributes)?;
+    let source = path_source(alloc, files, place, &used.from)?;
+    Ok(source)
+}
+
+/// Adds the names that a part of an item of the file at a place brings.
+fn add_part<'f, 'a>(
+    alloc: Global,
+    files: &Files<'_, '_, 'f, 'a>,
+    place: usize,
+    names: &mut Vec<ScopeName<'f, 'a>>,
+    part: Part<'f, 'a>,
+) -> ParseResult<()>
+    requires paths { (u : TheUse) → Contains (own_uses (part_view part)) u → HasPath files.now place u.from }
+    ensures names { OnOk result (map name_view names.new.items ≡ map name_view names.old.items ++ part_names (top_at files.now place) (part_view part.entry)) }
+    ensures placed { OnOk result (AreNamesPlaced (prefix_of files.now) names.old.items → AreNamesPlaced (prefix_of files.now) names.new.items) }
+    ensures first { Finds (uses_fault files.now (top_at files.now place) (own_uses (part_view part.entry))) result }
+{
+    match part {
+        Part::DefinitionPart(definition) => {
+            names.push(ScopeName::Defined(DefinedName { definition }))?;
+        }
+        Part::UsePart(used) => {
+            let from = sound_source(alloc, files, place, used)?;
+            add_used_names(names, &from, &used.attributes, &used.names)?;
+        }
+        Part::IncludePart(_) => {}
+        Part::FunctionPart(_) => {}
+        Part::ExternPart(_) => {}
+    }
+    Ok(())
+}
+
+/// How many names a part brings.
+fn room_of(part: Part<'_, '_>) -> usize {
+    match part {
+        Part::DefinitionPart(_) => 1,
+        Part::UsePart(used) => used.names.len(),
+        Part::IncludePart(_) => 0,
+        Part::FunctionPart(_) => 0,
+        Part::ExternPart(_) => 0,
+    }
+}
+
+/// How many names the items of an interface bring.
+fn interface_room(items: &[InterfaceItem<'_>]) -> usize {
+    let mut room: usize = 0;
+    for part in items {
+        room = room.saturating_add(room_of(interface_part(part)));
+    }
+    room
+}
+
+/// How many names the items of a world bring.
+fn world_room(items: &[WorldItem<'_>]) -> usize {
+    let mut room: usize = 0;
+    for part in items {
+        room = room.saturating_add(room_of(world_part(part)));
+    }
+    room
+}
+
+/// The names of an interface of the file at a place, which has these items.
+pub fn interface_names<'f, 'a>(
+    alloc: Global,
+    files: &Files<'_, '_, 'f, 'a>,
+    items: &'f [InterfaceItem<'a>],
+    place: usize,
+) -> ParseResult<Vec<ScopeName<'f, 'a>>>
+    requires paths { (u : TheUse) → Contains (flat_map item_uses items.now) u → HasPath files.now place u.from }
+    ensures names { IfOk result (λ names. map name_view names.items ≡ flat_map (part_names (top_at files.now place)) (map the_interface_part items.now)) }
+    ensures placed { IfOk result (λ names. AreNamesPlaced (prefix_of files.now) names.items) }
+    ensures first { Finds (uses_fault files.now (top_at files.now place) (flat_map item_uses items.now)) result }
+{
+    let mut names = Vec::with_capacity(alloc, interface_room(items))?;
+    for part in items {
+        add_part(alloc, files, place, &mut names, interface_part(part))?;
+    }
+    Ok(names)
+}
+
+/// The names of a world of the file at a place.
+pub fn world_names<'f, 'a>(
+    alloc: Global,
+    files: &Files<'_, '_, 'f, 'a>,
+    world: &'f World<'a>,
+    place: usize,
+) -> ParseResult<Vec<ScopeName<'f, 'a>>>
+    requires item { HasItem files.now place (TheWorld world.now) }
+    ensures names { IfOk result (λ names. map name_view names.items ≡ flat_map (part_names (top_at files.now place)) (world_parts world.now)) }
+    ensures placed { IfOk result (λ names. AreNamesPlaced (prefix_of files.now) names.items) }
+    ensures first { Finds (uses_fault files.now (top_at files.now place) (flat_map own_uses (world_parts world.now))) result }
+{
+    let written = world_items(world);
+    let mut names = Vec::with_capacity(alloc, world_room(written))?;
+    for part in written {
+        add_part(alloc, files, place, &mut names, world_part(part))?;
+    }
+    Ok(names)
+}

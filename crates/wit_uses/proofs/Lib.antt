@@ -1,6 +1,0 @@
-mod Calling
-pub mod ResolvedScopes
-pub mod Telling
-pub mod Emitting
-pub mod NameOrder
-pub mod UseFaults

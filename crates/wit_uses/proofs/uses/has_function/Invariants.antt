@@ -1,5 +1,0 @@
-use Rattle.wit_uses.proofs.Calling.{AreOthers}
-use Rattle.wit_uses.proofs.uses.has_function.Given as goal
-
-abbrev pub invariant-loop-place : goal.invariant-loop-place
-invariant-loop-place l = AreOthers l.functions l.place l.name

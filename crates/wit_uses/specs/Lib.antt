@@ -1,4 +1,0 @@
-pub mod NewRequirements
-pub mod NameOrder
-pub mod Uses
-pub mod UseFaults
