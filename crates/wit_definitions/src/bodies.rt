@@ -1,5 +1,5 @@
 //! Bodies of definitions, as kinds of entries.
-ghost use Rattle.std.specs.Prelude.{◌≡◌, [], is_some, map, IfOk, OnOk};
+ghost use Rattle.std.specs.Prelude.{◌≡◌, [], codes, is_some, map, IfOk, OnOk};
 ghost use Rattle.std.specs.Option.{option_or, option_to_list};
 ghost use Rattle.wit_type_tree.specs.TypeParts.{field_types, case_types, body_types};
 ghost use Rattle.wit_syntax.specs.Form.{RecordForm, FlagsForm, VariantForm, EnumForm};
@@ -80,7 +80,7 @@ fn resolve_record(
     ensures form { IfOk result (λ r. (kind_of r).form ≡ RecordForm (map (λ x. member x.docs x.name) fields.now)) }
     ensures handled { OnOk result (Requires (env_of names.now) types.new (all_handles (field_types fields.now)) required.old.items required.new.items) }
     ensures extended { IsExtended types.old types.new }
-    ensures first { Finds (option_or (members_fault 19 (λ x. x.name) span fields.now) (types_fault (env_of names.now) types.new (field_types fields.now))) result }
+    ensures first { Finds (option_or (members_fault 19 (codes "field") (λ x. x.name) span fields.now) (types_fault (env_of names.now) types.new (field_types fields.now))) result }
 {
     check_record(alloc, span, fields)?;
     let fields = resolve_fields(alloc, types, names, required, given, fields)?;
@@ -194,7 +194,7 @@ fn resolve_variant(
     ensures form { IfOk result (λ r. (kind_of r).form ≡ VariantForm (map (λ c. (member c.docs c.name, is_some c.ty)) cases.now)) }
     ensures handled { OnOk result (Requires (env_of names.now) types.new (all_handles (case_types cases.now)) required.old.items required.new.items) }
     ensures extended { IsExtended types.old types.new }
-    ensures first { Finds (option_or (members_fault 23 (λ x. x.name) span cases.now) (types_fault (env_of names.now) types.new (case_types cases.now))) result }
+    ensures first { Finds (option_or (members_fault 23 (codes "case") (λ x. x.name) span cases.now) (types_fault (env_of names.now) types.new (case_types cases.now))) result }
 {
     check_variant(alloc, span, cases)?;
     let cases = resolve_cases(alloc, types, names, required, given, cases)?;
@@ -231,7 +231,7 @@ fn resolve_enum(
 ) -> ParseResult<TypeDefKind>
     ensures form { IfOk result (λ r. (kind_of r).form ≡ EnumForm (map (λ x. member x.docs x.name) written.now)) }
     ensures parts { IfOk result (λ r. (kind_of r).parts ≡ []) }
-    ensures first { Finds (members_fault 24 (λ x. x.name) span written.now) result }
+    ensures first { Finds (members_fault 24 (codes "case") (λ x. x.name) span written.now) result }
 {
     check_enum(alloc, span, written)?;
     let cases = enum_cases(alloc, written)?;

@@ -17,7 +17,7 @@ use Rattle.wit_tree.specs.declared.tree.PackageFile.{PackageFile}
 use Rattle.wit_tree.specs.declared.tree.PackageName.{PackageName as Header}
 use Rattle.wit_tree.specs.declared.tree.SourceFile.{SourceFile}
 use Rattle.wit_graph.specs.Table.{Row}
-use Rattle.wit_syntax.specs.Fault.{Fault, fault}
+use Rattle.wit_syntax.specs.Fault.{Fault, fault, fault_in}
 use Rattle.wit_walk.specs.Orders.{Outcome, InOrder}
 use Rattle.wit_walk.specs.Walk.{first_fault}
 use Rattle.wit_nested.specs.GroupFaults.{group_fault}
@@ -89,7 +89,7 @@ module _ (ptr : Ptr) (alloc : Global) where
   row_2 = refl
 
   -- two headers with docs, foo:foo and foo:bar
-  row_3 : group_fault walk (source (Some (foo (comments (at 0 5)) 14)) none (vec [] (lit< tt)) ∷ source (Some (bar (comments (at 23 28)) 37)) none (vec [] (lit< tt)) ∷ []) ≡ Some (fault 1 (at 37 44))
+  row_3 : group_fault walk (source (Some (foo (comments (at 0 5)) 14)) none (vec [] (lit< tt)) ∷ source (Some (bar (comments (at 23 28)) 37)) none (vec [] (lit< tt)) ∷ []) ≡ Some (fault_in 1 (at 37 44) (codes "package identifier `foo:bar` does not match previous package name of `foo:foo`"))
   row_3 = refl
 
   -- the same, both foo:foo, with interface i { record r {} } in the first
@@ -101,7 +101,7 @@ module _ (ptr : Ptr) (alloc : Global) where
   row_5 = refl
 
   -- package foo:foo; package a:b {} package foo:foo {} package a:b {}
-  row_6 : group_fault walk (source (Some (foo no_comments 8)) none (vec (nested_in (a_b 25) none (vec [] (lit< tt)) ∷ nested_in (foo no_comments 40) none (vec [] (lit< tt)) ∷ nested_in (a_b 59) none (vec [] (lit< tt)) ∷ []) (lit< tt)) ∷ []) ≡ Some (fault 53 (at 40 47))
+  row_6 : group_fault walk (source (Some (foo no_comments 8)) none (vec (nested_in (a_b 25) none (vec [] (lit< tt)) ∷ nested_in (foo no_comments 40) none (vec [] (lit< tt)) ∷ nested_in (a_b 59) none (vec [] (lit< tt)) ∷ []) (lit< tt)) ∷ []) ≡ Some (fault_in 53 (at 40 47) (codes "package `foo:foo` is defined more than once in this group"))
   row_6 = refl
 
   -- package a:b {} package a:b {}

@@ -1,5 +1,7 @@
-//! What holds of the first fault of a group, and of sources.
+//! What holds of the first fault of a group, and of sources; and of the line of a refusal and its plain
+//! values.
 ghost use Rattle.wit_group_walk.specs.Laws.{FaultlessGroupIsLegal, FirstOfGroupIsBroken, LegalGroupIsFaultless, LegalGroupOrFirst, NamesAgree, OneFirstOfGroup};
+ghost use Rattle.wit_group_walk.specs.Lines.{LineIsOfFault, OneLineOfFault, OneLineOfSources, OneLineOfText, OnePlain, TextIsOfFault};
 ghost use Rattle.wit_group_walk.specs.SourceLaws.{FaultlessIsGroup, FaultlessOrFirst, FirstOfSourcesIsBroken, GroupIsFaultless, OneFirstOfSources, OneFirstOfText, OneReading, OnePathOrder};
 
 /// A group comes to one fault, or to none: two first faults are equal, and a group that has one is not
@@ -75,4 +77,38 @@ pub fn faultless_is_group()
 /// A text comes to one fault, or to none, where the same is read of it.
 pub fn one_first_of_text()
     ensures { OneFirstOfText }
+{}
+
+/// What a refusal says is what its fault says: the words of a rule, or those for what is missing or depends
+/// on itself.
+pub fn text_is_of_fault()
+    ensures { TextIsOfFault }
+{}
+
+/// So the line of a refusal is that of its fault: of its number, its place and what it says.
+pub fn line_is_of_fault()
+    ensures { LineIsOfFault }
+{}
+
+/// A fault has one line, whichever sources of the same paths and texts it is of: its bytes are a function
+/// of these and of the fault.
+pub fn one_line_of_fault()
+    ensures { OneLineOfFault }
+{}
+
+/// Two refusals that state the first fault of sources of the same paths and texts have one line, where the
+/// same is read of them.
+pub fn one_line_of_sources()
+    ensures { OneLineOfSources }
+{}
+
+/// Two refusals of one text have one line, where the same is read of it: that of the first fault.
+pub fn one_line_of_text()
+    ensures { OneLineOfText }
+{}
+
+/// Two refusals that state one fault are one in plain values, of sources of the same paths and texts; so
+/// the JSON of a refusal is a function of these and of its fault.
+pub fn one_plain()
+    ensures { OnePlain }
 {}

@@ -70,7 +70,11 @@ AreFaultless sources reads = SourcesComeTo sources reads None
 abbrev pub HaveFirst : List Source → Option Fault → Type 0
 HaveFirst sources first = (reads : List Read) × SourcesComeTo sources reads first
 
--- a call that returns an error beside something else finds it
+-- a refusal states it, or that an allocation failed
+abbrev pub StatesFirst : List Source → ParseError → Type 0
+StatesFirst sources e = IsAllocationFailure e ⊎ HaveFirst sources (Some (fault_of e))
+
+-- a call that returns an error beside something else finds a first fault
 abbrev pub FindsBeside : {T S : Type 0} → (Option Fault → Type 0) → Result T (S × ParseError) → Type 0
 FindsBeside IsFirst r = MatchResult r (λ _. IsFirst None) (λ e. IsAllocationFailure e.1 ⊎ IsFirst (Some (fault_of e.1)))
 

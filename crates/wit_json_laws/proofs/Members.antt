@@ -20,6 +20,7 @@ use Rattle.wit_syntax.specs.ScopeTables.{AreDistinct, interfaces_of, rows_of, wo
 use Rattle.wit_syntax.specs.Sides.{SideItem, FoldedTwice, all_scopes, inline_items, items_on, on_side, role_side, side_called, side_items}
 use Rattle.wit_syntax.specs.SignatureRules.{Called}
 use Rattle.wit_syntax.specs.Source.{Item, ScopeName, address, all_items, is_world, local_name, scope_names}
+use Rattle.wit_syntax.specs.Words.{words_of}
 use Rattle.wit_syntax.specs.ScopesOfTrees.{scope}
 use Rattle.wit_syntax.proofs.Found.{contains_at}
 use Rattle.wit_syntax.proofs.Inline.{inline_interface}
@@ -63,7 +64,7 @@ function_keys id s fns names =
 module _ (files : List PackageFile) (legal : IsLegal files) where
   -- where no two names on a side of an item are one once folded, their keys differ
   pub side_keys : (i : Item) → Contains (all_scopes files) i → (order : List ℕ) → IsOrder (rows_of (scope_names i)) order → (side : WorldSide) → AllDiffer (map called_key (side_called side (scope_names i) (items_on side (side_items i)) order))
-  side_keys i among order least side = all_differ called_key (λ (c : Called). fault 17 c.span) (side_called side (scope_names i) (items_on side (side_items i)) order) (λ f second. legal f (Sides i among (FoldedTwice (side, order, least, second))))
+  side_keys i among order least side = all_differ called_key (λ (c : Called). fault 17 c.span) (side_called side (scope_names i) (items_on side (side_items i)) order) (λ f second. legal f (Sides i among (FoldedTwice (side, order, least, (words_of 17, second)))))
 
   all_imported : (i : Item) → is_world i ≡ false → on_side Imported (functions i) ≡ functions i
   all_imported i sort = kept_all (λ (fn : SourceFunction). same_side Imported (role_side fn.role)) (functions i) (λ k fn at. ap (same_side Imported) (functions_imported i sort k fn at))

@@ -30,7 +30,7 @@ use Rattle.wit_model.specs.declared.unresolved.UnresolvedPackage.{UnresolvedPack
 use Rattle.wit_graph.specs.Table.{IsOrder}
 use Rattle.wit_syntax.specs.Address.{Address, InterfaceNamed, ForeignNamed}
 use Rattle.wit_syntax.specs.Broken.{is_world_at, IsBroken, Use, WorldUsed, InterfaceIncluded}
-use Rattle.wit_syntax.specs.Fault.{fault}
+use Rattle.wit_syntax.specs.Fault.{fault_in}
 use Rattle.wit_syntax.specs.Foreign.{ForeignVisit, foreign_visits, foreign_items}
 use Rattle.wit_syntax.specs.Form.{AliasForm, UnknownForm}
 use Rattle.wit_syntax.specs.Node.{Head, Named, Tree}
@@ -97,7 +97,7 @@ module _ (ptr : Ptr) (alloc : Global) where
     no_edge : item_rows (file ∷ []) ≡ (record { name = codes "w"; needs = [] } ∷ [])
     no_edge = refl
 
-    included_refused : IsBroken (file ∷ []) (fault 11 (at 46 47))
+    included_refused : IsBroken (file ∷ []) (fault_in 11 (at 46 47) (codes "name `c` is defined as an interface, not a world"))
     included_refused = InterfaceIncluded item (0, lit< tt, refl) included (0, lit< tt, refl) refl refl
 
   -- package foo:foo; world w { include a:b/c; use a:b/c.{t}; }
@@ -130,7 +130,7 @@ module _ (ptr : Ptr) (alloc : Global) where
     is_world : is_world_at (both_file ∷ []) (leads both_item.top used_path) ≡ Some true
     is_world = refl
 
-    used_refused : IsBroken (both_file ∷ []) (fault 10 (at 50 51))
+    used_refused : IsBroken (both_file ∷ []) (fault_in 10 (at 50 51) (codes "name `c` is defined as a world, not an interface"))
     used_refused = Use both_item (0, lit< tt, refl) (WorldUsed used_path (0, lit< tt, refl) refl refl)
 
   -- package foo:foo; interface i { use foo:foo/i.{t}; }

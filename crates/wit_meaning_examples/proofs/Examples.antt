@@ -45,7 +45,7 @@ use Rattle.wit_arena.specs.Expr.{Prim, one}
 use Rattle.wit_arena.specs.Occurrences.{Def, Whole, Occurrence, IsSeen, Collects}
 use Rattle.wit_syntax.specs.ScopeTables.{rows_of, item_rows, in_turn}
 use Rattle.wit_type_tree.specs.RefusalText.{Missing, Cyclic}
-use Rattle.wit_syntax.specs.Fault.{fault, missing_type_at, type_word, top_twice}
+use Rattle.wit_syntax.specs.Fault.{fault, fault_in, missing_type_at, type_word, top_twice}
 use Rattle.wit_syntax.specs.Shape.{Word}
 use Rattle.wit_syntax.specs.Bodies.{folded, IsSecond, IsDuplicateName}
 use Rattle.wit_syntax.specs.Broken.{last_header, IsMissingEdge, IsCyclicEdge, IsBroken, Headerless, IsWrongTop, LostUse}
@@ -205,7 +205,7 @@ module _ (ptr : Ptr) (alloc : Global) where
   b_cyclic : IsCyclic around 1 in_b
   b_cyclic = (b_reaches, (0, refl, a_reaches))
 
-  a_refused : IsCyclicEdge 16 type_word (rows_of around_names) (record { rule = 16; span = at 23 24; name = Some (codes "b"); sort = Cyclic (codes "type"); hint = None })
+  a_refused : IsCyclicEdge 16 type_word (rows_of around_names) (record { rule = 16; span = at 23 24; name = Some (codes "b"); sort = Cyclic (codes "type"); hint = None; said = [] })
   a_refused = (0, 0, 1, in_a, (record { name = codes "a"; needs = in_a ∷ [] }, refl, refl), refl, a_reaches, b_reaches, refl)
 
   -- interface i { type t = u; }
@@ -218,15 +218,15 @@ module _ (ptr : Ptr) (alloc : Global) where
   u_missing : IsMissing (rows_of t_names) 0 u
   u_missing = refl
 
-  u_refused : IsMissingEdge missing_type_at (rows_of t_names) (record { rule = 15; span = at 23 24; name = Some (codes "u"); sort = Missing (codes "type"); hint = None })
+  u_refused : IsMissingEdge missing_type_at (rows_of t_names) (record { rule = 15; span = at 23 24; name = Some (codes "u"); sort = Missing (codes "type"); hint = None; said = [] })
   u_refused = (0, 0, u, (record { name = codes "t"; needs = u ∷ [] }, refl, refl), u_missing, refl)
 
   -- record { a: u8, A: u8 }
   abbrev twice : List WrittenField
   twice = record { docs = no_comments; name = id (codes "a") (at 9 10) refl; ty = written.Primitive (at 12 14) primitive.U8 } ∷ record { docs = no_comments; name = id (codes "A") (at 16 17) refl; ty = written.Primitive (at 19 21) primitive.U8 } ∷ []
 
-  twice_refused : IsDuplicateName (map (λ x. x.name) twice) (fault 25 (at 16 17))
-  twice_refused = (id (codes "A") (at 16 17) refl, (0, 1, lit< tt, id (codes "a") (at 9 10) refl, refl, refl, refl), refl)
+  twice_refused : IsDuplicateName (map (λ x. x.name) twice) (fault_in 25 (at 16 17) (codes "field `A` conflicts with previous field `a`"))
+  twice_refused = (codes "field `A` conflicts with previous field `a`", (id (codes "A") (at 16 17) refl, (0, 1, lit< tt, id (codes "a") (at 9 10) refl, refl, refl, refl), refl))
 
   -- no file has a header
   none_refused : IsBroken [] (fault 4 (at 0 0))
@@ -373,12 +373,12 @@ module _ (ptr : Ptr) (alloc : Global) where
     tree_of_alias = refl
 
     -- use z as x; interface x {}
-    twice_on_top : IsSecond top_text (λ (n : TopName). top_twice n.id) (record { id = id (codes "x") (at 9 10) refl; target = Local (id (codes "z") (at 4 5) refl) } ∷ record { id = id (codes "x") (at 22 23) refl; target = Local (id (codes "x") (at 22 23) refl) } ∷ []) (fault 6 (at 22 23))
+    twice_on_top : IsSecond top_text (λ (n : TopName). top_twice n.id) (record { id = id (codes "x") (at 9 10) refl; target = Local (id (codes "z") (at 4 5) refl) } ∷ record { id = id (codes "x") (at 22 23) refl; target = Local (id (codes "x") (at 22 23) refl) } ∷ []) (fault_in 6 (at 22 23) (codes "duplicate name `x` in this file"))
     twice_on_top = (record { id = id (codes "x") (at 22 23) refl; target = Local (id (codes "x") (at 22 23) refl) }, (0, 1, lit< tt, record { id = id (codes "x") (at 9 10) refl; target = Local (id (codes "z") (at 4 5) refl) }, refl, refl, refl), refl)
 
     -- use x as y; use y as z;
     abbrev of_an_alias : ToplevelUse
     of_an_alias = record { attributes = unstated; span = at 12 15; item = path.Id (id (codes "y") (at 16 17) refl); as_ = Some (id (codes "z") (at 21 22) refl) }
 
-    original_missing : IsWrongTop (all_items two_files) (ToplevelItem alias ∷ ToplevelItem of_an_alias ∷ []) (record { rule = 7; span = at 16 17; name = Some (codes "y"); sort = Missing (codes "interface or world"); hint = None })
+    original_missing : IsWrongTop (all_items two_files) (ToplevelItem alias ∷ ToplevelItem of_an_alias ∷ []) (record { rule = 7; span = at 16 17; name = Some (codes "y"); sort = Missing (codes "interface or world"); hint = None; said = [] })
     original_missing = LostUse of_an_alias (1, lit< tt, refl) (id (codes "y") (at 16 17) refl) refl refl refl

@@ -27,7 +27,7 @@ use Rattle.wit_tree.specs.declared.tree.AstItem.TheVariants as ast
 use Rattle.wit_tree.specs.declared.tree.PackageFile.{PackageFile}
 use Rattle.wit_syntax.specs.Address.{InterfaceNamed}
 use Rattle.wit_syntax.specs.NameEnds.{Elsewhere, EndsAt}
-use Rattle.wit_syntax.specs.Fault.{Fault, fault}
+use Rattle.wit_syntax.specs.Fault.{Fault, fault_in}
 use Rattle.wit_syntax.specs.Source.{Declared, TheInterface, TheWorld, TheInline, TopName, Item, about, about_name, address, all_items, is_world, item_name, item_named, leads, ScopeName, scope_names, top_names}
 use Rattle.wit_syntax.specs.Sides.{Link, SideLink, items_on, side_items}
 use Rattle.wit_syntax.specs.ScopesOfTrees.{scope}
@@ -86,7 +86,7 @@ module _ (ptr : Ptr) (alloc : Global) where
     item = record { top = top_names file; declared = TheInterface i }
 
     -- i uses from a world
-    used_refused : IsBroken (file ∷ []) (fault 10 (at 61 62))
+    used_refused : IsBroken (file ∷ []) (fault_in 10 (at 61 62) (codes "name `x` is defined as a world, not an interface"))
     used_refused = Use item (2, lit< tt, refl) (WorldUsed (path.Id (x_at (at 61 62))) (0, lit< tt, refl) refl refl)
 
     -- so the interface of that name lacks no name for it
@@ -145,7 +145,7 @@ module _ (ptr : Ptr) (alloc : Global) where
     link span = record { side = Imported; name = None; path = path.Id (v_at span); docs = no_comments ptr alloc; attributes = [] }
 
     -- w imports a world
-    imported_refused : IsBroken (worlds ∷ []) (fault 10 (at 45 46))
+    imported_refused : IsBroken (worlds ∷ []) (fault_in 10 (at 45 46) (codes "name `v` is defined as a world, not an interface"))
     imported_refused = Use w_item (1, lit< tt, refl) (WorldUsed (path.Id (v_at (at 45 46))) (0, lit< tt, refl) refl refl)
 
     -- so it imports no interface twice

@@ -35,7 +35,7 @@ use Rattle.wit_syntax.specs.Metadata.{no_docs}
 use Rattle.wit_syntax.specs.Source.{top_names, TheInterface, Item}
 use Rattle.wit_arena.specs.Expr.{Use, More, expr_of, one}
 use Rattle.wit_arena.specs.Occurrences.{Key, Def, Whole, Occurrence, IsSeen, Collects, IsAt}
-use Rattle.wit_syntax.specs.Fault.{fault}
+use Rattle.wit_syntax.specs.Fault.{fault_in}
 use Rattle.wit_syntax.specs.Shape.{shape_of}
 use Rattle.wit_syntax.specs.NameEnds.{AtResource, AtForeign, Elsewhere, EndsAt}
 use Rattle.wit_arena.specs.EntryEnds.{IsResource, IsUnknown, IsOther, entry_end}
@@ -242,5 +242,5 @@ module _ (ptr : Ptr) (alloc : Global) where
     lent_ends : EndsAt (file_of lender ∷ []) in_i (t_id (at 62 63)) Elsewhere
     lent_ends = (2, refl)
 
-    lent_refused : IsBroken (file_of lender ∷ []) (fault 27 (at 62 63))
+    lent_refused : IsBroken (file_of lender ∷ []) (fault_in 27 (at 62 63) (codes "type `t` used in a handle must be a resource"))
     lent_refused = Handle (item_of lender) (0, lit< tt, refl) refl (t_id (at 62 63), (0, lit< tt, refl), lent_ends, refl)

@@ -20,7 +20,7 @@ use Rattle.wit_tree.specs.declared.tree.ToplevelUse.{ToplevelUse}
 use Rattle.wit_tree.specs.declared.tree.AstItem.TheVariants as ast
 use Rattle.wit_tree.specs.declared.tree.PackageFile.{PackageFile}
 use Rattle.wit_syntax.specs.Address.{InterfaceNamed}
-use Rattle.wit_syntax.specs.Fault.{Fault, fault}
+use Rattle.wit_syntax.specs.Fault.{Fault, fault_in}
 use Rattle.wit_syntax.specs.Metadata.{IsBrokenMetadata}
 use Rattle.wit_syntax.specs.Repeats.{AllDiffer}
 use Rattle.wit_syntax.specs.Source.{top_names, TheWorld, Item, path_scope}
@@ -90,7 +90,7 @@ module _ (ptr : Ptr) (alloc : Global) where
     leads_to_i = refl
 
     -- so it is imported twice
-    twice_refused : IsBroken (file ∷ []) (fault 43 (at 71 72))
+    twice_refused : IsBroken (file ∷ []) (fault_in 43 (at 71 72) (codes "interface cannot be imported more than once"))
     twice_refused = LinkedTwice item (1, lit< tt, refl) (Imported, 1, link Imported None (i_at (at 61 62)), link Imported None (j_at (at 71 72)), (0, lit< tt, refl), refl, refl, refl, refl, refl, refl)
 
   -- world w { import i; import a: i; import b: i; export i; }

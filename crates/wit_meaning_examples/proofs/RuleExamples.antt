@@ -33,7 +33,7 @@ use Rattle.wit_types.specs.declared.types.TypeOwner.TheVariants as owner
 use Rattle.wit_functions.specs.declared.function.Function.{Function as Made}
 use Rattle.wit_functions.specs.declared.function.FunctionKind.TheVariants as function_kind
 use Rattle.wit_model.specs.declared.unresolved.UnresolvedPackage.{UnresolvedPackage}
-use Rattle.wit_syntax.specs.Fault.{fault}
+use Rattle.wit_syntax.specs.Fault.{fault, fault_in}
 use Rattle.wit_syntax.specs.Address.{WorldNamed}
 use Rattle.wit_syntax.specs.Metadata.{no_docs}
 use Rattle.wit_syntax.specs.Source.{top_names, TheWorld, Item, ScopeName, Defined}
@@ -80,7 +80,7 @@ module _ (ptr : Ptr) (alloc : Global) where
         let f : ⊥ = cc in
         f
 
-    later_refused : IsBroken (file_of ptr alloc later ∷ []) (record { rule = 29; span = at 42 43; name = Some (codes "g"); sort = Missing (codes "name"); hint = None })
+    later_refused : IsBroken (file_of ptr alloc later ∷ []) (record { rule = 29; span = at 42 43; name = Some (codes "g"); sort = Missing (codes "name"); hint = None; said = [] })
     later_refused = in_scope ptr alloc later _ (Function 0 _ refl (MissingInSignature (g_id (at 42 43)) (0, lit< tt, refl) refl (OfNothing not_entered refl)))
 
   -- x: get(v: u8) -> u8;
@@ -182,7 +182,7 @@ module _ (ptr : Ptr) (alloc : Global) where
         f
     no_getter (suc (suc k)) g at same = let f : ⊥ = cc in f
 
-    alone : IsSetterAlone item (fault 18 (at 55 56))
+    alone : IsSetterAlone item (fault_in 18 (at 55 56) (codes "setter `[method][set]r.x` has no corresponding getter `[method][get]r.x`"))
     alone = (
       refl,
       Imported,

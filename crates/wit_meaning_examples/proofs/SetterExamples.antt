@@ -25,7 +25,7 @@ use Rattle.wit_functions.specs.declared.function.FunctionKind.TheVariants as kin
 use Rattle.wit_model.specs.declared.world.WorldItem.{WorldItem}
 use Rattle.wit_model.specs.declared.world.WorldKey.{WorldKey}
 use Rattle.wit_syntax.specs.Broken.{IsBroken, Setter}
-use Rattle.wit_syntax.specs.Fault.{fault}
+use Rattle.wit_syntax.specs.Fault.{fault_in}
 use Rattle.wit_syntax.specs.Function.{SourceFunction, functions}
 use Rattle.wit_syntax.specs.Metadata.{no_docs}
 use Rattle.wit_syntax.specs.Sides.{on_side}
@@ -78,7 +78,7 @@ module _ (ptr : Ptr) (alloc : Global) where
       f
   no_getter (suc k) g there same = absurd (let f : ⊥ = cc in f)
 
-  alone_refused : IsBroken (file ∷ []) (fault 18 (at 57 58))
+  alone_refused : IsBroken (file ∷ []) (fault_in 18 (at 57 58) (codes "setter `[set]x` has no corresponding getter `[get]x`"))
   alone_refused = Setter item (0, lit< tt, refl) (
     refl,
     Exported,

@@ -25,7 +25,7 @@ use Rattle.wit_functions.specs.declared.function.Function.{Function as Made}
 use Rattle.wit_functions.specs.declared.function.FunctionKind.TheVariants as function_kind
 use Rattle.wit_model.specs.declared.unresolved.UnresolvedPackage.{UnresolvedPackage}
 use Rattle.wit_graph.specs.Table.{IsOrder}
-use Rattle.wit_syntax.specs.Fault.{Fault, fault}
+use Rattle.wit_syntax.specs.Fault.{Fault, fault_in}
 use Rattle.wit_syntax.specs.Metadata.{no_docs, IsBrokenMetadata}
 use Rattle.wit_syntax.specs.Repeats.{AllDiffer}
 use Rattle.wit_syntax.specs.Source.{top_names, TheWorld, Item, Defined, scope_names}
@@ -109,15 +109,14 @@ module _ (ptr : Ptr) (alloc : Global) where
     one_key : map called_key (side_called Imported [] (items_on Imported (side_items (item_of folding))) []) ≡ (codes "f" ∷ codes "f" ∷ [])
     one_key = refl
 
-    folding_refused : IsBroken (file_of folding ∷ []) (fault 17 (at 52 53))
+    folding_refused : IsBroken (file_of folding ∷ []) (fault_in 17 (at 52 53) (codes "name `F` conflicts with previous name `f`"))
     folding_refused = Sides (item_of folding) (0, lit< tt, refl) (FoldedTwice (
       Imported,
       [],
       no_rows,
       (
-        record { name = codes "F"; span = at 52 53 },
-        (0, 1, lit< tt, record { name = codes "f"; span = at 34 35 }, refl, refl, refl),
-        refl,
+        codes "name `F` conflicts with previous name `f`",
+        (record { name = codes "F"; span = at 52 53 }, (0, 1, lit< tt, record { name = codes "f"; span = at 34 35 }, refl, refl, refl), refl),
       ),
     ))
 
@@ -126,7 +125,7 @@ module _ (ptr : Ptr) (alloc : Global) where
     abbrev repeating : WrittenWorld
     repeating = w (extern_part Imported (f_at (at 52 53)) (at 55 59))
 
-    repeating_refused : IsBroken (file_of repeating ∷ []) (fault 44 (at 52 53))
+    repeating_refused : IsBroken (file_of repeating ∷ []) (fault_in 44 (at 52 53) (codes "import `f` conflicts with prior func of same name"))
     repeating_refused = Sides (item_of repeating) (0, lit< tt, refl) (CrossedTwice (
       Imported,
       [],
@@ -140,6 +139,7 @@ module _ (ptr : Ptr) (alloc : Global) where
       record { name = codes "f"; span = at 34 35 },
       (0, lit< tt, refl),
       refl,
+      codes "import `f` conflicts with prior func of same name",
       refl,
     ))
 
@@ -239,7 +239,7 @@ module _ (ptr : Ptr) (alloc : Global) where
     abbrev clashing : WrittenWorld
     clashing = pair_with (extern_part Imported (f_at (at 47 48)) (at 50 54))
 
-    clashing_refused : IsBroken (file_of clashing ∷ []) (fault 44 (at 47 48))
+    clashing_refused : IsBroken (file_of clashing ∷ []) (fault_in 44 (at 47 48) (codes "import `f` conflicts with prior type of same name"))
     clashing_refused = Sides (item_of clashing) (0, lit< tt, refl) (CrossedTwice (
       Imported,
       0 ∷ [],
@@ -253,6 +253,7 @@ module _ (ptr : Ptr) (alloc : Global) where
       record { name = codes "f"; span = at 32 33 },
       (0, lit< tt, refl),
       refl,
+      codes "import `f` conflicts with prior type of same name",
       refl,
     ))
 

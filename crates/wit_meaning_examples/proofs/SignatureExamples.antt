@@ -38,7 +38,7 @@ use Rattle.wit_syntax.specs.Metadata.{no_docs}
 use Rattle.wit_syntax.specs.Source.{top_names, TheInterface, Item, scope_names}
 use Rattle.wit_arena.specs.Expr.{Use, one}
 use Rattle.wit_arena.specs.Occurrences.{Def, Whole}
-use Rattle.wit_syntax.specs.Fault.{Fault, fault}
+use Rattle.wit_syntax.specs.Fault.{Fault, fault, fault_in}
 use Rattle.wit_syntax.specs.Shape.{Shape, Word, shape_of}
 use Rattle.wit_syntax.specs.Function.{SourceFunction, functions, role_names}
 use Rattle.wit_arena.specs.SourceFunctions.{placed_functions}
@@ -161,15 +161,14 @@ module _ (ptr : Ptr) (alloc : Global) where
     one_key : map called_key clashing ≡ (codes "r" ∷ codes "r" ∷ [])
     one_key = refl
 
-    clash_refused : IsBroken (file_of clash ∷ []) (fault 17 (at 44 45))
+    clash_refused : IsBroken (file_of clash ∷ []) (fault_in 17 (at 44 45) (codes "name `[method]r.r` conflicts with previous name `r`"))
     clash_refused = Sides (item_of clash) (0, lit< tt, refl) (FoldedTwice (
       Imported,
       0 ∷ [],
       one_order (codes "r"),
       (
-        record { name = codes "[method]r.r"; span = at 44 45 },
-        (0, 1, lit< tt, record { name = codes "r"; span = at 40 41 }, refl, refl, refl),
-        refl,
+        codes "name `[method]r.r` conflicts with previous name `r`",
+        (record { name = codes "[method]r.r"; span = at 44 45 }, (0, 1, lit< tt, record { name = codes "r"; span = at 40 41 }, refl, refl, refl), refl),
       ),
     ))
 
@@ -219,7 +218,7 @@ module _ (ptr : Ptr) (alloc : Global) where
     no_getter (suc zero) g there is = let wrong : false ≡ true = ap is_its_getter there ∙ is in let f : ⊥ = cc in f
     no_getter (suc (suc k)) g there is = let f : ⊥ = cc in f
 
-    unpaired_refused : IsBroken (file_of unpaired ∷ []) (fault 18 (at 60 61))
+    unpaired_refused : IsBroken (file_of unpaired ∷ []) (fault_in 18 (at 60 61) (codes "setter `[static][set]r.x` has no corresponding getter `[static][get]r.x`"))
     unpaired_refused = Setter (item_of unpaired) (0, lit< tt, refl) (
       refl,
       Imported,
@@ -278,23 +277,23 @@ module _ (ptr : Ptr) (alloc : Global) where
   abbrev itself : Interface
   itself = i_of (FuncItem (func_of (f_id (at 31 32)) (at 34 38) form.Plain (param (x_id (at 39 40)) (written.Name (f_id (at 42 43)))) None) ∷ []) (lit< tt)
 
-  itself_refused : IsBroken (file_of itself ∷ []) (fault 28 (at 42 43))
-  itself_refused = in_scope itself (fault 28 (at 42 43)) (Function 0 _ refl (MissingInSignature (f_id (at 42 43)) (0, lit< tt, refl) refl
+  itself_refused : IsBroken (file_of itself ∷ []) (fault_in 28 (at 42 43) (codes "cannot use function `f` as a type"))
+  itself_refused = in_scope itself _ (Function 0 _ refl (MissingInSignature (f_id (at 42 43)) (0, lit< tt, refl) refl
       (OfFunction (0, lit≤ tt, _, refl, f_id (at 31 32), form.Plain, refl, refl) refl)))
 
   -- type t = f; f: func();
   abbrev after_name : Interface
   after_name = i_of (TypeItem (record { docs = no_comments ptr alloc; attributes = unstated ptr alloc; name = t_id (at 36 37); body = Plain (written.Name (f_id (at 40 41))) }) ∷ FuncItem (func (f_id (at 43 44)) (at 46 50) form.Plain None) ∷ []) (lit< tt)
 
-  after_name_refused : IsBroken (file_of after_name ∷ []) (record { rule = 15; span = at 40 41; name = Some (codes "f"); sort = Missing (codes "type"); hint = None })
+  after_name_refused : IsBroken (file_of after_name ∷ []) (record { rule = 15; span = at 40 41; name = Some (codes "f"); sort = Missing (codes "type"); hint = None; said = [] })
   after_name_refused = in_scope after_name _ (MissingType (0, 0, f_id (at 40 41), (record { name = codes "t"; needs = f_id (at 40 41) ∷ [] }, refl, refl), refl, refl))
 
   -- resource r { m: func(self: u8); }
   abbrev two_selves : Interface
   two_selves = i_of (TypeItem (resource_of (r_id (at 40 41)) (resource.Method (func_of (m_id (at 44 45)) (at 47 51) form.Plain (param (id ptr alloc (codes "self") (at 52 56) refl) (written.Primitive (at 58 60) primitive.U8)) None) ∷ []) (lit< tt)) ∷ []) (lit< tt)
 
-  two_selves_refused : IsBroken (file_of two_selves ∷ []) (fault 38 (at 52 56))
-  two_selves_refused = in_scope two_selves (fault 38 (at 52 56)) (Function 0 _ refl (DuplicateParam (_, (0, 1, lit< tt, _, refl, refl, refl), refl)))
+  two_selves_refused : IsBroken (file_of two_selves ∷ []) (fault_in 38 (at 52 56) (codes "param `self` is defined more than once"))
+  two_selves_refused = in_scope two_selves _ (Function 0 _ refl (DuplicateParam (_, (0, 1, lit< tt, _, refl, refl, refl), refl)))
 
   -- x: set(v: u8) -> result<_, u8>; x: get() -> u8;
   module _ where
@@ -338,5 +337,5 @@ module _ (ptr : Ptr) (alloc : Global) where
     abbrev item_in_both : Interface → Item
     item_in_both i = record { top = top_names both; declared = TheInterface i }
 
-    used_refused : IsBroken (both ∷ []) (fault 13 (at 65 66))
+    used_refused : IsBroken (both ∷ []) (fault_in 13 (at 65 66) (codes "cannot import function `f`"))
     used_refused = MissingName (item_in_both b) (1, lit< tt, refl) (InterfaceNamed (codes "a")) [] used_f (0, lit< tt, refl) (item_in_both a) refl refl refl (OfFunction (0, lit< tt, refl) refl)

@@ -25,7 +25,7 @@ use Rattle.wit_tree.specs.declared.tree.WorldSide.TheVariants.{Imported, Exporte
 use Rattle.wit_syntax.specs.Address.{Address, ForeignNamed}
 use Rattle.wit_syntax.specs.Bodies.{IsBrokenBody, IsBrokenType, Itself, Inside}
 use Rattle.wit_syntax.specs.Broken.{headers, DuplicateItem, DuplicateTopName, MissingItem, CyclicItem, IsBrokenNames, Items, ForeignStability, is_world_at, IsBrokenUse, MissingUse, WorldUsed, IsBrokenScope, DefinedTwice, MissingType, CyclicType, Metadata, Body, Function, IsBroken, Headerless, Names, ItemStability, UseMetadata, IncludeStability, Use, InterfaceIncluded, MissingName, LinkedTwice, IsLinkedTwice, Scope, Sides, Handle, Setter, IsLegal, TopUse, AttributedUse, LostUse}
-use Rattle.wit_syntax.specs.Fault.{Fault, fault, missing_at, missing_type_at, item_word, type_word}
+use Rattle.wit_syntax.specs.Fault.{Fault, fault_in, missing_at, missing_type_at, item_word, type_word}
 use Rattle.wit_syntax.specs.Foreign.{ForeignVisit}
 use Rattle.wit_syntax.specs.Function.{functions, item_types}
 use Rattle.wit_syntax.specs.Metadata.{IsBrokenStability, IsBrokenMetadata}
@@ -102,7 +102,10 @@ module _ (ptr : Ptr) (alloc : Global) where
   one = record { package_id = Some (header ptr alloc); decl_list = record { items = vec ptr alloc (ast.Interface x ∷ ast.Use on_top ∷ ast.Interface i ∷ []) (lit< tt) } }
 
   -- in it x is twice at the top
-  one_refused : IsBroken (one ∷ []) (fault 6 (at 59 60))
+  abbrev x_twice : Fault
+  x_twice = fault_in 6 (at 59 60) (codes "duplicate name `x` in this file")
+
+  one_refused : IsBroken (one ∷ []) x_twice
   one_refused = Names (Items (DuplicateTopName one (0, lit< tt, refl) (_, (0, 1, lit< tt, _, refl, refl, refl), refl)))
 
   abbrev x_item : Item
@@ -261,4 +264,4 @@ module _ (ptr : Ptr) (alloc : Global) where
 
   -- so a law of files that are joined is false if it allows a `use` at the top
   no_law : ((files : List PackageFile) (one : PackageFile) (own : Header) → headers files ≡ own ∷ [] → one.package_id ≡ Some own → file_declarations one ≡ declarations files → IsLegal files ↔ IsLegal (one ∷ [])) → ⊥
-  no_law law = (law files one (header ptr alloc) refl refl refl).0 legal (fault 6 (at 59 60)) one_refused
+  no_law law = (law files one (header ptr alloc) refl refl refl).0 legal x_twice one_refused

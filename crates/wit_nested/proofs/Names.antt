@@ -5,6 +5,7 @@ use Rattle.std.specs.List.{AllZip, list_any}
 use Rattle.std.specs.Option.{option_map}
 use Rattle.std.proofs.lemmas.List.{append-nil, map-append, take-map}
 use Rattle.std.proofs.lemmas.Option.{slice_get-map}
+use Rattle.wit_values.specs.declared.span.Span.{Span}
 use Rattle.wit_tree.specs.declared.tree.NestedPackage.{NestedPackage}
 use Rattle.wit_tree.specs.declared.tree.PackageName.{PackageName as Header}
 use Rattle.wit_tree.specs.declared.tree.SourceFile.{SourceFile}
@@ -12,7 +13,8 @@ use Rattle.wit_package_names.specs.declared.package_name.PackageName.{PackageNam
 use Rattle.wit_model.specs.declared.unresolved.UnresolvedPackage.{UnresolvedPackage}
 use Rattle.wit_syntax.specs.Address.{package_of, same_package}
 use Rattle.wit_syntax.specs.Broken.{IsSamePackage, last_header}
-use Rattle.wit_syntax.specs.Fault.{Fault, fault}
+use Rattle.wit_syntax.specs.Fault.{Fault, fault_in}
+use Rattle.wit_syntax.specs.Words.{package_words}
 use Rattle.wit_syntax.specs.Repeats.{AllDiffer}
 use Rattle.wit_syntax.proofs.Addresses.{same_package-equal, same_package-from}
 use Rattle.wit_syntax.proofs.Found.{at_contains, contains_at}
@@ -27,7 +29,7 @@ use Rattle.wit_first.proofs.First.{after-at, any_some, none_both}
 use Rattle.wit_parser.proofs.Pushing.{package_same, same_by}
 use Rattle.wit_nested.specs.Nested.{IsMadeByNested, file_of}
 use Rattle.wit_nested.specs.PackageNames.{IsRepeatedPackage, package_names}
-use Rattle.wit_nested.specs.GroupFaults.{AgreeOnNames, repeat_fault, names_fault, nested_names, IsNamedTwice}
+use Rattle.wit_nested.specs.GroupFaults.{AgreeOnNames, repeat_fault, named_twice, names_fault, nested_names, IsNamedTwice}
 use Rattle.wit_nested.specs.PushFaults.{files_of, nested_of}
 use Rattle.wit_nested.proofs.Pushes.{none_of}
 
@@ -35,17 +37,17 @@ use Rattle.wit_nested.proofs.Pushes.{none_of}
 abbrev is_one : Header → Header → Bool
 is_one own h = same_package (package_of h) (package_of own)
 
-repeat_is : (before : List Header) (own : Header) (f : Fault) → repeat_fault before own ≡ Some f → (h : Header) × Contains before h × IsSamePackage h own × (f ≡ fault 53 own.span)
+repeat_is : (before : List Header) (own : Header) (f : Fault) → repeat_fault before own ≡ Some f → (h : Header) × Contains before h × IsSamePackage h own × (f ≡ named_twice own)
 repeat_is before own f h = by (list_any (is_one own) before) refl
   where
-    by : (b : Bool) → list_any (is_one own) before ≡ b → (h : Header) × Contains before h × IsSamePackage h own × (f ≡ fault 53 own.span)
+    by : (b : Bool) → list_any (is_one own) before ≡ b → (h : Header) × Contains before h × IsSamePackage h own × (f ≡ named_twice own)
     by false is = absurd (let wrong : None ≡ Some f = rw is at h in let g : ⊥ = cc in g)
     by true is = (
-        let same : Some (fault 53 own.span) ≡ Some f = rw is at h in
+        let same : Some (named_twice own) ≡ Some f = rw is at h in
         let it = any_found (is_one own) before is in
-        (it.1, contains_at before it.0 it.1 it.2, package_same it.1 own it.3, (let says : f ≡ fault 53 own.span = cc in says)))
+        (it.1, contains_at before it.0 it.1 it.2, package_same it.1 own it.3, (let says : f ≡ named_twice own = cc in says)))
 
-repeat_here : (before : List Header) (own h : Header) → Contains before h → IsSamePackage h own → repeat_fault before own ≡ Some (fault 53 own.span)
+repeat_here : (before : List Header) (own h : Header) → Contains before h → IsSamePackage h own → repeat_fault before own ≡ Some (named_twice own)
 repeat_here before own h among same = (
     let at = at_contains before h among in
     let any = any_some (is_one own) before at.0 h at.1 (same_by h own same) in
@@ -62,7 +64,7 @@ names_unbroken : (main : Option Header) (nested : List Header) → names_fault m
 names_unbroken main nested none f t =
     let there : names_fault (Some t.own) nested ≡ None = ap (λ (o : Option Header). names_fault o nested) (sym t.named) ∙ none in
     let own = after_only repeat_fault (t.own ∷ []) nested there t.place t.later t.present in
-    let wrong : None ≡ Some (fault 53 t.later.span) = sym own ∙ repeat_here (t.own ∷ take t.place nested) t.later t.before t.among t.same in
+    let wrong : None ≡ Some (named_twice t.later) = sym own ∙ repeat_here (t.own ∷ take t.place nested) t.later t.before t.among t.same in
     (let g : ⊥ = cc in g)
 
 pub names_agree : (main : Option Header) (nested : List Header) → Agrees (names_fault main nested) (IsNamedTwice main nested)
@@ -83,7 +85,7 @@ after_first w before (x ∷ xs) f h = elim (or_some (w before x) (first_after w 
 new_name : (before : List Header) (own : Header) (i : ℕ) → repeat_fault before own ≡ None → slice_get (map package_of before) i ≡ Some (package_of own) → ⊥
 new_name before own i none at =
     let it = map_at package_of before i (package_of own) at in
-    let wrong : None ≡ Some (fault 53 own.span) = sym none ∙ repeat_here before own it.0 (contains_at before i it.0 it.1) (package_same it.0 own (same_package-from (package_of it.0) (package_of own) it.2)) in
+    let wrong : None ≡ Some (named_twice own) = sym none ∙ repeat_here before own it.0 (contains_at before i it.0 it.1) (package_same it.0 own (same_package-from (package_of it.0) (package_of own) it.2)) in
     (let g : ⊥ = cc in g)
 
 -- without a fault no two names are one
@@ -118,6 +120,11 @@ one_named n p m = (let is : Some (package_of n.name) ≡ Some p.name = name_made
 
 one_spanned : (n : NestedPackage) (p : UnresolvedPackage) → IsMadeByNested n p → n.name.span ≡ p.name_span
 one_spanned n p m = (let is : Some n.name.span ≡ Some p.name_span = name_span_made (file_of n ∷ []) p m.made.whole in cc)
+
+one_refused : (n : NestedPackage) (p : UnresolvedPackage) → IsMadeByNested n p → named_twice n.name ≡ fault_in 53 p.name_span (package_words p.name)
+one_refused n p m =
+    ap (λ (s : Span). fault_in 53 s (package_words (package_of n.name))) (one_spanned n p m)
+    ∙ ap (λ (q : PackageName). fault_in 53 p.name_span (package_words q)) (one_named n p m)
 
 all_named : (ns : List NestedPackage) (ps : List UnresolvedPackage) → AllZip IsMadeByNested ns ps → map package_of (map (λ (n : NestedPackage). n.name) ns) ≡ package_names ps
 all_named [] [] each = refl
@@ -172,7 +179,7 @@ module _ (own : Header) (main : UnresolvedPackage) (ns : List NestedPackage) (ne
           again = subst (λ (ks : List PackageName). Contains ks p.0.name) (some_names it.0) (contains_at (map package_of (own ∷ take it.0 hs)) at.0 p.0.name keyed);
           apart = subst AllDiffer (some_names it.0) (names_apart own (take it.0 hs) it.3);
         };
-        is = r.3 ∙ ap (fault 53) (ap (λ (h : Header). h.span) (sym n.2) ∙ one_spanned n.0 p.0 p.2);
+        is = r.3 ∙ ap (λ (h : Header). named_twice h) (sym n.2) ∙ one_refused n.0 p.0 p.2;
       }
 
   package_repeated : (f : Fault) → IsRepeatedPackage main nested f → names_fault (Some own) hs ≡ Some f
@@ -185,7 +192,7 @@ module _ (own : Header) (main : UnresolvedPackage) (ns : List NestedPackage) (ne
       let same : package_of it.0 ≡ package_of n.0.name = it.2 ∙ sym (one_named n.0 r.later n.2) in
       let none : names_fault (Some own) (take i hs) ≡ None = names_none own (take i hs) (subst AllDiffer (sym (some_names i)) r.again.apart) in
       let wrong = repeat_here (own ∷ take i hs) n.0.name it.0 (contains_at (own ∷ take i hs) at.0 it.0 it.1) (package_same it.0 n.0.name (same_package-from (package_of it.0) (package_of n.0.name) same)) in
-      let is : fault 53 n.0.name.span ≡ f = ap (fault 53) (one_spanned n.0 r.later n.2) ∙ sym r.is in
+      let is : named_twice n.0.name ≡ f = one_refused n.0 r.later n.2 ∙ sym r.is in
       after-at repeat_fault (own ∷ hs) (suc i) n.0.name f own_at none (wrong ∙ ap Some is)
 
   on_names : AgreeOnNames (names_fault (Some own) hs) main nested

@@ -16,7 +16,7 @@ use Rattle.wit_first.specs.HeaderFaults.{other_fault}
 use Rattle.wit_first.specs.Laws.{Agrees}
 use Rattle.wit_first.proofs.Bridge.{after_only, after_some, in_agrees, or_none_both, or_some}
 use Rattle.wit_items.proofs.Documented.{docs_agree}
-use Rattle.wit_parser.proofs.Pushing.{other_here, same_by}
+use Rattle.wit_parser.proofs.Pushing.{another, other_here, same_by}
 use Rattle.wit_nested.specs.Nested.{IsBrokenAmong, IsBrokenNested, IsInner, IsUnfit, file_of}
 use Rattle.wit_nested.specs.Nested.IsBrokenNested.{Inner, Alone}
 use Rattle.wit_nested.specs.Nested.IsUnfit.{Nested, OtherPackage, DocumentedTwice}
@@ -102,20 +102,20 @@ other_broken (Some before) (Some own) f h = by (same_package (package_of before)
     by : (b : Bool) → same_package (package_of before) (package_of own) ≡ b → IsMismatch (Some before) (Some own) f
     by true is = absurd (let wrong : None ≡ Some f = rw is at h in let g : ⊥ = cc in g)
     by false is = (
-        let same : Some (fault 1 own.span) ≡ Some f = rw is at h in
+        let same : Some (another before own) ≡ Some f = rw is at h in
         record {
           before = before;
           own = own;
           was = refl;
           now = refl;
           other = λ one. (let wrong : true ≡ false = sym (same_by before own one) ∙ is in let g : ⊥ = cc in g);
-          is = (let says : f ≡ fault 1 own.span = cc in says);
+          is = (let says : f ≡ another before own = cc in says);
         })
 
 other_unbroken : (previous current : Option Header) → other_fault previous current ≡ None → (f : Fault) → IsMismatch previous current f → ⊥
 other_unbroken previous current none f h =
     let there = ap (λ (o : Option Header). other_fault o current) h.was ∙ ap (other_fault (Some h.before)) h.now ∙ other_here h.before h.own h.other in
-    let wrong : None ≡ Some (fault 1 h.own.span) = sym none ∙ there in
+    let wrong : None ≡ Some (another h.before h.own) = sym none ∙ there in
     (let g : ⊥ = cc in g)
 
 other_agrees : (previous current : Option Header) → Agrees (other_fault previous current) (IsMismatch previous current)

@@ -1,8 +1,8 @@
 //! The names of the packages of a group: no two of them may be equal.
-ghost use Rattle.std.specs.Prelude.{◌≡◌, ◌++◌, IfErr, IfNone, IfOk, IfSome, OnOk, codes, string_bytes};
+ghost use Rattle.std.specs.Prelude.{◌≡◌, IfErr, IfNone, IfOk, IfSome, OnOk, string_bytes};
 ghost use Rattle.std.specs.Map.{keys_of};
-ghost use Rattle.wit_package_names.specs.PackageName.{name_text};
 ghost use Rattle.wit_syntax.specs.Broken.{Refused};
+ghost use Rattle.wit_syntax.specs.Words.{package_words};
 ghost use Rattle.wit_nested.specs.PackageNames.{AreNamedApart, IsInserted, IsNamedAgain, IsRepeatedPackage};
 
 use std::alloc::{AllocError, Global};
@@ -43,7 +43,7 @@ fn named_again<'p>(
 
 /// The words for a package whose name another one of the group has.
 fn repeated(alloc: Global, name: &PackageName) -> Result<String, AllocError>
-    ensures { IfOk result (λ words. string_bytes words ≡ codes "package `" ++ (name_text name.now ++ codes "` is defined more than once in this group")) }
+    ensures { IfOk result (λ words. string_bytes words ≡ package_words name.now) }
 {
     format!(in alloc; "package `{name}` is defined more than once in this group")
 }

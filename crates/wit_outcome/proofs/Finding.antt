@@ -19,7 +19,7 @@ outcome_of : (parts : List (List ℕ × List ℕ)) (sources : List Source) → A
 outcome_of parts sources are (outcome.Group g) is =
     let same = sym is.0 in
     Made g (record { are = subst (AreLaid parts) same are; group = subst (λ s. IsGroup s g.main g.nested) same is.1 })
-outcome_of parts sources are (outcome.Refusal p) is = Declined p (record { sources = sources; are = are; e = is.0; refused = is.1; plain = is.2 })
+outcome_of parts sources are (outcome.Refusal p) is = Declined p (record { sources = sources; are = are; e = is.0; refused = is.1; first = is.2; plain = is.3 })
 
 pub result_of : {E : Type 0} (parts : List (List ℕ × List ℕ)) (sources : List Source) (r : Result Outcome E) → AreLaid parts sources → IfOk r (IsOutcomeOf sources) → IfOk r (IsOutcome parts)
 result_of parts sources (Ok o) are is = outcome_of parts sources are o is

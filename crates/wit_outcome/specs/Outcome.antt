@@ -7,6 +7,7 @@ use Rattle.wit_lex.specs.Sources.{IsTooLarge}
 use Rattle.wit_bundle.specs.Laid.{AreLaid, room}
 use Rattle.wit_groups.specs.declared.group.UnresolvedPackageGroup.{UnresolvedPackageGroup}
 use Rattle.wit_groups.specs.Groups.{IsGroup, IsRefused}
+use Rattle.wit_groups.specs.SourceFaults.{StatesFirst}
 use Rattle.wit_json.specs.Group.{group_json}
 use Rattle.wit_json.specs.Refusal.{Range, refusal_json}
 use Rattle.wit_outcome.specs.declared.outcome.Outcome.{Outcome}
@@ -19,12 +20,13 @@ pub record IsMade (parts : List (List ℕ × List ℕ)) (g : UnresolvedPackageGr
   pub are : AreLaid parts g.source_map.sources.items
   pub group : IsGroup g.source_map.sources.items g.main g.nested
 
--- they are refused, and this is their refusal
+-- they are refused for their first fault, and this is their refusal
 pub record IsDeclined (parts : List (List ℕ × List ℕ)) (p : Plain) : Type 0 where
   pub sources : List Source
   pub are : AreLaid parts sources
   pub e : ParseError
   pub refused : IsRefused sources e
+  pub first : StatesFirst sources e
   pub plain : IsPlain sources e p
 
 -- they are too large, and this is the refusal that says so
@@ -44,7 +46,7 @@ pub data IsOutcome (parts : List (List ℕ × List ℕ)) : Outcome → Type 0 wh
 -- what these sources come to
 abbrev pub IsOutcomeOf : List Source → Outcome → Type 0
 IsOutcomeOf sources (outcome.Group g) = (g.source_map.sources.items ≡ sources) × IsGroup sources g.main g.nested
-IsOutcomeOf sources (outcome.Refusal p) = (e : ParseError) × IsRefused sources e × IsPlain sources e p
+IsOutcomeOf sources (outcome.Refusal p) = (e : ParseError) × IsRefused sources e × StatesFirst sources e × IsPlain sources e p
 
 -- the range of a refusal, if it is in a source
 abbrev pub place_of : Bool → List ℕ → ℕ → ℕ → Option Range

@@ -38,7 +38,7 @@ written_kept as_stated IsText a b c (Err Memory) w q = keeps_then a b c w q
 
 pub run_kept : (sources : List Source) (a b c : Option (List ℕ)) (result : Result (Option UnresolvedPackageGroup) RunFault) → IsRun sources a b result → Keeps b c → IsRun sources a c result
 run_kept sources a b c result (Group group is kept written) q = Group group is kept (written_kept _ _ a b c result written q)
-run_kept sources a b c result (Refusal e refused written) q = Refusal e refused (written_kept _ _ a b c result written q)
+run_kept sources a b c result (Refusal e refused first written) q = Refusal e refused first (written_kept _ _ a b c result written q)
 
 pub answered_kept : (text : List ℕ) (a b c : Option (List ℕ)) (result : Result (Option UnresolvedPackageGroup) RunFault) → IsAnswered text a b result → Keeps b c → IsAnswered text a c result
 answered_kept text a b c result (Ran on) q = Ran (record {

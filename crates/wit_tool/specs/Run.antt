@@ -4,6 +4,7 @@ use Rattle.wit_type_tree.specs.declared.error.ParseError.{ParseError}
 use Rattle.wit_lex.specs.declared.source.Source.{Source}
 use Rattle.wit_groups.specs.declared.group.UnresolvedPackageGroup.{UnresolvedPackageGroup}
 use Rattle.wit_groups.specs.Groups.{IsGroup, IsRefused}
+use Rattle.wit_groups.specs.SourceFaults.{StatesFirst}
 use Rattle.wit_listing.specs.declared.fault.RunFault.{RunFault}
 use Rattle.wit_listing.specs.Output.{IsWrittenAs}
 use Rattle.wit_listing.specs.Listing.{listing_text}
@@ -17,7 +18,7 @@ IsListed group old new result = IsWrittenAs (Some group) (λ text. text ≡ list
 abbrev pub IsRefusalWritten : List Source → ParseError → Option (List ℕ) → Option (List ℕ) → Result (Option UnresolvedPackageGroup) RunFault → Type 0
 IsRefusalWritten sources e old new result = IsWrittenAs None (IsErrorLine sources e) old new result
 
--- the sources make a group and its listing was written, or they are refused and the line of that was
+-- the sources make a group and its listing was written, or they are refused for their first fault and the line of that was
 pub data IsRun (sources : List Source) (old new : Option (List ℕ)) (result : Result (Option UnresolvedPackageGroup) RunFault) : Type 0 where
   Group : (group : UnresolvedPackageGroup) → IsGroup sources group.main group.nested → group.source_map.sources.items ≡ sources → IsListed group old new result → IsRun sources old new result
-  Refusal : (e : ParseError) → IsRefused sources e → IsRefusalWritten sources e old new result → IsRun sources old new result
+  Refusal : (e : ParseError) → IsRefused sources e → StatesFirst sources e → IsRefusalWritten sources e old new result → IsRun sources old new result

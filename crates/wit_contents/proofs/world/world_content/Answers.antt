@@ -1,4 +1,4 @@
-use Rattle.std.proofs.Common.{◌++◌, List, length, map, inl, inr, sym, ap, ◌∙◌, subst, append_assoc}
+use Rattle.std.proofs.Common.{◌++◌, Bool, List, length, map, inl, inr, sym, ap, ◌∙◌, subst, append_assoc}
 use Rattle.std.proofs.lemmas.Result.{err_from_is_err_and}
 use Rattle.std.specs.Char.{is_ascii_uppercase}
 use Rattle.std.specs.List.{flat_map, list_any}
@@ -7,7 +7,7 @@ use Rattle.wit_tree.specs.declared.tree.WorldSide.{WorldSide}
 use Rattle.wit_tree.specs.declared.tree.WorldSide.TheVariants.{Imported, Exported}
 use Rattle.wit_types.specs.declared.types.TypeOwner.TheVariants.{World as OfWorld}
 use Rattle.wit_syntax.specs.Function.{part_functions}
-use Rattle.wit_syntax.specs.ScopeTables.{includes as written_includes}
+use Rattle.wit_syntax.specs.ScopeTables.{in_turn, includes as written_includes}
 use Rattle.wit_syntax.specs.Repeats.{AllDiffer}
 use Rattle.wit_syntax.specs.Source.{Declared, about, local_name, scope_names}
 use Rattle.wit_arena.specs.Resolving.{Required}

@@ -10,4 +10,4 @@ pub returns-in_ok-plain_of-in-Err : goal.returns-in_ok-plain_of-in-Err
 returns-in_ok-plain_of-in-Err c =
     let same = rw c.in-Err.ensures.returned at c.sources.ensures in
     let found = c.in_ok-plain_of-in-Err in
-    (c.in-Err.fault, c.in-Err.ensures.refused, subst (λ sources. IsPlain sources c.in-Err.fault found.field-0) same found.ensures)
+    (c.in-Err.fault, c.in-Err.ensures.refused, c.in-Err.ensures.first, subst (λ sources. IsPlain sources c.in-Err.fault found.field-0) same found.ensures)

@@ -1,0 +1,5 @@
+use Rattle.wit_group_walk.proofs.Lines.{one_line_of_sources as law}
+use Rattle.wit_group_walk.proofs.laws.one_line_of_sources.Goals as goal
+
+pub returns : goal.returns
+returns c = law

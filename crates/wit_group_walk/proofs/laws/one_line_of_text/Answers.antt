@@ -1,0 +1,5 @@
+use Rattle.wit_group_walk.proofs.Lines.{one_line_of_text as law}
+use Rattle.wit_group_walk.proofs.laws.one_line_of_text.Goals as goal
+
+pub returns : goal.returns
+returns c = law
