@@ -12,6 +12,9 @@ use Rattle.wit_tree.specs.declared.tree.WorldSide.{WorldSide}
 use Rattle.wit_tree.specs.declared.tree.WorldSide.TheVariants.{Imported, Exported}
 use Rattle.wit_types.specs.declared.types.TypeDef.{TypeDef}
 use Rattle.wit_types.specs.declared.types.TypeOwner.TheVariants as owner
+use Rattle.wit_functions.specs.MaybeFunction.{is_setter}
+use Rattle.wit_functions.proofs.NoSetters.{no_setters}
+use Rattle.wit_model.specs.ItemsOfWorlds.{function_of}
 use Rattle.wit_model.specs.declared.interface.Interface.{Interface}
 use Rattle.wit_model.specs.declared.world.World.{World}
 use Rattle.wit_syntax.specs.Address.{Address}
@@ -27,15 +30,13 @@ use Rattle.wit_first.proofs.Clashes.{no_clashes}
 use Rattle.wit_first.proofs.First.{none_both}
 use Rattle.wit_walk.specs.Setters.{setters_beside, setters_fault}
 use Rattle.wit_arena.specs.UnfoldedTypes.{IsWorld}
-use Rattle.wit_arena.specs.Resolving.{Names, Required, names_in}
+use Rattle.wit_arena.specs.Resolving.{Names, Required}
 use Rattle.wit_arena.specs.ResolvedArenas.{AddsSides, AddsWorld, interfaces_at, worlds_at}
 use Rattle.wit_arena.specs.SideItems.{AreSideItems, settled}
 use Rattle.wit_arena.specs.Whole.{AreIncludes, type_imports}
 use Rattle.wit_refusals.specs.NameScopes.{Name}
-use Rattle.wit_sides.specs.SideNames.{defined_on}
 use Rattle.wit_signatures.specs.ForeignName.{name_key, name_of_id}
 use Rattle.wit_externs.specs.AloneFaults.{again, sides_setters}
-use Rattle.wit_externs.specs.Next.{linked_on}
 use Rattle.wit_items.specs.ForeignAddresses.{prefix_of}
 use Rattle.wit_items.specs.BorrowedItems.{declared_view, item_view}
 use Rattle.wit_items.specs.ResolvedInterfaces.{resolved_scopes_of}
@@ -45,12 +46,7 @@ use Rattle.wit_item_entries.specs.NameOrder.{IsTurn}
 use Rattle.wit_item_entries.specs.AddedNames.{AddsTurn}
 use Rattle.wit_item_entries.proofs.FunctionFaults.{turn_texts}
 use Rattle.wit_item_entries.proofs.NoFunctions.{names_alone}
-use Rattle.wit_world_sides.specs.FilledSides.{entries_of}
-use Rattle.wit_world_sides.specs.Members.{AreKeyed, Entry}
-use Rattle.wit_world_sides.specs.Settled.{AreCalled}
-use Rattle.wit_world_sides.specs.declared.members.Members.{Members}
-use Rattle.wit_world_sides.specs.declared.sides.WorldSides.{WorldSides}
-use Rattle.wit_world_sides.proofs.Putting.{begun_with, keyed_differ}
+use Rattle.wit_world_sides.specs.Members.{Entry}
 use Rattle.wit_contents.specs.AddedWorlds.{arenas}
 use Rattle.wit_contents.specs.MemberFaults.{MemberTest}
 use Rattle.wit_contents.specs.Walk.{puts_nothing}
@@ -80,36 +76,21 @@ by_includes i (n ∷ ns) none = refl
 pub setters_none : (i : Item) → side_items i ≡ [] → setters_fault i ≡ None
 setters_none i empty = by_includes i (includes i) (functions_items i ∙ ap (flat_map item_function) empty)
 
+-- types are no functions
+no_setter : (xs : List ScopeName) (types : Names) → list_any (λ (e : Entry). is_setter (function_of e.1)) (type_imports xs types) ≡ false
+no_setter [] types = refl
+no_setter (x ∷ xs) [] = refl
+no_setter (x ∷ xs) (t ∷ types) = no_setter xs types
+
+-- so they stay where they are
+names_settled : (written : List Include) (xs : List ScopeName) (types : Names) → settled written (type_imports xs types) ≡ type_imports xs types
+names_settled [] xs types = no_setters (λ (e : Entry). function_of e.1) (type_imports xs types) (no_setter xs types)
+names_settled (i ∷ is) xs types = refl
+
 -- names in turn without a letter in upper case
 module _ (xs : List ScopeName) (ids : List Id) (turn : IsTurn xs ids) (lower : list_any (λ (id : Id). list_any is_ascii_uppercase id.name.now) ids ≡ false) where
   keys_differ : (s : WorldSide) → AllDiffer (map name_key (names_on s (map name_of_id ids)))
   keys_differ s = subst (λ (l : List Name). AllDiffer (map name_key l)) (append-nil (names_on s (map name_of_id ids))) (names_alone s xs ids [] refl turn lower)
-
-  -- which are the sides of a world
-  module _ (types : Names) (listed : names_in types ≡ map (λ id. id.name.now) ids) (sides : WorldSides) (imports : (ys : List ScopeName) → ids ≡ map local_id ys → sides.imports ≡ type_imports ys types) (exports : sides.exports ≡ []) where
-    -- as if the names were defined
-    abbrev alone : Members
-    alone = record { in_use = record { imports = map name_of_id ids; exports = [] }; links = record { imports = []; exports = [] }; sides = sides }
-
-    names_then : (s : WorldSide) → defined_on s alone.in_use ≡ names_on s (map name_of_id ids)
-    names_then Imported = refl
-    names_then Exported = refl
-
-    links_then : (s : WorldSide) → linked_on s alone.links ≡ []
-    links_then Imported = refl
-    links_then Exported = refl
-
-    differ : (s : WorldSide) → AllDiffer (map name_key (defined_on s alone.in_use))
-    differ s = subst (λ (l : List Name). AllDiffer (map name_key l)) (sym (names_then s)) (keys_differ s)
-
-    keyed : AreKeyed alone
-    keyed = begun_with alone types ids listed imports exports names_then differ links_then
-
-    pub alone_differ : (s : WorldSide) → AllDiffer (map (λ e. e.0) (entries_of s sides))
-    alone_differ = keyed_differ alone keyed
-
-    pub alone_called : (s : WorldSide) → AreCalled (entries_of s sides)
-    alone_called = keyed.called
 
 -- a world of the files that has nothing on its sides after its names
 module _ (item : Item) (empty : side_items item ≡ []) where
@@ -125,7 +106,7 @@ module _ (item : Item) (empty : side_items item ≡ []) where
     abbrev names : List Entry
     names = type_imports (in_turn (scope_names item) n.adds.order) types
 
-    pub alone_adds : (added : World) (ss : List Address) → IsWorld (about item.declared).id.name.now (about item.declared).id.span (declared_metadata item.declared) added → added.imports ≡ settled (includes item) names → added.exports ≡ settled (includes item) [] → AreIncludes (worlds_at others ws) item added.includes → AddsWorld (prefix_of is.files) others is.arena old middle (arenas ws inside ss) (arenas (ws ++ added ∷ []) inside (ss ++ map address (inline_items item))) required item
+    pub alone_adds : (added : World) (ss : List Address) → IsWorld (about item.declared).id.name.now (about item.declared).id.span (declared_metadata item.declared) added → added.imports ≡ names → added.exports ≡ [] → AreIncludes (worlds_at others ws) item added.includes → AddsWorld (prefix_of is.files) others is.arena old middle (arenas ws inside ss) (arenas (ws ++ added ∷ []) inside (ss ++ map address (inline_items item))) required item
     alone_adds added ss says imported exported included =
         let us = inline_items item in
         let total = interfaces_at (prefix_of is.files) is.arena ++ (ss ++ map address us) in
@@ -146,9 +127,9 @@ module _ (item : Item) (empty : side_items item ≡ []) where
           sides = subst (λ (xs : List SideItem). AddsSides (resolved_scopes_of is) (length is.arena) (address item) types middle middle inside inside [] [] xs us) (sym empty) (sides_none (resolved_scopes_of is) (length is.arena) (address item) types middle inside us);
           imported = [];
           are_imported = none Imported;
-          imports = imported ∙ ap (settled (includes item)) (sym (append-nil names));
+          imports = imported ∙ sym (names_settled (includes item) (in_turn (scope_names item) n.adds.order) types) ∙ ap (settled (includes item)) (sym (append-nil names));
           exported = [];
           are_exported = none Exported;
-          exports = exported;
+          exports = exported ∙ sym (names_settled (includes item) [] types);
           includes = included;
         }

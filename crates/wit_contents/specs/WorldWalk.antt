@@ -1,10 +1,8 @@
 -- The walk of a world of the files, after its names, and what it adds.
 use Rattle.std.specs.Prelude.{◌≡◌, Bool, List, [], map}
-use Rattle.wit_tree.specs.declared.tree.Include.{Include}
 use Rattle.wit_syntax.specs.Function.{functions as the_functions}
 use Rattle.wit_syntax.specs.ScopeTables.{includes}
 use Rattle.wit_syntax.specs.Source.{ScopeName, local_id, scope_names}
-use Rattle.wit_arena.specs.SideItems.{settled}
 use Rattle.wit_arena.specs.Whole.{type_imports}
 use Rattle.wit_rules.specs.BorrowedFunctions.{function_view}
 use Rattle.wit_rules.specs.Signatures.{AreResults}
@@ -35,10 +33,10 @@ pub record IsWalkOf (w : Walk) (i : BorrowedItem) (is : Interfaces) (names : Res
   pub types : w.scope.names.now ≡ names.types
   pub turn : w.turn.now ≡ names.turn.items
 
--- where nothing comes after names, these are the sides of a world, by its includes
-pub record AreNamesAlone (n : ResolvedNames) (closed : Bool) (sides : WorldSides) : Type 0 where
-  pub imports : (xs : List ScopeName) (written : List Include) → n.turn.items ≡ map local_id xs → closed ≡ none_of written → sides.imports ≡ settled written (type_imports xs n.types)
-  pub exports : (written : List Include) → closed ≡ none_of written → sides.exports ≡ settled written []
+-- where nothing comes after names, these are the sides of a world
+pub record AreNamesAlone (n : ResolvedNames) (sides : WorldSides) : Type 0 where
+  pub imports : (xs : List ScopeName) → n.turn.items ≡ map local_id xs → sides.imports ≡ type_imports xs n.types
+  pub exports : sides.exports ≡ []
 
 -- all that is on the sides of the world was added
 abbrev pub AddsSidesOf : BorrowedItem → Interfaces → ResolvedNames → Growing → Growing → Walked → Type 0

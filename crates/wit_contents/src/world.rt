@@ -1,7 +1,5 @@
 //! Declared worlds.
-ghost use Rattle.std.specs.Prelude.{◌≡◌, ◌<◌, ◌≤◌, ◌+◌, ◌++◌, ◌∷◌, [], All, List, None, false, true, length, IfOk, IfErr, OnOk};
-ghost use Rattle.std.specs.Char.{is_ascii_uppercase};
-ghost use Rattle.std.specs.List.{list_any};
+ghost use Rattle.std.specs.Prelude.{◌≡◌, ◌<◌, ◌≤◌, ◌+◌, ◌++◌, ◌∷◌, [], All, List, None, true, length, IfOk, IfErr, OnOk};
 ghost use Rattle.wit_type_tree.specs.RefusalText.{IsAllocationFailure};
 ghost use Rattle.wit_syntax.specs.Source.{ScopeName, about, is_world};
 ghost use Rattle.wit_syntax.specs.Sides.{inline_items};
@@ -138,22 +136,19 @@ fn world_names<'f, 'a>(
     resolve_names(alloc, &item.names, types, worlds.interfaces, owner)
 }
 
-/// The sides of a world that has nothing there but these names, which have no letter in upper case: they
-/// are their own keys, and need not be defined.
+/// The sides of a world that has nothing there but these names. Types are no setters, so that all stay
+/// where they are.
 fn sides_of_names(
     alloc: Global,
     names: &ResolvedNames<'_>,
     required: &mut Vec<Required>,
-    closed: bool,
 ) -> Result<WorldSides, AllocError>
     requires turn { (xs : List ScopeName) × IsTurn xs names.now.turn.items }
-    requires lower { list_any (λ id. list_any is_ascii_uppercase id.name.now) names.now.turn.items ≡ false }
-    ensures sides { IfOk result (AreNamesAlone names.now closed) }
+    ensures sides { IfOk result (AreNamesAlone names.now) }
     ensures required { OnOk result (required.new.items ≡ required.old.items ++ names.now.required.items) }
 {
-    let named = named_sides(alloc, &names.turn, &names.types, 0, 0)?;
+    let sides = named_sides(alloc, &names.turn, &names.types, 0, 0)?;
     add_required(required, &names.required)?;
-    let sides = settle(alloc, named, closed)?;
     Ok(sides)
 }
 
@@ -173,14 +168,14 @@ fn world_content<'f, 'a>(
     let alloc = *worlds.by_name.allocator();
     let names = world_names(item, &mut growing.types, worlds)?;
     let includes = declared_includes(alloc, &item.declared, worlds, item.place)?;
-    let closed = is_closed(includes.as_slice());
     let world = declared_world(&item.declared);
     if put_nothing(world_items(world)) {
         if !have_upper_case(&names.turn) {
-            let sides = sides_of_names(alloc, &names, required, closed)?;
+            let sides = sides_of_names(alloc, &names, required)?;
             return Ok(WorldContent { sides, includes });
         }
     }
+    let closed = is_closed(includes.as_slice());
     let functions = world_functions(alloc, world)?;
     let results = written_results(alloc, &item.names)?;
     let scope = WorldScope {

@@ -5,6 +5,7 @@ pub mod Pairs
 pub mod Same
 pub mod Names
 pub mod GetterNames
+pub mod NoSetters
 pub mod OwnNames
 pub mod Parting
 pub mod Serving

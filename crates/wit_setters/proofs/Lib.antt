@@ -1,5 +1,4 @@
 pub mod Results
-mod NoSetters
 mod OwnNames
 pub mod Keys
 mod OneSide

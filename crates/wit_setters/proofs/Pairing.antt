@@ -12,7 +12,7 @@ use Rattle.wit_syntax.proofs.Names.{name_equal}
 use Rattle.wit_setters.specs.Paired.{ArePaired}
 use Rattle.wit_functions.specs.MaybeFunction.{is_setter, offered, wanted}
 use Rattle.wit_functions.proofs.GetterNames.{goes_wanted, same_as_none, wants_none}
-use Rattle.wit_setters.proofs.NoSetters.{each_alone}
+use Rattle.wit_functions.proofs.NoSetters.{each_alone}
 
 -- no item goes with one after it
 abbrev NoneWaits : {X : Type 0} → (X → X → Bool) → List X → Type 0

@@ -38,11 +38,8 @@ pub declared_includes-requires-clause-item : goal.declared_includes-requires-cla
 declared_includes-requires-clause-item c = filed_item c.args.worlds.now.interfaces.now.files c.args.item.now c.requires.item.filed
 
 -- nothing comes after its names
-pub sides_of_names-requires-clause-turn : goal.sides_of_names-requires-clause-turn
-sides_of_names-requires-clause-turn c = (scope_names (item_view c.args.item.now), turn_added _ _ _ _ _ _ _ _ c.in_ok-names.ensures.adds)
-
-pub sides_of_names-requires-clause-lower : goal.sides_of_names-requires-clause-lower
-sides_of_names-requires-clause-lower c = ap has_upper (sym c.deref.ensures.value) ∙ sym c.have_upper_case.ensures ∙ c.if-not-have_upper_case.true
+pub sides_of_names-requires : goal.sides_of_names-requires
+sides_of_names-requires c = record { turn = (scope_names (item_view c.args.item.now), turn_added _ _ _ _ _ _ _ _ c.in_ok-names.ensures.adds) }
 
 pub returns-then-not-have_upper_case-clause-adds : goal.returns-then-not-have_upper_case-clause-adds
 returns-then-not-have_upper_case-clause-adds c = λ world has ss known.
@@ -53,12 +50,11 @@ returns-then-not-have_upper_case-clause-adds c = λ world has ss known.
     let n = c.in_ok-names.ensures.adds in
     let empty = none_there c.args.item.now c.declared_world-world.result.now c.world_items.result.now c.declared_world-world.ensures c.world_items.ensures (sym c.put_nothing.ensures ∙ c.if-put_nothing.true) in
     let are = rw (ap names_at_top c.requires.item.filed.file) at c.in_ok-includes.ensures.are in
-    let closed = c.is_closed-closed.ensures (written_includes item) (ap length c.as_slice.ensures ∙ are.count) in
     let alone = c.in_ok-sides.ensures.sides in
     record {
       own = names.required.items;
       list = c.in_ok-sides.ensures.required;
-      holds = alone_adds item empty is (others_of is.files) ws.arena c.args.growing.now.types c.world_names.new.types c.args.growing.now.inside names.types names.turn.items names.required.items n world ss has.says (has.imports ∙ alone.imports (in_turn (scope_names item) n.adds.order) (written_includes item) n.turn closed) (has.exports ∙ alone.exports (written_includes item) closed) (rw has.includes are);
+      holds = alone_adds item empty is (others_of is.files) ws.arena c.args.growing.now.types c.world_names.new.types c.args.growing.now.inside names.types names.turn.items names.required.items n world ss has.says (has.imports ∙ alone.imports (in_turn (scope_names item) n.adds.order) n.turn) (has.exports ∙ alone.exports) (rw has.includes are);
     }
 
 pub returns-then-not-have_upper_case-clause-extended : goal.returns-then-not-have_upper_case-clause-extended

@@ -4,7 +4,7 @@ use Rattle.wit_functions.specs.SettersPlaced.{placed}
 use Rattle.wit_model.specs.ItemsOfWorlds.{function_of}
 use Rattle.wit_syntax.specs.Repeats.{AllDiffer}
 use Rattle.wit_functions.specs.MaybeFunction.{HaveOwnNames}
-use Rattle.wit_setters.proofs.NoSetters.{no_setters}
+use Rattle.wit_functions.proofs.NoSetters.{no_setters}
 use Rattle.wit_setters.proofs.OneSide.{Entry, apart_keys, item_function, key_of, own_on_side, placed_differ}
 use Rattle.wit_setters.proofs.side_setters.place_setters.Goals as goal
 
