@@ -1,5 +1,5 @@
 -- Sources that come apart: paths and texts one after the other, with the length of each.
-use Rattle.std.specs.Prelude.{◌≡◌, ℕ, List, [], ◌∷◌, All, IsUtf8, length, map}
+use Rattle.std.specs.Prelude.{◌≡◌, ℕ, List, [], ◌∷◌, All, IsUtf8, MatchOption, Option, length, map}
 use Rattle.std.specs.List.{concat, flat_map}
 
 -- texts one after the other, and the length of each
@@ -21,3 +21,7 @@ abbrev pub pairs_of : List (List ℕ) → List (List ℕ × List ℕ)
 pairs_of [] = []
 pairs_of (path ∷ []) = []
 pairs_of (path ∷ text ∷ rest) = (path, text) ∷ pairs_of rest
+
+-- these texts are the pieces, where there are such
+abbrev pub AreFound : {P : Type 0} → Option P → (P → List (List ℕ)) → List ℕ → List ℕ → Type 0
+AreFound found texts bytes lens = MatchOption found ((ps : List (List ℕ)) → ArePieces bytes lens ps → ⊥) (λ pieces. ArePieces bytes lens (texts pieces))

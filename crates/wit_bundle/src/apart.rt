@@ -1,7 +1,7 @@
 //! Sources that come apart: paths and texts one after the other, with the length of each.
-ghost use Rattle.std.specs.Prelude.{◌≡◌, ℕ, List, IfErr, IfOk, MatchOption, map};
+ghost use Rattle.std.specs.Prelude.{IfErr, IfOk, map};
 ghost use Rattle.wit_lex.specs.Sources.{IsTooLarge};
-ghost use Rattle.wit_bundle.specs.Apart.{ArePieces, pairs_of};
+ghost use Rattle.wit_bundle.specs.Apart.{AreFound, pairs_of};
 ghost use Rattle.wit_bundle.specs.Laid.{AreLaid, room};
 
 use std::alloc::{AllocError, Global};
@@ -20,7 +20,7 @@ pub fn pieces_of<'a>(
     bytes: &'a [u8],
     lens: &[usize],
 ) -> Result<Option<Vec<&'a str>>, AllocError>
-    ensures { IfOk result (λ found. MatchOption found ((ps : List (List ℕ)) → ArePieces bytes.now lens.now ps → ⊥) (λ pieces. ArePieces bytes.now lens.now (map (λ p. p.now) pieces.items))) }
+    ensures { IfOk result (λ found. AreFound found (λ pieces. map (λ p. p.now) pieces.items) bytes.now lens.now) }
 {
     let mut pieces = Vec::new(alloc);
     let mut rest = bytes;

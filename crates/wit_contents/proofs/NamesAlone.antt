@@ -22,7 +22,7 @@ use Rattle.wit_syntax.specs.Function.{functions}
 use Rattle.wit_syntax.specs.Repeats.{AllDiffer}
 use Rattle.wit_syntax.specs.ScopeTables.{in_turn, includes}
 use Rattle.wit_syntax.specs.Sides.{SideItem, inline_after, inline_items, item_function, names_on, part_items, side_items}
-use Rattle.wit_syntax.specs.Source.{Declared, Item, ScopeName, TheWorld, about, address, declared_metadata, local_id, scope_names, world_part}
+use Rattle.wit_syntax.specs.Source.{Declared, Item, ScopeName, TheWorld, about, address, declared_metadata, scope_names, world_part}
 use Rattle.wit_syntax.proofs.Legal.{functions_items}
 use Rattle.wit_syntax.proofs.Turns.{in_turn_distinct}
 use Rattle.wit_first.specs.First.{first_after}

@@ -1,5 +1,5 @@
 -- The walk of a world of the files, after its names, and what it adds.
-use Rattle.std.specs.Prelude.{◌≡◌, Bool, List, [], map}
+use Rattle.std.specs.Prelude.{◌≡◌, List, [], map}
 use Rattle.wit_syntax.specs.Function.{functions as the_functions}
 use Rattle.wit_syntax.specs.ScopeTables.{includes}
 use Rattle.wit_syntax.specs.Source.{ScopeName, local_id, scope_names}

@@ -5,4 +5,5 @@ pub mod FirstStability
 pub mod EndsOfEntries
 pub mod EntryFaults
 pub mod Requiring
+pub mod Defining
 pub mod ElementTypes

@@ -1,6 +1,6 @@
 //! The JSON of what sources come to, with a status.
-ghost use Rattle.std.specs.Prelude.{◌≡◌, ℕ, List, [], MatchOption, map};
-ghost use Rattle.wit_bundle.specs.Apart.{ArePieces, pairs_of};
+ghost use Rattle.std.specs.Prelude.{◌≡◌, ℕ, List, [], map};
+ghost use Rattle.wit_bundle.specs.Apart.{AreFound, ArePieces, pairs_of};
 ghost use Rattle.wit_bundle.specs.Bundle.{sources_of};
 ghost use Rattle.wit_outcome.specs.Outcome.{IsOutcome};
 ghost use Rattle.wit_ffi.specs.Answer.{IsAnswer, IsPartsAnswer, IsTextAnswer, outcome_status};
@@ -95,7 +95,7 @@ fn answer_even(alloc: Global, pieces: &[&str]) -> Answer
 
 /// The answer to the pieces, if the bytes can be split so.
 fn answer_found(alloc: Global, found: Option<Vec<&str>>) -> Answer
-    ensures { (bytes lens : List ℕ) → MatchOption found.entry ((ps : List (List ℕ)) → ArePieces bytes lens ps → ⊥) (λ pieces. ArePieces bytes lens (map (λ p. p.now) pieces.items)) → IsPartsAnswer bytes lens result.status result.json.items }
+    ensures { (bytes lens : List ℕ) → AreFound found.entry (λ pieces. map (λ p. p.now) pieces.items) bytes lens → IsPartsAnswer bytes lens result.status result.json.items }
 {
     match found {
         Some(pieces) => answer_even(alloc, pieces.as_slice()),

@@ -15,7 +15,7 @@ ghost use Rattle.std.specs.Prelude.{◌≡◌, ℕ, List, length};
 ghost use Rattle.wit_ffi.specs.Room.{laid_over};
 ghost use Rattle.wit_ffi.specs.Answer.{IsPartsAnswer, IsTextAnswer};
 ghost use Rattle.wit_ffi.specs.Checked.{IsChecked};
-ghost use Rattle.wit_ffi.specs.Fields.{fields_of};
+ghost use Rattle.wit_ffi.specs.Fields.{ArePlainFields};
 ghost use Rattle.wit_ffi.specs.Reply.{IsReply};
 ghost use Rattle.wit_outcome.specs.declared.plain.Plain.{Plain};
 
@@ -64,7 +64,7 @@ pub extern "C" fn wit_ffi_check(
     message: &mut [u8],
     refusal: &mut Refusal,
 ) -> u8
-    ensures { (whole : Plain) × IsChecked text.now result whole × (path.new ≡ laid_over path.old whole.path) × (message.new ≡ laid_over message.old whole.message) × (refusal.new ≡ fields_of whole) }
+    ensures { (whole : Plain) × IsChecked text.now result whole × ArePlainFields whole path.old path.new message.old message.new refusal.new }
 {
     let Checked { status, plain } = check(alloc, text);
     lay(path, plain.path.as_str().as_bytes());

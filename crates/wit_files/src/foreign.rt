@@ -1,8 +1,7 @@
 //! Paths to items of other packages, and those items.
-ghost use Rattle.std.specs.Prelude.{◌≡◌, ◌++◌, List, [], ◌∷◌, map, position, IfOk, OnOk};
-ghost use Rattle.wit_syntax.specs.Address.{ForeignNamed, package_of, release_of, same_address};
-ghost use Rattle.wit_syntax.specs.Foreign.{ForeignVisit as TheVisit, path_visits, file_visits, foreign_visits as the_visits, visited, same_item};
-ghost use Rattle.wit_syntax.specs.Repeats.{firsts};
+ghost use Rattle.std.specs.Prelude.{◌≡◌, ◌++◌, List, [], ◌∷◌, map, IfOk, OnOk};
+ghost use Rattle.wit_syntax.specs.Address.{ForeignNamed, package_of, release_of};
+ghost use Rattle.wit_syntax.specs.Foreign.{ForeignVisit as TheVisit, file_visits, foreign_visits as the_visits};
 ghost use Rattle.wit_first.specs.FileFaults.{visits_fault};
 ghost use Rattle.wit_first.specs.First.{Finds};
 ghost use Rattle.wit_files.specs.ForeignPaths.{foreign_view, wants_world, key_release, key_address, AreItemsOf};
@@ -97,7 +96,7 @@ fn add_visit<'f, 'a>(
     foreign: &mut Vec<ForeignVisit<'f, 'a>>,
     visit: Visit<'f, 'a>,
 ) -> Result<(), AllocError>
-    ensures { OnOk result (map foreign_view foreign.new.items ≡ map foreign_view foreign.old.items ++ path_visits visit.entry.attributes.now (wants_world visit.entry.wanted) visit.entry.path.now) }
+    ensures { OnOk result (map foreign_view foreign.new.items ≡ map foreign_view foreign.old.items ++ path_visit visit.entry) }
 {
     match visit.path {
         UsePath::Id(_) => {}
@@ -185,7 +184,7 @@ impl<'f, 'a> ForeignItems<'f, 'a> {
 
     /// The place of an item of a package; none where no visit leads to it.
     pub fn place(&self, id: &'f PackageName<'a>, name: Id<'a>) -> Option<usize>
-        ensures { (visits : List TheVisit) → AreItemsOf visits self.now → result ≡ position (λ v. same_address (visited v) (ForeignNamed (package_of id.now) name.entry.name.now)) (firsts same_item visits) }
+        ensures { (visits : List TheVisit) → AreItemsOf visits self.now → result ≡ item_place id.now name.entry.name.now visits }
     {
         self.keys.get_index_of(&foreign_key(id, name))
     }

@@ -128,3 +128,7 @@ pub record IsPrefix (files : List PackageFile) (types : List TypeDef) (a : Forei
 abbrev pub AddsPrefix : (old : List TypeDef) (before : ForeignArenas) (new : List TypeDef) (after : ForeignArenas) → List BorrowedItem → Type 0
 AddsPrefix old before new after items = (files : List PackageFile) → AreAdded (foreign_items files) [] old before → AreItemsPlaced (addresses_among (foreign_items files)) items
     → map names_view items ≡ map scope_names (all_items files) → ((side : WorldSide) → map (inside_view side) items ≡ map (names_written side) (all_items files)) → IsPrefix files new after
+
+-- where these are the items of files, these are the entries of those
+abbrev pub AreEntriesOf : List ForeignVisit → List AstItem → Type 0
+AreEntriesOf vs entries = (files : List PackageFile) → vs ≡ foreign_items files → entries ≡ map (foreign_entry files) (foreign_items files)

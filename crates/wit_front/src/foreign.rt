@@ -2,17 +2,15 @@
 ghost use Rattle.std.specs.Prelude.{◌≡◌, ◌++◌, ◌∷◌, ◌<◌, List, [], Some, true, false, length, map, nat_eq, slice_get, IfOk, IfErr, OnOk};
 ghost use Rattle.std.specs.Cmp.Lexicographic.{pointwise};
 ghost use Rattle.indexmap.specs.IndexMap.{insert_entry};
-ghost use Rattle.wit_tree.specs.declared.tree.PackageFile.{PackageFile as TheFile};
 ghost use Rattle.wit_type_tree.specs.RefusalText.{IsAllocationFailure};
 ghost use Rattle.wit_syntax.specs.Address.{Address};
 ghost use Rattle.wit_syntax.specs.Source.{use_of_foreign};
-ghost use Rattle.wit_syntax.specs.Foreign.{ForeignVisit as TheVisit, foreign_items};
-ghost use Rattle.wit_arena.specs.Whole.{foreign_entry};
+ghost use Rattle.wit_syntax.specs.Foreign.{ForeignVisit as TheVisit};
 ghost use Rattle.wit_files.specs.ForeignPaths.{foreign_view};
 ghost use Rattle.wit_scopes.specs.BorrowedNames.{name_view};
 ghost use Rattle.wit_scopes.specs.PlacedNames.{IsNamePlaced, AreNamesPlaced};
 ghost use Rattle.wit_items.specs.PlacedItems.{AreItemsPlaced};
-ghost use Rattle.wit_front.specs.ForeignPrefix.{AddsPrefix, AddsUsed, ArePlacedInside, inside_uses, interface_with, with_types, bare_world, AreAdded, HasUsed, name_foreign_uses, names_foreign_uses, borrowed_foreign_uses};
+ghost use Rattle.wit_front.specs.ForeignPrefix.{AddsPrefix, AreEntriesOf, AddsUsed, ArePlacedInside, inside_uses, interface_with, with_types, bare_world, AreAdded, HasUsed, name_foreign_uses, names_foreign_uses, borrowed_foreign_uses};
 
 use std::alloc::{AllocError, Global};
 use wit_entries::entries::Entries;
@@ -146,7 +144,7 @@ impl ForeignArenas {
         declared: usize,
     ) -> Result<Self, AllocError>
         ensures bare { IfOk result (AreAdded (map foreign_view items.now) [] []) }
-        ensures entries { IfOk result (λ arenas. (files : List TheFile) → map foreign_view items.now ≡ foreign_items files → arenas.entries.items ≡ map (foreign_entry files) (foreign_items files)) }
+        ensures entries { IfOk result (λ arenas. AreEntriesOf (map foreign_view items.now) arenas.entries.items) }
     {
         let room = items.len().saturating_add(declared);
         let mut arenas = ForeignArenas::with_room(alloc, room)?;

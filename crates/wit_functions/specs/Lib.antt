@@ -8,3 +8,4 @@ pub mod Spans
 pub mod MaybeFunction
 pub mod Parted
 pub mod Reordered
+pub mod Order

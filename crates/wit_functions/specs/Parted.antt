@@ -1,11 +1,14 @@
 -- Items parted, on the way back through them, into setters that come before their getter and others.
-use Rattle.std.specs.Prelude.{◌≡◌, ℕ, ◌++◌, Bool, List, [], ◌∷◌, Option, Some, None, reverse, if◌then◌else◌, nat_eq}
+use Rattle.std.specs.Prelude.{◌≡◌, ℕ, ◌++◌, ◌||◌, Bool, List, [], ◌∷◌, Option, Some, None, reverse, if◌then◌else◌, nat_eq}
+use Rattle.std.specs.BTreeMap.{get_by_text}
+use Rattle.std.specs.BTreeSet.{contains_text}
 use Rattle.std.specs.Cmp.Lexicographic.{pointwise}
 use Rattle.std.specs.List.{filter, list_any}
 use Rattle.std.specs.Option.{option_and_then, option_to_list}
 use Rattle.wit_functions.specs.SettersPlaced.{early, is_same_text, others}
 use Rattle.wit_functions.specs.declared.function.Function.{Function}
-use Rattle.wit_functions.specs.MaybeFunction.{goes, offered, wanted}
+use Rattle.wit_functions.specs.declared.parted.Parted.{Parted}
+use Rattle.wit_functions.specs.MaybeFunction.{HaveOwnNames, goes, offered, wanted}
 
 -- a name that is one of these
 abbrev pub known : (List ℕ → Bool) → Option (List ℕ) → Option (List ℕ)
@@ -16,6 +19,10 @@ known has (Some name) = if has name then Some name else None
 abbrev pub without : {X : Type 0} → Option (List ℕ) → (List ℕ → Option X) → List ℕ → Option X
 without None waits name = waits name
 without (Some gone) waits name = if pointwise nat_eq gone name then None else waits name
+
+-- besides those names are these, of which this one is offered
+abbrev pub OffersBeside : Option (List ℕ) → (List ℕ → Bool) → (List ℕ → Bool) → Type 0
+OffersBeside offer old new = (name : List ℕ) → new name ≡ (is_same_text (Some name) offer || old name)
 
 module _ {X : Type 0} (function_at : X → Option Function) where
   -- the setter that waits for an item
@@ -32,3 +39,11 @@ module _ {X : Type 0} (function_at : X → Option Function) where
     pub stay : reverse kept ≡ others (goes function_at) es
     pub offer : (name : List ℕ) → has name ≡ list_any (λ g. is_same_text (Some name) (offered (function_at g))) es
     pub wait : (name : List ℕ) → option_to_list (waits name) ≡ filter (λ s. is_same_text (wanted (function_at s)) (Some name)) (early (goes function_at) es)
+
+  -- these items are parted so
+  abbrev pub AreParted : List X → Parted X → Type 0
+  AreParted es parted = IsParted es parted.others.items (contains_text parted.getters) (get_by_text parted.waiting)
+
+  -- an item is parted before any that were
+  abbrev pub PartsNext : X → Parted X → Parted X → Type 0
+  PartsNext e old new = (es : List X) → HaveOwnNames function_at (e ∷ es) → AreParted es old → AreParted (e ∷ es) new

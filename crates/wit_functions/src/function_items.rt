@@ -1,8 +1,6 @@
 //! Items of which some are functions, with their setters put after their getters where they are.
-ghost use Rattle.std.specs.Prelude.{◌≡◌, ℕ, Option, IfOk, map};
-ghost use Rattle.std.specs.List.{enumerate_from};
-ghost use Rattle.std.specs.Option.{option_copied};
-ghost use Rattle.wit_functions.specs.declared.function.Function.{Function as TheFunction};
+ghost use Rattle.std.specs.Prelude.{◌≡◌, IfOk};
+ghost use Rattle.wit_functions.specs.Order.{ArePlacesOf};
 ghost use Rattle.wit_functions.specs.Reordered.{IsOrder};
 ghost use Rattle.wit_functions.specs.SettersPlaced.{setters_placed};
 ghost use Rattle.wit_functions.specs.MaybeFunction.{HaveOwnNames, goes};
@@ -18,7 +16,7 @@ fn stated_items<T: MaybeFunction>(
     alloc: Global,
     items: &[T],
 ) -> Result<Vec<(usize, Option<&Function>)>, AllocError>
-    ensures { IfOk result (λ maybe_function. map {B = ℕ × Option TheFunction} (λ t. (t.0, option_copied t.1)) maybe_function.items ≡ map (λ z. (z.0, T.function_at z.1)) (enumerate_from 0 items.now)) }
+    ensures { IfOk result (λ maybe_function. ArePlacesOf T.function_at items.now maybe_function.items) }
 {
     let mut maybe_function = Vec::with_capacity(alloc, items.len())?;
     for place in 0..items.len() {

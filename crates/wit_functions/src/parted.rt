@@ -1,11 +1,9 @@
 //! Items, parted into setters that come before their getter and others.
-ghost use Rattle.std.specs.Prelude.{◌≡◌, ◌++◌, ◌∷◌, ◌||◌, [], ℕ, List, IfOk, OnOk, Some, string_bytes};
-ghost use Rattle.std.specs.BTreeMap.{get_by_text};
+ghost use Rattle.std.specs.Prelude.{◌≡◌, ◌++◌, ◌∷◌, [], IfOk, OnOk, string_bytes};
 ghost use Rattle.std.specs.BTreeSet.{contains_text};
 ghost use Rattle.std.specs.Option.{option_map};
-ghost use Rattle.wit_functions.specs.SettersPlaced.{is_same_text};
 ghost use Rattle.wit_functions.specs.MaybeFunction.{HaveOwnNames, offered as the_offered, wanted as the_wanted};
-ghost use Rattle.wit_functions.specs.Parted.{known, IsParted};
+ghost use Rattle.wit_functions.specs.Parted.{AreParted, OffersBeside, PartsNext, known};
 
 use crate::maybe_function::{MaybeFunction, offered, wanted};
 use std::alloc::{AllocError, Global};
@@ -42,7 +40,7 @@ impl<T: MaybeFunction> Parted<T> {
     /// Adds an item that waits for none of those here.
     fn keep(&mut self, alloc: Global, item: T) -> Result<(), AllocError>
         ensures others { OnOk result (self.new.others.items ≡ self.old.others.items ++ item ∷ []) }
-        ensures getters { OnOk result ((name : List ℕ) → contains_text self.new.getters name ≡ (is_same_text (Some name) (the_offered (T.function_at item)) || contains_text self.old.getters name)) }
+        ensures getters { OnOk result (OffersBeside (the_offered (T.function_at item)) (contains_text self.old.getters) (contains_text self.new.getters)) }
         ensures waiting { OnOk result (self.new.waiting ≡ self.old.waiting) }
     {
         if let Some(name) = offered(item.maybe_function()) {
@@ -55,7 +53,7 @@ impl<T: MaybeFunction> Parted<T> {
 
     /// Adds an item that comes before those here.
     fn add(&mut self, alloc: Global, item: T) -> Result<(), AllocError>
-        ensures { OnOk result ((es : List T) → HaveOwnNames T.function_at (item ∷ es) → IsParted T.function_at es self.old.others.items (contains_text self.old.getters) (get_by_text self.old.waiting) → IsParted T.function_at (item ∷ es) self.new.others.items (contains_text self.new.getters) (get_by_text self.new.waiting)) }
+        ensures { OnOk result (PartsNext T.function_at item self.old self.new) }
     {
         match self.known_getter(alloc, &item)? {
             Some(name) => {
@@ -69,7 +67,7 @@ impl<T: MaybeFunction> Parted<T> {
 
 /// Items, parted.
 pub(crate) fn part<T: MaybeFunction>(alloc: Global, items: Vec<T>) -> Result<Parted<T>, AllocError>
-    ensures { IfOk result (λ parted. HaveOwnNames T.function_at items.items → IsParted T.function_at items.items parted.others.items (contains_text parted.getters) (get_by_text parted.waiting)) }
+    ensures { IfOk result (λ parted. HaveOwnNames T.function_at items.items → AreParted T.function_at items.items parted) }
 {
     let mut items = items;
     items.reverse();

@@ -4,6 +4,7 @@ ghost use Rattle.std.specs.BTreeMap.{get_by_text};
 ghost use Rattle.std.specs.Option.{option_and_then, option_copied, option_to_list};
 ghost use Rattle.wit_functions.specs.SettersPlaced.{setters_placed};
 ghost use Rattle.wit_functions.specs.MaybeFunction.{HaveOwnNames, goes, offered as the_offered};
+ghost use Rattle.wit_functions.specs.Order.{IsOrderOf};
 ghost use Rattle.wit_functions.specs.Parted.{served, waiting_for, without};
 
 use crate::function::Function;
@@ -95,7 +96,7 @@ pub(crate) fn order_of(
     alloc: Global,
     maybe_function: Vec<(usize, Option<&Function>)>,
 ) -> Result<Vec<usize>, AllocError>
-    ensures { IfOk result (λ order. HaveOwnNames (λ t. option_copied t.1) maybe_function.entry.items → order.items ≡ map (λ t. t.0) (setters_placed (goes (λ t. option_copied t.1)) maybe_function.entry.items)) }
+    ensures { IfOk result (λ order. IsOrderOf maybe_function.entry.items order.items) }
 {
     let placed = all_placed(alloc, maybe_function)?;
     let order = places_of(alloc, placed)?;

@@ -1,9 +1,8 @@
 //! Setters after their getters.
-ghost use Rattle.std.specs.Prelude.{◌≡◌, ◌<◌, ℕ, Option, IfOk, OnErr, OnOk, Some, length, map as mapped, slice_get};
-ghost use Rattle.std.specs.List.{enumerate_from};
+ghost use Rattle.std.specs.Prelude.{◌≡◌, ◌<◌, Option, IfOk, OnErr, OnOk, length};
 ghost use Rattle.std.specs.Option.{option_copied, option_map};
-ghost use Rattle.wit_functions.specs.Reordered.{IsOrder};
-ghost use Rattle.wit_functions.specs.SettersPlaced.{HaveDistinctNames, Computes, prefixes, is_getter, placed};
+ghost use Rattle.wit_functions.specs.Order.{IsSetterOrder, PlacesSetters, SayAll, SaysAt};
+ghost use Rattle.wit_functions.specs.SettersPlaced.{Computes, prefixes, is_getter};
 
 use crate::function::{Function, FunctionKind};
 use crate::function_map::FunctionMap;
@@ -50,7 +49,7 @@ fn stated_at<'a, V: 'a, M: FunctionMap<V>, F: Fn(&V) -> Option<&Function>>(
 ) -> Option<&'a Function>
     requires within { place < length (M.entries map.now) }
     requires callable { F.IsAlwaysCallable func.now }
-    ensures { (function_at : V → Option Function) → Computes F.Fn func.now function_at → (e : M.Key × V) → slice_get (M.entries map.now) place ≡ Some e → option_copied result ≡ function_at e.1 }
+    ensures { SaysAt F.Fn func.now (M.entries map.now) place result }
 {
     maybe_function(func, map.value_at(place))
 }
@@ -62,7 +61,7 @@ fn stated_places<'a, V: 'a, M: FunctionMap<V>, F: Fn(&V) -> Option<&Function>>(
     func: &F,
 ) -> Result<Vec<(usize, Option<&'a Function>)>, AllocError>
     requires { F.IsAlwaysCallable func.now }
-    ensures { IfOk result (λ maybe_function. (function_at : V → Option Function) → Computes F.Fn func.now function_at → mapped {B = ℕ × Option Function} (λ t. (t.0, option_copied t.1)) maybe_function.items ≡ mapped (λ z. (z.0, function_at z.1.1)) (enumerate_from 0 (M.entries map.now))) }
+    ensures { IfOk result (λ maybe_function. SayAll F.Fn func.now (M.entries map.now) maybe_function.items) }
 {
     let len = map.count();
     let mut places = Vec::with_capacity(alloc, len)?;
@@ -80,7 +79,7 @@ fn map_order<V, M: FunctionMap<V>, F: Fn(&V) -> Option<&Function>>(
     func: &F,
 ) -> Result<Vec<usize>, AllocError>
     requires { F.IsAlwaysCallable func.now }
-    ensures { IfOk result (λ order. (function_at : V → Option Function) → Computes F.Fn func.now function_at → HaveDistinctNames function_at (M.entries map.now) → IsOrder (M.entries map.now) order.items (placed function_at (M.entries map.now))) }
+    ensures { IfOk result (λ order. IsSetterOrder F.Fn func.now (M.entries map.now) order.items) }
 {
     let maybe_function = stated_places(alloc, map, func)?;
     let order = order_of(alloc, maybe_function)?;
@@ -99,7 +98,7 @@ pub fn place_setters_after_getters<V, M: FunctionMap<V>, F: Fn(&V) -> Option<&Fu
     func: F,
 ) -> Result<(), AllocError>
     requires { F.IsAlwaysCallable func }
-    ensures placed { OnOk result ((function_at : V → Option Function) → Computes F.Fn func function_at → HaveDistinctNames function_at (M.entries map.old) → M.entries map.new ≡ placed function_at (M.entries map.old)) }
+    ensures placed { OnOk result (PlacesSetters F.Fn func (M.entries map.old) (M.entries map.new)) }
     ensures unchanged { OnErr result (map.new ≡ map.old) }
 {
     let alloc = map.alloc();

@@ -4,12 +4,11 @@ use Rattle.std.specs.List.{flat_map}
 use Rattle.wit_type_tree.specs.declared.leaves.Id.{Id}
 use Rattle.wit_types.specs.declared.types.TypeDef.{TypeDef}
 use Rattle.wit_types.specs.declared.types.TypeOwner.{TypeOwner}
-use Rattle.wit_syntax.specs.Address.{Address}
 use Rattle.wit_syntax.specs.Source.{ScopeName, local_id}
 use Rattle.wit_syntax.specs.ScopeTables.{in_order, defined, in_turn, local_names}
 use Rattle.wit_syntax.specs.Shape.{all_handles}
 use Rattle.wit_syntax.specs.Function.{name_types}
-use Rattle.wit_arena.specs.Resolving.{Names, env_of, names_in, ResolvedScope, Defines, Required}
+use Rattle.wit_arena.specs.Resolving.{Names, env_of, names_in, ResolvedScope, Required}
 use Rattle.wit_arena.specs.ResolvedArenas.{DefinesAll, AddsScope}
 use Rattle.wit_entries.specs.Requiring.{Requires}
 use Rattle.wit_entries.specs.declared.scope.Scope.{Scope}
@@ -35,11 +34,7 @@ pub record AddsTurn (old new : List TypeDef) (cs : List ResolvedScope) (o : Type
 abbrev pub AddsNames : Interfaces → TypeOwner → List TypeDef → List TypeDef → List Borrowed → Names → List Id → List Required → Type 0
 AddsNames is o old new names types ids required = AddsTurn old new (resolved_scopes_of is) o (map name_view names) types ids required
 
--- definitions were added to a scope, which are these
-abbrev pub DefinesAfter : Scope → Scope → List TypeDef → List TypeDef → List ScopeName → Type 0
-DefinesAfter a b old new ds = (cs : List ResolvedScope) (s : Address) → Defines old new cs a.owner s a.names b.names ds
-
--- this is what their handles require
+-- this is what the handles of definitions require that were added to a scope
 abbrev pub DefinitionsRequire : Scope → Scope → List TypeDef → List ScopeName → Type 0
 DefinitionsRequire a b new ds = Requires (env_of b.names) new (all_handles (flat_map name_types ds)) a.required.items b.required.items
 

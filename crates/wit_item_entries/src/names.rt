@@ -2,13 +2,14 @@
 ghost use Rattle.std.specs.Prelude.{◌≡◌, ◌++◌, None, IfOk, OnOk, map};
 ghost use Rattle.wit_syntax.specs.ScopeTables.{used, local_names};
 ghost use Rattle.wit_syntax.specs.Repeats.{AllDiffer};
+ghost use Rattle.wit_entries.specs.Defining.{DefinesAfter};
 ghost use Rattle.wit_entries.specs.Requiring.{IsExtended};
 ghost use Rattle.wit_scopes.specs.BorrowedNames.{name_view, use_view, definition_view};
 ghost use Rattle.wit_items.specs.ForeignAddresses.{prefix_of};
 ghost use Rattle.wit_scopes.specs.PlacedNames.{AreNamesPlaced};
 ghost use Rattle.wit_scopes.specs.DefinitionOrder.{AreInTurn};
 ghost use Rattle.wit_arena.specs.Resolving.{env_of, HasNames, names_in};
-ghost use Rattle.wit_item_entries.specs.AddedNames.{AddsNames, DefinesAfter, DefinesIn, DefinitionsRequire};
+ghost use Rattle.wit_item_entries.specs.AddedNames.{AddsNames, DefinesIn, DefinitionsRequire};
 ghost use Rattle.wit_item_entries.specs.ReachedFaults.{FindsAt, FindsDefinitions, FindsOrdered, HaveNames, IsNamesFault};
 
 use crate::uses::resolve_uses;

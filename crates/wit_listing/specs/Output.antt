@@ -31,3 +31,7 @@ abbrev pub IsWrittenAs : {A : Type 0} → A → (List ℕ → Type 0) → Option
 IsWrittenAs as_stated IsText old new (Ok answer) = (answer ≡ as_stated) × (text : List ℕ) × IsText text × Appends old new text
 IsWrittenAs as_stated IsText old new (Err Output) = (text : List ℕ) × IsText text × IsCutShort old new text
 IsWrittenAs as_stated IsText old new (Err Memory) = Keeps old new
+
+-- the fault after a failed write
+abbrev pub IsFailedWrite : Option (List ℕ) → Option (List ℕ) → List ℕ → RunFault → Type 0
+IsFailedWrite old new text fault = (fault ≡ Output) × IsCutShort old new text

@@ -1,14 +1,14 @@
 //! Writing a text out.
-ghost use Rattle.std.specs.Prelude.{◌≡◌, ◌<◌, MatchResult, ℕ, length, take};
+ghost use Rattle.std.specs.Prelude.{◌<◌, MatchResult};
 ghost use Rattle.std.specs.Io.KnownBytes.{Appends};
-ghost use Rattle.wit_listing.specs.Output.{IsCutShort};
+ghost use Rattle.wit_listing.specs.Output.{IsFailedWrite};
 
 use crate::fault::RunFault;
 use std::io::Write;
 
 /// Writes a text; where a write fails or takes no byte, a beginning of it and not the whole.
 pub fn put<W: Write>(out: &mut W, text: &[u8]) -> Result<(), RunFault>
-    ensures { MatchResult result (λ _. Appends (W.contents out.old) (W.contents out.new) text.now) (λ fault. (fault ≡ RunFault.Output) × IsCutShort (W.contents out.old) (W.contents out.new) text.now) }
+    ensures { MatchResult result (λ _. Appends (W.contents out.old) (W.contents out.new) text.now) (IsFailedWrite (W.contents out.old) (W.contents out.new) text.now) }
 {
     let len = text.len();
     let mut at = 0;

@@ -1,5 +1,5 @@
 -- The edges of a graph turned round: for each place, whose edges lead to it.
-use Rattle.std.specs.Prelude.{◌≡◌, ℕ, ◌+◌, ◌<◌, ◌≤◌, List, length, slice_index, sum_by}
+use Rattle.std.specs.Prelude.{◌≡◌, ℕ, ◌+◌, ◌<◌, ◌≤◌, List, cond, length, nat_eq, slice_index, sum_by}
 use Rattle.wit_order.specs.Cut.{between}
 use Rattle.wit_graph.specs.Graph.{Graph}
 use Rattle.wit_order.specs.Heap.{times, row_at}
@@ -24,3 +24,8 @@ pub record IsFilling (starts : List ℕ) (put : ℕ → ℕ) (seen : ℕ → ℕ
 -- the runs have room for a row of edges
 abbrev pub HasRoom : List ℕ → (ℕ → ℕ) → List ℕ → Type 0
 HasRoom starts put row = (w : ℕ) → w + 1 < length starts → slice_index starts w + (put w + times w row) ≤ slice_index starts (w + 1)
+
+-- p is put before what the run of each place of its row has
+abbrev pub FillsNext : ℕ → List ℕ → (old_users old_prefixes users prefixes : List ℕ) → Type 0
+FillsNext p row old_users old_prefixes users prefixes = (starts : List ℕ) (put : ℕ → ℕ) (seen : ℕ → ℕ → ℕ) → IsFilling starts put seen old_users old_prefixes → HasRoom starts put row
+    → IsFilling starts (λ w. put w + times w row) (λ w q. seen w q + cond (nat_eq p q) (times w row) 0) users prefixes

@@ -1,8 +1,8 @@
 //! A graph with its edges turned round.
-ghost use Rattle.std.specs.Prelude.{◌≡◌, ℕ, ◌+◌, ◌<◌, ◌≤◌, ◌^◌, List, length, take, All, IfOk, cond, nat_eq, slice_index, sum};
+ghost use Rattle.std.specs.Prelude.{◌≡◌, ℕ, ◌+◌, ◌<◌, ◌^◌, List, length, take, All, IfOk, slice_index, sum};
 ghost use Rattle.wit_graph.specs.Graph.{IsClosed, edge_count};
 ghost use Rattle.wit_order.specs.Heap.{times};
-ghost use Rattle.wit_order.specs.Turned.{edges_to, IsTurned, IsFilling, HasRoom};
+ghost use Rattle.wit_order.specs.Turned.{FillsNext, HasRoom, IsFilling, IsTurned, edges_to};
 
 use crate::graph::Graph;
 use std::alloc::{AllocError, Global};
@@ -56,7 +56,7 @@ fn add_user(users: &mut [usize], prefixes: &mut [usize], row: &[usize], p: usize
     requires within { All (λ w. w + 1 < length prefixes.old) row.now }
     ensures wide { length users.new ≡ length users.old }
     ensures long { length prefixes.new ≡ length prefixes.old }
-    ensures filling { (starts : List ℕ) (put : ℕ → ℕ) (seen : ℕ → ℕ → ℕ) → IsFilling starts put seen users.old prefixes.old → HasRoom starts put row.now → IsFilling starts (λ w. put w + times w row.now) (λ w q. seen w q + cond (nat_eq p q) (times w row.now) 0) users.new prefixes.new }
+    ensures filling { FillsNext p row.now users.old prefixes.old users.new prefixes.new }
 {
     for w in row {
         let prefix = prefixes[*w + 1] - 1;

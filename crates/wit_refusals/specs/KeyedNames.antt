@@ -1,10 +1,10 @@
 -- What a scope keeps: its names in order, each by its key.
-use Rattle.std.specs.Prelude.{◌≡◌, ℕ, IsTrue, List, Option, Some, None, map, slice_get}
+use Rattle.std.specs.Prelude.{◌≡◌, ℕ, IsTrue, List, Option, Some, None, codes, map, slice_get}
 use Rattle.wit_names.specs.Folded.{folded_key}
 use Rattle.wit_names.specs.Setter.{getter_of, is_setter}
 use Rattle.wit_values.specs.declared.span.Span.{Span}
 use Rattle.wit_syntax.specs.Fault.{Fault, fault_in}
-use Rattle.wit_syntax.specs.Words.{setter_words}
+use Rattle.wit_syntax.specs.Words.{clash, setter_words}
 use Rattle.wit_syntax.specs.Repeats.{AllDiffer}
 use Rattle.wit_refusals.specs.declared.name_scope.DefinedName.{DefinedName}
 use Rattle.wit_refusals.specs.NameScopes.{Name}
@@ -41,3 +41,7 @@ pub record HasName (names : List Name) (name : List ℕ) : Type 0 where
 -- a name is a setter, and its getter is not there
 abbrev pub IsWithoutGetter : List Name → List ℕ → Span → Fault → Type 0
 IsWithoutGetter names name span f = IsTrue (is_setter name) × (HasName names (getter_of name) → ⊥) × (f ≡ fault_in 18 span (setter_words name))
+
+-- the fault of a name whose key an entry has
+abbrev pub defined_again_fault : Entry → List ℕ → Span → Fault
+defined_again_fault e name span = fault_in 17 span (clash (codes "name") (spelled e.0 e.1) name)
