@@ -55,7 +55,7 @@ fn resolve_files<'f, 'a>(
     let mut prefix = ForeignArenas::of_items(alloc, names.foreign(), order.len())?;
     let mut items = declared_items(alloc, names, files, &prefix.entries)?;
     let lent: &mut [Item<'_, '_>] = &mut items;
-    prefix.take_all(alloc, types, lent)?;
+    prefix.add_used_by_items(alloc, types, lent)?;
     let ForeignArenas {
         interfaces,
         worlds,

@@ -74,7 +74,7 @@ module _ (vs : List ForeignVisit) (v : ForeignVisit) (a a' : ForeignArenas) (bef
         spans = spans ∙ before.spans;
       }
 
--- a name that was taken before adds nothing
+-- a name that was used before adds nothing
 firsts-known : (ts : List ForeignUse) (t : ForeignUse) (j : ℕ) (u : ForeignUse) → slice_get (firsts same_foreign_use ts) j ≡ Some u → foreign_use_key u ≡ foreign_use_key t → firsts same_foreign_use (ts ++ t ∷ []) ≡ firsts same_foreign_use ts
 firsts-known ts t j u at same = elim (firsts-more same_foreign_use ts t) [
   | inl known ↦ known.1
@@ -112,7 +112,7 @@ module _ (vs : List ForeignVisit) (ts : List ForeignUse) (s : Address) (attribut
   visit : (v : ForeignVisit) × (slice_get xs id ≡ Some v) × (visited v ≡ s)
   visit = map_at visited xs id s place
 
-  -- the interface is what was taken from there
+  -- the interface is what was used from there
   is_after : i ≡ visited_interface fs visit.0
   is_after =
       let both : Some i ≡ Some (visited_interface fs visit.0) = sym here ∙ ap (λ (l : List Interface). slice_get l id) before.interfaces ∙ slice_get-map (visited_interface fs) xs id ∙ ap (option_map (visited_interface fs)) visit.1 in
@@ -140,7 +140,7 @@ module _ (vs : List ForeignVisit) (ts : List ForeignUse) (s : Address) (attribut
       }
 
   module _ (apart : AreApart vs) (none : lookup (pointwise nat_eq q) i.types ≡ None) where
-    -- the name was not taken from there
+    -- the name was not used from there
     missing : lookup (pointwise nat_eq q) (used_from 0 (visited visit.0) fs) ≡ None
     missing = sym (ap (lookup (pointwise nat_eq q)) types_after) ∙ none
 
@@ -189,7 +189,7 @@ module _ (vs : List ForeignVisit) (ts : List ForeignUse) (s : Address) (attribut
       spans = spans ∙ ap (λ (l : List Span). l ++ n.name.span ∷ []) before.spans ∙ sym (map-append (λ (x : ForeignUse). x.id.span) fs (t ∷ [])) ∙ ap (map (λ (x : ForeignUse). x.id.span)) (sym fresh);
     }
 
--- what is taken after what was taken, with one step more
+-- what is used after what was used, with one step more
 pub foreign_uses-next : {X Y : Type 0} (f : Y → List ForeignUse) (g : X → Y) (ts : List ForeignUse) (xs : List X) (x : X) → ts ++ flat_map f (map g (xs ++ x ∷ [])) ≡ (ts ++ flat_map f (map g xs)) ++ f (g x)
 foreign_uses-next {X} {Y} f g ts xs x =
     ap (λ (l : List Y). ts ++ flat_map f l) (map-append g xs (x ∷ []))
@@ -200,7 +200,7 @@ module _ (files : List PackageFile) (es : List TypeDef) (a : ForeignArenas) (don
   abbrev all : List ForeignUse
   all = first_foreign_uses files
 
-  -- the names of an interface of another package are those that are taken from it
+  -- the names of an interface of another package are those that are used from it
   has_types : (v : ForeignVisit) → HasTypes (keys (map foreign_use_occurrence all)) (foreign_turned files v) (used_from 0 (visited v) all)
   has_types v = record {
     names = names-used_from 0 (visited v) all ∙ sym (map_map local_name (λ (t : ForeignUse). ForeignName t.attributes t.id) (filter (λ t. same_address t.from (visited v)) all));
@@ -224,7 +224,7 @@ module _ (files : List PackageFile) (es : List TypeDef) (a : ForeignArenas) (don
       let both : Some (bare v) ≡ Some w = sym (ap (λ (l : List World). slice_get l t) done.worlds ∙ slice_get-map bare (foreign_worlds files) t ∙ ap (option_map bare) at_v) ∙ at_w in
       cc
 
-  -- once all names were taken, the prefix is made
+  -- once all names were used, the prefix is made
   pub prefix_used : IsPrefix files es a
   prefix_used = record {
     adds = record {

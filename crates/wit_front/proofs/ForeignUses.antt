@@ -34,7 +34,7 @@ foreign ts = filter (λ t. is_foreign t.from) ts
 foreign-append : (ts us : List ForeignUse) → foreign (ts ++ us) ≡ foreign ts ++ foreign us
 foreign-append ts us = filter-append (λ (t : ForeignUse). is_foreign t.from) ts us
 
--- what a `use` takes from other packages
+-- what a `use` names of other packages
 used-foreign_uses : (s : Address) (attributes : List Attribute) (ns : List UseName) → flat_map name_foreign_uses (map (Used s attributes) ns) ≡ filter (λ t. is_foreign t.from) (map (use_of_foreign s attributes) ns)
 used-foreign_uses s attributes [] = refl
 used-foreign_uses s attributes (n ∷ ns) = ap (λ (l : List ForeignUse). name_foreign_uses (Used s attributes n) ++ l) (used-foreign_uses s attributes ns) ∙ sym (filter-append (λ (t : ForeignUse). is_foreign t.from) (use_of_foreign s attributes n ∷ []) (map (use_of_foreign s attributes) ns))

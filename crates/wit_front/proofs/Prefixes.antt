@@ -65,7 +65,7 @@ worlds-more vs v h = filter-append (λ (v : ForeignVisit). v.wants_world) vs (v 
 pub worlds-same : (vs : List ForeignVisit) (v : ForeignVisit) → v.wants_world ≡ false → worlds_among (vs ++ v ∷ []) ≡ worlds_among vs
 worlds-same vs v h = filter-append (λ (v : ForeignVisit). v.wants_world) vs (v ∷ []) ∙ ap (λ (b : Bool). worlds_among vs ++ cond b (v ∷ []) []) h ∙ append-nil (worlds_among vs)
 
--- what is taken from a scope, with one name more
+-- what is used from a scope, with one name more
 pub in_use-more : (n : ℕ) (s : Address) (ts : List ForeignUse) (t : ForeignUse) → used_from n s (ts ++ t ∷ []) ≡ used_from n s ts ++ (if same_address t.from s then (t.id.name.now, n + length ts) ∷ [] else [])
 in_use-more n s [] t = ap (λ (k : ℕ). if same_address t.from s then (t.id.name.now, k) ∷ [] else []) (sym (add-zero n))
 in_use-more n s (u ∷ ts) t =
@@ -76,7 +76,7 @@ in_use-more n s (u ∷ ts) t =
       | inr miss ↦ rw miss rest
     ]
 
--- the names that are taken from a scope
+-- the names that are used from a scope
 pub names-used_from : (n : ℕ) (s : Address) (ts : List ForeignUse) → map (λ p. p.0) (used_from n s ts) ≡ map (λ t. t.id.name.now) (filter (λ t. same_address t.from s) ts)
 names-used_from n s [] = refl
 names-used_from n s (t ∷ ts) =
@@ -86,14 +86,14 @@ names-used_from n s (t ∷ ts) =
       | inr miss ↦ rw miss rest
     ]
 
--- what is taken from a scope at a place among takings
+-- what is used from a scope at a place among uses
 pub record IsUsedThere (s : Address) (ts : List ForeignUse) (q : List ℕ) (j : ℕ) : Type 0 where
   pub t : ForeignUse
   pub at : slice_get ts j ≡ Some t
   pub from : t.from ≡ s
   pub name : t.id.name.now ≡ q
 
--- where a name that is taken from a scope is taken
+-- where a name that is used from a scope is used
 pub used_from-at : (n : ℕ) (s : Address) (ts : List ForeignUse) (k : ℕ) (q : List ℕ) (id : ℕ) → slice_get (used_from n s ts) k ≡ Some (q, id) → (j : ℕ) × (id ≡ n + j) × IsUsedThere s ts q j
 used_from-at n s [] k q id h = absurd (let f : ⊥ = cc in f)
 used_from-at n s (t ∷ ts) k q id h = elim (cases_Bool (same_address t.from s)) [
@@ -107,7 +107,7 @@ used_from-at n s (t ∷ ts) k q id h = elim (cases_Bool (same_address t.from s))
     later : (j : ℕ) × (id ≡ suc n + j) × IsUsedThere s ts q j → (j : ℕ) × (id ≡ n + j) × IsUsedThere s (t ∷ ts) q j
     later it = (suc it.0, it.1 ∙ move n it.0, record { t = it.2.t; at = it.2.at; from = it.2.from; name = it.2.name })
 
--- a name that is taken from a scope is among its names
+-- a name that is used from a scope is among its names
 pub used_from-has : (n : ℕ) (s : Address) (ts : List ForeignUse) (j : ℕ) (t : ForeignUse) → slice_get ts j ≡ Some t → t.from ≡ s → lookup (pointwise nat_eq t.id.name.now) (used_from n s ts) ≡ None → ⊥
 used_from-has n s [] j t at from none = let f : ⊥ = cc in f
 used_from-has n s (u ∷ ts) zero t at from none =

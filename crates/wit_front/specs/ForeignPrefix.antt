@@ -61,20 +61,20 @@ abbrev pub entries_after : ℕ → ℕ → List ForeignVisit → List AstItem
 entries_after i w [] = []
 entries_after i w (v ∷ vs) = entry_after i w v ∷ entries_after (if v.wants_world then i else suc i) (if v.wants_world then suc w else w) vs
 
--- the names of a scope among takings, each with its place, counted from n
+-- the names of a scope that are used, each with its place, counted from n
 abbrev pub used_from : ℕ → Address → List ForeignUse → Names
 used_from n s [] = []
 used_from n s (t ∷ ts) = if same_address t.from s then (t.id.name.now, n) ∷ used_from (suc n) s ts else used_from (suc n) s ts
 
--- the interface of a visit, with the types that are taken from it
+-- the interface of a visit, with the types that are used from it
 abbrev pub visited_interface : List ForeignUse → ForeignVisit → Interface
 visited_interface ts v = interface_with v.id.span (used_from 0 (visited v) ts)
 
--- the type that is taken, where these are the items
+-- the type that is used, where these are the items
 abbrev pub type_among : List ForeignVisit → ForeignUse → TypeDef
 type_among vs t = named (owner_at (addresses_among vs) (map visited (worlds_among vs)) t.from) t.id.name.now kind.Unknown (metadata no_docs t.attributes) t.id.span
 
--- the arenas of these items, once these names were taken from them
+-- the arenas of these items, once these names were used from them
 pub record AreAdded (vs : List ForeignVisit) (ts : List ForeignUse) (es : List TypeDef) (a : ForeignArenas) : Type 0 where
   pub types : es ≡ map (type_among vs) (firsts same_foreign_use ts)
   pub interfaces : a.interfaces ≡ map (visited_interface (firsts same_foreign_use ts)) (interfaces_among vs)
@@ -99,7 +99,7 @@ names_foreign_uses xs = flat_map name_foreign_uses xs
 abbrev pub borrowed_foreign_uses : BorrowedItem → List ForeignUse
 borrowed_foreign_uses i = names_foreign_uses (names_view i) ++ (flat_map names_foreign_uses (inside_view Imported i) ++ flat_map names_foreign_uses (inside_view Exported i))
 
--- some names were taken from some items, at which what is at hand is placed
+-- some names were used from some items, at which what is at hand is placed
 pub record HasUsed (types : List TypeDef) (a : ForeignArenas) (Placed : List Address → Type 0) : Type 0 where
   pub vs : List ForeignVisit
   pub ts : List ForeignUse

@@ -158,7 +158,7 @@ impl ForeignArenas {
     /// unless it was used before.
     ///
     /// The error is a failed allocation.
-    fn take(
+    fn add_used_type(
         &mut self,
         alloc: Global,
         types: &mut Entries,
@@ -187,7 +187,7 @@ impl ForeignArenas {
     /// Adds the type that a name of a scope is used from, if that is of another package.
     ///
     /// The error is a failed allocation.
-    fn take_name(
+    fn add_used_by_name(
         &mut self,
         alloc: Global,
         types: &mut Entries,
@@ -199,7 +199,7 @@ impl ForeignArenas {
     {
         if let ScopeName::Used(used) = name {
             if let Source::Foreign { place, .. } = used.from {
-                self.take(alloc, types, place, used.attributes, used.name)?;
+                self.add_used_type(alloc, types, place, used.attributes, used.name)?;
             }
         }
         Ok(())
@@ -208,7 +208,7 @@ impl ForeignArenas {
     /// Adds the types that a scope uses from interfaces of other packages.
     ///
     /// The error is a failed allocation.
-    fn take_names(
+    fn add_used_by_names(
         &mut self,
         alloc: Global,
         types: &mut Entries,
@@ -219,7 +219,7 @@ impl ForeignArenas {
         ensures refused { IfErr result IsAllocationFailure }
     {
         for name in names {
-            self.take_name(alloc, types, name)?;
+            self.add_used_by_name(alloc, types, name)?;
         }
         Ok(())
     }
@@ -227,7 +227,7 @@ impl ForeignArenas {
     /// Adds the types that interfaces which are written in a world use from those of other packages.
     ///
     /// The error is a failed allocation.
-    fn take_inside(
+    fn add_used_inside(
         &mut self,
         alloc: Global,
         types: &mut Entries,
@@ -238,7 +238,7 @@ impl ForeignArenas {
         ensures refused { IfErr result IsAllocationFailure }
     {
         for names in inside {
-            self.take_names(alloc, types, names)?;
+            self.add_used_by_names(alloc, types, names)?;
         }
         Ok(())
     }
@@ -247,7 +247,7 @@ impl ForeignArenas {
     /// those of what is written in it, on the imported side and then on the exported one.
     ///
     /// The error is a failed allocation.
-    fn take_item(
+    fn add_used_by_item(
         &mut self,
         alloc: Global,
         types: &mut Entries,
@@ -257,16 +257,16 @@ impl ForeignArenas {
         ensures in_use { OnOk result (AddsUsed types.old self.old types.new self.new (λ p. AreItemsPlaced p (item.now ∷ [])) (borrowed_foreign_uses item.now)) }
         ensures refused { IfErr result IsAllocationFailure }
     {
-        self.take_names(alloc, types, &item.names)?;
-        self.take_inside(alloc, types, &item.imported)?;
-        self.take_inside(alloc, types, &item.exported)?;
+        self.add_used_by_names(alloc, types, &item.names)?;
+        self.add_used_inside(alloc, types, &item.imported)?;
+        self.add_used_inside(alloc, types, &item.exported)?;
         Ok(())
     }
 
     /// Adds the types that items use from interfaces of other packages, in the order of their visits.
     ///
     /// The error is a failed allocation.
-    pub fn take_all(
+    pub fn add_used_by_items(
         &mut self,
         alloc: Global,
         types: &mut Entries,
@@ -277,7 +277,7 @@ impl ForeignArenas {
         ensures refused { IfErr result IsAllocationFailure }
     {
         for item in items {
-            self.take_item(alloc, types, item)?;
+            self.add_used_by_item(alloc, types, item)?;
         }
         Ok(())
     }

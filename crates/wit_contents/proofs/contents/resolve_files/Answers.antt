@@ -27,8 +27,8 @@ use Rattle.wit_contents.proofs.Files.{uses_usable, borrowed_within}
 use Rattle.wit_contents.proofs.Fronting.{prefix_started, prefix_used, lent_enough, lent_index, worlds_enough, worlds_index}
 use Rattle.wit_contents.proofs.contents.resolve_files.Goals as goal
 
-pub take_all-requires : goal.take_all-requires
-take_all-requires c =
+pub add_used_by_items-requires : goal.add_used_by_items-requires
+add_used_by_items-requires c =
     let files = c.args.names.now in
     prefix_started files c.foreign.result.now c.args.types.now c.in_ok-prefix.prefix c.in_ok-items.items.items c.deref_mut-lent.result.now c.foreign.ensures c.requires.empty c.in_ok-prefix.ensures.bare c.deref_mut-lent.ensures.value c.in_ok-items.ensures.placed
 
@@ -48,9 +48,9 @@ pub invariant_of-interfaces : goal.invariant_of-interfaces
 invariant_of-interfaces c =
     let files = c.args.names.now in
     let e = c.in_ok-items.ensures in
-    let types = c.take_all.new.types in
-    let a = c.take_all.new.self in
-    let prefix : IsPrefix files types a = prefix_used files c.foreign.result.now c.args.types.now c.in_ok-prefix.prefix c.in_ok-items.items.items c.deref_mut-lent.result.now c.foreign.ensures c.requires.empty c.in_ok-prefix.ensures.bare c.deref_mut-lent.ensures.value e.placed types a e.names e.inside c.in_ok-take_all.ensures.in_use in
+    let types = c.add_used_by_items.new.types in
+    let a = c.add_used_by_items.new.self in
+    let prefix : IsPrefix files types a = prefix_used files c.foreign.result.now c.args.types.now c.in_ok-prefix.prefix c.in_ok-items.items.items c.deref_mut-lent.result.now c.foreign.ensures c.requires.empty c.in_ok-prefix.ensures.bare c.deref_mut-lent.ensures.value e.placed types a e.names e.inside c.in_ok-add_used_by_items.ensures.in_use in
     record {
       prefix = rw c.of-named.ensures (lent_enough files types a prefix);
       found = found_none interface_name (length (prefix_of c.of-named.result)) a.interfaces c.new.result c.new.ensures;
@@ -60,9 +60,9 @@ pub resolve_interfaces-requires-clause-index : goal.resolve_interfaces-requires-
 resolve_interfaces-requires-clause-index c =
     let files = c.args.names.now in
     let e = c.in_ok-items.ensures in
-    let types = c.take_all.new.types in
-    let a = c.take_all.new.self in
-    let prefix : IsPrefix files types a = prefix_used files c.foreign.result.now c.args.types.now c.in_ok-prefix.prefix c.in_ok-items.items.items c.deref_mut-lent.result.now c.foreign.ensures c.requires.empty c.in_ok-prefix.ensures.bare c.deref_mut-lent.ensures.value e.placed types a e.names e.inside c.in_ok-take_all.ensures.in_use in
+    let types = c.add_used_by_items.new.types in
+    let a = c.add_used_by_items.new.self in
+    let prefix : IsPrefix files types a = prefix_used files c.foreign.result.now c.args.types.now c.in_ok-prefix.prefix c.in_ok-items.items.items c.deref_mut-lent.result.now c.foreign.ensures c.requires.empty c.in_ok-prefix.ensures.bare c.deref_mut-lent.ensures.value e.placed types a e.names e.inside c.in_ok-add_used_by_items.ensures.in_use in
     rw c.of-named.ensures (lent_index files types a prefix c.new.result c.new.ensures)
 
 pub resolve_worlds-requires-clause-within : goal.resolve_worlds-requires-clause-within
@@ -79,9 +79,9 @@ pub resolve_worlds-requires-clause-prefix : goal.resolve_worlds-requires-clause-
 resolve_worlds-requires-clause-prefix c =
     let files = c.args.names.now in
     let e = c.in_ok-items.ensures in
-    let types = c.take_all.new.types in
-    let a = c.take_all.new.self in
-    let prefix : IsPrefix files types a = prefix_used files c.foreign.result.now c.args.types.now c.in_ok-prefix.prefix c.in_ok-items.items.items c.deref_mut-lent.result.now c.foreign.ensures c.requires.empty c.in_ok-prefix.ensures.bare c.deref_mut-lent.ensures.value e.placed types a e.names e.inside c.in_ok-take_all.ensures.in_use in
+    let types = c.add_used_by_items.new.types in
+    let a = c.add_used_by_items.new.self in
+    let prefix : IsPrefix files types a = prefix_used files c.foreign.result.now c.args.types.now c.in_ok-prefix.prefix c.in_ok-items.items.items c.deref_mut-lent.result.now c.foreign.ensures c.requires.empty c.in_ok-prefix.ensures.bare c.deref_mut-lent.ensures.value e.placed types a e.names e.inside c.in_ok-add_used_by_items.ensures.in_use in
     let kept : c.resolve_interfaces.new.interfaces.files ≡ c.args.names.now = c.in_ok-resolve_interfaces.ensures.files ∙ c.of-named.ensures in
     rw kept (worlds_enough files types a prefix)
 
@@ -89,9 +89,9 @@ pub resolve_worlds-requires-clause-index : goal.resolve_worlds-requires-clause-i
 resolve_worlds-requires-clause-index c =
     let files = c.args.names.now in
     let e = c.in_ok-items.ensures in
-    let types = c.take_all.new.types in
-    let a = c.take_all.new.self in
-    let prefix : IsPrefix files types a = prefix_used files c.foreign.result.now c.args.types.now c.in_ok-prefix.prefix c.in_ok-items.items.items c.deref_mut-lent.result.now c.foreign.ensures c.requires.empty c.in_ok-prefix.ensures.bare c.deref_mut-lent.ensures.value e.placed types a e.names e.inside c.in_ok-take_all.ensures.in_use in
+    let types = c.add_used_by_items.new.types in
+    let a = c.add_used_by_items.new.self in
+    let prefix : IsPrefix files types a = prefix_used files c.foreign.result.now c.args.types.now c.in_ok-prefix.prefix c.in_ok-items.items.items c.deref_mut-lent.result.now c.foreign.ensures c.requires.empty c.in_ok-prefix.ensures.bare c.deref_mut-lent.ensures.value e.placed types a e.names e.inside c.in_ok-add_used_by_items.ensures.in_use in
     let kept : c.resolve_interfaces.new.interfaces.files ≡ c.args.names.now = c.in_ok-resolve_interfaces.ensures.files ∙ c.of-named.ensures in
     rw kept (worlds_index files types a prefix [] refl)
 
@@ -99,9 +99,9 @@ pub returns-clause-added : goal.returns-clause-added
 returns-clause-added c =
     let files = c.args.names.now in
     let e = c.in_ok-items.ensures in
-    let types = c.take_all.new.types in
-    let a = c.take_all.new.self in
-    let prefix : IsPrefix files types a = prefix_used files c.foreign.result.now c.args.types.now c.in_ok-prefix.prefix c.in_ok-items.items.items c.deref_mut-lent.result.now c.foreign.ensures c.requires.empty c.in_ok-prefix.ensures.bare c.deref_mut-lent.ensures.value e.placed types a e.names e.inside c.in_ok-take_all.ensures.in_use in
+    let types = c.add_used_by_items.new.types in
+    let a = c.add_used_by_items.new.self in
+    let prefix : IsPrefix files types a = prefix_used files c.foreign.result.now c.args.types.now c.in_ok-prefix.prefix c.in_ok-items.items.items c.deref_mut-lent.result.now c.foreign.ensures c.requires.empty c.in_ok-prefix.ensures.bare c.deref_mut-lent.ensures.value e.placed types a e.names e.inside c.in_ok-add_used_by_items.ensures.in_use in
     let kept : c.resolve_interfaces.new.interfaces.files ≡ c.args.names.now = c.in_ok-resolve_interfaces.ensures.files ∙ c.of-named.ensures in
     let places = c.item_order-order.result.now in
     let now = c.resolve_interfaces.new.interfaces in
@@ -142,17 +142,17 @@ returns-in_err-items-clause-first c =
     let p = err_from_is_err_and c.from_residual-in_err-items.result c.from_residual-in_err-items.ensures.1 in
     rw (p.1, p.2) (λ known is. uses_reported c.args.names.now known is c.item_order-order.result.now c.item_order-order.ensures _ c.in_err-items.ensures.first)
 
-pub returns-in_err-take_all-clause-first : goal.returns-in_err-take_all-clause-first
-returns-in_err-take_all-clause-first c = (let p = err_from_is_err_and c.from_residual-in_err-take_all.result c.from_residual-in_err-take_all.ensures.1 in rw (p.1, p.2) (λ known is. inl c.in_err-take_all.ensures.refused))
+pub returns-in_err-add_used_by_items-clause-first : goal.returns-in_err-add_used_by_items-clause-first
+returns-in_err-add_used_by_items-clause-first c = (let p = err_from_is_err_and c.from_residual-in_err-add_used_by_items.result c.from_residual-in_err-add_used_by_items.ensures.1 in rw (p.1, p.2) (λ known is. inl c.in_err-add_used_by_items.ensures.refused))
 
 pub returns-in_err-resolve_interfaces-clause-first : goal.returns-in_err-resolve_interfaces-clause-first
 returns-in_err-resolve_interfaces-clause-first c =
     let p = err_from_is_err_and c.from_residual-in_err-resolve_interfaces.result c.from_residual-in_err-resolve_interfaces.ensures.1 in
     let files = c.args.names.now in
     let e = c.in_ok-items.ensures in
-    let types = c.take_all.new.types in
-    let a = c.take_all.new.self in
-    let prefix : IsPrefix files types a = prefix_used files c.foreign.result.now c.args.types.now c.in_ok-prefix.prefix c.in_ok-items.items.items c.deref_mut-lent.result.now c.foreign.ensures c.requires.empty c.in_ok-prefix.ensures.bare c.deref_mut-lent.ensures.value e.placed types a e.names e.inside c.in_ok-take_all.ensures.in_use in
+    let types = c.add_used_by_items.new.types in
+    let a = c.add_used_by_items.new.self in
+    let prefix : IsPrefix files types a = prefix_used files c.foreign.result.now c.args.types.now c.in_ok-prefix.prefix c.in_ok-items.items.items c.deref_mut-lent.result.now c.foreign.ensures c.requires.empty c.in_ok-prefix.ensures.bare c.deref_mut-lent.ensures.value e.placed types a e.names e.inside c.in_ok-add_used_by_items.ensures.in_use in
     let items = c.deref_mut-lent.result.now in
     let places = c.item_order-order.result.now in
     let order = c.item_order-order.ensures in
@@ -168,9 +168,9 @@ returns-in_err-made-clause-first c =
     let p = err_from_is_err_and c.from_residual-in_err-made.result c.from_residual-in_err-made.ensures.1 in
     let files = c.args.names.now in
     let e = c.in_ok-items.ensures in
-    let types = c.take_all.new.types in
-    let a = c.take_all.new.self in
-    let prefix : IsPrefix files types a = prefix_used files c.foreign.result.now c.args.types.now c.in_ok-prefix.prefix c.in_ok-items.items.items c.deref_mut-lent.result.now c.foreign.ensures c.requires.empty c.in_ok-prefix.ensures.bare c.deref_mut-lent.ensures.value e.placed types a e.names e.inside c.in_ok-take_all.ensures.in_use in
+    let types = c.add_used_by_items.new.types in
+    let a = c.add_used_by_items.new.self in
+    let prefix : IsPrefix files types a = prefix_used files c.foreign.result.now c.args.types.now c.in_ok-prefix.prefix c.in_ok-items.items.items c.deref_mut-lent.result.now c.foreign.ensures c.requires.empty c.in_ok-prefix.ensures.bare c.deref_mut-lent.ensures.value e.placed types a e.names e.inside c.in_ok-add_used_by_items.ensures.in_use in
     let items = c.deref_mut-lent.result.now in
     let places = c.item_order-order.result.now in
     let order = c.item_order-order.ensures in
@@ -198,9 +198,9 @@ pub returns-clause-first : goal.returns-clause-first
 returns-clause-first c = λ known is.
     let files = c.args.names.now in
     let e = c.in_ok-items.ensures in
-    let types = c.take_all.new.types in
-    let a = c.take_all.new.self in
-    let prefix : IsPrefix files types a = prefix_used files c.foreign.result.now c.args.types.now c.in_ok-prefix.prefix c.in_ok-items.items.items c.deref_mut-lent.result.now c.foreign.ensures c.requires.empty c.in_ok-prefix.ensures.bare c.deref_mut-lent.ensures.value e.placed types a e.names e.inside c.in_ok-take_all.ensures.in_use in
+    let types = c.add_used_by_items.new.types in
+    let a = c.add_used_by_items.new.self in
+    let prefix : IsPrefix files types a = prefix_used files c.foreign.result.now c.args.types.now c.in_ok-prefix.prefix c.in_ok-items.items.items c.deref_mut-lent.result.now c.foreign.ensures c.requires.empty c.in_ok-prefix.ensures.bare c.deref_mut-lent.ensures.value e.placed types a e.names e.inside c.in_ok-add_used_by_items.ensures.in_use in
     let items = c.deref_mut-lent.result.now in
     let places = c.item_order-order.result.now in
     let order = c.item_order-order.ensures in

@@ -11,7 +11,7 @@ use Rattle.wit_arena.specs.Resolving.{named}
 use Rattle.wit_notes.specs.BorrowedMetadata.{metadata_view}
 use Rattle.wit_front.specs.ForeignPrefix.{with_types, addresses_among}
 use Rattle.wit_front.proofs.ForeignName.{in_use-known, in_use-fresh, is_some-copied, none_copied}
-use Rattle.wit_front.proofs.foreign.ForeignArenas.take.Goals as goal
+use Rattle.wit_front.proofs.foreign.ForeignArenas.add_used_type.Goals as goal
 
 pub returns-then-is_some-clause-in_use : goal.returns-then-is_some-clause-in_use
 returns-then-is_some-clause-in_use c = λ s vs ts apart at_place before. (

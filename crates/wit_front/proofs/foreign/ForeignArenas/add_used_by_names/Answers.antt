@@ -6,7 +6,7 @@ use Rattle.wit_syntax.specs.Source.{ForeignUse}
 use Rattle.wit_scopes.specs.BorrowedNames.{Borrowed as ScopeName, name_view}
 use Rattle.wit_front.specs.ForeignPrefix.{AreAdded, name_foreign_uses, names_foreign_uses}
 use Rattle.wit_front.proofs.ForeignName.{foreign_uses-next}
-use Rattle.wit_front.proofs.foreign.ForeignArenas.take_names.Goals as goal
+use Rattle.wit_front.proofs.foreign.ForeignArenas.add_used_by_names.Goals as goal
 
 pub loop-name-preserved : goal.loop-name-preserved
 loop-name-preserved c = λ vs ts apart placed before. (
@@ -15,6 +15,6 @@ loop-name-preserved c = λ vs ts apart placed before. (
     let x = c.name-item.result in
     let more : take (i + 1) xs ≡ take i xs ++ x ∷ [] = take_more xs i x c.loop-name-test.true ∙ ap (λ (y : ScopeName). take i xs ++ y ∷ []) (sym c.name-item.is) in
     let at : slice_get xs i ≡ Some x = slice_get-get_or xs i x c.loop-name-test.true ∙ ap Some (sym c.name-item.is) in
-    let next = c.in_ok-take_name.ensures.in_use vs (ts ++ names_foreign_uses (map name_view (take i xs))) apart (placed.each i x at) (c.loop-name.invariant vs ts apart placed before) in
+    let next = c.in_ok-add_used_by_name.ensures.in_use vs (ts ++ names_foreign_uses (map name_view (take i xs))) apart (placed.each i x at) (c.loop-name.invariant vs ts apart placed before) in
     let extended : ts ++ names_foreign_uses (map name_view (take (i + 1) xs)) ≡ (ts ++ names_foreign_uses (map name_view (take i xs))) ++ name_foreign_uses (name_view x) = ap (λ (l : List ScopeName). ts ++ names_foreign_uses (map name_view l)) more ∙ foreign_uses-next name_foreign_uses name_view ts (take i xs) x in
-    subst (λ (l : List ForeignUse). AreAdded vs l c.take_name.new.types c.take_name.new.self) (sym extended) next)
+    subst (λ (l : List ForeignUse). AreAdded vs l c.add_used_by_name.new.types c.add_used_by_name.new.self) (sym extended) next)

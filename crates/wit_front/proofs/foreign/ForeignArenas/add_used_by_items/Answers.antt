@@ -11,10 +11,10 @@ use Rattle.wit_items.specs.declared.items.Item.{Item}
 use Rattle.wit_front.specs.ForeignPrefix.{AreAdded, addresses_among, borrowed_foreign_uses}
 use Rattle.wit_front.proofs.ForeignUses.{all-foreign_uses, one_placed}
 use Rattle.wit_front.proofs.ForeignName.{prefix_used}
-use Rattle.wit_front.proofs.foreign.ForeignArenas.take_all.Goals as goal
+use Rattle.wit_front.proofs.foreign.ForeignArenas.add_used_by_items.Goals as goal
 
-pub take_item-requires : goal.take_item-requires
-take_item-requires c =
+pub add_used_by_item-requires : goal.add_used_by_item-requires
+add_used_by_item-requires c =
     let xs = c.args.items.now in
     let i = c.loop-item.item-index in
     let x = c.item-item.result in
@@ -30,9 +30,9 @@ loop-item-preserved c = λ vs ts apart placed before. (
     let more : take (i + 1) xs ≡ take i xs ++ x ∷ [] = take_more xs i x c.loop-item-test.true ∙ ap (λ (y : Item). take i xs ++ y ∷ []) (sym c.item-item.is) in
     let at : slice_get xs i ≡ Some x = slice_get-get_or xs i x c.loop-item-test.true ∙ ap Some (sym c.item-item.is) in
     let prefix = flat_map borrowed_foreign_uses (take i xs) in
-    let next = c.in_ok-take_item.ensures.in_use vs (ts ++ prefix) apart (one_placed (addresses_among vs) xs i x at placed) (c.loop-item.invariant vs ts apart placed before) in
+    let next = c.in_ok-add_used_by_item.ensures.in_use vs (ts ++ prefix) apart (one_placed (addresses_among vs) xs i x at placed) (c.loop-item.invariant vs ts apart placed before) in
     let extended : ts ++ flat_map borrowed_foreign_uses (take (i + 1) xs) ≡ (ts ++ prefix) ++ borrowed_foreign_uses x = ap (λ (l : List ForeignUse). ts ++ l) (flat_more borrowed_foreign_uses (take i xs) (take (i + 1) xs) x more) ∙ sym (append_assoc ts prefix (borrowed_foreign_uses x)) in
-    subst (λ (l : List ForeignUse). AreAdded vs l c.take_item.new.types c.take_item.new.self) (sym extended) next)
+    subst (λ (l : List ForeignUse). AreAdded vs l c.add_used_by_item.new.types c.add_used_by_item.new.self) (sym extended) next)
 
 pub returns-clause-in_use : goal.returns-clause-in_use
 returns-clause-in_use c = λ files before placed names inside. (

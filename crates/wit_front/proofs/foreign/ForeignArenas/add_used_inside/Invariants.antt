@@ -6,7 +6,7 @@ use Rattle.wit_syntax.specs.Foreign.{ForeignVisit}
 use Rattle.wit_scopes.specs.BorrowedNames.{name_view}
 use Rattle.wit_scopes.specs.PlacedNames.{AreNamesPlaced}
 use Rattle.wit_front.specs.ForeignPrefix.{AreAdded, AreApart, addresses_among, names_foreign_uses}
-use Rattle.wit_front.proofs.foreign.ForeignArenas.take_inside.Given as goal
+use Rattle.wit_front.proofs.foreign.ForeignArenas.add_used_inside.Given as goal
 
 abbrev pub invariant-loop-names : goal.invariant-loop-names
 invariant-loop-names l = (vs : List ForeignVisit) (ts : List ForeignUse) → AreApart vs → All (λ ns. AreNamesPlaced (addresses_among vs) ns.items) l.inside → AreAdded vs ts l.fn.types l.fn.self → AreAdded vs (ts ++ flat_map names_foreign_uses (map (λ ns. map name_view ns.items) (take l.names-index l.inside))) l.types l.self

@@ -4,7 +4,7 @@ use Rattle.wit_syntax.specs.Source.{ForeignUse}
 use Rattle.wit_syntax.specs.Foreign.{ForeignVisit}
 use Rattle.wit_items.specs.PlacedItems.{AreItemsPlaced}
 use Rattle.wit_front.specs.ForeignPrefix.{AreAdded, AreApart, addresses_among, borrowed_foreign_uses}
-use Rattle.wit_front.proofs.foreign.ForeignArenas.take_all.Given as goal
+use Rattle.wit_front.proofs.foreign.ForeignArenas.add_used_by_items.Given as goal
 
 abbrev pub invariant-loop-item : goal.invariant-loop-item
 invariant-loop-item l = (vs : List ForeignVisit) (ts : List ForeignUse) → AreApart vs → AreItemsPlaced (addresses_among vs) l.items → AreAdded vs ts l.fn.types l.fn.self → AreAdded vs (ts ++ flat_map borrowed_foreign_uses (take l.item-index l.items)) l.types l.self

@@ -4,7 +4,7 @@ use Rattle.wit_syntax.specs.Foreign.{ForeignVisit}
 use Rattle.wit_scopes.specs.BorrowedNames.{name_view}
 use Rattle.wit_scopes.specs.PlacedNames.{AreNamesPlaced}
 use Rattle.wit_front.specs.ForeignPrefix.{AreAdded, AreApart, addresses_among, names_foreign_uses}
-use Rattle.wit_front.proofs.foreign.ForeignArenas.take_names.Given as goal
+use Rattle.wit_front.proofs.foreign.ForeignArenas.add_used_by_names.Given as goal
 
 abbrev pub invariant-loop-name : goal.invariant-loop-name
 invariant-loop-name l = (vs : List ForeignVisit) (ts : List ForeignUse) → AreApart vs → AreNamesPlaced (addresses_among vs) l.names → AreAdded vs ts l.fn.types l.fn.self → AreAdded vs (ts ++ names_foreign_uses (map name_view (take l.name-index l.names))) l.types l.self
