@@ -12,7 +12,7 @@ use Rattle.wit_syntax.proofs.Found.{find_at, find_passes, find_some}
 use Rattle.wit_syntax.proofs.JoinedLists.{find-map}
 use Rattle.wit_syntax.proofs.Names.{name_equal, name_itself}
 use Rattle.wit_syntax.proofs.Repeated.{key_at}
-use Rattle.wit_first.specs.First.{first_after, repeat_of, first_repeat, clash_of, first_clash}
+use Rattle.wit_first.specs.First.{first_after, repeat_of, clash_of, first_clash}
 use Rattle.wit_first.proofs.First.{any_some, no_repeat-after, none_both, after-at}
 
 -- none is found where none passes

@@ -1,5 +1,5 @@
 //! Names at the top of files, and what paths lead to.
-ghost use Rattle.std.specs.Prelude.{◌≡◌, ◌++◌, List, [], map, IfOk, OnOk, codes, string_bytes};
+ghost use Rattle.std.specs.Prelude.{◌≡◌, ◌++◌, List, [], map, IfOk, OnOk, string_bytes};
 ghost use Rattle.wit_syntax.specs.Source.{Local as TheLocal, TopName as Top, Item, itself as the_itself, top_name as the_name, top_names as the_names, top_text, leads as the_leads, file_items, all_items};
 ghost use Rattle.wit_syntax.specs.ScopeTables.{local_target};
 ghost use Rattle.wit_syntax.specs.Words.{around};

@@ -12,7 +12,7 @@ use Rattle.wit_syntax.specs.Fault.{Fault}
 use Rattle.wit_syntax.specs.NameEnds.{shape_end}
 use Rattle.wit_syntax.specs.ScopeTables.{item_rows, rows_of, in_order, defined, interfaces_of, worlds_of}
 use Rattle.wit_syntax.specs.Shape.{Shape, Word}
-use Rattle.wit_syntax.specs.Sides.{SideItem, SideFunction, SideLink, SideInline, item_called, item_function, item_side, items_on, side_called, side_items}
+use Rattle.wit_syntax.specs.Sides.{SideItem, SideFunction, SideLink, SideInline, item_function, item_side, items_on, side_items}
 use Rattle.wit_syntax.specs.Source.{Item, address, all_items, scope_names}
 use Rattle.wit_first.specs.First.{first_in, first_after}
 use Rattle.wit_walk.specs.Definitions.{definition_fault, end_fault, handle_fault}

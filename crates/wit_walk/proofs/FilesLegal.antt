@@ -4,7 +4,6 @@ use Rattle.std.specs.Prelude.{slice_get, map, if◌then◌else◌}
 use Rattle.std.specs.List.{flat_map}
 use Rattle.std.specs.Option.{option_map}
 use Rattle.std.proofs.lemmas.List.Elements.{Contains-append_left, Contains-append_right}
-use Rattle.wit_values.specs.declared.span.Span.{Span}
 use Rattle.wit_type_tree.specs.declared.leaves.Id.{Id}
 use Rattle.wit_tree.specs.declared.tree.Extern.{Extern}
 use Rattle.wit_tree.specs.declared.tree.ExternKind.{ExternKind}
@@ -18,7 +17,7 @@ use Rattle.wit_tree.specs.declared.tree.WorldSide.TheVariants.{Imported, Exporte
 use Rattle.wit_syntax.specs.Bodies.{IsSecond}
 use Rattle.wit_syntax.specs.Broken.{is_world_at, IsBrokenUse, MissingUse, WorldUsed}
 use Rattle.wit_syntax.specs.ExternPart.{inline_uses, extern_paths, same_side}
-use Rattle.wit_syntax.specs.Fault.{Fault, fault, missing_at, item_word, interface_there, world_there, top_twice}
+use Rattle.wit_syntax.specs.Fault.{Fault, missing_at, item_word, interface_there, world_there, top_twice}
 use Rattle.wit_syntax.specs.Metadata.{IsBrokenMetadata, IsBrokenStability}
 use Rattle.wit_syntax.specs.ScopeTables.{include_path, include_paths, includes, part_includes, part_uses, use_path, use_paths, uses}
 use Rattle.wit_syntax.specs.Sides.{Link, SideItem, SideLink, extern_items, extern_link, part_items, side_items}

@@ -24,7 +24,7 @@ use Rattle.wit_syntax.specs.Bodies.{IsSecond}
 use Rattle.wit_syntax.specs.Broken.{is_world_at, IsBroken, MissingUse, WorldUsed, Use, Sides, LinkedTwice, IsLinkedTwice}
 use Rattle.wit_syntax.specs.ExternPart.{inline_uses, extern_paths, same_side}
 use Rattle.wit_syntax.specs.Words.{clash, conflict}
-use Rattle.wit_syntax.specs.Fault.{Fault, fault, fault_in, world_there, linked_twice}
+use Rattle.wit_syntax.specs.Fault.{Fault, fault_in, world_there, linked_twice}
 use Rattle.wit_syntax.specs.Function.{Role, Freestanding, Method, Static, Constructor, OnSide, SourceFunction, definition_functions, functions}
 use Rattle.wit_syntax.specs.ScopeTables.{rows_of, use_path, use_paths, in_turn}
 use Rattle.wit_syntax.specs.ScopesOfTrees.{scope}

@@ -20,7 +20,7 @@ use Rattle.wit_graph.specs.Table.{IsOrder}
 use Rattle.wit_syntax.specs.Address.{same_address}
 use Rattle.wit_syntax.specs.Broken.{is_world_at, IsLinkedTwice}
 use Rattle.wit_syntax.specs.ExternPart.{same_side}
-use Rattle.wit_syntax.specs.Fault.{Fault, fault, linked_twice}
+use Rattle.wit_syntax.specs.Fault.{Fault, linked_twice}
 use Rattle.wit_syntax.specs.Function.{SourceFunction, functions, written_types}
 use Rattle.wit_syntax.specs.Metadata.{IsBrokenMetadata}
 use Rattle.wit_syntax.specs.Repeats.{AllDiffer}

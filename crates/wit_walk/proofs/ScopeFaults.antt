@@ -7,7 +7,6 @@ use Rattle.std.specs.Str.{bytes_eq}
 use Rattle.std.proofs.lemmas.Bool.{cases_Bool}
 use Rattle.std.proofs.lemmas.List.Elements.{Contains-append_left}
 use Rattle.std.proofs.lemmas.Option.{slice_get-map}
-use Rattle.wit_values.specs.declared.span.Span.{Span}
 use Rattle.wit_type_tree.specs.declared.leaves.Id.{Id}
 use Rattle.wit_type_tree.specs.declared.types.TypeDef.{TypeDef}
 use Rattle.wit_type_tree.specs.declared.types.«Type».{«Type» as Written}
@@ -19,7 +18,7 @@ use Rattle.wit_graph.specs.Table.{Row, IsOrder}
 use Rattle.wit_syntax.specs.Address.{Address, same_address}
 use Rattle.wit_syntax.specs.Broken.{is_world_at, IsMissingEdge, IsCyclicEdge, DefinedTwice, Metadata, Body, IsBroken, IncludeStability, InterfaceIncluded, MissingName, Scope, Handle}
 use Rattle.wit_syntax.specs.NameEnds.{End, AtResource, Elsewhere, AtForeign, shape_end}
-use Rattle.wit_syntax.specs.Fault.{Fault, fault, interface_there, missing_at, cyclic_at, name_word, function_used, name_twice, no_resource}
+use Rattle.wit_syntax.specs.Fault.{Fault, interface_there, missing_at, cyclic_at, name_word, function_used, name_twice, no_resource}
 use Rattle.wit_syntax.specs.Function.{SourceFunction, functions, item_types, name_types, role_names, written_types}
 use Rattle.wit_syntax.specs.Repeats.{AllDiffer}
 use Rattle.wit_syntax.specs.ScopeTables.{used, defined, part_includes, include_path, includes}
