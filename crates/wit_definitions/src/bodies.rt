@@ -1,6 +1,6 @@
 //! Bodies of definitions, as kinds of entries.
 ghost use Rattle.std.specs.Prelude.{◌≡◌, [], codes, is_some, map, IfOk, OnOk};
-ghost use Rattle.std.specs.Option.{option_or, option_to_list};
+ghost use Rattle.std.specs.Option.{option_to_list};
 ghost use Rattle.wit_type_tree.specs.TypeParts.{field_types, case_types, body_types};
 ghost use Rattle.wit_syntax.specs.Form.{RecordForm, FlagsForm, VariantForm, EnumForm};
 ghost use Rattle.wit_arena.specs.Kind.{kind_of, field_member, flag_member, case_member, enum_case_member, payloads};
@@ -66,23 +66,21 @@ fn resolve_fields(
     Ok(Row::from(resolved))
 }
 
-/// The kind of a record.
+/// The kind of a record, whose fields are checked.
 fn resolve_record(
     alloc: Global,
     types: &mut Entries,
     names: &TextTable<TypeId>,
     required: &mut Vec<Required>,
     given: &Stability,
-    span: Span,
     fields: &[tree::Field<'_>],
 ) -> ParseResult<TypeDefKind>
     ensures types { IfOk result (λ r. AreTypes types.old types.new (env_of names.now) given.now (field_types fields.now) (kind_of r).parts) }
     ensures form { IfOk result (λ r. (kind_of r).form ≡ RecordForm (map (λ x. member x.docs x.name) fields.now)) }
     ensures handled { OnOk result (Requires (env_of names.now) types.new (all_handles (field_types fields.now)) required.old.items required.new.items) }
     ensures extended { IsExtended types.old types.new }
-    ensures first { Finds (option_or (members_fault 19 (codes "field") (λ x. x.name) span fields.now) (types_fault (env_of names.now) types.new (field_types fields.now))) result }
+    ensures first { Finds (types_fault (env_of names.now) types.new (field_types fields.now)) result }
 {
-    check_record(alloc, span, fields)?;
     let fields = resolve_fields(alloc, types, names, required, given, fields)?;
     Ok(TypeDefKind::Record(Record { fields }))
 }
@@ -180,23 +178,21 @@ fn resolve_cases(
     Ok(Row::from(resolved))
 }
 
-/// The kind of a variant.
+/// The kind of a variant, whose cases are checked.
 fn resolve_variant(
     alloc: Global,
     types: &mut Entries,
     names: &TextTable<TypeId>,
     required: &mut Vec<Required>,
     given: &Stability,
-    span: Span,
     cases: &[tree::Case<'_>],
 ) -> ParseResult<TypeDefKind>
     ensures types { IfOk result (λ r. AreTypes types.old types.new (env_of names.now) given.now (case_types cases.now) (kind_of r).parts) }
     ensures form { IfOk result (λ r. (kind_of r).form ≡ VariantForm (map (λ c. (member c.docs c.name, is_some c.ty)) cases.now)) }
     ensures handled { OnOk result (Requires (env_of names.now) types.new (all_handles (case_types cases.now)) required.old.items required.new.items) }
     ensures extended { IsExtended types.old types.new }
-    ensures first { Finds (option_or (members_fault 23 (codes "case") (λ x. x.name) span cases.now) (types_fault (env_of names.now) types.new (case_types cases.now))) result }
+    ensures first { Finds (types_fault (env_of names.now) types.new (case_types cases.now)) result }
 {
-    check_variant(alloc, span, cases)?;
     let cases = resolve_cases(alloc, types, names, required, given, cases)?;
     Ok(TypeDefKind::Variant(Variant { cases }))
 }
@@ -302,7 +298,8 @@ pub fn resolve_body(
 {
     match body {
         tree::TypeBody::Record { span, fields } => {
-            let kind = resolve_record(alloc, types, names, required, given, *span, fields)?;
+            check_record(alloc, *span, fields)?;
+            let kind = resolve_record(alloc, types, names, required, given, fields)?;
             Ok(kind)
         }
         tree::TypeBody::Flags { span, flags } => {
@@ -310,7 +307,8 @@ pub fn resolve_body(
             Ok(kind)
         }
         tree::TypeBody::Variant { span, cases } => {
-            let kind = resolve_variant(alloc, types, names, required, given, *span, cases)?;
+            check_variant(alloc, *span, cases)?;
+            let kind = resolve_variant(alloc, types, names, required, given, cases)?;
             Ok(kind)
         }
         tree::TypeBody::Enum { span, cases } => {
