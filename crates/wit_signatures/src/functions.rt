@@ -156,29 +156,36 @@ fn given_params(
     Ok(params)
 }
 
-/// Adds the written parameters of the function at a place after those that it is given. The one at
-/// the place `repeated` among all is refused (E38).
+/// The written parameters of the function at a place of a scope.
+#[derive(Clone, Copy)]
+struct WrittenParams<'s, 't, 'a> {
+    scope: FunctionScope<'s, 't, 'a>,
+    place: usize,
+    params: &'t [tree::Param<'a>],
+    /// The place, among all parameters of the function, of the first that an earlier one is.
+    repeated: Option<usize>,
+}
+
+/// Adds the written parameters of a function after those that it is given. A repeated one is refused
+/// (E38).
 fn resolve_params(
     alloc: Global,
-    scope: FunctionScope<'_, '_, '_>,
     types: &mut Entries,
     required: &mut Vec<Required>,
-    place: usize,
     params: &mut Vec<Param>,
-    written: &[tree::Param<'_>],
-    repeated: Option<usize>,
+    of: WrittenParams<'_, '_, '_>,
 ) -> ParseResult<()>
-    requires place { place < length scope.functions.now }
-    ensures params { OnOk result (AddsParams scope.entry types.old types.new written.now params.old.items params.new.items) }
-    ensures handled { OnOk result (RequiresIn scope.entry types.new (map (λ p. p.ty) written.now) required.old.items required.new.items) }
+    requires place { of.place < length of.scope.functions.now }
+    ensures params { OnOk result (AddsParams of.entry.scope types.old types.new of.entry.params.now params.old.items params.new.items) }
+    ensures handled { OnOk result (RequiresIn of.entry.scope types.new (map (λ p. p.ty) of.entry.params.now) required.old.items required.new.items) }
     ensures extended { IsExtended types.old types.new }
-    ensures first { FindsParams scope.entry types.new place written.now (length params.old.items) repeated result }
+    ensures first { FindsParams of.entry.scope types.new of.entry.place of.entry.params.now (length params.old.items) of.entry.repeated result }
 {
-    for written in written {
-        if repeated == Some(params.len()) {
+    for written in of.params {
+        if of.repeated == Some(params.len()) {
             return Err(refuse_param(alloc, written.name));
         }
-        let ty = resolve_in_signature(alloc, scope, types, required, place, &written.ty)?;
+        let ty = resolve_in_signature(alloc, of.scope, types, required, of.place, &written.ty)?;
         params.push(param(alloc, written.name, ty)?)?;
     }
     Ok(())
@@ -204,16 +211,13 @@ fn all_params<'t, 'a>(
     let repeated = repeated_param(alloc, function)?;
     let mut params = given_params(alloc, scope.names, function, types)?;
     let written = function.params();
-    resolve_params(
-        alloc,
+    let of = WrittenParams {
         scope,
-        types,
-        required,
         place,
-        &mut params,
-        written,
+        params: written,
         repeated,
-    )?;
+    };
+    resolve_params(alloc, types, required, &mut params, of)?;
     Ok(params)
 }
 
