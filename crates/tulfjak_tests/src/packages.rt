@@ -44,7 +44,6 @@ fn know(package: &UnresolvedPackage) {
     laws::functions_have_marks(package);
     laws::ids_are_within(package);
     laws::ids_point_backward(package);
-    laws::value_and_parts(package);
     laws::packages_are_faithful(package);
     laws::splitting();
     laws::one_package();

@@ -1,13 +1,12 @@
--- Files that declare the same name the same of other packages, require the same of them, and have the same declarations.
-use Rattle.std.proofs.Common.{◌≡◌, ℕ, not, List, [], take, Option, Some, None, ap, ◌∙◌, subst, sym}
-use Rattle.std.specs.Prelude.{if◌then◌else◌, map, slice_get}
+-- Files that declare the same name the same of other packages, and require the same of them.
+use Rattle.std.proofs.Common.{◌≡◌, ℕ, not, List, [], Option, Some, None, ap, ◌∙◌}
+use Rattle.std.specs.Prelude.{if◌then◌else◌, map}
 use Rattle.std.specs.List.{filter}
 use Rattle.wit_values.specs.declared.span.Span.{Span}
 use Rattle.wit_type_tree.specs.declared.leaves.Id.{Id}
 use Rattle.wit_tree.specs.declared.tree.PackageFile.{PackageFile}
 use Rattle.wit_package_names.specs.declared.package_name.PackageName.{PackageName}
 use Rattle.wit_types.specs.declared.stability.Stability.{Stability}
-use Rattle.wit_types.specs.declared.types.TypeDef.{TypeDef}
 use Rattle.wit_model.specs.declared.ast_item.AstItem.{AstItem}
 use Rattle.wit_model.specs.declared.ast_item.AstItem.TheVariants as entry
 use Rattle.wit_model.specs.declared.interface.Interface.{Interface}
@@ -16,16 +15,13 @@ use Rattle.wit_syntax.specs.Address.{Address, same_package, same_address, packag
 use Rattle.wit_syntax.specs.Foreign.{ForeignVisit, visited, same_item, foreign_interfaces, foreign_worlds}
 use Rattle.wit_syntax.specs.Metadata.{stability_of}
 use Rattle.wit_syntax.specs.Repeats.{firsts}
-use Rattle.wit_syntax.specs.Source.{ScopeName, ForeignUse, same_foreign_use}
-use Rattle.wit_syntax.specs.ScopesOfTrees.{scope}
+use Rattle.wit_syntax.specs.Source.{ForeignUse, same_foreign_use}
 use Rattle.wit_syntax.proofs.JoinedFiles.{AreAlike, visits_same}
-use Rattle.wit_syntax.proofs.JoinedTrees.{foreign_uses_alike, scope_alike}
+use Rattle.wit_syntax.proofs.JoinedTrees.{foreign_uses_alike}
 use Rattle.wit_syntax.proofs.JoinedLegal.{ends_onward}
 use Rattle.wit_syntax.specs.NameEnds.{AtResource, AtForeign}
-use Rattle.wit_arena.specs.Occurrences.{Key, Decls, Def, Whole, IsEntry, IsOccurrence, Occurrence, keys}
-use Rattle.wit_arena.specs.OneByOne.{OneByOne}
-use Rattle.wit_arena.specs.Whole.{foreign_place, NamesOthers, HandleRequires, AreRequired, owner_at, declarations, IsForeignInterface, HasTypes}
-use Rattle.wit_types.specs.declared.types.TypeOwner.{TypeOwner}
+use Rattle.wit_arena.specs.Occurrences.{Key}
+use Rattle.wit_arena.specs.Whole.{foreign_place, NamesOthers, HandleRequires, AreRequired}
 
 -- what is named of other packages, by the visits
 abbrev items_by : List ForeignVisit → List ForeignVisit
@@ -49,21 +45,6 @@ item_by vs v = (v.id.name.now, (entry_by vs v, map (λ u. stability_of u.attribu
 abbrev dep_by : List ForeignVisit → ForeignVisit → PackageName × List (List ℕ × (AstItem × List Stability))
 dep_by vs v = (package_of v.of, map (item_by vs) (filter (λ u. same_package (package_of u.of) (package_of v.of)) (items_by vs)))
 
-abbrev declared : List ScopeName → TypeOwner → List ScopeName × TypeOwner
-declared xs o = (xs, o)
-
--- declarations that are the same of each scope make the same occurrence
-entry_again : (d e : Decls) → ((s : Address) → d s ≡ e s) → (ks : List Key) (k : Key) (t : TypeDef) → IsEntry d ks k t → IsEntry e ks k t
-entry_again d e same ks (Def s name) t h = (h.0, h.1, ap (λ (d : List ScopeName × TypeOwner). slice_get d.0 h.0) (sym (same s)) ∙ h.2, h.3, h.4, h.5, h.6 ∙ ap (λ (d : List ScopeName × TypeOwner). d.1) (same s), h.7, h.8, h.9)
-entry_again d e same ks (Whole form parts) t h = h
-
-pub occurrence_again : (d e : Decls) → ((s : Address) → d s ≡ e s) → (ms : List Occurrence) (ts : List TypeDef) → IsOccurrence d ms ts → IsOccurrence e ms ts
-occurrence_again d e same ms ts h = record {
-  keyed = record { count = h.keyed.count; once = h.keyed.once; each = λ i k t at there. entry_again d e same (take i (keys ms)) k t (h.keyed.each i k t at there) };
-  spans = h.spans;
-  settled = h.settled;
-}
-
 module _ (files others : List PackageFile) (a : AreAlike files others) where
   pub others_onward : (p : UnresolvedPackage) → NamesOthers files p → NamesOthers others p
   others_onward p h = (
@@ -77,16 +58,6 @@ module _ (files others : List PackageFile) (a : AreAlike files others) where
 
   pub foreign_worlds_same : foreign_worlds files ≡ foreign_worlds others
   foreign_worlds_same = ap worlds_by (visits_same files others a)
-
-  foreign_alike : (ks : List Key) (v : ForeignVisit) (i : Interface) → IsForeignInterface files ks v i → IsForeignInterface others ks v i
-  foreign_alike ks v i h = (h.0, subst (λ (xs : List ScopeName). HasTypes ks (record { address = visited v; names = xs; functions = [] }) i.types) (scope_alike files others a (visited v)) h.1, h.2)
-
-  pub foreign_onward : (ks : List Key) (is : List Interface) → OneByOne (IsForeignInterface files ks) (foreign_interfaces files) is → OneByOne (IsForeignInterface others ks) (foreign_interfaces others) is
-  foreign_onward ks is h = subst (λ (vs : List ForeignVisit). OneByOne (IsForeignInterface others ks) vs is) foreign_interfaces_same (record { count = h.count; each = λ t v i at there. foreign_alike ks v i (h.each t v i at there) })
-
-  -- the declarations of scopes are the same, where the interfaces and the worlds have the same addresses
-  pub declarations_same : (is js ws vs : List Address) → is ≡ js → ws ≡ vs → (s : Address) → declarations files is ws s ≡ declarations others js vs s
-  declarations_same is js ws vs same worlds s = ap (λ (xs : List ScopeName). declared xs (owner_at is ws s)) (scope_alike files others a s) ∙ ap (λ (l : List Address). declared (scope others s) (owner_at l ws s)) same ∙ ap (λ (l : List Address). declared (scope others s) (owner_at js l s)) worlds
 
   -- names in handles end where they did
   pub required_onward : (ks : List Key) (hs : List (Address × Id)) (rs : List (ℕ × Span)) → AreRequired files ks hs rs → AreRequired others ks hs rs

@@ -113,7 +113,7 @@ module _ (is js : List Ordered) (ws vs : List OrderedWorld) (same : map as_state
 abbrev pub all_ordered : List Ordered → List OrderedWorld → List Ordered
 all_ordered is ws = is ++ (map (λ w. w.own) ws ++ all_inside ws)
 
-abbrev pub own_stated : StatedWorld → Stated
+abbrev own_stated : StatedWorld → Stated
 own_stated w = w.0
 
 abbrev pub inside_stated : StatedWorld → List Stated
@@ -134,9 +134,6 @@ module _ (is js : List Ordered) (ws vs : List OrderedWorld) (same : map as_state
 
   own_same : map as_stated (map (λ (w : OrderedWorld). w.own) ws) ≡ map as_stated (map (λ (w : OrderedWorld). w.own) vs)
   own_same = own_by ws ∙ ap (map own_stated) worlds ∙ sym (own_by vs)
-
-  pub interfaces_stated : map as_stated (is ++ all_inside ws) ≡ map as_stated (js ++ all_inside vs)
-  interfaces_stated = append_stated is js (all_inside ws) (all_inside vs) same inside_same
 
   pub all_stated : map as_stated (all_ordered is ws) ≡ map as_stated (all_ordered js vs)
   all_stated = append_stated is js (map (λ (w : OrderedWorld). w.own) ws ++ all_inside ws) (map (λ (w : OrderedWorld). w.own) vs ++ all_inside vs) same (append_stated (map (λ (w : OrderedWorld). w.own) ws) (map (λ (w : OrderedWorld). w.own) vs) (all_inside ws) (all_inside vs) own_same inside_same)

@@ -70,9 +70,8 @@ pub mod JoinedTurns
 pub mod JoinedWorlds
 pub mod JoinedOnce
 pub mod JoinedOccurrences
-pub mod JoinedSides
 pub mod JoinedOthers
-pub mod JoinedPackage
+pub mod JoinedMade
 pub mod SameKeys
 pub mod FirstsOf
 pub mod Placing

@@ -41,6 +41,11 @@ name_stated h a namespace name version =
     let same : name_of h.namespace.name.now h.name.name.now (option_map release_of h.version) ≡ name_of a.namespace a.name a.version = cc in
     same
 
+-- a header is there, where it names a package
+pub header_there : (o : Option Header) (n : PackageName) → option_map package_of o ≡ Some n → (h : Header) × (o ≡ Some h) × (package_of h ≡ n)
+header_there None n named = absurd (let f : ⊥ = cc in f)
+header_there (Some h) n named = (let same : package_of h ≡ n = cc in (h, refl, same))
+
 module _ (files : List PackageFile) (p : UnresolvedPackage) (is : IsPackage files p) where
   pub name_made : option_map package_of (last_header files) ≡ Some p.name
   name_made = ap (option_map package_of) is.last ∙ ap Some (name_stated is.header p.name is.namespace is.name is.version)

@@ -24,11 +24,10 @@ use Rattle.wit_syntax.specs.Source.{Item}
 use Rattle.wit_syntax.specs.ScopesOfTrees.{scope}
 use Rattle.wit_arena.specs.Made.{foreign_interface, own_interface, foreign_world, own_world, item_turns, own_interfaces, interface_scopes, world_scopes, Makes}
 use Rattle.wit_arena.specs.Occurrences.{Key, Def, Occurrence, keys}
-use Rattle.wit_arena.specs.Whole.{Turned, all_occurrences, turn_handles, owner_at, HandleRequires, AreRequired, IsPackage}
+use Rattle.wit_arena.specs.Whole.{Turned, all_occurrences, turn_handles, owner_at, HandleRequires, AreRequired}
 use Rattle.wit_arena.proofs.Ends.{ends_one}
 use Rattle.wit_arena.proofs.FirstsOf.{firsts-differ}
 use Rattle.wit_arena.proofs.LegalScopes.{scope_differs}
-use Rattle.wit_arena.proofs.MadePackage.{made_of_package}
 use Rattle.wit_arena.proofs.OneList.{one_by_one}
 use Rattle.wit_arena.proofs.OneMadeArena.{AreEntries, one_arena}
 use Rattle.wit_arena.proofs.OneMadeOrders.{one_order_of_items, on_interfaces, on_worlds, on_inline, on_own}
@@ -152,7 +151,3 @@ module _ (files : List PackageFile) (p q : UnresolvedPackage) (legal : IsLegal f
 
 pub one_made : (files : List PackageFile) (p q : UnresolvedPackage) → IsLegal files → Makes files p → Makes files q → p ≡ q
 one_made files p q legal a b = are_one files p q legal a b
-
--- so is one that its relations say
-pub one_package : (files : List PackageFile) (p q : UnresolvedPackage) → IsLegal files → IsPackage files p → IsPackage files q → p ≡ q
-one_package files p q legal a b = one_made files p q legal (made_of_package files p legal a) (made_of_package files q legal b)

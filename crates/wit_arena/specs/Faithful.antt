@@ -20,7 +20,8 @@ use Rattle.wit_arena.specs.Expr.{expr_of}
 use Rattle.wit_arena.specs.UnfoldedTypes.{owner_of, names_of, functions_of, function_types, package_node, package_tree, IsBelow}
 use Rattle.wit_arena.specs.Occurrences.{Def, Occurrence, keys, IsAt, IsOccurrence}
 use Rattle.wit_syntax.specs.Broken.{IsLegal}
-use Rattle.wit_arena.specs.Whole.{functions_at, all_inside, interface_addresses, world_addresses, declarations, AreFirstOccurrences, IsPackage}
+use Rattle.wit_arena.specs.Whole.{functions_at, all_inside, interface_addresses, world_addresses, declarations, AreFirstOccurrences}
+use Rattle.wit_arena.specs.Made.{Makes}
 
 -- the parts of one level
 abbrev pub node_parts : {X : Type 0} → Node X → List X
@@ -95,4 +96,4 @@ pub record HasArena (files : List PackageFile) (p : UnresolvedPackage) : Type 0 
 -- files break no rule, and this is the package that they make
 pub record IsMadeOf (files : List PackageFile) (p : UnresolvedPackage) : Type 0 where
   pub legal : IsLegal files
-  pub whole : IsPackage files p
+  pub whole : Makes files p

@@ -3,13 +3,14 @@ use Rattle.std.specs.Prelude.{◌≡◌, ◌↔◌, List}
 use Rattle.wit_tree.specs.declared.tree.PackageFile.{PackageFile}
 use Rattle.wit_model.specs.declared.unresolved.UnresolvedPackage.{UnresolvedPackage}
 use Rattle.wit_arena.specs.Occurrences.{Occurrence}
-use Rattle.wit_arena.specs.Whole.{AreFirstOccurrences, IsPackage}
+use Rattle.wit_arena.specs.Made.{Makes}
+use Rattle.wit_arena.specs.Whole.{AreFirstOccurrences}
 
 -- what is first seen in the one is first seen in the others, in the same order, and each where it is written there; and it is one list
 pub record HaveSameOccurrences (files others : List PackageFile) : Type 0 where
   pub both : (seen : List Occurrence) → AreFirstOccurrences files seen ↔ AreFirstOccurrences others seen
   pub one : (seen more : List Occurrence) → AreFirstOccurrences files seen → AreFirstOccurrences others more → seen ≡ more
 
--- what is a package of the one is one of the others
+-- what the one make the others make
 abbrev pub HaveSamePackages : List PackageFile → List PackageFile → Type 0
-HaveSamePackages files others = (p : UnresolvedPackage) → IsPackage files p ↔ IsPackage others p
+HaveSamePackages files others = (p : UnresolvedPackage) → Makes files p ↔ Makes others p

@@ -6,7 +6,6 @@ use Rattle.wit_lex.specs.declared.source.Source.{Source}
 use Rattle.wit_model.specs.declared.unresolved.UnresolvedPackage.{UnresolvedPackage}
 use Rattle.wit_syntax.specs.Broken.{IsLegal}
 use Rattle.wit_arena.specs.Made.{Makes, world_scopes}
-use Rattle.wit_arena.proofs.MadePackage.{made_of_package}
 use Rattle.wit_groups.specs.Groups.{IsGroup}
 use Rattle.wit_json.specs.DistinctKeys.{HasOwnEntries, HasOwnKeys, HasOwnMembers, HasOwnSides}
 use Rattle.wit_json.specs.Laws.{HasOwnMaps}
@@ -25,7 +24,7 @@ own_entries files p legal m = record {
 }
 
 made_entries : (p : UnresolvedPackage) → IsPlainMade p → HasOwnEntries p
-made_entries p made = own_entries made.0 p made.2.legal (made_of_package made.0 p made.2.legal made.2.whole)
+made_entries p made = own_entries made.0 p made.2.legal made.2.whole
 
 pub own_maps : (sources : List Source) (main : UnresolvedPackage) (nested : List UnresolvedPackage) → IsGroup sources main nested → HasOwnMaps (sources, main, nested)
 own_maps sources main nested group = record {

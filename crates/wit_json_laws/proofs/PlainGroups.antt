@@ -10,7 +10,6 @@ use Rattle.wit_grammar.specs.Seen.{see_file, see_nested}
 use Rattle.wit_model.specs.declared.unresolved.UnresolvedPackage.{UnresolvedPackage}
 use Rattle.wit_syntax.proofs.Lists.{at_split}
 use Rattle.wit_arena.specs.Faithful.{IsMadeOf}
-use Rattle.wit_arena.proofs.MadePackage.{made_of_package}
 use Rattle.wit_nested.specs.Nested.{GrowByNested, IsMadeByNested, file_of}
 use Rattle.wit_groups.specs.Groups.{AreUsed, IsGroup, IsTree}
 use Rattle.wit_groups.specs.Groups.AreUsed.{None, More}
@@ -27,7 +26,7 @@ abbrev pub IsPlainMade : UnresolvedPackage → Type 0
 IsPlainMade p = (files : List PackageFile) × All HasPlainNames files × IsMadeOf files p
 
 made_plain : (p : UnresolvedPackage) → IsPlainMade p → IsPlainWhereMade p → IsPlainPackage p
-made_plain p made plain = plain made.0 made.2.legal made.1 (made_of_package made.0 p made.2.legal made.2.whole)
+made_plain p made plain = plain made.0 made.2.legal made.1 made.2.whole
 
 read_plain : (s : Source) (read : SourceFile) → IsTree s read → IsPlainFile (see_file read)
 read_plain s read tree = spelled_plain (string_bytes s.contents) s.offset (see_file read) tree

@@ -8,7 +8,7 @@ ghost use Rattle.wit_json_laws.specs.Laws.{AreAlike, GroupsHaveOwnMaps, HasOwnJs
 
 use wit_groups::UnresolvedPackageGroup;
 use wit_model::UnresolvedPackage;
-use wit_parser::laws::{ids_are_within, value_and_parts};
+use wit_parser::laws::{ids_are_within};
 
 /// No map of a package that legal files make has a key twice: no name of an interface, no import and no
 /// export of a world, no other package and no item of one. So it is in each package of a group.
@@ -29,7 +29,6 @@ pub fn packages_are_plain(package: &UnresolvedPackage)
 {
     // The count is known to fit 64 bits once it is read, and so are the ids of interfaces.
     let _interfaces = package.interfaces.len();
-    value_and_parts(package);
     ids_are_within(package);
 }
 

@@ -13,7 +13,7 @@ use Rattle.wit_model.specs.declared.unresolved.UnresolvedPackage.{UnresolvedPack
 use Rattle.wit_syntax.specs.Fault.{Fault}
 use Rattle.wit_syntax.specs.Broken.{IsBroken, IsDocumentedTwice, IsLegal, IsOtherPackage, Refused}
 use Rattle.wit_syntax.proofs.Refusing.{refused_weaker}
-use Rattle.wit_arena.specs.Whole.{IsPackage}
+use Rattle.wit_arena.specs.Made.{Makes}
 use Rattle.wit_arena.specs.Faithful.{IsMadeOf}
 use Rattle.wit_parser.specs.Stray.{IsNesting, IsStray}
 use Rattle.wit_nested.specs.Nested.{GrowByNested, IsBrokenAmong, IsBrokenNested, IsMadeByNested, IsUnfit, file_of}
@@ -51,7 +51,7 @@ alone n s old files none is extended = extended ∙ (ap (λ fs. fs ++ s.file ∷
 
 -- the package of one
 pub one_made : (n : NestedPackage) (s : SourceFile) (old files : List PackageFile) (r : Result UnresolvedPackage ParseError) → old ≡ [] → IsSourceOf n s → files ≡ old ++ s.file ∷ [] →
-    ((f : Fault) → IsStray old s f → ⊥) → OnOk r (IsLegal files) → IfOk r (IsPackage files) → IfOk r (IsMadeByNested n)
+    ((f : Fault) → IsStray old s f → ⊥) → OnOk r (IsLegal files) → IfOk r (Makes files) → IfOk r (IsMadeByNested n)
 one_made n s old files (Ok p) none is extended fits legal whole = record {
   flat = sym is.inner ∙ ap (map (λ (i : NestedPackage). i.name)) (none_nested s.nested.items (λ f nesting. fits f (inr (inr nesting))));
   made = subst (λ fs. IsMadeOf fs p) (alone n s old files none is extended) (record { legal = legal; whole = whole });

@@ -21,7 +21,7 @@ use Rattle.wit_syntax.proofs.Found.{at_contains, contains_at}
 use Rattle.wit_syntax.proofs.Lists.{at_take, map_at}
 use Rattle.wit_syntax.proofs.Repeated.{differ_at, differ_more, differ_none}
 use Rattle.wit_arena.specs.Faithful.{IsMadeOf}
-use Rattle.wit_arena.proofs.MadeHeads.{name_made, name_span_made}
+use Rattle.wit_arena.proofs.MadeHeads.{header_there}
 use Rattle.wit_first.specs.First.{first_after}
 use Rattle.wit_first.specs.Laws.{Agrees}
 use Rattle.wit_first.proofs.Bridge.{after_only, after_some, any_found, or_none_both, or_some}
@@ -116,10 +116,10 @@ names_none own xs d = none_of (names_fault (Some own) xs) (names_agree (Some own
 
 -- where packages are made, they have the names that are written
 one_named : (n : NestedPackage) (p : UnresolvedPackage) → IsMadeByNested n p → package_of n.name ≡ p.name
-one_named n p m = (let is : Some (package_of n.name) ≡ Some p.name = name_made (file_of n ∷ []) p m.made.whole in cc)
+one_named n p m = (let is : Some (package_of n.name) ≡ Some p.name = m.made.whole.name in cc)
 
 one_spanned : (n : NestedPackage) (p : UnresolvedPackage) → IsMadeByNested n p → n.name.span ≡ p.name_span
-one_spanned n p m = (let is : Some n.name.span ≡ Some p.name_span = name_span_made (file_of n ∷ []) p m.made.whole in cc)
+one_spanned n p m = (let is : Some n.name.span ≡ Some p.name_span = m.made.whole.name_span in cc)
 
 one_refused : (n : NestedPackage) (p : UnresolvedPackage) → IsMadeByNested n p → named_twice n.name ≡ fault_in 53 p.name_span (package_words p.name)
 one_refused n p m =
@@ -204,7 +204,5 @@ module _ (own : Header) (main : UnresolvedPackage) (ns : List NestedPackage) (ne
 pub made_names : (sources : List SourceFile) (main : UnresolvedPackage) (nested : List UnresolvedPackage) → IsMadeOf (files_of sources) main → AllZip IsMadeByNested (nested_of sources) nested
     → AgreeOnNames (names_fault (last_header (files_of sources)) (nested_names sources)) main nested
 made_names sources main nested made each =
-    let own = made.whole.header in
-    let is : Some (package_of own) ≡ Some main.name = ap (option_map package_of) (sym made.whole.last) ∙ name_made (files_of sources) main made.whole in
-    let named : package_of own ≡ main.name = cc in
-    subst (λ (o : Option Header). AgreeOnNames (names_fault o (nested_names sources)) main nested) (sym made.whole.last) (on_names own main (nested_of sources) nested named each)
+    let own = header_there (last_header (files_of sources)) main.name made.whole.name in
+    subst (λ (o : Option Header). AgreeOnNames (names_fault o (nested_names sources)) main nested) (sym own.1) (on_names own.0 main (nested_of sources) nested own.2 each)

@@ -5,11 +5,11 @@ use Rattle.wit_tree.specs.declared.tree.NestedPackage.{NestedPackage}
 use Rattle.wit_tree.specs.declared.tree.PackageFile.{PackageFile}
 use Rattle.wit_model.specs.declared.unresolved.UnresolvedPackage.{UnresolvedPackage}
 use Rattle.wit_arena.specs.Faithful.{IsMadeOf}
-use Rattle.wit_arena.proofs.OneMade.{one_package}
+use Rattle.wit_arena.proofs.OneMade.{one_made}
 use Rattle.wit_nested.specs.Nested.{file_of, IsMadeByNested}
 
 pub one_main : (files : List PackageFile) (p q : UnresolvedPackage) → IsMadeOf files p → IsMadeOf files q → p ≡ q
-one_main files p q a b = one_package files p q a.legal a.whole b.whole
+one_main files p q a b = one_made files p q a.legal a.whole b.whole
 
 pub one_nested : (ns : List NestedPackage) (ps qs : List UnresolvedPackage) → AllZip IsMadeByNested ns ps → AllZip IsMadeByNested ns qs → ps ≡ qs
 one_nested [] [] [] a b = refl

@@ -8,11 +8,6 @@ use Rattle.wit_tree.specs.declared.tree.PackageName.{PackageName as Header}
 use Rattle.wit_package_names.specs.declared.package_name.PackageName.{PackageName}
 use Rattle.wit_syntax.specs.Address.{package_of, release_of}
 
--- a header is there, where it names a package
-pub header_there : (o : Option Header) (n : PackageName) → option_map package_of o ≡ Some n → (h : Header) × (o ≡ Some h) × (package_of h ≡ n)
-header_there None n named = absurd (let f : ⊥ = cc in f)
-header_there (Some h) n named = (let same : package_of h ≡ n = cc in (h, refl, same))
-
 -- the parts of a version are those of the written one
 version_parts : (v : Option Version) → option_map release_parts (option_map release_of v) ≡ option_map parts_of v
 version_parts None = refl

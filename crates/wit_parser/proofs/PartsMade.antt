@@ -3,8 +3,10 @@ use Rattle.std.proofs.Common.{List}
 use Rattle.wit_tree.specs.declared.tree.PackageFile.{PackageFile}
 use Rattle.wit_model.specs.declared.unresolved.UnresolvedPackage.{UnresolvedPackage}
 use Rattle.wit_syntax.specs.Broken.{IsLegal}
+use Rattle.wit_arena.specs.Faithful.{HasArena, IsFaithful}
 use Rattle.wit_arena.specs.Made.{Makes}
 use Rattle.wit_arena.specs.Whole.{IsPackage}
+use Rattle.wit_arena.proofs.OfPackage.{arena_of_package, faithful_of_package}
 use Rattle.wit_parser.proofs.PartsPackage.{package_of_places}
 use Rattle.wit_parser.proofs.PartsScopes.{inside_placed, links_placed, includes_placed}
 
@@ -14,3 +16,10 @@ package_of_made files p legal m = package_of_places files p legal m (λ n w at. 
   inside = inside_placed files legal m.items m.in_order n w at;
   included = includes_placed files legal m.items m.in_order n w at;
 })
+
+-- so all else that holds of the package follows
+pub arena_of_made : (files : List PackageFile) (p : UnresolvedPackage) → IsLegal files → Makes files p → HasArena files p
+arena_of_made files p legal m = arena_of_package files p legal (package_of_made files p legal m)
+
+pub faithful_of_made : (files : List PackageFile) (p : UnresolvedPackage) → IsLegal files → Makes files p → IsFaithful files p
+faithful_of_made files p legal m = faithful_of_package files p legal (package_of_made files p legal m)

@@ -16,7 +16,8 @@ use Rattle.wit_arena.specs.Occurrences.{Occurrence, keys, Collects, IsOccurrence
 use Rattle.wit_arena.specs.Whole.{AreFirstOccurrences, AreOrdered, AreRequired, IsPackage, Turned, all_inside, all_occurrences, declarations, interface_addresses, turn_handles, world_addresses}
 use Rattle.wit_arena.proofs.FirstsOf.{firsts-collects}
 use Rattle.wit_parser.proofs.PartsBoth.{HasPlaces, made_interfaces, made_worlds}
-use Rattle.wit_parser.proofs.PartsHeads.{header_there, name_parts}
+use Rattle.wit_arena.proofs.MadeHeads.{header_there}
+use Rattle.wit_parser.proofs.PartsHeads.{name_parts}
 use Rattle.wit_parser.proofs.PartsSeen.{occurrence_is}
 use Rattle.wit_parser.proofs.PartsOrders.{interfaces_in, worlds_in, interface_scopes_in, ordered_in, turns_in, world_scopes_in}
 

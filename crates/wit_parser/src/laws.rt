@@ -8,7 +8,6 @@ ghost use Rattle.wit_types.specs.InnerTypes.{IsBackward};
 ghost use Rattle.wit_arena.specs.Faithful.{IsFaithful, HasArena};
 ghost use Rattle.wit_arena.specs.SplitOccurrences.{HaveSameOccurrences, HaveSamePackages};
 ghost use Rattle.wit_arena.specs.Made.{Makes};
-ghost use Rattle.wit_arena.specs.Whole.{IsPackage};
 ghost use Rattle.wit_parser.specs.Ids.{AreIdsWithin};
 ghost use Rattle.wit_parser.specs.Marks.{HaveMarks};
 ghost use Rattle.wit_parser.specs.OnePackage.{MakeOne};
@@ -20,32 +19,26 @@ use wit_model::UnresolvedPackage;
 /// `Function::item_name` can be called on each function of a package that files make: its name has
 /// the mark of its kind.
 pub fn functions_have_marks(package: &UnresolvedPackage)
-    ensures { (files : List TheFile) → IsPackage files «package».now → HaveMarks «package».now }
+    ensures { (files : List TheFile) → Makes files «package».now → HaveMarks «package».now }
 {}
 
-/// Each id of a package that files make is the place of an entry: `Arena::get` can be called with it.
+/// Each id of a package that legal files make is the place of an entry: `Arena::get` can be called with it.
 pub fn ids_are_within(package: &UnresolvedPackage)
-    ensures { (files : List TheFile) → IsPackage files «package».now → AreIdsWithin «package».now }
+    ensures { (files : List TheFile) → IsLegal files → Makes files «package».now → AreIdsWithin «package».now }
 {}
 
 /// The ids of a package that legal files make point backward, as `is_backward` says it:
 /// `Function::find_futures_and_streams` can be called over its types.
 pub fn ids_point_backward(package: &UnresolvedPackage)
-    ensures { (files : List TheFile) → IsLegal files → IsPackage files «package».now → IsBackward «package».now.types }
-{}
-
-/// What legal files make, as a value, is what its parts say one by one, and the other way round.
-pub fn value_and_parts(package: &UnresolvedPackage)
-    ensures made { (files : List TheFile) → IsLegal files → IsPackage files «package».now → Makes files «package».now }
-    ensures parts { (files : List TheFile) → IsLegal files → Makes files «package».now → IsPackage files «package».now }
+    ensures { (files : List TheFile) → IsLegal files → Makes files «package».now → IsBackward «package».now.types }
 {}
 
 /// What else `Resolver::resolve` says of a package follows from its being the one that legal files make:
 /// its arena of types is the list of first occurrences in the files, and each written type has one at its
 /// position, with the tree that lexical scope gives it.
 pub fn packages_are_faithful(package: &UnresolvedPackage)
-    ensures arena { (files : List TheFile) → IsLegal files → IsPackage files «package».now → HasArena files «package».now }
-    ensures faithful { (files : List TheFile) → IsLegal files → IsPackage files «package».now → IsFaithful files «package».now }
+    ensures arena { (files : List TheFile) → IsLegal files → Makes files «package».now → HasArena files «package».now }
+    ensures faithful { (files : List TheFile) → IsLegal files → Makes files «package».now → IsFaithful files «package».now }
 {}
 
 /// Where files have no `use` at the top and exactly one header, it does not matter that they are split.
@@ -62,10 +55,9 @@ pub fn splitting()
 {}
 
 /// Legal files make one package: two that they make are equal in all that a package holds, and so in
-/// the orders of its maps. So are two that are given by their parts.
+/// the orders of its maps.
 pub fn one_package()
-    ensures made { (files : List TheFile) (p q : ThePackage) → IsLegal files → Makes files p → Makes files q → p ≡ q }
-    ensures parts { (files : List TheFile) → MakeOne files files }
+    ensures { (files : List TheFile) → MakeOne files files }
 {}
 
 /// The first fault of a source that [`Resolver::push`](crate::Resolver::push) reports breaks one of

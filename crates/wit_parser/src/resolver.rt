@@ -10,7 +10,7 @@ ghost use Rattle.wit_walk.specs.Walk.{ComesTo};
 ghost use Rattle.wit_items.specs.FileHeaders.{header_at};
 ghost use Rattle.wit_type_tree.specs.RefusalText.{IsAllocationFailure};
 ghost use Rattle.wit_arena.specs.Made.{Makes};
-ghost use Rattle.wit_arena.specs.Whole.{first_docs, IsPackage};
+ghost use Rattle.wit_arena.specs.Whole.{first_docs};
 ghost use Rattle.wit_arena.specs.Faithful.{IsFaithful, HasArena, IsMadeOf};
 
 use std::alloc::{AllocError, Global};
@@ -262,7 +262,6 @@ impl<'a> Resolver<'a> {
     pub fn resolve(self, alloc: Global) -> ParseResult<UnresolvedPackage>
         ensures legal { OnOk result (IsLegal self.entry.files.items) }
         ensures made { IfOk result (Makes self.entry.files.items) }
-        ensures package { IfOk result (IsPackage self.entry.files.items) }
         ensures arena { IfOk result (HasArena self.entry.files.items) }
         ensures faithful { IfOk result (IsFaithful self.entry.files.items) }
         ensures first { FindsBy (ComesTo self.entry.files.items) result }

@@ -5,4 +5,4 @@ use Rattle.wit_json_laws.proofs.laws.packages_are_plain.Goals as goal
 pub returns : goal.returns
 returns c files legal plain made =
     package_made_plain files legal plain c.args.«package».now made
-    (c.ids_are_within.ensures files (c.value_and_parts.ensures.parts files legal made)) (omega (arith, c.len-interfaces.ensures))
+    (c.ids_are_within.ensures files legal made) (omega (arith, c.len-interfaces.ensures))

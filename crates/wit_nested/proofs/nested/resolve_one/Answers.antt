@@ -13,7 +13,7 @@ returns-in_err-push-clause-refused c =
 pub returns-clause-made : goal.returns-clause-made
 returns-clause-made c =
     let r = c.resolve.ensures in
-    one_made c.args.inner c.in_ok-source.source c.new-resolver.result.files.items c.push.new.self.files.items c.resolve.result c.new-resolver.ensures c.in_ok-source.ensures c.in_ok-push.ensures.ok ((push_agrees c.new-resolver.result.files.items c.in_ok-source.source).unbroken c.in_ok-push.ensures.first) r.legal r.«package»
+    one_made c.args.inner c.in_ok-source.source c.new-resolver.result.files.items c.push.new.self.files.items c.resolve.result c.new-resolver.ensures c.in_ok-source.ensures c.in_ok-push.ensures.ok ((push_agrees c.new-resolver.result.files.items c.in_ok-source.source).unbroken c.in_ok-push.ensures.first) r.legal r.made
 
 pub returns-clause-refused : goal.returns-clause-refused
 returns-clause-refused c =

@@ -6,8 +6,8 @@ use Rattle.wit_syntax.specs.Splitting.{file_declarations}
 use Rattle.wit_syntax.proofs.JoinedLists.{flat_map-flat_map}
 use Rattle.wit_syntax.proofs.Joined.{joined_split}
 use Rattle.wit_arena.proofs.JoinedOccurrences.{joined_occurrences}
-use Rattle.wit_arena.proofs.JoinedPackage.{joined_packages}
-use Rattle.wit_arena.proofs.OneMade.{one_package}
+use Rattle.wit_arena.proofs.JoinedMade.{joined_packages}
+use Rattle.wit_arena.proofs.OneMade.{one_made}
 use Rattle.wit_parser.proofs.laws.splitting.Goals as goal
 
 pub returns-clause-visits : goal.returns-clause-visits
@@ -24,4 +24,4 @@ pub returns-clause-packages : goal.returns-clause-packages
 returns-clause-packages c = joined_packages
 
 pub returns-clause-equal : goal.returns-clause-equal
-returns-clause-equal c files one joined p q legal is_p is_q = one_package files p q legal is_p ((joined_packages files one joined q).1 is_q)
+returns-clause-equal c files one joined p q legal is_p is_q = one_made files p q legal is_p ((joined_packages files one joined q).1 is_q)

@@ -5,6 +5,7 @@ use Rattle.wit_values.specs.ReleaseText.{release_parts}
 use Rattle.wit_package_names.specs.declared.package_name.PackageName.{PackageName}
 use Rattle.wit_arena.specs.Whole.{NamesOthers}
 use Rattle.wit_walk.proofs.Legal.{legal}
+use Rattle.wit_arena.proofs.MadePackage.{made_of_package}
 use Rattle.wit_contents.specs.AddedFiles.{MakeContents}
 use Rattle.wit_contents.proofs.Files.{files_package}
 use Rattle.wit_parser.proofs.FirstFault.{faultless, reported}
@@ -20,14 +21,15 @@ returns-clause-made c =
     let e = c.new.ensures in
     let n = rw c.in_ok-contents.ensures.both.1 at c.package_heading.ensures in
     let others : NamesOthers files p = (e.foreign_deps ∙ made.deps, e.foreign_dep_spans ∙ made.spans, e.unknown_type_spans ∙ made.unknown) in
+    let right = legal files (faultless files header c.requires.header c.in_ok-made.ensures.first) in
     record {
-      legal = legal files (faultless files header c.requires.header c.in_ok-made.ensures.first);
-      whole = files_package files _ _ _ _ made.added p e.types e.interfaces e.worlds others e.required_resource_types header c.requires.header
+      legal = right;
+      whole = made_of_package files p right (files_package files _ _ _ _ made.added p e.types e.interfaces e.worlds others e.required_resource_types header c.requires.header
           (ap (λ (m : PackageName). m.namespace) e.name ∙ n.namespace)
           (ap (λ (m : PackageName). m.name) e.name ∙ n.name)
           (ap (λ (m : PackageName). option_map release_parts m.version) e.name ∙ n.version)
           e.name_span
-          (e.docs ∙ n.docs);
+          (e.docs ∙ n.docs));
     }
 
 pub returns-in_err-made-clause-first : goal.returns-in_err-made-clause-first

@@ -15,7 +15,7 @@ returns-in_err-check_names-clause-refused c =
     let again = rw c.deref.ensures.value at c.in_err-check_names.ensures.refused in
     rw
     (p.1, p.2)
-    (repeated_package c.args.self.main.files.items c.in_ok-made.made c.args.self.nested.items _ (record { legal = made.legal; whole = made.«package» }) again)
+    (repeated_package c.args.self.main.files.items c.in_ok-made.made c.args.self.nested.items _ (record { legal = made.legal; whole = made.made }) again)
 
 pub returns-in_err-made-clause-first : goal.returns-in_err-made-clause-first
 returns-in_err-made-clause-first c =
@@ -29,10 +29,10 @@ returns-in_err-check_names-clause-first c =
     let again = rw c.deref.ensures.value at c.in_err-check_names.ensures.refused in
     rw
     (p.1, p.2)
-    (λ sources same each walk walks. names_stop c.args.self.main.files.items c.in_ok-made.made c.args.self.nested.items made.first (record { legal = made.legal; whole = made.«package» }) sources same each walk walks _ again)
+    (λ sources same each walk walks. names_stop c.args.self.main.files.items c.in_ok-made.made c.args.self.nested.items made.first (record { legal = made.legal; whole = made.made }) sources same each walk walks _ again)
 
 pub returns-clause-first : goal.returns-clause-first
 returns-clause-first c =
     let made = c.in_ok-made.ensures in
     let apart = rw c.deref.ensures.value at c.in_ok-check_names.ensures.apart in
-    λ sources same each walk walks. joined_none c.args.self.main.files.items c.in_ok-made.made c.args.self.nested.items made.first (record { legal = made.legal; whole = made.«package» }) sources same each walk walks apart
+    λ sources same each walk walks. joined_none c.args.self.main.files.items c.in_ok-made.made c.args.self.nested.items made.first (record { legal = made.legal; whole = made.made }) sources same each walk walks apart

@@ -1,10 +1,8 @@
 use Rattle.std.proofs.lemmas.Result.{IfOk-weaker}
-use Rattle.wit_arena.specs.Whole.{IsPackage}
 use Rattle.wit_arena.specs.Faithful.{IsFaithful, HasArena, IsMadeOf}
 use Rattle.wit_arena.specs.Made.{Makes}
-use Rattle.wit_arena.proofs.MadePackage.{made_of_package}
-use Rattle.wit_arena.proofs.OfPackage.{arena_of_package, faithful_of_package}
 use Rattle.wit_parser.proofs.FirstFault.{found_broken, found_legal}
+use Rattle.wit_parser.proofs.PartsMade.{arena_of_made, faithful_of_made}
 use Rattle.wit_parser.proofs.resolver.Resolver.resolve.Goals as goal
 
 pub returns-clause-legal : goal.returns-clause-legal
@@ -13,22 +11,17 @@ returns-clause-legal c = found_legal c.args.self.files.items c.resolve_pushed.re
 pub returns-clause-made : goal.returns-clause-made
 returns-clause-made c =
     let files = c.args.self.files.items in
-    IfOk-weaker c.resolve_pushed.result (IsMadeOf files) (Makes files) (λ p made. made_of_package files p made.legal made.whole) c.resolve_pushed.ensures.made
-
-pub returns-clause-package : goal.returns-clause-package
-returns-clause-package c =
-    let files = c.args.self.files.items in
-    IfOk-weaker c.resolve_pushed.result (IsMadeOf files) (IsPackage files) (λ p made. made.whole) c.resolve_pushed.ensures.made
+    IfOk-weaker c.resolve_pushed.result (IsMadeOf files) (Makes files) (λ p made. made.whole) c.resolve_pushed.ensures.made
 
 pub returns-clause-arena : goal.returns-clause-arena
 returns-clause-arena c =
     let files = c.args.self.files.items in
-    IfOk-weaker c.resolve_pushed.result (IsMadeOf files) (HasArena files) (λ p made. arena_of_package files p made.legal made.whole) c.resolve_pushed.ensures.made
+    IfOk-weaker c.resolve_pushed.result (IsMadeOf files) (HasArena files) (λ p made. arena_of_made files p made.legal made.whole) c.resolve_pushed.ensures.made
 
 pub returns-clause-faithful : goal.returns-clause-faithful
 returns-clause-faithful c =
     let files = c.args.self.files.items in
-    IfOk-weaker c.resolve_pushed.result (IsMadeOf files) (IsFaithful files) (λ p made. faithful_of_package files p made.legal made.whole) c.resolve_pushed.ensures.made
+    IfOk-weaker c.resolve_pushed.result (IsMadeOf files) (IsFaithful files) (λ p made. faithful_of_made files p made.legal made.whole) c.resolve_pushed.ensures.made
 
 pub returns-clause-refused : goal.returns-clause-refused
 returns-clause-refused c = found_broken c.args.self.files.items c.resolve_pushed.result c.resolve_pushed.ensures.first
