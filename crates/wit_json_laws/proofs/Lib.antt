@@ -1,7 +1,6 @@
 pub mod Alike
 pub mod Deps
 pub mod Gives
-pub mod Leading
 pub mod Lists
 pub mod Members
 pub mod Owned

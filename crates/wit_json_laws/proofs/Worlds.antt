@@ -17,7 +17,7 @@ use Rattle.wit_model.specs.declared.world.WorldKey.{WorldKey}
 use Rattle.wit_model.specs.declared.world.WorldKey.TheVariants as key
 use Rattle.wit_model.specs.ItemsOfWorlds.{function_of}
 use Rattle.wit_syntax.specs.Address.{Address}
-use Rattle.wit_syntax.specs.Broken.{LinkedTwice, IsLegal}
+use Rattle.wit_syntax.specs.Broken.{LinkedTwice, IsLegal, is_world_at}
 use Rattle.wit_syntax.specs.ExternPart.{same_side}
 use Rattle.wit_syntax.specs.Fault.{linked_twice}
 use Rattle.wit_syntax.specs.Foreign.{ForeignVisit, foreign_worlds}
@@ -35,7 +35,8 @@ use Rattle.wit_arena.specs.Made.{AreInOrder, AreNamesInOrder, entries_on, foreig
 use Rattle.wit_arena.specs.Occurrences.{Key}
 use Rattle.wit_arena.specs.SideItems.{settled}
 use Rattle.wit_json.specs.DistinctKeys.{HasOwnKeys, HasOwnSides}
-use Rattle.wit_json_laws.proofs.Leading.{HasPlace, IsLinked, link_leads}
+use Rattle.wit_parser.proofs.PartsScopes.{link_leads}
+use Rattle.wit_parser.proofs.PartsSides.{HasPlace}
 use Rattle.wit_json_laws.proofs.Lists.{all_both, all_map, no_keys, own_keys}
 use Rattle.wit_json_laws.proofs.Members.{side_keys, worlds_declared}
 use Rattle.wit_json_laws.proofs.Placed.{placed_differ}
@@ -81,7 +82,7 @@ module _ (files : List PackageFile) (legal : IsLegal files) (items : List Item) 
     count : length (inline_items w) ≡ length (flat_map item_inline (side_items w))
     count = length-inline_after w [] (side_items w)
 
-    linked : (side : WorldSide) (p : ℕ) (a : Link) → slice_get (there side) p ≡ Some (SideLink a) → IsLinked files items (leads w.top a.path)
+    linked : (side : WorldSide) (p : ℕ) (a : Link) → slice_get (there side) p ≡ Some (SideLink a) → HasPlace ss (path_scope w.top a.path) × (is_world_at files (leads w.top a.path) ≡ Some false)
     linked side p a at_a = (let k = kept_at (λ (x : SideItem). same_side side (item_side x)) (side_items w) p (SideLink a) at_a in link_leads files legal items ordered t w at k.0 a k.1)
 
     links_apart : (side : WorldSide) → AreLinksApart id (address w) ss w.top (there side)
@@ -89,8 +90,8 @@ module _ (files : List PackageFile) (legal : IsLegal files) (items : List Item) 
         let earlier : Contains (take q (there side)) (SideLink a) = contains_at (take q (there side)) p (SideLink a) (slice_get-take (there side) q p before ∙ at_a) in
         let one = linked side p a at_a in
         let other = linked side q b at_b in
-        let scopes : path_scope w.top a.path ≡ path_scope w.top b.path = place_determines ss (path_scope w.top a.path) (path_scope w.top b.path) one.placed other.placed same in
-        legal (linked_twice b.side (path_id b.path).span) (LinkedTwice w among (side, q, a, b, earlier, at_b, bare_a, bare_b, scopes, other.sort, refl))
+        let scopes : path_scope w.top a.path ≡ path_scope w.top b.path = place_determines ss (path_scope w.top a.path) (path_scope w.top b.path) one.0 other.0 same in
+        legal (linked_twice b.side (path_id b.path).span) (LinkedTwice w among (side, q, a, b, earlier, at_b, bare_a, bare_b, scopes, other.1, refl))
 
     names_differ : (side : WorldSide) → AllDiffer (map called_name (all_called side))
     names_differ side = called_differ (all_called side) (side_keys files legal w scope_among (order (address w)) least side)

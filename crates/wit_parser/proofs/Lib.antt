@@ -5,8 +5,8 @@ mod TypeIds
 mod SideIds
 mod Ids
 mod PartsPlaces
-mod PartsSides
-mod PartsScopes
+pub mod PartsSides
+pub mod PartsScopes
 mod PartsReady
 mod PartsTurns
 mod PartsItems

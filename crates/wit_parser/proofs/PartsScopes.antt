@@ -82,19 +82,19 @@ part_crossed w m (FunctionPart g) (suc j) link there at = absurd (let f : ⊥ = 
 part_crossed w m (ExternPart x) j link there at = record { place = m; x = x; part = there; index = 0; at = kind_path x x.kind j link at }
 
 -- the path of each link is
-link_crossed : (w : Item) (k : ℕ) (link : Link) → slice_get (flat_map item_link (side_items w)) k ≡ Some link → IsCrossed w link.path
-link_crossed w k link at =
+link_crossed : (w : Item) (i : ℕ) (link : Link) → slice_get (side_items w) i ≡ Some (SideLink link) → IsCrossed w link.path
+link_crossed w i link there = (let p = flat_map_at part_items (parts w) i (SideLink link) there in part_crossed w p.0 p.1 p.3.0 link p.2 p.3.1)
+
+link_written : (w : Item) (k : ℕ) (link : Link) → slice_get (flat_map item_link (side_items w)) k ≡ Some link → (i : ℕ) × (slice_get (side_items w) i ≡ Some (SideLink link))
+link_written w k link at =
     let it = flat_map_at item_link (side_items w) k link at in
-    of_item it.0 it.1 it.3.0 it.2 it.3.1
+    (it.0, it.2 ∙ ap Some (of_item it.1 it.3.0 it.3.1))
   where
-    of_item : (i : ℕ) (y : SideItem) (j : ℕ) → slice_get (side_items w) i ≡ Some y → slice_get (item_link y) j ≡ Some link → IsCrossed w link.path
-    of_item i (SideFunction fn) j there is = absurd (let f : ⊥ = cc in f)
-    of_item i (SideLink own) zero there is =
-        let same : own ≡ link = cc in
-        let p = flat_map_at part_items (parts w) i (SideLink own) there in
-        part_crossed w p.0 p.1 p.3.0 link p.2 (p.3.1 ∙ ap (λ (l : Link). Some (SideLink l)) same)
-    of_item i (SideLink own) (suc j) there is = absurd (let f : ⊥ = cc in f)
-    of_item i (SideInline x name items) j there is = absurd (let f : ⊥ = cc in f)
+    of_item : (y : SideItem) (j : ℕ) → slice_get (item_link y) j ≡ Some link → y ≡ SideLink link
+    of_item (SideFunction fn) j is = absurd (let f : ⊥ = cc in f)
+    of_item (SideLink own) zero is = (let same : own ≡ link = cc in ap SideLink same)
+    of_item (SideLink own) (suc j) is = absurd (let f : ⊥ = cc in f)
+    of_item (SideInline x name items) j is = absurd (let f : ⊥ = cc in f)
 
 -- so it is one of the item's to interfaces
 crossed_path : (w : Item) (path : UsePath) → IsCrossed w path → Contains (use_paths w) path
@@ -181,14 +181,17 @@ module _ (files : List PackageFile) (legal : IsLegal files) (items : List Item) 
       present_placed (interface_scopes files items) k.0 (visited v) (interface_scopes-differ files legal items ordered) (at_prefix (map visited (foreign_interfaces files)) (map address (own_interfaces items)) k.0 (visited v) (slice_get-map visited (foreign_interfaces files) k.0 ∙ ap (option_map visited) k.1))
 
   -- so where a path leads to an item, of the right sort, its scope has its place
-  target_placed : (world : Bool) (t : Target) → ((id : Id) → t ≡ Local id → item_named all id.name.now ≡ None → ⊥) → (is_world_at files t ≡ Some (not world) → ⊥) → ((p : PackageName) (id : Id) → t ≡ Foreign p id → IsVisited files p id) → HasPlace (scopes world) (target_scope (called world) t)
+  abbrev pub LeadsTo : Bool → Target → Type 0
+  LeadsTo world t = HasPlace (scopes world) (target_scope (called world) t) × (is_world_at files t ≡ Some world)
+
+  target_placed : (world : Bool) (t : Target) → ((id : Id) → t ≡ Local id → item_named all id.name.now ≡ None → ⊥) → (is_world_at files t ≡ Some (not world) → ⊥) → ((p : PackageName) (id : Id) → t ≡ Foreign p id → IsVisited files p id) → LeadsTo world t
   target_placed world (Local id) missing wrong visits =
       let test = λ (x : Item). bytes_eq (item_name x) id.name.now in
-      option_cases (item_named all id.name.now) (HasPlace (scopes world) (called world id.name.now)) (λ v found. (
+      option_cases (item_named all id.name.now) (LeadsTo world (Local id)) (λ v found. (
       let p = find_at test all v found in
       let name = name_equal (item_name v) id.name.now (find_passes test all v found) in
       elim (one_or_other (is_world v) world) [
-        | inl same ↦ subst (λ (n : List ℕ). HasPlace (scopes world) (called world n)) name (item_placed world p.0 v p.1 same)
+        | inl same ↦ (subst (λ (n : List ℕ). HasPlace (scopes world) (called world n)) name (item_placed world p.0 v p.1 same), ap (option_map is_world) found ∙ ap Some same)
         | inr other ↦ absurd (wrong (ap (option_map is_world) found ∙ ap Some other))
       ]))
       (λ none. absurd (missing id refl none))
@@ -199,7 +202,7 @@ module _ (files : List PackageFile) (legal : IsLegal files) (items : List Item) 
       let is = it.3 ∙ here.is in
       let found : is_world_at files (Foreign p id) ≡ Some v.wants_world = ap (λ (s : Address). option_map (λ (u : ForeignVisit). u.wants_world) (foreign_at files s)) (sym is) ∙ ap (option_map (λ (u : ForeignVisit). u.wants_world)) (foreign_at-visited files it.0 v it.2) in
       elim (one_or_other v.wants_world world) [
-        | inl same ↦ subst (HasPlace (scopes world)) is (visit_placed world it.0 v it.2 same)
+        | inl same ↦ (subst (HasPlace (scopes world)) is (visit_placed world it.0 v it.2 same), found ∙ ap Some same)
         | inr other ↦ absurd (wrong (found ∙ ap Some other))
       ]
 
@@ -221,15 +224,18 @@ module _ (files : List PackageFile) (legal : IsLegal files) (items : List Item) 
         own_placed (length (interfaces_of items) + n.0) v (at_back (interfaces_of items) (flat_map inline_items (worlds_of items)) n.0 v n.1)
 
     -- and so has each that it imports or exports by its path
-    pub links_placed : (k : ℕ) (link : Link) → slice_get (flat_map item_link (side_items w)) k ≡ Some link → HasPlace (interface_scopes files items) (path_scope w.top link.path)
-    links_placed k link there =
+    pub link_leads : (i : ℕ) (link : Link) → slice_get (side_items w) i ≡ Some (SideLink link) → LeadsTo false (leads w.top link.path)
+    link_leads i link there =
         let path = link.path in
-        let c = link_crossed w k link there in
+        let c = link_crossed w i link there in
         let listed = crossed_path w path c in
         target_placed false (leads w.top path)
         (λ id lead none. legal (missing_at 7 item_word id) (Use w among (MissingUse path id listed lead none refl)))
         (λ world. legal (world_there (path_id path)) (Use w among (WorldUsed path listed world refl)))
         (λ p id lead. path_among files spot.1 w c.x.attributes.items false path p id spot.3 (crossed_visit w path c) lead)
+
+    pub links_placed : (k : ℕ) (link : Link) → slice_get (flat_map item_link (side_items w)) k ≡ Some link → HasPlace (interface_scopes files items) (path_scope w.top link.path)
+    links_placed k link there = (let it = link_written w k link there in (link_leads it.0 link it.1).0)
 
     -- and each world that it includes, among worlds
     pub includes_placed : (k : ℕ) (n : Include) → slice_get (includes w) k ≡ Some n → HasPlace (world_scopes files items) (target_scope WorldNamed (leads w.top n.from))
@@ -237,11 +243,11 @@ module _ (files : List PackageFile) (legal : IsLegal files) (items : List Item) 
         let i = include_part w k n there in
         let listed = included_path w n i in
         let differ : AllDiffer (map item_name all) = distinct_items files (λ f broken. legal f (Names broken)) in
-        target_placed true (leads w.top n.from)
+        (target_placed true (leads w.top n.from)
         (λ id lead none. (
         let v = needed_before files places ordered.1 spot.0 spot.1 w n.from id spot.2 spot.3 (subst (λ (l : List UsePath). Contains l n.from) (sym (paths_of_world w spot.4)) listed) lead in
         let both : Some v.2 ≡ None = sym (named_at files differ id.name.now v.1 v.2 v.5 v.6) ∙ none in
         let f : ⊥ = cc in
         f))
         (λ interface. legal (interface_there (path_id n.from)) (InterfaceIncluded w among n.from listed interface refl))
-        (λ p id lead. path_visited files spot.1 w i.place (IncludePart n) n.attributes.items true n.from p id spot.3 i.part refl lead)
+        (λ p id lead. path_visited files spot.1 w i.place (IncludePart n) n.attributes.items true n.from p id spot.3 i.part refl lead)).0

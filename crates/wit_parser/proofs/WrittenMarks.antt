@@ -1,5 +1,5 @@
 -- A written function has the mark of its role in its name.
-use Rattle.std.proofs.Common.{◌≡◌, ℕ, zero, suc, ◌==◌, List, ◌++◌, Option, Some, refl, sym, ap, ◌∙◌, subst}
+use Rattle.std.proofs.Common.{◌≡◌, ℕ, zero, suc, ◌==◌, List, ◌++◌, Option, Some, refl, sym, ◌∙◌, subst}
 use Rattle.std.specs.Prelude.{slice_get, codes}
 use Rattle.std.specs.List.{list_any}
 use Rattle.std.proofs.lemmas.Bool.{or_left, or_right}
@@ -13,12 +13,9 @@ use Rattle.wit_type_tree.specs.declared.types.NamedFunc.{NamedFunc}
 use Rattle.wit_type_tree.specs.declared.types.ResourceFunc.{ResourceFunc}
 use Rattle.wit_type_tree.specs.declared.types.ResourceFunc.TheVariants as resource
 use Rattle.wit_functions.specs.FunctionNames.{mark_of, HasMark, HasMarkOf}
-use Rattle.wit_functions.specs.declared.function.FunctionKind.{FunctionKind}
-use Rattle.wit_syntax.specs.Address.{Address}
 use Rattle.wit_syntax.specs.Source.{Item, Part, DefinitionPart, UsePart, IncludePart, FunctionPart, ExternPart, parts}
 use Rattle.wit_syntax.specs.Function.{SourceFunction, accessor, dotted, free_function, resource_function, definition_functions, part_functions, functions, side_function}
-use Rattle.wit_arena.specs.SourceFunctions.{IsKind}
-use Rattle.wit_arena.specs.Occurrences.{Key}
+use Rattle.wit_arena.specs.Made.{role_kind}
 use Rattle.wit_syntax.proofs.Lists.{map_at, flat_map_at}
 use Rattle.wit_type_tree.specs.declared.types.Func.{Func}
 use Rattle.wit_type_tree.specs.declared.leaves.Docs.{Docs}
@@ -56,20 +53,20 @@ free_mark form.Async name = tt
 free_mark form.Getter name = refl
 free_mark form.Setter name = refl
 
--- its name has the mark of each kind that its role makes
+-- its name has the mark of the kind that its role makes
 abbrev pub IsMarked : SourceFunction → Type 0
-IsMarked fn = (ks : List Key) (s : Address) (k : FunctionKind) → IsKind ks s fn.role k → HasMarkOf (mark_of k) fn.name
+IsMarked fn = (place : Id → ℕ) → HasMarkOf (mark_of (role_kind place fn.role)) fn.name
 
 free_marked : (f : NamedFunc) → IsMarked (free_function f)
-free_marked f ks s k is = subst (λ (x : FunctionKind). HasMarkOf (mark_of x) (free_function f).name) (sym is) (free_mark f.func.form f.name.name.now)
+free_marked f place = free_mark f.func.form f.name.name.now
 
 side_marked : (side : WorldSide) (docs : Docs) (attributes : List Attribute) (name : Id) (f : Func) → IsMarked (side_function side docs attributes name f)
-side_marked side docs attributes name f ks s k is = subst (λ (x : FunctionKind). HasMarkOf (mark_of x) (side_function side docs attributes name f).name) (sym is) (free_mark f.form name.name.now)
+side_marked side docs attributes name f place = free_mark f.form name.name.now
 
 resource_marked : (r : Id) (g : ResourceFunc) → IsMarked (resource_function r g)
-resource_marked r (resource.Method f) ks s k is = subst (λ (o : Option ℕ). HasMarkOf o (resource_function r (resource.Method f)).name) (sym (ap mark_of is.1 ∙ method_mark f.func.form is.0)) (dot_named (codes "[method]") (accessor f.func.form) r f.name)
-resource_marked r (resource.Static f) ks s k is = subst (λ (o : Option ℕ). HasMarkOf o (resource_function r (resource.Static f)).name) (sym (ap mark_of is.1 ∙ static_mark f.func.form is.0)) (dot_named (codes "[static]") (accessor f.func.form) r f.name)
-resource_marked r (resource.Constructor docs attributes span params result) ks s k is = subst (λ (o : Option ℕ). HasMarkOf o (resource_function r (resource.Constructor docs attributes span params result)).name) (sym (ap mark_of is.1)) tt
+resource_marked r (resource.Method f) place = subst (λ (o : Option ℕ). HasMarkOf o (resource_function r (resource.Method f)).name) (sym (method_mark f.func.form (place r))) (dot_named (codes "[method]") (accessor f.func.form) r f.name)
+resource_marked r (resource.Static f) place = subst (λ (o : Option ℕ). HasMarkOf o (resource_function r (resource.Static f)).name) (sym (static_mark f.func.form (place r))) (dot_named (codes "[static]") (accessor f.func.form) r f.name)
+resource_marked r (resource.Constructor docs attributes span params result) place = tt
 
 definition_marked : (r : Id) (b : TypeBody) (k : ℕ) (fn : SourceFunction) → slice_get (definition_functions r b) k ≡ Some fn → IsMarked fn
 definition_marked r (body.Resource funcs) k fn at = (let g = map_at (resource_function r) funcs.items k fn at in subst IsMarked g.2 (resource_marked r g.0))
