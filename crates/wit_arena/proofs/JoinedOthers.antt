@@ -21,7 +21,8 @@ use Rattle.wit_syntax.proofs.JoinedTrees.{foreign_uses_alike}
 use Rattle.wit_syntax.proofs.JoinedLegal.{ends_onward}
 use Rattle.wit_syntax.specs.NameEnds.{AtResource, AtForeign}
 use Rattle.wit_arena.specs.Occurrences.{Key}
-use Rattle.wit_arena.specs.Whole.{foreign_place, NamesOthers, HandleRequires, AreRequired}
+use Rattle.wit_arena.specs.Whole.{foreign_place, HandleRequires, AreRequired}
+use Rattle.wit_arena.proofs.ByParts.{NamesOthers}
 
 -- what is named of other packages, by the visits
 abbrev items_by : List ForeignVisit → List ForeignVisit

@@ -24,7 +24,8 @@ use Rattle.wit_arena.specs.Occurrences.{Key}
 use Rattle.wit_arena.specs.OneByOne.{OneByOne}
 use Rattle.wit_arena.specs.UnfoldedTypes.{world_interfaces, world_types, inline_owner}
 use Rattle.wit_arena.specs.SideItems.{AreSideItems}
-use Rattle.wit_arena.specs.Whole.{OrderedWorld, addresses, ordered_names, IsResolvedWorld}
+use Rattle.wit_arena.specs.Whole.{OrderedWorld, addresses, ordered_names}
+use Rattle.wit_arena.proofs.ByParts.{IsResolvedWorld}
 use Rattle.wit_arena.proofs.InlineOwners.{IsInlineEntry, world_entries, world_entry}
 use Rattle.wit_arena.proofs.ScopesInTurn.{ordered_addresses}
 use Rattle.wit_arena.proofs.Turns.{item_of}

@@ -20,7 +20,8 @@ use Rattle.wit_arena.specs.Expr.{Exprs, expr_of, name_exprs}
 use Rattle.wit_arena.specs.Occurrences.{Key, Def, Whole, Occurrence, keys, Collects, Decls}
 use Rattle.wit_arena.specs.UnfoldedTypes.{names_of}
 use Rattle.wit_arena.specs.Resolving.{Names, AreNames, all_seen, env_of, seen}
-use Rattle.wit_arena.specs.Whole.{Ordered, OrderedWorld, Turned, addresses, all_inside, all_occurrences, all_turns, declarations, interface_addresses, owner_at, foreign_use_occurrence, turn_occurrences, world_addresses, IsPackage}
+use Rattle.wit_arena.specs.Whole.{Ordered, OrderedWorld, Turned, addresses, all_inside, all_occurrences, all_turns, declarations, interface_addresses, owner_at, foreign_use_occurrence, turn_occurrences, world_addresses}
+use Rattle.wit_arena.proofs.ByParts.{IsPackage}
 use Rattle.wit_arena.proofs.DefinitionPart.{name_seen_in}
 use Rattle.wit_arena.proofs.DoneScopes.{seen_in_turn}
 use Rattle.wit_arena.proofs.KnownScopes.{IsKnown}

@@ -22,7 +22,8 @@ use Rattle.wit_syntax.proofs.Legal.{functions_items}
 use Rattle.wit_syntax.proofs.Lists.{at_prefix, at_back, at_split, at_within, map_at, flat_map_at}
 use Rattle.wit_arena.specs.Occurrences.{Key, keys}
 use Rattle.wit_arena.specs.UnfoldedTypes.{inline_owner, world_functions, world_interfaces, world_types}
-use Rattle.wit_arena.specs.Whole.{Ordered, OrderedWorld, addresses, all_inside, interface_addresses, ordered_names, world_addresses, IsPackage}
+use Rattle.wit_arena.specs.Whole.{Ordered, OrderedWorld, addresses, all_inside, interface_addresses, ordered_names, world_addresses}
+use Rattle.wit_arena.proofs.ByParts.{IsPackage}
 use Rattle.wit_arena.proofs.Deps.{foreign_interface-none}
 use Rattle.wit_arena.proofs.FreeNames.{AreStated}
 use Rattle.wit_arena.proofs.Prefix.{interface_scope, world_scope}

@@ -27,7 +27,8 @@ use Rattle.wit_syntax.proofs.Sides.{functions_imported}
 use Rattle.wit_arena.specs.SourceFunctions.{AreFunctions}
 use Rattle.wit_arena.specs.Occurrences.{Key, keys}
 use Rattle.wit_arena.specs.UnfoldedTypes.{owner_of, names_of, functions_of, inline_owner, named_interface, named_world, interface_functions, interface_items, interfaces_from, import_types, item_functions, keyed, world_functions, world_interfaces, world_types}
-use Rattle.wit_arena.specs.Whole.{Ordered, OrderedWorld, all_inside, interface_addresses, owner_at, world_addresses, HasTypes, IsPackage}
+use Rattle.wit_arena.specs.Whole.{Ordered, OrderedWorld, all_inside, interface_addresses, owner_at, world_addresses, HasTypes}
+use Rattle.wit_arena.proofs.ByParts.{IsPackage}
 use Rattle.wit_arena.proofs.Deps.{foreign_interface_owner, foreign_world_owner}
 use Rattle.wit_arena.proofs.Prefix.{interface_scope, world_scope, prefix_interface_done, prefix_world_done, no_functions}
 use Rattle.wit_arena.proofs.Interfaces.{AreAddresses, interface_owner_at, world_owner_at}

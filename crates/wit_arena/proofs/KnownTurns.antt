@@ -20,7 +20,8 @@ use Rattle.wit_syntax.proofs.Legal.{functions_items}
 use Rattle.wit_syntax.proofs.Lists.{at_prefix, at_back, map_at, flat_map_at, flat_map_has}
 use Rattle.wit_syntax.proofs.Turns.{at_part}
 use Rattle.wit_arena.specs.Occurrences.{Key, keys}
-use Rattle.wit_arena.specs.Whole.{Ordered, OrderedWorld, Turned, addresses, all_inside, all_turns, functions_at, interface_addresses, ordered_names, side_turns, turned, world_addresses, world_turns, IsPackage}
+use Rattle.wit_arena.specs.Whole.{Ordered, OrderedWorld, Turned, addresses, all_inside, all_turns, functions_at, interface_addresses, ordered_names, side_turns, turned, world_addresses, world_turns}
+use Rattle.wit_arena.proofs.ByParts.{IsPackage}
 use Rattle.wit_arena.proofs.Faithful.{IsOwnerOf}
 use Rattle.wit_arena.proofs.KnownItems.{IsItem, functions_are, inside_item, interface_item, turn_is, world_item}
 use Rattle.wit_arena.proofs.KnownOwners.{has_interface, has_world}

@@ -1,3 +1,4 @@
+pub mod ByParts
 pub mod Turns
 pub mod Primitives
 pub mod Places

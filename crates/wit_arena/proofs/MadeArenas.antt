@@ -12,7 +12,8 @@ use Rattle.wit_arena.specs.Made.{names_in_turn, foreign_interface, own_interface
 use Rattle.wit_arena.specs.Occurrences.{Key}
 use Rattle.wit_arena.specs.OneByOne.{OneByOne, BothParts}
 use Rattle.wit_arena.specs.UnfoldedTypes.{IsForeignWorld}
-use Rattle.wit_arena.specs.Whole.{Ordered, OrderedWorld, ordered_names, IsForeignInterface, IsResolvedInterface, IsResolvedWorld}
+use Rattle.wit_arena.specs.Whole.{Ordered, OrderedWorld, ordered_names, IsForeignInterface}
+use Rattle.wit_arena.proofs.ByParts.{IsResolvedInterface, IsResolvedWorld}
 use Rattle.wit_arena.proofs.MadeInterfaces.{foreign_interface-as_stated, own_interface-as_stated}
 use Rattle.wit_arena.proofs.MadeSides.{ArePlaced}
 use Rattle.wit_arena.proofs.MadeWorlds.{foreign_world-as_stated, own_world-as_stated}

@@ -11,7 +11,7 @@ use Rattle.wit_package_names.specs.declared.package_name.PackageName.{PackageNam
 use Rattle.wit_model.specs.declared.unresolved.UnresolvedPackage.{UnresolvedPackage}
 use Rattle.wit_syntax.specs.Address.{package_of, release_of}
 use Rattle.wit_syntax.specs.Broken.{last_header}
-use Rattle.wit_arena.specs.Whole.{IsPackage}
+use Rattle.wit_arena.proofs.ByParts.{IsPackage}
 
 abbrev release : ℕ → ℕ → ℕ → List ℕ → List ℕ → Release
 release major minor patch pre build = record { major = major; minor = minor; patch = patch; pre = pre; build = build }

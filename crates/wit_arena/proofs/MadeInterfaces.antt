@@ -17,7 +17,8 @@ use Rattle.wit_arena.specs.SourceFunctions.{by_name, placed_functions}
 use Rattle.wit_arena.specs.Made.{function_in, interface, foreign_interface, name_places, names_in_turn, own_interface}
 use Rattle.wit_arena.specs.Occurrences.{Key}
 use Rattle.wit_arena.specs.UnfoldedTypes.{IsInterface}
-use Rattle.wit_arena.specs.Whole.{Ordered, ordered_names, turned, IsForeignInterface, IsResolvedInterface}
+use Rattle.wit_arena.specs.Whole.{Ordered, ordered_names, turned, IsForeignInterface}
+use Rattle.wit_arena.proofs.ByParts.{IsResolvedInterface}
 use Rattle.wit_arena.proofs.Placing.{GivesPlaces}
 use Rattle.wit_arena.proofs.PlacingFunctions.{functions-in, types-places}
 use Rattle.wit_arena.proofs.Turns.{foreign_turned}

@@ -14,7 +14,8 @@ use Rattle.wit_syntax.specs.Source.{Item, all_items}
 use Rattle.wit_syntax.specs.ScopesOfTrees.{scope}
 use Rattle.wit_arena.specs.Occurrences.{Key, Occurrence, keys}
 use Rattle.wit_arena.specs.Made.{IsEntryOf, Makes, foreign_interface, foreign_world, own_interface, own_interfaces, own_world, interface_scopes, world_scopes, item_turns}
-use Rattle.wit_arena.specs.Whole.{Ordered, OrderedWorld, all_inside, all_occurrences, all_turns, interface_addresses, owner_at, turn_handles, world_addresses, AreRequired, IsPackage}
+use Rattle.wit_arena.specs.Whole.{Ordered, OrderedWorld, all_inside, all_occurrences, all_turns, interface_addresses, owner_at, turn_handles, world_addresses, AreRequired}
+use Rattle.wit_arena.proofs.ByParts.{IsPackage}
 use Rattle.wit_arena.proofs.SameKeys.{same_key, same_key_determines}
 use Rattle.wit_arena.proofs.FirstsOf.{collects-firsts}
 use Rattle.wit_arena.proofs.Placing.{GivesPlaces, gives_places}

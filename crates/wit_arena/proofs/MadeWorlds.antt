@@ -28,7 +28,8 @@ use Rattle.wit_arena.specs.Made.{function_in, name_places, names_in_turn, entrie
 use Rattle.wit_arena.specs.Occurrences.{Key, Def}
 use Rattle.wit_arena.specs.UnfoldedTypes.{IsWorld, IsForeignWorld, world_types}
 use Rattle.wit_arena.specs.SideItems.{AreSideItems, settled}
-use Rattle.wit_arena.specs.Whole.{OrderedWorld, addresses, ordered_names, turned, type_imports, IsInclude, IsResolvedWorld}
+use Rattle.wit_arena.specs.Whole.{OrderedWorld, addresses, ordered_names, turned, type_imports, IsInclude}
+use Rattle.wit_arena.proofs.ByParts.{IsResolvedWorld}
 use Rattle.wit_arena.proofs.ScopesInTurn.{ordered_addresses}
 use Rattle.wit_arena.proofs.MadeSides.{ArePlaced, side_items-as_stated}
 use Rattle.wit_arena.proofs.Placing.{GivesPlaces}

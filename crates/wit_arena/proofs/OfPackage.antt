@@ -19,7 +19,8 @@ use Rattle.wit_syntax.specs.Source.{address, first_foreign_uses}
 use Rattle.wit_syntax.proofs.Lists.{at_within}
 use Rattle.wit_arena.specs.Faithful.{IsFaithful, HasArena}
 use Rattle.wit_arena.specs.UnfoldedTypes.{owner_of, named_interface, named_world}
-use Rattle.wit_arena.specs.Whole.{Ordered, OrderedWorld, addresses, all_inside, all_turns, interface_addresses, world_addresses, IsPackage}
+use Rattle.wit_arena.specs.Whole.{Ordered, OrderedWorld, addresses, all_inside, all_turns, interface_addresses, world_addresses}
+use Rattle.wit_arena.proofs.ByParts.{IsPackage}
 use Rattle.wit_arena.proofs.Faithful.{IsOwnerOf, AreOwners, name_at, type_at, faithful}
 use Rattle.wit_arena.proofs.KnownMembers.{decls, written, collects, wholes, present}
 use Rattle.wit_arena.proofs.KnownTurns.{scopes, known_at, interface_resolved_scope, world_resolved_scope}

@@ -30,7 +30,8 @@ use Rattle.wit_syntax.specs.ScopeTables.{includes, item_rows, rows_of, in_order,
 use Rattle.wit_syntax.specs.Broken.{headers, last_header}
 use Rattle.wit_arena.specs.UnfoldedTypes.{world_types}
 use Rattle.wit_arena.specs.OneByOne.{OneByOne}
-use Rattle.wit_arena.specs.Whole.{Ordered, OrderedWorld, AreOrdered, Turned, ordered_names, turned, world_turns, all_turns, all_inside, turn_handles, AreRequired, all_occurrences, type_imports, addresses, interface_addresses, world_addresses, declarations, HasTypes, AreIncludes, HasSides, NamesOthers, first_docs, IsPackage, IsResolvedInterface, IsResolvedWorld, IsForeignInterface, AreFirstOccurrences}
+use Rattle.wit_arena.specs.Whole.{Ordered, OrderedWorld, AreOrdered, Turned, ordered_names, turned, world_turns, all_turns, all_inside, turn_handles, AreRequired, all_occurrences, type_imports, addresses, interface_addresses, world_addresses, declarations, HasTypes, AreIncludes, first_docs, IsForeignInterface, AreFirstOccurrences}
+use Rattle.wit_arena.proofs.ByParts.{HasSides, NamesOthers, IsPackage, IsResolvedInterface, IsResolvedWorld}
 use Rattle.wit_arena.specs.Resolving.{Names, Required, resolved_scope}
 use Rattle.wit_arena.specs.ResolvedArenas.{WorldArenas, AddsForeign}
 use Rattle.wit_syntax.proofs.Lists.{at_prefix, at_back, map_map}

@@ -17,7 +17,8 @@ use Rattle.wit_arena.specs.Resolving.{Required}
 use Rattle.wit_syntax.specs.Fault.{Fault}
 use Rattle.wit_syntax.specs.Broken.{IsBrokenNames, headers, last_header}
 use Rattle.wit_syntax.specs.Repeats.{AllDiffer}
-use Rattle.wit_arena.specs.Whole.{NamesOthers, first_docs, IsPackage}
+use Rattle.wit_arena.specs.Whole.{first_docs}
+use Rattle.wit_arena.proofs.ByParts.{NamesOthers, IsPackage}
 use Rattle.wit_arena.specs.ResolvedArenas.{WorldArenas, prefix_worlds, AddsInterfaces, AddsWorlds, AddsForeign, AreUsableUses}
 use Rattle.wit_arena.proofs.Prefix.{prefix_scopes}
 use Rattle.wit_arena.proofs.Interfaces.{AreOfSort, interfaces_sort, worlds_sort}

@@ -2,8 +2,6 @@
 use Rattle.std.specs.Prelude.{if◌then◌else◌, ◌≡◌, ◌==◌, ℕ, not, List, [], ◌∷◌, ◌++◌, length, map, Option, Some, None, slice_get, position}
 use Rattle.wit_values.specs.declared.span.Span.{Span}
 use Rattle.std.specs.Option.{option_map, option_map_or, option_or, unwrap_or}
-use Rattle.semver.specs.Identifiers.{parts_of}
-use Rattle.wit_values.specs.ReleaseText.{release_parts}
 use Rattle.wit_tree.specs.declared.tree.PackageName.{PackageName as Header}
 use Rattle.wit_tree.specs.declared.tree.PackageFile.{PackageFile}
 use Rattle.wit_tree.specs.declared.tree.Include.{Include}
@@ -23,28 +21,23 @@ use Rattle.wit_types.specs.declared.stability.Stability.{Stability}
 use Rattle.wit_types.specs.declared.types.TypeOwner.{TypeOwner}
 use Rattle.wit_types.specs.declared.types.TypeOwner.TheVariants as owner
 use Rattle.wit_graph.specs.Table.{IsOrder}
-use Rattle.wit_model.specs.declared.unresolved.UnresolvedPackage.{UnresolvedPackage}
 use Rattle.std.specs.List.{flat_map, filter_map, prefix_len, filter}
 use Rattle.wit_syntax.specs.Shape.{all_handles}
 use Rattle.wit_syntax.specs.Address.{Address, same_address, WorldNamed, package_of, same_package}
-use Rattle.wit_syntax.specs.Source.{path_id, leads, TopName, Item, address, ScopeName, all_items, item_at, scope_names, local_name, local_id, ForeignUse, foreign_uses, first_foreign_uses, about, declared_metadata, target_scope}
+use Rattle.wit_syntax.specs.Source.{path_id, leads, TopName, Item, address, ScopeName, all_items, item_at, scope_names, local_name, local_id, ForeignUse, foreign_uses, target_scope}
 use Rattle.wit_syntax.specs.ScopesOfTrees.{scope}
-use Rattle.wit_syntax.specs.Foreign.{ForeignVisit, visited, same_item, foreign_interfaces, foreign_worlds, foreign_packages, foreign_visits, foreign_items}
-use Rattle.wit_functions.specs.declared.function.Function.{Function}
+use Rattle.wit_syntax.specs.Foreign.{ForeignVisit, visited, same_item, foreign_interfaces, foreign_worlds, foreign_visits, foreign_items}
 use Rattle.wit_syntax.specs.Function.{SourceFunction, functions as item_functions, all_types}
 use Rattle.wit_syntax.specs.NameEnds.{AtResource, AtForeign, EndsAt}
 use Rattle.wit_type_tree.specs.declared.leaves.Id.{Id}
-use Rattle.wit_tree.specs.declared.tree.WorldSide.TheVariants.{Imported, Exported}
-use Rattle.wit_arena.specs.SourceFunctions.{IsFunction, placed_functions}
-use Rattle.wit_arena.specs.SideItems.{AreSideItems, settled}
 use Rattle.wit_syntax.specs.ScopeTables.{item_rows, interfaces_of, worlds_of, includes, rows_of, in_order, in_turn}
 use Rattle.wit_types.specs.declared.docs.Docs.{Docs}
 use Rattle.wit_syntax.specs.Metadata.{docs_of, no_docs, stability_of, no_metadata}
-use Rattle.wit_syntax.specs.Broken.{last_header, headers}
+use Rattle.wit_syntax.specs.Broken.{headers}
 use Rattle.wit_syntax.specs.Sides.{SideItem, SideFunction, SideLink, SideInline, side_items, inline_items, all_scopes}
-use Rattle.wit_arena.specs.Occurrences.{Key, Def, Occurrence, keys, name_occurrences, Collects, all_function_occurrences, Decls, IsOccurrence}
-use Rattle.wit_arena.specs.OneByOne.{OneByOne, BothParts}
-use Rattle.wit_arena.specs.UnfoldedTypes.{IsInterface, IsWorld, IsForeignWorld, world_types}
+use Rattle.wit_arena.specs.Occurrences.{Key, Def, Occurrence, name_occurrences, Collects, all_function_occurrences, Decls}
+use Rattle.wit_arena.specs.OneByOne.{OneByOne}
+use Rattle.wit_arena.specs.UnfoldedTypes.{IsInterface}
 
 -- an item, with an order of its names
 pub record Ordered : Type 0 where
@@ -124,12 +117,6 @@ pub record HasTypes (ks : List Key) (t : Turned) (types : List (List ℕ × ℕ)
   pub names : map (λ n. n.0) types ≡ map local_name t.names
   pub places : (k : ℕ) (name : List ℕ) (id : ℕ) → slice_get types k ≡ Some (name, id) → slice_get ks id ≡ Some (Def t.address name)
 
--- an interface of files, with its names in turn, and its functions
-pub record IsResolvedInterface (ks : List Key) (o : Ordered) (i : Interface) : Type 0 where
-  pub says : IsInterface (about o.item.declared).called (about o.item.declared).id.span (declared_metadata o.item.declared) i
-  pub types : HasTypes ks (turned o) i.types
-  pub functions : (fs : List Function) × OneByOne (IsFunction ks (address o.item)) (item_functions o.item) fs × (i.functions ≡ placed_functions fs)
-
 -- names of a scope as imports: each is the type that it means, at its local name
 abbrev pub type_imports : List ScopeName → List (List ℕ × ℕ) → List (WorldKey × WorldItem)
 type_imports (x ∷ xs) (t ∷ types) = (key.Name (local_name x), Type_ t.1 (local_id x).span) ∷ type_imports xs types
@@ -146,23 +133,6 @@ IsInclude worlds top x i = (i.stability ≡ stability_of x.attributes.items) × 
 -- these are the includes of an item, where the worlds have these addresses
 abbrev pub AreIncludes : List Address → Item → List WorldInclude → Type 0
 AreIncludes worlds item is = OneByOne (IsInclude worlds item.top) (includes item) is
-
--- After the names of types a world has on its sides what an item has there, with functions over the types of the package, and each setter
--- after its getter where nothing is included; the interfaces have these addresses, and those that are written in it have those.
-pub record HasSides (ks : List Key) (interfaces inside : List Address) (o : Ordered) (w : World) : Type 0 where
-  pub functions : List Function
-  pub are : OneByOne (IsFunction ks (address o.item)) (item_functions o.item) functions
-  pub imports : (on : List (WorldKey × WorldItem)) × AreSideItems interfaces o.item.top Imported (side_items o.item) functions inside on
-      × (w.imports ≡ settled (includes o.item) (type_imports (ordered_names o) (world_types w) ++ on))
-  pub exports : (on : List (WorldKey × WorldItem)) × AreSideItems interfaces o.item.top Exported (side_items o.item) functions inside on × (w.exports ≡ settled (includes o.item) on)
-
--- A world of files, with its names in turn as its imports, and then the functions and interfaces that it imports, with those that it exports,
--- and with its includes, where the interfaces and the worlds have these addresses.
-pub record IsResolvedWorld (ks : List Key) (interfaces worlds : List Address) (o : OrderedWorld) (w : World) : Type 0 where
-  pub says : IsWorld (about o.own.item.declared).id.name.now (about o.own.item.declared).id.span (declared_metadata o.own.item.declared) w
-  pub types : HasTypes ks (turned o.own) (world_types w)
-  pub sides : HasSides ks interfaces (addresses o.inside) o.own w
-  pub includes : AreIncludes worlds o.own.item w.includes
 
 -- the names in the handles of a scope, each with the scope, in the order in which they are resolved
 abbrev pub turn_handles : Turned → List (Address × Id)
@@ -210,11 +180,6 @@ foreign_entry files v = if v.wants_world then entry.World (foreign_place (foreig
 abbrev pub dep : List PackageFile → ForeignVisit → PackageName × List (List ℕ × (AstItem × List Stability))
 dep files v = (package_of v.of, map (λ i. (i.id.name.now, (foreign_entry files i, map (λ u. stability_of u.attributes) (filter (λ u. same_address (visited u) (visited i)) (foreign_visits files))))) (filter (λ u. same_package (package_of u.of) (package_of v.of)) (foreign_items files)))
 
--- what the package names of others: each of them in the order of its first visit, with its items in the order of theirs, and the types
--- that are taken from them in the order of their first uses
-abbrev pub NamesOthers : List PackageFile → UnresolvedPackage → Type 0
-NamesOthers files p = (p.foreign_deps ≡ map (dep files) (foreign_packages files)) × (p.foreign_dep_spans ≡ map (λ v. v.of.span) (foreign_packages files)) × (p.unknown_type_spans ≡ map (λ t. t.id.span) (first_foreign_uses files))
-
 -- the docs of the first of these headers that has some
 abbrev pub first_docs : List Header → Docs
 first_docs [] = no_docs
@@ -226,28 +191,6 @@ pub record AreFirstOccurrences (files : List PackageFile) (seen : List Occurrenc
   pub worlds : List OrderedWorld
   pub ordered : AreOrdered files interfaces worlds
   pub first : Collects [] (all_occurrences files (all_turns interfaces worlds)) seen
-
--- The package has the name and the version of the last header, and the docs of the one that has some. Its arenas begin with the items of other packages, in the order of
--- their first visits; then they have the interfaces and the worlds in the least order in which each item comes after those that it
--- needs, each with its used names and then its definitions in the least dependency-first order. Its arena of types is the list of first
--- occurrences: of what is taken from other packages, then of all declared interfaces, then of all worlds. After the declared interfaces are
--- those that are written in worlds.
-pub record IsPackage (files : List PackageFile) (p : UnresolvedPackage) : Type 0 where
-  pub header : Header
-  pub last : last_header files ≡ Some header
-  pub namespace : p.name.namespace ≡ header.namespace.name.now
-  pub name : p.name.name ≡ header.name.name.now
-  pub version : option_map release_parts p.name.version ≡ option_map parts_of header.version
-  pub name_span : p.name_span ≡ header.span
-  pub docs : p.docs ≡ first_docs (headers files)
-  pub others : NamesOthers files p
-  pub seen : List Occurrence
-  pub first : AreFirstOccurrences files seen
-  pub occurrence : IsOccurrence (declarations files (interface_addresses files (first.interfaces ++ all_inside first.worlds)) (world_addresses files first.worlds)) seen p.types
-  pub interfaces : BothParts (IsForeignInterface files (keys seen)) (IsResolvedInterface (keys seen)) (foreign_interfaces files) (first.interfaces ++ all_inside first.worlds) p.interfaces
-  pub worlds : BothParts IsForeignWorld (IsResolvedWorld (keys seen) (interface_addresses files (first.interfaces ++ all_inside first.worlds)) (world_addresses files first.worlds)) (foreign_worlds files) first.worlds p.worlds
-  -- the types of other packages that must be resources: those at which names in handles end, of all interfaces and then of all worlds
-  pub required : AreRequired files (keys seen) (flat_map turn_handles (all_turns first.interfaces first.worlds)) p.required_resource_types
 
 -- the functions of a scope
 abbrev pub functions_at : List PackageFile → Address → List SourceFunction

@@ -20,7 +20,8 @@ use Rattle.wit_syntax.specs.ScopeTables.{item_rows}
 use Rattle.wit_syntax.specs.Broken.{headers, last_header}
 use Rattle.wit_arena.specs.ResolvedArenas.{AreUsableUses}
 use Rattle.wit_arena.specs.Resolving.{Required}
-use Rattle.wit_arena.specs.Whole.{NamesOthers, first_docs, IsPackage}
+use Rattle.wit_arena.specs.Whole.{first_docs}
+use Rattle.wit_arena.proofs.ByParts.{NamesOthers, IsPackage}
 use Rattle.wit_arena.proofs.Resolved.{files_package as package_by}
 use Rattle.wit_contents.specs.AddedFiles.{AddsFiles}
 

@@ -41,7 +41,8 @@ use Rattle.wit_syntax.specs.Source.{Foreign, leads, path_scope, top_names, TheIn
 use Rattle.wit_syntax.specs.ScopesOfTrees.{source_tree}
 use Rattle.wit_arena.specs.Occurrences.{Def, Occurrence, Collects, IsOccurrence}
 use Rattle.wit_arena.specs.UnfoldedTypes.{owner_of, package_tree}
-use Rattle.wit_arena.specs.Whole.{Ordered, turned, all_occurrences, interface_addresses, declarations, NamesOthers}
+use Rattle.wit_arena.specs.Whole.{Ordered, turned, all_occurrences, interface_addresses, declarations}
+use Rattle.wit_arena.proofs.ByParts.{NamesOthers}
 use Rattle.wit_meaning_examples.proofs.Examples.{at, id, vec, no_comments, unstated, header}
 use Rattle.wit_meaning_examples.proofs.SignatureExamples.{one_order}
 use Rattle.wit_meaning_examples.proofs.FirstSeen.{collects_each, none_seen, seen_named}

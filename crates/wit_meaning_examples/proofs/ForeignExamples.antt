@@ -33,7 +33,8 @@ use Rattle.wit_syntax.specs.ScopeTables.{item_rows}
 use Rattle.wit_arena.specs.Occurrences.{Def, Occurrence}
 use Rattle.wit_syntax.specs.Shape.{Word}
 use Rattle.wit_arena.specs.UnfoldedTypes.{owner_of, package_tree}
-use Rattle.wit_arena.specs.Whole.{turned, all_occurrences, NamesOthers}
+use Rattle.wit_arena.specs.Whole.{turned, all_occurrences}
+use Rattle.wit_arena.proofs.ByParts.{NamesOthers}
 use Rattle.wit_arena.specs.ResolvedArenas.{foreign_type}
 use Rattle.wit_meaning_examples.proofs.Examples.{at, id, vec, no_comments, unstated, header}
 

@@ -67,7 +67,8 @@ use Rattle.wit_arena.specs.Occurrences.{Key, Def, Whole, Occurrence, Collects, I
 use Rattle.wit_arena.specs.UnfoldedTypes.{owner_of, function_types, package_tree}
 use Rattle.wit_arena.specs.Resolving.{named, unnamed}
 use Rattle.wit_arena.specs.SideItems.{AreSideItems}
-use Rattle.wit_arena.specs.Whole.{Turned, all_occurrences, all_turns, declarations, turn_handles, interface_addresses, NamesOthers}
+use Rattle.wit_arena.specs.Whole.{Turned, all_occurrences, all_turns, declarations, turn_handles, interface_addresses}
+use Rattle.wit_arena.proofs.ByParts.{NamesOthers}
 use Rattle.wit_meaning_examples.proofs.Examples.{at, id, vec, no_comments, unstated}
 use Rattle.wit_meaning_examples.proofs.MetadataExamples.{trimmed}
 use Rattle.wit_meaning_examples.proofs.SmallOrders.{straight, apart_order}

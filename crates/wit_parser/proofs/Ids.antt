@@ -28,7 +28,8 @@ use Rattle.wit_arena.specs.Kind.{kind_of}
 use Rattle.wit_arena.specs.Occurrences.{Key, Def, Whole, keys, IsEntry, IsKeyed}
 use Rattle.wit_arena.specs.UnfoldedTypes.{world_types, IsForeignWorld}
 use Rattle.wit_arena.specs.OneByOne.{OneByOne}
-use Rattle.wit_arena.specs.Whole.{Ordered, OrderedWorld, turned, ordered_names, addresses, all_inside, all_turns, turn_handles, type_imports, place_at, owner_at, declarations, AreIncludes, IsPackage, interface_addresses, world_addresses, foreign_entry, dep, IsResolvedInterface, IsResolvedWorld, IsForeignInterface}
+use Rattle.wit_arena.specs.Whole.{Ordered, OrderedWorld, turned, ordered_names, addresses, all_inside, all_turns, turn_handles, type_imports, place_at, owner_at, declarations, AreIncludes, interface_addresses, world_addresses, foreign_entry, dep, IsForeignInterface}
+use Rattle.wit_arena.proofs.ByParts.{IsPackage, IsResolvedInterface, IsResolvedWorld}
 use Rattle.wit_syntax.proofs.Kept.{kept_at}
 use Rattle.wit_syntax.proofs.Lists.{at_split, at_within, map_at}
 use Rattle.wit_arena.proofs.Deps.{entry_of_interface, entry_of_world, item_sort}

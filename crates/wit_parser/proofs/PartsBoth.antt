@@ -20,7 +20,8 @@ use Rattle.wit_arena.specs.Made.{Makes, foreign_interface, foreign_world, interf
 use Rattle.wit_arena.specs.Occurrences.{keys}
 use Rattle.wit_arena.specs.OneByOne.{OneByOne, BothParts}
 use Rattle.wit_arena.specs.UnfoldedTypes.{IsForeignWorld}
-use Rattle.wit_arena.specs.Whole.{Ordered, all_inside, all_occurrences, interface_addresses, world_addresses, IsForeignInterface, IsResolvedInterface, IsResolvedWorld}
+use Rattle.wit_arena.specs.Whole.{Ordered, all_inside, all_occurrences, interface_addresses, world_addresses, IsForeignInterface}
+use Rattle.wit_arena.proofs.ByParts.{IsResolvedInterface, IsResolvedWorld}
 use Rattle.wit_arena.proofs.FirstsOf.{firsts-differ}
 use Rattle.wit_parser.proofs.PartsInterfaces.{foreign_interface-is, own_interface-is}
 use Rattle.wit_parser.proofs.PartsKeys.{interface_seen, world_seen, foreign_seen}

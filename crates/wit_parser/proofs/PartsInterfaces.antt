@@ -12,7 +12,8 @@ use Rattle.wit_syntax.proofs.Lists.{map_map}
 use Rattle.wit_arena.specs.SourceFunctions.{by_name}
 use Rattle.wit_arena.specs.Made.{foreign_interface, function_in, names_in_turn, own_interface}
 use Rattle.wit_arena.specs.Occurrences.{Key, Def, IsSeen}
-use Rattle.wit_arena.specs.Whole.{Ordered, turned, IsForeignInterface, IsResolvedInterface}
+use Rattle.wit_arena.specs.Whole.{Ordered, turned, IsForeignInterface}
+use Rattle.wit_arena.proofs.ByParts.{IsResolvedInterface}
 use Rattle.wit_parser.proofs.PartsPlaces.{FunctionPresent, functions_in-are, name_places-are}
 use Rattle.wit_arena.proofs.Placing.{GivesPlaces}
 use Rattle.wit_arena.proofs.Turns.{foreign_turned}

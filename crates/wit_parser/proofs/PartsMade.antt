@@ -5,7 +5,7 @@ use Rattle.wit_model.specs.declared.unresolved.UnresolvedPackage.{UnresolvedPack
 use Rattle.wit_syntax.specs.Broken.{IsLegal}
 use Rattle.wit_arena.specs.Faithful.{HasArena, IsFaithful}
 use Rattle.wit_arena.specs.Made.{Makes}
-use Rattle.wit_arena.specs.Whole.{IsPackage}
+use Rattle.wit_arena.proofs.ByParts.{IsPackage}
 use Rattle.wit_arena.proofs.OfPackage.{arena_of_package, faithful_of_package}
 use Rattle.wit_parser.proofs.PartsPackage.{package_of_places}
 use Rattle.wit_parser.proofs.PartsScopes.{inside_placed, links_placed, includes_placed}

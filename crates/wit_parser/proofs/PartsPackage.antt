@@ -13,7 +13,8 @@ use Rattle.wit_syntax.specs.ScopeTables.{in_order, worlds_of}
 use Rattle.wit_syntax.specs.Source.{Item, all_items}
 use Rattle.wit_arena.specs.Made.{Makes, interface_scopes, item_turns, world_scopes}
 use Rattle.wit_arena.specs.Occurrences.{Occurrence, keys, Collects, IsOccurrence}
-use Rattle.wit_arena.specs.Whole.{AreFirstOccurrences, AreOrdered, AreRequired, IsPackage, Turned, all_inside, all_occurrences, declarations, interface_addresses, turn_handles, world_addresses}
+use Rattle.wit_arena.specs.Whole.{AreFirstOccurrences, AreOrdered, AreRequired, Turned, all_inside, all_occurrences, declarations, interface_addresses, turn_handles, world_addresses}
+use Rattle.wit_arena.proofs.ByParts.{IsPackage}
 use Rattle.wit_arena.proofs.FirstsOf.{firsts-collects}
 use Rattle.wit_parser.proofs.PartsBoth.{HasPlaces, made_interfaces, made_worlds}
 use Rattle.wit_arena.proofs.MadeHeads.{header_there}

@@ -23,7 +23,8 @@ use Rattle.wit_arena.specs.Made.{function_in, name_places, names_in_turn, entrie
 use Rattle.wit_arena.specs.Occurrences.{Key, Def, IsSeen}
 use Rattle.wit_arena.specs.UnfoldedTypes.{import_types, world_types}
 use Rattle.wit_arena.specs.SideItems.{AreSideItems, settled}
-use Rattle.wit_arena.specs.Whole.{Ordered, OrderedWorld, turned, addresses, type_imports, HasTypes, IsResolvedWorld}
+use Rattle.wit_arena.specs.Whole.{Ordered, OrderedWorld, turned, addresses, type_imports, HasTypes}
+use Rattle.wit_arena.proofs.ByParts.{IsResolvedWorld}
 use Rattle.wit_arena.proofs.DoneWorlds.{own_types}
 use Rattle.wit_parser.proofs.PartsOrders.{own_world as world_in_order}
 use Rattle.wit_parser.proofs.PartsPlaces.{FunctionPresent, functions_in-are, name_places-are}
