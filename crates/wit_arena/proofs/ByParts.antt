@@ -1,5 +1,5 @@
 -- The package that files make, part by part: what the steps of resolving them come to.
-use Rattle.std.specs.Prelude.{if◌then◌else◌, ◌≡◌, List, ◌++◌, map, Some}
+use Rattle.std.specs.Prelude.{◌≡◌, List, ◌++◌, map, Some}
 use Rattle.std.specs.Option.{option_map}
 use Rattle.semver.specs.Identifiers.{parts_of}
 use Rattle.wit_values.specs.ReleaseText.{release_parts}

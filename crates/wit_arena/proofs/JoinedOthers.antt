@@ -1,5 +1,5 @@
 -- Files that declare the same name the same of other packages, and require the same of them.
-use Rattle.std.proofs.Common.{◌≡◌, ℕ, not, List, [], Option, Some, None, ap, ◌∙◌}
+use Rattle.std.proofs.Common.{◌≡◌, ℕ, not, List, Option, Some, None, ap, ◌∙◌}
 use Rattle.std.specs.Prelude.{if◌then◌else◌, map}
 use Rattle.std.specs.List.{filter}
 use Rattle.wit_values.specs.declared.span.Span.{Span}

@@ -33,7 +33,6 @@ use Rattle.wit_type_tree.specs.declared.leaves.Id.{Id}
 use Rattle.wit_syntax.specs.ScopeTables.{item_rows, interfaces_of, worlds_of, includes, rows_of, in_order, in_turn}
 use Rattle.wit_types.specs.declared.docs.Docs.{Docs}
 use Rattle.wit_syntax.specs.Metadata.{docs_of, no_docs, stability_of, no_metadata}
-use Rattle.wit_syntax.specs.Broken.{headers}
 use Rattle.wit_syntax.specs.Sides.{SideItem, SideFunction, SideLink, SideInline, side_items, inline_items, all_scopes}
 use Rattle.wit_arena.specs.Occurrences.{Key, Def, Occurrence, name_occurrences, Collects, all_function_occurrences, Decls}
 use Rattle.wit_arena.specs.OneByOne.{OneByOne}

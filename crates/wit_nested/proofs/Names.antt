@@ -27,7 +27,7 @@ use Rattle.wit_first.specs.Laws.{Agrees}
 use Rattle.wit_first.proofs.Bridge.{after_only, after_some, any_found, or_none_both, or_some}
 use Rattle.wit_first.proofs.First.{after-at, any_some, none_both}
 use Rattle.wit_parser.proofs.Pushing.{package_same, same_by}
-use Rattle.wit_nested.specs.Nested.{IsMadeByNested, file_of}
+use Rattle.wit_nested.specs.Nested.{IsMadeByNested}
 use Rattle.wit_nested.specs.PackageNames.{IsRepeatedPackage, package_names}
 use Rattle.wit_nested.specs.GroupFaults.{AgreeOnNames, repeat_fault, named_twice, names_fault, nested_names, IsNamedTwice}
 use Rattle.wit_nested.specs.PushFaults.{files_of, nested_of}

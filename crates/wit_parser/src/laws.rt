@@ -12,7 +12,6 @@ ghost use Rattle.wit_parser.specs.Ids.{AreIdsWithin};
 ghost use Rattle.wit_parser.specs.Marks.{HaveMarks};
 ghost use Rattle.wit_parser.specs.OnePackage.{MakeOne};
 ghost use Rattle.wit_parser.specs.Stray.{PushesAgree};
-ghost use Rattle.wit_model.specs.declared.unresolved.UnresolvedPackage.{UnresolvedPackage as ThePackage};
 
 use wit_model::UnresolvedPackage;
 
