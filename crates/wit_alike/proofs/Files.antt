@@ -1,0 +1,158 @@
+-- The first faults of the names, the tops and the uses of alike files.
+use Rattle.std.proofs.Common.{◌≡◌, ℕ, Bool, true, false, cond, List, [], ◌∷◌, Option, Some, None, is_none, refl, ap, ap₂, ◌∙◌}
+use Rattle.std.specs.Prelude.{find}
+use Rattle.std.specs.List.{AllZip}
+use Rattle.std.specs.Option.{option_or}
+use Rattle.std.specs.Str.{bytes_eq}
+use Rattle.wit_values.specs.declared.span.Span.{Span}
+use Rattle.wit_type_tree.specs.declared.leaves.Id.{Id}
+use Rattle.wit_type_tree.specs.declared.leaves.Attribute.{Attribute}
+use Rattle.wit_tree.specs.declared.tree.AstItem.{AstItem}
+use Rattle.wit_tree.specs.declared.tree.AstItem.TheVariants as ast
+use Rattle.wit_tree.specs.declared.tree.Extern.{Extern}
+use Rattle.wit_tree.specs.declared.tree.PackageFile.{PackageFile}
+use Rattle.wit_tree.specs.declared.tree.ToplevelUse.{ToplevelUse}
+use Rattle.wit_tree.specs.declared.tree.Use.{Use}
+use Rattle.wit_tree.specs.declared.tree.UsePath.{UsePath}
+use Rattle.wit_tree.specs.declared.tree.UsePath.TheVariants as path
+use Rattle.wit_grammar.specs.Trees.{TopUse}
+use Rattle.wit_grammar.specs.Seen.{see_attribute, see_top_use}
+use Rattle.wit_syntax.specs.Broken.{is_world_at}
+use Rattle.wit_syntax.specs.ExternPart.{inline_uses}
+use Rattle.wit_syntax.specs.Fault.{Fault, fault, fault_in, fault_about, missing_at, item_word, item_twice, top_twice}
+use Rattle.wit_syntax.specs.Foreign.{ForeignVisit, foreign_visits}
+use Rattle.wit_syntax.specs.ScopeTables.{needed_paths}
+use Rattle.wit_syntax.specs.Source.{TopName, top_text, top_names, Target, Local, Foreign, leads, path_id, Item, Part, UsePart, about, file_items, all_items, item_name, item_named, parts, walk}
+use Rattle.wit_syntax.specs.Words.{item_words, top_words, world_words}
+use Rattle.wit_type_tree.specs.RefusalText.{Missing}
+use Rattle.wit_first.specs.AttributeFaults.{stability_fault}
+use Rattle.wit_first.specs.FileFaults.{visits_fault, lost_fault, unless_named, unnamed_fault, paths_fault, file_fault, files_fault, attributed_fault, top_use_fault, top_fault, file_tops_fault, tops_fault}
+use Rattle.wit_first.specs.First.{repeat_of, first_repeat}
+use Rattle.wit_first.specs.NameFaults.{item_names_fault, top_names_fault}
+use Rattle.wit_first.specs.UseFaults.{reached_fault, path_fault, use_fault, own_uses, item_uses_fault, all_uses_fault}
+use Rattle.wit_alike.proofs.Lists.{Both, zip_after, zip_any, zip_find, zip_first, zip_of}
+use Rattle.wit_alike.proofs.Leaves.{SameId, SameAttributes, by_name, same_metadata, same_stability, same_text}
+use Rattle.wit_alike.proofs.Paths.{SamePath, SameTarget, SameTop, SameAst, path_of, same_leads, same_path_id}
+use Rattle.wit_alike.proofs.Items.{SameFile, SameItem, SamePart, same_all_items, same_file_items, same_item_id, same_item_name, same_item_named, same_parts, same_top_names, same_walk}
+use Rattle.wit_alike.proofs.Functions.{extern_kind}
+use Rattle.wit_alike.proofs.Foreign.{SameUse, SameVisit, same_inline_uses, same_visits, same_world_at, use_attributes, use_from}
+use Rattle.wit_alike.proofs.Scopes.{same_needed_paths}
+
+-- ---- items that repeat
+module _ {A : Type 0} (R : A → A → Type 0) (key other : A → List ℕ) (made also : A → Fault) (keys : (x y : A) → R x y → key x ≡ other y) (faults : (x y : A) → R x y → made x ≡ also y) where
+  pub zip_repeat : (before others : List A) (x y : A) → AllZip R before others → R x y → repeat_of key made before x ≡ repeat_of other also others y
+  zip_repeat before others x y h same =
+      ap₂ (λ (there : Bool) (f : Fault). cond there (Some f) None)
+      (zip_any R (λ (z : A). bytes_eq (key z) (key x)) (λ (z : A). bytes_eq (other z) (other y)) (λ z w one. ap₂ bytes_eq (keys z w one) (keys x y same)) before others h) (faults x y same)
+
+  pub zip_first_repeat : (xs ys : List A) → AllZip R xs ys → first_repeat key made xs ≡ first_repeat other also ys
+  zip_first_repeat xs ys h = zip_after R (repeat_of key made) (repeat_of other also) zip_repeat [] xs [] ys tt h
+
+pub same_missing : (number : ℕ) (sort : List ℕ) (a b : Id) → SameId a b → missing_at number sort a ≡ missing_at number sort b
+same_missing number sort a b h = by_name (λ (text : List ℕ) (span : Span). fault_about number span text (Missing sort) None) a b h
+
+module _ (files others : List PackageFile) (h : AllZip SameFile files others) where
+  pub same_item_names : item_names_fault files ≡ item_names_fault others
+  same_item_names =
+      zip_first_repeat SameItem item_name item_name (λ (i : Item). item_twice (about i.declared).id) (λ (i : Item). item_twice (about i.declared).id) same_item_name
+      (λ i j same. by_name (λ (text : List ℕ) (span : Span). fault_in 5 span (item_words text)) (about i.declared).id (about j.declared).id (same_item_id i j same)) (all_items files) (all_items others) (same_all_items files others h)
+
+  pub same_visits_fault : visits_fault (foreign_visits files) ≡ visits_fault (foreign_visits others)
+  same_visits_fault = zip_first SameVisit (λ (v : ForeignVisit). stability_fault v.attributes) (λ (v : ForeignVisit). stability_fault v.attributes) (λ v w same. same_stability v.attributes w.attributes same.attributes) (foreign_visits files) (foreign_visits others) (same_visits files others h)
+
+same_top_fault : (f g : PackageFile) → SameFile f g → top_names_fault f ≡ top_names_fault g
+same_top_fault f g h =
+    zip_first_repeat SameTop top_text top_text (λ (n : TopName). top_twice n.id) (λ (n : TopName). top_twice n.id) (λ t u same. same_text t.id u.id same.0)
+    (λ t u same. by_name (λ (text : List ℕ) (span : Span). fault_in 6 span (top_words text)) t.id u.id same.0) (top_names f) (top_names g) (same_top_names f g h)
+
+-- ---- paths
+gone : (number : ℕ) (a b : Id) (o p : Option Item) → Both SameItem o p → SameId a b → cond (is_none o) (Some (missing_at number item_word a)) None ≡ cond (is_none p) (Some (missing_at number item_word b)) None
+gone number a b None None h same = ap Some (same_missing number item_word a b same)
+gone number a b None (Some j) h same = absurd h
+gone number a b (Some i) None h same = absurd h
+gone number a b (Some i) (Some j) h same = refl
+
+module _ (is js : List Item) (items : AllZip SameItem is js) where
+  pub same_lost : (t u : Target) → SameTarget t u → lost_fault is t ≡ lost_fault js u
+  same_lost (Local a) (Local b) h = gone 7 a b (item_named is a.name.now) (item_named js b.name.now) (same_item_named is js a.name.now b.name.now items (same_text a b h)) h
+  same_lost (Foreign p a) (Foreign q b) h = refl
+  same_lost t u h = absurd h
+
+  same_unless : (o p : Option TopName) (f g : Option Fault) → Both SameTop o p → f ≡ g → unless_named o f ≡ unless_named p g
+  same_unless None None f g h e = e
+  same_unless None (Some u) f g h e = absurd h
+  same_unless (Some t) None f g h e = absurd h
+  same_unless (Some t) (Some u) f g h e = refl
+
+  same_unnamed : (top other : List TopName) → AllZip SameTop top other → (a b : UsePath) → SamePath a b → unnamed_fault is top a ≡ unnamed_fault js other b
+  same_unnamed top other tops (path.Id a) (path.Id b) h =
+      same_unless (find (λ (t : TopName). bytes_eq (top_text t) a.name.now) top) (find (λ (t : TopName). bytes_eq (top_text t) b.name.now) other) (lost_fault is (Local a)) (lost_fault js (Local b))
+      (zip_find SameTop (λ (t : TopName). bytes_eq (top_text t) a.name.now) (λ (t : TopName). bytes_eq (top_text t) b.name.now) (λ t u same. ap₂ bytes_eq (same_text t.id u.id same.0) (same_text a b h)) top other tops) (same_lost (Local a) (Local b) h)
+  same_unnamed top other tops (path.Package p a) (path.Package q b) h = refl
+  same_unnamed top other tops a b h = absurd h
+
+  same_paths_fault : (i j : Item) → SameItem i j → paths_fault is i ≡ paths_fault js j
+  same_paths_fault i j h = zip_first SamePath (unnamed_fault is i.top) (unnamed_fault js j.top) (same_unnamed i.top j.top h.0) (needed_paths i) (needed_paths j) (same_needed_paths i j h)
+
+  same_file_fault : (f g : PackageFile) → SameFile f g → file_fault is f ≡ file_fault js g
+  same_file_fault f g h = ap₂ option_or (same_top_fault f g h) (zip_first SameItem (paths_fault is) (paths_fault js) same_paths_fault (file_items f) (file_items g) (same_file_items f g h))
+
+  -- ---- tops of files
+  same_attributed : (before others : List Attribute) (s r : Span) → SameAttributes before others → s ≡ r → attributed_fault before s ≡ attributed_fault others r
+  same_attributed [] [] s r h e = refl
+  same_attributed [] (b ∷ others) s r h e = absurd h
+  same_attributed (a ∷ before) [] s r h e = absurd h
+  same_attributed (a ∷ before) (b ∷ others) s r h e = ap (λ (at : Span). Some (fault 9 at)) e
+
+  same_top_use : (u t : ToplevelUse) → see_top_use u ≡ see_top_use t → top_use_fault is u ≡ top_use_fault js t
+  same_top_use u t h =
+      ap₂ option_or (same_attributed u.attributes.items t.attributes.items u.span t.span (zip_of see_attribute u.attributes.items t.attributes.items (ap (λ (x : TopUse). x.attributes) h)) (ap (λ (x : TopUse). x.span) h))
+      (same_lost (leads [] u.item) (leads [] t.item) (same_leads [] [] u.item t.item tt (path_of u.item t.item (ap (λ (x : TopUse). x.item) h))))
+
+  same_top : (a b : AstItem) → SameAst a b → top_fault is a ≡ top_fault js b
+  same_top (ast.Interface i) (ast.Interface j) h = refl
+  same_top (ast.World w) (ast.World v) h = refl
+  same_top (ast.Use u) (ast.Use t) h = same_top_use u t h
+  same_top a b h = absurd h
+
+  same_file_tops : (f g : PackageFile) → SameFile f g → file_tops_fault is f ≡ file_tops_fault js g
+  same_file_tops f g h = zip_first SameAst (top_fault is) (top_fault js) same_top f.decl_list.items.items g.decl_list.items.items h.1
+
+-- ---- uses
+same_reached : (o p : Option Bool) (a b : Id) (f g : Option Fault) → o ≡ p → SameId a b → f ≡ g → reached_fault o a f ≡ reached_fault p b g
+same_reached o p a b f g e h same = ap (λ (x : Option Bool). reached_fault x a f) e ∙ by_reach p
+  where
+    by_reach : (p : Option Bool) → reached_fault p a f ≡ reached_fault p b g
+    by_reach None = same
+    by_reach (Some true) = ap Some (by_name (λ (text : List ℕ) (span : Span). fault_in 10 span (world_words text)) a b h)
+    by_reach (Some false) = refl
+
+same_own_uses : (p q : Part) → SamePart p q → AllZip SameUse (own_uses p) (own_uses q)
+same_own_uses (UsePart u) (UsePart t) h = (h, tt)
+same_own_uses (UsePart u) q h = absurd h
+same_own_uses p (UsePart t) h = absurd h
+same_own_uses p q h = tt
+
+module _ (files others : List PackageFile) (h : AllZip SameFile files others) where
+  pub same_files_fault : files_fault files ≡ files_fault others
+  same_files_fault = zip_first SameFile (file_fault (all_items files)) (file_fault (all_items others)) (same_file_fault (all_items files) (all_items others) (same_all_items files others h)) files others h
+
+  pub same_tops_fault : tops_fault files ≡ tops_fault others
+  same_tops_fault = zip_first SameFile (file_tops_fault (all_items files)) (file_tops_fault (all_items others)) (same_file_tops (all_items files) (all_items others) (same_all_items files others h)) files others h
+
+  same_path_fault : (top other : List TopName) → AllZip SameTop top other → (a b : UsePath) → SamePath a b → path_fault files top a ≡ path_fault others other b
+  same_path_fault top other tops a b same =
+      let to = same_leads top other a b tops same in
+      same_reached (is_world_at files (leads top a)) (is_world_at others (leads other b)) (path_id a) (path_id b) (lost_fault (all_items files) (leads top a)) (lost_fault (all_items others) (leads other b))
+      (same_world_at files others h (leads top a) (leads other b) to) (same_path_id a b same) (same_lost (all_items files) (all_items others) (same_all_items files others h) (leads top a) (leads other b) to)
+
+  same_use_fault : (top other : List TopName) → AllZip SameTop top other → (u t : Use) → SameUse u t → use_fault files top u ≡ use_fault others other t
+  same_use_fault top other tops u t same = ap₂ option_or (same_metadata u.attributes.items t.attributes.items (use_attributes u t same)) (same_path_fault top other tops u.from t.from (use_from u t same))
+
+  same_item_uses_fault : (i j : Item) → SameItem i j → item_uses_fault files i ≡ item_uses_fault others j
+  same_item_uses_fault i j same =
+      zip_first SameUse (use_fault files i.top) (use_fault others j.top) (same_use_fault i.top j.top same.0) (walk own_uses (λ (x : Extern). inline_uses x.kind) (parts i)) (walk own_uses (λ (x : Extern). inline_uses x.kind) (parts j))
+      (same_walk SameUse own_uses own_uses (λ (x : Extern). inline_uses x.kind) (λ (x : Extern). inline_uses x.kind) same_own_uses (λ x y one. same_inline_uses x.kind y.kind (extern_kind x y one)) (parts i) (parts j) (same_parts i j same))
+
+  pub same_all_uses : all_uses_fault files ≡ all_uses_fault others
+  same_all_uses = zip_first SameItem (item_uses_fault files) (item_uses_fault others) same_item_uses_fault (all_items files) (all_items others) (same_all_items files others h)

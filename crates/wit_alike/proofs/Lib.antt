@@ -1,0 +1,13 @@
+pub mod Lists
+pub mod Leaves
+pub mod Types
+pub mod Bodies
+pub mod Paths
+pub mod Items
+pub mod Functions
+pub mod Tables
+pub mod Foreign
+pub mod Scopes
+pub mod Files
+pub mod Signatures
+pub mod Walk
