@@ -85,5 +85,6 @@ pub use Rattle.wit_json.specs.Refusal as RefusalJson
 pub use Rattle.wit_json.specs.ValueTokens
 pub use Rattle.wit_outcome.specs.Outcome
 pub use Rattle.wit_outcome.specs.Plain
-pub use Rattle.wit_tool.specs.Answered
+pub use Rattle.wit_tool.specs.FaultLine
+pub use Rattle.wit_tool.specs.Output as Printed
 pub use Rattle.wit_tool.specs.Run

@@ -54,6 +54,15 @@ laid_more sources more pairs path text s laid is e = record {
     none_before : (n : ℕ) → 0 + n ≡ n
     none_before n = omega arith
 
+-- and it fits where the next place is in range
+pub room_fits : (sources : List Source) (pairs : List (List ℕ × List ℕ)) (path text : List ℕ) → AreLaid pairs sources → space sources + length text + 1 ≤ 4294967295 → room (pairs ++ (path, text) ∷ []) ≤ 4294967295
+room_fits sources pairs path text laid fits =
+    let before : space sources ≡ room pairs = space_room sources pairs laid in
+    let last : room ((path, text) ∷ []) ≡ length text + 1 + room [] = room_more (path, text) [] in
+    let whole : room (pairs ++ (path, text) ∷ []) ≡ room pairs + room ((path, text) ∷ []) = sum_by-append (λ s. length s.1 + 1) pairs ((path, text) ∷ []) in
+    let none : room [] ≡ 0 = refl in
+    omega arith
+
 gives_more : (m n rule : ℕ) (kind : ParseErrorKind) → ReportsTooLarge m rule kind → m ≤ n → ReportsTooLarge n rule kind
 gives_more m n rule (Syntax span message) h le = (h.0, omega (arith, h.1), h.2, h.3, h.4)
 gives_more m n rule (ItemNotFound span name kind hint) h le = h
@@ -73,13 +82,16 @@ after_more rest_after path contents text next e f = ap (λ p. p.1) e ∙ ap (λ 
 pub record AreSplit (text : List ℕ) (rest : Option (List ℕ)) (sources : List Source) : Type 0 where
   pub pairs : List (List ℕ × List ℕ)
   pub laid : AreLaid pairs sources
+  pub fits : room pairs ≤ 4294967295
   pub whole : sources_of text ≡ pairs ++ sources_after rest
 
 pub split_more : (text rest_after path contents body : List ℕ) (next : Option (List ℕ)) (sources more : List Source) (s : Source) → AreSplit text (Some rest_after) sources →
-    parts (mark ++ rest_after) ≡ ([], (path, (parts contents).0) ∷ (parts contents).1) → parts contents ≡ (body, sources_after next) → IsSource path body (space sources) s → more ≡ sources ++ s ∷ [] → AreSplit text next more
-split_more text rest_after path contents body next sources more s split e f is g = record {
+    parts (mark ++ rest_after) ≡ ([], (path, (parts contents).0) ∷ (parts contents).1) → parts contents ≡ (body, sources_after next) → IsSource path body (space sources) s → more ≡ sources ++ s ∷ [] →
+    space sources + length body + 1 ≤ 4294967295 → AreSplit text next more
+split_more text rest_after path contents body next sources more s split e f is g fits = record {
   pairs = split.pairs ++ (path, body) ∷ [];
   laid = laid_more sources more split.pairs path body s split.laid is g;
+  fits = room_fits sources split.pairs path body split.laid fits;
   whole = split.whole ∙ (ap (λ ps. split.pairs ++ ps) (after_more rest_after path contents body next e f) ∙ sym (append_assoc split.pairs ((path, body) ∷ []) (sources_after next)));
 }
 

@@ -7,12 +7,13 @@ use Rattle.wit_lex.specs.declared.source.Source.{Source}
 use Rattle.wit_lex.specs.Sources.{IsSource, IsTooLarge, space}
 use Rattle.wit_bundle.specs.Apart.{ArePieces, AreParts, flat, pairs_of}
 use Rattle.wit_bundle.specs.Laid.{AreLaid, room}
-use Rattle.wit_bundle.proofs.Laying.{laid_more, room_more, space_room, too_large_more}
+use Rattle.wit_bundle.proofs.Laying.{laid_more, room_fits, room_more, space_room, too_large_more}
 
 -- the sources of the pieces up to some that are left
 pub record ArePaired (pieces rest : List (List ℕ)) (sources : List Source) : Type 0 where
   pub done : List (List ℕ × List ℕ)
   pub laid : AreLaid done sources
+  pub fits : room done ≤ 4294967295
   pub whole : pairs_of pieces ≡ done ++ pairs_of rest
 
 pub paired_rest : (pieces rest other : List (List ℕ)) (sources : List Source) → ArePaired pieces rest sources → rest ≡ other → ArePaired pieces other sources
@@ -26,10 +27,11 @@ paired_after pieces xs sources p =
     paired_rest pieces _ _ sources p (ap (map (λ (p : Bor (List ℕ)). p.now)) (sym all))
 
 pub paired_more : (pieces : List (List ℕ)) (path text : List ℕ) (rest : List (List ℕ)) (sources more : List Source) (s : Source) → ArePaired pieces (path ∷ text ∷ rest) sources → IsSource path text (space sources) s → more ≡ sources ++ s ∷ [] →
-    ArePaired pieces rest more
-paired_more pieces path text rest sources more s p is e = record {
+    space sources + length text + 1 ≤ 4294967295 → ArePaired pieces rest more
+paired_more pieces path text rest sources more s p is e fits = record {
   done = p.done ++ (path, text) ∷ [];
   laid = laid_more sources more p.done path text s p.laid is e;
+  fits = room_fits sources p.done path text p.laid fits;
   whole = p.whole ∙ sym (append_assoc p.done ((path, text) ∷ []) (pairs_of rest));
 }
 

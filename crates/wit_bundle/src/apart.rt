@@ -1,5 +1,5 @@
 //! Sources that come apart: paths and texts one after the other, with the length of each.
-ghost use Rattle.std.specs.Prelude.{IfErr, IfOk, map};
+ghost use Rattle.std.specs.Prelude.{◌≤◌, IfErr, IfOk, OnOk, map};
 ghost use Rattle.wit_lex.specs.Sources.{IsTooLarge};
 ghost use Rattle.wit_bundle.specs.Apart.{AreFound, pairs_of};
 ghost use Rattle.wit_bundle.specs.Laid.{AreLaid, room};
@@ -50,6 +50,7 @@ pub fn pieces_of<'a>(
 /// - 45: an allocation failed.
 pub fn sources_of_pieces(alloc: Global, pieces: &[&str]) -> ParseResult<SourceMap>
     ensures laid { IfOk result (λ sources. AreLaid (pairs_of (map (λ p. p.now) pieces.now)) sources.sources.items) }
+    ensures fits { OnOk result (room (pairs_of (map (λ p. p.now) pieces.now)) ≤ 4294967295) }
     ensures too_large { IfErr result (λ e. IsTooLarge (room (pairs_of (map (λ p. p.now) pieces.now))) e) }
 {
     let mut map = SourceMap::new(alloc);

@@ -1,5 +1,5 @@
 //! The sources of a text.
-ghost use Rattle.std.specs.Prelude.{◌≡◌, IfOk, IfErr, OnOk};
+ghost use Rattle.std.specs.Prelude.{◌≤◌, IfOk, IfErr, OnOk};
 ghost use Rattle.wit_lex.specs.Sources.{IsTooLarge};
 ghost use Rattle.wit_bundle.specs.Bundle.{sources_of, unnamed};
 ghost use Rattle.wit_bundle.specs.Laid.{AreLaid, room};
@@ -15,6 +15,7 @@ const PATH: &str = "stdin.wit";
 /// The map of a text before all lines that start a source, which is a source if it is not empty.
 fn map_of(alloc: Global, prefix: &str) -> ParseResult<SourceMap>
     ensures laid { IfOk result (λ map. AreLaid (unnamed prefix.now) map.sources.items) }
+    ensures fits { OnOk result (room (unnamed prefix.now) ≤ 4294967295) }
     ensures too_large { IfErr result (λ e. IsTooLarge (room (unnamed prefix.now)) e) }
 {
     let mut map = SourceMap::new(alloc);
@@ -37,6 +38,7 @@ fn map_of(alloc: Global, prefix: &str) -> ParseResult<SourceMap>
 /// - 45: a growth was refused.
 pub fn bundle(alloc: Global, text: &str) -> ParseResult<SourceMap>
     ensures laid { IfOk result (λ map. AreLaid (sources_of text.now) map.sources.items) }
+    ensures fits { OnOk result (room (sources_of text.now) ≤ 4294967295) }
     ensures too_large { IfErr result (λ e. IsTooLarge (room (sources_of text.now)) e) }
 {
     let (prefix, mut rest) = prefix_of(text);

@@ -4,7 +4,7 @@ ghost use Rattle.wit_syntax.specs.Address.{ForeignNamed, package_of, release_of}
 ghost use Rattle.wit_syntax.specs.Foreign.{ForeignVisit as TheVisit, file_visits, foreign_visits as the_visits};
 ghost use Rattle.wit_first.specs.FileFaults.{visits_fault};
 ghost use Rattle.wit_first.specs.First.{Finds};
-ghost use Rattle.wit_files.specs.ForeignPaths.{foreign_view, wants_world, key_release, key_address, AreItemsOf};
+ghost use Rattle.wit_files.specs.ForeignPaths.{AreItemsOf, foreign_view, item_place, key_address, key_release, path_visit, wants_world};
 
 use crate::visit::{Visit, Wanted, visits};
 use semver::Version;

@@ -19,11 +19,11 @@ use Rattle.wit_groups.specs.Groups.AreUsed.{None as NoneUsed, More}
 use Rattle.wit_walk.specs.Walk.{earliest}
 use Rattle.wit_nested.specs.GroupFaults.{names_fault, nested_names}
 use Rattle.wit_nested.specs.PushFaults.{IsWalk, files_of, nested_of}
-use Rattle.wit_groups.specs.SourceFaults.{Read, IsRead, trees_of, SequenceComesTo, SourcesComeTo, IsFirstOfSources, AreFaultless, AreBroken}
+use Rattle.wit_groups.specs.SourceFaults.{Read, IsRead, trees_of, SourcesComeTo, IsFirstOfSources, AreFaultless, AreBroken}
 use Rattle.wit_nested.proofs.Names.{made_names}
-use Rattle.wit_nested.proofs.Pushes.{a_walk, one_walk, source_agrees}
+use Rattle.wit_nested.proofs.Pushes.{a_walk, source_agrees}
 use Rattle.wit_groups.proofs.Used.{group_sequence}
-use Rattle.wit_groups.proofs.Sequences.{pushed, sequence_broken, sequence_comes, sequence_one, sequence_trees}
+use Rattle.wit_groups.proofs.Sequences.{pushed, sequence_broken, sequence_comes, sequence_trees}
 
 module _ (walk : List PackageFile → Option Fault) (walks : IsWalk walk) where
   -- one of two lists, in two parts
@@ -51,10 +51,6 @@ module _ (walk : List PackageFile → Option Fault) (walks : IsWalk walk) where
       subst (λ (l : List Source). AreUsed l (files_of (before ++ t ∷ trees)) (packages ++ more)) (append_assoc done (s ∷ []) ordered)
       (subst (λ (l : List SourceFile). AreUsed ((done ++ s ∷ []) ++ ordered) (files_of l) (packages ++ more)) (append_assoc before (t ∷ []) trees)
       (subst (λ (l : List UnresolvedPackage). AreUsed ((done ++ s ∷ []) ++ ordered) (files_of ((before ++ t ∷ []) ++ trees)) l) (append_assoc packages it.0 it.1 ∙ ap (λ (l : List UnresolvedPackage). packages ++ l) (sym it.2)) all))
-
-pub one_first : (sources others : List Source) (reads : List Read) (first other : Option Fault) → SourcesComeTo sources reads first → SourcesComeTo others reads other → first ≡ other
-one_first sources others reads first other a b =
-    sequence_one a.walk [] a.ordered b.ordered reads first other a.is (subst (λ (walk : List PackageFile → Option Fault). SequenceComesTo walk [] b.ordered reads other) (one_walk b.walk a.walk b.walks a.walks) b.is)
 
 by_first : (sources : List Source) (reads : List Read) (first : Option Fault) → SourcesComeTo sources reads first → AreFaultless sources reads ⊎ ((f : Fault) × IsFirstOfSources sources reads f)
 by_first sources reads None it = inl it

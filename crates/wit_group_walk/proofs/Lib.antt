@@ -4,3 +4,8 @@ pub mod Texts
 pub mod Rows
 pub mod Lines
 pub mod Plain
+pub mod Alike
+pub mod LaidSources
+pub mod AlikePackages
+pub mod Outputs
+pub mod Outcomes

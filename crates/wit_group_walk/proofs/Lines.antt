@@ -9,45 +9,19 @@ use Rattle.wit_values.specs.declared.span.Span.{Span}
 use Rattle.wit_type_tree.specs.declared.error.ParseError.{ParseError}
 use Rattle.wit_type_tree.specs.declared.error.ParseErrorKind.{ParseErrorKind}
 use Rattle.wit_type_tree.specs.declared.error.ParseErrorKind.TheVariants.{Syntax, ItemNotFound, TypeCycle, OutOfMemory}
-use Rattle.wit_type_tree.specs.RefusalText.{kind_text, span_of}
 use Rattle.wit_lex.specs.declared.source.Source.{Source}
-use Rattle.wit_lex.specs.Sources.{IsLocated, IsTooLarge, LiesIn, ReportsTooLarge, as_stated as sources_stated, stated_of}
+use Rattle.wit_lex.specs.Sources.{IsLocated, IsTooLarge, LiesIn, ReportsTooLarge, stated_of}
 use Rattle.wit_bundle.specs.Laid.{AreLaid, laid_out}
-use Rattle.wit_listing.specs.ErrorLine.{IsErrorLine, IsPlaceAt, Place, first_line, has_place, line_text, place_text}
+use Rattle.wit_listing.specs.ErrorLine.{IsErrorLine, IsPlaceAt, Place, first_line, has_place, place_text}
 use Rattle.wit_syntax.specs.Fault.{Fault, as_stated, fault_of}
 use Rattle.wit_syntax.proofs.Lists.{map_at}
-use Rattle.wit_groups.specs.Groups.{IsAlone, IsUnparsed}
+use Rattle.wit_groups.specs.Groups.{IsUnparsed}
 use Rattle.wit_groups.specs.Groups.IsUnparsed.{Alone, TooLarge}
-use Rattle.wit_groups.specs.SourceFaults.{IsFirstOfSources, Read, TextComesTo}
-use Rattle.wit_group_walk.specs.Lines.{IsFaultLine, fault_text}
-use Rattle.wit_group_walk.proofs.Groups.{one_first}
-use Rattle.wit_group_walk.proofs.Texts.{one_of_text}
-
--- what a refusal of a number says
-words_of_kind : (number : ℕ) (kind : ParseErrorKind) → kind_text kind ≡ fault_text (as_stated number kind)
-words_of_kind number (Syntax span message) = refl
-words_of_kind number (ItemNotFound span name sort None) = refl
-words_of_kind number (ItemNotFound span name sort (Some hint)) = refl
-words_of_kind number (TypeCycle span name sort) = refl
-words_of_kind number OutOfMemory = refl
-
-pub text_is : (e : ParseError) → kind_text e.kind ≡ fault_text (fault_of e)
-text_is e = words_of_kind e.rule e.kind
-
--- and its line
-line_of_kind : (sources : List Source) (number : ℕ) (kind : ParseErrorKind) (text : List ℕ) → (place : Option Place) × IsPlaceAt sources number (span_of kind) place × (text ≡ line_text number place (kind_text kind)) → IsFaultLine sources (as_stated number kind) text
-line_of_kind sources number (Syntax span message) text it = it
-line_of_kind sources number (ItemNotFound span name sort None) text it = it
-line_of_kind sources number (ItemNotFound span name sort (Some hint)) text it = it
-line_of_kind sources number (TypeCycle span name sort) text it = it
-line_of_kind sources number OutOfMemory text it = it
-
-pub line_is : (sources : List Source) (e : ParseError) (text : List ℕ) → IsErrorLine sources e text → IsFaultLine sources (fault_of e) text
-line_is sources e text it = line_of_kind sources e.rule e.kind text it
-
--- a source as it is stated
-abbrev pub Stated : Type 0
-Stated = List ℕ × List ℕ × ℕ
+use Rattle.wit_groups.specs.SourceFaults.{HaveFirst, TextHasFirst}
+use Rattle.wit_tool.specs.FaultLine.{IsFaultLine, fault_text}
+use Rattle.wit_tool.proofs.FaultLines.{line_is}
+use Rattle.wit_group_walk.proofs.LaidSources.{alone_laid, one_laid_had, one_of_text}
+pub use Rattle.wit_group_walk.proofs.ByPath.{Stated}
 
 -- sources one after the other begin at a place or after it, and no place is in two of them
 laid_from : (n : ℕ) (parts : List (List ℕ × List ℕ)) (i : ℕ) (a : Stated) → slice_get (laid_out n parts) i ≡ Some a → n ≤ a.2
@@ -151,23 +125,11 @@ same_some f g h = cc
 line_as : (sources : List Source) (f : Fault) (e : ParseError) (text : List ℕ) → fault_of e ≡ f → IsErrorLine sources e text → IsFaultLine sources f text
 line_as sources f e text same it = subst (λ (g : Fault). IsFaultLine sources g text) same (line_is sources e text it)
 
-pub one_line_of_sources : (parts : List (List ℕ × List ℕ)) (sources others : List Source) (reads : List Read) (e other : ParseError) (text another : List ℕ) → AreLaid parts sources → AreLaid parts others →
-    IsFirstOfSources sources reads (fault_of e) → IsFirstOfSources others reads (fault_of other) → IsErrorLine sources e text → IsErrorLine others other another → text ≡ another
-one_line_of_sources parts sources others reads e other text another laid also first later it line =
-    let same : fault_of e ≡ fault_of other = same_some (fault_of e) (fault_of other) (one_first sources others reads (Some (fault_of e)) (Some (fault_of other)) first later) in
+pub one_line_of_sources : (parts : List (List ℕ × List ℕ)) (sources others : List Source) (e other : ParseError) (text another : List ℕ) → AreLaid parts sources → AreLaid parts others →
+    HaveFirst sources (Some (fault_of e)) → HaveFirst others (Some (fault_of other)) → IsErrorLine sources e text → IsErrorLine others other another → text ≡ another
+one_line_of_sources parts sources others e other text another laid also first later it line =
+    let same : fault_of e ≡ fault_of other = same_some (fault_of e) (fault_of other) (one_laid_had parts sources others (Some (fault_of e)) (Some (fault_of other)) laid also first later) in
     one_line parts sources others (fault_of other) text another laid also (line_as sources (fault_of other) e text same it) (line_is others other another line)
-
--- the only source of a text, or none
-alone_laid : (path contents : List ℕ) (sources : List Source) → IsAlone path contents sources → AreLaid ((path, contents) ∷ []) sources
-alone_laid path contents sources a = record {
-  are = ap sources_stated a.only
-      ∙ ap (λ (p : List ℕ). (p, string_bytes a.source.contents, a.source.offset) ∷ []) a.is.path_bytes
-      ∙ ap (λ (t : List ℕ). (path, t, a.source.offset) ∷ []) a.is.contents
-      ∙ ap (λ (n : ℕ). (path, contents, n) ∷ []) a.is.offset;
-}
-
-none_laid : (sources : List Source) → sources ≡ [] → AreLaid [] sources
-none_laid sources none = record { are = ap sources_stated none }
 
 -- E52 has no place, nor has a failed allocation
 large_unplaced : (end number : ℕ) (kind : ParseErrorKind) → ReportsTooLarge end number kind → has_place (as_stated number kind).rule ≡ false
@@ -185,8 +147,8 @@ text_line path contents sources others f e other text another is same (TooLarge 
 text_line path contents sources others f e other text another is same (Alone alone refused) (TooLarge none large) it line = one_nowhere sources others f text another (too_large (length contents + 1) other f same large) it line
 text_line path contents sources others f e other text another is same (Alone alone refused) (Alone only declined) it line = one_line ((path, contents) ∷ []) sources others f text another (alone_laid path contents sources alone) (alone_laid path contents others only) it line
 
-pub one_line_of_text : (path contents : List ℕ) (sources others : List Source) (reads : List Read) (e other : ParseError) (text another : List ℕ) → IsUnparsed path contents sources e → IsUnparsed path contents others other →
-    TextComesTo path contents reads (Some (fault_of e)) → TextComesTo path contents reads (Some (fault_of other)) → IsErrorLine sources e text → IsErrorLine others other another → text ≡ another
-one_line_of_text path contents sources others reads e other text another unparsed refused first later it line =
-    let same : fault_of e ≡ fault_of other = same_some (fault_of e) (fault_of other) (one_of_text path contents reads (Some (fault_of e)) (Some (fault_of other)) first later) in
+pub one_line_of_text : (path contents : List ℕ) (sources others : List Source) (e other : ParseError) (text another : List ℕ) → IsUnparsed path contents sources e → IsUnparsed path contents others other →
+    TextHasFirst path contents (Some (fault_of e)) → TextHasFirst path contents (Some (fault_of other)) → IsErrorLine sources e text → IsErrorLine others other another → text ≡ another
+one_line_of_text path contents sources others e other text another unparsed refused first later it line =
+    let same : fault_of e ≡ fault_of other = same_some (fault_of e) (fault_of other) (one_of_text path contents (Some (fault_of e)) (Some (fault_of other)) first later) in
     text_line path contents sources others (fault_of other) e other text another same refl unparsed refused (line_as sources (fault_of other) e text same it) (line_is others other another line)

@@ -14,8 +14,9 @@ use Rattle.wit_outcome.specs.declared.plain.Plain.{Plain}
 use Rattle.wit_outcome.specs.Plain.{IsPlain, IsPlaced}
 use Rattle.wit_outcome.specs.Plain.IsPlaced.{Within, Nowhere}
 use Rattle.wit_syntax.specs.Fault.{Fault, as_stated, fault_of}
-use Rattle.wit_group_walk.specs.Lines.{fault_text}
-use Rattle.wit_group_walk.proofs.Lines.{Stated, one_source, other_at, stated_at, text_is}
+use Rattle.wit_tool.specs.FaultLine.{fault_text}
+use Rattle.wit_tool.proofs.FaultLines.{text_is}
+use Rattle.wit_group_walk.proofs.Lines.{Stated, one_source, other_at, stated_at}
 
 -- the number and the span of a refusal are those of its fault
 rule_kept : (number : ℕ) (kind : ParseErrorKind) → (as_stated number kind).rule ≡ number

@@ -1,15 +1,11 @@
--- What is read of a source, and what a text comes to.
-use Rattle.std.proofs.Common.{◌≡◌, ℕ, List, Option, sym, ◌∙◌, string_bytes}
+-- What is read of a source is one, but for addresses.
+use Rattle.std.proofs.Common.{◌≡◌, sym, ◌∙◌, string_bytes}
 use Rattle.std.specs.Prelude.{Err}
 use Rattle.wit_lex.specs.declared.fault.ReadError.TheVariants.{Fault as Stopped}
 use Rattle.wit_lex.specs.declared.source.Source.{Source}
 use Rattle.wit_grammar.specs.Seen.{see_file}
 use Rattle.wit_grammar.proofs.Whole.{one_tree, stopped_spells_none}
-use Rattle.wit_syntax.specs.Fault.{Fault}
-use Rattle.wit_groups.specs.Groups.{IsAlone}
-use Rattle.wit_groups.specs.SourceFaults.{Read, Tree, Stop, IsRead, AreAlike, SourcesComeTo, TextComesTo, size_fault}
-use Rattle.wit_group_walk.proofs.Groups.{one_first}
-use Rattle.wit_groups.proofs.Sequences.{or_two}
+use Rattle.wit_groups.specs.SourceFaults.{Read, Tree, Stop, IsRead, AreAlike}
 
 pub one_reading : (s : Source) (one other : Read) → IsRead s one → IsRead s other → AreAlike one other
 one_reading s (Tree a) (Tree b) x y = one_tree (string_bytes s.contents) s.offset (see_file a) (see_file b) x y
@@ -20,8 +16,3 @@ one_reading s (Stop f) (Stop g) x y = (
     let one = x.4 in
     let other = y.4 in
     cc)
-
-pub one_of_text : (path text : List ℕ) (reads : List Read) (first other : Option Fault) → TextComesTo path text reads first → TextComesTo path text reads other → first ≡ other
-one_of_text path text reads first other a b =
-    let Later : Option Fault → Type 0 = λ o. (sources : List Source) × IsAlone path text sources × SourcesComeTo sources reads o in
-    or_two (size_fault text) Later Later (λ x y p q. one_first p.0 q.0 reads x y p.2 q.2) first other a b

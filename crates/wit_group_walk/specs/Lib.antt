@@ -1,3 +1,4 @@
 pub mod Laws
 pub mod SourceLaws
 pub mod Lines
+pub mod Outputs

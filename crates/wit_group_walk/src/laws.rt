@@ -2,7 +2,8 @@
 //! values.
 ghost use Rattle.wit_group_walk.specs.Laws.{FaultlessGroupIsLegal, FirstOfGroupIsBroken, LegalGroupIsFaultless, LegalGroupOrFirst, NamesAgree, OneFirstOfGroup};
 ghost use Rattle.wit_group_walk.specs.Lines.{LineIsOfFault, OneLineOfFault, OneLineOfSources, OneLineOfText, OnePlain, TextIsOfFault};
-ghost use Rattle.wit_group_walk.specs.SourceLaws.{FaultlessIsGroup, FaultlessOrFirst, FirstOfSourcesIsBroken, GroupIsFaultless, OneFirstOfSources, OneFirstOfText, OneReading, OnePathOrder};
+ghost use Rattle.wit_group_walk.specs.Outputs.{OneJson, OneOutcome, OneOutput, OnePackageOfTrees, OneSourcesOutput};
+ghost use Rattle.wit_group_walk.specs.SourceLaws.{FaultlessIsGroup, FaultlessOrFirst, FirstOfSourcesIsBroken, GroupIsFaultless, OneFirstOfSources, OneFirstOfLaid, OneFirstOfText, OneReading, OnePathOrder};
 
 /// A group comes to one fault, or to none: two first faults are equal, and a group that has one is not
 /// without a fault.
@@ -48,9 +49,14 @@ pub fn one_reading()
     ensures { OneReading }
 {}
 
-/// Sources of which the same is read come to one fault, or to none.
+/// Sources have one first fault, or none, whatever is read of them.
 pub fn one_first_of_sources()
     ensures { OneFirstOfSources }
+{}
+
+/// And so have sources of the same paths and texts, wherever they lie in memory.
+pub fn one_first_of_laid()
+    ensures { OneFirstOfLaid }
 {}
 
 /// The first fault of sources is something that is wrong with them: one cannot be read or pushed, or the
@@ -74,7 +80,7 @@ pub fn faultless_is_group()
     ensures { FaultlessIsGroup }
 {}
 
-/// A text comes to one fault, or to none, where the same is read of it.
+/// A text has one first fault, or none, whatever is read of it.
 pub fn one_first_of_text()
     ensures { OneFirstOfText }
 {}
@@ -96,13 +102,12 @@ pub fn one_line_of_fault()
     ensures { OneLineOfFault }
 {}
 
-/// Two refusals that state the first fault of sources of the same paths and texts have one line, where the
-/// same is read of them.
+/// Two refusals that state the first fault of sources of the same paths and texts have one line.
 pub fn one_line_of_sources()
     ensures { OneLineOfSources }
 {}
 
-/// Two refusals of one text have one line, where the same is read of it: that of the first fault.
+/// Two refusals of one text have one line: that of the first fault.
 pub fn one_line_of_text()
     ensures { OneLineOfText }
 {}
@@ -111,4 +116,30 @@ pub fn one_line_of_text()
 /// the JSON of a refusal is a function of these and of its fault.
 pub fn one_plain()
     ensures { OnePlain }
+{}
+
+/// Trees that say the same make one package, wherever they lie in memory.
+pub fn one_package_of_trees()
+    ensures { OnePackageOfTrees }
+{}
+
+/// Sources of the same paths and texts have one output: one status, and the same bytes.
+pub fn one_sources_output()
+    ensures { OneSourcesOutput }
+{}
+
+/// A text has one output: what a program prints of it, and the status, follow from the text alone.
+pub fn one_output()
+    ensures { OneOutput }
+{}
+
+/// Sources of the same paths and texts have one outcome: the same packages, or the same refusal, unless
+/// an allocation failed.
+pub fn one_outcome()
+    ensures { OneOutcome }
+{}
+
+/// And one outcome has one JSON.
+pub fn one_json()
+    ensures { OneJson }
 {}

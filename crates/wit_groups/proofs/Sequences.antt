@@ -45,17 +45,6 @@ or_either (Some g) Later f h = inl (sym h)
 abbrev pub pushed : (List PackageFile → Option Fault) → List SourceFile → SourceFile → Option Fault
 pushed walk before s = source_fault walk (files_of before) s
 
--- sources come to one fault, or to none, whichever they are: by what is read of them
-pub sequence_one : (walk : List PackageFile → Option Fault) (before : List SourceFile) (sources other : List Source) (reads : List Read) (x y : Option Fault) → SequenceComesTo walk before sources reads x → SequenceComesTo walk before other reads y → x ≡ y
-sequence_one walk before [] [] [] x y a b = a ∙ sym b
-sequence_one walk before [] other (r ∷ reads) x y a b = absurd a
-sequence_one walk before sources [] (r ∷ reads) x y a b = absurd b
-sequence_one walk before (s ∷ sources) other [] x y a b = absurd a
-sequence_one walk before sources (t ∷ other) [] x y a b = absurd b
-sequence_one walk before (s ∷ sources) (t ∷ other) (Stop f ∷ reads) x y a b = a.1 ∙ sym b.1
-sequence_one walk before (s ∷ sources) (t ∷ other) (Tree tree ∷ reads) x y a b =
-    or_two (pushed walk before tree) (SequenceComesTo walk (before ++ tree ∷ []) sources reads) (SequenceComesTo walk (before ++ tree ∷ []) other reads) (sequence_one walk (before ++ tree ∷ []) sources other reads) x y a.1 b.1
-
 -- and they come to one of these
 pub or_comes : (o : Option Fault) (Later : Option Fault → Type 0) → (first : Option Fault) × Later first → (first : Option Fault) × IsOr o Later first
 or_comes None Later it = it

@@ -61,11 +61,15 @@ module _ (walk : List PackageFile → Option Fault) (walks : IsWalk walk) where
   pub joined_none : (trees : List SourceFile) → walk (files_of trees) ≡ None → names_fault (last_header (files_of trees)) (nested_names trees) ≡ None → earliest (joined_faults walk trees) ≡ None
   joined_none trees files names = none_both files (or_none (names_fault (last_header (files_of trees)) (nested_names trees)) ∙ names)
 
-  -- sources that make a group have no fault
-  pub group_sequence : (ordered : List Source) (files : List PackageFile) (main : UnresolvedPackage) (nested : List UnresolvedPackage) → AreUsed ordered files nested → IsMadeOf files main → AreNamedApart main nested → (reads : List Read) × SequenceComesTo walk [] ordered reads None
-  group_sequence ordered files main nested used made apart =
+  -- sources that make a group have no fault, by their trees
+  pub group_trees : (ordered : List Source) (files : List PackageFile) (main : UnresolvedPackage) (nested : List UnresolvedPackage) → AreUsed ordered files nested → IsMadeOf files main → AreNamedApart main nested →
+      (it : HasTrees walk ordered files nested) × SequenceComesTo walk [] ordered (map Tree it.trees ++ []) None
+  group_trees ordered files main nested used made apart =
       let it = used_trees ordered files nested used in
       let made_of : IsMadeOf (files_of it.trees) main = subst (λ (fs : List PackageFile). IsMadeOf fs main) it.files_are made in
       let right : walk (files_of it.trees) ≡ None = none_of (walk (files_of it.trees)) (walk_agrees walk walks (files_of it.trees)) made_of.legal in
       let none = joined_none it.trees right ((made_names it.trees main nested made_of it.made).apart.1 apart) in
-      (map Tree it.trees ++ [], subst (λ (l : List Source). SequenceComesTo walk [] l (map Tree it.trees ++ []) None) (append-nil ordered) (sequence_prefix walk [] ordered it.trees [] [] None it.each it.none (sym none)))
+      (it, subst (λ (l : List Source). SequenceComesTo walk [] l (map Tree it.trees ++ []) None) (append-nil ordered) (sequence_prefix walk [] ordered it.trees [] [] None it.each it.none (sym none)))
+
+  pub group_sequence : (ordered : List Source) (files : List PackageFile) (main : UnresolvedPackage) (nested : List UnresolvedPackage) → AreUsed ordered files nested → IsMadeOf files main → AreNamedApart main nested → (reads : List Read) × SequenceComesTo walk [] ordered reads None
+  group_sequence ordered files main nested used made apart = (let it = group_trees ordered files main nested used made apart in (map Tree it.0.trees ++ [], it.1))

@@ -8,7 +8,7 @@ ghost use Rattle.wit_json_laws.specs.Laws.{AreAlike, GroupsHaveOwnMaps, HasOwnJs
 
 use wit_groups::UnresolvedPackageGroup;
 use wit_model::UnresolvedPackage;
-use wit_parser::laws::{ids_are_within};
+use wit_parser::laws::ids_are_within;
 
 /// No map of a package that legal files make has a key twice: no name of an interface, no import and no
 /// export of a world, no other package and no item of one. So it is in each package of a group.

@@ -91,19 +91,19 @@ module _ (ptr : Ptr) (alloc : Global) where
   abbrev p_id : Id
   p_id = id (codes "p") (at 38 39) refl
 
-  abbrev p : Definition
+  abbrev pub p : Definition
   p = record { docs = no_comments; attributes = unstated; name = p_id; body = Record (at 38 39) (vec written_fields (lit< tt)) }
 
   abbrev i : WrittenInterface
   i = record { docs = no_comments; attributes = unstated; name = id (codes "i") (at 27 28) refl; items = vec (TypeItem p ∷ []) (lit< tt) }
 
-  abbrev file : PackageFile
+  abbrev pub file : PackageFile
   file = record { package_id = Some header; decl_list = record { items = vec (InterfaceItem i ∷ []) (lit< tt) } }
 
-  abbrev files : List PackageFile
+  abbrev pub files : List PackageFile
   files = file ∷ []
 
-  abbrev item : Item
+  abbrev pub item : Item
   item = record { top = top_names file; declared = TheInterface i }
 
   abbrev members : List Member
@@ -121,10 +121,10 @@ module _ (ptr : Ptr) (alloc : Global) where
   source : source_tree files 3 (InterfaceNamed (codes "i"), Word p_id) ≡ p_tree
   source = refl
 
-  abbrev list_seen : Span → Occurrence
+  abbrev pub list_seen : Span → Occurrence
   list_seen span = record { key = Whole ListForm (one (Prim primitive.U8)); span = span; given = Unknown }
 
-  abbrev p_seen : Occurrence
+  abbrev pub p_seen : Occurrence
   p_seen = record { key = Def (InterfaceNamed (codes "i")) (codes "p"); span = at 38 39; given = Unknown }
 
   -- both lists occur before p, each at its own word
@@ -147,16 +147,16 @@ module _ (ptr : Ptr) (alloc : Global) where
   rows_of_p = refl
 
   -- the arenas: one list, and p over it
-  abbrev list_entry : TypeDef
+  abbrev pub list_entry : TypeDef
   list_entry = record { name = None; kind = kind.List type.U8; owner = owner.None; docs = no_docs; stability = Unknown; span = at 45 49; external_id = None }
 
   abbrev fields : List Field
   fields = record { name = codes "a"; ty = type.Id 0; docs = no_docs; span = at 42 43 } ∷ record { name = codes "b"; ty = type.Id 0; docs = no_docs; span = at 55 56 } ∷ []
 
-  abbrev p_entry : TypeDef
+  abbrev pub p_entry : TypeDef
   p_entry = record { name = Some (codes "p"); kind = kind.Record (record { fields = fields }); owner = owner.Interface 0; docs = no_docs; stability = Unknown; span = at 38 39; external_id = None }
 
-  abbrev i_entry : Interface
+  abbrev pub i_entry : Interface
   i_entry = record { name = Some (codes "i"); types = (codes "p", 1) ∷ []; functions = []; docs = no_docs; stability = Unknown; «package» = None; span = at 27 28; clone_of = None }
 
   kinds : map kind_of (list_entry.kind ∷ p_entry.kind ∷ kind.Type_ (type.Id 1) ∷ [])
@@ -164,7 +164,7 @@ module _ (ptr : Ptr) (alloc : Global) where
   kinds = refl
 
   -- a package of these arenas
-  abbrev package_with : List Interface → List TypeDef → UnresolvedPackage
+  abbrev pub package_with : List Interface → List TypeDef → UnresolvedPackage
   package_with is es = record { docs = no_docs; name = record { namespace = codes "foo"; name = codes "foo"; version = None }; worlds = []; interfaces = is; types = es; foreign_deps = []; name_span = at 8 15; unknown_type_spans = []; foreign_dep_spans = []; required_resource_types = [] }
 
   arenas : package_tree (package_with (i_entry ∷ []) (list_entry ∷ p_entry ∷ [])) 3 (type.Id 1) ≡ p_tree
@@ -251,22 +251,22 @@ module _ (ptr : Ptr) (alloc : Global) where
     abbrev of_a : Id
     of_a = id (codes "t") (at 40 41) refl
 
-    abbrev a : Definition
+    abbrev pub a : Definition
     a = record { docs = no_comments; attributes = unstated; name = id (codes "a") (at 36 37) refl; body = Plain (written.Name of_a) }
 
-    abbrev b : Definition
+    abbrev pub b : Definition
     b = record { docs = no_comments; attributes = unstated; name = id (codes "b") (at 48 49) refl; body = Plain (written.Primitive (at 52 54) primitive.U8) }
 
     abbrev path_x : Id
     path_x = id (codes "x") (at 60 61) refl
 
-    abbrev used_t : UseName
+    abbrev pub used_t : UseName
     used_t = record { name = id (codes "t") (at 63 64) refl; as_ = None }
 
     abbrev use_t : Use
     use_t = record { attributes = unstated; from = path.Id path_x; names = vec (used_t ∷ []) (lit< tt) }
 
-    abbrev t : Definition
+    abbrev pub t : Definition
     t = record { docs = no_comments; attributes = unstated; name = id (codes "t") (at 88 89) refl; body = Plain (written.Primitive (at 92 95) primitive.U32) }
 
     abbrev user : WrittenInterface
@@ -275,16 +275,16 @@ module _ (ptr : Ptr) (alloc : Global) where
     abbrev x : WrittenInterface
     x = record { docs = no_comments; attributes = unstated; name = id (codes "x") (at 79 80) refl; items = vec (TypeItem t ∷ []) (lit< tt) }
 
-    abbrev used_file : PackageFile
+    abbrev pub used_file : PackageFile
     used_file = record { package_id = Some header; decl_list = record { items = vec (InterfaceItem user ∷ InterfaceItem x ∷ []) (lit< tt) } }
 
-    abbrev used_files : List PackageFile
+    abbrev pub used_files : List PackageFile
     used_files = used_file ∷ []
 
-    abbrev user_item : Item
+    abbrev pub user_item : Item
     user_item = record { top = top_names used_file; declared = TheInterface user }
 
-    abbrev x_item : Item
+    abbrev pub x_item : Item
     x_item = record { top = top_names used_file; declared = TheInterface x }
 
     -- the path leads to the declaration of x
@@ -312,7 +312,7 @@ module _ (ptr : Ptr) (alloc : Global) where
     tree_of_used : source_tree used_files 2 (InterfaceNamed (codes "i"), Word of_a) ≡ (Named (t_head (codes "i") (at 63 64)) AliasForm (Named (t_head (codes "x") (at 88 89)) AliasForm (tt ∷ []) ∷ []))
     tree_of_used = refl
 
-    abbrev name_seen : List ℕ → List ℕ → Span → Occurrence
+    abbrev pub name_seen : List ℕ → List ℕ → Span → Occurrence
     name_seen interface name span = record { key = Def (InterfaceNamed interface) name; span = span; given = Unknown }
 
     -- x's t occurs before i's, which occurs before b and a
@@ -326,10 +326,10 @@ module _ (ptr : Ptr) (alloc : Global) where
     abbrev interface : List ℕ → List (List ℕ × ℕ) → Span → Interface
     interface name types span = record { name = Some name; types = types; functions = []; docs = no_docs; stability = Unknown; «package» = None; span = span; clone_of = None }
 
-    abbrev used_types : List TypeDef
+    abbrev pub used_types : List TypeDef
     used_types = entry (codes "t") type.U32 0 (at 88 89) ∷ entry (codes "t") (type.Id 0) 1 (at 63 64) ∷ entry (codes "b") type.U8 1 (at 48 49) ∷ entry (codes "a") (type.Id 1) 1 (at 36 37) ∷ []
 
-    abbrev used_interfaces : List Interface
+    abbrev pub used_interfaces : List Interface
     used_interfaces = interface (codes "x") ((codes "t", 0) ∷ []) (at 79 80) ∷ interface (codes "i") ((codes "t", 1) ∷ (codes "b", 2) ∷ (codes "a", 3) ∷ []) (at 27 28) ∷ []
 
     -- a is another word for i's t, down to the last level

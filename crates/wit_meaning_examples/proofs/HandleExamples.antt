@@ -54,13 +54,13 @@ is_of_r (Some (Whole form (More (Use s name) es))) = bytes_eq name (codes "r")
 is_of_r _ = false
 
 -- what means a name or for an unnamed type in these rows
-abbrev in_i : Address
+abbrev pub in_i : Address
 in_i = InterfaceNamed (codes "i")
 
-abbrev name_seen : Address → List ℕ → Span → Occurrence
+abbrev pub name_seen : Address → List ℕ → Span → Occurrence
 name_seen s name span = record { key = Def s name; span = span; given = Unknown }
 
-abbrev borrow_seen : List ℕ → Span → Occurrence
+abbrev pub borrow_seen : List ℕ → Span → Occurrence
 borrow_seen name span = record { key = Whole BorrowForm (one (Use in_i name)); span = span; given = Unknown }
 
 abbrev named : List ℕ → TypeDefKind → ℕ → Span → TypeDef
@@ -74,10 +74,10 @@ module _ (ptr : Ptr) (alloc : Global) where
   abbrev i_of : (parts : List Part) → length parts < 2 ^ 63 → Interface
   i_of parts small = record { docs = no_comments ptr alloc; attributes = unstated ptr alloc; name = id ptr alloc (codes "i") (at 27 28) refl; items = vec ptr alloc parts small }
 
-  abbrev file_of : Interface → PackageFile
+  abbrev pub file_of : Interface → PackageFile
   file_of i = record { package_id = Some (header ptr alloc); decl_list = record { items = vec ptr alloc (InterfaceItem i ∷ []) (lit< tt) } }
 
-  abbrev item_of : Interface → Item
+  abbrev pub item_of : Interface → Item
   item_of i = record { top = top_names (file_of i); declared = TheInterface i }
 
   abbrev a_id : Span → Id
@@ -179,13 +179,13 @@ module _ (ptr : Ptr) (alloc : Global) where
 
   -- use a:b/c.{r}; f: func(x: borrow<r>);
   module _ where
-    abbrev used_r : UseName
+    abbrev pub used_r : UseName
     used_r = record { name = r_id (at 42 43); as_ = None }
 
     abbrev path_c : UsePath
     path_c = path.Package (record { docs = no_comments ptr alloc; span = at 35 38; namespace = a_id (at 35 36); name = id ptr alloc (codes "b") (at 37 38) refl; version = None }) (id ptr alloc (codes "c") (at 39 40) refl)
 
-    abbrev user : Interface
+    abbrev pub user : Interface
     user = i_of (UseItem (record { attributes = unstated ptr alloc; from = path_c; names = vec ptr alloc (used_r ∷ []) (lit< tt) }) ∷ FuncItem (record {
       docs = no_comments ptr alloc;
       attributes = unstated ptr alloc;
@@ -193,13 +193,13 @@ module _ (ptr : Ptr) (alloc : Global) where
       func = record { span = at 49 53; form = form.Plain; params = vec ptr alloc (x_of (at 54 55) (written.Borrow (at 57 63) (r_id (at 64 65))) ∷ []) (lit< tt); result = None };
     }) ∷ []) (lit< tt)
 
-    abbrev user_files : List PackageFile
+    abbrev pub user_files : List PackageFile
     user_files = file_of user ∷ []
 
     abbrev user_ordered : Ordered
     user_ordered = record { item = item_of user; order = 0 ∷ [] }
 
-    abbrev in_c : Address
+    abbrev pub in_c : Address
     in_c = ForeignNamed (record { namespace = codes "a"; name = codes "b"; version = None }) (codes "c")
 
     -- c's r occurs first, then i's, and then the handle
@@ -209,7 +209,7 @@ module _ (ptr : Ptr) (alloc : Global) where
     abbrev user_keys : List Key
     user_keys = Def in_c (codes "r") ∷ Def in_i (codes "r") ∷ Whole BorrowForm (one (Use in_i (codes "r"))) ∷ []
 
-    abbrev user_types : List TypeDef
+    abbrev pub user_types : List TypeDef
     user_types = named (codes "r") kind.Unknown 0 (at 42 43) ∷ named (codes "r") (kind.Type_ (type.Id 0)) 1 (at 42 43) ∷ borrowed 1 (at 57 63) ∷ []
 
     -- i's r ends at c's, in the arena and in the files
@@ -220,7 +220,7 @@ module _ (ptr : Ptr) (alloc : Global) where
     used_ends = (2, refl)
 
     -- so that entry is required to be a resource, where the name is written in the handle
-    user_required : AreRequired user_files user_keys (turn_handles (turned user_ordered)) ((0, at 64 65) ∷ [])
+    pub user_required : AreRequired user_files user_keys (turn_handles (turned user_ordered)) ((0, at 64 65) ∷ [])
     user_required = required_more user_files user_keys (in_i, r_id (at 64 65)) (Some (0, at 64 65)) [] [] (in_c, codes "r", used_ends, refl, refl) (required_none user_files user_keys)
 
   -- type t = u8; f: func(x: borrow<t>);

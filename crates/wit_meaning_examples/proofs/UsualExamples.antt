@@ -44,6 +44,7 @@ use Rattle.wit_package_names.specs.declared.package_name.PackageName.{PackageNam
 use Rattle.wit_model.specs.declared.ast_item.AstItem.TheVariants as entry
 use Rattle.wit_functions.specs.declared.function.Function.{Function}
 use Rattle.wit_functions.specs.declared.function.FunctionKind.TheVariants as function_kind
+use Rattle.wit_model.specs.declared.interface.Interface.{Interface}
 use Rattle.wit_model.specs.declared.unresolved.UnresolvedPackage.{UnresolvedPackage}
 use Rattle.wit_model.specs.declared.world.WorldItem.{WorldItem}
 use Rattle.wit_model.specs.declared.world.WorldItem.TheVariants as item
@@ -87,7 +88,7 @@ nothing = metadata no_docs []
 abbrev io : PackageName
 io = record { namespace = codes "wasi"; name = codes "io"; version = Some release }
 
-abbrev io_error : Address
+abbrev pub io_error : Address
 io_error = ForeignNamed io (codes "error")
 
 abbrev in_streams : Address
@@ -114,7 +115,7 @@ module _ (ptr : Ptr) (alloc : Global) where
   abbrev error_at : Span → Id
   error_at span = id ptr alloc (codes "error") span refl
 
-  abbrev used_error : UseName
+  abbrev pub used_error : UseName
   used_error = record { name = error_at (at 110 115); as_ = None }
 
   abbrev use_error : WrittenUse
@@ -132,7 +133,7 @@ module _ (ptr : Ptr) (alloc : Global) where
     func = record { span = at 147 151; form = form.Plain; params = vec ptr alloc (record { name = id ptr alloc (codes "len") (at 152 155) refl; ty = written.Primitive (at 157 160) primitive.U64 } ∷ []) (lit< tt); result = Some result_type };
   }
 
-  abbrev input : Definition
+  abbrev pub input : Definition
   input = record { docs = no_comments ptr alloc; attributes = unstated ptr alloc; name = id ptr alloc (codes "input") (at 129 134) refl; body = Resource (vec ptr alloc (resource.Method read ∷ []) (lit< tt)) }
 
   -- /// Streams.
@@ -140,7 +141,7 @@ module _ (ptr : Ptr) (alloc : Global) where
   comments = record { docs = vec ptr alloc (record { ref_ptr = (0, 0); now = codes "/// Streams." } ∷ []) (lit< tt); span = at 26 38 }
 
   -- @since(version = 0.2.0) interface streams { .. }
-  abbrev streams : WrittenInterface
+  abbrev pub streams : WrittenInterface
   streams = record { docs = comments; attributes = vec ptr alloc (attribute.Since (at 39 62) version ∷ []) (lit< tt); name = id ptr alloc (codes "streams") (at 73 80) refl; items = vec ptr alloc (interface_item.Use use_error ∷ interface_item.TypeDef input ∷ []) (lit< tt) }
 
   abbrev extern_of : WorldSide → ExternKind → Extern
@@ -156,16 +157,16 @@ module _ (ptr : Ptr) (alloc : Global) where
   abbrev w : WrittenWorld
   w = record { docs = no_comments ptr alloc; attributes = unstated ptr alloc; name = id ptr alloc (codes "w") (at 202 203) refl; items = vec ptr alloc (world_item.Extern import_streams ∷ world_item.Extern export_run ∷ []) (lit< tt) }
 
-  abbrev file : PackageFile
+  abbrev pub file : PackageFile
   file = record { package_id = Some demo; decl_list = record { items = vec ptr alloc (ast.Interface streams ∷ ast.World w ∷ []) (lit< tt) } }
 
-  abbrev files : List PackageFile
+  abbrev pub files : List PackageFile
   files = file ∷ []
 
-  abbrev streams_item : Item
+  abbrev pub streams_item : Item
   streams_item = record { top = top_names file; declared = TheInterface streams }
 
-  abbrev w_item : Item
+  abbrev pub w_item : Item
   w_item = record { top = top_names file; declared = TheWorld w }
 
   -- what is used from wasi:io, where it is visited
@@ -196,7 +197,7 @@ module _ (ptr : Ptr) (alloc : Global) where
   abbrev seen_at : Key → Span → Occurrence
   seen_at key span = record { key = key; span = span; given = Unknown }
 
-  abbrev seen : List Occurrence
+  abbrev pub seen : List Occurrence
   seen = seen_at (Def io_error (codes "error")) (at 110 115)
       ∷ seen_at (Def in_streams (codes "error")) (at 110 115)
       ∷ seen_at (Def in_streams (codes "input")) (at 129 134)
@@ -212,7 +213,7 @@ module _ (ptr : Ptr) (alloc : Global) where
   no_handles = refl
 
   -- the arenas: what is written of streams comes after wasi:io's error
-  abbrev types : List TypeDef
+  abbrev pub types : List TypeDef
   types = named (owner.Interface 0) (codes "error") kind.Unknown nothing (at 110 115)
       ∷ named (owner.Interface 1) (codes "error") (kind.Type_ (type.Id 0)) nothing (at 110 115)
       ∷ named (owner.Interface 1) (codes "input") kind.Resource nothing (at 129 134)
@@ -247,10 +248,10 @@ module _ (ptr : Ptr) (alloc : Global) where
       seen_unnamed (ResultForm false false) End (kind.Result (record { ok = None; err = None })) Unknown (at 248 254) six refl refl tt
 
   -- what is stated of streams
-  abbrev as_stated : Metadata
+  abbrev pub as_stated : Metadata
   as_stated = record { docs = record { contents = Some (codes "Streams.") }; stability = Stable release None; external_id = None }
 
-  stated_of_streams : declared_metadata streams_item.declared ≡ as_stated
+  pub stated_of_streams : declared_metadata streams_item.declared ≡ as_stated
   stated_of_streams = ap (λ (text : List ℕ). metadata (record { contents = Some (joined (text ∷ [])) }) streams.attributes.items) trimmed
 
   -- w has streams at its place, and run
@@ -266,13 +267,19 @@ module _ (ptr : Ptr) (alloc : Global) where
   exported : AreSideItems interfaces w_item.top Exported (side_items w_item) (made_run ∷ []) [] exports
   exported = (1, exports, refl, refl, ([], refl, refl))
 
-  abbrev whole : UnresolvedPackage
+  abbrev pub io_interface : Interface
+  io_interface = record { name = None; types = (codes "error", 0) ∷ []; functions = []; docs = no_docs; stability = Unknown; «package» = None; span = at 97 102; clone_of = None }
+
+  -- streams, where this is stated of it
+  abbrev pub streams_interface : Metadata → Interface
+  streams_interface n = record { name = Some (codes "streams"); types = (codes "error", 1) ∷ (codes "input", 2) ∷ []; functions = (made_read.name, made_read) ∷ []; docs = n.docs; stability = n.stability; «package» = None; span = at 73 80; clone_of = None }
+
+  abbrev pub whole : UnresolvedPackage
   whole = record {
     docs = no_docs;
     name = package_of demo;
     worlds = record { name = codes "w"; imports = imports; exports = exports; «package» = None; docs = no_docs; stability = Unknown; includes = []; span = at 202 203 } ∷ [];
-    interfaces = record { name = None; types = (codes "error", 0) ∷ []; functions = []; docs = no_docs; stability = Unknown; «package» = None; span = at 97 102; clone_of = None }
-        ∷ record { name = Some (codes "streams"); types = (codes "error", 1) ∷ (codes "input", 2) ∷ []; functions = (made_read.name, made_read) ∷ []; docs = as_stated.docs; stability = as_stated.stability; «package» = None; span = at 73 80; clone_of = None } ∷ [];
+    interfaces = io_interface ∷ streams_interface as_stated ∷ [];
     types = types;
     foreign_deps = (io, (codes "error", (entry.Interface 0, Unknown ∷ [])) ∷ []) ∷ [];
     name_span = at 8 23;

@@ -1,8 +1,9 @@
 -- What sources come to: the group that they make, or their refusal; and the JSON of either.
-use Rattle.std.specs.Prelude.{◌≡◌, ℕ, ◌<◌, true, false, List, [], Bool, Option, Some, None}
+use Rattle.std.specs.Prelude.{◌≡◌, ℕ, ◌<◌, ◌≤◌, true, false, List, [], Bool, Option, Some, None, Result, MatchResult}
 use Rattle.json.specs.Json.{Json}
 use Rattle.wit_type_tree.specs.declared.error.ParseError.{ParseError}
 use Rattle.wit_lex.specs.declared.source.Source.{Source}
+use Rattle.wit_lex.specs.declared.source_map.SourceMap.{SourceMap}
 use Rattle.wit_lex.specs.Sources.{IsTooLarge}
 use Rattle.wit_bundle.specs.Laid.{AreLaid, room}
 use Rattle.wit_groups.specs.declared.group.UnresolvedPackageGroup.{UnresolvedPackageGroup}
@@ -17,12 +18,14 @@ use Rattle.wit_outcome.specs.Plain.{IsPlain}
 
 -- the sources of these paths and texts make this group
 pub record IsMade (parts : List (List ℕ × List ℕ)) (g : UnresolvedPackageGroup) : Type 0 where
+  pub fits : room parts ≤ 4294967295
   pub are : AreLaid parts g.source_map.sources.items
   pub group : IsGroup g.source_map.sources.items g.main g.nested
 
 -- they are refused for their first fault, and this is their refusal
 pub record IsDeclined (parts : List (List ℕ × List ℕ)) (p : Plain) : Type 0 where
   pub sources : List Source
+  pub fits : room parts ≤ 4294967295
   pub are : AreLaid parts sources
   pub e : ParseError
   pub refused : IsRefused sources e
@@ -36,6 +39,10 @@ pub record IsTooMuch (parts : List (List ℕ × List ℕ)) (p : Plain) : Type 0 
   pub rule : e.rule ≡ 52
   pub gives : IsTooLarge (room parts) e
   pub plain : IsPlain [] e p
+
+-- a map has the sources of these paths and texts, or is refused since they are too large
+abbrev pub AreMapped : List (List ℕ × List ℕ) → Result SourceMap ParseError → Type 0
+AreMapped parts r = MatchResult r (λ map. (room parts ≤ 4294967295) × AreLaid parts map.sources.items) (IsTooLarge (room parts))
 
 -- what sources of these paths and texts come to
 pub data IsOutcome (parts : List (List ℕ × List ℕ)) : Outcome → Type 0 where

@@ -1,9 +1,7 @@
 //! From sources to the group that they make, or to their refusal.
-ghost use Rattle.std.specs.Prelude.{ℕ, List, IfOk, MatchResult};
-ghost use Rattle.wit_lex.specs.Sources.{IsTooLarge};
+ghost use Rattle.std.specs.Prelude.{ℕ, List, IfOk};
 ghost use Rattle.wit_bundle.specs.Bundle.{sources_of};
-ghost use Rattle.wit_bundle.specs.Laid.{AreLaid, room};
-ghost use Rattle.wit_outcome.specs.Outcome.{IsOutcome, IsOutcomeOf};
+ghost use Rattle.wit_outcome.specs.Outcome.{AreMapped, IsOutcome, IsOutcomeOf};
 
 use crate::plain::{Plain, plain_of};
 use std::alloc::{AllocError, Global};
@@ -38,7 +36,7 @@ fn resolve_map(alloc: Global, map: SourceMap) -> Result<Outcome, AllocError>
 /// `AllocError` if an allocation failed outside the resolver. If one failed in it, that is a refusal,
 /// with the number 45.
 pub fn resolve(alloc: Global, map: ParseResult<SourceMap>) -> Result<Outcome, AllocError>
-    ensures { (parts : List (List ℕ × List ℕ)) → MatchResult map (λ map. AreLaid parts map.sources.items) (λ e. IsTooLarge (room parts) e) → IfOk result (IsOutcome parts) }
+    ensures { (parts : List (List ℕ × List ℕ)) → AreMapped parts map → IfOk result (IsOutcome parts) }
 {
     match map {
         Ok(map) => resolve_map(alloc, map),

@@ -1,7 +1,7 @@
 //! A refusal of sources as plain fields.
 ghost use Rattle.std.specs.Prelude.{◌≡◌, IfNone, IfOk, IfSome};
 ghost use Rattle.wit_lex.specs.declared.source.Source.{Source};
-ghost use Rattle.wit_outcome.specs.Plain.{IsHolding, IsPlain, IsPlaced, no_refusal};
+ghost use Rattle.wit_outcome.specs.Plain.{IsHolding, IsPlain, no_refusal};
 
 use std::alloc::{AllocError, Global};
 use wit_lex::Source;

@@ -1,18 +1,13 @@
 -- What was written stays written where a writer keeps what it holds.
-use Rattle.std.proofs.Common.{◌≡◌, ℕ, List, ◌∙◌, refl, take}
+use Rattle.std.proofs.Common.{◌≡◌, ℕ, List, ◌∙◌, refl, sym, subst, take, take_all, length, arith}
 use Rattle.std.specs.Prelude.{Bool, Option, Some, None, IfSome, is_some, Result, Ok, Err}
 use Rattle.std.specs.Io.KnownBytes.{Appends, Keeps}
 use Rattle.wit_groups.specs.declared.group.UnresolvedPackageGroup.{UnresolvedPackageGroup}
 use Rattle.wit_listing.specs.declared.fault.RunFault.{RunFault}
 use Rattle.wit_listing.specs.declared.fault.RunFault.TheVariants.{Output, Memory}
-use Rattle.wit_listing.specs.Output.{IsWrittenAs}
-use Rattle.wit_lex.specs.declared.source.Source.{Source}
-use Rattle.wit_tool.specs.Run.{IsRun}
-use Rattle.wit_tool.specs.Run.IsRun.{Group, Refusal}
-use Rattle.wit_tool.specs.Answered.{IsAnswered}
-use Rattle.wit_tool.specs.Answered.IsAnswered.{Ran, TooMuch, GivenUp}
+use Rattle.wit_tool.specs.Output.{IsPrinted, Writes, listed_status}
 use Rattle.wit_program.specs.Status.{IsEnded, status_of}
-use Rattle.wit_program.specs.Status.IsEnded.{Listed, Refused, Failed, Unread}
+use Rattle.wit_program.specs.Status.IsEnded.{Printed, Failed, Nothing}
 
 pub keeps_itself : (a : Option (List ℕ)) → Keeps a a
 keeps_itself None = tt
@@ -30,43 +25,31 @@ appends_kept (Some xs) None c text p q = absurd p
 appends_kept (Some xs) (Some ys) None text p q = absurd q
 appends_kept (Some xs) (Some ys) (Some zs) text p q = q ∙ p
 
-pub written_kept : {A : Type 0} (as_stated : A) (IsText : List ℕ → Type 0) (a b c : Option (List ℕ)) (result : Result A RunFault) →
-    IsWrittenAs as_stated IsText a b result → Keeps b c → IsWrittenAs as_stated IsText a c result
-written_kept as_stated IsText a b c (Ok answer) w q = (w.0, w.1, w.2, appends_kept a b c w.1 w.3 q)
-written_kept as_stated IsText a b c (Err Output) w q = (w.0, w.1, (w.2.0, w.2.1, appends_kept a b c (take w.2.0 w.0) w.2.2 q))
-written_kept as_stated IsText a b c (Err Memory) w q = keeps_then a b c w q
-
-pub run_kept : (sources : List Source) (a b c : Option (List ℕ)) (result : Result (Option UnresolvedPackageGroup) RunFault) → IsRun sources a b result → Keeps b c → IsRun sources a c result
-run_kept sources a b c result (Group group is kept written) q = Group group is kept (written_kept _ _ a b c result written q)
-run_kept sources a b c result (Refusal e refused first written) q = Refusal e refused first (written_kept _ _ a b c result written q)
-
-pub answered_kept : (text : List ℕ) (a b c : Option (List ℕ)) (result : Result (Option UnresolvedPackageGroup) RunFault) → IsAnswered text a b result → Keeps b c → IsAnswered text a c result
-answered_kept text a b c result (Ran on) q = Ran (record {
-  sources = on.sources;
-  are = on.are;
-  ran = run_kept on.sources a b c result on.ran q;
-})
-answered_kept text a b c result (TooMuch much) q = TooMuch (record {
-  large = much.large;
-  e = much.e;
-  rule = much.rule;
-  gives = much.gives;
-  written = written_kept _ _ a b c result much.written q;
-})
-answered_kept text a b c result (GivenUp up) q = GivenUp (record { is = up.is; keeps = keeps_then a b c up.keeps q })
+pub writes_kept : (IsOut : ℕ → List ℕ → Type 0) (a b c : Option (List ℕ)) (result : Result (Option UnresolvedPackageGroup) RunFault) → Writes IsOut a b result → Keeps b c → Writes IsOut a c result
+writes_kept IsOut a b c (Ok answer) w q = (w.0, w.1, appends_kept a b c w.0 w.2 q)
+writes_kept IsOut a b c (Err Output) w q = (w.0, w.1, w.2, (w.3.0, w.3.1, appends_kept a b c (take w.3.0 w.1) w.3.2 q))
+writes_kept IsOut a b c (Err Memory) w q = keeps_then a b c w q
 
 -- an answer that went out whole
-pub ended : (E : Type 0) (text : List ℕ) (a b : Option (List ℕ)) (listed : Option UnresolvedPackageGroup) → IsAnswered text a b (Ok listed) →
-    IsEnded text a b (status_of {E = E} (Ok (is_some listed)))
-ended E text a b (Some group) answered = Listed group answered
-ended E text a b None answered = Refused answered
+pub ended : (E : Type 0) (text : List ℕ) (a b : Option (List ℕ)) (listed : Option UnresolvedPackageGroup) → Writes (IsPrinted text) a b (Ok listed) → IsEnded text a b (status_of {E = E} (Ok (is_some listed)))
+ended E text a b (Some group) w = Printed w.0 w.1 w.2
+ended E text a b None w = Printed w.0 w.1 w.2
 
 -- one that may not have
-pub failed : {E : Type 0} (text : List ℕ) (a b : Option (List ℕ)) (result : Result (Option UnresolvedPackageGroup) RunFault) (r : Result Bool E) (e : E) → r ≡ Err e →
-    IsAnswered text a b result → IsEnded text a b (status_of r)
-failed text a b result r e is answered = rw is (Failed result answered)
+part : (text : List ℕ) (a b : Option (List ℕ)) (result : Result (Option UnresolvedPackageGroup) RunFault) → Writes (IsPrinted text) a b result → IsEnded text a b 2
+part text a b (Ok answer) w = Failed refl (listed_status answer) w.0 (length w.0) w.1 (subst (Appends a b) (sym (take_all (length w.0) w.0 (omega arith))) w.2)
+part text a b (Err Output) w = Failed refl w.0 w.1 w.3.0 w.2 w.3.2
+part text a b (Err Memory) w = Nothing refl w
+
+pub failed : {E : Type 0} (text : List ℕ) (a b : Option (List ℕ)) (result : Result (Option UnresolvedPackageGroup) RunFault) (r : Result Bool E) (e : E) → r ≡ Err e → Writes (IsPrinted text) a b result → IsEnded text a b (status_of r)
+failed text a b result r e is w = rw is (part text a b result w)
+
+-- the text that a reader gave
+pub of_read : (known : Option (List ℕ)) (bytes text : List ℕ) (a b : Option (List ℕ)) (status : ℕ) → IfSome known (λ xs. bytes ≡ xs) → text ≡ bytes → IsEnded text a b status → IfSome known (λ xs. IsEnded xs a b status)
+of_read None bytes text a b status read same it = tt
+of_read (Some xs) bytes text a b status read same it = subst (λ (t : List ℕ). IsEnded t a b status) (same ∙ read) it
 
 -- none
 pub unread : {E : Type 0} (known a : Option (List ℕ)) (r : Result Bool E) (e : E) → r ≡ Err e → IfSome known (λ text. IsEnded text a a (status_of r))
 unread None a r e is = tt
-unread (Some text) a r e is = rw is (Unread (keeps_itself a))
+unread (Some text) a r e is = rw is (Nothing refl (keeps_itself a))

@@ -1,2 +1,3 @@
+pub mod FaultLine
+pub mod Output
 pub mod Run
-pub mod Answered

@@ -1,10 +1,11 @@
--- What a run writes: the listing of the group that sources make, or why they make none.
+-- What a run writes, and the group that it gives.
 use Rattle.std.specs.Prelude.{◌≡◌, ℕ, List, Option, Some, None, Result}
 use Rattle.wit_type_tree.specs.declared.error.ParseError.{ParseError}
 use Rattle.wit_lex.specs.declared.source.Source.{Source}
+use Rattle.wit_bundle.specs.Bundle.{sources_of}
+use Rattle.wit_bundle.specs.Laid.{AreLaid}
 use Rattle.wit_groups.specs.declared.group.UnresolvedPackageGroup.{UnresolvedPackageGroup}
-use Rattle.wit_groups.specs.Groups.{IsGroup, IsRefused}
-use Rattle.wit_groups.specs.SourceFaults.{StatesFirst}
+use Rattle.wit_groups.specs.Groups.{IsGroup}
 use Rattle.wit_listing.specs.declared.fault.RunFault.{RunFault}
 use Rattle.wit_listing.specs.Output.{IsWrittenAs}
 use Rattle.wit_listing.specs.Listing.{listing_text}
@@ -18,7 +19,12 @@ IsListed group old new result = IsWrittenAs (Some group) (λ text. text ≡ list
 abbrev pub IsRefusalWritten : List Source → ParseError → Option (List ℕ) → Option (List ℕ) → Result (Option UnresolvedPackageGroup) RunFault → Type 0
 IsRefusalWritten sources e old new result = IsWrittenAs None (IsErrorLine sources e) old new result
 
--- the sources make a group and its listing was written, or they are refused for their first fault and the line of that was
-pub data IsRun (sources : List Source) (old new : Option (List ℕ)) (result : Result (Option UnresolvedPackageGroup) RunFault) : Type 0 where
-  Group : (group : UnresolvedPackageGroup) → IsGroup sources group.main group.nested → group.source_map.sources.items ≡ sources → IsListed group old new result → IsRun sources old new result
-  Refusal : (e : ParseError) → IsRefused sources e → StatesFirst sources e → IsRefusalWritten sources e old new result → IsRun sources old new result
+-- the group is that of these sources
+pub record IsGroupOf (sources : List Source) (group : UnresolvedPackageGroup) : Type 0 where
+  pub are : group.source_map.sources.items ≡ sources
+  pub made : IsGroup sources group.main group.nested
+
+-- the group is that of the sources of the text
+pub record IsTextGroup (text : List ℕ) (group : UnresolvedPackageGroup) : Type 0 where
+  pub are : AreLaid (sources_of text) group.source_map.sources.items
+  pub made : IsGroup group.source_map.sources.items group.main group.nested

@@ -1,5 +1,7 @@
 //! Answering a text.
-ghost use Rattle.wit_tool.specs.Answered.{IsAnswered};
+ghost use Rattle.std.specs.Prelude.{IfOk, IfSome};
+ghost use Rattle.wit_tool.specs.Output.{IsPrinted, Writes};
+ghost use Rattle.wit_tool.specs.Run.{IsTextGroup};
 
 use crate::running::run;
 use std::alloc::Global;
@@ -25,7 +27,8 @@ pub fn answer_text<W: Write>(
     text: &str,
     out: &mut W,
 ) -> Result<Option<UnresolvedPackageGroup>, RunFault>
-    ensures { IsAnswered text.now (W.contents out.old) (W.contents out.new) result }
+    ensures output { Writes (IsPrinted text.now) (W.contents out.old) (W.contents out.new) result }
+    ensures group { IfOk result (λ listed. IfSome listed (IsTextGroup text.now)) }
 {
     match bundle(alloc, text) {
         Ok(map) => run(alloc, map, out),

@@ -1,8 +1,9 @@
 //! From sources to what is written of them.
-ghost use Rattle.std.specs.Prelude.{◌≡◌};
+ghost use Rattle.std.specs.Prelude.{◌≡◌, IfOk, IfSome};
 ghost use Rattle.wit_listing.specs.Listing.{listing_text};
 ghost use Rattle.wit_listing.specs.Output.{IsWritten};
-ghost use Rattle.wit_tool.specs.Run.{IsListed, IsRefusalWritten, IsRun};
+ghost use Rattle.wit_tool.specs.Output.{IsSourcesOutput, OrMemory, Writes};
+ghost use Rattle.wit_tool.specs.Run.{IsGroupOf, IsListed, IsRefusalWritten};
 
 use std::alloc::Global;
 use std::io::Write;
@@ -68,7 +69,8 @@ pub fn run<W: Write>(
     map: SourceMap,
     out: &mut W,
 ) -> Result<Option<UnresolvedPackageGroup>, RunFault>
-    ensures { IsRun map.sources.items (W.contents out.old) (W.contents out.new) result }
+    ensures output { Writes (OrMemory (IsSourcesOutput map.sources.items)) (W.contents out.old) (W.contents out.new) result }
+    ensures group { IfOk result (λ listed. IfSome listed (IsGroupOf map.sources.items)) }
 {
     match UnresolvedPackageGroup::from_sources(alloc, map) {
         Ok(group) => list(alloc, group, out),

@@ -10,4 +10,4 @@ returns-in_err-push-clause-too_large c =
 pub loop-rest-preserved : goal.loop-rest-preserved
 loop-rest-preserved c =
     let pushed = c.in_ok-push.ensures.sources in
-    paired_after _ _ _ (paired_more _ _ _ _ _ _ pushed.0 (paired_rest _ _ _ _ c.loop-rest.invariant (first_two c.loop-rest.rest.now _ c.loop-rest-test.true)) pushed.1 pushed.2)
+    paired_after _ _ _ (paired_more _ _ _ _ _ _ pushed.0 (paired_rest _ _ _ _ c.loop-rest.invariant (first_two c.loop-rest.rest.now _ c.loop-rest-test.true)) pushed.1 pushed.2 c.in_ok-push.ensures.fits)

@@ -23,3 +23,4 @@ loop-rest-preserved c =
     c.prefix_of-in-Some.ensures.parts
     pushed.1
     pushed.2
+    c.in_ok-push.ensures.fits

@@ -1,4 +1,4 @@
-use Rattle.wit_group_walk.proofs.Lines.{text_is as law}
+use Rattle.wit_tool.proofs.FaultLines.{text_is as law}
 use Rattle.wit_group_walk.proofs.laws.text_is_of_fault.Goals as goal
 
 pub returns : goal.returns

@@ -1,0 +1,5 @@
+use Rattle.wit_group_walk.proofs.LaidSources.{one_laid_had as law}
+use Rattle.wit_group_walk.proofs.laws.one_first_of_laid.Goals as goal
+
+pub returns : goal.returns
+returns c = law
