@@ -1,0 +1,13 @@
+pub mod Values
+pub mod Sorting
+pub mod Outcomes
+pub mod Walks
+pub mod Lines
+pub mod Refusals
+pub mod BrokenRules
+pub mod Making
+pub mod TwoFields
+pub mod TwoPackages
+pub mod UsedNames
+pub mod BorrowedType
+pub mod UsualPackage
