@@ -133,5 +133,5 @@ module _ (ptr : Ptr) (alloc : Global) where
   unfolding digits
   listed = refl
 
-  pub row_19 : IsOutput text 0 listing
-  row_19 = OfSources (lit≤ tt) (own_source ∷ []) (record { are = refl }) (Listing (Tree tree ∷ []) faultless made [] (record { whole = package_made; each = tt }) refl listed)
+  pub borrowed_output : IsOutput text 0 listing
+  borrowed_output = OfSources (lit≤ tt) (own_source ∷ []) (record { are = refl }) (Listing (Tree tree ∷ []) faultless made [] (record { whole = package_made; each = tt }) refl listed)

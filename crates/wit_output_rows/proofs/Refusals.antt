@@ -48,8 +48,8 @@ headerless sources = (None, (λ placed i s present lies. (let f : ⊥ = cc in f)
 nothing_first : IsFirstOfSources [] [] no_header
 nothing_first = record { ordered = []; by_path = none_by_path; walk = a_walk.0; walks = a_walk.1; is = joined_fault a_walk.0 [] no_header (walks_to a_walk.0 a_walk.1 [] (Some no_header) (λ steps. refl)) }
 
-pub row_17_nothing : IsOutput [] 1 headerless_line
-row_17_nothing = OfSources (lit≤ tt) [] (record { are = refl }) (Line [] no_header nothing_first refl (headerless []))
+pub nothing_output : IsOutput [] 1 headerless_line
+nothing_output = OfSources (lit≤ tt) [] (record { are = refl }) (Line [] no_header nothing_first refl (headerless []))
 
 -- wherever texts and vectors lie
 module _ (ptr : Ptr) (alloc : Global) where
@@ -81,8 +81,8 @@ module _ (ptr : Ptr) (alloc : Global) where
   alone_first : IsFirstOfSources (alone_source ∷ []) (Tree alone_tree ∷ []) no_header
   alone_first = only_first alone_source alone_tree no_header (read_is_spelled alone 0 (see_file alone_tree) alone_read) refl (walks_to a_walk.0 a_walk.1 (alone_tree.file ∷ []) (Some no_header) (λ steps. refl))
 
-  pub row_17_alone : IsOutput alone 1 headerless_line
-  row_17_alone = OfSources (lit≤ tt) (alone_source ∷ []) (record { are = refl }) (Line (Tree alone_tree ∷ []) no_header alone_first refl (headerless (alone_source ∷ [])))
+  pub headerless_output : IsOutput alone 1 headerless_line
+  headerless_output = OfSources (lit≤ tt) (alone_source ∷ []) (record { are = refl }) (Line (Tree alone_tree ∷ []) no_header alone_first refl (headerless (alone_source ∷ [])))
 
   -- a text that ends too early
   abbrev cut : List ℕ
@@ -99,8 +99,8 @@ module _ (ptr : Ptr) (alloc : Global) where
   unfolding digits
   cut_line = (Some (place (codes "stdin.wit") []), placed (cut_source ∷ []) 0 cut_source 47 (at 30 30) (codes "stdin.wit") [] refl refl (located cut_source (at 30 30) refl (lit≤ tt) (lit≤ tt) (lit≤ tt) refl), refl)
 
-  pub row_23_end : IsOutput cut 1 (codes "error E47 stdin.wit \"\": unexpected token\n")
-  row_23_end = OfSources (lit≤ tt) (cut_source ∷ []) (record { are = refl }) (Line (Stop (stop_fault 0 Token 30 30) ∷ []) (stop_fault 0 Token 30 30) (stopped_first cut_source Token 30 30 cut_stops) refl cut_line)
+  pub cut_output : IsOutput cut 1 (codes "error E47 stdin.wit \"\": unexpected token\n")
+  cut_output = OfSources (lit≤ tt) (cut_source ∷ []) (record { are = refl }) (Line (Stop (stop_fault 0 Token 30 30) ∷ []) (stop_fault 0 Token 30 30) (stopped_first cut_source Token 30 30 cut_stops) refl cut_line)
 
   -- a comment that does not end
   abbrev endless : List ℕ
@@ -117,8 +117,8 @@ module _ (ptr : Ptr) (alloc : Global) where
   unfolding digits
   endless_line = (Some (place (codes "stdin.wit") (codes "/*")), placed (endless_source ∷ []) 0 endless_source 48 (at 0 2) (codes "stdin.wit") (codes "/*") refl refl (located endless_source (at 0 2) refl (lit≤ tt) (lit≤ tt) (lit≤ tt) refl), refl)
 
-  pub row_23_comment : IsOutput endless 1 (codes "error E48 stdin.wit \"/*\": unterminated block comment\n")
-  row_23_comment = OfSources (lit≤ tt) (endless_source ∷ []) (record { are = refl }) (Line (Stop (stop_fault 0 Comment 0 2) ∷ []) (stop_fault 0 Comment 0 2) (stopped_first endless_source Comment 0 2 endless_stops) refl endless_line)
+  pub endless_output : IsOutput endless 1 (codes "error E48 stdin.wit \"/*\": unterminated block comment\n")
+  endless_output = OfSources (lit≤ tt) (endless_source ∷ []) (record { are = refl }) (Line (Stop (stop_fault 0 Comment 0 2) ∷ []) (stop_fault 0 Comment 0 2) (stopped_first endless_source Comment 0 2 endless_stops) refl endless_line)
 
   -- the old word of a type
   abbrev old_word : List ℕ
@@ -147,8 +147,8 @@ module _ (ptr : Ptr) (alloc : Global) where
   unfolding digits
   old_line = (Some (place (codes "stdin.wit") (codes "float32")), placed (old_source ∷ []) 0 old_source 15 (at 40 47) (codes "stdin.wit") (codes "float32") refl refl (located old_source (at 40 47) refl (lit≤ tt) (lit≤ tt) (lit≤ tt) refl), refl)
 
-  pub row_20_hint : IsOutput old_word 1 old_words
-  row_20_hint = OfSources (lit≤ tt) (old_source ∷ []) (record { are = refl }) (Line (Tree old_tree ∷ []) (missing_type_at float32) old_first refl old_line)
+  pub hint_output : IsOutput old_word 1 old_words
+  hint_output = OfSources (lit≤ tt) (old_source ∷ []) (record { are = refl }) (Line (Tree old_tree ∷ []) (missing_type_at float32) old_first refl old_line)
 
   -- two sources, the second of which has a name that is missing
   abbrev first_text : List ℕ
@@ -205,8 +205,8 @@ module _ (ptr : Ptr) (alloc : Global) where
   unfolding digits
   missing_line = (Some (place (codes "b.wit") (codes "nonexistent")), placed (first_source ∷ second_source ∷ []) 1 second_source 15 (at 56 67) (codes "b.wit") (codes "nonexistent") refl refl (located second_source (at 56 67) refl (lit≤ tt) (lit≤ tt) (lit≤ tt) refl), refl)
 
-  pub row_7 : IsOutput (codes "=== a.wit\npackage foo:foo; interface a {}\n=== b.wit\ninterface b { type t = nonexistent; }") 1 missing_words
-  row_7 = OfSources (lit≤ tt) (first_source ∷ second_source ∷ []) (record { are = refl }) (Line (Tree first_tree ∷ Tree second_tree ∷ []) missing missing_first refl missing_line)
+  pub missing_type_output : IsOutput (codes "=== a.wit\npackage foo:foo; interface a {}\n=== b.wit\ninterface b { type t = nonexistent; }") 1 missing_words
+  missing_type_output = OfSources (lit≤ tt) (first_source ∷ second_source ∷ []) (record { are = refl }) (Line (Tree first_tree ∷ Tree second_tree ∷ []) missing missing_first refl missing_line)
 
   -- two sources with headers of two packages
   abbrev short_text : List ℕ
@@ -260,5 +260,5 @@ module _ (ptr : Ptr) (alloc : Global) where
   unfolding digits
   other_line = (Some (place (codes "b.wit") (codes "foo:foo@1.0.0")), placed (short_source ∷ other_source ∷ []) 1 other_source 1 (at 26 39) (codes "b.wit") (codes "foo:foo@1.0.0") refl refl (located other_source (at 26 39) refl (lit≤ tt) (lit≤ tt) (lit≤ tt) refl), refl)
 
-  pub row_21 : IsOutput (codes "=== a.wit\npackage foo:foo;\n=== b.wit\npackage foo:foo@1.0.0;") 1 other_words
-  row_21 = OfSources (lit≤ tt) (short_source ∷ other_source ∷ []) (record { are = refl }) (Line (Tree short_tree ∷ Tree other_tree ∷ []) other_package other_first refl other_line)
+  pub other_package_output : IsOutput (codes "=== a.wit\npackage foo:foo;\n=== b.wit\npackage foo:foo@1.0.0;") 1 other_words
+  other_package_output = OfSources (lit≤ tt) (short_source ∷ other_source ∷ []) (record { are = refl }) (Line (Tree short_tree ∷ Tree other_tree ∷ []) other_package other_first refl other_line)

@@ -110,5 +110,5 @@ module _ (ptr : Ptr) (alloc : Global) where
   unfolding digits
   fields_listed = refl
 
-  pub row_4 : IsOutput fields_text 0 fields_listing
-  row_4 = OfSources (lit≤ tt) (fields_source ∷ []) (record { are = refl }) (Listing (Tree fields_tree ∷ []) fields_faultless fields_package [] (record { whole = fields_made; each = tt }) refl fields_listed)
+  pub fields_output : IsOutput fields_text 0 fields_listing
+  fields_output = OfSources (lit≤ tt) (fields_source ∷ []) (record { are = refl }) (Listing (Tree fields_tree ∷ []) fields_faultless fields_package [] (record { whole = fields_made; each = tt }) refl fields_listed)

@@ -175,5 +175,5 @@ module _ (ptr : Ptr) (alloc : Global) where
   unfolding digits
   listed = refl
 
-  pub row_22 : IsOutput text 0 listing
-  row_22 = OfSources (lit≤ tt) (own_source ∷ []) (record { are = refl }) (Listing (Tree tree ∷ []) faultless (made a_b j_name) (made c_d i_name ∷ []) (record { whole = own_made; each = (nested_made, tt) }) refl listed)
+  pub two_packages_output : IsOutput text 0 listing
+  two_packages_output = OfSources (lit≤ tt) (own_source ∷ []) (record { are = refl }) (Listing (Tree tree ∷ []) faultless (made a_b j_name) (made c_d i_name ∷ []) (record { whole = own_made; each = (nested_made, tt) }) refl listed)

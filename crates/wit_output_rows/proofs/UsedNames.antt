@@ -109,5 +109,5 @@ module _ (ptr : Ptr) (alloc : Global) where
   unfolding digits
   listed = refl
 
-  pub row_5 : IsOutput text 0 listing
-  row_5 = OfSources (lit≤ tt) (own_source ∷ []) (record { are = refl }) (Listing (Tree tree ∷ []) faultless made [] (record { whole = package_made; each = tt }) refl listed)
+  pub ordered_output : IsOutput text 0 listing
+  ordered_output = OfSources (lit≤ tt) (own_source ∷ []) (record { are = refl }) (Listing (Tree tree ∷ []) faultless made [] (record { whole = package_made; each = tt }) refl listed)

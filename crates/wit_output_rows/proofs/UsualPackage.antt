@@ -111,5 +111,5 @@ module _ (ptr : Ptr) (alloc : Global) where
   unfolding digits
   listed = refl
 
-  pub row_25 : IsOutput text 0 listing
-  row_25 = OfSources (lit≤ tt) (own_source ∷ []) (record { are = refl }) (Listing (Tree tree ∷ []) faultless (whole ptr alloc) [] (record { whole = package_made; each = tt }) refl listed)
+  pub usual_output : IsOutput text 0 listing
+  usual_output = OfSources (lit≤ tt) (own_source ∷ []) (record { are = refl }) (Listing (Tree tree ∷ []) faultless (whole ptr alloc) [] (record { whole = package_made; each = tt }) refl listed)
