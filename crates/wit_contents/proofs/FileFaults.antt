@@ -1,6 +1,6 @@
 -- The first fault of files from a step of the walk on: of their names, of uses, and of what is in interfaces and worlds.
-use Rattle.std.proofs.Common.{◌≡◌, ℕ, List, Option, Some, None, inl, inr, refl, sym, ap, ◌∙◌, subst}
-use Rattle.std.specs.Prelude.{Result, Ok, Err, IfErr}
+use Rattle.std.proofs.Common.{◌≡◌, ◌⊎◌, ℕ, List, Option, Some, None, inl, inr, refl, sym, ap, ◌∙◌, subst}
+use Rattle.std.specs.Prelude.{Result, Ok, Err, IfErr, IsErrAnd}
 use Rattle.std.specs.Option.{option_or}
 use Rattle.wit_type_tree.specs.RefusalText.{IsAllocationFailure}
 use Rattle.wit_type_tree.specs.declared.error.ParseError.{ParseError}
@@ -16,7 +16,7 @@ use Rattle.wit_first.specs.FileFaults.{files_fault, tops_fault, visits_fault}
 use Rattle.wit_first.specs.NameFaults.{item_names_fault}
 use Rattle.wit_first.specs.OrderFaults.{IsNamesFault, IsOrderFault, IsOrderedFault, names_prefix}
 use Rattle.wit_first.specs.UseFaults.{all_uses_fault}
-use Rattle.wit_first.proofs.First.{or_none, reports_back, reports_prefix, reports_same}
+use Rattle.wit_first.proofs.First.{or_assoc, or_none, reports_back, reports_prefix, reports_same}
 use Rattle.wit_first.proofs.OrderFaults.{or_is, or_neither}
 use Rattle.wit_walk.specs.Orders.{AtCycle, AtMissing, InOrder, IsOutcome, Outcome, order_fault, order_of}
 use Rattle.wit_walk.specs.Walk.{Known, contents_fault}
@@ -33,11 +33,7 @@ order_said lost round rs o (Some f) is h = elim h [
 
 -- a fault of what comes first, or none, before the rest
 in_front : (a b c d e rest : Option Fault) → option_or (option_or a (option_or b c)) (option_or (option_or d e) rest) ≡ option_or a (option_or b (option_or c (option_or d (option_or e rest))))
-in_front (Some x) b c d e rest = refl
-in_front None (Some x) c d e rest = refl
-in_front None None (Some x) d e rest = refl
-in_front None None None (Some x) e rest = refl
-in_front None None None None e rest = refl
+in_front a b c d e rest = simp or_assoc
 
 module _ (files : List PackageFile) (known : Known) (is : IsRight files known) where
   abbrev outcome : Outcome
@@ -111,3 +107,13 @@ finds_same r same h = subst (λ (o : Option Fault). Finds o r) same h
 pub finds_memory : {T : Type 0} (first : Option Fault) (r : Result T ParseError) → first ≡ None → IfErr r IsAllocationFailure → Finds first r
 finds_memory first (Ok x) none h = none
 finds_memory first (Err e) none h = inl h
+
+-- or one that failed to allocate
+pub memory_found : {T : Type 0} {first : Option Fault} (r : Result T ParseError) → IsErrAnd r IsAllocationFailure → Finds first r
+memory_found (Ok x) h = absurd h
+memory_found (Err e) h = inl h
+
+-- or what is found of something else
+pub or_found : {A B C : Type 0} → A ⊎ B → (B → C) → A ⊎ C
+or_found (inl memory) found = inl memory
+or_found (inr b) found = inr (found b)

@@ -25,12 +25,12 @@ use Rattle.wit_front.specs.ForeignPrefix.{addresses_among, AreAdded, HasUsed, Is
 
 module _ (files : List PackageFile) (es : List TypeDef) (is : List Interface) (ws : List World) (adds : AddsForeign files es is ws) where
   -- nothing in front goes by a name
-  pub prefix_index : IsIndex (resolved_scopes (map visited (foreign_interfaces files)) is) []
-  prefix_index = index_prefix (map visited (foreign_interfaces files)) is (adds.interfaces.count ∙ sym (length-map (foreign_interfaces files) visited)) (visited_foreign (foreign_interfaces files))
+  pub prefix_index : (by_name : Names) → by_name ≡ [] → IsIndex (resolved_scopes (prefix_of files) is) by_name
+  prefix_index by_name none = rw none (index_prefix (prefix_of files) is (adds.interfaces.count ∙ sym (length-map (foreign_interfaces files) visited)) (visited_foreign (foreign_interfaces files)))
 
-  pub prefix_worlds_index : IsWorldIndex (worlds_at (map visited (foreign_worlds files)) ws) []
+  pub prefix_worlds_index : IsWorldIndex (worlds_at (others_of files) ws) []
   prefix_worlds_index =
-      let ss = map visited (foreign_worlds files) in
+      let ss = others_of files in
       let all : worlds_at ss ws ≡ ss = ap (worlds_at ss) (sym (append-nil ws)) ∙ worlds_at-append ss ws [] (adds.worlds.count ∙ sym (length-map (foreign_worlds files) visited)) ∙ append-nil ss in
       subst (λ l. IsWorldIndex l []) (sym all) (world_index_prefix ss (visited_foreign (foreign_worlds files)))
 
@@ -38,8 +38,8 @@ module _ (files : List PackageFile) (es : List TypeDef) (is : List Interface) (w
   pub interfaces_enough : length (prefix_of files) ≤ length is
   interfaces_enough = omega (arith, adds.interfaces.count, length-map (foreign_interfaces files) visited)
 
-  pub others_enough : length (map visited (foreign_worlds files)) ≤ length ws
-  others_enough = omega (arith, adds.worlds.count, length-map (foreign_worlds files) visited)
+  pub worlds_enough : length (others_of files) ≤ length ws
+  worlds_enough = omega (arith, adds.worlds.count, length-map (foreign_worlds files) visited)
 
 -- the items of other packages before anything is taken from them
 bare : (files : List PackageFile) (vs : List Borrowed) (types : List TypeDef) (a : ForeignArenas) → map foreign_view vs ≡ foreign_items files → types ≡ [] → AreAdded (map foreign_view vs) [] [] a → AreAdded (foreign_items files) [] types a
@@ -59,17 +59,3 @@ module _ (files : List PackageFile) (vs : List Borrowed) (types : List TypeDef) 
   -- once all are taken, they are what comes first
   pub prefix_used : (types' : List TypeDef) (a' : ForeignArenas) → map names_view items ≡ map scope_names (all_items files) → ((side : WorldSide) → map (inside_view side) items ≡ map (names_written side) (all_items files)) → ((fs : List PackageFile) → AreAdded (foreign_items fs) [] types a → AreItemsPlaced (addresses_among (foreign_items fs)) borrowed → map names_view borrowed ≡ map scope_names (all_items fs) → ((side : WorldSide) → map (inside_view side) borrowed ≡ map (names_written side) (all_items fs)) → IsPrefix fs types' a') → IsPrefix files types' a'
   prefix_used types' a' names inside in_use = in_use files (bare files vs types a all empty made) (subst (AreItemsPlaced (map visited (foreign_interfaces files))) (sym lent) placed) (ap (map names_view) lent ∙ names) (λ side. ap (map (inside_view side)) lent ∙ inside side)
-
--- where what comes first was made
-module _ (files : List PackageFile) (types : List TypeDef) (a : ForeignArenas) (prefix : IsPrefix files types a) where
-  pub lent_enough : length (prefix_of files) ≤ length a.interfaces
-  lent_enough = interfaces_enough files types a.interfaces a.worlds prefix.adds
-
-  pub lent_index : (by_name : Names) → by_name ≡ [] → IsIndex (resolved_scopes (prefix_of files) a.interfaces) by_name
-  lent_index by_name none = subst (IsIndex (resolved_scopes (prefix_of files) a.interfaces)) (sym none) (prefix_index files types a.interfaces a.worlds prefix.adds)
-
-  pub worlds_enough : length (others_of files) ≤ length a.worlds
-  worlds_enough = others_enough files types a.interfaces a.worlds prefix.adds
-
-  pub worlds_index : (by_name : Names) → by_name ≡ [] → IsWorldIndex (worlds_at (others_of files) a.worlds) by_name
-  worlds_index by_name none = subst (IsWorldIndex (worlds_at (others_of files) a.worlds)) (sym none) (prefix_worlds_index files types a.interfaces a.worlds prefix.adds)

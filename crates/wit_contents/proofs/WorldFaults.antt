@@ -1,10 +1,11 @@
 -- The first fault of a world: of its attributes, of its names, of its includes, or of what is on its sides.
-use Rattle.std.proofs.Common.{◌≡◌, ℕ, ◌+◌, Bool, true, List, [], ◌∷◌, ◌++◌, drop, length, map, take, Option, Some, None, refl, sym, ap, ◌∙◌, subst, arith}
+use Rattle.std.proofs.Common.{◌≡◌, ℕ, ◌+◌, Bool, true, List, [], ◌∷◌, ◌++◌, drop, length, map, take, Option, Some, None, refl, sym, ap, ◌∙◌, subst, arith, All, ◌<◌, get_or}
 use Rattle.std.specs.Prelude.{if◌then◌else◌, slice_get}
 use Rattle.std.specs.List.{filter}
-use Rattle.std.specs.Option.{option_or}
+use Rattle.std.specs.Option.{option_map, option_or}
 use Rattle.std.proofs.lemmas.List.{append-nil, take-append-drop, take_all}
 use Rattle.std.proofs.lemmas.List.Elements.{filter-append, filter_map-append}
+use Rattle.std.proofs.lemmas.Option.{slice_get-get_or, slice_get-map}
 use Rattle.wit_type_tree.specs.declared.error.ParseError.{ParseError}
 use Rattle.wit_type_tree.specs.declared.leaves.Id.{Id}
 use Rattle.wit_tree.specs.declared.tree.Include.{Include}
@@ -17,9 +18,9 @@ use Rattle.wit_syntax.specs.Address.{Address}
 use Rattle.wit_syntax.specs.Fault.{Fault}
 use Rattle.wit_syntax.specs.Function.{SourceFunction, functions}
 use Rattle.wit_syntax.specs.Repeats.{AllDiffer}
-use Rattle.wit_syntax.specs.ScopeTables.{in_order, in_turn, includes, rows_of, worlds_of}
+use Rattle.wit_syntax.specs.ScopeTables.{in_order, in_turn, includes, rows_of}
 use Rattle.wit_syntax.specs.Sides.{side_items}
-use Rattle.wit_syntax.specs.Source.{Item, ScopeName, is_world, local_id, scope_names}
+use Rattle.wit_syntax.specs.Source.{Item, ScopeName, local_id, scope_names}
 use Rattle.wit_syntax.proofs.Kept.{kept_next}
 use Rattle.wit_first.specs.First.{Reports, first_after, first_in}
 use Rattle.wit_first.proofs.Clashes.{no_clashes}
@@ -38,7 +39,9 @@ use Rattle.wit_items.specs.ResolvedInterfaces.{resolved_scopes_of}
 use Rattle.wit_items.specs.declared.interfaces.Interfaces.{Interfaces}
 use Rattle.wit_items.specs.declared.items.Item.{Item as BorrowedItem}
 use Rattle.wit_world_sides.specs.Settled.{none_of}
+use Rattle.wit_world_sides.specs.Members.{AreKeyed}
 use Rattle.wit_links.specs.Includes.{includes_fault}
+use Rattle.wit_links.specs.SideCounts.{IsSeen}
 use Rattle.wit_links.specs.declared.worlds.Worlds.{Worlds}
 use Rattle.wit_item_entries.specs.AddedNames.{AddsTurn}
 use Rattle.wit_item_entries.specs.ReachedFaults.{HaveNames, IsNamesFault, item_stability, names_fault}
@@ -68,8 +71,8 @@ turn_differs w start is =
     no_clashes name_key again names (subst (λ (l : List Name). AllDiffer (map name_key l)) (is.in_use Imported) (is.keyed.differ Imported))
 
 -- at first all of what is on the sides comes next
-abbrev pub next_all : (w : ItemWalk) (start : Walked) → IsWalk w → IsStart w start → IsNext w (side_items (walk_item w)) start
-next_all w start walk is = record { walk = walk; prefix = []; rest = []; sides = sym (append-nil (side_items (walk_item w))); seen = is.seen; keyed = is.keyed }
+abbrev pub next_all : (w : ItemWalk) (m : Walked) → IsWalk w → IsSeen [] m.seen → AreKeyed m.members → IsNext w (side_items (walk_item w)) m
+next_all w m walk seen keyed = record { walk = walk; prefix = []; rest = []; sides = sym (append-nil (side_items (walk_item w))); seen = seen; keyed = keyed }
 
 -- what is found of a walk is found of the world with these names
 module _ (w : Walk) (i : BorrowedItem) (is : Interfaces) (names : ResolvedNames) (old : List TypeDef) (inside : List Interface) (of : IsWalkOf w i is names) (member : MemberTest) (right : AreRightSides member i is names old inside) where
@@ -202,19 +205,29 @@ module _ (ws : Worlds) (i : BorrowedItem) (old : List TypeDef) where
 pub head_fault : (wrong : Item → Option Fault) (ws : Worlds) (old : List TypeDef) (inside : List Interface) (i : BorrowedItem) → IsRightOfWorld wrong ws old inside i → (f : Fault) → IsWorldHeadFault ws old i f → wrong (item_view i) ≡ Some f
 head_fault wrong ws old inside i test f h = test.is ∙ ap (λ (x : Option Fault). option_or x (option_or (first_after test.member [] (side_items (item_view i))) (setters_fault (item_view i)))) (test.fault f h)
 
--- the worlds in an order, up to one, that one, and those after it
-split_worlds : (ws : List Item) (places : List ℕ) (k p : ℕ) (w : Item) → slice_get places k ≡ Some p → slice_get ws p ≡ Some w → is_world w ≡ true → worlds_of (in_order ws places) ≡ (worlds_of (in_order ws (take k places)) ++ w ∷ []) ++ worlds_of (in_order ws (drop (k + 1) places))
-split_worlds ws places k p w next at sort =
+-- a borrowed item, by its place in an order
+pub record IsAt (items : List BorrowedItem) (places : List ℕ) (k : ℕ) (x : BorrowedItem) : Type 0 where
+  pub place : ℕ
+  pub next : slice_get places k ≡ Some place
+  pub own : slice_get items place ≡ Some x
+  pub at : slice_get (map item_view items) place ≡ Some (item_view x)
+
+pub item_at : (items : List BorrowedItem) (places : List ℕ) (k : ℕ) (x : BorrowedItem) → All (λ (place : ℕ). place < length items) places → k < length places → x ≡ get_or items (get_or places k 0) x → IsAt items places k x
+item_at items places k x within lt is =
+    let own : slice_get items (get_or places k 0) ≡ Some x = slice_get-get_or items (get_or places k 0) x (within k 0 lt) ∙ ap Some (sym is) in
+    record { place = get_or places k 0; next = slice_get-get_or places k 0 lt; own = own; at = slice_get-map item_view items (get_or places k 0) ∙ ap (option_map item_view) own }
+
+-- the first fault of items that are kept of an order is that of one, where those before it have none
+pub among_kept : (keep : Item → Bool) (wrong : Item → Option Fault) (ws : List Item) (places : List ℕ) (k p : ℕ) (w : Item) (e : ParseError) → slice_get places k ≡ Some p → slice_get ws p ≡ Some w → keep w ≡ true → first_in wrong (filter keep (in_order ws (take k places))) ≡ None → Reports (wrong w) e → Reports (first_in wrong (filter keep (in_order ws places))) e
+among_kept keep wrong ws places k p w e next at kept none own =
+    let prefix = filter keep (in_order ws (take k places)) in
     let front = take (k + 1) places in
     let back = drop (k + 1) places in
-    ap (λ (l : List ℕ). filter is_world (in_order ws l)) (sym (take-append-drop (k + 1) places))
-    ∙ ap (filter is_world) (filter_map-append (slice_get ws) front back)
-    ∙ filter-append is_world (in_order ws front) (in_order ws back)
-    ∙ ap (λ (l : List Item). l ++ filter is_world (in_order ws back)) (kept_next is_world ws places k p w next at sort)
-
--- the first fault of worlds in an order is that of one, where those before it have none
-pub among_worlds : (wrong : Item → Option Fault) (ws : List Item) (places : List ℕ) (k p : ℕ) (w : Item) (e : ParseError) → slice_get places k ≡ Some p → slice_get ws p ≡ Some w → is_world w ≡ true → first_in wrong (worlds_of (in_order ws (take k places))) ≡ None → Reports (wrong w) e → Reports (first_in wrong (worlds_of (in_order ws places))) e
-among_worlds wrong ws places k p w e next at sort none own =
-    let prefix = worlds_of (in_order ws (take k places)) in
-    let rest = worlds_of (in_order ws (drop (k + 1) places)) in
-    reports_same (sym (ap (first_in wrong) (split_worlds ws places k p w next at sort) ∙ in-append wrong (prefix ++ w ∷ []) rest)) (reports_prefix (first_in wrong rest) (reports_same (sym (in-more wrong prefix w none)) own))
+    let rest = filter keep (in_order ws back) in
+    let split : filter keep (in_order ws places) ≡ (prefix ++ w ∷ []) ++ rest =
+    ap (λ (l : List ℕ). filter keep (in_order ws l)) (sym (take-append-drop (k + 1) places))
+    ∙ ap (filter keep) (filter_map-append (slice_get ws) front back)
+    ∙ filter-append keep (in_order ws front) (in_order ws back)
+    ∙ ap (λ (l : List Item). l ++ rest) (kept_next keep ws places k p w next at kept)
+    in
+    reports_same (sym (ap (first_in wrong) split ∙ in-append wrong (prefix ++ w ∷ []) rest)) (reports_prefix (first_in wrong rest) (reports_same (sym (in-more wrong prefix w none)) own))

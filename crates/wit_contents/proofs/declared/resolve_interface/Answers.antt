@@ -1,4 +1,4 @@
-use Rattle.std.proofs.Common.{Some, length, inl, inr, refl, sym, ap, ◌∙◌}
+use Rattle.std.proofs.Common.{Some, length, inl, refl, sym, ap, ◌∙◌}
 use Rattle.std.proofs.lemmas.Result.{err_from_is_err_and}
 use Rattle.wit_type_tree.specs.declared.leaves.Id.{Id}
 use Rattle.wit_syntax.specs.Source.{Item, is_world, scope_names, about}
@@ -7,6 +7,7 @@ use Rattle.wit_items.specs.BorrowedItems.{item_view}
 use Rattle.wit_items.specs.ResolvedInterfaces.{resolved_scopes_of}
 use Rattle.wit_item_entries.specs.NewRequirements.{Appends}
 use Rattle.wit_contents.specs.InterfaceFaults.{IsLent}
+use Rattle.wit_contents.proofs.FileFaults.{or_found}
 use Rattle.wit_contents.proofs.declared.resolve_interface.Goals as goal
 
 pub interface_of-requires-clause-sort : goal.interface_of-requires-clause-sort
@@ -46,10 +47,7 @@ returns-in_err-interface-clause-first c =
       named = c.scope-scope.ensures.names ∙ c.requires.item.named;
       placed = rw c.scope-scope.ensures.borrowed (c.requires.item.placed.each 0 c.args.item.now refl);
     } in
-    rw (p.1, p.2) (λ test right. elim c.in_err-interface.ensures.first [
-      | inl memory ↦ inl memory
-      | inr wrong ↦ inr (right.fault s _ lent (rw c.next_id-place.ensures at wrong))
-    ])
+    rw (p.1, p.2) (λ test right. or_found c.in_err-interface.ensures.first (λ wrong. right.fault s _ lent (rw c.next_id-place.ensures at wrong)))
 
 pub returns-in_err-add_interface-clause-first : goal.returns-in_err-add_interface-clause-first
 returns-in_err-add_interface-clause-first c =

@@ -1,28 +1,21 @@
-use Rattle.std.proofs.Common.{◌≡◌, ℕ, ◌<◌, ◌+◌, ◌++◌, ◌∷◌, List, [], All, drop, take, length, get_or, true, false, not, Some, refl, ap, sym, ◌∙◌, subst, arith}
-use Rattle.std.specs.Prelude.{slice_get, map}
-use Rattle.std.specs.List.{filter}
-use Rattle.std.proofs.lemmas.List.{take-append-drop, take_all}
-use Rattle.std.proofs.lemmas.List.Elements.{filter-append, filter_map-append}
-use Rattle.std.proofs.lemmas.Option.{slice_get-get_or}
+use Rattle.std.proofs.Common.{◌≡◌, ◌+◌, ◌++◌, ◌∷◌, List, ℕ, [], take, false, not, Some, refl, ap, sym, ◌∙◌, subst, arith}
+use Rattle.std.specs.Prelude.{map}
+use Rattle.std.proofs.lemmas.List.{take_all}
 use Rattle.std.proofs.lemmas.Result.{err_from_is_err_and}
-use Rattle.wit_syntax.specs.Source.{Item, is_world, about}
+use Rattle.wit_syntax.specs.Source.{is_world, about}
 use Rattle.wit_syntax.specs.ScopeTables.{in_order, interfaces_of}
 use Rattle.wit_first.specs.First.{first_in}
-use Rattle.wit_first.proofs.First.{in-append, in-more, reports_prefix, reports_same}
-use Rattle.wit_arena.specs.ResolvedArenas.{AddsDeclared, IsNext}
+use Rattle.wit_first.proofs.First.{in-more}
+use Rattle.wit_arena.specs.ResolvedArenas.{AddsDeclared}
 use Rattle.wit_items.specs.ForeignAddresses.{prefix_of}
 use Rattle.wit_item_entries.specs.NewRequirements.{Appends}
-use Rattle.wit_items.specs.declared.items.Item.{Item as BorrowedItem}
-use Rattle.wit_syntax.proofs.Lists.{read_map}
 use Rattle.wit_syntax.proofs.Kept.{kept_next, kept_past}
 use Rattle.wit_item_entries.proofs.Emitting.{appends_more}
 use Rattle.wit_items.specs.declared.items.Declared.{Declared as BorrowedDeclared}
 use Rattle.wit_items.specs.BorrowedItems.{declared_view, item_view}
+use Rattle.wit_contents.proofs.WorldFaults.{among_kept, item_at}
 use Rattle.wit_contents.proofs.declared.resolve_interfaces.Goals.{in-Interface+in_ok-resolve_interface-in-Interface, in-World, in-Inline}
 use Rattle.wit_contents.proofs.declared.resolve_interfaces.Goals as goal
-
-item_at : (items : List BorrowedItem) (places : List ℕ) (k : ℕ) (x : BorrowedItem) → All (λ (place : ℕ). place < length items) places → k < length places → x ≡ get_or items (get_or places k 0) x → slice_get items (get_or places k 0) ≡ Some x
-item_at items places k x within lt is = slice_get-get_or items (get_or places k 0) x (within k 0 lt) ∙ ap Some (sym is)
 
 pub resolve_interface-requires-clause-sort : goal.resolve_interface-requires-clause-sort
 resolve_interface-requires-clause-sort c = ap (λ (d : BorrowedDeclared). (about (declared_view d)).is_world) c.in-Interface.is
@@ -32,8 +25,8 @@ resolve_interface-requires-clause-called c = subst (λ (d : BorrowedDeclared). (
 
 pub resolve_interface-requires-clause-item : goal.resolve_interface-requires-clause-item
 resolve_interface-requires-clause-item c =
-    let there = item_at c.args.items.now c.args.places.now c.loop-place.place-index c.index-items-place.result c.requires.within c.loop-place-test.true c.index-items-place.is in
-    rw c.loop-place.invariant.files (c.requires.items.each _ c.index-items-place.result there)
+    let x = item_at c.args.items.now c.args.places.now c.loop-place.place-index c.index-items-place.result c.requires.within c.loop-place-test.true c.index-items-place.is in
+    rw c.loop-place.invariant.files (c.requires.items.each x.place c.index-items-place.result x.own)
 
 pub resolve_interface-requires-clause-index : goal.resolve_interface-requires-clause-index
 resolve_interface-requires-clause-index c = rw c.loop-place.invariant.files c.loop-place.invariant.index
@@ -41,58 +34,33 @@ resolve_interface-requires-clause-index c = rw c.loop-place.invariant.files c.lo
 pub returns-clause-index : goal.returns-clause-index
 returns-clause-index c = rw c.loop-place.invariant.files c.loop-place.invariant.index
 
--- the interfaces in an order, up to one, that one, and those after it
-split_interfaces : (ws : List Item) (places : List ℕ) (k p : ℕ) (w : Item) → slice_get places k ≡ Some p → slice_get ws p ≡ Some w → is_world w ≡ false → interfaces_of (in_order ws places) ≡ (interfaces_of (in_order ws (take k places)) ++ w ∷ []) ++ interfaces_of (in_order ws (drop (k + 1) places))
-split_interfaces ws places k p w next at sort =
-    let test = λ (v : Item). not (is_world v) in
-    let front = take (k + 1) places in
-    let back = drop (k + 1) places in
-    ap (λ (l : List ℕ). filter test (in_order ws l)) (sym (take-append-drop (k + 1) places))
-    ∙ ap (filter test) (filter_map-append (slice_get ws) front back)
-    ∙ filter-append test (in_order ws front) (in_order ws back)
-    ∙ ap (λ (l : List Item). l ++ filter test (in_order ws back)) (kept_next test ws places k p w next at (ap not sort))
-
 pub returns-in_err-resolve_interface-in-Interface-clause-first : goal.returns-in_err-resolve_interface-in-Interface-clause-first
 returns-in_err-resolve_interface-in-Interface-clause-first c =
     let q = err_from_is_err_and c.from_residual.result c.from_residual.ensures.1 in
     let ws = map item_view c.args.items.now in
     let places = c.args.places.now in
     let i = c.loop-place.place-index in
-    let p = get_or places i 0 in
-    let x = c.index-items-place.result in
-    let w = item_view x in
-    let was = c.loop-place.invariant in
-    let now = c.loop-place.interfaces in
-    let at : slice_get places i ≡ Some p = slice_get-get_or places i 0 c.loop-place-test.true in
-    let within : p < length c.args.items.now = c.requires.within i 0 c.loop-place-test.true in
-    let there : slice_get ws p ≡ Some w = read_map item_view c.args.items.now p x within c.index-items-place.is in
-    let sort : is_world w ≡ false = ap (λ (d : BorrowedDeclared). (about (declared_view d)).is_world) c.in-Interface.is in
-    let next : IsNext ws places i w = record { place = p; next = at; at = there } in
+    let w = item_view c.index-items-place.result in
     let prefix = interfaces_of (in_order ws (take i places)) in
-    let rest = interfaces_of (in_order ws (drop (i + 1) places)) in
-    rw (q.1, q.2) (λ test right.
-    let own = c.in_err-resolve_interface-in-Interface.ensures.first test (right now c.loop-place.types was.added.own i w was.files next sort was.added.holds (rw was.files was.index)) in
-    reports_same (sym (ap (first_in test) (split_interfaces ws places i p w at there sort) ∙ in-append test (prefix ++ w ∷ []) rest)) (reports_prefix (first_in test rest) (reports_same (sym (in-more test prefix w (was.first test right))) own)))
+    let was = c.loop-place.invariant in
+    let x = item_at c.args.items.now c.args.places.now c.loop-place.place-index c.index-items-place.result c.requires.within c.loop-place-test.true c.index-items-place.is in
+    let sort : is_world w ≡ false = ap (λ (d : BorrowedDeclared). (about (declared_view d)).is_world) c.in-Interface.is in
+    rw (q.1, q.2) (λ test right. among_kept (λ v. not (is_world v)) test ws places i x.place w _ x.next x.at (ap not sort) (was.first test right) (c.in_err-resolve_interface-in-Interface.ensures.first test (right c.loop-place.interfaces c.loop-place.types was.added.own i w was.files (record { place = x.place; next = x.next; at = x.at }) sort was.added.holds (rw was.files was.index))))
 
 pub loop-place-preserved : goal.loop-place-preserved
 loop-place-preserved c =
     let ws = map item_view c.args.items.now in
     let places = c.args.places.now in
     let i = c.loop-place.place-index in
-    let p = get_or places i 0 in
-    let x = c.index-items-place.result in
-    let w = item_view x in
+    let w = item_view c.index-items-place.result in
     let prefix = interfaces_of (in_order ws (take i places)) in
     let was = c.loop-place.invariant in
-    let at : slice_get places i ≡ Some p = slice_get-get_or places i 0 c.loop-place-test.true in
-    let within : p < length c.args.items.now = c.requires.within i 0 c.loop-place-test.true in
-    let there : slice_get ws p ≡ Some w = read_map item_view c.args.items.now p x within c.index-items-place.is in
+    let x = item_at c.args.items.now c.args.places.now c.loop-place.place-index c.index-items-place.result c.requires.within c.loop-place-test.true c.index-items-place.is in
     let before = c.loop-place.interfaces.arena in
     elim c.match-item.branch [
       | in-Interface+in_ok-resolve_interface-in-Interface b ↦ (
-          let sort : not (is_world w) ≡ true = ap (λ (d : BorrowedDeclared). not (about (declared_view d)).is_world) b.in-Interface.is in
-          let more : interfaces_of (in_order ws (take (i + 1) places)) ≡ prefix ++ w ∷ [] = kept_next (λ v. not (is_world v)) ws places i p w at there sort in
-          let own : is_world w ≡ false = ap (λ (d : BorrowedDeclared). (about (declared_view d)).is_world) b.in-Interface.is in
+          let sort : is_world w ≡ false = ap (λ (d : BorrowedDeclared). (about (declared_view d)).is_world) b.in-Interface.is in
+          let more : interfaces_of (in_order ws (take (i + 1) places)) ≡ prefix ++ w ∷ [] = kept_next (λ v. not (is_world v)) ws places i x.place w x.next x.at (ap not sort) in
           let e = b.in_ok-resolve_interface-in-Interface.ensures in
           let new = b.resolve_interface.new.interfaces.arena in
           let types = b.resolve_interface.new.types in
@@ -104,13 +72,12 @@ loop-place-preserved c =
             files = same;
             added = rw more (appends_more (AddsDeclared foreign) c.args.types.now c.loop-place.types types c.args.interfaces.now.arena before new c.args.required.now.items c.loop-place.required.items required prefix w was.added one);
             index = rw same at e.index;
-            first = λ test right. rw more (in-more test prefix w (was.first test right) ∙ e.first test (right c.loop-place.interfaces c.loop-place.types was.added.own i w was.files (record { place = p; next = at; at = there }) own was.added.holds (rw was.files was.index)));
+            first = λ test right. rw more (in-more test prefix w (was.first test right) ∙ e.first test (right c.loop-place.interfaces c.loop-place.types was.added.own i w was.files (record { place = x.place; next = x.next; at = x.at }) sort was.added.holds (rw was.files was.index)));
           }))
       | in-World b ↦ (
-          let sort : not (is_world w) ≡ false = ap (λ (d : BorrowedDeclared). not (about (declared_view d)).is_world) b.in-World.is in
-          let past : interfaces_of (in_order ws (take (i + 1) places)) ≡ prefix = kept_past (λ v. not (is_world v)) ws places i p w at there sort in
+          let past = kept_past (λ v. not (is_world v)) ws places i x.place w x.next x.at (ap (λ (d : BorrowedDeclared). not (about (declared_view d)).is_world) b.in-World.is) in
           rw (b.interfaces-is, b.types-is, b.required-is) (record { files = was.files; added = rw past was.added; index = was.index; first = λ test right. rw past (was.first test right) }))
-      | in-Inline b ↦ absurd (c.requires.outer.outer p w _ _ _ _ _ there (ap declared_view b.in-Inline.is))
+      | in-Inline b ↦ absurd (c.requires.outer.outer x.place w _ _ _ _ _ x.at (ap declared_view b.in-Inline.is))
     ]
 
 pub returns-clause-first : goal.returns-clause-first

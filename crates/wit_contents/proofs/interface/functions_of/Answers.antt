@@ -1,4 +1,4 @@
-use Rattle.std.proofs.Common.{◌≡◌, List, ◌++◌, Option, map, inl, inr, refl, sym, ap, ◌∙◌, subst}
+use Rattle.std.proofs.Common.{◌≡◌, List, ◌++◌, Option, map, refl, sym, ap, ◌∙◌, subst}
 use Rattle.std.specs.Option.{option_or}
 use Rattle.std.proofs.lemmas.Result.{err_from_is_err_and}
 use Rattle.wit_tree.specs.declared.tree.WorldSide.TheVariants.{Imported}
@@ -19,6 +19,7 @@ use Rattle.wit_item_entries.specs.NameOrder.{IsTurn}
 use Rattle.wit_item_entries.specs.Body.{HasNames, functions_in}
 use Rattle.wit_item_entries.proofs.InterfaceSides.{all_imported, names_imported}
 use Rattle.wit_item_entries.proofs.ScopeFunctions.{turn_added, made_differ}
+use Rattle.wit_contents.proofs.FileFaults.{or_found}
 use Rattle.wit_contents.proofs.interface.functions_of.Goals as goal
 
 pub resolve_item_functions-requires-clause-of : goal.resolve_item_functions-requires-clause-of
@@ -55,10 +56,7 @@ pub returns-in_err-own-clause-first : goal.returns-in_err-own-clause-first
 returns-in_err-own-clause-first c =
     let p = err_from_is_err_and c.from_residual.result c.from_residual.ensures.1 in
     let fns = functions_in (declared_view c.args.item.now.declared) in
-    rw (p.1, p.2) (elim c.in_err-own.ensures.first [
-      | inl memory ↦ inl memory
-      | inr wrong ↦ inr (λ handle ends. ap (λ (o : Option Fault). option_or o (lone_setters fns)) (wrong handle ends))
-    ])
+    rw (p.1, p.2) (or_found c.in_err-own.ensures.first (λ wrong handle ends. ap (λ (o : Option Fault). option_or o (lone_setters fns)) (wrong handle ends)))
 
 pub returns-in_err-check_pairs-clause-first : goal.returns-in_err-check_pairs-clause-first
 returns-in_err-check_pairs-clause-first c =
@@ -67,10 +65,7 @@ returns-in_err-check_pairs-clause-first c =
     let names = c.args.names.now in
     let fns = functions_in (declared_view item.declared) in
     let written : map function_view c.deref.result.now ≡ fns = ap (map function_view) c.deref.ensures.value ∙ c.in_ok-own.ensures.written in
-    rw (p.1, p.2) (elim c.in_err-check_pairs.ensures.first [
-      | inl memory ↦ inl memory
-      | inr wrong ↦ inr (λ handle ends. ap (λ (o : Option Fault). option_or o (lone_setters fns)) (c.in_ok-own.ensures.first handle (safe_of (env_of names.types) c.resolve_item_functions.new.types handle ends)) ∙ ap lone_setters (sym written) ∙ wrong)
-    ])
+    rw (p.1, p.2) (or_found c.in_err-check_pairs.ensures.first (λ wrong handle ends. ap (λ (o : Option Fault). option_or o (lone_setters fns)) (c.in_ok-own.ensures.first handle (safe_of (env_of names.types) c.resolve_item_functions.new.types handle ends)) ∙ ap lone_setters (sym written) ∙ wrong))
 
 pub returns-clause-first : goal.returns-clause-first
 returns-clause-first c = λ handle safe.

@@ -1,4 +1,4 @@
-use Rattle.std.proofs.Common.{List, ◌++◌, inl, inr, refl, sym, ap, ◌∙◌, subst}
+use Rattle.std.proofs.Common.{List, ◌++◌, refl, sym, ap, ◌∙◌, subst}
 use Rattle.std.proofs.lemmas.Result.{err_from_is_err_and}
 use Rattle.wit_type_tree.specs.declared.leaves.Id.{Id}
 use Rattle.wit_types.specs.declared.types.TypeOwner.TheVariants.{Interface as OfInterface}
@@ -9,6 +9,7 @@ use Rattle.wit_items.specs.BorrowedItems.{scope_item}
 use Rattle.wit_items.specs.ResolvedInterfaces.{resolved_scopes_of}
 use Rattle.wit_item_entries.specs.Body.{AddsBody}
 use Rattle.wit_contents.proofs.InterfaceFaults.{head_first, rest_first, rest_none}
+use Rattle.wit_contents.proofs.FileFaults.{or_found}
 use Rattle.wit_contents.proofs.interface.interface_of.Goals as goal
 
 pub functions_of-requires-clause-added : goal.functions_of-requires-clause-added
@@ -47,10 +48,7 @@ returns-in_err-head-clause-first c =
     let p = err_from_is_err_and c.from_residual-in_err-head.result c.from_residual-in_err-head.ensures.1 in
     let is = c.args.interfaces.now in
     let item = c.args.item.now in
-    rw (p.1, p.2) (elim c.in_err-head.ensures.first [
-      | inl memory ↦ inl memory
-      | inr wrong ↦ inr (head_first is c.args.place c.args.types.now item _ wrong)
-    ])
+    rw (p.1, p.2) (or_found c.in_err-head.ensures.first (λ wrong. head_first is c.args.place c.args.types.now item _ wrong))
 
 pub returns-in_err-functions-clause-first : goal.returns-in_err-functions-clause-first
 returns-in_err-functions-clause-first c =
@@ -59,10 +57,7 @@ returns-in_err-functions-clause-first c =
     let item = c.args.item.now in
     let mid = c.resolve_head.new.types in
     let new = c.functions_of.new.types in
-    rw (p.1, p.2) (elim c.in_err-functions.ensures.first [
-      | inl memory ↦ inl memory
-      | inr wrong ↦ inr (rest_first is c.args.place c.args.types.now mid new item c.in_ok-head.head.names _ c.requires.named c.in_ok-head.ensures.adds c.in_ok-head.ensures.first c.in_err-functions.ensures.extended wrong)
-    ])
+    rw (p.1, p.2) (or_found c.in_err-functions.ensures.first (λ wrong. rest_first is c.args.place c.args.types.now mid new item c.in_ok-head.head.names _ c.requires.named c.in_ok-head.ensures.adds c.in_ok-head.ensures.first c.in_err-functions.ensures.extended wrong))
 
 pub returns-clause-first : goal.returns-clause-first
 returns-clause-first c =

@@ -2,13 +2,10 @@ use Rattle.std.proofs.Common.{List, take}
 use Rattle.wit_model.specs.declared.interface.Interface.{Interface}
 use Rattle.wit_syntax.specs.Sides.{part_items}
 use Rattle.wit_syntax.specs.Source.{DefinitionPart}
-use Rattle.wit_contents.specs.Walk.{AddsMembers, IsNext, resource_items, stage, walk_of}
-use Rattle.wit_contents.proofs.MemberFaults.{HaveNone}
+use Rattle.wit_contents.specs.Walk.{resource_items, stage, walk_of}
+use Rattle.wit_contents.proofs.MemberFaults.{AreDone}
 use Rattle.wit_contents.proofs.walk.walk_definition.Given as goal
 
 -- the functions up to here are added, and none of them has a fault
 abbrev pub invariant-loop-function : goal.invariant-loop-function
-invariant-loop-function l = record {
-  adds : (i : List Interface) (n : IsNext (walk_of l.item l.walk) (part_items (DefinitionPart l.definition)) l.fn.walked) → AddsMembers (walk_of l.item l.walk) n.prefix (resource_items l.definition.name (take l.function-index l.function-items)) (stage l.fn.types i l.fn.walked) (stage l.types i l.walked);
-  first : (i : List Interface) (n : IsNext (walk_of l.item l.walk) (part_items (DefinitionPart l.definition)) l.fn.walked) → HaveNone (walk_of l.item l.walk) n.prefix (part_items (DefinitionPart l.definition)) (resource_items l.definition.name (take l.function-index l.function-items)) (stage l.fn.types i l.fn.walked);
-}
+invariant-loop-function l = (i : List Interface) → AreDone (walk_of l.item l.walk) (part_items (DefinitionPart l.definition)) (resource_items l.definition.name (take l.function-index l.function-items)) (stage l.fn.types i l.fn.walked) (stage l.types i l.walked)

@@ -1,29 +1,23 @@
-use Rattle.std.proofs.Common.{◌≡◌, ◌<◌, ◌+◌, ◌++◌, ◌∷◌, ℕ, List, [], All, take, length, get_or, true, false, Some, inl, refl, ap, sym, ◌∙◌, subst}
-use Rattle.std.specs.Prelude.{slice_get, map}
+use Rattle.std.proofs.Common.{◌≡◌, ◌+◌, ◌++◌, ◌∷◌, List, ℕ, [], take, true, refl, ap, sym, ◌∙◌, subst}
+use Rattle.std.specs.Prelude.{length, map}
 use Rattle.std.proofs.lemmas.List.{take_all}
-use Rattle.std.proofs.lemmas.Option.{slice_get-get_or}
 use Rattle.std.proofs.lemmas.Result.{err_from_is_err_and}
-use Rattle.wit_items.specs.declared.items.Item.{Item as BorrowedItem}
 use Rattle.wit_items.specs.ForeignAddresses.{prefix_of}
 use Rattle.wit_syntax.specs.Source.{is_world, about}
 use Rattle.wit_syntax.specs.ScopeTables.{in_order, worlds_of}
 use Rattle.wit_first.specs.First.{first_in}
 use Rattle.wit_first.proofs.First.{in-more}
-use Rattle.wit_syntax.proofs.Lists.{read_map}
 use Rattle.wit_syntax.proofs.Kept.{kept_next, kept_past}
 use Rattle.wit_items.specs.declared.items.Declared.{Declared as BorrowedDeclared}
 use Rattle.wit_items.specs.BorrowedItems.{declared_view, item_view, others_of}
 use Rattle.wit_items.specs.Found.{world_name}
 use Rattle.wit_items.proofs.Found.{found_none}
 use Rattle.wit_contents.specs.AddedWorlds.{arenas}
-use Rattle.wit_contents.proofs.WorldFaults.{among_worlds}
+use Rattle.wit_contents.proofs.FileFaults.{memory_found}
+use Rattle.wit_contents.proofs.WorldFaults.{among_kept, item_at}
 use Rattle.wit_contents.proofs.WorldsMore.{AreWorldsTo, addresses_in, worlds_more, worlds_none}
 use Rattle.wit_contents.proofs.world.resolve_worlds.Goals.{in-World+in_ok-resolve_world-in-World, in-Interface, in-Inline}
 use Rattle.wit_contents.proofs.world.resolve_worlds.Goals as goal
-
--- the item at hand
-item_at : (items : List BorrowedItem) (places : List ℕ) (k : ℕ) (x : BorrowedItem) → All (λ (place : ℕ). place < length items) places → k < length places → x ≡ get_or items (get_or places k 0) x → slice_get items (get_or places k 0) ≡ Some x
-item_at items places k x within lt is = slice_get-get_or items (get_or places k 0) x (within k 0 lt) ∙ ap Some (sym is)
 
 pub loop-place-init : goal.loop-place-init
 loop-place-init c = rw (c.make_room.ensures.inside, c.make_room.ensures.worlds, c.replace.ensures.value, c.new-required.ensures.items) (record {
@@ -44,51 +38,37 @@ resolve_world-requires-clause-sort c = ap (λ (d : BorrowedDeclared). (about (de
 
 pub resolve_world-requires-clause-item : goal.resolve_world-requires-clause-item
 resolve_world-requires-clause-item c =
-    let there = item_at c.args.items.now c.args.places.now c.loop-place.place-index c.index-items-place.result c.requires.within c.loop-place-test.true c.index-items-place.is in
-    rw c.loop-place.invariant.interfaces (c.requires.items.each _ c.index-items-place.result there)
+    let x = item_at c.args.items.now c.args.places.now c.loop-place.place-index c.index-items-place.result c.requires.within c.loop-place-test.true c.index-items-place.is in
+    rw c.loop-place.invariant.interfaces (c.requires.items.each x.place c.index-items-place.result x.own)
 
 pub resolve_world-requires-clause-index : goal.resolve_world-requires-clause-index
 resolve_world-requires-clause-index c = rw c.loop-place.invariant.interfaces c.loop-place.invariant.index
 
 pub loop-place-preserved : goal.loop-place-preserved
 loop-place-preserved c =
-    let is = c.args.interfaces.now.arena in
     let ws = map item_view c.args.items.now in
     let places = c.args.places.now in
     let i = c.loop-place.place-index in
-    let p = get_or places i 0 in
-    let x = c.index-items-place.result in
-    let w = item_view x in
+    let w = item_view c.index-items-place.result in
     let prefix = worlds_of (in_order ws (take i places)) in
     let was = c.loop-place.invariant in
-    let at : slice_get places i ≡ Some p = slice_get-get_or places i 0 c.loop-place-test.true in
-    let within : p < length c.args.items.now = c.requires.within i 0 c.loop-place-test.true in
-    let there : slice_get ws p ≡ Some w = read_map item_view c.args.items.now p x within c.index-items-place.is in
-    let before = c.loop-place.worlds.arena in
-    let own : slice_get c.args.items.now p ≡ Some x = item_at c.args.items.now places i x c.requires.within c.loop-place-test.true c.index-items-place.is in
+    let x = item_at c.args.items.now c.args.places.now c.loop-place.place-index c.index-items-place.result c.requires.within c.loop-place-test.true c.index-items-place.is in
     elim c.match-item.branch [
       | in-World+in_ok-resolve_world-in-World b ↦ (
           let sort : is_world w ≡ true = ap (λ (d : BorrowedDeclared). (about (declared_view d)).is_world) b.in-World.is in
-          let more : worlds_of (in_order ws (take (i + 1) places)) ≡ prefix ++ w ∷ [] = kept_next is_world ws places i p w at there sort in
+          let more : worlds_of (in_order ws (take (i + 1) places)) ≡ prefix ++ w ∷ [] = kept_next is_world ws places i x.place w x.next x.at sort in
           let e = b.in_ok-resolve_world-in-World.ensures in
-          let new = b.resolve_world.new.worlds.arena in
-          let types = b.resolve_world.new.growing.types in
-          let required = b.resolve_world.new.required.items in
-          let foreign = prefix_of c.args.interfaces.now.files in
-          let others = others_of c.args.interfaces.now.files in
           rw (b.worlds-is, b.growing-is, b.required-is) (record {
             interfaces = ap (λ r. r.now) e.interfaces ∙ was.interfaces;
-            added = rw more (worlds_more foreign others is c.args.types.now c.loop-place.growing.types types c.args.prefix before new c.loop-place.growing.inside b.resolve_world.new.growing.inside [] c.loop-place.required.items required prefix w was.added (rw was.interfaces at e.adds) e.extended);
+            added = rw more (worlds_more (prefix_of c.args.interfaces.now.files) (others_of c.args.interfaces.now.files) c.args.interfaces.now.arena c.args.types.now c.loop-place.growing.types b.resolve_world.new.growing.types c.args.prefix c.loop-place.worlds.arena b.resolve_world.new.worlds.arena c.loop-place.growing.inside b.resolve_world.new.growing.inside [] c.loop-place.required.items b.resolve_world.new.required.items prefix w was.added (rw was.interfaces at e.adds) e.extended);
             index = rw (ap (λ r. r.now) e.interfaces ∙ was.interfaces) at e.index;
-            first = λ test is_right. rw more (in-more test prefix w (was.first test is_right) ∙ e.first test (is_right.each c.loop-place.worlds c.loop-place.growing.types (arenas before c.loop-place.growing.inside (addresses_in prefix)) was.added.appends.own i p x was.interfaces at own sort (c.requires.items.each p x own) was.added.appends.holds refl (rw was.interfaces was.index)));
+            first = λ test is_right. rw more (in-more test prefix w (was.first test is_right) ∙ e.first test (is_right.each c.loop-place.worlds c.loop-place.growing.types (arenas c.loop-place.worlds.arena c.loop-place.growing.inside (addresses_in prefix)) was.added.appends.own c.loop-place.place-index x.place c.index-items-place.result was.interfaces x.next x.own sort (c.requires.items.each x.place c.index-items-place.result x.own) was.added.appends.holds refl (rw was.interfaces was.index)));
           }))
       | in-Interface b ↦ (
-          let sort : is_world w ≡ false = ap (λ (d : BorrowedDeclared). (about (declared_view d)).is_world) b.in-Interface.is in
-          let past : worlds_of (in_order ws (take (i + 1) places)) ≡ prefix = kept_past is_world ws places i p w at there sort in
+          let past = kept_past is_world ws places i x.place w x.next x.at (ap (λ (d : BorrowedDeclared). (about (declared_view d)).is_world) b.in-Interface.is) in
           rw (b.worlds-is, b.growing-is, b.required-is) (record { interfaces = was.interfaces; added = rw past was.added; index = was.index; first = λ test is_right. rw past (was.first test is_right) }))
       | in-Inline b ↦ (
-          let sort : is_world w ≡ false = ap (λ (d : BorrowedDeclared). (about (declared_view d)).is_world) b.in-Inline.is in
-          let past : worlds_of (in_order ws (take (i + 1) places)) ≡ prefix = kept_past is_world ws places i p w at there sort in
+          let past = kept_past is_world ws places i x.place w x.next x.at (ap (λ (d : BorrowedDeclared). (about (declared_view d)).is_world) b.in-Inline.is) in
           rw (b.worlds-is, b.growing-is, b.required-is) (record { interfaces = was.interfaces; added = rw past was.added; index = was.index; first = λ test is_right. rw past (was.first test is_right) }))
     ]
 
@@ -107,22 +87,15 @@ returns-in_err-resolve_world-in-World-clause-first c =
     let ws = map item_view c.args.items.now in
     let places = c.args.places.now in
     let i = c.loop-place.place-index in
-    let p = get_or places i 0 in
-    let x = c.index-items-place.result in
-    let w = item_view x in
+    let w = item_view c.index-items-place.result in
+    let prefix = worlds_of (in_order ws (take i places)) in
     let was = c.loop-place.invariant in
-    let at : slice_get places i ≡ Some p = slice_get-get_or places i 0 c.loop-place-test.true in
-    let within : p < length c.args.items.now = c.requires.within i 0 c.loop-place-test.true in
-    let there : slice_get ws p ≡ Some w = read_map item_view c.args.items.now p x within c.index-items-place.is in
+    let x = item_at c.args.items.now c.args.places.now c.loop-place.place-index c.index-items-place.result c.requires.within c.loop-place-test.true c.index-items-place.is in
     let sort : is_world w ≡ true = ap (λ (d : BorrowedDeclared). (about (declared_view d)).is_world) c.in-World.is in
-    let own = item_at c.args.items.now places i x c.requires.within c.loop-place-test.true c.index-items-place.is in
-    let before = arenas c.loop-place.worlds.arena c.loop-place.growing.inside (addresses_in (worlds_of (in_order ws (take i places)))) in
-    rw (q.1, q.2) (λ test right. among_worlds test ws places i p w _ at there sort (was.first test right) (c.in_err-resolve_world-in-World.ensures.first test (right.each c.loop-place.worlds c.loop-place.growing.types before was.added.appends.own i p x was.interfaces at own sort (c.requires.items.each p x own) was.added.appends.holds refl (rw was.interfaces was.index))))
+    rw (q.1, q.2) (λ test is_right. among_kept is_world test ws places i x.place w _ x.next x.at sort (was.first test is_right) (c.in_err-resolve_world-in-World.ensures.first test (is_right.each c.loop-place.worlds c.loop-place.growing.types (arenas c.loop-place.worlds.arena c.loop-place.growing.inside (addresses_in prefix)) was.added.appends.own c.loop-place.place-index x.place c.index-items-place.result was.interfaces x.next x.own sort (c.requires.items.each x.place c.index-items-place.result x.own) was.added.appends.holds refl (rw was.interfaces was.index))))
 
 pub returns-in_err-make_room-clause-first : goal.returns-in_err-make_room-clause-first
-returns-in_err-make_room-clause-first c =
-    let q = err_from_is_err_and c.from_residual.result c.from_residual.ensures.1 in
-    rw q.1 (λ test right. inl q.2)
+returns-in_err-make_room-clause-first c = λ test right. memory_found c.from_residual.result c.from_residual.ensures.1
 
 pub returns-clause-first : goal.returns-clause-first
 returns-clause-first c = λ test right.

@@ -1,4 +1,4 @@
-use Rattle.std.proofs.Common.{◌++◌, Bool, List, length, map, inl, inr, sym, ap, ◌∙◌, subst, append_assoc}
+use Rattle.std.proofs.Common.{◌++◌, Bool, List, length, map, sym, ap, ◌∙◌, subst, append_assoc}
 use Rattle.std.proofs.lemmas.Result.{err_from_is_err_and}
 use Rattle.std.specs.Char.{is_ascii_uppercase}
 use Rattle.std.specs.List.{flat_map, list_any}
@@ -21,6 +21,7 @@ use Rattle.wit_item_entries.specs.NameOrder.{IsTurn}
 use Rattle.wit_world_sides.proofs.Putting.{keyed_differ}
 use Rattle.wit_contents.specs.Walk.{walk_of}
 use Rattle.wit_contents.specs.WorldWalk.{IsWalkOf}
+use Rattle.wit_contents.proofs.FileFaults.{memory_found, or_found}
 use Rattle.wit_contents.proofs.NamesAlone.{alone_adds, alone_extended, alone_none, none_there}
 use Rattle.wit_contents.proofs.Parts.{content_adds, extended}
 use Rattle.wit_contents.proofs.Walks.{turn_of}
@@ -146,10 +147,7 @@ returns-in_err-names-clause-first c =
     let ws = c.args.worlds.now in
     let i = c.args.item.now in
     let old = c.args.growing.now.types in
-    rw (p.1, p.2) (λ stable wrong right. elim c.in_err-names.ensures.first [
-      | inl memory ↦ inl memory
-      | inr lost ↦ inr (head_fault wrong ws old c.args.growing.now.inside i right _ (names_first ws i old c.requires.item.named stable _ lost))
-    ])
+    rw (p.1, p.2) (λ stable wrong right. or_found c.in_err-names.ensures.first (λ lost. head_fault wrong ws old c.args.growing.now.inside i right _ (names_first ws i old c.requires.item.named stable _ lost)))
 
 pub returns-in_err-includes-clause-first : goal.returns-in_err-includes-clause-first
 returns-in_err-includes-clause-first c =
@@ -159,10 +157,7 @@ returns-in_err-includes-clause-first c =
     let old = c.args.growing.now.types in
     let e = c.in_ok-names.ensures in
     let found = rw (ap names_at_top c.requires.item.filed.file) at c.in_err-includes.ensures.first in
-    rw (p.1, p.2) (λ stable wrong right. elim found [
-      | inl memory ↦ inl memory
-      | inr lost ↦ inr (head_fault wrong ws old c.args.growing.now.inside i right _ (includes_first ws i old c.requires.item.named stable c.in_ok-names.names c.world_names.new.types e.adds e.first _ lost))
-    ])
+    rw (p.1, p.2) (λ stable wrong right. or_found found (λ lost. head_fault wrong ws old c.args.growing.now.inside i right _ (includes_first ws i old c.requires.item.named stable c.in_ok-names.names c.world_names.new.types e.adds e.first _ lost)))
 
 pub returns-in_err-walked-clause-first : goal.returns-in_err-walked-clause-first
 returns-in_err-walked-clause-first c =
@@ -181,31 +176,19 @@ returns-clause-first c = λ stable wrong right.
 
 -- or memory failed
 pub returns-in_err-sides-clause-first : goal.returns-in_err-sides-clause-first
-returns-in_err-sides-clause-first c =
-    let p = err_from_is_err_and c.from_residual-in_err-sides.result c.from_residual-in_err-sides.ensures.1 in
-    rw p.1 (λ stable wrong right. inl p.2)
+returns-in_err-sides-clause-first c = λ stable wrong right. memory_found c.from_residual-in_err-sides.result c.from_residual-in_err-sides.ensures.1
 
 pub returns-in_err-functions-clause-first : goal.returns-in_err-functions-clause-first
-returns-in_err-functions-clause-first c =
-    let p = err_from_is_err_and c.from_residual-in_err-functions.result c.from_residual-in_err-functions.ensures.1 in
-    rw p.1 (λ stable wrong right. inl p.2)
+returns-in_err-functions-clause-first c = λ stable wrong right. memory_found c.from_residual-in_err-functions.result c.from_residual-in_err-functions.ensures.1
 
 pub returns-in_err-results-clause-first : goal.returns-in_err-results-clause-first
-returns-in_err-results-clause-first c =
-    let p = err_from_is_err_and c.from_residual-in_err-results.result c.from_residual-in_err-results.ensures.1 in
-    rw p.1 (λ stable wrong right. inl p.2)
+returns-in_err-results-clause-first c = λ stable wrong right. memory_found c.from_residual-in_err-results.result c.from_residual-in_err-results.ensures.1
 
 pub returns-in_err-add_required-clause-first : goal.returns-in_err-add_required-clause-first
-returns-in_err-add_required-clause-first c =
-    let p = err_from_is_err_and c.from_residual-in_err-add_required.result c.from_residual-in_err-add_required.ensures.1 in
-    rw p.1 (λ stable wrong right. inl p.2)
+returns-in_err-add_required-clause-first c = λ stable wrong right. memory_found c.from_residual-in_err-add_required.result c.from_residual-in_err-add_required.ensures.1
 
 pub returns-in_err-add_required-2-clause-first : goal.returns-in_err-add_required-2-clause-first
-returns-in_err-add_required-2-clause-first c =
-    let p = err_from_is_err_and c.from_residual-in_err-add_required-2.result c.from_residual-in_err-add_required-2.ensures.1 in
-    rw p.1 (λ stable wrong right. inl p.2)
+returns-in_err-add_required-2-clause-first c = λ stable wrong right. memory_found c.from_residual-in_err-add_required-2.result c.from_residual-in_err-add_required-2.ensures.1
 
 pub returns-in_err-sides-2-clause-first : goal.returns-in_err-sides-2-clause-first
-returns-in_err-sides-2-clause-first c =
-    let p = err_from_is_err_and c.from_residual-in_err-sides-2.result c.from_residual-in_err-sides-2.ensures.1 in
-    rw p.1 (λ stable wrong right. inl p.2)
+returns-in_err-sides-2-clause-first c = λ stable wrong right. memory_found c.from_residual-in_err-sides-2.result c.from_residual-in_err-sides-2.ensures.1

@@ -1,4 +1,4 @@
-use Rattle.std.proofs.Common.{ap, ◌∙◌, inl, inr}
+use Rattle.std.proofs.Common.{ap, ◌∙◌}
 use Rattle.std.proofs.lemmas.Result.{err_from_is_err_and}
 use Rattle.wit_type_tree.specs.declared.leaves.Id.{Id}
 use Rattle.wit_syntax.specs.Source.{about, declared_metadata}
@@ -8,6 +8,7 @@ use Rattle.wit_arena.specs.UnfoldedTypes.{IsWorld}
 use Rattle.wit_items.specs.SourceItems.{metadata_view}
 use Rattle.wit_contents.specs.AddedWorlds.{HasContent}
 use Rattle.wit_contents.proofs.WorldFaults.{head_fault, unstable_first}
+use Rattle.wit_contents.proofs.FileFaults.{memory_found, or_found}
 use Rattle.wit_contents.proofs.world.world_of.Goals as goal
 
 pub returns-clause-named : goal.returns-clause-named
@@ -37,10 +38,7 @@ returns-in_err-as_stated-clause-first c =
     let p = err_from_is_err_and c.from_residual.result c.from_residual.ensures.1 in
     let ws = c.args.worlds.now in
     let i = c.args.item.now in
-    rw (p.1, p.2) (λ wrong right. elim c.in_err-as_stated.ensures.first [
-      | inl memory ↦ inl memory
-      | inr unstable ↦ inr (head_fault wrong ws c.args.growing.now.types c.args.growing.now.inside i right _ (unstable_first ws i c.args.growing.now.types _ unstable))
-    ])
+    rw (p.1, p.2) (λ wrong right. or_found c.in_err-as_stated.ensures.first (λ unstable. head_fault wrong ws c.args.growing.now.types c.args.growing.now.inside i right _ (unstable_first ws i c.args.growing.now.types _ unstable)))
 
 pub returns-in_err-metadata-clause-first : goal.returns-in_err-metadata-clause-first
 returns-in_err-metadata-clause-first c =
@@ -49,9 +47,7 @@ returns-in_err-metadata-clause-first c =
     rw (p.1, p.2) (first c.in_ok-as_stated.ensures.first)
 
 pub returns-in_err-world-clause-first : goal.returns-in_err-world-clause-first
-returns-in_err-world-clause-first c =
-    let p = err_from_is_err_and c.from_residual-in_err-world.result c.from_residual-in_err-world.ensures.1 in
-    rw p.1 (λ wrong right. inl p.2)
+returns-in_err-world-clause-first c = λ wrong right. memory_found c.from_residual-in_err-world.result c.from_residual-in_err-world.ensures.1
 
 pub returns-clause-first : goal.returns-clause-first
 returns-clause-first c =
