@@ -18,32 +18,31 @@ no_link : (fns : List SourceFunction) (k : ℕ) (link : Link) → slice_get (map
 no_link fns k link at =
     let fn = map_at SideFunction fns k (SideLink link) at in
     let wrong : SideFunction fn.0 ≡ SideLink link = fn.2 in
-    let f : ⊥ = cc in
-    f
+    cc
 
 -- the path of a link is one of the part that it is
 extern_path : (x : Extern) (kind : ExternKind) (k : ℕ) (link : Link) → slice_get (extern_items x kind) k ≡ Some (SideLink link) → slice_get (extern_paths kind) 0 ≡ Some link.path
-extern_path x (extern.Interface name items) zero link at = absurd (let f : ⊥ = cc in f)
-extern_path x (extern.Interface name items) (suc k) link at = absurd (let f : ⊥ = cc in f)
+extern_path x (extern.Interface name items) zero link at = absurd (cc)
+extern_path x (extern.Interface name items) (suc k) link at = absurd (cc)
 extern_path x (extern.Path path) zero link at = (let same : SideLink (record { side = x.side; name = None; path = path; docs = x.docs; attributes = x.attributes.items }) ≡ SideLink link = cc in let one = link_of same in ap (λ (l : Link). Some l.path) one)
   where
     link_of : {a b : Link} → SideLink a ≡ SideLink b → a ≡ b
     link_of h = cc
-extern_path x (extern.Path path) (suc k) link at = absurd (let f : ⊥ = cc in f)
-extern_path x (extern.Func name g) zero link at = absurd (let f : ⊥ = cc in f)
-extern_path x (extern.Func name g) (suc k) link at = absurd (let f : ⊥ = cc in f)
+extern_path x (extern.Path path) (suc k) link at = absurd (cc)
+extern_path x (extern.Func name g) zero link at = absurd (cc)
+extern_path x (extern.Func name g) (suc k) link at = absurd (cc)
 extern_path x (extern.NamedPath name path) zero link at = (let same : SideLink (record { side = x.side; name = Some name; path = path; docs = x.docs; attributes = x.attributes.items }) ≡ SideLink link = cc in let one = link_of same in ap (λ (l : Link). Some l.path) one)
   where
     link_of : {a b : Link} → SideLink a ≡ SideLink b → a ≡ b
     link_of h = cc
-extern_path x (extern.NamedPath name path) (suc k) link at = absurd (let f : ⊥ = cc in f)
+extern_path x (extern.NamedPath name path) (suc k) link at = absurd (cc)
 
 part_path : (p : Part) (k : ℕ) (link : Link) → slice_get (part_items p) k ≡ Some (SideLink link) → (j : ℕ) × (slice_get (use_path p) j ≡ Some link.path)
 part_path (DefinitionPart d) k link at = absurd (no_link _ k link at)
-part_path (UsePart u) k link at = absurd (let f : ⊥ = cc in f)
-part_path (IncludePart i) k link at = absurd (let f : ⊥ = cc in f)
-part_path (FunctionPart g) zero link at = absurd (let f : ⊥ = cc in f)
-part_path (FunctionPart g) (suc k) link at = absurd (let f : ⊥ = cc in f)
+part_path (UsePart u) k link at = absurd (cc)
+part_path (IncludePart i) k link at = absurd (cc)
+part_path (FunctionPart g) zero link at = absurd (cc)
+part_path (FunctionPart g) (suc k) link at = absurd (cc)
 part_path (ExternPart x) k link at =
     let prefix = map (λ (u : Use). u.from) (inline_uses x.kind) in
     (length prefix + 0, at_back prefix (extern_paths x.kind) 0 link.path (extern_path x x.kind k link at))

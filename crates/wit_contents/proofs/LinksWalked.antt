@@ -43,10 +43,7 @@ foreign_placed : (files : List PackageFile) (p : PackageName) (id : Id) → is_w
 foreign_placed files p id usable = of_visit (ForeignNamed p id.name.now) (foreign_at files (ForeignNamed p id.name.now)) refl usable
   where
     of_visit : (s : Address) (o : Option ForeignVisit) → foreign_at files s ≡ o → option_map wants (foreign_at files s) ≡ Some false → (j : ℕ) × (place_at (prefix_of files) s ≡ Some j)
-    of_visit s None found there = absurd (
-        let wrong : None ≡ Some false = sym (ap (option_map wants) found) ∙ there in
-        let f : ⊥ = cc in
-        f)
+    of_visit s None found there = absurd (let wrong : None ≡ Some false = sym (ap (option_map wants) found) ∙ there in cc)
     of_visit s (Some v) found there =
         let both : Some v.wants_world ≡ Some false = sym (ap (option_map wants) found) ∙ there in
         let sort : v.wants_world ≡ false = cc in
@@ -73,12 +70,11 @@ lost_there files by_name (Local id) l none = (missing_at 7 item_word id, of_item
   where
     of_item : (o : Option Item) → option_map is_world o ≡ None → (if is_none o then Some (missing_at 7 item_word id) else None) ≡ Some (missing_at 7 item_word id)
     of_item None h = refl
-    of_item (Some v) h = absurd (let f : ⊥ = cc in f)
+    of_item (Some v) h = absurd (cc)
 lost_there files by_name (Foreign p id) l none = absurd (
     let v = l.visits p id refl in
     let wrong : Some v.0.wants_world ≡ None = sym (ap (option_map (λ (u : ForeignVisit). u.wants_world)) v.1) ∙ none in
-    let f : ⊥ = cc in
-    f)
+    cc)
 
 -- two of one place are one scope
 nat_from : (i j : ℕ) → nat_eq i j ≡ true → i ≡ j
@@ -100,8 +96,7 @@ same_place i j s t place addresses at_s at_t of_s of_t = elim (cases_Bool (nat_e
         let both : Some j ≡ Some i = sym of_t ∙ ap place one ∙ of_s in
         let index : j ≡ i = cc in
         let wrong : true ≡ false = sym (nat_itself i) ∙ ap (nat_eq i) (sym index) ∙ miss in
-        let f : ⊥ = cc in
-        f)
+        cc)
     | inr other ↦ miss ∙ sym other
   ]
 ]

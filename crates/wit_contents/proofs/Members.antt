@@ -1,44 +1,250 @@
--- One more on a side of a world: a function, an interface by its path, or an inline one.
-use Rattle.std.proofs.Common.{◌≡◌, ℕ, ◌+◌, Bool, true, false, if◌then◌else◌, List, [], ◌∷◌, ◌++◌, length, map, Option, Some, refl, sym, ap, ◌∙◌, subst, add-zero}
-use Rattle.std.specs.Prelude.{slice_get}
+-- What is on the sides of a world, resolved one after another: nothing, more after some, and a function, an interface by its path, or an inline one.
+use Rattle.std.proofs.Common.{◌≡◌, ℕ, ◌+◌, List, [], ◌∷◌, ◌++◌, length, refl, sym, ap, ◌∙◌, subst, append_assoc, arith, Bool, true, false, if◌then◌else◌, map, Some, inl, inr, add-zero, Option}
 use Rattle.std.specs.List.{flat_map}
-use Rattle.std.specs.Option.{option_map_or, option_to_list}
-use Rattle.std.proofs.lemmas.Grind.{flat_map-append}
-use Rattle.std.proofs.lemmas.List.{append-nil, length-append}
-use Rattle.wit_type_tree.specs.declared.leaves.Id.{Id}
-use Rattle.wit_tree.specs.declared.tree.WorldSide.{WorldSide}
+use Rattle.std.proofs.lemmas.List.{append-nil, length-append, length-map, map-append}
 use Rattle.wit_types.specs.declared.types.TypeDef.{TypeDef}
 use Rattle.wit_functions.specs.declared.function.Function.{Function}
 use Rattle.wit_model.specs.declared.interface.Interface.{Interface}
+use Rattle.wit_tree.specs.declared.tree.Extern.{Extern}
+use Rattle.wit_type_tree.specs.declared.leaves.Id.{Id}
+use Rattle.wit_tree.specs.declared.tree.InterfaceItem.{InterfaceItem}
 use Rattle.wit_syntax.specs.Address.{Address}
-use Rattle.wit_syntax.specs.ExternPart.{same_side}
 use Rattle.wit_syntax.specs.Function.{SourceFunction, functions, written_types}
-use Rattle.wit_syntax.specs.Shape.{all_handles}
-use Rattle.wit_syntax.specs.Sides.{Link, SideItem, SideFunction, SideLink, inline_after, item_function, item_side, items_on, side_items}
-use Rattle.wit_syntax.specs.Source.{Item, TheInline, address, item_name, path_scope}
-use Rattle.wit_syntax.proofs.Inline.{interfaces_on}
-use Rattle.wit_syntax.proofs.Legal.{functions_items}
-use Rattle.wit_items.proofs.UsableNames.{contains_one}
+use Rattle.wit_syntax.specs.Sides.{Link, SideItem, SideFunction, SideLink, SideInline, item_inline, inline_after, item_function, item_side, items_on, role_side, side_items}
+use Rattle.wit_syntax.specs.Source.{Item, TopName, address, TheInline, item_name, path_scope}
+use Rattle.wit_arena.specs.Resolving.{ResolvedScope, Names, Required, AddsFunctions, env_of}
+use Rattle.wit_arena.specs.ResolvedArenas.{AddsFunction, AddsInterface, AddsSides, interfaces_at}
+use Rattle.std.specs.Prelude.{slice_get}
+use Rattle.std.proofs.lemmas.Grind.{flat_map-append}
+use Rattle.std.proofs.lemmas.List.Elements.{Contains-append_cases, filter-append}
+use Rattle.wit_tree.specs.declared.tree.WorldSide.{WorldSide}
+use Rattle.wit_syntax.specs.ExternPart.{same_side}
+use Rattle.wit_syntax.proofs.Inline.{inline_after-append, length-inline_after, interfaces_on}
+use Rattle.wit_syntax.proofs.Lists.{at_back, at_prefix}
 use Rattle.wit_walk.specs.Members.{Sorted, item_sorted}
 use Rattle.wit_arena.specs.SourceFunctions.{function_item}
-use Rattle.wit_arena.specs.Resolving.{AddsFunctions, env_of}
-use Rattle.wit_arena.specs.ResolvedArenas.{AddsSides, interfaces_at}
 use Rattle.wit_arena.specs.SideItems.{AreSideItems, inline_entry, link_item, put_on}
-use Rattle.wit_entries.specs.Requiring.{IsExtended, Requires}
-use Rattle.wit_externs.specs.Links.{bare_place}
+use Rattle.wit_entries.proofs.Requiring.{extended_then}
+use Rattle.wit_refusals.specs.NameScopes.{Name}
+use Rattle.wit_sides.specs.SideNames.{defined_on}
+use Rattle.wit_signatures.specs.ForeignName.{name_of_function, name_of_made}
+use Rattle.wit_externs.specs.Clash.{item_names, names_of_items}
+use Rattle.wit_externs.specs.Links.{bare_place, bare_places}
 use Rattle.wit_externs.specs.Next.{linked_on}
+use Rattle.wit_items.specs.ResolvedInterfaces.{resolved_scopes_of}
+use Rattle.wit_world_sides.specs.Members.{AreKeyed, Entry, sorted_on, Puts, bare_id, entry_sorted}
+use Rattle.wit_world_sides.specs.FilledSides.{entries_of}
+use Rattle.wit_links.specs.SideCounts.{IsSeen, inline_of, inline_side}
+use Rattle.wit_contents.specs.Walk.{AddsMembers, HasMore, HavePlaces, IsNext, ItemWalk, Stage, lead, next_place, walk_item, AddsInside, stage}
+use Rattle.std.specs.Option.{option_map_or, option_to_list}
+use Rattle.wit_syntax.specs.Shape.{all_handles}
+use Rattle.wit_syntax.proofs.Legal.{functions_items}
+use Rattle.wit_items.proofs.UsableNames.{contains_one}
+use Rattle.wit_entries.specs.Requiring.{IsExtended, Requires}
 use Rattle.wit_externs.proofs.DoneFunctions.{same_name}
 use Rattle.wit_externs.proofs.Steps.{at_middle, kept_nothing, kept_one}
 use Rattle.wit_items.specs.ForeignAddresses.{prefix_of}
 use Rattle.wit_items.specs.declared.items.InlineInterface.{InlineInterface}
-use Rattle.wit_items.specs.ResolvedInterfaces.{resolved_scopes_of}
-use Rattle.wit_world_sides.specs.FilledSides.{entries_of}
-use Rattle.wit_world_sides.specs.Members.{Entry, Puts, bare_id, entry_sorted, sorted_on}
 use Rattle.wit_world_sides.specs.declared.members.Members.{Members}
-use Rattle.wit_links.specs.SideCounts.{IsSeen, inline_of, inline_side}
 use Rattle.wit_contents.specs.declared.walk.Walked.{Walked}
-use Rattle.wit_contents.specs.Walk.{AddsInside, AddsMembers, ItemWalk, Stage, lead, next_place, stage, walk_item}
-use Rattle.wit_contents.proofs.Adding.{sides_function, sides_inline, sides_link}
+
+module _ (cs : List ResolvedScope) (count : ℕ) (s : Address) (names : Names) where
+  -- nothing adds nothing
+  pub sides_none : (a : List TypeDef) (is : List Interface) (us : List Item) → AddsSides cs count s names a a is is [] [] [] us
+  sides_none a is us = (refl, refl, refl, refl)
+
+  nothing_then : (a b c : List TypeDef) (is js ks : List Interface) (fs gs : List Function) (rs ss : List Required) (ys : List SideItem) (vs : List Item) → b ≡ a → js ≡ is → fs ≡ [] → rs ≡ [] → AddsSides cs count s names b c js ks gs ss ys vs → AddsSides cs count s names a c is ks (fs ++ gs) (rs ++ ss) ys vs
+  nothing_then a b c is js ks fs gs rs ss ys vs same inside made required k =
+      subst (λ (l : List Function). AddsSides cs count s names a c is ks (l ++ gs) (rs ++ ss) ys vs) (sym made) (
+      subst (λ (l : List Required). AddsSides cs count s names a c is ks gs (l ++ ss) ys vs) (sym required) (
+      subst (λ (l : List TypeDef). AddsSides cs count s names l c is ks gs ss ys vs) same (
+      subst (λ (l : List Interface). AddsSides cs count s names b c l ks gs ss ys vs) inside k)))
+
+  -- more of it after some, of which as many are interfaces as are given
+  pub sides_then : (a b c : List TypeDef) (is js ks : List Interface) (fs gs : List Function) (rs ss : List Required) (xs ys : List SideItem) (us vs : List Item) → length us ≡ length (flat_map item_inline xs) → AddsSides cs count s names a b is js fs rs xs us → AddsSides cs count s names b c js ks gs ss ys vs → AddsSides cs count s names a c is ks (fs ++ gs) (rs ++ ss) (xs ++ ys) (us ++ vs)
+  sides_then a b c is js ks fs gs rs ss [] ys [] vs long h k = nothing_then a b c is js ks fs gs rs ss ys vs h.0 h.1 h.2 h.3 k
+  sides_then a b c is js ks fs gs rs ss [] ys (u ∷ us) vs long h k = absurd (omega (arith, long))
+  sides_then a b c is js ks fs gs rs ss (SideFunction fn ∷ xs) ys us vs long h k = (
+    h.0,
+    h.1,
+    h.2 ++ gs,
+    h.3,
+    h.4 ++ ss,
+    ap (λ (l : List Function). l ++ gs) h.5,
+    ap (λ (l : List Required). l ++ ss) h.6 ∙ append_assoc h.3 h.4 ss,
+    h.7,
+    sides_then h.0 b c is js ks h.2 gs h.4 ss xs ys us vs long h.8 k,
+  )
+  sides_then a b c is js ks fs gs rs ss (SideLink link ∷ xs) ys us vs long h k = sides_then a b c is js ks fs gs rs ss xs ys us vs long h k
+  sides_then a b c is js ks fs gs rs ss (SideInline x name items ∷ xs) ys [] vs long h k = absurd h
+  sides_then a b c is js ks fs gs rs ss (SideInline x name items ∷ xs) ys (u ∷ us) vs long h k = (
+    h.0,
+    h.1,
+    h.2,
+    h.3 ++ ss,
+    ap (λ (l : List Required). l ++ ss) h.4 ∙ append_assoc h.2 h.3 ss,
+    h.5,
+    sides_then h.0 b c (is ++ h.1 ∷ []) js ks fs gs h.3 ss xs ys us vs (omega (arith, long)) h.6 k,
+  )
+
+  -- one function, one link, and one interface that is written there
+  pub sides_function : (b c : List TypeDef) (js : List Interface) (fn : SourceFunction) (f : Function) (own : List Required) → AddsFunction s names b c fn f own → AddsSides cs count s names b c js js (f ∷ []) own (SideFunction fn ∷ []) []
+  sides_function b c js fn f own adds = (c, f, [], own, [], refl, sym (append-nil own), adds, (refl, refl, refl, refl))
+
+  pub sides_link : (b : List TypeDef) (js : List Interface) (link : Link) → AddsSides cs count s names b b js js [] [] (SideLink link ∷ []) []
+  sides_link b js link = (refl, refl, refl, refl)
+
+  pub sides_inline : (b c : List TypeDef) (js : List Interface) (added : Interface) (own : List Required) (x : Extern) (name : Id) (items : List InterfaceItem) (i : Item) → AddsInterface cs (count + length js) b c added own i → AddsSides cs count s names b c js (js ++ added ∷ []) [] own (SideInline x name items ∷ []) (i ∷ [])
+  sides_inline b c js added own x name items i adds = (c, added, own, [], sym (append-nil own), adds, (refl, refl, refl, refl))
+
+-- an entry before others is one before those and more
+put_both : (b : Bool) (x : Entry) (xs ys : List Entry) → (if b then x ∷ xs else xs) ++ ys ≡ (if b then x ∷ (xs ++ ys) else xs ++ ys)
+put_both true x xs ys = refl
+put_both false x xs ys = refl
+
+-- what is on a side, with more after it
+items_then : (is : List Address) (top : List TopName) (side : WorldSide) (xs ys : List SideItem) (fs gs : List Function) (ss ts : List Address) (a b : List Entry) → length fs ≡ length (flat_map item_function xs) → length ss ≡ length (flat_map item_inline xs) → AreSideItems is top side xs fs ss a → AreSideItems is top side ys gs ts b → AreSideItems is top side (xs ++ ys) (fs ++ gs) (ss ++ ts) (a ++ b)
+items_then is top side [] ys [] gs [] ts a b made seen h k = subst (λ (l : List Entry). AreSideItems is top side ys gs ts (l ++ b)) (sym h) k
+items_then is top side [] ys (f ∷ fs) gs ss ts a b made seen h k = absurd (omega (arith, made))
+items_then is top side [] ys [] gs (s ∷ ss) ts a b made seen h k = absurd (omega (arith, seen))
+items_then is top side (SideFunction fn ∷ xs) ys [] gs ss ts a b made seen h k = absurd h
+items_then is top side (SideFunction fn ∷ xs) ys (f ∷ fs) gs ss ts a b made seen h k = (
+  h.0 ++ b,
+  ap (λ (l : List Entry). l ++ b) h.1 ∙ put_both (same_side side (role_side fn.role)) (function_item f) h.0 b,
+  items_then is top side xs ys fs gs ss ts h.0 b (omega (arith, made)) seen h.2 k,
+)
+items_then is top side (SideLink link ∷ xs) ys fs gs ss ts a b made seen h k = (
+  h.0,
+  h.1 ++ b,
+  h.2,
+  ap (λ (l : List Entry). l ++ b) h.3 ∙ put_both (same_side side link.side) (link_item link h.0) h.1 b,
+  items_then is top side xs ys fs gs ss ts h.1 b made seen h.4 k,
+)
+items_then is top side (SideInline x name items ∷ xs) ys fs gs [] ts a b made seen h k = absurd h
+items_then is top side (SideInline x name items ∷ xs) ys fs gs (s ∷ ss) ts a b made seen h k = (
+  h.0,
+  h.1 ++ b,
+  h.2,
+  ap (λ (l : List Entry). l ++ b) h.3 ∙ put_both (same_side side x.side) (inline_entry x name h.0) h.1 b,
+  items_then is top side xs ys fs gs ss ts h.1 b made (omega (arith, seen)) h.4 k,
+)
+
+-- the names, the words for them and the places of what is on a side, with more after it
+names_then : (s : WorldSide) (xs ys : List SideItem) → names_of_items (items_on s (xs ++ ys)) ≡ names_of_items (items_on s xs) ++ names_of_items (items_on s ys)
+names_then s xs ys = ap names_of_items (filter-append (λ x. same_side s (item_side x)) xs ys) ∙ flat_map-append item_names (items_on s xs) (items_on s ys)
+
+sorts_then : (s : WorldSide) (xs ys : List SideItem) → flat_map item_sorted (items_on s (xs ++ ys)) ≡ flat_map item_sorted (items_on s xs) ++ flat_map item_sorted (items_on s ys)
+sorts_then s xs ys = ap (flat_map item_sorted) (filter-append (λ x. same_side s (item_side x)) xs ys) ∙ flat_map-append item_sorted (items_on s xs) (items_on s ys)
+
+module _ (w : ItemWalk) where
+  places_then : (s : WorldSide) (xs ys : List SideItem) → bare_places (lead w) (items_on s (xs ++ ys)) ≡ bare_places (lead w) (items_on s xs) ++ bare_places (lead w) (items_on s ys)
+  places_then s xs ys = ap (bare_places (lead w)) (filter-append (λ x. same_side s (item_side x)) xs ys) ∙ flat_map-append (bare_place (lead w)) (items_on s xs) (items_on s ys)
+
+  -- nothing is added
+  pub members_none : (prefix : List SideItem) (a : Stage) → AreKeyed a.walked.members → AddsMembers w prefix [] a a
+  members_none prefix a keyed = record {
+    functions = [];
+    adds = record { own = []; list = sym (append-nil a.walked.required.items); holds = λ s. sides_none (resolved_scopes_of w.walk.interfaces.now) (length w.walk.interfaces.now.arena) s w.walk.scope.names.now a.types a.inside [] };
+    extended = record { more = []; is = sym (append-nil a.types) };
+    more = sym (add-zero (length a.inside));
+    named = refl;
+    seen = λ ys seen. subst (λ (l : List SideItem). IsSeen l a.walked.seen) (sym (append-nil ys)) seen;
+    in_use = λ s. sym (append-nil (defined_on s a.walked.members.in_use));
+    linked = λ s. sym (append-nil (linked_on s a.walked.members.links));
+    sorted = λ s. sym (append-nil (sorted_on s a.walked.members.sides));
+    keyed = keyed;
+    are_present = λ all places s. record { more = []; put = sym (append-nil _); are = refl };
+    leads = λ link among. absurd (let lt = among.1 in let wrong : ⊥ = omega arith in wrong);
+  }
+
+  module _ (prefix xs ys : List SideItem) (a b c : Stage) (p : AddsMembers w prefix xs a b) (q : AddsMembers w (prefix ++ xs) ys b c) where
+    abbrev item : Item
+    item = walk_item w
+
+    abbrev us : List Item
+    us = inline_after item prefix xs
+
+    abbrev vs : List Item
+    vs = inline_after item (prefix ++ xs) ys
+
+    abbrev all_inline : List Item
+    all_inline = inline_after item prefix (xs ++ ys)
+
+    inline_both : all_inline ≡ us ++ vs
+    inline_both = inline_after-append item prefix xs ys
+
+    given : length us ≡ length (flat_map item_inline xs)
+    given = length-inline_after item prefix xs
+
+    made : length p.functions ≡ length (flat_map item_function xs)
+    made = sym (length-map p.functions name_of_made) ∙ ap length p.named ∙ length-map (flat_map item_function xs) name_of_function
+
+    functions_both : flat_map item_function (xs ++ ys) ≡ flat_map item_function xs ++ flat_map item_function ys
+    functions_both = flat_map-append item_function xs ys
+
+    adds_both : (s : Address) → AddsSides (resolved_scopes_of w.walk.interfaces.now) (length w.walk.interfaces.now.arena) s w.walk.scope.names.now a.types c.types a.inside c.inside (p.functions ++ q.functions) (p.adds.own ++ q.adds.own) (xs ++ ys) all_inline
+    adds_both s =
+        let both = sides_then (resolved_scopes_of w.walk.interfaces.now) (length w.walk.interfaces.now.arena) s w.walk.scope.names.now a.types b.types c.types a.inside b.inside c.inside p.functions q.functions p.adds.own q.adds.own xs ys us vs given (p.adds.holds s) (q.adds.holds s) in
+        subst (λ (l : List Item). AddsSides (resolved_scopes_of w.walk.interfaces.now) (length w.walk.interfaces.now.arena) s w.walk.scope.names.now a.types c.types a.inside c.inside (p.functions ++ q.functions) (p.adds.own ++ q.adds.own) (xs ++ ys) l) (sym inline_both) both
+
+    present_both : (all : List Address) → HavePlaces w a.inside all_inline all → (s : WorldSide) → HasMore all w s (xs ++ ys) (p.functions ++ q.functions) all_inline (entries_of s a.walked.members.sides) (entries_of s c.walked.members.sides)
+    present_both all places s =
+        let named : map address all_inline ≡ map address us ++ map address vs = ap (map address) inline_both ∙ map-append address us vs in
+        let first = p.are_present all (record {
+          interfaces = places.interfaces;
+          inline = λ k r at. places.inline k r (ap (λ (l : List Address). slice_get l k) named ∙ at_prefix (map address us) (map address vs) k r at);
+        }) s in
+        let second = q.are_present all (record {
+          interfaces = places.interfaces;
+          inline = λ k r at. (
+              let there = places.inline (length (map address us) + k) r (ap (λ (l : List Address). slice_get l (length (map address us) + k)) named ∙ at_back (map address us) (map address vs) k r at) in
+              let long : length (map address us) ≡ length us = length-map us address in
+              let place : next_place w.walk.interfaces.now a.inside + (length (map address us) + k) ≡ next_place w.walk.interfaces.now b.inside + k = omega (arith, long, given, p.more) in
+              subst (λ (n : ℕ). slice_get all n ≡ Some r) place there);
+        }) s in
+        let count : length (map address us) ≡ length (flat_map item_inline xs) = length-map us address ∙ given in
+        record {
+          more = first.more ++ second.more;
+          put = second.put ∙ ap (λ (l : List Entry). l ++ second.more) first.put ∙ append_assoc _ first.more second.more;
+          are = subst (λ (l : List Address). AreSideItems all item.top s (xs ++ ys) (p.functions ++ q.functions) l (first.more ++ second.more)) (sym named) (items_then all item.top s xs ys p.functions q.functions (map address us) (map address vs) first.more second.more made count first.are second.are);
+        }
+
+    -- more after some
+    pub members_then : AddsMembers w prefix (xs ++ ys) a c
+    members_then = record {
+      functions = p.functions ++ q.functions;
+      adds = record { own = p.adds.own ++ q.adds.own; list = q.adds.list ∙ ap (λ (l : List Required). l ++ q.adds.own) p.adds.list ∙ append_assoc a.walked.required.items p.adds.own q.adds.own; holds = adds_both };
+      extended = extended_then a.types b.types c.types p.extended q.extended;
+      more = (
+          let long : length (flat_map item_inline (xs ++ ys)) ≡ length (flat_map item_inline xs) + length (flat_map item_inline ys) = ap length (flat_map-append item_inline xs ys) ∙ length-append (flat_map item_inline xs) (flat_map item_inline ys) in
+          omega (arith, long, p.more, q.more));
+      named = map-append name_of_made p.functions q.functions ∙ ap (λ (l : List Name). l ++ map name_of_made q.functions) p.named ∙ ap (λ (l : List Name). map name_of_function (flat_map item_function xs) ++ l) q.named ∙ sym (map-append name_of_function (flat_map item_function xs) (flat_map item_function ys)) ∙ ap (map name_of_function) (sym functions_both);
+      seen = λ zs seen. subst (λ (l : List SideItem). IsSeen l c.walked.seen) (append_assoc zs xs ys) (q.seen (zs ++ xs) (p.seen zs seen));
+      in_use = λ s. q.in_use s ∙ ap (λ (l : List Name). l ++ names_of_items (items_on s ys)) (p.in_use s) ∙ append_assoc (defined_on s a.walked.members.in_use) (names_of_items (items_on s xs)) (names_of_items (items_on s ys)) ∙ ap (λ (l : List Name). defined_on s a.walked.members.in_use ++ l) (sym (names_then s xs ys));
+      linked = λ s. q.linked s ∙ ap (λ (l : List ℕ). l ++ bare_places (lead w) (items_on s ys)) (p.linked s) ∙ append_assoc (linked_on s a.walked.members.links) (bare_places (lead w) (items_on s xs)) (bare_places (lead w) (items_on s ys)) ∙ ap (λ (l : List ℕ). linked_on s a.walked.members.links ++ l) (sym (places_then s xs ys));
+      sorted = λ s. q.sorted s ∙ ap (λ (l : List Sorted). l ++ flat_map item_sorted (items_on s ys)) (p.sorted s) ∙ append_assoc (sorted_on s a.walked.members.sides) (flat_map item_sorted (items_on s xs)) (flat_map item_sorted (items_on s ys)) ∙ ap (λ (l : List Sorted). sorted_on s a.walked.members.sides ++ l) (sym (sorts_then s xs ys));
+      keyed = q.keyed;
+      are_present = present_both;
+      leads = λ link among. elim (Contains-append_cases xs ys (SideLink link) among) [
+        | inl early ↦ p.leads link early
+        | inr late ↦ q.leads link late
+      ];
+    }
+
+  -- once some of what comes next was added, more of it does
+  abbrev pub next_then : (xs done ys rest : List SideItem) (a b : Stage) (n : IsNext w xs a.walked) → xs ≡ done ++ (ys ++ rest) → AddsMembers w n.prefix done a b → IsNext w ys b.walked
+  next_then xs done ys rest a b n split adds = record {
+    walk = n.walk;
+    prefix = n.prefix ++ done;
+    rest = rest ++ n.rest;
+    sides =
+        n.sides
+        ∙ ap (λ (l : List SideItem). n.prefix ++ (l ++ n.rest)) split
+        ∙ ap (λ (l : List SideItem). n.prefix ++ l) (append_assoc done (ys ++ rest) n.rest ∙ ap (λ (l : List SideItem). done ++ l) (append_assoc ys rest n.rest))
+        ∙ sym (append_assoc n.prefix done (ys ++ (rest ++ n.rest)));
+    seen = adds.seen n.prefix n.seen;
+    keyed = adds.keyed;
+  }
 
 -- nothing on one side or the other
 none_either : (none : List ℕ) (b : Bool) → (if b then none else none) ≡ none

@@ -1,49 +1,107 @@
--- The walk's fault of each interface of files is what is found of it, once those before it are resolved.
-use Rattle.std.proofs.Common.{◌≡◌, ◌⊎◌, ◌+◌, ◌++◌, ℕ, Bool, true, false, not, List, [], length, map, take, Option, Some, Contains, inl, inr, ap, ◌∙◌, subst}
+-- The walk's fault of each interface is what is found of it, where its uses are as walked and the walk's test of names in handles is right, as it is once those before it are resolved.
+use Rattle.std.proofs.Common.{◌≡◌, ◌⊎◌, ◌++◌, ℕ, zero, suc, false, List, [], ◌∷◌, map, take, Option, Some, Contains, inl, inr, refl, sym, ap, ◌∙◌, subst, ◌+◌, Bool, true, not, length}
 use Rattle.std.specs.Prelude.{slice_get}
-use Rattle.std.specs.List.{filter, flat_map}
-use Rattle.wit_type_tree.specs.declared.leaves.Attribute.{Attribute}
+use Rattle.std.specs.List.{flat_map, filter}
+use Rattle.std.specs.Option.{option_map, option_or}
+use Rattle.std.proofs.lemmas.Option.{slice_get-map}
+use Rattle.wit_type_tree.specs.declared.leaves.Id.{Id}
 use Rattle.wit_tree.specs.declared.tree.PackageFile.{PackageFile}
-use Rattle.wit_tree.specs.declared.tree.UseName.{UseName}
 use Rattle.wit_types.specs.declared.types.TypeDef.{TypeDef}
 use Rattle.wit_types.specs.declared.types.TypeOwner.TheVariants as owner
 use Rattle.wit_model.specs.declared.interface.Interface.{Interface}
-use Rattle.wit_model.specs.declared.world.World.{World}
-use Rattle.wit_graph.specs.Table.{IsOrder}
 use Rattle.wit_syntax.specs.Address.{Address}
 use Rattle.wit_syntax.specs.Fault.{Fault}
+use Rattle.wit_syntax.specs.ScopeTables.{defined, in_order, in_turn, rows_of, used, interfaces_of, item_rows}
+use Rattle.wit_syntax.specs.Source.{Item, ScopeName, address, is_world, local_id, scope_names, Used, all_items, item_name}
+use Rattle.wit_syntax.proofs.Found.{contains_at}
+use Rattle.wit_syntax.proofs.Turns.{used_at}
+use Rattle.wit_scopes.specs.BorrowedNames.{Borrowed, IsPlaced, name_view, own_use, use_view, source_view}
+use Rattle.wit_scopes.specs.PlacedNames.{AreNamesPlaced}
+use Rattle.wit_scopes.specs.declared.scope_name.Named.TheVariants as borrowed
+use Rattle.wit_scopes.specs.declared.scope_name.UsedName.{UsedName}
+use Rattle.wit_scopes.proofs.UsedNames.{uses_viewed}
+use Rattle.wit_walk.specs.Definitions.{handle_fault}
+use Rattle.wit_walk.specs.Orders.{AreOutcomes, IsOutcome, Outcome, order_of}
+use Rattle.wit_walk.specs.Walk.{Known, earliest, ordered_fault, scope_faults, contents_fault, inline_fault}
+use Rattle.wit_arena.specs.Resolving.{Defines, Required, env_of, IsIndex, ResolvedScope, resolved_scopes}
+use Rattle.wit_arena.specs.ResolvedArenas.{AddsInterface, AddsForeign, AddsInterfaces, AreUsableUses, IsNext}
+use Rattle.wit_externs.specs.AloneFaults.{EndsIn, IsSafe}
+use Rattle.wit_items.specs.BorrowedItems.{scope_item, item_view}
+use Rattle.wit_items.specs.ResolvedInterfaces.{resolved_scopes_of}
+use Rattle.wit_items.specs.declared.interfaces.Interfaces.{Interfaces}
+use Rattle.wit_items.specs.declared.items.ItemScope.{ItemScope}
+use Rattle.wit_item_entries.specs.UseFaults.{local_faults}
+use Rattle.wit_item_entries.specs.ReachedFaults.{Reaches, definitions_fault, item_stability, ordered_fault as tables_fault}
+use Rattle.wit_contents.specs.InterfaceFaults.{IsLent, IsRightOf, interface_fault, names_of, rest_fault, IsInterfaceFault}
+use Rattle.wit_contents.proofs.Ends.{IsReached, IsEnough, interface_ends, interface_safe}
+use Rattle.wit_contents.proofs.Walked.{AreAsWalked, interface_walked}
+use Rattle.wit_type_tree.specs.declared.leaves.Attribute.{Attribute}
+use Rattle.wit_tree.specs.declared.tree.UseName.{UseName}
+use Rattle.wit_model.specs.declared.world.World.{World}
+use Rattle.wit_graph.specs.Table.{IsOrder}
 use Rattle.wit_syntax.specs.Foreign.{visited, foreign_interfaces}
 use Rattle.wit_syntax.specs.Repeats.{AllDiffer}
-use Rattle.wit_syntax.specs.ScopeTables.{in_order, in_turn, interfaces_of, item_rows}
-use Rattle.wit_syntax.specs.Source.{Item, Used, address, all_items, is_world, item_name, scope_names}
 use Rattle.wit_syntax.proofs.Kept.{kept_next}
 use Rattle.wit_syntax.proofs.Lists.{at_seam}
-use Rattle.wit_walk.specs.Definitions.{handle_fault}
-use Rattle.wit_walk.specs.Orders.{AreOutcomes}
-use Rattle.wit_walk.specs.Walk.{Known, contents_fault, inline_fault}
-use Rattle.wit_arena.specs.Resolving.{Defines, IsIndex, Required, ResolvedScope, env_of, resolved_scopes}
-use Rattle.wit_arena.specs.ResolvedArenas.{AddsForeign, AddsInterface, AddsInterfaces, AreUsableUses, IsNext}
 use Rattle.wit_arena.proofs.Added.{InterfacesDone, interfaces_done}
 use Rattle.wit_arena.proofs.Interfaces.{interfaces_sort, worlds_sort}
 use Rattle.wit_arena.proofs.Leading.{IsForeignUse, kept_early, kept_prefix, used_before}
 use Rattle.wit_arena.proofs.OrderedItems.{IsResolvedUse, are_interfaces, are_worlds, interfaces, worlds}
-use Rattle.wit_externs.specs.AloneFaults.{EndsIn, IsSafe}
-use Rattle.wit_scopes.specs.BorrowedNames.{own_use, source_view}
-use Rattle.wit_scopes.specs.PlacedNames.{AreNamesPlaced}
 use Rattle.wit_items.specs.ForeignAddresses.{prefix_of}
-use Rattle.wit_items.specs.BorrowedItems.{item_view}
-use Rattle.wit_items.specs.ResolvedInterfaces.{resolved_scopes_of}
-use Rattle.wit_items.specs.declared.interfaces.Interfaces.{Interfaces}
 use Rattle.wit_items.specs.declared.items.Item.{Item as BorrowedItem}
-use Rattle.wit_items.specs.declared.items.ItemScope.{ItemScope}
 use Rattle.wit_contents.specs.AddedInterfaces.{IsIndexed}
-use Rattle.wit_contents.specs.InterfaceFaults.{IsLent, IsRightOf}
-use Rattle.wit_contents.proofs.AddedEnds.{interface_safe}
-use Rattle.wit_contents.proofs.EndsWalked.{IsEnough}
-use Rattle.wit_contents.proofs.ReachedEnds.{IsReached, interface_ends}
-use Rattle.wit_contents.proofs.RightInterface.{borrowed_uses, placed_uses, right_interface}
-use Rattle.wit_contents.proofs.UsesWalked.{uses_as_walked}
-use Rattle.wit_contents.proofs.WalkedInterface.{AreAsWalked}
+use Rattle.wit_contents.proofs.PathsWalked.{uses_as_walked}
+use Rattle.wit_contents.proofs.FoundBy.{found_by}
+use Rattle.wit_first.proofs.First.{or_assoc}
+
+-- a borrowed name that is used is among those of its scope, and placed where they are
+pub borrowed_uses : (names : List Borrowed) (xs : List ScopeName) → map name_view names ≡ xs → (k : ℕ) (u : UsedName) → slice_get (flat_map own_use names) k ≡ Some u → Contains xs (use_view u)
+borrowed_uses names xs same k u at =
+    let seen : slice_get (used (map name_view names)) k ≡ Some (use_view u) = ap (λ (l : List ScopeName). slice_get l k) (sym (uses_viewed names)) ∙ slice_get-map use_view (flat_map own_use names) k ∙ ap (option_map use_view) at in
+    let p = used_at (map name_view names) k (use_view u) seen in
+    subst (λ (l : List ScopeName). Contains l (use_view u)) same (contains_at (map name_view names) p.0 (use_view u) p.1)
+
+pub placed_uses : (prefix : List Address) (names : List Borrowed) → AreNamesPlaced prefix names → (k : ℕ) (u : UsedName) → slice_get (flat_map own_use names) k ≡ Some u → IsPlaced prefix u.from
+placed_uses prefix [] placed k u at = absurd (cc)
+placed_uses prefix (borrowed.Used v ∷ names) placed zero u at = (let same : v ≡ u = cc in subst (λ (x : UsedName). IsPlaced prefix x.from) same (placed.each 0 (borrowed.Used v) refl))
+placed_uses prefix (borrowed.Used v ∷ names) placed (suc k) u at = placed_uses prefix names (record { each = λ j x there. placed.each (suc j) x there }) k u at
+placed_uses prefix (borrowed.Defined d ∷ names) placed k u at = placed_uses prefix names (record { each = λ j x there. placed.each (suc j) x there }) k u at
+
+module _ (files : List PackageFile) (known : Known) (outcomes : AreOutcomes known.outcome) (inside : Item → Option Fault) (is : Interfaces) (old : List TypeDef) (place : ℕ) (w : Item) (sort : is_world w ≡ false) (walked : (s : ItemScope) → IsLent s is.files w → AreAsWalked files is (flat_map own_use s.names.now)) (ends : (h : IsReached old (resolved_scopes_of is) (owner.Interface place) w) → EndsIn (env_of h.names) (h.mid ++ h.more) (handle_fault files known.steps (address w))) (safe : (es : List TypeDef) (added : Interface) (rs : List Required) → AddsInterface (resolved_scopes_of is) place old es added rs w → IsSafe (env_of added.types) es (handle_fault files known.steps (address w))) where
+  abbrev handle : Id → Option Fault
+  handle = handle_fault files known.steps (address w)
+
+  abbrev outcome : Outcome
+  outcome = known.outcome (rows_of (scope_names w))
+
+  module _ (s : ItemScope) (lent : IsLent s is.files w) where
+    right : IsOutcome (rows_of (names_of s)) outcome
+    right = subst (λ (xs : List ScopeName). IsOutcome (rows_of xs) outcome) (sym lent.named) (outcomes.each (rows_of (scope_names w)))
+
+    -- what is said by tables is said by files
+    by_files : interface_fault is s outcome handle ≡ ordered_fault files known inside w
+    by_files =
+        ap (λ (v : Item). interface_fault is s outcome (handle_fault files known.steps (address v))) (sym lent.item)
+        ∙ interface_walked files known.steps inside is s outcome (ap is_world lent.item ∙ sort) (lent.named ∙ ap scope_names (sym lent.item)) (walked s lent)
+        ∙ ap (λ (v : Item). earliest (scope_faults files known.steps inside v outcome)) lent.item
+
+    said : (f : Fault) → IsInterfaceFault is place old s f → interface_fault is s outcome handle ≡ Some f
+    said f wrong =
+        let ids = map local_id (in_turn (names_of s) (order_of outcome)) in
+        let names = λ (ys : List ScopeName) (h : Id → Option Fault). option_or (local_faults is (flat_map own_use s.names.now)) (tables_fault ys outcome h) in
+        let stable = item_stability (scope_item s) in
+        let rest = λ (h : Id → Option Fault). rest_fault s ids h in
+        let r = subst (λ (ys : List ScopeName). Reaches (resolved_scopes_of is) (owner.Interface place) old [] (in_turn ys (order_of outcome)) (interface_fault is s outcome) f) lent.named (wrong outcome right) in
+        found_by (resolved_scopes_of is) (owner.Interface place) old w outcome stable (local_faults is (flat_map own_use s.names.now)) (λ h. definitions_fault h (defined (in_order (scope_names w) (order_of outcome)))) rest (interface_fault is s outcome)
+        (λ h. or_assoc stable (names (names_of s) h) (rest h) ∙ ap (λ (ys : List ScopeName). option_or stable (option_or (names ys h) (rest h))) lent.named)
+        handle f (outcomes.each (rows_of (scope_names w))) ends r
+
+  -- so a test by files is right of an interface
+  pub right_interface : IsRightOf (ordered_fault files known inside) is old place w
+  right_interface = record {
+    fault = λ s f lent wrong. sym (by_files s lent) ∙ said s lent f wrong;
+    none = λ s es added rs lent adds none. sym (by_files s lent) ∙ none outcome (right s lent) handle (safe es added rs adds);
+  }
 
 -- what `AreRightOf` says, by the files and the arena of the interfaces alone
 abbrev pub AreRightFrom : (Item → Option Fault) → List PackageFile → List Interface → List TypeDef → List BorrowedItem → List ℕ → Type 0

@@ -1,45 +1,290 @@
--- The walk's fault of each world of files is what is found of it, once all interfaces and the worlds before it are resolved.
-use Rattle.std.proofs.Common.{◌≡◌, ℕ, true, List, map, take, Option, Some, None, sym, ap, ◌∙◌, subst}
+-- The walk's fault of each world is what is found of it, once all interfaces and the worlds before it are resolved.
+use Rattle.std.proofs.Common.{◌≡◌, ◌⊎◌, ℕ, ◌+◌, true, false, List, [], ◌∷◌, ◌++◌, length, map, take, Option, Some, None, IsSome, inl, inr, refl, sym, ap, ◌∙◌, subst, Contains, arith}
 use Rattle.std.specs.Prelude.{slice_get}
+use Rattle.std.specs.List.{flat_map}
 use Rattle.std.specs.Option.{option_map}
-use Rattle.std.proofs.lemmas.Option.{slice_get-map}
-use Rattle.wit_type_tree.specs.declared.error.ParseError.{ParseError}
+use Rattle.std.specs.Str.{bytes_eq}
+use Rattle.wit_type_tree.specs.declared.leaves.Attribute.{Attribute}
+use Rattle.wit_type_tree.specs.declared.leaves.Id.{Id}
+use Rattle.wit_tree.specs.declared.tree.Include.{Include}
 use Rattle.wit_tree.specs.declared.tree.PackageFile.{PackageFile}
+use Rattle.wit_tree.specs.declared.tree.UseName.{UseName}
+use Rattle.wit_package_names.specs.declared.package_name.PackageName.{PackageName}
 use Rattle.wit_types.specs.declared.types.TypeDef.{TypeDef}
+use Rattle.wit_types.specs.declared.types.TypeOwner.TheVariants as owner
 use Rattle.wit_model.specs.declared.interface.Interface.{Interface}
 use Rattle.wit_model.specs.declared.world.World.{World}
 use Rattle.wit_graph.specs.Table.{IsOrder}
-use Rattle.wit_syntax.specs.Address.{Address}
-use Rattle.wit_syntax.specs.Broken.{IsBrokenNames}
+use Rattle.wit_syntax.specs.Address.{Address, ForeignNamed, InterfaceNamed}
 use Rattle.wit_syntax.specs.Fault.{Fault}
-use Rattle.wit_syntax.specs.Foreign.{foreign_interfaces, visited}
+use Rattle.wit_syntax.specs.Foreign.{ForeignVisit, foreign_at, foreign_interfaces, visited}
 use Rattle.wit_syntax.specs.Repeats.{AllDiffer}
-use Rattle.wit_syntax.specs.ScopeTables.{in_order, interfaces_of, item_rows, worlds_of}
-use Rattle.wit_syntax.specs.Source.{Item, all_items, is_world, item_name}
-use Rattle.wit_first.specs.First.{Reports, first_in}
-use Rattle.wit_first.specs.UseFaults.{all_uses_fault}
-use Rattle.wit_first.proofs.First.{reports_same}
-use Rattle.wit_walk.specs.Orders.{AreOutcomes}
-use Rattle.wit_walk.specs.Walk.{Known, contents_fault}
-use Rattle.wit_arena.specs.Resolving.{Required}
-use Rattle.wit_arena.specs.ResolvedArenas.{AddsForeign, AddsInterfaces, AddsWorlds, AreUsableUses, WorldArenas, prefix_worlds}
-use Rattle.wit_arena.proofs.LegalScopes.{distinct_items}
+use Rattle.wit_syntax.specs.ScopeTables.{in_order, in_turn, includes, interfaces_of, item_rows, rows_of, worlds_of}
+use Rattle.wit_syntax.specs.Sides.{Link, SideItem, SideLink, all_scopes, inline_after, inline_items, item_inline, side_items}
+use Rattle.wit_syntax.specs.Source.{Foreign, IncludePart, Item, ScopeName, TopName, Used, address, all_items, is_world, item_name, item_named, leads, local_id, parts, scope_names}
+use Rattle.wit_syntax.proofs.Found.{at_contains, contains_at, find_at, find_passes}
+use Rattle.wit_syntax.proofs.Inline.{inline_after-append, inline_interface, length-inline_after}
+use Rattle.wit_syntax.proofs.Lists.{take_seam}
+use Rattle.wit_syntax.proofs.Names.{name_equal}
+use Rattle.wit_syntax.proofs.Scopes.{scopes_declared, scopes_inline}
+use Rattle.wit_first.specs.First.{first_in, Reports}
+use Rattle.wit_walk.specs.Definitions.{handle_fault}
+use Rattle.wit_walk.specs.Members.{member_fault}
+use Rattle.wit_walk.specs.Orders.{AreOutcomes, InOrder, Outcome, order_of}
+use Rattle.wit_walk.specs.Paths.{include_fault}
+use Rattle.wit_walk.specs.Walk.{Known, contents_fault, inline_fault}
+use Rattle.wit_walk.proofs.One.{outcome_one}
+use Rattle.wit_arena.specs.Resolving.{IsIndex, IsWorldIndex, Names, Required, ResolvedScope, env_of, resolved_scopes}
+use Rattle.wit_arena.specs.ResolvedArenas.{AddsForeign, AddsInterface, AddsInterfaces, AddsScope, AddsSides, AddsWorlds, AreUsableUses, WorldArenas, prefix_worlds, worlds_at}
+use Rattle.wit_arena.proofs.Added.{InterfacesDone, interfaces_done}
+use Rattle.wit_arena.proofs.DoneWorlds.{AreWorldsDone}
+use Rattle.wit_arena.proofs.Interfaces.{interfaces_sort, worlds_sort}
+use Rattle.wit_arena.proofs.Leading.{IsForeignUse, kept_prefix, option_cases, used_interface}
+use Rattle.wit_arena.proofs.OrderedItems.{IsResolvedUse, are_interfaces, are_worlds, interface_at, interfaces, worlds}
+use Rattle.wit_arena.proofs.Prefix.{prefix_scopes}
+use Rattle.wit_arena.proofs.WorldSides.{world_added}
+use Rattle.wit_arena.proofs.Worlds.{worlds_done}
+use Rattle.wit_entries.specs.Requiring.{IsExtended}
+use Rattle.wit_externs.specs.AloneFaults.{EndsIn, IsSafe}
+use Rattle.wit_externs.proofs.AloneFaults.{safe_of}
+use Rattle.wit_externs.proofs.Steps.{at_middle}
+use Rattle.wit_files.specs.FileNames.{names_at_top}
+use Rattle.wit_scopes.specs.BorrowedNames.{Borrowed, name_view, own_use, source_view}
+use Rattle.wit_scopes.specs.PlacedNames.{AreNamesPlaced}
 use Rattle.wit_items.specs.ForeignAddresses.{prefix_of}
-use Rattle.wit_items.specs.BorrowedItems.{item_view, others_of}
+use Rattle.wit_items.specs.ItemPaths.{HasPart}
+use Rattle.wit_items.proofs.Others.{part_visited, used_visited}
+use Rattle.wit_items.specs.BorrowedItems.{declared_view, item_view, others_of}
 use Rattle.wit_items.specs.Gathered.{IsItemOf}
+use Rattle.wit_items.specs.ResolvedInterfaces.{resolved_scopes_of}
 use Rattle.wit_items.specs.declared.interfaces.Interfaces.{Interfaces}
 use Rattle.wit_items.specs.declared.items.Item.{Item as BorrowedItem}
-use Rattle.wit_items.proofs.Usable.{uses_sound}
+use Rattle.wit_items.specs.declared.items.ItemScope.{ItemScope}
+use Rattle.wit_items.proofs.Usable.{filed_item, uses_sound}
+use Rattle.wit_links.specs.Includes.{includes_fault}
 use Rattle.wit_links.specs.declared.worlds.Worlds.{Worlds}
+use Rattle.wit_item_entries.specs.declared.names.ResolvedNames.{ResolvedNames}
+use Rattle.wit_item_entries.proofs.ReachedFaults.{extended_same}
 use Rattle.wit_contents.specs.AddedInterfaces.{IsIndexed, interfaces_in}
 use Rattle.wit_contents.specs.AddedWorlds.{AreIndexed, worlds_in}
+use Rattle.wit_contents.specs.InterfaceFaults.{IsLent, IsRightOf}
+use Rattle.wit_contents.specs.MemberFaults.{AreRightMembers}
+use Rattle.wit_contents.specs.Walk.{AddsMembers, IsStart, Stage, next_place, stage, walk_of}
+use Rattle.wit_contents.specs.WorldFaults.{IsRightOfWorld, AreRightOfWorlds}
+use Rattle.wit_contents.specs.WorldWalk.{IsWalkOf}
+use Rattle.wit_contents.specs.declared.walk.Walk.{Walk}
+use Rattle.wit_contents.specs.declared.walk.Walked.{Walked}
+use Rattle.wit_contents.proofs.Ends.{IsEnough, IsReached, inline_ends, inline_safe, named_ends, world_ends}
+use Rattle.wit_contents.proofs.PathsWalked.{includes_walked, near_has, uses_as_walked}
+use Rattle.wit_contents.proofs.Linking.{link_path}
+use Rattle.wit_contents.proofs.LinksWalked.{IsLeading}
+use Rattle.wit_contents.proofs.MembersWalked.{right_members}
+use Rattle.wit_contents.proofs.RightInterfaces.{borrowed_uses, next_kept, placed_uses, right_interface, AreRightFrom, interfaces_right}
+use Rattle.wit_contents.proofs.Walked.{AreAsWalked, head_found, head_walked, walked_head, world_split}
+use Rattle.std.proofs.lemmas.Option.{slice_get-map}
+use Rattle.wit_type_tree.specs.declared.error.ParseError.{ParseError}
+use Rattle.wit_syntax.specs.Broken.{IsBrokenNames}
+use Rattle.wit_first.specs.UseFaults.{all_uses_fault}
+use Rattle.wit_first.proofs.First.{reports_same}
+use Rattle.wit_arena.proofs.LegalScopes.{distinct_items}
 use Rattle.wit_contents.specs.FileFaults.{IsRight, fault_after}
-use Rattle.wit_contents.specs.WorldFaults.{AreRightOfWorlds, IsRightOfWorld}
-use Rattle.wit_contents.proofs.EndsWalked.{IsEnough}
 use Rattle.wit_contents.proofs.FileFaults.{interfaces_reported, none_after, worlds_reported}
 use Rattle.wit_contents.proofs.Files.{uses_usable}
-use Rattle.wit_contents.proofs.RightInterfaces.{AreRightFrom, interfaces_right}
-use Rattle.wit_contents.proofs.RightWorld.{AreDeclared, right_world}
+
+-- all interfaces of files are resolved, in an order of their items, after those of other packages
+pub record AreDeclared (files : List PackageFile) (arena : List Interface) (places : List ℕ) (es : List TypeDef) (prefix : List Interface) (wprefix : List World) (middle : List TypeDef) (rs : List Required) : Type 0 where
+  pub order : IsOrder (item_rows files) places
+  pub differ : AllDiffer (map item_name (all_items files))
+  pub uses : AreUsableUses files (all_items files)
+  pub foreign : AddsForeign files es prefix wprefix
+  pub added : AddsInterfaces (map visited (foreign_interfaces files)) es middle prefix arena rs (interfaces_of (in_order (all_items files) places))
+
+-- the next world
+module _ (ws : Worlds) (places : List ℕ) (es : List TypeDef) (prefix : List Interface) (wprefix : List World) (middle : List TypeDef) (rs : List Required) (g : AreDeclared ws.interfaces.now.files ws.interfaces.now.arena places es prefix wprefix middle rs) (index : IsIndexed ws.interfaces.now) (known : Known) (outcomes : AreOutcomes known.outcome) (enough : (s : Address) → IsEnough ws.interfaces.now.files known.steps s) (count place : ℕ) (i : BorrowedItem) (next : slice_get places count ≡ Some place) (at : slice_get (all_items ws.interfaces.now.files) place ≡ Some (item_view i)) (sort : is_world (item_view i) ≡ true) (lent : IsItemOf ws.interfaces.now.files i) (mid : List TypeDef) (a : WorldArenas) (wrs : List Required) (adds : AddsWorlds (prefix_of ws.interfaces.now.files) (others_of ws.interfaces.now.files) ws.interfaces.now.arena middle mid (prefix_worlds wprefix) a wrs (worlds_of (in_order (all_items ws.interfaces.now.files) (take count places)))) (made : a.worlds ≡ ws.arena) (windex : AreIndexed ws) where
+  abbrev is : Interfaces
+  is = ws.interfaces.now
+
+  abbrev files : List PackageFile
+  files = is.files
+
+  abbrev all : List Item
+  all = all_items files
+
+  abbrev fore : List Address
+  fore = map visited (foreign_interfaces files)
+
+  abbrev w : Item
+  w = item_view i
+
+  abbrev xs : List ScopeName
+  xs = scope_names w
+
+  abbrev us : List Item
+  us = worlds_of (in_order all (take count places))
+
+  abbrev declared_interfaces : List Item
+  declared_interfaces = interfaces files places g.order g.differ
+
+  abbrev declared_worlds : List Item
+  declared_worlds = worlds files places g.order g.differ
+
+  abbrev outcome : Outcome
+  outcome = known.outcome (rows_of xs)
+
+  -- what is resolved
+  done : (own : List Interface) × (is.arena ≡ prefix ++ own) × InterfacesDone files declared_interfaces declared_worlds prefix declared_interfaces middle own rs
+  done = interfaces_done files declared_interfaces declared_worlds (interfaces_sort (in_order all places)) (worlds_sort (in_order all places)) (are_interfaces files places g.order g.differ) (are_worlds files places g.order g.differ) g.uses es prefix wprefix g.foreign middle is.arena rs declared_interfaces (λ j v there. there) g.added
+
+  abbrev resolved : List ResolvedScope
+  resolved = resolved_scopes fore (prefix ++ done.0)
+
+  scopes_are : resolved_scopes_of is ≡ resolved
+  scopes_are = ap (resolved_scopes fore) done.1
+
+  indexed : IsIndex resolved is.by_name
+  indexed = subst (λ (cs : List ResolvedScope). IsIndex cs is.by_name) scopes_are index
+
+  before : AreWorldsDone files declared_interfaces declared_worlds wprefix done.2.ordered (prefix_scopes files prefix ++ done.2.scopes) us mid a wrs
+  before = worlds_done files declared_interfaces declared_worlds (interfaces_sort (in_order all places)) (worlds_sort (in_order all places)) (are_interfaces files places g.order g.differ) (are_worlds files places g.order g.differ) g.uses es prefix wprefix g.foreign middle done.0 rs done.2 mid a wrs us (λ j v there. kept_prefix is_world all places count j v there) (subst (λ (l : List Interface). AddsWorlds fore (others_of files) l middle mid (prefix_worlds wprefix) a wrs us) done.1 adds)
+
+  there : slice_get declared_worlds (length us) ≡ Some w
+  there = next_kept is_world all places count place w next at sort
+
+  declared : Contains all w
+  declared = contains_at all place w at
+
+  -- uses of a scope of files
+  used_among : (v : Item) → Contains (all_scopes files) v → (from : Address) (attributes : List Attribute) (n : UseName) → Contains (scope_names v) (Used from attributes n) → IsResolvedUse files places g.order g.differ declared_interfaces from ⊎ IsForeignUse files from n
+  used_among v here from attributes n among = elim (used_interface files g.uses v from attributes n here among) [
+    | inl b ↦ (
+        let it = interface_at files places g.order g.differ b.item b.sort (contains_at all b.place b.item b.at) in
+        inl (record { place = it.0; item = b.item; at = it.1; sort = b.sort; is = b.is }))
+    | inr b ↦ inr b
+  ]
+
+  walked : (v : Item) → Contains (all_scopes files) v → (names : List Borrowed) → map name_view names ≡ scope_names v → AreNamesPlaced fore names → AreAsWalked files is (flat_map own_use names)
+  walked v here names named placed = uses_as_walked files places g.order g.differ g.uses es prefix wprefix g.foreign declared_interfaces middle done.0 rs done.2 is refl done.1 indexed (flat_map own_use names) (placed_uses fore names placed) (λ k u found. used_among v here (source_view u.from) u.attributes.now u.name.now (borrowed_uses names (scope_names v) named k u found))
+
+  -- its own
+  walked_uses : AreAsWalked files is (flat_map own_use i.names.items)
+  walked_uses = walked w (scopes_declared files w declared) i.names.items lent.named (lent.placed.each 0 i refl)
+
+  -- its includes
+  visits : (n : Include) (m : ℕ) → slice_get (parts w) m ≡ Some (IncludePart n) → (q : PackageName) (id : Id) → leads w.top n.from ≡ Foreign q id → (v : ForeignVisit) × (foreign_at files (ForeignNamed q id.name.now) ≡ Some v)
+  visits n m part q id lead =
+      let own : HasPart files i.place (IncludePart n) = record { declared = declared_view i.declared; item = filed_item files i lent.filed; among = contains_at (parts w) m (IncludePart n) part } in
+      part_visited files i.place (IncludePart n) n.attributes.items true n.from own refl q id (ap (λ (top : List TopName). leads top n.from) (ap names_at_top lent.filed.file) ∙ lead)
+
+  included : includes_fault ws w ≡ first_in (include_fault files w.top) (includes w)
+  included =
+      let windexed : IsWorldIndex (worlds_at (others_of files) a.worlds) ws.by_name = subst (λ (l : List World). IsWorldIndex (worlds_at (others_of files) l) ws.by_name) (sym made) windex in
+      let listed = world_added files declared_interfaces declared_worlds (interfaces_sort (in_order all places)) (worlds_sort (in_order all places)) (are_interfaces files places g.order g.differ) (are_worlds files places g.order g.differ) g.uses es prefix wprefix g.foreign middle done.0 rs done.2 us mid a wrs before w there in
+      includes_walked files places g.order g.differ es prefix wprefix g.foreign count place w next at sort done.2.ordered (prefix_scopes files prefix ++ done.2.scopes) mid a wrs before ws.by_name windexed listed ws refl refl visits
+
+  -- its links
+  leading : (link : Link) → Contains (side_items w) (SideLink link) → IsLeading files is.by_name (leads w.top link.path)
+  leading link among = record {
+    found = λ name usable. option_cases (item_named all name) (IsSome (env_of is.by_name name)) (λ v found. (
+        let p = find_at (λ (x : Item). bytes_eq (item_name x) name) all v found in
+        let called = name_equal (item_name v) name (find_passes (λ (x : Item). bytes_eq (item_name x) name) all v found) in
+        let both : Some (is_world v) ≡ Some false = sym (ap (option_map is_world) found) ∙ usable in
+        let other : is_world v ≡ false = cc in
+        let it = interface_at files places g.order g.differ v other (contains_at all p.0 v p.1) in
+        near_has files places g.order g.differ g.uses es prefix wprefix g.foreign declared_interfaces middle done.0 rs done.2 is refl done.1 indexed (InterfaceNamed (item_name v)) name (record { place = it.0; item = v; at = it.1; sort = other; is = refl }) (ap InterfaceNamed called))) (λ none. absurd (let wrong : None ≡ Some false = sym (ap (option_map is_world) none) ∙ usable in cc));
+    visits = λ p id lead. (
+        let k = at_contains (side_items w) (SideLink link) among in
+        used_visited files w link.path declared (link_path w k.0 link k.1) p id lead);
+  }
+
+  -- where names of it end
+  ends : (h : IsReached mid (resolved_scopes_of is) (owner.World (length ws.arena)) w) → EndsIn (env_of h.names) (h.mid ++ h.more) (handle_fault files known.steps (address w))
+  ends = subst (λ (l : List World). (h : IsReached mid (resolved_scopes_of is) (owner.World (length l)) w) → EndsIn (env_of h.names) (h.mid ++ h.more) (handle_fault files known.steps (address w))) made (
+      subst (λ (cs : List ResolvedScope). (h : IsReached mid cs (owner.World (length a.worlds)) w) → EndsIn (env_of h.names) (h.mid ++ h.more) (handle_fault files known.steps (address w))) (sym scopes_are) (λ h.
+      world_ends files declared_interfaces declared_worlds (interfaces_sort (in_order all places)) (worlds_sort (in_order all places)) (are_interfaces files places g.order g.differ) (are_worlds files places g.order g.differ) g.uses es prefix wprefix g.foreign middle done.0 rs done.2 us mid a wrs w there before h known.steps (enough (address w))))
+
+  module _ (types : Names) (named : List TypeDef) (scoped : AddsScope mid named (resolved_scopes_of is) (owner.World (length ws.arena)) xs types) where
+    own_scoped : AddsScope mid named resolved (owner.World (length a.worlds)) xs types
+    own_scoped = subst (λ (l : List World). AddsScope mid named resolved (owner.World (length l)) xs types) (sym made) (subst (λ (cs : List ResolvedScope). AddsScope mid named cs (owner.World (length ws.arena)) xs types) scopes_are scoped)
+
+    all_ends : (new : List TypeDef) → IsExtended named new → EndsIn (env_of types) new (handle_fault files known.steps (address w))
+    all_ends new extended = named_ends files declared_interfaces declared_worlds (interfaces_sort (in_order all places)) (worlds_sort (in_order all places)) (are_interfaces files places g.order g.differ) (are_worlds files places g.order g.differ) g.uses es prefix wprefix g.foreign middle done.0 rs done.2 us mid a wrs w there before types named own_scoped new extended known.steps (enough (address w))
+
+    -- an interface that is written in it comes next
+    module _ (names : ResolvedNames) (same_types : names.types ≡ types) (walk : Walk) (own : IsWalkOf walk i is names) (start : Walked) (first : List SideItem) (now : Stage) (members : AddsMembers (walk_of i walk) [] first (stage named a.inside start) now) (x : SideItem) (rest : List SideItem) (split : side_items w ≡ first ++ (x ∷ rest)) (u : Item) (inner : inline_after w first (x ∷ []) ≡ u ∷ []) where
+      abbrev written : List Item
+      written = inline_after w [] first
+
+      abbrev later : List Item
+      later = inline_after w (first ++ x ∷ []) rest
+
+      whole : inline_items w ≡ written ++ (u ∷ later)
+      whole =
+          ap (inline_after w []) split
+          ∙ inline_after-append w [] first (x ∷ rest)
+          ∙ ap (λ (l : List Item). written ++ l) (inline_after-append w first (x ∷ []) rest)
+          ∙ ap (λ (l : List Item). written ++ (l ++ later)) inner
+
+      in_front : written ≡ take (length written) (inline_items w)
+      in_front = sym (ap (take (length written)) whole ∙ take_seam written (u ∷ later))
+
+      in_turn_next : slice_get (inline_items w) (length written) ≡ Some u
+      in_turn_next = ap (λ (l : List Item). slice_get l (length written)) whole ∙ at_middle written u later
+
+      covered : length now.inside ≡ length a.inside + length written
+      covered =
+          let more : length now.inside ≡ length a.inside + length (flat_map item_inline first) = members.more in
+          let long : length written ≡ length (flat_map item_inline first) = length-inline_after w [] first in
+          omega (arith, more, long)
+
+      sides : AddsSides resolved (length (prefix ++ done.0)) (address w) types named now.types a.inside now.inside members.functions members.adds.own first written
+      sides =
+          subst (λ (ns : Names). AddsSides resolved (length (prefix ++ done.0)) (address w) ns named now.types a.inside now.inside members.functions members.adds.own first written) (own.types ∙ same_types) (
+          subst (λ (l : List Interface). AddsSides resolved (length l) (address w) walk.scope.names.now named now.types a.inside now.inside members.functions members.adds.own first written) done.1 (
+          subst (λ (cs : List ResolvedScope). AddsSides cs (length is.arena) (address w) walk.scope.names.now named now.types a.inside now.inside members.functions members.adds.own first written) scopes_are (
+          subst (λ (js : Interfaces). AddsSides (resolved_scopes_of js) (length js.arena) (address w) walk.scope.names.now named now.types a.inside now.inside members.functions members.adds.own first written) own.interfaces (members.adds.holds (address w)))))
+
+      abbrev spot : ℕ
+      spot = next_place is now.inside
+
+      inner_ends : (h : IsReached now.types (resolved_scopes_of is) (owner.Interface spot) u) → EndsIn (env_of h.names) (h.mid ++ h.more) (handle_fault files known.steps (address u))
+      inner_ends = subst (λ (l : List Interface). (h : IsReached now.types (resolved_scopes_of is) (owner.Interface (length l + length now.inside)) u) → EndsIn (env_of h.names) (h.mid ++ h.more) (handle_fault files known.steps (address u))) (sym done.1) (
+          subst (λ (cs : List ResolvedScope). (h : IsReached now.types cs (owner.Interface (length (prefix ++ done.0) + length now.inside)) u) → EndsIn (env_of h.names) (h.mid ++ h.more) (handle_fault files known.steps (address u))) (sym scopes_are) (λ h.
+          inline_ends files declared_interfaces declared_worlds (interfaces_sort (in_order all places)) (worlds_sort (in_order all places)) (are_interfaces files places g.order g.differ) (are_worlds files places g.order g.differ) g.uses es prefix wprefix g.foreign middle done.0 rs done.2 us mid a wrs w there before types named own_scoped first written (length written) in_front u in_turn_next now.types now.inside members.functions members.adds.own sides covered h known.steps (enough (address u))))
+
+      inner_safe : (new : List TypeDef) (added : Interface) (required : List Required) → AddsInterface (resolved_scopes_of is) spot now.types new added required u → IsSafe (env_of added.types) new (handle_fault files known.steps (address u))
+      inner_safe new added required h = inline_safe files declared_interfaces declared_worlds (interfaces_sort (in_order all places)) (worlds_sort (in_order all places)) (are_interfaces files places g.order g.differ) (are_worlds files places g.order g.differ) g.uses es prefix wprefix g.foreign middle done.0 rs done.2 us mid a wrs w there before types named own_scoped first written (length written) in_front u in_turn_next now.types now.inside members.functions members.adds.own sides covered new added required (
+          subst (λ (l : List Interface). AddsInterface resolved (length l + length now.inside) now.types new added required u) done.1 (subst (λ (cs : List ResolvedScope). AddsInterface cs spot now.types new added required u) scopes_are h)) known.steps (enough (address u))
+
+      inner_walked : (s : ItemScope) → IsLent s files u → AreAsWalked files is (flat_map own_use s.names.now)
+      inner_walked s its = walked u (scopes_inline files w u declared (contains_at (inline_items w) (length written) u in_turn_next)) s.names.now its.named its.placed
+
+      right_inside : IsRightOf (inline_fault files known) is now.types spot u
+      right_inside = right_interface files known outcomes (λ other. None) is now.types spot u (inline_interface w (length written) u in_turn_next) inner_walked inner_ends inner_safe
+
+  -- its members
+  abbrev member : List SideItem → SideItem → Option Fault
+  member = member_fault files known.steps (inline_fault files known) w (order_of outcome)
+
+  module _ (names : ResolvedNames) (named : List TypeDef) (scoped : AddsScope mid named (resolved_scopes_of is) (owner.World (length ws.arena)) xs names.types) (walk : Walk) (start : Walked) (own : IsWalkOf walk i is names) (begun : IsStart (walk_of i walk) start) where
+    right_sides : AreRightMembers member (walk_of i walk) [] (side_items w) (stage named a.inside start)
+    right_sides =
+        let turn = own.walk.turn in
+        let ordered : outcome ≡ InOrder turn.order = outcome_one (rows_of xs) outcome (InOrder turn.order) (outcomes.each (rows_of xs)) turn.least in
+        subst (λ (js : Interfaces). AreRightMembers (member_fault js.files known.steps (inline_fault js.files known) w (order_of outcome)) (walk_of i walk) [] (side_items w) (stage named a.inside start)) own.interfaces (
+        right_members (walk_of i walk) known (order_of outcome) (turn.are ∙ ap (λ (o : Outcome). map local_id (in_turn xs (order_of o))) (sym ordered)) own.walk.listed start begun named a.inside
+        (λ new extended. subst (λ (js : Interfaces). EndsIn (env_of walk.scope.names.now) new (handle_fault js.files known.steps (address w))) (sym own.interfaces) (subst (λ (ns : Names). EndsIn (env_of ns) new (handle_fault files known.steps (address w))) (sym own.types) (all_ends names.types named scoped new extended)))
+        (λ link among. subst (λ (js : Interfaces). IsLeading js.files js.by_name (leads w.top link.path)) (sym own.interfaces) (leading link among))
+        (λ first now members x rest split u inner. subst (λ (js : Interfaces). IsRightOf (inline_fault js.files known) js now.types (next_place js now.inside) u) (sym own.interfaces) (right_inside names.types named scoped names refl walk own start first now members x rest split u inner)))
+
+  pub right_world : IsRightOfWorld (contents_fault files known) ws mid a.inside i
+  right_world = record {
+    head = walked_head files known.steps w outcome;
+    member = member;
+    is = world_split files known.steps (inline_fault files known) w outcome;
+    fault = λ f wrong. head_found files known.steps ws i outcome lent.named walked_uses included mid f (outcomes.each (rows_of xs)) ends wrong;
+    none = λ types named scoped none. sym (head_walked files known.steps ws i outcome lent.named walked_uses included) ∙ none outcome (outcomes.each (rows_of xs)) (handle_fault files known.steps (address w)) (safe_of (env_of types) named (handle_fault files known.steps (address w)) (all_ends types named scoped named (extended_same named)));
+    members = λ names named scoped none walk start own begun. right_sides names named scoped walk start own begun;
+  }
 
 -- what is known of files whose interfaces are resolved
 record IsGiven (is : Interfaces) (files : List PackageFile) (places : List ℕ) (es : List TypeDef) (prefix : List Interface) (wprefix : List World) (middle : List TypeDef) (rs : List Required) (items : List BorrowedItem) (steps : ℕ) : Type 0 where

@@ -14,12 +14,10 @@ use Rattle.wit_items.specs.ForeignAddresses.{prefix_of}
 use Rattle.wit_front.specs.ForeignPrefix.{IsPrefix}
 use Rattle.wit_item_entries.specs.NewRequirements.{Appends}
 use Rattle.wit_contents.specs.Outer.{AreOuter}
-use Rattle.wit_contents.proofs.Outer.{all_outer}
+use Rattle.wit_contents.proofs.Files.{all_outer, borrowed_within, interfaces_enough, prefix_index, prefix_started, prefix_used, prefix_worlds_index, uses_usable, worlds_enough}
 use Rattle.wit_contents.specs.AddedWorlds.{arenas}
 use Rattle.wit_contents.proofs.FileFaults.{memory_found, uses_reported}
 use Rattle.wit_contents.proofs.RightWorlds.{interfaces_first, nothing_first, worlds_first}
-use Rattle.wit_contents.proofs.Files.{uses_usable, borrowed_within}
-use Rattle.wit_contents.proofs.Fronting.{interfaces_enough, prefix_index, prefix_started, prefix_used, prefix_worlds_index, worlds_enough}
 use Rattle.wit_contents.proofs.contents.resolve_files.Goals as goal
 
 pub add_used_by_items-requires : goal.add_used_by_items-requires

@@ -40,9 +40,8 @@ returns-clause-added c =
 pub returns-in_err-interface-clause-first : goal.returns-in_err-interface-clause-first
 returns-in_err-interface-clause-first c =
     let p = err_from_is_err_and c.from_residual.result c.from_residual.ensures.1 in
-    let is = c.args.interfaces.now in
     let s = c.scope-scope.result in
-    let lent : IsLent s is.files (item_view c.args.item.now) = record {
+    let lent : IsLent s c.args.interfaces.now.files (item_view c.args.item.now) = record {
       item = c.scope-scope.ensures.item;
       named = c.scope-scope.ensures.names ∙ c.requires.item.named;
       placed = rw c.scope-scope.ensures.borrowed (c.requires.item.placed.each 0 c.args.item.now refl);

@@ -83,6 +83,4 @@ loop-place-preserved c =
 pub returns-clause-first : goal.returns-clause-first
 returns-clause-first c = λ test right.
     let ws = map item_view c.args.items.now in
-    let places = c.args.places.now in
-    let i = c.loop-place.place-index in
-    ap (λ (l : List ℕ). first_in test (interfaces_of (in_order ws l))) (sym (take_all i places (omega arith))) ∙ c.loop-place.invariant.first test right
+    ap (λ (l : List ℕ). first_in test (interfaces_of (in_order ws l))) (sym (take_all c.loop-place.place-index c.args.places.now (omega arith))) ∙ c.loop-place.invariant.first test right

@@ -27,8 +27,7 @@ resolve_item_functions-requires-clause-of c = (scope_item c.args.item.now, recor
 
 pub resolve_item_functions-requires-clause-turn : goal.resolve_item_functions-requires-clause-turn
 resolve_item_functions-requires-clause-turn c =
-    let ids = c.args.names.now.turn.items in
-    subst (λ (xs : List ScopeName). IsTurn xs ids) (sym c.requires.named) (turn_added _ _ _ _ _ _ _ _ c.requires.added.3)
+    subst (λ (xs : List ScopeName). IsTurn xs c.args.names.now.turn.items) (sym c.requires.named) (turn_added _ _ _ _ _ _ _ _ c.requires.added.3)
 
 pub check_pairs-requires : goal.check_pairs-requires
 check_pairs-requires c = λ some.
@@ -61,11 +60,9 @@ returns-in_err-own-clause-first c =
 pub returns-in_err-check_pairs-clause-first : goal.returns-in_err-check_pairs-clause-first
 returns-in_err-check_pairs-clause-first c =
     let p = err_from_is_err_and c.from_residual-in_err-check_pairs.result c.from_residual-in_err-check_pairs.ensures.1 in
-    let item = c.args.item.now in
-    let names = c.args.names.now in
-    let fns = functions_in (declared_view item.declared) in
+    let fns = functions_in (declared_view c.args.item.now.declared) in
     let written : map function_view c.deref.result.now ≡ fns = ap (map function_view) c.deref.ensures.value ∙ c.in_ok-own.ensures.written in
-    rw (p.1, p.2) (or_found c.in_err-check_pairs.ensures.first (λ wrong handle ends. ap (λ (o : Option Fault). option_or o (lone_setters fns)) (c.in_ok-own.ensures.first handle (safe_of (env_of names.types) c.resolve_item_functions.new.types handle ends)) ∙ ap lone_setters (sym written) ∙ wrong))
+    rw (p.1, p.2) (or_found c.in_err-check_pairs.ensures.first (λ wrong handle ends. ap (λ (o : Option Fault). option_or o (lone_setters fns)) (c.in_ok-own.ensures.first handle (safe_of (env_of c.args.names.now.types) c.resolve_item_functions.new.types handle ends)) ∙ ap lone_setters (sym written) ∙ wrong))
 
 pub returns-clause-first : goal.returns-clause-first
 returns-clause-first c = λ handle safe.

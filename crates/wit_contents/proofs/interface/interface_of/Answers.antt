@@ -46,18 +46,12 @@ returns-clause-adds c =
 pub returns-in_err-head-clause-first : goal.returns-in_err-head-clause-first
 returns-in_err-head-clause-first c =
     let p = err_from_is_err_and c.from_residual-in_err-head.result c.from_residual-in_err-head.ensures.1 in
-    let is = c.args.interfaces.now in
-    let item = c.args.item.now in
-    rw (p.1, p.2) (or_found c.in_err-head.ensures.first (λ wrong. head_first is c.args.place c.args.types.now item _ wrong))
+    rw (p.1, p.2) (or_found c.in_err-head.ensures.first (λ wrong. head_first c.args.interfaces.now c.args.place c.args.types.now c.args.item.now _ wrong))
 
 pub returns-in_err-functions-clause-first : goal.returns-in_err-functions-clause-first
 returns-in_err-functions-clause-first c =
     let p = err_from_is_err_and c.from_residual-in_err-functions.result c.from_residual-in_err-functions.ensures.1 in
-    let is = c.args.interfaces.now in
-    let item = c.args.item.now in
-    let mid = c.resolve_head.new.types in
-    let new = c.functions_of.new.types in
-    rw (p.1, p.2) (or_found c.in_err-functions.ensures.first (λ wrong. rest_first is c.args.place c.args.types.now mid new item c.in_ok-head.head.names _ c.requires.named c.in_ok-head.ensures.adds c.in_ok-head.ensures.first c.in_err-functions.ensures.extended wrong))
+    rw (p.1, p.2) (or_found c.in_err-functions.ensures.first (λ wrong. rest_first c.args.interfaces.now c.args.place c.args.types.now c.resolve_head.new.types c.functions_of.new.types c.args.item.now c.in_ok-head.head.names _ c.requires.named c.in_ok-head.ensures.adds c.in_ok-head.ensures.first c.in_err-functions.ensures.extended wrong))
 
 pub returns-clause-first : goal.returns-clause-first
 returns-clause-first c =

@@ -10,7 +10,7 @@ use Rattle.wit_refusals.specs.NameScopes.{Name}
 use Rattle.wit_externs.specs.Clash.{names_of_items}
 use Rattle.wit_contents.specs.declared.walk.Walked.{Walked}
 use Rattle.wit_contents.specs.Walk.{walk_item, walk_of}
-use Rattle.wit_contents.proofs.NamesAlone.{texts_differ}
+use Rattle.wit_contents.proofs.WorldParts.{texts_differ}
 use Rattle.wit_contents.proofs.WorldFaults.{next_all, setters_closed}
 use Rattle.wit_contents.proofs.sides.walk_sides.Goals as goal
 
@@ -25,9 +25,8 @@ named_members-requires-clause-listed c = c.requires.walk.listed
 
 pub walk_parts-requires : goal.walk_parts-requires
 walk_parts-requires c =
-    let e = c.in_ok-members.ensures in
     let start : Walked = record { members = c.in_ok-members.members; required = c.new.result; seen = c.none.result } in
-    next_all (walk_of c.args.item.now c.args.walk.now) start c.requires.walk c.none.ensures e.keyed
+    next_all (walk_of c.args.item.now c.args.walk.now) start c.requires.walk c.none.ensures c.in_ok-members.ensures.keyed
 
 pub check_closed-requires : goal.check_closed-requires
 check_closed-requires c =

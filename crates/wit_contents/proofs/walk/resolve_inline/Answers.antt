@@ -11,12 +11,10 @@ pub returns-clause-adds : goal.returns-clause-adds
 returns-clause-adds c =
     let cs = resolved_scopes_of c.args.interfaces.now in
     let added = c.in_ok-interface.interface in
-    let before = c.args.required.now.items in
-    let after = c.interface_of.new.required.items in
     record {
       added = added;
       last = c.in_ok-alloc.ensures.ok;
-      appends = subst (λ (n : ℕ). Appends before after (λ (rs : List Required). AddsInterface cs n c.args.types.now c.interface_of.new.types added rs (scope_item c.args.scope.now))) c.in_ok-id.ensures c.in_ok-interface.ensures.adds;
+      appends = subst (λ (n : ℕ). Appends c.args.required.now.items c.interface_of.new.required.items (λ (rs : List Required). AddsInterface cs n c.args.types.now c.interface_of.new.types added rs (scope_item c.args.scope.now))) c.in_ok-id.ensures c.in_ok-interface.ensures.adds;
     }
 
 pub returns-in_err-interface-clause-first : goal.returns-in_err-interface-clause-first

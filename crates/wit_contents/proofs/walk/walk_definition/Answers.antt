@@ -7,8 +7,7 @@ use Rattle.wit_syntax.specs.Function.{resource_function}
 use Rattle.wit_syntax.specs.Sides.{SideFunction, part_items}
 use Rattle.wit_syntax.specs.Source.{DefinitionPart}
 use Rattle.wit_contents.specs.Walk.{resource_items, stage, walk_of}
-use Rattle.wit_contents.proofs.MemberFaults.{done_later, first_later, next_of, nothing_done}
-use Rattle.wit_contents.proofs.PartItems.{resource_more, resource_split}
+use Rattle.wit_contents.proofs.MemberFaults.{done_later, first_later, next_of, nothing_done, resource_more, resource_split}
 use Rattle.wit_contents.proofs.walk.walk_definition.Goals as goal
 
 pub loop-function-init : goal.loop-function-init

@@ -24,9 +24,8 @@ inside_scope-scope-requires c =
     let n = c.requires.next in
     let x = c.args.inline in
     let side = x.written.now.side in
-    let i = c.args.item.now in
     let count : c.on-counts.result.inline ≡ length (flat_map item_inline (items_on side n.prefix)) = ap (λ (k : Counts). k.inline) c.on-counts.ensures ∙ n.seen.inline side in
-    record { within = names_within (inside_view side i) (walk_item (walk_of c.args.item.now c.args.walk.now)) n.prefix n.rest x.written.now x.name x.items.now c.on-counts.result.inline (n.walk.item.written side) n.sides count }
+    record { within = names_within (inside_view side c.args.item.now) (walk_item (walk_of c.args.item.now c.args.walk.now)) n.prefix n.rest x.written.now x.name x.items.now c.on-counts.result.inline (n.walk.item.written side) n.sides count }
 
 pub resolve_inline-requires-clause-sort : goal.resolve_inline-requires-clause-sort
 resolve_inline-requires-clause-sort c = ap is_world c.inside_scope-scope.ensures.item
@@ -44,14 +43,12 @@ pub returns-clause-adds : goal.returns-clause-adds
 returns-clause-adds c = λ n.
     let w = walk_of c.args.item.now c.args.walk.now in
     let x = c.args.inline in
-    let side = x.written.now.side in
     let u = inline_of (walk_item w) x in
-    let same = c.inside_scope-scope.ensures.item in
     let says = c.in_ok-id.ensures in
     let types = c.resolve_inline.new.types in
     let inside = c.resolve_inline.new.inside in
-    let here : inline_after (walk_item w) n.prefix (inline_side x ∷ []) ≡ u ∷ [] = inline_here (walk_item w) n.prefix x c.requires.world (c.requires.place ∙ n.seen.interfaces side) in
-    let step = subst (AddsInside w.walk.interfaces.now c.args.growing.now.types types c.args.growing.now.inside inside c.args.walked.now.required.items c.resolve_inline.new.required.items) same says.adds in
+    let here : inline_after (walk_item w) n.prefix (inline_side x ∷ []) ≡ u ∷ [] = inline_here (walk_item w) n.prefix x c.requires.world (c.requires.place ∙ n.seen.interfaces x.written.now.side) in
+    let step = subst (AddsInside w.walk.interfaces.now c.args.growing.now.types types c.args.growing.now.inside inside c.args.walked.now.required.items c.resolve_inline.new.required.items) c.inside_scope-scope.ensures.item says.adds in
     let put = rw says.id at (c.in_ok-put_inline.ensures.puts x.items.now) in
     member_inline w n.prefix (stage_of c.args.growing.now c.args.walked.now) x u types inside _ here step says.extended put (λ ys seen. c.in_ok-seen.ensures ys (inline_side x) (refl, refl, refl) seen)
 

@@ -1,8 +1,7 @@
 use Rattle.std.proofs.Common.{take}
 use Rattle.wit_syntax.specs.Sides.{side_items}
 use Rattle.wit_contents.specs.Walk.{stage, walk_item, walk_of}
-use Rattle.wit_contents.proofs.MemberFaults.{AreDone}
-use Rattle.wit_contents.proofs.PartItems.{world_sides}
+use Rattle.wit_contents.proofs.MemberFaults.{AreDone, world_sides}
 use Rattle.wit_contents.proofs.walk.walk_parts.Given as goal
 
 -- the parts up to here are added, and nothing of theirs has a fault

@@ -11,8 +11,7 @@ add_world-requires-clause-named c = c.in_ok-world.ensures.named ∙ ap (λ (id :
 
 pub returns-clause-adds : goal.returns-clause-adds
 returns-clause-adds c =
-    let ws = c.args.worlds.now in
-    subst (λ (arena : List World). AddsTo ws arena c.args.item.now c.args.growing.now c.world_of.new.growing c.args.required.now.items c.world_of.new.required.items) (sym c.in_ok-add_world.ensures.added) c.in_ok-world.ensures.adds
+    subst (λ (arena : List World). AddsTo c.args.worlds.now arena c.args.item.now c.args.growing.now c.world_of.new.growing c.args.required.now.items c.world_of.new.required.items) (sym c.in_ok-add_world.ensures.added) c.in_ok-world.ensures.adds
 
 pub returns-in_err-world-clause-first : goal.returns-in_err-world-clause-first
 returns-in_err-world-clause-first c =

@@ -76,9 +76,7 @@ pub returns-clause-added : goal.returns-clause-added
 returns-clause-added c =
     let ws = map item_view c.args.items.now in
     let places = c.args.places.now in
-    let i = c.loop-place.place-index in
-    let now = c.loop-place.worlds in
-    let p = subst (λ (l : List ℕ). AreWorldsTo (prefix_of c.args.interfaces.now.files) (others_of c.args.interfaces.now.files) c.args.interfaces.now.arena c.args.types.now c.loop-place.growing.types c.args.prefix now.arena c.loop-place.growing.inside [] c.loop-place.required.items (worlds_of (in_order ws l))) (take_all i places c.loop-place-test.false) c.loop-place.invariant.added in
+    let p = subst (λ (l : List ℕ). AreWorldsTo (prefix_of c.args.interfaces.now.files) (others_of c.args.interfaces.now.files) c.args.interfaces.now.arena c.args.types.now c.loop-place.growing.types c.args.prefix c.loop-place.worlds.arena c.loop-place.growing.inside [] c.loop-place.required.items (worlds_of (in_order ws l))) (take_all c.loop-place.place-index places c.loop-place-test.false) c.loop-place.invariant.added in
     record { own = p.appends.own; list = p.appends.list; holds = (addresses_in (worlds_of (in_order ws places)), p.appends.holds) }
 
 pub returns-in_err-resolve_world-in-World-clause-first : goal.returns-in_err-resolve_world-in-World-clause-first
@@ -100,6 +98,4 @@ returns-in_err-make_room-clause-first c = λ test right. memory_found c.from_res
 pub returns-clause-first : goal.returns-clause-first
 returns-clause-first c = λ test right.
     let ws = map item_view c.args.items.now in
-    let places = c.args.places.now in
-    let i = c.loop-place.place-index in
-    ap (λ (l : List ℕ). first_in test (worlds_of (in_order ws l))) (sym (take_all i places c.loop-place-test.false)) ∙ c.loop-place.invariant.first test right
+    ap (λ (l : List ℕ). first_in test (worlds_of (in_order ws l))) (sym (take_all c.loop-place.place-index c.args.places.now c.loop-place-test.false)) ∙ c.loop-place.invariant.first test right

@@ -2,13 +2,12 @@ use Rattle.std.proofs.Common.{◌++◌, List, map, sym, ap, ◌∙◌, subst}
 use Rattle.wit_type_tree.specs.declared.leaves.Id.{Id}
 use Rattle.wit_syntax.specs.Repeats.{AllDiffer}
 use Rattle.wit_arena.specs.Resolving.{Required}
-use Rattle.wit_contents.proofs.NamesAlone.{texts_differ}
+use Rattle.wit_contents.proofs.WorldParts.{texts_differ}
 use Rattle.wit_contents.proofs.world.sides_of_names.Goals as goal
 
 pub named_sides-requires : goal.named_sides-requires
 named_sides-requires c =
-    let ids = c.args.names.now.turn.items in
-    record { distinct = subst (λ (l : List Id). AllDiffer (map (λ id. id.name.now) l)) (sym c.deref.ensures.value) (texts_differ c.requires.turn.0 ids c.requires.turn.1) }
+    record { distinct = subst (λ (l : List Id). AllDiffer (map (λ id. id.name.now) l)) (sym c.deref.ensures.value) (texts_differ c.requires.turn.0 c.args.names.now.turn.items c.requires.turn.1) }
 
 pub returns-clause-sides : goal.returns-clause-sides
 returns-clause-sides c = record {

@@ -1,6 +1,6 @@
 use Rattle.std.proofs.lemmas.Result.{err_from_is_err_and}
 use Rattle.wit_contents.specs.declared.walk.Walk.{Walk}
-use Rattle.wit_contents.proofs.Walks.{walk_of_scope}
+use Rattle.wit_contents.proofs.WorldParts.{walk_of_scope}
 use Rattle.wit_contents.proofs.WorldFaults.{sides_none, sides_reported}
 use Rattle.wit_contents.proofs.world.walked_sides.Goals as goal
 

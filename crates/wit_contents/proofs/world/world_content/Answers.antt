@@ -22,9 +22,7 @@ use Rattle.wit_world_sides.proofs.Putting.{keyed_differ}
 use Rattle.wit_contents.specs.Walk.{walk_of}
 use Rattle.wit_contents.specs.WorldWalk.{IsWalkOf}
 use Rattle.wit_contents.proofs.FileFaults.{memory_found, or_found}
-use Rattle.wit_contents.proofs.NamesAlone.{alone_adds, alone_extended, alone_none, none_there}
-use Rattle.wit_contents.proofs.Parts.{content_adds, extended}
-use Rattle.wit_contents.proofs.Walks.{turn_of}
+use Rattle.wit_contents.proofs.WorldParts.{alone_adds, alone_extended, alone_none, content_adds, extended, none_there, turn_of}
 use Rattle.wit_contents.proofs.WorldFaults.{head_fault, includes_first, names_first, world_none, world_reported}
 use Rattle.wit_contents.proofs.world.world_content.Goals as goal
 
@@ -65,14 +63,13 @@ returns-then-not-have_upper_case-clause-extended c =
 
 pub returns-then-not-have_upper_case-clause-first : goal.returns-then-not-have_upper_case-clause-first
 returns-then-not-have_upper_case-clause-first c = λ stable wrong right.
-    let ws = c.args.worlds.now in
     let i = c.args.item.now in
     let names = c.in_ok-names.names in
     let n = c.in_ok-names.ensures.adds in
     let empty = none_there i c.declared_world-world.result.now c.world_items.result.now c.declared_world-world.ensures c.world_items.ensures (sym c.put_nothing.ensures ∙ c.if-put_nothing.true) in
     let lower = ap has_upper (sym c.deref.ensures.value) ∙ sym c.have_upper_case.ensures ∙ c.if-not-have_upper_case.true in
     let included = rw (ap names_at_top c.requires.item.filed.file) at c.in_ok-includes.ensures.first in
-    world_none ws i c.args.growing.now.types c.requires.item.named stable names c.world_names.new.types n c.in_ok-names.ensures.first included wrong c.args.growing.now.inside right (λ member sides. alone_none (item_view i) empty names.turn.items (turn_added _ _ _ _ _ _ _ _ n) lower member)
+    world_none c.args.worlds.now i c.args.growing.now.types c.requires.item.named stable names c.world_names.new.types n c.in_ok-names.ensures.first included wrong c.args.growing.now.inside right (λ member sides. alone_none (item_view i) empty names.turn.items (turn_added _ _ _ _ _ _ _ _ n) lower member)
 
 -- or something may
 pub written_results-requires : goal.written_results-requires
@@ -106,7 +103,6 @@ returns-clause-adds c = λ world has ss known.
     let is = ws.interfaces.now in
     let item = item_view c.args.item.now in
     let names = c.in_ok-names.names in
-    let n = c.in_ok-names.ensures.adds in
     let o = OfWorld (length ws.arena) in
     let old = c.args.growing.now.types in
     let middle = c.world_names.new.types in
@@ -114,7 +110,7 @@ returns-clause-adds c = λ world has ss known.
     let h = c.in_ok-walked.ensures.adds in
     let w = h.0 in
     let of : IsWalkOf w c.args.item.now is names = h.1 in
-    let added = turn_of w c.args.item.now is names of old middle o n in
+    let added = turn_of w c.args.item.now is names of old middle o c.in_ok-names.ensures.adds in
     let are = rw (ap names_at_top c.requires.item.filed.file) at c.in_ok-includes.ensures.are in
     let closed = c.is_closed-closed.ensures (written_includes item) (ap length c.as_slice.ensures ∙ are.count) in
     let settled = λ (s : WorldSide). c.in_ok-sides-2.ensures s (written_includes item) closed in
@@ -162,17 +158,15 @@ returns-in_err-includes-clause-first c =
 pub returns-in_err-walked-clause-first : goal.returns-in_err-walked-clause-first
 returns-in_err-walked-clause-first c =
     let p = err_from_is_err_and c.from_residual-in_err-walked.result c.from_residual-in_err-walked.ensures.1 in
-    let i = c.args.item.now in
     let e = c.in_ok-names.ensures in
     let included = rw (ap names_at_top c.requires.item.filed.file) at c.in_ok-includes.ensures.first in
-    rw (p.1, p.2) (λ stable wrong right. world_reported c.args.worlds.now i c.args.growing.now.types c.requires.item.named stable c.in_ok-names.names c.world_names.new.types e.adds e.first included wrong c.args.growing.now.inside right _ c.in_err-walked.ensures.first)
+    rw (p.1, p.2) (λ stable wrong right. world_reported c.args.worlds.now c.args.item.now c.args.growing.now.types c.requires.item.named stable c.in_ok-names.names c.world_names.new.types e.adds e.first included wrong c.args.growing.now.inside right _ c.in_err-walked.ensures.first)
 
 pub returns-clause-first : goal.returns-clause-first
 returns-clause-first c = λ stable wrong right.
-    let i = c.args.item.now in
     let e = c.in_ok-names.ensures in
     let included = rw (ap names_at_top c.requires.item.filed.file) at c.in_ok-includes.ensures.first in
-    world_none c.args.worlds.now i c.args.growing.now.types c.requires.item.named stable c.in_ok-names.names c.world_names.new.types e.adds e.first included wrong c.args.growing.now.inside right c.in_ok-walked.ensures.first
+    world_none c.args.worlds.now c.args.item.now c.args.growing.now.types c.requires.item.named stable c.in_ok-names.names c.world_names.new.types e.adds e.first included wrong c.args.growing.now.inside right c.in_ok-walked.ensures.first
 
 -- or memory failed
 pub returns-in_err-sides-clause-first : goal.returns-in_err-sides-clause-first

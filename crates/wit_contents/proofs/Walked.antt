@@ -1,5 +1,5 @@
--- The first fault of an interface by tables is that of the walk of files, where the tables say what the files do.
-use Rattle.std.proofs.Common.{◌≡◌, ℕ, zero, suc, Bool, true, false, ◌||◌, List, [], ◌∷◌, ◌++◌, map, Option, Some, None, refl, sym, ap, ◌∙◌, subst}
+-- The first fault of an interface by tables, and that of a world before its members, is that of the walk of files, where the tables say what the files do.
+use Rattle.std.proofs.Common.{◌≡◌, ℕ, zero, suc, Bool, true, false, ◌||◌, List, [], ◌∷◌, ◌++◌, map, Option, Some, None, refl, sym, ap, ◌∙◌, subst, length}
 use Rattle.std.specs.Prelude.{if◌then◌else◌, slice_get}
 use Rattle.std.specs.List.{flat_map, list_any}
 use Rattle.std.specs.Option.{option_or}
@@ -20,7 +20,7 @@ use Rattle.wit_values.specs.declared.span.Span.{Span}
 use Rattle.wit_syntax.specs.ExternPart.{same_side}
 use Rattle.wit_syntax.specs.Fault.{Fault, missing_type_at, cyclic_at, type_word, name_twice}
 use Rattle.wit_syntax.specs.Function.{SourceFunction, functions, part_functions, definition_functions, free_function, resource_function}
-use Rattle.wit_syntax.specs.ScopeTables.{defined, in_order, in_turn, includes, part_includes, used}
+use Rattle.wit_syntax.specs.ScopeTables.{defined, in_order, in_turn, includes, part_includes, used, rows_of}
 use Rattle.wit_syntax.specs.Sides.{SideItem, SideFunction, item_function, items_on, names_on, on_side, role_side, side_called, side_items}
 use Rattle.wit_syntax.specs.SignatureRules.{Called, name_called}
 use Rattle.wit_syntax.specs.Source.{Declared, TheInterface, TheWorld, TheInline, Item, ScopeName, Used, Defined, ForeignName, about, address, interface_part, is_world, local_id, local_name, scope_names}
@@ -29,25 +29,25 @@ use Rattle.wit_syntax.proofs.Sides.{functions_imported, kept_all, kept_none, sid
 use Rattle.wit_first.specs.First.{first_after, first_in, repeat_of}
 use Rattle.wit_first.specs.NameFaults.{local_names_fault}
 use Rattle.wit_first.proofs.Clashes.{clash-made, clash-map}
-use Rattle.wit_first.proofs.First.{after-append, or_none, repeat-map}
+use Rattle.wit_first.proofs.First.{or_assoc, after-append, or_none, repeat-map}
 use Rattle.wit_first.proofs.Repeats.{after_kept}
 use Rattle.wit_first.proofs.Bridge.{or_none_both}
-use Rattle.wit_walk.specs.Definitions.{handle_fault}
+use Rattle.wit_walk.specs.Definitions.{handle_fault, definition_fault}
 use Rattle.wit_walk.specs.Functions.{function_fault, signed_fault, word_fault}
 use Rattle.wit_walk.specs.Members.{called_fault, crossed, is_on_side, member_fault, own_fault, side_sorted}
 use Rattle.wit_walk.specs.Names.{folded_clash, folded_fault, name_fault, use_fault}
-use Rattle.wit_walk.specs.Orders.{Outcome, order_fault, order_of}
+use Rattle.wit_walk.specs.Orders.{Outcome, order_fault, order_of, IsOutcome}
 use Rattle.wit_walk.specs.Paths.{include_fault}
 use Rattle.wit_walk.specs.Setters.{setters_beside, setters_fault, side_setters_fault}
 use Rattle.wit_walk.specs.Walk.{earliest, scope_faults}
 use Rattle.wit_refusals.specs.NameScopes.{Name}
 use Rattle.wit_signatures.specs.ForeignName.{name_key, name_of_function, name_of_id}
-use Rattle.wit_externs.specs.AloneFaults.{again, again_fault, alone_fault, alone_faults, defined_fault, lone_setters}
+use Rattle.wit_externs.specs.AloneFaults.{again, again_fault, alone_fault, alone_faults, defined_fault, lone_setters, EndsIn}
 use Rattle.wit_externs.specs.Clash.{names_of_items}
 use Rattle.wit_scopes.specs.BorrowedNames.{own_use, use_view}
 use Rattle.wit_scopes.specs.declared.scope_name.UsedName.{UsedName}
 use Rattle.wit_scopes.proofs.UsedNames.{uses_viewed}
-use Rattle.wit_items.specs.BorrowedItems.{scope_item}
+use Rattle.wit_items.specs.BorrowedItems.{scope_item, item_view, names_view}
 use Rattle.wit_items.specs.declared.interfaces.Interfaces.{Interfaces}
 use Rattle.wit_items.specs.declared.items.ItemScope.{ItemScope}
 use Rattle.wit_item_entries.specs.UseFaults.{local_fault, local_faults, used_fault}
@@ -55,6 +55,17 @@ use Rattle.wit_item_entries.proofs.NameOrder.{all_used, called}
 use Rattle.wit_item_entries.specs.ReachedFaults.{definitions_fault, item_stability, ordered_fault}
 use Rattle.wit_item_entries.specs.ScopeFunctionFaults.{functions_fault}
 use Rattle.wit_contents.specs.InterfaceFaults.{interface_fault, names_of}
+use Rattle.wit_types.specs.declared.types.TypeDef.{TypeDef}
+use Rattle.wit_types.specs.declared.types.TypeOwner.TheVariants as owner
+use Rattle.wit_first.specs.AttributeFaults.{stability_fault}
+use Rattle.wit_arena.specs.Resolving.{env_of}
+use Rattle.wit_items.specs.ResolvedInterfaces.{resolved_scopes_of}
+use Rattle.wit_items.specs.declared.items.Item.{Item as BorrowedItem}
+use Rattle.wit_links.specs.Includes.{includes_fault}
+use Rattle.wit_links.specs.declared.worlds.Worlds.{Worlds}
+use Rattle.wit_contents.specs.WorldFaults.{IsWorldHeadFault, turn_fault, world_head}
+use Rattle.wit_contents.proofs.FoundBy.{found_by}
+use Rattle.wit_contents.proofs.Ends.{IsReached}
 
 -- an item that is made of another
 any-made : {X Y : Type 0} (p : Y → Bool) (f : X → Y) (xs : List X) → list_any p (map f xs) ≡ list_any (λ (x : X). p (f x)) xs
@@ -127,17 +138,17 @@ definition_free : (r : Id) (b : TypeBody) (k : ℕ) (fn : SourceFunction) → sl
 definition_free r (body.Resource funcs) k fn at =
     let g = map_at (resource_function r) funcs.items k fn at in
     subst (λ (x : SourceFunction). is_on_side x.role ≡ false) g.2 (resource_free r g.0)
-definition_free r (body.Record span fields) k fn at = absurd (let f : ⊥ = cc in f)
-definition_free r (body.Flags span flags) k fn at = absurd (let f : ⊥ = cc in f)
-definition_free r (body.Variant span cases) k fn at = absurd (let f : ⊥ = cc in f)
-definition_free r (body.Enum span cases) k fn at = absurd (let f : ⊥ = cc in f)
-definition_free r (body.Plain t) k fn at = absurd (let f : ⊥ = cc in f)
+definition_free r (body.Record span fields) k fn at = absurd (cc)
+definition_free r (body.Flags span flags) k fn at = absurd (cc)
+definition_free r (body.Variant span cases) k fn at = absurd (cc)
+definition_free r (body.Enum span cases) k fn at = absurd (cc)
+definition_free r (body.Plain t) k fn at = absurd (cc)
 
 item_free : (i : InterfaceItem) (k : ℕ) (fn : SourceFunction) → slice_get (part_functions (interface_part i)) k ≡ Some fn → is_on_side fn.role ≡ false
 item_free (interface_item.TypeDef d) k fn at = definition_free d.name d.body k fn at
-item_free (interface_item.Use u) k fn at = absurd (let f : ⊥ = cc in f)
+item_free (interface_item.Use u) k fn at = absurd (cc)
 item_free (interface_item.Func g) zero fn at = let same : free_function g ≡ fn = cc in subst (λ (x : SourceFunction). is_on_side x.role ≡ false) same refl
-item_free (interface_item.Func g) (suc k) fn at = absurd (let f : ⊥ = cc in f)
+item_free (interface_item.Func g) (suc k) fn at = absurd (cc)
 
 items_free : (items : List InterfaceItem) (k : ℕ) (fn : SourceFunction) → slice_get (flat_map part_functions (map interface_part items)) k ≡ Some fn → is_on_side fn.role ≡ false
 items_free items k fn at =
@@ -147,7 +158,7 @@ items_free items k fn at =
 
 declared_free : (d : Declared) → (about d).is_world ≡ false → (k : ℕ) (fn : SourceFunction) → slice_get (flat_map part_functions (about d).parts) k ≡ Some fn → is_on_side fn.role ≡ false
 declared_free (TheInterface i) own k fn at = items_free i.items.items k fn at
-declared_free (TheWorld w) own k fn at = absurd (let f : ⊥ = cc in f)
+declared_free (TheWorld w) own k fn at = absurd (cc)
 declared_free (TheInline world place x name items) own k fn at = items_free items k fn at
 
 -- it includes nothing
@@ -159,7 +170,7 @@ items_include (interface_item.Func g ∷ items) = items_include items
 
 declared_include : (d : Declared) → (about d).is_world ≡ false → flat_map part_includes (about d).parts ≡ []
 declared_include (TheInterface i) own = items_include i.items.items
-declared_include (TheWorld w) own = absurd (let f : ⊥ = cc in f)
+declared_include (TheWorld w) own = absurd (cc)
 declared_include (TheInline world place x name items) own = items_include items
 
 -- one function of it, after others
@@ -187,7 +198,7 @@ module _ (files : List PackageFile) (steps : ℕ) (inside : Item → Option Faul
   alone = alone_fault (word_fault xs) handle xs taken
 
   called_free : (extern : Bool) (as_crossed : List ℕ → Span → Fault) (before : List Called) (c : Called) → extern ≡ false → called_fault extern as_crossed before c ≡ folded_fault before c
-  called_free true as_crossed before c own = absurd (let f : ⊥ = cc in f)
+  called_free true as_crossed before c own = absurd (cc)
   called_free false as_crossed before c own = refl
 
   member_walked : (before : List SourceFunction) (fn : SourceFunction) → is_on_side fn.role ≡ false → alone before fn ≡ member (map SideFunction before) (SideFunction fn)
@@ -221,14 +232,7 @@ setters_walked i sort =
 
 -- the steps of an interface, one after another
 regroup : (a b c d e g h k : Option Fault) → option_or (option_or a (option_or b (option_or c (option_or d e)))) (option_or (option_or g h) k) ≡ option_or a (option_or (option_or b c) (option_or d (option_or e (option_or g (option_or h (option_or k None))))))
-regroup (Some x) b c d e g h k = refl
-regroup None (Some x) c d e g h k = refl
-regroup None None (Some x) d e g h k = refl
-regroup None None None (Some x) e g h k = refl
-regroup None None None None (Some x) g h k = refl
-regroup None None None None None (Some x) h k = refl
-regroup None None None None None None (Some x) k = refl
-regroup None None None None None None None k = sym (or_none k)
+regroup a b c d e g h k = simp (or_assoc, or_none)
 
 -- the first fault of an interface
 pub interface_walked : (files : List PackageFile) (steps : ℕ) (inside : Item → Option Fault) (is : Interfaces) (s : ItemScope) (outcome : Outcome) → is_world (scope_item s) ≡ false → names_of s ≡ scope_names (scope_item s) → AreAsWalked files is (flat_map own_use s.names.now) → interface_fault is s outcome (handle_fault files steps (address (scope_item s))) ≡ earliest (scope_faults files steps inside (scope_item s) outcome)
@@ -255,10 +259,64 @@ interface_walked files steps inside is s outcome sort named say =
     let names_are : option_or uses twice ≡ names = names_walked files is us xs (uses_viewed s.names.now ∙ ap used named) say in
     let members_are : own ≡ members = members_walked files steps inside i order [] fns (declared_free i.declared sort) ∙ ap (first_after (member_fault files steps inside i order) []) (sym (side_items_functions i sort)) in
     let nothing : None ≡ first_in (include_fault files i.top) (includes i) = sym (ap (first_in (include_fault files i.top)) (declared_include i.declared sort)) in
-    by_tables
-    ∙ regroup stable uses twice round definitions folded own setters
-    ∙ ap (λ (o : Option Fault). option_or stable (option_or o (option_or round (option_or definitions (option_or folded (option_or own (option_or setters None))))))) names_are
-    ∙ ap (λ (o : Option Fault). option_or stable (option_or names (option_or round (option_or definitions (option_or o (option_or own (option_or setters None))))))) (turn_walked (in_turn xs order))
-    ∙ ap (λ (o : Option Fault). option_or stable (option_or names (option_or round (option_or definitions (option_or called_names (option_or o (option_or setters None))))))) members_are
-    ∙ ap (λ (o : Option Fault). option_or stable (option_or names (option_or round (option_or definitions (option_or called_names (option_or members (option_or o None))))))) (setters_walked i sort)
-    ∙ ap (λ (o : Option Fault). option_or stable (option_or names (option_or round (option_or definitions (option_or o (option_or called_names (option_or members (option_or (setters_fault i) None)))))))) nothing
+    let last : option_or stable (option_or (option_or uses twice) (option_or round (option_or definitions (option_or folded (option_or own (option_or setters None)))))) ≡ earliest (scope_faults files steps inside i outcome) = rw (names_are, turn_walked (in_turn xs order), members_are, setters_walked i sort, ← nothing) refl in
+    by_tables ∙ regroup stable uses twice round definitions folded own setters ∙ last
+
+-- the steps of a world, one after another
+regroup_world : (a n r d c t m s : Option Fault) → option_or a (option_or n (option_or r (option_or d (option_or c (option_or t (option_or m (option_or s None))))))) ≡ option_or (option_or a (option_or (option_or n (option_or r d)) (option_or c t))) (option_or m s)
+regroup_world a n r d c t m s = simp (or_assoc, or_none)
+
+-- those before its members
+abbrev pub walked_head : List PackageFile → ℕ → Item → Outcome → Option Fault
+walked_head files steps i outcome =
+    option_or (stability_fault (about i.declared).attributes) (option_or (option_or (first_after (name_fault files) [] (used (scope_names i) ++ defined (scope_names i))) (option_or (order_fault missing_type_at (cyclic_at 16 type_word) outcome) (first_in (definition_fault (handle_fault files steps (address i))) (defined (in_order (scope_names i) (order_of outcome))))))
+    (option_or (first_in (include_fault files i.top) (includes i)) (first_after folded_fault [] (map name_called (in_turn (scope_names i) (order_of outcome))))))
+
+pub world_split : (files : List PackageFile) (steps : ℕ) (inside : Item → Option Fault) (i : Item) (outcome : Outcome) → earliest (scope_faults files steps inside i outcome) ≡ option_or (walked_head files steps i outcome) (option_or (first_after (member_fault files steps inside i (order_of outcome)) [] (side_items i)) (setters_fault i))
+world_split files steps inside i outcome =
+    let listed = scope_names i in
+    let order = order_of outcome in
+    regroup_world (stability_fault (about i.declared).attributes) (first_after (name_fault files) [] (used listed ++ defined listed)) (order_fault missing_type_at (cyclic_at 16 type_word) outcome) (first_in (definition_fault (handle_fault files steps (address i))) (defined (in_order listed order))) (first_in (include_fault files i.top) (includes i)) (first_after folded_fault [] (map name_called (in_turn listed order))) (first_after (member_fault files steps inside i order) [] (side_items i)) (setters_fault i)
+
+module _ (files : List PackageFile) (steps : ℕ) (ws : Worlds) (i : BorrowedItem) (outcome : Outcome) (named : names_view i ≡ scope_names (item_view i)) where
+  abbrev w : Item
+  w = item_view i
+
+  abbrev listed : List ScopeName
+  listed = scope_names w
+
+  abbrev test : Id → Option Fault
+  test = handle_fault files steps (address w)
+
+  abbrev stable : Option Fault
+  stable = item_stability w
+
+  abbrev uses : Option Fault
+  uses = local_faults ws.interfaces.now (flat_map own_use i.names.items)
+
+  abbrev twice : Option Fault
+  twice = local_names_fault (map local_id (used listed ++ defined listed))
+
+  abbrev round : Option Fault
+  round = order_fault missing_type_at (cyclic_at 16 type_word) outcome
+
+  abbrev after : Option Fault
+  after = option_or (includes_fault ws w) (turn_fault (map local_id (in_turn listed (order_of outcome))))
+
+  -- by tables, over the names of the scope
+  by_tables : (h : Id → Option Fault) → world_head ws i outcome h ≡ option_or stable (option_or (option_or uses (option_or twice (option_or round (definitions_fault h (defined (in_order listed (order_of outcome))))))) after)
+  by_tables h = ap (λ (ys : List ScopeName). option_or stable (option_or (option_or uses (ordered_fault ys outcome h)) after)) named
+
+  module _ (say : AreAsWalked files ws.interfaces.now (flat_map own_use i.names.items)) (included : includes_fault ws w ≡ first_in (include_fault files w.top) (includes w)) where
+    pub head_walked : world_head ws i outcome test ≡ walked_head files steps w outcome
+    head_walked =
+        let order = order_of outcome in
+        let definitions = definitions_fault test (defined (in_order listed order)) in
+        let names = first_after (name_fault files) [] (used listed ++ defined listed) in
+        let names_are : option_or uses twice ≡ names = names_walked files ws.interfaces.now (flat_map own_use i.names.items) listed (uses_viewed i.names.items ∙ ap used named) say in
+        let last : option_or stable (option_or (option_or (option_or uses twice) (option_or round definitions)) after) ≡ walked_head files steps w outcome = rw (names_are, included, turn_walked (in_turn listed order)) refl in
+        by_tables test ∙ ap (λ (o : Option Fault). option_or stable (option_or o after)) (sym (or_assoc uses twice (option_or round definitions))) ∙ last
+
+    -- so what is found of it there is found by the walk
+    pub head_found : (old : List TypeDef) (f : Fault) → IsOutcome (rows_of listed) outcome → ((h : IsReached old (resolved_scopes_of ws.interfaces.now) (owner.World (length ws.arena)) w) → EndsIn (env_of h.names) (h.mid ++ h.more) test) → IsWorldHeadFault ws old i f → walked_head files steps w outcome ≡ Some f
+    head_found old f right ends wrong = sym head_walked ∙ found_by (resolved_scopes_of ws.interfaces.now) (owner.World (length ws.arena)) old w outcome stable uses (λ h. definitions_fault h (defined (in_order listed (order_of outcome)))) (λ h. after) (world_head ws i outcome) by_tables test f right ends (wrong outcome right)

@@ -1,0 +1,325 @@
+-- Where names in handles end in an arena, they end by files in so many steps: also once some names of the next interface or world, or of what is written in it, were added.
+use Rattle.std.proofs.Common.{◌≡◌, ℕ, zero, suc, ◌<◌, List, [], ◌∷◌, ◌++◌, take, Option, Some, None, inl, inr, refl, sym, ap, ◌∙◌, arith, true, false, length, map, subst, ◌+◌}
+use Rattle.std.specs.Prelude.{slice_get}
+use Rattle.std.proofs.lemmas.Bool.{cases_lt}
+use Rattle.wit_type_tree.specs.declared.leaves.Id.{Id}
+use Rattle.wit_tree.specs.declared.tree.PackageFile.{PackageFile}
+use Rattle.wit_types.specs.declared.types.«Type».{«Type» as Ty}
+use Rattle.wit_types.specs.declared.types.«Type».TheVariants as type
+use Rattle.wit_types.specs.declared.types.TypeDef.{TypeDef}
+use Rattle.wit_syntax.specs.Address.{Address}
+use Rattle.wit_syntax.specs.Form.{Form, AliasForm, ResourceForm, UnknownForm}
+use Rattle.wit_syntax.specs.NameEnds.{End, AtResource, AtForeign, Elsewhere, EndsAt, shape_end}
+use Rattle.wit_syntax.specs.Shape.{Word}
+use Rattle.wit_syntax.proofs.Lists.{at_take, map_at, at_seam, at_prefix}
+use Rattle.wit_walk.specs.Definitions.{handle_fault, end_fault as walk_fault}
+use Rattle.wit_arena.specs.EntryEnds.{EntryEnd, IsResource, IsUnknown, IsOther, part_end, kind_end, found_end, entry_end}
+use Rattle.wit_arena.specs.Kind.{kind_of}
+use Rattle.wit_arena.specs.Occurrences.{Decls, Def, IsKeyed, Key, Occurrence, keys}
+use Rattle.wit_arena.specs.Resolving.{AreNames, Env, AreKnown, AreOwned, Defines, IsDefined, Names, Required, ResolvedScope, env_of, resolved_scopes}
+use Rattle.wit_arena.proofs.Ends.{EndIs, IsDeclared, end_source-more}
+use Rattle.wit_arena.proofs.Leading.{option_cases}
+use Rattle.wit_entries.specs.EntryFaults.{end_fault, end_in}
+use Rattle.wit_externs.specs.AloneFaults.{EndsIn, IsSafe}
+use Rattle.std.specs.List.{flat_map}
+use Rattle.std.proofs.lemmas.List.{length-map, append-nil, map-append}
+use Rattle.wit_model.specs.declared.interface.Interface.{Interface}
+use Rattle.wit_model.specs.declared.world.World.{World}
+use Rattle.wit_types.specs.declared.types.TypeOwner.{TypeOwner}
+use Rattle.wit_types.specs.declared.types.TypeOwner.TheVariants as owner
+use Rattle.wit_graph.specs.Table.{IsOrder}
+use Rattle.wit_syntax.specs.Foreign.{visited, foreign_interfaces}
+use Rattle.wit_syntax.specs.ScopeTables.{AreDistinct, in_turn, rows_of}
+use Rattle.wit_syntax.specs.ScopesOfTrees.{scope}
+use Rattle.wit_syntax.specs.Source.{address, Item, ScopeName, all_items, local_name, scope_names}
+use Rattle.wit_syntax.proofs.Repeated.{differ_at, differ_by}
+use Rattle.wit_syntax.proofs.Turns.{at_part, in_turn_among, in_turn_distinct}
+use Rattle.wit_arena.specs.ResolvedArenas.{AddsForeign, AreUsableUses, AddsInterface, AddsScope, AddsSides, WorldArenas}
+use Rattle.wit_arena.specs.Whole.{all_occurrences, turned, Turned, all_turns}
+use Rattle.wit_arena.proofs.Added.{InterfacesDone, decls, defines_wider, item_declared, next_interface, prefix_apart, resolved_scopes_among, next_world, world_item_declared}
+use Rattle.wit_arena.proofs.DefinitionPart.{name_seen_in}
+use Rattle.wit_arena.proofs.DoneNames.{function_part_of}
+use Rattle.wit_arena.proofs.FunctionPart.{DoneFunction, IsFunctionPart, scope_functions}
+use Rattle.wit_arena.proofs.Interfaces.{AreItems, AreOfSort, item_scopes, scope_of, functions_of}
+use Rattle.wit_arena.proofs.Members.{DoneScope, IsNameOf, resolved_scope_of, done_address}
+use Rattle.wit_arena.proofs.Occurrence.{collects_from}
+use Rattle.wit_arena.proofs.Prefix.{prefix_scopes}
+use Rattle.wit_arena.proofs.ScopesInTurn.{none_is_next}
+use Rattle.wit_arena.proofs.Turns.{all_name_occurrences, item_of, own_item}
+use Rattle.wit_arena.proofs.DoneWorlds.{function_part_declared, AreWorldsDone, own_order, scopes_of}
+use Rattle.wit_arena.proofs.Sided.{IsFreshInside, b as laid, inline_step, AreSided}
+use Rattle.wit_externs.proofs.AloneFaults.{safe_of}
+use Rattle.std.specs.Option.{option_map}
+use Rattle.std.proofs.lemmas.Option.{slice_get-map, slice_get_within}
+use Rattle.wit_functions.specs.declared.function.Function.{Function}
+use Rattle.wit_syntax.specs.Sides.{SideItem, inline_items}
+use Rattle.wit_syntax.proofs.Inline.{inline_items_differ}
+use Rattle.wit_arena.proofs.Inside.{inside_at, inside_scopes-count}
+use Rattle.wit_arena.proofs.WorldSides.{fresh_inside, names_done, sides_done, world_fresh}
+use Rattle.wit_arena.proofs.WorldSides as done
+use Rattle.wit_entries.specs.Requiring.{IsExtended}
+
+-- each part has an end, and so has what is made of them
+module _ (ends : ℕ → Option EntryEnd) (all : (j : ℕ) → (e : EntryEnd) × (ends j ≡ Some e)) where
+  parts_end : (parts : List Ty) → (e : EntryEnd) × (part_end ends parts ≡ Some e)
+  parts_end [] = (IsOther, refl)
+  parts_end (type.Id j ∷ parts) = all j
+  parts_end (t ∷ parts) = (IsOther, refl)
+
+  kind_ends : (place : ℕ) (form : Form) (parts : List Ty) → (e : EntryEnd) × (kind_end ends place form parts ≡ Some e)
+  kind_ends place AliasForm parts = parts_end parts
+  kind_ends place ResourceForm parts = (IsResource, refl)
+  kind_ends place UnknownForm parts = (IsUnknown place, refl)
+  kind_ends place form parts = (IsOther, refl)
+
+  found_ends : (place : ℕ) (o : Option TypeDef) → (e : EntryEnd) × (found_end ends place o ≡ Some e)
+  found_ends place None = (IsOther, refl)
+  found_ends place (Some x) = kind_ends place (kind_of x.kind).form (kind_of x.kind).parts
+
+-- nothing is at a place beyond
+beyond : (es : List TypeDef) (i j : ℕ) → (j < i → ⊥) → slice_get (take i es) j ≡ None
+beyond es i j far = option_cases (slice_get (take i es) j) (slice_get (take i es) j ≡ None) (λ x at. absurd (far (at_take es i j x at).1)) (λ none. none)
+
+-- each place has an end in one step more than places are before it
+place_ends : (n : ℕ) (es : List TypeDef) (i : ℕ) → i < n → (e : EntryEnd) × (entry_end (suc n) es i ≡ Some e)
+place_ends zero es i lt = absurd (omega (arith, lt))
+place_ends (suc n) es i lt = found_ends (entry_end (suc n) (take i es)) (λ j. elim (cases_lt j n) [
+  | inl before ↦ place_ends n (take i es) j before
+  | inr ge ↦ (IsOther, ap (found_end (entry_end n (take j (take i es))) j) (beyond es i j (λ near. (omega (arith, lt, ge, near)))))
+]) i (slice_get es i)
+
+pub end_there : (es : List TypeDef) (i : ℕ) → (e : EntryEnd) × (end_in es i ≡ Some e)
+end_there es i = place_ends (suc i) es i (omega arith)
+
+-- names end by files in so many steps where they end at all
+abbrev pub IsEnough : List PackageFile → ℕ → Address → Type 0
+IsEnough files steps s = (id : Id) (end : End) → EndsAt files s id end → shape_end files steps s (Word id) ≡ Some end
+
+module _ (files : List PackageFile) (decls : Decls) (ks : List Key) (es more : List TypeDef) (m : IsKeyed decls ks es) (scopes : (j : ℕ) (t : Address) (name : List ℕ) → slice_get ks j ≡ Some (Def t name) → IsDeclared files decls t) (s : Address) (env : Env) (names : AreNames ks s env) (steps : ℕ) (enough : IsEnough files steps s) where
+  said : (id : Id) (e : EntryEnd) → EndIs files ks s id e → handle_fault files steps s id ≡ end_fault id (Some e)
+  said id IsResource h = ap (walk_fault id) (enough id AtResource h)
+  said id (IsUnknown place) h = ap (walk_fault id) (enough id (AtForeign h.0 h.1) h.3)
+  said id IsOther h = ap (walk_fault id) (enough id Elsewhere h)
+
+  -- so the walk's test of a name in a handle is right of the arena, also once it has grown
+  pub walk_ends : EndsIn env (es ++ more) (handle_fault files steps s)
+  walk_ends id place present =
+      let e = end_there (es ++ more) place in
+      said id e.0 (end_source-more files decls ks es more m scopes (suc (suc place)) place s id e.0 (names.present id.name.now place present) e.1) ∙ ap (end_fault id) (sym e.1)
+
+-- these scopes are among those that are being resolved
+abbrev AreAmong : List ResolvedScope → List DoneScope → Type 0
+AreAmong known cs = (t : ℕ) (c : ResolvedScope) → slice_get known t ≡ Some c → (j : ℕ) × (slice_get (map resolved_scope_of cs) j ≡ Some c)
+
+-- some names of a scope were added in an order to none, and some types after them
+pub record IsReached (old : List TypeDef) (cs : List ResolvedScope) (o : TypeOwner) (item : Item) : Type 0 where
+  pub order : List ℕ
+  pub least : IsOrder (rows_of (scope_names item)) order
+  pub distinct : AreDistinct (scope_names item)
+  pub count : ℕ
+  pub mid : List TypeDef
+  pub names : Names
+  pub defines : (s : Address) → Defines old mid cs o s [] names (take count (in_turn (scope_names item) order))
+  pub more : List TypeDef
+
+-- An item whose scope comes next, while others are being resolved
+module _ (files : List PackageFile) (declares : Decls) (written : List Occurrence) (cs : List DoneScope) (gs : List DoneFunction) (es : List TypeDef) (d : IsFunctionPart files declares written cs gs es) (w : Item) (o : TypeOwner) (fresh : (t : ℕ) (c : DoneScope) → slice_get cs t ≡ Some c → c.address ≡ address w → ⊥) (own : declares (address w) ≡ (scope files (address w), o)) (names_are : scope files (address w) ≡ scope_names w) where
+  abbrev s : Address
+  s = address w
+
+  -- the names of the others mean their places, and none of its own occurs
+  known : AreKnown (keys d.seen) s (map resolved_scope_of cs)
+  known = record {
+    names = λ t k at. (let c = map_at resolved_scope_of cs t k at in subst (λ (x : ResolvedScope). AreNames (keys d.seen) x.address (env_of x.types)) c.2 (d.are_present t c.0 c.1));
+    others = λ t k at same. (let c = map_at resolved_scope_of cs t k at in fresh t c.0 c.1 (ap (λ (x : ResolvedScope). x.address) c.2 ∙ same));
+  }
+
+  unmet : (j : ℕ) (name : List ℕ) → slice_get (keys d.seen) j ≡ Some (Def s name) → ⊥
+  unmet j name at = let it = d.before j s name at in fresh it.place it.resolved_scope it.at it.scope
+
+  nothing : AreNames (keys d.seen) s (env_of [])
+  nothing = record {
+    present = λ name i h. absurd (cc);
+    has = λ j name at. absurd (unmet j name at);
+  }
+
+  -- the scope of what occurred before is declared by files
+  declared_before : (t : Address) (name : List ℕ) → IsNameOf cs t name → IsDeclared files declares t
+  declared_before t name it = subst (λ (z : Address). IsDeclared files declares z) it.scope (record {
+    distinct = (d.each it.place it.resolved_scope it.at).turn.distinct;
+    whose = it.resolved_scope.owner;
+    own = d.own it.place it.resolved_scope it.at;
+  })
+
+  module _ (resolved : List ResolvedScope) (among : AreAmong resolved cs) (h : IsReached es resolved o w) where
+    abbrev turn : List ScopeName
+    turn = in_turn (scope_names w) h.order
+
+    abbrev some : List ScopeName
+    some = take h.count turn
+
+    -- those of its names that were resolved are declared in it
+    declared : AreOwned declares o s some
+    declared i x at =
+        let p = in_turn_among (scope_names w) h.order h.least i x (at_take turn h.count i x at).0 in
+        (p.0, ap (λ (d : List ScopeName × TypeOwner). slice_get d.0 p.0) own ∙ ap (λ (l : List ScopeName). slice_get l p.0) names_are ∙ p.1, ap (λ (d : List ScopeName × TypeOwner). d.1) own)
+
+    apart : AreDistinct some
+    apart = differ_by local_name some (λ i j x y at_x at_y same. differ_at local_name turn (in_turn_distinct (scope_names w) h.order h.least h.distinct) i j x y (at_take turn h.count i x at_x).0 (at_take turn h.count j y at_y).0 same)
+
+    defined : IsDefined declares d.seen h.mid s [] h.names some
+    defined = (defines_wider es h.mid resolved (map resolved_scope_of cs) o s [] h.names some among (h.defines s)).from declares d.seen declared apart (record { new = λ i x at was. unmet was.0 (local_name x) was.1 }) known d.occurrence nothing
+
+    -- the scope of what occurred is declared by files
+    seen_declared : (j : ℕ) (t : Address) (name : List ℕ) → slice_get (keys defined.now) j ≡ Some (Def t name) → IsDeclared files declares t
+    seen_declared j t name at = elim (collects_from (all_name_occurrences s some) d.seen defined.now defined.collects j (Def t name) at) [
+      | inl was ↦ declared_before t name (d.before was.0 t name was.1)
+      | inr new ↦ (
+          let same = (name_seen_in s some t name new).0 in
+          subst (λ (z : Address). IsDeclared files declares z) (sym same) (record { distinct = subst AreDistinct (sym names_are) h.distinct; whose = o; own = own }))
+    ]
+
+    pub reached_ends : (steps : ℕ) → IsEnough files steps s → EndsIn (env_of h.names) (h.mid ++ h.more) (handle_fault files steps s)
+    reached_ends steps enough = walk_ends files declares (keys defined.now) h.mid h.more defined.occurrence.keyed seen_declared s (env_of h.names) defined.are_present steps enough
+
+-- a scope whose names are done, also once the arena has grown
+pub part_ends : (files : List PackageFile) (declares : Decls) (written : List Occurrence) (cs : List DoneScope) (gs : List DoneFunction) (es more : List TypeDef) → IsFunctionPart files declares written cs gs es → (t : ℕ) (c : DoneScope) → slice_get cs t ≡ Some c → (steps : ℕ) → IsEnough files steps c.address → EndsIn (env_of c.types) (es ++ more) (handle_fault files steps c.address)
+part_ends files declares written cs gs es more d t c at steps enough = walk_ends files declares (keys d.seen) es more d.occurrence.keyed (λ j s name there. function_part_declared files declares written cs gs es s name d (d.before j s name there)) c.address (env_of c.types) (d.are_present t c at) steps enough
+
+-- an interface that came next
+pub next_safe : (files : List PackageFile) (declares : Decls) (written : List Occurrence) (cs : List DoneScope) (gs : List DoneFunction) (ccs : List ResolvedScope) (place : ℕ) (old new : List TypeDef) (added : Interface) (own : List Required) (i : Item) → IsFunctionPart files declares written cs gs old → AreAmong ccs cs → IsFreshInside files declares cs place i → AddsInterface ccs place old new added own i → (steps : ℕ) → IsEnough files steps (address i) → IsSafe (env_of added.types) new (handle_fault files steps (address i))
+next_safe files declares written cs gs ccs place old new added own i d known fresh a steps enough =
+    let c = laid files declares written cs gs ccs place old new added own i d known fresh a in
+    let handle = handle_fault files steps (address i) in
+    let ends : EndsIn (env_of added.types) (new ++ []) handle = part_ends files declares _ (cs ++ c ∷ []) (gs ++ scope_functions c) new [] (inline_step files declares written cs gs ccs place old new added own i d known fresh a) (length cs) c (at_seam cs c) steps enough in
+    safe_of (env_of added.types) new handle (subst (λ (es : List TypeDef). EndsIn (env_of added.types) es handle) (append-nil new) ends)
+
+among_more : (known : List ResolvedScope) (cs more : List DoneScope) → AreAmong known cs → AreAmong known (cs ++ more)
+among_more known cs more among t c at =
+    let it = among t c at in
+    (it.0, ap (λ (l : List ResolvedScope). slice_get l it.0) (map-append resolved_scope_of cs more) ∙ at_prefix (map resolved_scope_of cs) (map resolved_scope_of more) it.0 c it.1)
+
+module _ (files : List PackageFile) (is ws : List Item) (interfaces : AreOfSort false is) (worlds : AreOfSort true ws) (is_items : AreItems files is) (ws_items : AreItems files ws) (uses : AreUsableUses files (all_items files)) (es : List TypeDef) (prefix : List Interface) (wprefix : List World) (foreign : AddsForeign files es prefix wprefix) where
+  abbrev fore : List Address
+  fore = map visited (foreign_interfaces files)
+
+  -- an interface that comes next, after those of other packages and some of this one
+  module _ (us : List Item) (old : List TypeDef) (xs : List Interface) (rs : List Required) (w : Item) (there : slice_get is (length us) ≡ Some w) (d : InterfacesDone files is ws prefix us old xs rs) where
+    abbrev done_before : List DoneScope
+    done_before = prefix_scopes files prefix ++ d.scopes
+
+    part_before : IsFunctionPart files (decls files is ws) (all_occurrences files (map turned d.ordered)) done_before (flat_map scope_functions done_before) old
+    part_before = function_part_of files (decls files is ws) (all_occurrences files (map turned d.ordered)) done_before old d.done
+
+    among_before : AreAmong (resolved_scopes fore (prefix ++ xs)) done_before
+    among_before = resolved_scopes_among files is ws interfaces worlds is_items ws_items uses es prefix wprefix foreign xs d.scopes d.laid.types
+
+    fresh_interface : IsFreshInside files (decls files is ws) done_before (length (prefix ++ xs)) w
+    fresh_interface =
+        let long : length us ≡ length d.ordered = sym (ap length d.all) ∙ length-map d.ordered item_of in
+        let next : slice_get is (length d.ordered) ≡ Some w = subst (λ (n : ℕ). slice_get is n ≡ Some w) long there in
+        let at : slice_get is (length xs) ≡ Some w = subst (λ (n : ℕ). slice_get is n ≡ Some w) (sym d.laid.count) next in
+        let whose = next_interface files is ws interfaces worlds is_items ws_items uses es prefix wprefix foreign xs in
+        record {
+          interface = interfaces.each (length xs) w at;
+          fresh = λ t c c_at same. elim (at_part (prefix_scopes files prefix) d.scopes t c c_at) [
+            | inl g ↦ prefix_apart files is ws interfaces worlds is_items ws_items uses es prefix wprefix foreign w g.0 c g.1 same
+            | inr g ↦ none_is_next d.laid (item_scopes files is is_items).unique w next g.0 c g.1 same
+          ];
+          has = scope_of files is (item_scopes files is is_items) (length xs) w at;
+          does = functions_of files is (item_scopes files is is_items) (length xs) w at;
+          own = item_declared files is ws interfaces worlds is_items ws_items (length xs) w at ∙ ap (λ (o : TypeOwner). (scope files (address w), o)) (sym whose);
+        }
+
+    pub interface_ends : (h : IsReached old (resolved_scopes fore (prefix ++ xs)) (owner.Interface (length (prefix ++ xs))) w) (steps : ℕ) → IsEnough files steps (address w) → EndsIn (env_of h.names) (h.mid ++ h.more) (handle_fault files steps (address w))
+    interface_ends h steps enough = reached_ends files (decls files is ws) (all_occurrences files (map turned d.ordered)) done_before (flat_map scope_functions done_before) old part_before w (owner.Interface (length (prefix ++ xs))) fresh_interface.fresh fresh_interface.own fresh_interface.has (resolved_scopes fore (prefix ++ xs)) among_before h steps enough
+
+    pub interface_safe : (new : List TypeDef) (added : Interface) (required : List Required) → AddsInterface (resolved_scopes fore (prefix ++ xs)) (length (prefix ++ xs)) old new added required w → (steps : ℕ) → IsEnough files steps (address w) → IsSafe (env_of added.types) new (handle_fault files steps (address w))
+    interface_safe new added required a steps enough = next_safe files (decls files is ws) (all_occurrences files (map turned d.ordered)) done_before (flat_map scope_functions done_before) (resolved_scopes fore (prefix ++ xs)) (length (prefix ++ xs)) old new added required w part_before among_before fresh_interface a steps enough
+
+  -- a world that comes next, after all interfaces and some worlds
+  module _ (middle : List TypeDef) (xs : List Interface) (irs : List Required) (d : InterfacesDone files is ws prefix is middle xs irs) (us : List Item) (old : List TypeDef) (a : WorldArenas) (qs : List Required) (w : Item) (there : slice_get ws (length us) ≡ Some w) (e : AreWorldsDone files is ws wprefix d.ordered (prefix_scopes files prefix ++ d.scopes) us old a qs) where
+    abbrev before : List DoneScope
+    before = (prefix_scopes files prefix ++ d.scopes) ++ flat_map scopes_of e.scopes
+
+    abbrev pub resolved : List ResolvedScope
+    resolved = resolved_scopes fore (prefix ++ xs)
+
+    abbrev written : List Occurrence
+    written = all_occurrences files (all_turns d.ordered e.ordered)
+
+    known_before : AreAmong resolved before
+    known_before = among_more resolved (prefix_scopes files prefix ++ d.scopes) (flat_map scopes_of e.scopes) (resolved_scopes_among files is ws interfaces worlds is_items ws_items uses es prefix wprefix foreign xs d.scopes d.laid.types)
+
+    -- of the world, once some of its names were added
+    pub world_ends : (h : IsReached old resolved (owner.World (length a.worlds)) w) (steps : ℕ) → IsEnough files steps (address w) → EndsIn (env_of h.names) (h.mid ++ h.more) (handle_fault files steps (address w))
+    world_ends h steps enough =
+        let place : length e.own ≡ length us = e.laid.count ∙ length-map e.ordered own_order ∙ sym (length-map e.ordered own_item) ∙ ap length e.all in
+        let own = world_item_declared files is ws interfaces worlds is_items ws_items (length e.own) w (ap (slice_get ws) place ∙ there) in
+        let whose = ap (λ (l : List World). owner.World (length l)) e.arena ∙ next_world files is ws interfaces worlds is_items ws_items uses es prefix wprefix foreign e.own in
+        reached_ends files (decls files is ws) written before (flat_map scope_functions before) old (function_part_of files (decls files is ws) written before old e.done) w (owner.World (length a.worlds)) (world_fresh files is ws interfaces worlds is_items ws_items uses es prefix wprefix foreign middle xs irs d us old a qs e w there) (own ∙ ap (λ (o : TypeOwner). (scope files (address w), o)) (sym whose)) (scope_of files ws (item_scopes files ws ws_items) (length us) w there) resolved known_before h steps enough
+
+    -- once all of them were
+    module _ (types : Names) (named : List TypeDef) (adds : AddsScope old named resolved (owner.World (length a.worlds)) (scope_names w) types) where
+      abbrev own_scope : DoneScope
+      own_scope = done.c files is ws interfaces worlds is_items ws_items uses es prefix wprefix foreign middle xs irs d us old a qs e w there named types adds [] [] []
+
+      pub named_ends : (new : List TypeDef) → IsExtended named new → (steps : ℕ) → IsEnough files steps (address w) → EndsIn (env_of types) new (handle_fault files steps (address w))
+      named_ends new g steps enough = subst (λ (l : List TypeDef). EndsIn (env_of types) l (handle_fault files steps (address w))) (sym g.is) (part_ends files (decls files is ws) _ (before ++ own_scope ∷ []) (flat_map scope_functions before) named g.more (names_done files is ws interfaces worlds is_items ws_items uses es prefix wprefix foreign middle xs irs d us old a qs e w there named types adds [] [] []) (length before) own_scope (at_seam before own_scope) steps enough)
+
+      -- and of an interface that is written in it, after what comes first on its sides
+      module _ (xs_done : List SideItem) (inside_done : List Item) (count : ℕ) (first : inside_done ≡ take count (inline_items w)) (inner : Item) (next : slice_get (inline_items w) count ≡ Some inner) (mid : List TypeDef) (now : List Interface) (made : List Function) (rs : List Required) (sides : AddsSides resolved (length (prefix ++ xs)) (address w) types named mid a.inside now made rs xs_done inside_done) (covered : length now ≡ length a.inside + count) where
+        abbrev IsSided : Type 0
+        IsSided = AreSided files (decls files is ws) (written ++ all_name_occurrences (address w) own_scope.names) (before ++ own_scope ∷ []) (flat_map scope_functions before) (length (prefix ++ xs) + length a.inside) (address w) mid a.inside now made rs xs_done inside_done
+
+        among_first : (k : ℕ) (i : Item) → slice_get inside_done k ≡ Some i → slice_get (inline_items w) k ≡ Some i
+        among_first k i at = (at_take (inline_items w) count k i (ap (λ (l : List Item). slice_get l k) (sym first) ∙ at)).0
+
+        sided : IsSided
+        sided = sides_done files is ws interfaces worlds is_items ws_items uses es prefix wprefix foreign middle xs irs d us old a qs e w there named types adds [] [] [] mid now made rs xs_done inside_done among_first sides
+
+        can_be_next : IsFreshInside files (decls files is ws) (before ++ own_scope ∷ []) ((length (prefix ++ xs) + length a.inside) + count) inner
+        can_be_next = fresh_inside files is ws interfaces worlds is_items ws_items uses es prefix wprefix foreign middle xs irs d us old a qs e w there named types adds [] [] [] count inner next
+
+        -- what was written before it in this world is another one
+        apart_inside : (t : ℕ) (b : DoneScope) → slice_get sided.scopes t ≡ Some b → b.address ≡ address inner → ⊥
+        apart_inside t b at same =
+            let start = length (prefix ++ xs) + length a.inside in
+            let lt = slice_get_within sided.scopes t b at in
+            let long = inside_scopes-count start sided.ordered sided.scopes sided.added sided.laid in
+            let it = inside_at start sided.ordered sided.scopes sided.added sided.laid t (omega arith) in
+            let both : Some it.c ≡ Some b = sym it.at_c ∙ at in
+            let one : b ≡ it.c = cc in
+            let listed : slice_get inside_done t ≡ Some it.o.item = ap (λ (l : List Item). slice_get l t) (sym sided.items) ∙ at_prefix (map item_of sided.ordered) sided.left t it.o.item (slice_get-map item_of sided.ordered t ∙ ap (option_map item_of) it.at_o) in
+            let early = at_take (inline_items w) count t it.o.item (ap (λ (l : List Item). slice_get l t) (sym first) ∙ listed) in
+            let here : address it.o.item ≡ address inner = sym (ap (λ (x : Turned). x.address) it.holds.turn) ∙ ap done_address (sym one) ∙ same in
+            let place = differ_at address (inline_items w) (inline_items_differ w) t count it.o.item inner early.0 next here in
+            let less = early.1 in
+            omega (arith, place, less)
+
+        abbrev scopes : List DoneScope
+        scopes = (before ++ own_scope ∷ []) ++ sided.scopes
+
+        spot : (length (prefix ++ xs) + length a.inside) + count ≡ length (prefix ++ xs) + length now
+        spot = omega (arith, covered)
+
+        fresh : IsFreshInside files (decls files is ws) scopes (length (prefix ++ xs) + length now) inner
+        fresh = record {
+          interface = can_be_next.interface;
+          fresh = λ t b at same. elim (at_part (before ++ own_scope ∷ []) sided.scopes t b at) [
+            | inl g ↦ can_be_next.fresh g.0 b g.1 same
+            | inr g ↦ apart_inside g.0 b g.1 same
+          ];
+          has = can_be_next.has;
+          does = can_be_next.does;
+          own = can_be_next.own ∙ ap (λ (n : ℕ). (scope files (address inner), (owner.Interface n))) spot;
+        }
+
+        known_inside : AreAmong resolved scopes
+        known_inside = among_more resolved (before ++ own_scope ∷ []) sided.scopes (among_more resolved before (own_scope ∷ []) known_before)
+
+        pub inline_ends : (h : IsReached mid resolved (owner.Interface (length (prefix ++ xs) + length now)) inner) (steps : ℕ) → IsEnough files steps (address inner) → EndsIn (env_of h.names) (h.mid ++ h.more) (handle_fault files steps (address inner))
+        inline_ends h steps enough = reached_ends files (decls files is ws) _ scopes _ mid sided.function_part inner (owner.Interface (length (prefix ++ xs) + length now)) fresh.fresh fresh.own fresh.has resolved known_inside h steps enough
+
+        pub inline_safe : (new : List TypeDef) (added : Interface) (required : List Required) → AddsInterface resolved (length (prefix ++ xs) + length now) mid new added required inner → (steps : ℕ) → IsEnough files steps (address inner) → IsSafe (env_of added.types) new (handle_fault files steps (address inner))
+        inline_safe new added required adds_inner steps enough = next_safe files (decls files is ws) _ scopes _ resolved (length (prefix ++ xs) + length now) mid new added required inner sided.function_part known_inside fresh adds_inner steps enough

@@ -1,0 +1,234 @@
+-- The walk of a world of the files, and what the world adds: after its names what is on its sides, or nothing.
+use Rattle.std.proofs.Common.{◌≡◌, List, map, refl, sym, ap, ◌∙◌, subst, true, ◌+◌, ℕ, ◌∷◌, [], ◌++◌, Some, length, arith, false, None}
+use Rattle.wit_type_tree.specs.declared.leaves.Id.{Id}
+use Rattle.wit_types.specs.declared.types.TypeDef.{TypeDef}
+use Rattle.wit_types.specs.declared.types.TypeOwner.{TypeOwner}
+use Rattle.wit_syntax.specs.Function.{functions}
+use Rattle.wit_syntax.specs.Source.{is_world, scope_names, Item, address, about, declared_metadata, Declared, ScopeName, TheWorld, world_part}
+use Rattle.wit_arena.specs.Resolving.{env_of, names_in, Required, Names}
+use Rattle.wit_rules.specs.BorrowedFunctions.{function_view}
+use Rattle.wit_rules.specs.Signatures.{HaveOwners, functions_view}
+use Rattle.wit_items.specs.Gathered.{IsItemOf}
+use Rattle.wit_items.specs.BorrowedItems.{item_view, declared_view}
+use Rattle.wit_items.specs.ResolvedInterfaces.{resolved_scopes_of}
+use Rattle.wit_items.specs.declared.interfaces.Interfaces.{Interfaces}
+use Rattle.wit_items.specs.declared.items.Item.{Item as BorrowedItem}
+use Rattle.wit_item_entries.specs.AddedNames.{AddsTurn}
+use Rattle.wit_item_entries.specs.declared.names.ResolvedNames.{ResolvedNames}
+use Rattle.wit_item_entries.proofs.FunctionFaults.{all_names, turn_texts}
+use Rattle.wit_item_entries.proofs.Owners.{owners, turn_has}
+use Rattle.wit_contents.specs.declared.walk.Walk.{Walk}
+use Rattle.wit_contents.specs.declared.world.WorldScope.{WorldScope}
+use Rattle.wit_contents.specs.WorldWalk.{IsScopeOfWorld, IsWalkOf}
+use Rattle.std.specs.Prelude.{slice_get}
+use Rattle.wit_tree.specs.declared.tree.WorldSide.TheVariants.{Imported, Exported}
+use Rattle.wit_types.specs.declared.types.TypeOwner.TheVariants as owner
+use Rattle.wit_model.specs.declared.interface.Interface.{Interface}
+use Rattle.wit_model.specs.declared.world.World.{World}
+use Rattle.wit_syntax.specs.Address.{Address}
+use Rattle.wit_syntax.specs.ScopeTables.{in_turn, includes}
+use Rattle.wit_syntax.specs.Sides.{inline_items, side_items, SideItem, inline_after, item_function, names_on, part_items}
+use Rattle.wit_syntax.proofs.Inline.{length-inline_after}
+use Rattle.wit_syntax.proofs.Lists.{at_back, at_prefix}
+use Rattle.wit_arena.specs.UnfoldedTypes.{IsWorld}
+use Rattle.wit_arena.specs.ResolvedArenas.{AddsWorld, interfaces_at, worlds_at, AddsSides}
+use Rattle.wit_arena.specs.SideItems.{settled, AreSideItems}
+use Rattle.wit_arena.specs.Whole.{AreIncludes, type_imports}
+use Rattle.wit_items.specs.ForeignAddresses.{prefix_of}
+use Rattle.wit_world_sides.specs.Members.{Entry}
+use Rattle.wit_links.proofs.Leading.{addresses_count}
+use Rattle.wit_contents.specs.AddedWorlds.{arenas}
+use Rattle.wit_contents.specs.declared.walk.Walked.{Walked}
+use Rattle.wit_contents.specs.Walk.{AddsAll, HavePlaces, IsWalk, ItemWalk, walk_item, puts_nothing}
+use Rattle.std.specs.Char.{is_ascii_uppercase}
+use Rattle.std.specs.List.{flat_map, list_all, list_any}
+use Rattle.std.proofs.lemmas.Bool.{and_parts, eqb-true}
+use Rattle.std.proofs.lemmas.List.{append-nil, nil_from_length}
+use Rattle.wit_tree.specs.declared.tree.Include.{Include}
+use Rattle.wit_tree.specs.declared.tree.World.{World as Written}
+use Rattle.wit_tree.specs.declared.tree.WorldItem.{WorldItem}
+use Rattle.wit_tree.specs.declared.tree.WorldSide.{WorldSide}
+use Rattle.wit_functions.specs.MaybeFunction.{is_setter}
+use Rattle.wit_functions.proofs.NoSetters.{no_setters}
+use Rattle.wit_model.specs.ItemsOfWorlds.{function_of}
+use Rattle.wit_syntax.specs.Repeats.{AllDiffer}
+use Rattle.wit_syntax.proofs.Legal.{functions_items}
+use Rattle.wit_syntax.proofs.Turns.{in_turn_distinct}
+use Rattle.wit_first.specs.First.{first_after}
+use Rattle.wit_first.proofs.Clashes.{no_clashes}
+use Rattle.wit_first.proofs.First.{none_both}
+use Rattle.wit_walk.specs.Setters.{setters_beside, setters_fault}
+use Rattle.wit_refusals.specs.NameScopes.{Name}
+use Rattle.wit_signatures.specs.ForeignName.{name_key, name_of_id}
+use Rattle.wit_externs.specs.AloneFaults.{again, sides_setters}
+use Rattle.wit_item_entries.specs.NameOrder.{IsTurn}
+use Rattle.wit_item_entries.proofs.NoFunctions.{names_alone}
+use Rattle.wit_contents.specs.MemberFaults.{MemberTest}
+use Rattle.wit_contents.specs.WorldFaults.{sides_fault}
+use Rattle.wit_contents.proofs.Members.{sides_none}
+use Rattle.wit_contents.proofs.MemberFaults.{world_sides}
+
+-- it is that of a world of the files, whose names are resolved, in turn
+pub walk_of_scope : (w : Walk) (i : BorrowedItem) (s : WorldScope) → IsItemOf w.interfaces.now.files i → is_world (item_view i) ≡ true → IsScopeOfWorld s i → w.scope.names.now ≡ s.names.types → w.scope.results.now ≡ s.results → w.scope.functions.now ≡ s.functions.items → w.turn.now ≡ s.names.turn.items → IsWalkOf w i w.interfaces.now s.names
+walk_of_scope w i s item sort of names results fns lent =
+    let xs = scope_names (item_view i) in
+    let ids = s.names.turn.items in
+    let env = env_of w.scope.names.now in
+    let own : functions_view w.scope ≡ functions (item_view i) = ap (map function_view) fns ∙ of.functions in
+    let listed : names_in w.scope.names.now ≡ map (λ (id : Id). id.name.now) ids = ap names_in names ∙ s.names.listed in
+    record {
+      walk = record {
+        item = item;
+        sort = sort;
+        functions = own;
+        owners = subst (HaveOwners env) (sym own) (owners (item_view i) env (turn_has xs ids w.scope.names.now of.turn listed));
+        scoped = record { names = all_names xs ids w.scope.names.now of.turn listed; results = rw results of.results };
+        turn = rw lent of.turn;
+        listed = listed ∙ ap (map (λ (id : Id). id.name.now)) (sym lent);
+      };
+      interfaces = refl;
+      types = names;
+      turn = lent;
+    }
+
+-- its names were added in turn
+pub turn_of : (w : Walk) (i : BorrowedItem) (is : Interfaces) (names : ResolvedNames) → IsWalkOf w i is names → (old new : List TypeDef) (o : TypeOwner) → AddsTurn old new (resolved_scopes_of is) o (scope_names (item_view i)) names.types names.turn.items names.required.items → AddsTurn old new (resolved_scopes_of w.interfaces.now) o (scope_names (item_view i)) w.scope.names.now w.turn.now names.required.items
+turn_of w i is names of old new o n = rw (of.interfaces, of.types, of.turn) n
+
+-- where each of so many interfaces that are written in an item is, after the declared ones and those that were written before
+module _ (foreign : List Address) (is inside : List Interface) (ss : List Address) (item : Item) (counted : length (interfaces_at foreign is) ≡ length is) (known : length ss ≡ length inside) where
+  pub inline_present : (k : ℕ) (s : Address) → slice_get (map address (inline_items item)) k ≡ Some s → slice_get (interfaces_at foreign is ++ (ss ++ map address (inline_items item))) ((length is + length inside) + k) ≡ Some s
+  inline_present k s at =
+      let us = map address (inline_items item) in
+      let place : (length is + length inside) + k ≡ length (interfaces_at foreign is) + (length ss + k) = omega (arith, counted, known) in
+      ap (slice_get (interfaces_at foreign is ++ (ss ++ us))) place ∙ at_back (interfaces_at foreign is) (ss ++ us) (length ss + k) s (at_back ss us k s at)
+
+-- what a world adds, where its names and what is on its sides were added
+module _ (w : ItemWalk) (others : List Address) (ws : List World) (old middle new : List TypeDef) (inside now : List Interface) (required : List Required) (m : Walked) (is : IsWalk w) (n : AddsTurn old middle (resolved_scopes_of w.walk.interfaces.now) (owner.World (length ws)) (scope_names (walk_item w)) w.walk.scope.names.now w.walk.turn.now required) (all : AddsAll w middle new inside now m) where
+  abbrev item : Item
+  item = walk_item w
+
+  abbrev foreign : List Address
+  foreign = prefix_of w.walk.interfaces.now.files
+
+  abbrev interfaces : List Interface
+  interfaces = w.walk.interfaces.now.arena
+
+  pub extended : length now ≡ length inside + length (inline_items item)
+  extended = all.adds.more ∙ ap (λ (k : ℕ). length inside + k) (sym (length-inline_after item [] (side_items item)))
+
+  pub content_adds : (added : World) (ss : List Address) → length ss ≡ length inside → IsWorld (about item.declared).id.name.now (about item.declared).id.span (declared_metadata item.declared) added → added.imports ≡ settled (includes item) m.members.sides.imports → added.exports ≡ settled (includes item) m.members.sides.exports → AreIncludes (worlds_at others ws) item added.includes → AddsWorld foreign others interfaces old new (arenas ws inside ss) (arenas (ws ++ added ∷ []) now (ss ++ map address (inline_items item))) (required ++ m.required.items) item
+  content_adds added ss known says imports exports included =
+      let order = n.adds.order in
+      let us = map address (inline_items item) in
+      let total = interfaces_at foreign interfaces ++ (ss ++ us) in
+      let counted = addresses_count foreign interfaces w.walk.interfaces.now.prefix in
+      let places : HavePlaces w inside (inline_items item) total = record {
+        interfaces = λ p s at. at_prefix (interfaces_at foreign interfaces) (ss ++ us) p s at;
+        inline = inline_present foreign interfaces inside ss item counted known;
+      } in
+      let first = all.adds.are_present total places Imported in
+      let second = all.adds.are_present total places Exported in
+      let own : required ++ m.required.items ≡ n.handled.list ++ all.adds.adds.own = ap (λ (l : List Required). l ++ m.required.items) n.handled.added ∙ ap (λ (l : List Required). n.handled.list ++ l) (all.adds.adds.list ∙ ap (λ (l : List Required). l ++ all.adds.adds.own) all.is.required) in
+      record {
+        added = added;
+        last = refl;
+        more = refl;
+        says = says;
+        types = w.walk.scope.names.now;
+        middle = middle;
+        adds = n.adds;
+        own = n.handled.list;
+        ended = n.handled.ended;
+        functions = all.adds.functions;
+        rest = all.adds.adds.own;
+        requires = own;
+        sides = all.adds.adds.holds (address item);
+        imported = first.more;
+        are_imported = first.are;
+        imports = imports ∙ ap (settled (includes item)) (first.put ∙ ap (λ (l : List Entry). l ++ first.more) (all.is.imports (in_turn (scope_names item) order) n.turn));
+        exported = second.more;
+        are_exported = second.are;
+        exports = exports ∙ ap (settled (includes item)) (second.put ∙ ap (λ (l : List Entry). l ++ second.more) all.is.exports);
+        includes = included;
+      }
+
+-- parts that put nothing on a side
+put_none : (xs : List WorldItem) → list_all puts_nothing xs ≡ true → world_sides xs ≡ []
+put_none [] all = refl
+put_none (x ∷ xs) all =
+    let both = and_parts (puts_nothing x) (list_all puts_nothing xs) all in
+    ap (λ (l : List SideItem). l ++ world_sides xs) (nil_from_length (part_items (world_part x)) (eqb-true (length (part_items (world_part x))) 0 both.0)) ∙ put_none xs both.1
+
+pub none_there : (i : BorrowedItem) (world : Written) (xs : List WorldItem) → declared_view i.declared ≡ TheWorld world → xs ≡ world.items.items → list_all puts_nothing xs ≡ true → side_items (item_view i) ≡ []
+none_there i world xs is same all = ap (λ (d : Declared). flat_map part_items (about d).parts) is ∙ ap world_sides (sym same) ∙ put_none xs all
+
+-- the names of a world differ
+pub texts_differ : (xs : List ScopeName) (ids : List Id) → IsTurn xs ids → AllDiffer (map (λ id. id.name.now) ids)
+texts_differ xs ids turn = subst AllDiffer (sym (turn_texts xs turn.order ids turn.are)) (in_turn_distinct xs turn.order turn.least turn.distinct)
+
+-- without functions no setter is without its getter
+by_includes : (i : Item) (ns : List Include) → functions i ≡ [] → setters_beside i ns ≡ None
+by_includes i [] none = ap sides_setters none
+by_includes i (n ∷ ns) none = refl
+
+pub setters_none : (i : Item) → side_items i ≡ [] → setters_fault i ≡ None
+setters_none i empty = by_includes i (includes i) (functions_items i ∙ ap (flat_map item_function) empty)
+
+-- types are no functions
+no_setter : (xs : List ScopeName) (types : Names) → list_any (λ (e : Entry). is_setter (function_of e.1)) (type_imports xs types) ≡ false
+no_setter [] types = refl
+no_setter (x ∷ xs) [] = refl
+no_setter (x ∷ xs) (t ∷ types) = no_setter xs types
+
+-- so they stay where they are
+names_settled : (written : List Include) (xs : List ScopeName) (types : Names) → settled written (type_imports xs types) ≡ type_imports xs types
+names_settled [] xs types = no_setters (λ (e : Entry). function_of e.1) (type_imports xs types) (no_setter xs types)
+names_settled (i ∷ is) xs types = refl
+
+-- names in turn without a letter in upper case
+module _ (xs : List ScopeName) (ids : List Id) (turn : IsTurn xs ids) (lower : list_any (λ (id : Id). list_any is_ascii_uppercase id.name.now) ids ≡ false) where
+  keys_differ : (s : WorldSide) → AllDiffer (map name_key (names_on s (map name_of_id ids)))
+  keys_differ s = subst (λ (l : List Name). AllDiffer (map name_key l)) (append-nil (names_on s (map name_of_id ids))) (names_alone s xs ids [] refl turn lower)
+
+-- a world of the files that has nothing on its sides after its names
+module _ (item : Item) (empty : side_items item ≡ []) where
+  pub alone_extended : (count : ℕ) → count ≡ count + length (inline_items item)
+  alone_extended count = let none : length (inline_items item) ≡ 0 = ap (λ (xs : List SideItem). length (inline_after item [] xs)) empty in omega (arith, none)
+
+  -- nothing has a fault
+  pub alone_none : (ids : List Id) → IsTurn (scope_names item) ids → list_any (λ (id : Id). list_any is_ascii_uppercase id.name.now) ids ≡ false → (member : MemberTest) → sides_fault item ids member ≡ None
+  alone_none ids turn lower member = none_both (no_clashes name_key again (map name_of_id ids) (keys_differ (scope_names item) ids turn lower Imported)) (none_both (ap (first_after member []) empty) (setters_none item empty))
+
+  -- and only the names are added
+  module _ (is : Interfaces) (others : List Address) (ws : List World) (old middle : List TypeDef) (inside : List Interface) (types : Names) (ids : List Id) (required : List Required) (n : AddsTurn old middle (resolved_scopes_of is) (owner.World (length ws)) (scope_names item) types ids required) where
+    abbrev names : List Entry
+    names = type_imports (in_turn (scope_names item) n.adds.order) types
+
+    pub alone_adds : (added : World) (ss : List Address) → IsWorld (about item.declared).id.name.now (about item.declared).id.span (declared_metadata item.declared) added → added.imports ≡ names → added.exports ≡ [] → AreIncludes (worlds_at others ws) item added.includes → AddsWorld (prefix_of is.files) others is.arena old middle (arenas ws inside ss) (arenas (ws ++ added ∷ []) inside (ss ++ map address (inline_items item))) required item
+    alone_adds added ss says imported exported included =
+        let us = inline_items item in
+        let total = interfaces_at (prefix_of is.files) is.arena ++ (ss ++ map address us) in
+        let none = λ (s : WorldSide). subst (λ (xs : List SideItem). AreSideItems total item.top s xs [] (map address us) []) (sym empty) refl in
+        record {
+          added = added;
+          last = refl;
+          more = refl;
+          says = says;
+          types = types;
+          middle = middle;
+          adds = n.adds;
+          own = n.handled.list;
+          ended = n.handled.ended;
+          functions = [];
+          rest = [];
+          requires = n.handled.added ∙ sym (append-nil n.handled.list);
+          sides = subst (λ (xs : List SideItem). AddsSides (resolved_scopes_of is) (length is.arena) (address item) types middle middle inside inside [] [] xs us) (sym empty) (sides_none (resolved_scopes_of is) (length is.arena) (address item) types middle inside us);
+          imported = [];
+          are_imported = none Imported;
+          imports = imported ∙ sym (names_settled (includes item) (in_turn (scope_names item) n.adds.order) types) ∙ ap (settled (includes item)) (sym (append-nil names));
+          exported = [];
+          are_exported = none Exported;
+          exports = exported ∙ sym (names_settled (includes item) [] types);
+          includes = included;
+        }
