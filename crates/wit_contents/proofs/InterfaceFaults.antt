@@ -6,7 +6,6 @@ use Rattle.wit_type_tree.specs.declared.leaves.Id.{Id}
 use Rattle.wit_types.specs.declared.types.TypeDef.{TypeDef}
 use Rattle.wit_types.specs.declared.types.TypeOwner.{TypeOwner}
 use Rattle.wit_types.specs.declared.types.TypeOwner.TheVariants as owner
-use Rattle.wit_graph.specs.Table.{IsOrder}
 use Rattle.wit_syntax.specs.Address.{Address}
 use Rattle.wit_syntax.specs.Fault.{Fault}
 use Rattle.wit_syntax.specs.ScopeTables.{in_turn, rows_of}
@@ -14,7 +13,7 @@ use Rattle.wit_syntax.specs.Source.{ScopeName, local_id, scope_names}
 use Rattle.wit_first.proofs.First.{none_both}
 use Rattle.wit_walk.specs.Orders.{Outcome, InOrder, IsOutcome, order_of}
 use Rattle.wit_walk.proofs.One.{outcome_one}
-use Rattle.wit_arena.specs.Resolving.{Defines, Names, env_of}
+use Rattle.wit_arena.specs.Resolving.{Defines, Names, Required, ResolvedScope, env_of}
 use Rattle.wit_entries.specs.Requiring.{IsExtended}
 use Rattle.wit_externs.specs.AloneFaults.{EndsIn, IsSafe}
 use Rattle.wit_externs.proofs.AloneFaults.{safe_arena, safe_of}
@@ -22,6 +21,7 @@ use Rattle.wit_items.specs.BorrowedItems.{scope_item}
 use Rattle.wit_items.specs.ResolvedInterfaces.{resolved_scopes_of}
 use Rattle.wit_items.specs.declared.interfaces.Interfaces.{Interfaces}
 use Rattle.wit_items.specs.declared.items.ItemScope.{ItemScope}
+use Rattle.wit_item_entries.specs.AddedNames.{AddsTurn}
 use Rattle.wit_item_entries.specs.Body.{HasTurn}
 use Rattle.wit_item_entries.specs.ReachedFaults.{HasHead, IsFaultless, IsHeadFault}
 use Rattle.wit_item_entries.specs.declared.names.ResolvedNames.{ResolvedNames}
@@ -40,24 +40,23 @@ head_first is place old i f h outcome right =
       is = λ handle ends. ap (λ (x : Option Fault). option_or x (rest_fault i (map local_id (in_turn (names_of i) (order_of outcome))) handle)) (r.is handle ends);
     }
 
--- they are resolved, and in the arena
-module _ (is : Interfaces) (o : TypeOwner) (old mid : List TypeDef) (i : ItemScope) (n : ResolvedNames) (named : names_of i ≡ scope_names (scope_item i)) (turn : HasTurn n mid (scope_item i) old (resolved_scopes_of is) o) (outcome : Outcome) (right : IsOutcome (rows_of (names_of i)) outcome) where
-  abbrev xs : List ScopeName
-  xs = names_of i
+-- names that were added in turn are in the order of their outcome
+module _ (old mid : List TypeDef) (cs : List ResolvedScope) (o : TypeOwner) (xs : List ScopeName) (types : Names) (ids : List Id) (required : List Required) (turn : AddsTurn old mid cs o xs types ids required) (outcome : Outcome) (right : IsOutcome (rows_of xs) outcome) where
+  abbrev ys : List ScopeName
+  ys = in_turn xs (order_of outcome)
 
-  ordered : outcome ≡ InOrder turn.adds.order
-  ordered = outcome_one (rows_of xs) outcome (InOrder turn.adds.order) right (subst (λ (ys : List ScopeName). IsOrder (rows_of ys) turn.adds.order) (sym named) turn.adds.least)
+  in_turn_is : ys ≡ in_turn xs turn.adds.order
+  in_turn_is = ap (λ (p : Outcome). in_turn xs (order_of p)) (outcome_one (rows_of xs) outcome (InOrder turn.adds.order) right turn.adds.least)
 
-  in_turn_is : in_turn xs (order_of outcome) ≡ in_turn (scope_names (scope_item i)) turn.adds.order
-  in_turn_is = ap (λ (p : Outcome). in_turn xs (order_of p)) ordered ∙ ap (λ (ys : List ScopeName). in_turn ys turn.adds.order) named
-
-  turned : n.turn.items ≡ map local_id (in_turn xs (order_of outcome))
+  pub turned : ids ≡ map local_id (in_turn xs (order_of outcome))
   turned = turn.turn ∙ ap (map local_id) (sym in_turn_is)
 
-  all_defined : (s : Address) → Defines old mid (resolved_scopes_of is) o s [] n.types (take (length (in_turn xs (order_of outcome))) (in_turn xs (order_of outcome)))
-  all_defined s =
-      let ys = in_turn xs (order_of outcome) in
-      subst (λ (zs : List ScopeName). Defines old mid (resolved_scopes_of is) o s [] n.types zs) (sym in_turn_is ∙ sym (take_all (length ys) ys (omega arith))) (turn.adds.defines s)
+  pub all_defined : (s : Address) → Defines old mid cs o s [] types (take (length (in_turn xs (order_of outcome))) (in_turn xs (order_of outcome)))
+  all_defined s = subst (λ (zs : List ScopeName). Defines old mid cs o s [] types zs) (sym in_turn_is ∙ sym (take_all (length ys) ys (omega arith))) (turn.adds.defines s)
+
+-- they are those of an interface
+abbrev own_turn : (i : ItemScope) (n : ResolvedNames) (old mid : List TypeDef) (cs : List ResolvedScope) (o : TypeOwner) → names_of i ≡ scope_names (scope_item i) → HasTurn n mid (scope_item i) old cs o → AddsTurn old mid cs o (names_of i) n.types n.turn.items n.required.items
+own_turn i n old mid cs o named turn = subst (λ (xs : List ScopeName). AddsTurn old mid cs o xs n.types n.turn.items n.required.items) (sym named) turn
 
 -- so what comes after them is wrong
 pub rest_first : (is : Interfaces) (place : ℕ) (old mid new : List TypeDef) (i : ItemScope) (n : ResolvedNames) (f : Fault) → names_of i ≡ scope_names (scope_item i) → HasTurn n mid (scope_item i) old (resolved_scopes_of is) (owner.Interface place) → HasHead is i n.types mid → IsExtended mid new → ((handle : Id → Option Fault) → EndsIn (env_of n.types) new handle → rest_fault i n.turn.items handle ≡ Some f) → IsInterfaceFault is place old i f
@@ -65,13 +64,13 @@ rest_first is place old mid new i n f named turn head g wrong outcome right = re
   count = length (in_turn (names_of i) (order_of outcome));
   mid = mid;
   now = n.types;
-  defines = all_defined is (owner.Interface place) old mid i n named turn outcome right;
+  defines = all_defined old mid (resolved_scopes_of is) (owner.Interface place) (names_of i) n.types n.turn.items n.required.items (own_turn i n old mid (resolved_scopes_of is) (owner.Interface place) named turn) outcome right;
   more = g.more;
   is = λ handle ends. (
       let now : EndsIn (env_of n.types) new handle = subst (λ (es : List TypeDef). EndsIn (env_of n.types) es handle) (sym g.is) ends in
       let none = head outcome right handle (safe_arena (env_of n.types) mid new handle g (safe_of (env_of n.types) new handle now)) in
       ap (λ (x : Option Fault). option_or x (rest_fault i (map local_id (in_turn (names_of i) (order_of outcome))) handle)) none
-      ∙ ap (λ (ids : List Id). rest_fault i ids handle) (sym (turned is (owner.Interface place) old mid i n named turn outcome right))
+      ∙ ap (λ (ids : List Id). rest_fault i ids handle) (sym (turned old mid (resolved_scopes_of is) (owner.Interface place) (names_of i) n.types n.turn.items n.required.items (own_turn i n old mid (resolved_scopes_of is) (owner.Interface place) named turn) outcome right))
       ∙ wrong handle now);
 }
 
@@ -79,4 +78,4 @@ rest_first is place old mid new i n f named turn head g wrong outcome right = re
 pub rest_none : (is : Interfaces) (o : TypeOwner) (old mid new : List TypeDef) (i : ItemScope) (n : ResolvedNames) (types : Names) → types ≡ n.types → names_of i ≡ scope_names (scope_item i) → HasTurn n mid (scope_item i) old (resolved_scopes_of is) o → HasHead is i n.types mid → IsExtended mid new → ((handle : Id → Option Fault) → IsSafe (env_of n.types) new handle → rest_fault i n.turn.items handle ≡ None) → (outcome : Outcome) → IsOutcome (rows_of (names_of i)) outcome → IsFaultless types new (interface_fault is i outcome)
 rest_none is o old mid new i n types same named turn head g rest outcome right handle safe =
     let own : IsSafe (env_of n.types) new handle = subst (λ (ns : Names). IsSafe (env_of ns) new handle) same safe in
-    none_both (head outcome right handle (safe_arena (env_of n.types) mid new handle g own)) (ap (λ (ids : List Id). rest_fault i ids handle) (sym (turned is o old mid i n named turn outcome right)) ∙ rest handle own)
+    none_both (head outcome right handle (safe_arena (env_of n.types) mid new handle g own)) (ap (λ (ids : List Id). rest_fault i ids handle) (sym (turned old mid (resolved_scopes_of is) o (names_of i) n.types n.turn.items n.required.items (own_turn i n old mid (resolved_scopes_of is) o named turn) outcome right)) ∙ rest handle own)

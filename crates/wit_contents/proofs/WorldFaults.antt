@@ -1,9 +1,9 @@
 -- The first fault of a world: of its attributes, of its names, of its includes, or of what is on its sides.
-use Rattle.std.proofs.Common.{◌≡◌, ℕ, ◌+◌, Bool, true, List, [], ◌∷◌, ◌++◌, drop, length, map, take, Option, Some, None, refl, sym, ap, ◌∙◌, subst, arith, All, ◌<◌, get_or}
+use Rattle.std.proofs.Common.{◌≡◌, ℕ, ◌+◌, Bool, true, List, [], ◌∷◌, ◌++◌, drop, length, map, take, Option, Some, None, refl, sym, ap, ◌∙◌, subst, All, ◌<◌, get_or}
 use Rattle.std.specs.Prelude.{if◌then◌else◌, slice_get}
 use Rattle.std.specs.List.{filter}
 use Rattle.std.specs.Option.{option_map, option_or}
-use Rattle.std.proofs.lemmas.List.{append-nil, take-append-drop, take_all}
+use Rattle.std.proofs.lemmas.List.{append-nil, take-append-drop}
 use Rattle.std.proofs.lemmas.List.Elements.{filter-append, filter_map-append}
 use Rattle.std.proofs.lemmas.Option.{slice_get-get_or, slice_get-map}
 use Rattle.wit_type_tree.specs.declared.error.ParseError.{ParseError}
@@ -14,7 +14,6 @@ use Rattle.wit_types.specs.declared.types.TypeDef.{TypeDef}
 use Rattle.wit_types.specs.declared.types.TypeOwner.{TypeOwner}
 use Rattle.wit_types.specs.declared.types.TypeOwner.TheVariants as owner
 use Rattle.wit_model.specs.declared.interface.Interface.{Interface}
-use Rattle.wit_syntax.specs.Address.{Address}
 use Rattle.wit_syntax.specs.Fault.{Fault}
 use Rattle.wit_syntax.specs.Function.{SourceFunction, functions}
 use Rattle.wit_syntax.specs.Repeats.{AllDiffer}
@@ -25,9 +24,8 @@ use Rattle.wit_syntax.proofs.Kept.{kept_next}
 use Rattle.wit_first.specs.First.{Reports, first_after, first_in}
 use Rattle.wit_first.proofs.Clashes.{no_clashes}
 use Rattle.wit_first.proofs.First.{in-append, in-more, none_both, reports_prefix, reports_same}
-use Rattle.wit_walk.specs.Orders.{InOrder, IsOutcome, Outcome, order_of}
+use Rattle.wit_walk.specs.Orders.{IsOutcome, Outcome, order_of}
 use Rattle.wit_walk.specs.Setters.{setters_beside, setters_fault}
-use Rattle.wit_walk.proofs.One.{outcome_one}
 use Rattle.wit_arena.specs.Resolving.{Defines, ResolvedScope, env_of}
 use Rattle.wit_arena.proofs.DefinitionPart.{defines_none}
 use Rattle.wit_refusals.specs.NameScopes.{Name}
@@ -50,6 +48,7 @@ use Rattle.wit_contents.specs.MemberFaults.{MemberTest}
 use Rattle.wit_contents.specs.Walk.{IsNext, IsStart, IsWalk, ItemWalk, walk_item, walk_of}
 use Rattle.wit_contents.specs.WorldFaults.{AreRightAfter, AreRightSides, HasNoHeadFault, IsRightOfWorld, IsWorldHeadFault, sides_fault, turn_fault}
 use Rattle.wit_contents.specs.WorldWalk.{IsWalkOf}
+use Rattle.wit_contents.proofs.InterfaceFaults.{all_defined, turned}
 use Rattle.wit_contents.specs.declared.walk.Walk.{Walk}
 use Rattle.wit_contents.specs.declared.walk.Walked.{Walked}
 
@@ -102,8 +101,8 @@ module _ (ws : Worlds) (i : BorrowedItem) (old : List TypeDef) where
   abbrev after : List Id → Option Fault
   after ids = option_or (includes_fault ws w) (turn_fault ids)
 
-  abbrev turned : Outcome → List Id
-  turned outcome = map local_id (in_turn xs (order_of outcome))
+  abbrev turned_ids : Outcome → List Id
+  turned_ids outcome = map local_id (in_turn xs (order_of outcome))
 
   abbrev names_test : Outcome → (Id → Option Fault) → Option Fault
   names_test outcome handle = names_fault ws.interfaces.now i.names.items outcome handle
@@ -116,7 +115,7 @@ module _ (ws : Worlds) (i : BorrowedItem) (old : List TypeDef) where
     now = [];
     defines = λ s. defines_none old cs o s [];
     more = [];
-    is = λ handle ends. ap (λ (x : Option Fault). option_or x (option_or (names_test outcome handle) (after (turned outcome)))) wrong;
+    is = λ handle ends. ap (λ (x : Option Fault). option_or x (option_or (names_test outcome handle) (after (turned_ids outcome)))) wrong;
   }
 
   module _ (named : names_view i ≡ scope_names (item_view i)) (stable : item_stability (item_view i) ≡ None) where
@@ -132,25 +131,14 @@ module _ (ws : Worlds) (i : BorrowedItem) (old : List TypeDef) where
           more = r.more;
           is = λ handle ends. (
               let names : names_test outcome handle ≡ Some f = r.is handle ends in
-              ap (λ (x : Option Fault). option_or x (option_or (names_test outcome handle) (after (turned outcome)))) stable ∙ ap (λ (x : Option Fault). option_or x (after (turned outcome))) names);
+              ap (λ (x : Option Fault). option_or x (option_or (names_test outcome handle) (after (turned_ids outcome)))) stable ∙ ap (λ (x : Option Fault). option_or x (after (turned_ids outcome))) names);
         }
 
     -- they are resolved, and in the arena
     module _ (n : ResolvedNames) (mid : List TypeDef) (turn : AddsTurn old mid cs o xs n.types n.turn.items n.required.items) (head : HaveNames None ws.interfaces.now i.names.items n.types mid) where
       module _ (outcome : Outcome) (right : IsOutcome (rows_of (scope_names (item_view i))) outcome) where
-        ordered : outcome ≡ InOrder turn.adds.order
-        ordered = outcome_one (rows_of xs) outcome (InOrder turn.adds.order) right turn.adds.least
-
-        in_turn_is : in_turn xs (order_of outcome) ≡ in_turn xs turn.adds.order
-        in_turn_is = ap (λ (p : Outcome). in_turn xs (order_of p)) ordered
-
-        turned_is : n.turn.items ≡ turned outcome
-        turned_is = turn.turn ∙ ap (map local_id) (sym in_turn_is)
-
-        all_defined : (s : Address) → Defines old mid cs o s [] n.types (take (length (in_turn xs (order_of outcome))) (in_turn xs (order_of outcome)))
-        all_defined s =
-            let ys = in_turn xs (order_of outcome) in
-            subst (λ (zs : List ScopeName). Defines old mid cs o s [] n.types zs) (sym in_turn_is ∙ sym (take_all (length ys) ys (omega arith))) (turn.adds.defines s)
+        turned_is : n.turn.items ≡ turned_ids outcome
+        turned_is = turned old mid cs o xs n.types n.turn.items n.required.items turn outcome right
 
         names_none : (handle : Id → Option Fault) → IsSafe (env_of n.types) mid handle → names_test outcome handle ≡ None
         names_none handle safe = head outcome (subst (λ (ys : List ScopeName). IsOutcome (rows_of ys) outcome) (sym named) right) handle safe
@@ -161,13 +149,13 @@ module _ (ws : Worlds) (i : BorrowedItem) (old : List TypeDef) where
         count = length (in_turn xs (order_of outcome));
         mid = mid;
         now = n.types;
-        defines = all_defined outcome right;
+        defines = all_defined old mid cs o xs n.types n.turn.items n.required.items turn outcome right;
         more = [];
         is = λ handle ends. (
             let now : EndsIn (env_of n.types) mid handle = subst (λ (es : List TypeDef). EndsIn (env_of n.types) es handle) (append-nil mid) ends in
             let none = names_none outcome right handle (safe_of (env_of n.types) mid handle now) in
-            ap (λ (x : Option Fault). option_or x (option_or (names_test outcome handle) (after (turned outcome)))) stable
-            ∙ ap (λ (x : Option Fault). option_or x (after (turned outcome))) none
+            ap (λ (x : Option Fault). option_or x (option_or (names_test outcome handle) (after (turned_ids outcome)))) stable
+            ∙ ap (λ (x : Option Fault). option_or x (after (turned_ids outcome))) none
             ∙ ap after (sym (turned_is outcome right))
             ∙ wrong);
       }

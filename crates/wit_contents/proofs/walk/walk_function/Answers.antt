@@ -18,7 +18,7 @@ pub put_function-requires-clause-keyed : goal.put_function-requires-clause-keyed
 put_function-requires-clause-keyed c = c.requires.keyed
 
 pub put_function-requires-clause-borrowed : goal.put_function-requires-clause-borrowed
-put_function-requires-clause-borrowed c = same_name _ _ (c.in_ok-function.ensures.named _ (function_next c.requires))
+put_function-requires-clause-borrowed c = same_name c.in_ok-function.function (function_view c.args.borrowed) (c.in_ok-function.ensures.named _ (function_next c.requires))
 
 pub returns-clause-adds : goal.returns-clause-adds
 returns-clause-adds c = λ inside n.
