@@ -10,7 +10,7 @@ use Rattle.wit_graph.specs.Table.{Row, IsOrder}
 use Rattle.wit_syntax.specs.Fault.{Fault, cyclic_at, item_word, missing_at}
 use Rattle.wit_syntax.specs.Foreign.{foreign_visits}
 use Rattle.wit_syntax.specs.ScopeTables.{in_order, interfaces_of, item_rows, worlds_of}
-use Rattle.wit_syntax.specs.Source.{Item, all_items}
+use Rattle.wit_syntax.specs.Source.{all_items}
 use Rattle.wit_first.specs.First.{Finds, Reports, first_in}
 use Rattle.wit_first.specs.FileFaults.{files_fault, tops_fault, visits_fault}
 use Rattle.wit_first.specs.NameFaults.{item_names_fault}
@@ -68,14 +68,11 @@ module _ (files : List PackageFile) (known : Known) (is : IsRight files known) w
 
   -- items are in an order
   module _ (places : List ℕ) (least : IsOrder (item_rows files) places) where
-    abbrev turn : List Item
-    turn = in_order (all_items files) places
-
     abbrev of_interfaces : Option Fault
-    of_interfaces = first_in (contents_fault files known) (interfaces_of turn)
+    of_interfaces = first_in (contents_fault files known) (interfaces_of (in_order (all_items files) places))
 
     abbrev of_worlds : Option Fault
-    of_worlds = first_in (contents_fault files known) (worlds_of turn)
+    of_worlds = first_in (contents_fault files known) (worlds_of (in_order (all_items files) places))
 
     after_uses : option_or (all_uses_fault files) (option_or of_interfaces of_worlds) ≡ fault_after 6 files known
     after_uses =

@@ -159,9 +159,6 @@ module _ (files : List PackageFile) (by_name : Names) (top : List TopName) (befo
   abbrev lost : Option Fault
   lost = lost_fault (all_items files) t
 
-  abbrev unresolved : Option Fault
-  unresolved = unresolved_fault by_name t
-
   abbrev placed : Option ℕ
   placed = path_place files by_name top link.path
 
@@ -171,20 +168,17 @@ module _ (files : List PackageFile) (by_name : Names) (top : List TopName) (befo
   abbrev by_files : Option Fault
   by_files = option_or (link_fault files top before link) named
 
-  abbrev twice : Option Fault
-  twice = again_fault top before link
-
   -- by what is there
   abbrev tables_at : Option Bool → Option Fault
-  tables_at o = option_or noted (option_or (option_or (reached_fault o (path_id link.path) lost) unresolved) (option_map_or put placed None))
+  tables_at o = option_or noted (option_or (option_or (reached_fault o (path_id link.path) lost) (unresolved_fault by_name t)) (option_map_or put placed None))
 
   abbrev files_at : Option Bool → Option Fault
-  files_at o = option_or (option_or noted (there_fault o (path_id link.path) lost twice)) named
+  files_at o = option_or (option_or noted (there_fault o (path_id link.path) lost (again_fault top before link))) named
 
   by : (o : Option Bool) → is_world_at files t ≡ o → tables_at o ≡ files_at o
   by None is =
       let it = lost_there files by_name t leading is in
-      ap (λ (o : Option Fault). option_or noted (option_or (option_or o unresolved) (option_map_or put placed None))) it.1
+      ap (λ (o : Option Fault). option_or noted (option_or (option_or o (unresolved_fault by_name t)) (option_map_or put placed None))) it.1
       ∙ sym (ap (λ (o : Option Fault). option_or (option_or noted o) named) it.1 ∙ or_assoc noted (Some it.0) named)
   by (Some true) is = sym (or_assoc noted (Some (world_there (path_id link.path))) named)
   by (Some false) is =
@@ -192,10 +186,7 @@ module _ (files : List PackageFile) (by_name : Names) (top : List TopName) (befo
       ap (λ (o : Option Fault). option_or noted (option_or o (option_map_or put placed None))) it.2
       ∙ ap (λ (o : Option ℕ). option_or noted (option_map_or put o None)) it.1
       ∙ ap (option_or noted) (both it.0 it.1)
-      ∙ sym (or_assoc noted twice named)
+      ∙ sym (or_assoc noted (again_fault top before link) named)
 
   pub link_walked : by_tables ≡ by_files
-  link_walked = whole (is_world_at files t) refl
-    where
-      whole : (o : Option Bool) → is_world_at files t ≡ o → by_tables ≡ by_files
-      whole o is = ap tables_at is ∙ by o is ∙ sym (ap files_at is)
+  link_walked = by (is_world_at files t) refl
