@@ -34,7 +34,6 @@ use Rattle.wit_externs.specs.AloneFaults.{EndsIn, IsSafe, again, sides_setters}
 use Rattle.wit_externs.proofs.AloneFaults.{safe_of}
 use Rattle.wit_items.specs.BorrowedItems.{item_view, names_view}
 use Rattle.wit_items.specs.ResolvedInterfaces.{resolved_scopes_of}
-use Rattle.wit_items.specs.declared.interfaces.Interfaces.{Interfaces}
 use Rattle.wit_items.specs.declared.items.Item.{Item as BorrowedItem}
 use Rattle.wit_world_sides.specs.Settled.{none_of}
 use Rattle.wit_world_sides.specs.Members.{AreKeyed}
@@ -46,10 +45,8 @@ use Rattle.wit_item_entries.specs.ReachedFaults.{HaveNames, IsNamesFault, item_s
 use Rattle.wit_item_entries.specs.declared.names.ResolvedNames.{ResolvedNames}
 use Rattle.wit_contents.specs.MemberFaults.{MemberTest}
 use Rattle.wit_contents.specs.Walk.{IsNext, IsStart, IsWalk, ItemWalk, walk_item, walk_of}
-use Rattle.wit_contents.specs.WorldFaults.{AreRightAfter, AreRightSides, HasNoHeadFault, IsRightOfWorld, IsWorldHeadFault, sides_fault, turn_fault}
-use Rattle.wit_contents.specs.WorldWalk.{IsWalkOf}
+use Rattle.wit_contents.specs.WorldFaults.{AreRightSides, HasNoHeadFault, IsRightOfWorld, IsWorldHeadFault, sides_fault, turn_fault}
 use Rattle.wit_contents.proofs.InterfaceFaults.{all_defined, turned}
-use Rattle.wit_contents.specs.declared.walk.Walk.{Walk}
 use Rattle.wit_contents.specs.declared.walk.Walked.{Walked}
 
 -- setters are looked at where a world includes nothing
@@ -72,17 +69,6 @@ turn_differs w start is =
 -- at first all of what is on the sides comes next
 abbrev pub next_all : (w : ItemWalk) (m : Walked) → IsWalk w → IsSeen [] m.seen → AreKeyed m.members → IsNext w (side_items (walk_item w)) m
 next_all w m walk seen keyed = record { walk = walk; prefix = []; rest = []; sides = sym (append-nil (side_items (walk_item w))); seen = seen; keyed = keyed }
-
--- what is found of a walk is found of the world with these names
-module _ (w : Walk) (i : BorrowedItem) (is : Interfaces) (names : ResolvedNames) (old : List TypeDef) (inside : List Interface) (of : IsWalkOf w i is names) (member : MemberTest) (right : AreRightSides member i is names old inside) where
-  sides_by : (P : Option Fault → Type 0) → (((start : Walked) → IsStart (walk_of i w) start → AreRightAfter member (walk_of i w) old inside start) → P (sides_fault (item_view i) w.turn.now member)) → P (sides_fault (item_view i) names.turn.items member)
-  sides_by P found = subst (λ (ids : List Id). P (sides_fault (item_view i) ids member)) of.turn (found (λ start begun. right w start of begun))
-
-  pub sides_reported : (e : ParseError) → (((start : Walked) → IsStart (walk_of i w) start → AreRightAfter member (walk_of i w) old inside start) → Reports (sides_fault (item_view i) w.turn.now member) e) → Reports (sides_fault (item_view i) names.turn.items member) e
-  sides_reported e found = sides_by (λ (first : Option Fault). Reports first e) found
-
-  pub sides_none : (((start : Walked) → IsStart (walk_of i w) start → AreRightAfter member (walk_of i w) old inside start) → sides_fault (item_view i) w.turn.now member ≡ None) → sides_fault (item_view i) names.turn.items member ≡ None
-  sides_none found = sides_by (λ (first : Option Fault). first ≡ None) found
 
 module _ (ws : Worlds) (i : BorrowedItem) (old : List TypeDef) where
   abbrev w : Item

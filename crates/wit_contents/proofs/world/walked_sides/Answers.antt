@@ -1,7 +1,11 @@
+use Rattle.std.proofs.Common.{List, sym, ap, ◌∙◌}
 use Rattle.std.proofs.lemmas.Result.{err_from_is_err_and}
+use Rattle.wit_type_tree.specs.declared.leaves.Id.{Id}
+use Rattle.wit_first.proofs.First.{reports_same}
+use Rattle.wit_items.specs.BorrowedItems.{item_view}
+use Rattle.wit_contents.specs.WorldFaults.{sides_fault}
 use Rattle.wit_contents.specs.declared.walk.Walk.{Walk}
 use Rattle.wit_contents.proofs.WorldParts.{walk_of_scope}
-use Rattle.wit_contents.proofs.WorldFaults.{sides_none, sides_reported}
 use Rattle.wit_contents.proofs.world.walked_sides.Goals as goal
 
 pub walk_sides-requires-clause-walk : goal.walk_sides-requires-clause-walk
@@ -24,10 +28,12 @@ returns-in_err-walked-clause-first c =
     let p = err_from_is_err_and c.from_residual.result c.from_residual.ensures.1 in
     let f = c.function_scope-functions.ensures in
     let w : Walk = record { turn = c.deref.result; scope = c.function_scope-functions.result; interfaces = c.args.interfaces } in
-    rw (p.1, p.2) (λ member right. sides_reported w c.args.item.now c.args.interfaces.now c.args.scope.now.names _ _ (walk_of_scope w c.args.item.now c.args.scope.now c.requires.item c.requires.sort c.requires.scope f.names f.results f.functions c.deref.ensures.value) member right _ (c.in_err-walked.ensures.first member))
+    let of = walk_of_scope w c.args.item.now c.args.scope.now c.requires.item c.requires.sort c.requires.scope f.names f.results f.functions c.deref.ensures.value in
+    rw (p.1, p.2) (λ member right. reports_same (ap (λ (ids : List Id). sides_fault (item_view c.args.item.now) ids member) of.turn) (c.in_err-walked.ensures.first member (λ start begun. right w start of begun)))
 
 pub returns-clause-first : goal.returns-clause-first
 returns-clause-first c = λ member right.
     let f = c.function_scope-functions.ensures in
     let w : Walk = record { turn = c.deref.result; scope = c.function_scope-functions.result; interfaces = c.args.interfaces } in
-    sides_none w c.args.item.now c.args.interfaces.now c.args.scope.now.names _ _ (walk_of_scope w c.args.item.now c.args.scope.now c.requires.item c.requires.sort c.requires.scope f.names f.results f.functions c.deref.ensures.value) member right (c.in_ok-walked.ensures.first member)
+    let of = walk_of_scope w c.args.item.now c.args.scope.now c.requires.item c.requires.sort c.requires.scope f.names f.results f.functions c.deref.ensures.value in
+    sym (ap (λ (ids : List Id). sides_fault (item_view c.args.item.now) ids member) of.turn) ∙ c.in_ok-walked.ensures.first member (λ start begun. right w start of begun)
