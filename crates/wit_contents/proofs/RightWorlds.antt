@@ -277,31 +277,14 @@ module _ (ws : Worlds) (places : List ℕ) (es : List TypeDef) (prefix : List In
     members = λ names named scoped none walk start own begun. right_sides names named scoped walk start own begun;
   }
 
--- what is known of files whose interfaces are resolved
-record IsGiven (is : Interfaces) (files : List PackageFile) (places : List ℕ) (es : List TypeDef) (prefix : List Interface) (wprefix : List World) (middle : List TypeDef) (rs : List Required) (items : List BorrowedItem) (steps : ℕ) : Type 0 where
-  declared : AreDeclared files is.arena places es prefix wprefix middle rs
-  index : IsIndexed is
-  view : map item_view items ≡ all_items files
-  enough : (s : Address) → IsEnough files steps s
-
-module _ (ws : Worlds) (places : List ℕ) (es : List TypeDef) (prefix : List Interface) (wprefix : List World) (middle : List TypeDef) (rs : List Required) (items : List BorrowedItem) (known : Known) (outcomes : AreOutcomes known.outcome) (g : IsGiven ws.interfaces.now ws.interfaces.now.files places es prefix wprefix middle rs items known.steps) where
-  -- the world that comes next
-  world_right : (mid : List TypeDef) (a : WorldArenas) (wrs : List Required) (count place : ℕ) (i : BorrowedItem) → slice_get places count ≡ Some place → slice_get items place ≡ Some i → is_world (item_view i) ≡ true → IsItemOf ws.interfaces.now.files i → AddsWorlds (prefix_of ws.interfaces.now.files) (others_of ws.interfaces.now.files) ws.interfaces.now.arena middle mid (prefix_worlds wprefix) a wrs (worlds_of (in_order (map item_view items) (take count places))) → a.worlds ≡ ws.arena → AreIndexed ws → IsRightOfWorld (contents_fault ws.interfaces.now.files known) ws mid a.inside i
-  world_right mid a wrs count place i next at sort lent adds made windex =
-      let files = ws.interfaces.now.files in
-      let here : slice_get (all_items files) place ≡ Some (item_view i) = ap (λ (l : List Item). slice_get l place) (sym g.view) ∙ slice_get-map item_view items place ∙ ap (option_map item_view) at in
-      right_world ws places es prefix wprefix middle rs g.declared g.index known outcomes g.enough count place i next here sort lent mid a wrs (subst (λ (l : List Item). AddsWorlds (prefix_of files) (others_of files) ws.interfaces.now.arena middle mid (prefix_worlds wprefix) a wrs (worlds_of (in_order l (take count places)))) g.view adds) made windex
-
-pub worlds_right : (files : List PackageFile) (places : List ℕ) → IsOrder (item_rows files) places → AllDiffer (map item_name (all_items files)) → AreUsableUses files (all_items files) → (es : List TypeDef) (prefix : List Interface) (wprefix : List World) → AddsForeign files es prefix wprefix → (is : Interfaces) → is.files ≡ files → (middle : List TypeDef) (rs : List Required) → AddsInterfaces (map visited (foreign_interfaces files)) es middle prefix is.arena rs (interfaces_of (in_order (all_items files) places)) → IsIndexed is → (items : List BorrowedItem) → map item_view items ≡ all_items files → (known : Known) → AreOutcomes known.outcome → ((s : Address) → IsEnough files known.steps s) → AreRightOfWorlds (contents_fault files known) is wprefix middle items places
-worlds_right files places order differ uses es prefix wprefix foreign is same middle rs added index items view known outcomes enough = record {
+-- each world that comes next
+worlds_right : (is : Interfaces) (places : List ℕ) (es : List TypeDef) (prefix : List Interface) (wprefix : List World) (middle : List TypeDef) (rs : List Required) → AreDeclared is.files is.arena places es prefix wprefix middle rs → IsIndexed is → (items : List BorrowedItem) → map item_view items ≡ all_items is.files → (known : Known) → AreOutcomes known.outcome → ((s : Address) → IsEnough is.files known.steps s) → AreRightOfWorlds (contents_fault is.files known) is wprefix middle items places
+worlds_right is places es prefix wprefix middle rs declared index items view known outcomes enough = record {
   each = λ ws mid a wrs count place i kept next at sort lent adds made windex.
-      let given : IsGiven is files places es prefix wprefix middle rs items known.steps = record { declared = record { order = order; differ = differ; uses = uses; foreign = foreign; added = added }; index = index; view = view; enough = enough } in
-      let own : IsGiven is is.files places es prefix wprefix middle rs items known.steps = subst (λ (fs : List PackageFile). IsGiven is fs places es prefix wprefix middle rs items known.steps) (sym same) given in
-      let now : IsGiven ws.interfaces.now ws.interfaces.now.files places es prefix wprefix middle rs items known.steps = subst (λ (js : Interfaces). IsGiven js js.files places es prefix wprefix middle rs items known.steps) (sym kept) own in
-      subst (λ (fs : List PackageFile). IsRightOfWorld (contents_fault fs known) ws mid a.inside i) (ap (λ (js : Interfaces). js.files) kept ∙ same) (
-      world_right ws places es prefix wprefix middle rs items known outcomes now mid a wrs count place i next at sort
-      (subst (λ (js : Interfaces). IsItemOf js.files i) (sym kept) lent)
-      (subst (λ (js : Interfaces). AddsWorlds (prefix_of js.files) (others_of js.files) js.arena middle mid (prefix_worlds wprefix) a wrs (worlds_of (in_order (map item_view items) (take count places)))) (sym kept) adds) made windex);
+      subst (λ (js : Interfaces). AreDeclared js.files js.arena places es prefix wprefix middle rs → IsIndexed js → map item_view items ≡ all_items js.files → ((s : Address) → IsEnough js.files known.steps s) → IsItemOf js.files i → AddsWorlds (prefix_of js.files) (others_of js.files) js.arena middle mid (prefix_worlds wprefix) a wrs (worlds_of (in_order (map item_view items) (take count places))) → IsRightOfWorld (contents_fault js.files known) ws mid a.inside i) kept (λ g indexed all ends own added.
+      let files = ws.interfaces.now.files in
+      let here : slice_get (all_items files) place ≡ Some (item_view i) = ap (λ (l : List Item). slice_get l place) (sym all) ∙ slice_get-map item_view items place ∙ ap (option_map item_view) at in
+      right_world ws places es prefix wprefix middle rs g indexed known outcomes ends count place i next here sort own mid a wrs (subst (λ (l : List Item). AddsWorlds (prefix_of files) (others_of files) ws.interfaces.now.arena middle mid (prefix_worlds wprefix) a wrs (worlds_of (in_order l (take count places)))) all added) made windex) declared index view enough lent adds;
 }
 
 -- what is found of interfaces and of worlds is the first fault after the uses
@@ -323,7 +306,9 @@ module _ (files : List PackageFile) (places : List ℕ) (order : IsOrder (item_r
     before_none = ap (λ (l : List Item). first_in test (interfaces_of (in_order l places))) (sym view) ∙ right test starts
 
     follow : AreRightOfWorlds test now wprefix middle items places
-    follow = worlds_right files places order (distinct_items files legal) usable es prefix wprefix foreign now (kept ∙ same) middle rs (subst (λ (l : List Item). AddsInterfaces (prefix_of files) es middle prefix now.arena rs (interfaces_of (in_order l places))) view (subst (λ (gs : List PackageFile). AddsInterfaces (prefix_of gs) es middle prefix now.arena rs (interfaces_in items places)) same added)) index items view known is.outcomes is.enough
+    follow =
+        let own = subst (λ (l : List Item). AddsInterfaces (prefix_of files) es middle prefix now.arena rs (interfaces_of (in_order l places))) view (subst (λ (gs : List PackageFile). AddsInterfaces (prefix_of gs) es middle prefix now.arena rs (interfaces_in items places)) same added) in
+        subst (λ (gs : List PackageFile). AreDeclared gs now.arena places es prefix wprefix middle rs → map item_view items ≡ all_items gs → ((s : Address) → IsEnough gs known.steps s) → AreRightOfWorlds (contents_fault gs known) now wprefix middle items places) (kept ∙ same) (λ declared all ends. worlds_right now places es prefix wprefix middle rs declared index items all known is.outcomes ends) (record { order = order; differ = distinct_items files legal; uses = usable; foreign = foreign; added = own }) view is.enough
 
     pub worlds_first : (e : ParseError) → ((wrong : Item → Option Fault) → AreRightOfWorlds wrong now wprefix middle items places → Reports (first_in wrong (worlds_in items places)) e) → Reports (fault_after 6 files known) e
     worlds_first e found = worlds_reported files known is places order e sound before_none (reports_same (ap (λ (l : List Item). first_in test (worlds_of (in_order l places))) view) (found test follow))
