@@ -23,7 +23,7 @@ use Rattle.wit_scopes.proofs.UsedNames.{uses_viewed}
 use Rattle.wit_walk.specs.Definitions.{handle_fault}
 use Rattle.wit_walk.specs.Orders.{AreOutcomes, IsOutcome, Outcome, order_of}
 use Rattle.wit_walk.specs.Walk.{Known, earliest, ordered_fault, scope_faults, contents_fault, inline_fault}
-use Rattle.wit_arena.specs.Resolving.{Defines, Required, env_of, IsIndex, ResolvedScope, resolved_scopes}
+use Rattle.wit_arena.specs.Resolving.{Required, env_of, IsIndex, ResolvedScope, resolved_scopes}
 use Rattle.wit_arena.specs.ResolvedArenas.{AddsInterface, AddsForeign, AddsInterfaces, AreUsableUses, IsNext}
 use Rattle.wit_externs.specs.AloneFaults.{EndsIn, IsSafe}
 use Rattle.wit_items.specs.BorrowedItems.{scope_item, item_view}
@@ -154,20 +154,10 @@ module _ (files : List PackageFile) (places : List ℕ) (order : IsOrder (item_r
     there = next_kept is_interface all places count next.place w next.next next.at (ap not sort)
 
     ends : (h : IsReached mid (resolved_scopes_of now) (owner.Interface (length now.arena)) w) → EndsIn (env_of h.names) (h.mid ++ h.more) (handle_fault files known.steps (address w))
-    ends h =
-        let own : IsReached mid (resolved_scopes fore (prefix ++ done.0)) (owner.Interface (length (prefix ++ done.0))) w = record {
-          order = h.order;
-          least = h.least;
-          distinct = h.distinct;
-          count = h.count;
-          mid = h.mid;
-          names = h.names;
-          defines = λ s. (
-              let xs = take h.count (in_turn (scope_names w) h.order) in
-              subst (λ (l : List Interface). Defines mid h.mid (resolved_scopes fore (prefix ++ done.0)) (owner.Interface (length l)) s [] h.names xs) done.1 (subst (λ (cs : List ResolvedScope). Defines mid h.mid cs (owner.Interface (length now.arena)) s [] h.names xs) scopes_are (h.defines s)));
-          more = h.more;
-        } in
-        interface_ends files (interfaces files places order differ) (worlds files places order differ) (interfaces_sort (in_order all places)) (worlds_sort (in_order all places)) (are_interfaces files places order differ) (are_worlds files places order differ) uses es prefix wprefix foreign vs mid done.0 rs w there done.2 own known.steps (enough (address w))
+    ends =
+        subst (λ (l : List Interface). (h : IsReached mid (resolved_scopes_of now) (owner.Interface (length l)) w) → EndsIn (env_of h.names) (h.mid ++ h.more) (handle_fault files known.steps (address w))) (sym done.1) (
+        subst (λ (cs : List ResolvedScope). (h : IsReached mid cs (owner.Interface (length (prefix ++ done.0))) w) → EndsIn (env_of h.names) (h.mid ++ h.more) (handle_fault files known.steps (address w))) (sym scopes_are) (λ h.
+        interface_ends files (interfaces files places order differ) (worlds files places order differ) (interfaces_sort (in_order all places)) (worlds_sort (in_order all places)) (are_interfaces files places order differ) (are_worlds files places order differ) uses es prefix wprefix foreign vs mid done.0 rs w there done.2 h known.steps (enough (address w))))
 
     safe : (new : List TypeDef) (i : Interface) (required : List Required) → AddsInterface (resolved_scopes_of now) (length now.arena) mid new i required w → IsSafe (env_of i.types) new (handle_fault files known.steps (address w))
     safe new i required adds =
