@@ -244,20 +244,20 @@ module _ (w : ItemWalk) (world : World) (xs : List WorldItem) (k : ℕ) (x y : W
   abbrev one : List SideItem
   one = part_items (world_part y)
 
-  at : slice_get xs k ≡ Some y
-  at = slice_get_read xs _ k x refl within item ∙ ap Some own
+  part_at : slice_get xs k ≡ Some y
+  part_at = slice_get_read xs _ k x refl within item ∙ ap Some own
 
   split : side_items (walk_item w) ≡ world_sides (take k xs) ++ (one ++ world_sides (drop (k + 1) xs))
   split =
       let prefix = take k xs in
       let back = drop (k + 1) xs in
       all_sides w world xs is same
-      ∙ ap world_sides (split_at xs k y at)
+      ∙ ap world_sides (split_at xs k y part_at)
       ∙ ap (flat_map part_items) (map-append world_part prefix (y ∷ back))
       ∙ flat_map-append part_items (map world_part prefix) (world_part y ∷ map world_part back)
 
   more : world_sides (take k xs) ++ one ≡ world_sides (take (k + 1) xs)
-  more = sym (parts_more part_items world_part (take k xs) (take (k + 1) xs) y (world_part y) (used_next xs k y at) refl)
+  more = sym (parts_more part_items world_part (take k xs) (take (k + 1) xs) y (world_part y) (used_next xs k y part_at) refl)
 
   -- so its own come next
   pub part_next : IsNext w (side_items (walk_item w)) a.walked → IsNext w (part_items (world_part y)) b.walked
