@@ -1,34 +1,18 @@
 -- Bodies of definitions that are alike: their shapes and their first faults.
 use Rattle.std.proofs.Common.{◌≡◌, ℕ, Bool, true, false, cond, List, [], ◌∷◌, map, Option, Some, None, is_some, codes, refl, ap, ap₂}
-use Rattle.std.specs.Prelude.{slice_get}
-use Rattle.std.specs.List.{AllZip, find}
-use Rattle.std.specs.Option.{option_map, option_or}
-use Rattle.std.specs.Str.{bytes_eq}
-use Rattle.wit_values.specs.declared.span.Span.{Span}
-use Rattle.wit_type_tree.specs.declared.leaves.Id.{Id}
+use Rattle.wit_syntax.proofs.Common.{AllZip, Both', Case, Enum, EnumForm, Err', Fault, Flags, FlagsForm, Id, Member, Neither, None', Of, Ok', Plain, Prim, Record, RecordForm, Resource, ResourceFunc, ResultTypes, Row_of-Type, Shape, Some', Span, TypeBody, Variant, VariantForm, Word, all_shapes, body_of, body_types, bytes_eq, case_types, clash, docs_text, end_of-Type, fault, fault_in, field_types, folded, head, member, more_of-Type, option_map, option_or, row_types, shape_of, slice_get, written_body}
+use Rattle.std.specs.List.{find}
 use Rattle.wit_type_tree.specs.declared.types.Field.{Field}
 use Rattle.wit_type_tree.specs.declared.types.Flag.{Flag}
-use Rattle.wit_type_tree.specs.declared.types.Case.{Case}
 use Rattle.wit_type_tree.specs.declared.types.EnumCase.{EnumCase}
-use Rattle.wit_type_tree.specs.declared.types.ResourceFunc.{ResourceFunc}
-use Rattle.wit_type_tree.specs.declared.types.TypeBody.{TypeBody}
-use Rattle.wit_type_tree.specs.declared.types.TypeBody.TheVariants.{Record, Flags, Variant, Enum, Resource, Plain}
-use Rattle.wit_type_tree.specs.declared.types.«Type».{«Type» as Written, None', Some', Row_of-Type, end_of-Type, more_of-Type}
+use Rattle.wit_type_tree.specs.declared.types.«Type».{«Type» as Written}
 use Rattle.wit_type_tree.specs.declared.types.«Type».TheVariants as written
-use Rattle.wit_type_tree.specs.declared.types.ResultTypes.{ResultTypes, Neither, Ok', Err', Both'}
-use Rattle.wit_type_tree.specs.TypeParts.{row_types, body_types, case_types, field_types}
 use Rattle.wit_grammar.specs.Trees.{Name, Documents, Field as SeenField, Flag as SeenFlag, Case as SeenCase}
 use Rattle.wit_grammar.specs.Seen.{see_body, see_case, see_enum_case, see_field, see_flag, see_resource_func, see_type}
-use Rattle.wit_syntax.specs.Bodies.{folded}
-use Rattle.wit_syntax.specs.Docs.{docs_text}
-use Rattle.wit_syntax.specs.Fault.{Fault, fault, fault_in}
-use Rattle.wit_syntax.specs.Words.{clash}
-use Rattle.wit_syntax.specs.Form.{Member, RecordForm, FlagsForm, VariantForm, EnumForm}
-use Rattle.wit_syntax.specs.Shape.{Body, Shape, Prim, Word, Of, shape_of, all_shapes, body_of, head, member, written_body}
+use Rattle.wit_syntax.specs.Shape.{Body}
 use Rattle.wit_first.specs.KeyFaults.{can_be_key, is_key, key_fault}
 use Rattle.wit_first.specs.ListFaults.{clash_fault, empty_fault, list_fault, members_fault, names_fault}
-use Rattle.wit_first.specs.TypeFaults.{type_fault, outcome_fault, row_fault}
-use Rattle.wit_first.specs.First.{clash_of}
+use Rattle.wit_walk.proofs.Common.{clash_of, outcome_fault, row_fault, type_fault}
 use Rattle.wit_alike.proofs.Lists.{Both, both_of, both_same, consed, zip_after, zip_at, zip_find, zip_map, zip_of, zip_same}
 use Rattle.wit_alike.proofs.Leaves.{SameId}
 use Rattle.wit_alike.proofs.Types.{SameType, SameResult, SameRow, SameShape, SameShapes, same_shape, type_of}

@@ -1,35 +1,12 @@
 -- The first faults of the names, the tops and the uses of alike files.
 use Rattle.std.proofs.Common.{◌≡◌, ℕ, Bool, true, false, cond, List, [], ◌∷◌, Option, Some, None, is_none, refl, ap, ap₂, ◌∙◌}
-use Rattle.std.specs.Prelude.{find}
-use Rattle.std.specs.List.{AllZip}
-use Rattle.std.specs.Option.{option_or}
-use Rattle.std.specs.Str.{bytes_eq}
-use Rattle.wit_values.specs.declared.span.Span.{Span}
-use Rattle.wit_type_tree.specs.declared.leaves.Id.{Id}
-use Rattle.wit_type_tree.specs.declared.leaves.Attribute.{Attribute}
-use Rattle.wit_tree.specs.declared.tree.AstItem.{AstItem}
+use Rattle.wit_syntax.proofs.Common.{AllZip, AstItem, Attribute, Extern, Fault, Foreign, ForeignVisit, Id, Item, Local, Missing, PackageFile, Part, Span, Target, TopName, ToplevelUse, Use, UsePart, UsePath, about, all_items, bytes_eq, fault, fault_about, fault_in, file_items, find, foreign_visits, inline_uses, is_world_at, item_name, item_named, item_twice, item_word, item_words, leads, missing_at, needed_paths, option_or, parts, path_id, top_names, top_text, top_twice, top_words, walk, world_words}
 use Rattle.wit_tree.specs.declared.tree.AstItem.TheVariants as ast
-use Rattle.wit_tree.specs.declared.tree.Extern.{Extern}
-use Rattle.wit_tree.specs.declared.tree.PackageFile.{PackageFile}
-use Rattle.wit_tree.specs.declared.tree.ToplevelUse.{ToplevelUse}
-use Rattle.wit_tree.specs.declared.tree.Use.{Use}
-use Rattle.wit_tree.specs.declared.tree.UsePath.{UsePath}
 use Rattle.wit_tree.specs.declared.tree.UsePath.TheVariants as path
 use Rattle.wit_grammar.specs.Trees.{TopUse}
 use Rattle.wit_grammar.specs.Seen.{see_attribute, see_top_use}
-use Rattle.wit_syntax.specs.Broken.{is_world_at}
-use Rattle.wit_syntax.specs.ExternPart.{inline_uses}
-use Rattle.wit_syntax.specs.Fault.{Fault, fault, fault_in, fault_about, missing_at, item_word, item_twice, top_twice}
-use Rattle.wit_syntax.specs.Foreign.{ForeignVisit, foreign_visits}
-use Rattle.wit_syntax.specs.ScopeTables.{needed_paths}
-use Rattle.wit_syntax.specs.Source.{TopName, top_text, top_names, Target, Local, Foreign, leads, path_id, Item, Part, UsePart, about, file_items, all_items, item_name, item_named, parts, walk}
-use Rattle.wit_syntax.specs.Words.{item_words, top_words, world_words}
-use Rattle.wit_type_tree.specs.RefusalText.{Missing}
-use Rattle.wit_first.specs.AttributeFaults.{stability_fault}
-use Rattle.wit_first.specs.FileFaults.{visits_fault, lost_fault, unless_named, unnamed_fault, paths_fault, file_fault, files_fault, attributed_fault, top_use_fault, top_fault, file_tops_fault, tops_fault}
-use Rattle.wit_first.specs.First.{repeat_of, first_repeat}
-use Rattle.wit_first.specs.NameFaults.{item_names_fault, top_names_fault}
-use Rattle.wit_first.specs.UseFaults.{reached_fault, path_fault, use_fault, own_uses, item_uses_fault, all_uses_fault}
+use Rattle.wit_walk.proofs.Common.{all_uses_fault, attributed_fault, file_fault, file_tops_fault, files_fault, first_repeat, item_names_fault, item_uses_fault, lost_fault, own_uses, path_fault, paths_fault, reached_fault, repeat_of, stability_fault, top_fault, top_names_fault, top_use_fault, tops_fault, unless_named, unnamed_fault, visits_fault}
+use Rattle.wit_first.specs.UseFaults.{use_fault}
 use Rattle.wit_alike.proofs.Lists.{Both, zip_after, zip_any, zip_find, zip_first, zip_of}
 use Rattle.wit_alike.proofs.Leaves.{SameId, SameAttributes, by_name, same_metadata, same_stability, same_text}
 use Rattle.wit_alike.proofs.Paths.{SamePath, SameTarget, SameTop, SameAst, path_of, same_leads, same_path_id}

@@ -1,33 +1,12 @@
 -- What alike files name of other packages, and the names of their scopes.
 use Rattle.std.proofs.Common.{◌≡◌, Bool, true, false, not, ◌&&◌, List, [], ◌∷◌, ◌++◌, length, Option, Some, None, refl, ap, ap₂}
-use Rattle.std.specs.List.{AllZip, flat_map, filter}
-use Rattle.std.specs.Option.{option_map_or}
-use Rattle.std.specs.Str.{bytes_eq}
-use Rattle.wit_type_tree.specs.declared.leaves.Id.{Id}
-use Rattle.wit_type_tree.specs.declared.leaves.Attribute.{Attribute}
-use Rattle.wit_tree.specs.declared.tree.AstItem.{AstItem}
+use Rattle.wit_syntax.proofs.Common.{Address, AllZip, AstItem, Attribute, DefinitionPart, Extern, ExternKind, ExternPart, Foreign, ForeignName, ForeignNamed, ForeignUse, ForeignVisit, FunctionPart, Id, Include, IncludePart, InlineAt, InterfaceItem, InterfaceNamed, Item, Local, PackageFile, Part, SideItem, Target, TheInterface, TheWorld, TopName, Use, UseName, UsePart, UsePath, WorldNamed, about, all_items, all_scopes, bytes_eq, declaration_visits, extern_paths, extern_visits, file_visits, filter, first_foreign_uses, firsts, flat_map, foreign_at, foreign_items, foreign_uses, foreign_visits, inline_after, inline_item, inline_items, inline_uses, is_foreign, is_interface, is_world, is_world_at, item_at, item_named, item_side, item_uses, items_on, option_map_or, part_foreign_uses, part_visits, parts, path_scope, path_visits, same_address, same_foreign_use, same_item, scope, scope_names, side_items, use_foreign_uses, use_of_foreign, used_names, visited, walk, with_inline}
 use Rattle.wit_tree.specs.declared.tree.AstItem.TheVariants as ast
-use Rattle.wit_tree.specs.declared.tree.Extern.{Extern}
-use Rattle.wit_tree.specs.declared.tree.ExternKind.{ExternKind}
 use Rattle.wit_tree.specs.declared.tree.ExternKind.TheVariants as extern
-use Rattle.wit_tree.specs.declared.tree.Include.{Include}
-use Rattle.wit_tree.specs.declared.tree.InterfaceItem.{InterfaceItem}
 use Rattle.wit_tree.specs.declared.tree.InterfaceItem.TheVariants as interface_item
-use Rattle.wit_tree.specs.declared.tree.PackageFile.{PackageFile}
-use Rattle.wit_tree.specs.declared.tree.Use.{Use}
-use Rattle.wit_tree.specs.declared.tree.UseName.{UseName}
-use Rattle.wit_tree.specs.declared.tree.UsePath.{UsePath}
 use Rattle.wit_tree.specs.declared.tree.UsePath.TheVariants as path
 use Rattle.wit_grammar.specs.Trees.{Use as SeenUse, UsedName, TopUse, Include as SeenInclude, Extern as SeenExtern}
 use Rattle.wit_grammar.specs.Seen.{see_attribute, see_extern, see_include, see_item, see_use, see_used}
-use Rattle.wit_syntax.specs.Address.{Address, ForeignNamed, InterfaceNamed, WorldNamed, InlineAt, same_address, is_foreign}
-use Rattle.wit_syntax.specs.Broken.{is_world_at}
-use Rattle.wit_syntax.specs.ExternPart.{extern_paths, inline_uses, item_uses}
-use Rattle.wit_syntax.specs.Foreign.{ForeignVisit, visited, path_visits, part_visits, extern_visits, declaration_visits, file_visits, foreign_visits, same_item, foreign_items, foreign_at}
-use Rattle.wit_syntax.specs.Repeats.{firsts}
-use Rattle.wit_syntax.specs.ScopesOfTrees.{scope}
-use Rattle.wit_syntax.specs.Sides.{SideItem, all_scopes, inline_after, inline_item, inline_items, is_interface, item_side, items_on, side_items, with_inline}
-use Rattle.wit_syntax.specs.Source.{TheInterface, TheWorld, Item, Part, DefinitionPart, UsePart, IncludePart, FunctionPart, ExternPart, Target, Local, Foreign, TopName, about, all_items, is_world, item_named, item_at, parts, path_scope, walk, ForeignName, scope_names, ForeignUse, use_of_foreign, use_foreign_uses, part_foreign_uses, foreign_uses, same_foreign_use, first_foreign_uses, used_names}
 use Rattle.wit_alike.proofs.Lists.{Both, both_same, zip_append, zip_filter, zip_find, zip_flat, zip_map, zip_of}
 use Rattle.wit_alike.proofs.Leaves.{SameId, SameAttributes, same_text}
 use Rattle.wit_alike.proofs.Paths.{SameHeader, SamePath, SameTarget, SameTop, SameAst, path_of, same_package_of, same_path_scope}

@@ -1,33 +1,14 @@
 -- Functions that are alike, and what is on the sides of items that are.
 use Rattle.std.proofs.Common.{◌≡◌, ℕ, List, ◌++◌, map, length, codes, Option, Some, None, refl, ap, ap₂, ◌∙◌}
-use Rattle.std.specs.List.{AllZip, filter}
-use Rattle.std.specs.Option.{option_map, option_map_or}
-use Rattle.wit_values.specs.declared.span.Span.{Span}
-use Rattle.wit_type_tree.specs.declared.leaves.Id.{Id}
+use Rattle.wit_syntax.proofs.Common.{AllZip, Attribute, Constructor, DefinitionPart, Extern, ExternKind, ExternPart, Freestanding, Func, FunctionPart, Id, IncludePart, InterfaceItem, Item, Link, Method, NamedFunc, OnSide, Param, Part, ResourceFunc, Role, SideFunction, SideInline, SideItem, SideLink, SourceFunction, SourceParam, Span, Static, TypeBody, UsePart, UsePath, Word, WorldSide, accessor, constructor_of, definition_functions, extern_functions, extern_items, extern_link, filter, free_function, functions, inline_item, is_interface, item_function, item_link, item_side, items_on, on_side, option_map, option_map_or, part_functions, part_items, parts, resource_function, role_side, same_side, shape_of, side_function, side_items, written_param}
 use Rattle.wit_type_tree.specs.declared.leaves.Docs.{Docs}
-use Rattle.wit_type_tree.specs.declared.leaves.Attribute.{Attribute}
-use Rattle.wit_type_tree.specs.declared.types.Func.{Func}
 use Rattle.wit_type_tree.specs.declared.types.FuncForm.TheVariants as form
-use Rattle.wit_type_tree.specs.declared.types.NamedFunc.{NamedFunc}
-use Rattle.wit_type_tree.specs.declared.types.Param.{Param}
-use Rattle.wit_type_tree.specs.declared.types.ResourceFunc.{ResourceFunc}
 use Rattle.wit_type_tree.specs.declared.types.ResourceFunc.TheVariants as resource
-use Rattle.wit_type_tree.specs.declared.types.TypeBody.{TypeBody}
 use Rattle.wit_type_tree.specs.declared.types.TypeBody.TheVariants as body
 use Rattle.wit_type_tree.specs.declared.types.«Type».{«Type» as Written}
-use Rattle.wit_tree.specs.declared.tree.Extern.{Extern}
-use Rattle.wit_tree.specs.declared.tree.ExternKind.{ExternKind}
 use Rattle.wit_tree.specs.declared.tree.ExternKind.TheVariants as extern
-use Rattle.wit_tree.specs.declared.tree.InterfaceItem.{InterfaceItem}
-use Rattle.wit_tree.specs.declared.tree.UsePath.{UsePath}
-use Rattle.wit_tree.specs.declared.tree.WorldSide.{WorldSide}
 use Rattle.wit_grammar.specs.Trees.{Name, Definition, Function, NamedFunction, Parameter, Prefix, Ty, Extern as SeenExtern}
 use Rattle.wit_grammar.specs.Seen.{see_attribute, see_docs, see_extern, see_func, see_item, see_kind, see_name, see_named_func, see_param, see_path, see_prefix, see_resource_func, see_type}
-use Rattle.wit_syntax.specs.ExternPart.{same_side}
-use Rattle.wit_syntax.specs.Function.{Role, Freestanding, Method, Static, Constructor, OnSide, SourceParam, SourceFunction, written_param, accessor, free_function, side_function, extern_functions, constructor_of, resource_function, definition_functions, part_functions, functions}
-use Rattle.wit_syntax.specs.Shape.{Word, shape_of}
-use Rattle.wit_syntax.specs.Sides.{Link, SideItem, SideFunction, SideLink, SideInline, extern_items, extern_link, inline_item, is_interface, item_function, item_link, item_side, items_on, on_side, part_items, role_side, side_items}
-use Rattle.wit_syntax.specs.Source.{Item, Part, DefinitionPart, UsePart, IncludePart, FunctionPart, ExternPart, parts}
 use Rattle.wit_alike.proofs.Lists.{Both, both_map, both_of, zip_filter, zip_flat, zip_length, zip_map, zip_of}
 use Rattle.wit_alike.proofs.Leaves.{SameId, SameAttributes, same_span}
 use Rattle.wit_alike.proofs.Types.{SameShape, same_shape, type_of}

@@ -1,28 +1,12 @@
 -- Items of files, their parts and the names of their scopes, that are alike.
 use Rattle.std.proofs.Common.{◌≡◌, ℕ, Bool, true, false, cond, List, [], ◌++◌, map, Some, refl, ap, ap₂, ◌∙◌}
-use Rattle.std.specs.List.{AllZip, flat_map}
-use Rattle.std.specs.Option.{option_map}
-use Rattle.std.specs.Str.{bytes_eq}
-use Rattle.wit_type_tree.specs.declared.leaves.Attribute.{Attribute}
+use Rattle.wit_syntax.proofs.Common.{Address, AllZip, AstItem, Attribute, Declared, Defined, DefinitionPart, Exported, Extern, ExternPart, ForeignName, FunctionPart, Imported, Include, IncludePart, InlineAt, InterfaceItem, InterfaceNamed, Item, PackageFile, Part, ScopeName, TheInline, TheInterface, TheWorld, TopName, Use, UseName, UsePart, Used, WorldItem, WorldNamed, WorldSide, about, about_name, address, all_items, at_side, bytes_eq, declared_items, file_items, flat_map, interface_part, is_world, item_at, item_name, item_named, local_id, local_name, meaning, option_map, part_names, parts, path_scope, same_address, same_side, scope_names, top_name, top_names, walk, world_part}
 use Rattle.wit_type_tree.specs.declared.types.TypeDef.{TypeDef}
-use Rattle.wit_tree.specs.declared.tree.InterfaceItem.{InterfaceItem}
 use Rattle.wit_tree.specs.declared.tree.InterfaceItem.TheVariants as interface_item
-use Rattle.wit_tree.specs.declared.tree.WorldItem.{WorldItem}
 use Rattle.wit_tree.specs.declared.tree.WorldItem.TheVariants as world_item
-use Rattle.wit_tree.specs.declared.tree.Extern.{Extern}
-use Rattle.wit_tree.specs.declared.tree.Use.{Use}
-use Rattle.wit_tree.specs.declared.tree.UseName.{UseName}
-use Rattle.wit_tree.specs.declared.tree.Include.{Include}
-use Rattle.wit_tree.specs.declared.tree.PackageFile.{PackageFile}
-use Rattle.wit_tree.specs.declared.tree.AstItem.{AstItem}
 use Rattle.wit_tree.specs.declared.tree.AstItem.TheVariants as ast
-use Rattle.wit_tree.specs.declared.tree.WorldSide.{WorldSide}
-use Rattle.wit_tree.specs.declared.tree.WorldSide.TheVariants.{Imported, Exported}
 use Rattle.wit_grammar.specs.Trees.{Definition, UsedName, Use as SeenUse, Interface as SeenInterface, World as SeenWorld, Extern as SeenExtern}
 use Rattle.wit_grammar.specs.Seen.{see_attribute, see_definition, see_extern, see_include, see_interface, see_item, see_named_func, see_package_id, see_use, see_used, see_world, see_world_item}
-use Rattle.wit_syntax.specs.Address.{Address, InterfaceNamed, WorldNamed, InlineAt, same_address}
-use Rattle.wit_syntax.specs.ExternPart.{same_side}
-use Rattle.wit_syntax.specs.Source.{Declared, TheInterface, TheWorld, TheInline, Part, DefinitionPart, UsePart, IncludePart, FunctionPart, ExternPart, interface_part, world_part, about, at_side, walk, TopName, top_name, top_names, Item, declared_items, file_items, all_items, item_name, address, is_world, parts, item_named, item_at, path_scope, ScopeName, Used, Defined, ForeignName, about_name, local_id, local_name, part_names, scope_names, meaning}
 use Rattle.wit_alike.proofs.Lists.{Both, zip_append, zip_find, zip_flat, zip_map, zip_of}
 use Rattle.wit_alike.proofs.Leaves.{SameId, SameAttributes, same_text}
 use Rattle.wit_alike.proofs.Bodies.{SameMeaning, body_same, same_meaning}

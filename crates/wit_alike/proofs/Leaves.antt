@@ -1,19 +1,11 @@
 -- Names and attributes that are alike: what is seen of them is equal.
 use Rattle.std.proofs.Common.{◌≡◌, ℕ, Bool, true, false, not, cond, List, [], Option, Some, None, refl, ap, ap₂, sym, ◌∙◌, subst}
-use Rattle.std.specs.List.{AllZip}
-use Rattle.std.specs.Option.{option_or}
-use Rattle.wit_values.specs.declared.span.Span.{Span}
-use Rattle.wit_type_tree.specs.declared.leaves.Id.{Id}
-use Rattle.wit_type_tree.specs.declared.leaves.Attribute.{Attribute}
+use Rattle.wit_syntax.proofs.Common.{AllZip, Attribute, AttributeKind, Fault, Id, Span, attribute_span, fault, first_of, is_of, kind_of, option_or}
 use Rattle.wit_type_tree.specs.declared.leaves.Attribute.TheVariants.{Since, Unstable, Deprecated, ExternalId}
-use Rattle.wit_type_tree.specs.declared.attribute_kind.AttributeKind.{AttributeKind}
 use Rattle.wit_type_tree.specs.declared.attribute_kind.AttributeKind.TheVariants as kind
-use Rattle.wit_type_tree.specs.Attributes.{attribute_span, first_of, is_of, kind_of}
 use Rattle.wit_grammar.specs.Trees.{Name, Attribute as SeenAttribute, since, unstable, deprecated, external}
 use Rattle.wit_grammar.specs.Seen.{see_name, see_attribute}
-use Rattle.wit_syntax.specs.Fault.{Fault, fault}
-use Rattle.wit_first.specs.AttributeFaults.{counted_fault, external_fault, kinds_fault, metadata_fault, number_of, repeat_fault, stability_fault}
-use Rattle.wit_first.specs.First.{first_after}
+use Rattle.wit_walk.proofs.Common.{counted_fault, external_fault, first_after, kinds_fault, metadata_fault, number_of, repeat_fault, stability_fault}
 use Rattle.wit_alike.proofs.Lists.{Both, both_same, zip_after, zip_find}
 
 abbrev pub SameId : Id → Id → Type 0

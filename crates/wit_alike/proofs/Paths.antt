@@ -1,25 +1,12 @@
 -- Packages, paths, and the names at the tops of files, that are alike.
 use Rattle.std.proofs.Common.{◌≡◌, ℕ, List, [], Option, Some, None, refl, ap, ap₂, sym, ◌∙◌}
-use Rattle.std.specs.Prelude.{find, unwrap_or}
-use Rattle.std.specs.List.{AllZip}
-use Rattle.std.specs.Option.{option_map, option_map_or}
-use Rattle.std.specs.Str.{bytes_eq}
-use Rattle.semver.specs.declared.Version.{Version}
-use Rattle.semver.specs.Identifiers.{parts_of}
-use Rattle.wit_type_tree.specs.declared.leaves.Id.{Id}
+use Rattle.wit_syntax.proofs.Common.{Address, AllZip, AstItem, Foreign, ForeignNamed, Id, Interface, InterfaceNamed, Local, PackageName, Release, Target, TopName, UsePath, Version, World, bytes_eq, find, leads, option_map, option_map_or, package_of, parts_of, path_id, path_scope, release_of, target_scope, top_name, top_text}
+use Rattle.std.specs.Prelude.{unwrap_or}
 use Rattle.wit_tree.specs.declared.tree.PackageName.{PackageName as Header}
-use Rattle.wit_tree.specs.declared.tree.UsePath.{UsePath}
 use Rattle.wit_tree.specs.declared.tree.UsePath.TheVariants as path
-use Rattle.wit_tree.specs.declared.tree.Interface.{Interface}
-use Rattle.wit_tree.specs.declared.tree.World.{World}
-use Rattle.wit_tree.specs.declared.tree.AstItem.{AstItem}
 use Rattle.wit_tree.specs.declared.tree.AstItem.TheVariants as ast
-use Rattle.wit_values.specs.declared.release.Release.{Release}
-use Rattle.wit_package_names.specs.declared.package_name.PackageName.{PackageName}
 use Rattle.wit_grammar.specs.Trees.{PackageId, TopUse, Interface as SeenInterface, World as SeenWorld, Release as Numbers}
 use Rattle.wit_grammar.specs.Seen.{see_name, see_package_id, see_path, see_declaration, see_interface, see_world, see_top_use}
-use Rattle.wit_syntax.specs.Address.{Address, ForeignNamed, InterfaceNamed, package_of, release_of}
-use Rattle.wit_syntax.specs.Source.{Target, Local, Foreign, TopName, leads, path_id, top_text, top_name, target_scope, path_scope}
 use Rattle.wit_alike.proofs.Lists.{Both, zip_find}
 use Rattle.wit_alike.proofs.Leaves.{SameId, same_text}
 

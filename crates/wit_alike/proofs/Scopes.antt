@@ -1,27 +1,11 @@
 -- Tables of alike scopes and items, and where names in them end.
 use Rattle.std.proofs.Common.{◌≡◌, ℕ, zero, suc, Bool, true, false, not, cond, List, map, Option, Some, None, refl, ap, ap₂, ◌∙◌, subst}
 use Rattle.std.specs.Prelude.{unwrap_or}
-use Rattle.std.specs.List.{AllZip}
-use Rattle.std.specs.Option.{option_map_or}
-use Rattle.wit_type_tree.specs.declared.leaves.Id.{Id}
-use Rattle.wit_tree.specs.declared.tree.Include.{Include}
-use Rattle.wit_tree.specs.declared.tree.PackageFile.{PackageFile}
-use Rattle.wit_tree.specs.declared.tree.Use.{Use}
-use Rattle.wit_tree.specs.declared.tree.UsePath.{UsePath}
+use Rattle.wit_syntax.proofs.Common.{Address, AliasForm, AllZip, AtForeign, AtResource, Defined, DefinitionPart, Elsewhere, End, ExternPart, Foreign, ForeignName, Form, FunctionPart, Id, Include, IncludePart, Item, Local, More, Of, PackageFile, Part, Prim, ScopeName, Shape, Shapes, Span, Target, Use, UsePart, UsePath, Used, Word, about_name, all_items, body_of, defined, extern_paths, fault_in, handle_words, in_order, in_turn, include_path, include_paths, includes, inline_uses, interfaces_of, is_defined, is_world, item_row, item_rows, leads, local_name, local_target, meaning, named_end, needed_ids, needed_paths, option_map_or, part_includes, parts, rows_of, scope, shape_end, use_path, use_paths, used, worlds_of}
 use Rattle.wit_grammar.specs.Trees.{Definition}
 use Rattle.wit_grammar.specs.Seen.{see_include}
-use Rattle.wit_syntax.specs.Address.{Address}
-use Rattle.wit_syntax.specs.ExternPart.{extern_paths, inline_uses}
-use Rattle.wit_values.specs.declared.span.Span.{Span}
-use Rattle.wit_syntax.specs.Fault.{fault_in}
-use Rattle.wit_syntax.specs.Words.{handle_words}
-use Rattle.wit_syntax.specs.Form.{Form, AliasForm}
-use Rattle.wit_syntax.specs.NameEnds.{End, AtResource, AtForeign, Elsewhere, named_end, shape_end}
-use Rattle.wit_syntax.specs.ScopesOfTrees.{scope}
-use Rattle.wit_syntax.specs.ScopeTables.{needed_ids, rows_of, in_order, is_defined, used, defined, in_turn, use_path, part_includes, include_path, use_paths, include_paths, needed_paths, local_target, item_row, item_rows, interfaces_of, worlds_of, includes}
-use Rattle.wit_syntax.specs.Shape.{Shape, Shapes, Prim, Word, Of, End as NoShapes, More, body_of}
-use Rattle.wit_syntax.specs.Source.{Item, Part, DefinitionPart, UsePart, IncludePart, FunctionPart, ExternPart, Target, Local, Foreign, leads, ScopeName, Used, Defined, ForeignName, about_name, local_name, meaning, is_world, parts, all_items}
-use Rattle.wit_walk.specs.Definitions.{end_fault, handle_fault}
+use Rattle.wit_syntax.specs.Shape.{End as NoShapes}
+use Rattle.wit_walk.proofs.Common.{end_fault, handle_fault}
 use Rattle.wit_alike.proofs.Lists.{Both, zip_append, zip_filter, zip_flat, zip_map, zip_places}
 use Rattle.wit_alike.proofs.Leaves.{SameId, by_name, same_text}
 use Rattle.wit_alike.proofs.Types.{SameShape, SameShapes, same_all_words}

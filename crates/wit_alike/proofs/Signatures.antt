@@ -1,32 +1,14 @@
 -- The first faults of definitions and functions that are alike.
 use Rattle.std.proofs.Common.{◌≡◌, ℕ, Bool, cond, List, [], ◌∷◌, ◌++◌, map, Option, Some, None, refl, ap, ap₂, ◌∙◌}
-use Rattle.std.specs.List.{AllZip}
-use Rattle.std.specs.Option.{option_or}
-use Rattle.std.specs.Str.{bytes_eq}
-use Rattle.wit_values.specs.declared.span.Span.{Span}
-use Rattle.wit_type_tree.specs.declared.leaves.Id.{Id}
-use Rattle.wit_type_tree.specs.declared.types.FuncForm.{FuncForm}
+use Rattle.wit_syntax.proofs.Common.{AllZip, Constructor, Defined, Fault, ForeignName, Freestanding, FuncForm, Id, Missing, Param, Role, ScopeName, SourceFunction, SourceParam, Span, TypeBody, Used, body_ok, body_types, bytes_eq, fault, fault_about, fault_in, folded, function_words, meaning, meant_ok, name_word, option_or, param_twice, result_ok, written_param}
 use Rattle.wit_type_tree.specs.declared.types.FuncForm.TheVariants as form
-use Rattle.wit_type_tree.specs.declared.types.Param.{Param}
-use Rattle.wit_type_tree.specs.declared.types.TypeBody.{TypeBody}
 use Rattle.wit_type_tree.specs.declared.types.TypeBody.TheVariants as body
 use Rattle.wit_type_tree.specs.declared.types.«Type».{«Type» as Written}
 use Rattle.wit_type_tree.specs.declared.types.«Type».TheVariants as written
-use Rattle.wit_type_tree.specs.RefusalText.{Missing}
-use Rattle.wit_type_tree.specs.TypeParts.{body_types}
 use Rattle.wit_grammar.specs.Trees.{Name, Definition, Function, Parameter}
 use Rattle.wit_grammar.specs.Seen.{see_attribute, see_param, see_type}
-use Rattle.wit_syntax.specs.Bodies.{folded}
-use Rattle.wit_syntax.specs.Fault.{Fault, fault, fault_in, fault_about, name_word, param_twice}
-use Rattle.wit_syntax.specs.Function.{Role, Freestanding, Constructor, SourceParam, SourceFunction, written_param}
-use Rattle.wit_syntax.specs.SignatureRules.{body_ok, meant_ok, result_ok}
-use Rattle.wit_syntax.specs.Source.{ScopeName, Used, Defined, ForeignName, meaning}
-use Rattle.wit_syntax.specs.Words.{function_words}
 use Rattle.wit_first.specs.FunctionFaults.{params_fault, given_fault, getter_fault, no_result_fault, setter_fault, is_written_as, made_fault, result_fault, gives_fault}
-use Rattle.wit_first.specs.TypeFaults.{type_fault}
-use Rattle.wit_walk.specs.Definitions.{definition_fault}
-use Rattle.wit_walk.specs.Functions.{is_free, lost_word, word_fault, signed_fault, param_fault, return_fault, function_fault}
-use Rattle.wit_walk.specs.Names.{unless_meant}
+use Rattle.wit_walk.proofs.Common.{definition_fault, function_fault, is_free, lost_word, param_fault, return_fault, signed_fault, type_fault, unless_meant, word_fault}
 use Rattle.wit_alike.proofs.Lists.{Both, both_of, zip_after, zip_any, zip_append, zip_first, zip_map, zip_of}
 use Rattle.wit_alike.proofs.Leaves.{SameId, same_metadata, same_text}
 use Rattle.wit_alike.proofs.Types.{SameType, type_of, same_ok_of, same_ok_span, same_type_span}

@@ -1,17 +1,8 @@
 -- Tables that are alike, and what comes of ordering them.
 use Rattle.std.proofs.Common.{◌≡◌, ℕ, List, [], ◌∷◌, Option, Some, None, inl, inr, refl, ap, sym, ◌∙◌, subst}
-use Rattle.std.specs.Prelude.{slice_get}
-use Rattle.std.specs.List.{AllZip}
-use Rattle.wit_type_tree.specs.declared.leaves.Id.{Id}
-use Rattle.wit_graph.specs.Edges.{IsFirstEdge}
-use Rattle.wit_graph.specs.Laws.{HaveSameEdges, NeedsAll}
-use Rattle.wit_graph.specs.Order.{ReachesCycle}
-use Rattle.wit_graph.specs.Table.{Row, place_of, target, IsEdge, IsMissing, IsCyclic, IsComplete, Leads}
+use Rattle.wit_syntax.proofs.Common.{AllZip, Fault, HaveSameEdges, Id, IsComplete, IsCyclic, IsEdge, IsFirstEdge, IsMissing, Leads, NeedsAll, ReachesCycle, Row, complete_back, leads_onward, one_answer, place_of, same_edges, same_place, slice_get, target}
 use Rattle.wit_graph.proofs.Outcome.{cycle_to}
-use Rattle.wit_graph.proofs.SameEdges.{same_place, leads_onward, complete_back, one_answer, same_edges}
-use Rattle.wit_walk.specs.Orders.{Outcome, InOrder, AtMissing, AtCycle, IsOutcome, order_of, order_fault}
-use Rattle.wit_walk.proofs.One.{outcome_one}
-use Rattle.wit_syntax.specs.Fault.{Fault}
+use Rattle.wit_walk.proofs.Common.{AtCycle, AtMissing, InOrder, IsOutcome, Outcome, order_fault, order_of, outcome_one}
 use Rattle.wit_alike.proofs.Lists.{Both, zip_at, zip_same}
 use Rattle.wit_alike.proofs.Leaves.{SameId, same_text}
 

@@ -1,19 +1,11 @@
 -- Written types that are alike, and their shapes.
 use Rattle.std.proofs.Common.{◌≡◌, Bool, true, false, Option, Some, None, is_some, refl, ap, ap₂, sym, ◌∙◌}
-use Rattle.std.specs.Prelude.{⊤}
-use Rattle.std.specs.List.{AllZip}
-use Rattle.std.specs.Option.{option_map_or}
-use Rattle.wit_values.specs.declared.span.Span.{Span}
-use Rattle.wit_type_tree.specs.declared.types.Primitive.{Primitive}
-use Rattle.wit_type_tree.specs.declared.types.«Type».{«Type» as Written, None', Some', Held-Type-Future-1, Row_of-Type, end_of-Type, more_of-Type}
+use Rattle.wit_syntax.proofs.Common.{AllZip, Both', Err', FixedLengthListForm, Held-Type-Future-1, More, Neither, None', Of, Ok', Prim, Primitive, ResultForm, ResultTypes, Row_of-Type, Shape, Shapes, Some', Span, Word, all_words, end_of-Type, err_type, more_of-Type, ok_of, ok_span, ok_type, option_map_or, result_shapes, row_shapes, shape_of, type_span, words, ⊤}
+use Rattle.wit_type_tree.specs.declared.types.«Type».{«Type» as Written}
 use Rattle.wit_type_tree.specs.declared.types.«Type».TheVariants as written
-use Rattle.wit_type_tree.specs.declared.types.ResultTypes.{ResultTypes, Neither, Ok', Err', Both'}
-use Rattle.wit_type_tree.specs.TypeParts.{ok_type, err_type}
 use Rattle.wit_grammar.specs.Trees.{Name, Ty, result}
 use Rattle.wit_grammar.specs.Seen.{see_type, see_result, see_borrowed, see_row}
-use Rattle.wit_syntax.specs.Form.{ResultForm, FixedLengthListForm}
-use Rattle.wit_syntax.specs.Shape.{Shape, Shapes, Prim, Word, Of, End, More, shape_of, result_shapes, row_shapes, words, all_words}
-use Rattle.wit_syntax.specs.SignatureRules.{type_span, ok_of, ok_span}
+use Rattle.wit_syntax.specs.Shape.{End}
 use Rattle.wit_alike.proofs.Lists.{Both, zip_append}
 use Rattle.wit_alike.proofs.Leaves.{SameId, same_span}
 

@@ -1,41 +1,11 @@
 -- The first fault of alike files is one.
 use Rattle.std.proofs.Common.{◌≡◌, ℕ, Bool, true, false, not, cond, ◌&&◌, List, [], ◌∷◌, ◌++◌, map, length, codes, Option, Some, None, is_none, refl, ap, ap₂, sym, ◌∙◌}
-use Rattle.std.specs.List.{AllZip, flat_map, filter, list_any}
-use Rattle.std.specs.Option.{option_map, option_map_or, option_or}
-use Rattle.std.specs.Str.{bytes_eq}
-use Rattle.wit_names.specs.Setter.{getter_of}
-use Rattle.wit_values.specs.declared.span.Span.{Span}
-use Rattle.wit_type_tree.specs.declared.leaves.Id.{Id}
-use Rattle.wit_type_tree.specs.RefusalText.{Missing, Cyclic}
-use Rattle.wit_tree.specs.declared.tree.Include.{Include}
-use Rattle.wit_tree.specs.declared.tree.PackageFile.{PackageFile}
+use Rattle.wit_syntax.proofs.Common.{Address, AllZip, Called, Constructor, Cyclic, Defined, Exported, Fault, ForeignName, Freestanding, Id, Imported, Include, Item, Link, Method, Missing, OnSide, PackageFile, Role, Row, ScopeName, SideFunction, SideInline, SideItem, SideLink, SourceFunction, Span, Static, TopName, Used, WorldSide, about, address, all_items, bytes_eq, cyclic_at, defined, defined_twice, fault_about, fault_in, filter, flat_map, functions, getter_of, in_order, in_turn, includes, inline_item, interface_words, interfaces_of, is_interface, is_world_at, item_at, item_called, item_function, item_link, item_rows, item_side, item_word, items_on, last_header, leads, linked_twice, list_any, local_id, local_name, lone_setter, meaning, missing_at, missing_type_at, name_called, name_twice, name_word, names_on, on_side, option_map, option_map_or, option_or, path_id, role_names, rows_of, same_address, scope_names, side_called, side_items, type_word, used, used_words, world_words, worlds_of}
 use Rattle.wit_tree.specs.declared.tree.PackageName.{PackageName as Header}
-use Rattle.wit_tree.specs.declared.tree.WorldSide.{WorldSide}
-use Rattle.wit_tree.specs.declared.tree.WorldSide.TheVariants.{Imported, Exported}
-use Rattle.wit_graph.specs.Table.{Row}
 use Rattle.wit_grammar.specs.Trees.{Name, UsedName, Function, Extern as SeenExtern}
 use Rattle.wit_grammar.specs.Seen.{see_attribute, see_include, see_name, see_package_id}
-use Rattle.wit_syntax.specs.Address.{Address, same_address}
-use Rattle.wit_syntax.specs.Broken.{is_world_at, last_header}
-use Rattle.wit_syntax.specs.Fault.{Fault, fault_in, fault_about, missing_at, missing_type_at, cyclic_at, item_word, type_word, name_word, name_twice, lone_setter, linked_twice}
-use Rattle.wit_syntax.specs.Function.{Role, Freestanding, Method, Static, Constructor, OnSide, SourceFunction, functions, role_names}
 use Rattle.wit_syntax.specs.Hint.{type_hint}
-use Rattle.wit_syntax.specs.ScopeTables.{item_rows, rows_of, in_order, in_turn, used, defined, includes, interfaces_of, worlds_of}
-use Rattle.wit_syntax.specs.Sides.{Link, SideItem, SideFunction, SideLink, SideInline, item_called, item_function, item_link, item_side, inline_item, is_interface, items_on, names_on, on_side, side_called, side_items}
-use Rattle.wit_syntax.specs.SignatureRules.{Called, name_called}
-use Rattle.wit_syntax.specs.Source.{Item, TopName, ScopeName, Used, Defined, ForeignName, about, address, all_items, item_at, leads, local_id, local_name, meaning, path_id, scope_names}
-use Rattle.wit_syntax.specs.Words.{defined_twice, interface_words, used_words, world_words}
-use Rattle.wit_first.specs.FileFaults.{lost_fault}
-use Rattle.wit_first.specs.First.{first_in, first_after}
-use Rattle.wit_walk.specs.Definitions.{definition_fault, handle_fault}
-use Rattle.wit_walk.specs.Functions.{signed_fault}
-use Rattle.wit_walk.specs.Members.{is_on_side, is_extern, Sorted, sort_of, item_sorted, side_sorted, crossed, called_fault, own_fault, item_fault, member_fault}
-use Rattle.wit_walk.specs.Names.{lost_use, unless_meant, use_fault, name_fault, folded_fault}
-use Rattle.wit_walk.specs.Orders.{Outcome, AreOutcomes, order_of}
-use Rattle.wit_walk.specs.Paths.{interface_fault, include_fault, is_same_link, linked_fault, there_fault, link_fault}
-use Rattle.wit_walk.specs.Setters.{is_setter, setter_fault, side_setters_fault, setters_beside, setters_fault}
-use Rattle.wit_walk.specs.Walk.{Known, earliest, scope_faults, ordered_fault, inline_fault, contents_fault, header_fault, first_fault, ComesTo}
-use Rattle.wit_walk.proofs.One.{one_first}
+use Rattle.wit_walk.proofs.Common.{AreOutcomes, ComesTo, Known, Outcome, Sorted, called_fault, contents_fault, crossed, definition_fault, earliest, first_after, first_fault, first_in, folded_fault, handle_fault, header_fault, include_fault, inline_fault, interface_fault, is_extern, is_on_side, is_same_link, is_setter, item_fault, item_sorted, link_fault, linked_fault, lost_fault, lost_use, member_fault, name_fault, one_first, order_of, ordered_fault, own_fault, scope_faults, setter_fault, setters_beside, setters_fault, side_setters_fault, side_sorted, signed_fault, sort_of, there_fault, unless_meant, use_fault}
 use Rattle.wit_alike.proofs.Lists.{Both, zip_after, zip_any, zip_append, zip_first, zip_flat, zip_of, zip_same}
 use Rattle.wit_alike.proofs.Leaves.{SameId, by_name, same_external, same_metadata, same_stability, same_text}
 use Rattle.wit_alike.proofs.Paths.{SameTop, same_leads, same_path_id, same_path_scope}

@@ -1,43 +1,15 @@
 -- The interfaces and worlds of items that are alike are equal.
 use Rattle.std.proofs.Common.{◌≡◌, ℕ, List, [], ◌∷◌, ◌++◌, map, Option, Some, None, refl, ap, ap₂, ◌∙◌}
-use Rattle.std.specs.List.{AllZip}
-use Rattle.std.specs.Option.{option_map}
-use Rattle.wit_values.specs.declared.span.Span.{Span}
-use Rattle.wit_type_tree.specs.declared.attribute_kind.AttributeKind.TheVariants.{ExternalId}
-use Rattle.wit_type_tree.specs.declared.leaves.Id.{Id}
-use Rattle.wit_type_tree.specs.declared.types.FuncForm.{FuncForm}
-use Rattle.wit_type_tree.specs.Attributes.{stated_text}
-use Rattle.wit_tree.specs.declared.tree.Extern.{Extern}
-use Rattle.wit_tree.specs.declared.tree.Include.{Include}
+use Rattle.wit_syntax.proofs.Common.{Address, AllZip, Constructor, Docs, Exported, Extern, ExternalId, Freestanding, FuncForm, Id, Imported, Include, Item, Link, Metadata, Method, OnSide, Role, ScopeName, Shape, SideFunction, SideInline, SideItem, SideLink, SourceFunction, SourceParam, Span, Stability, Static, TopName, UsePath, WorldNamed, WorldSide, about, address, all_params, declared_metadata, docs_of, functions, includes, inline_items, leads, local_id, local_name, no_docs, option_map, path_id, path_scope, role_side, side_items, stability_of, stated_text, target_scope}
 use Rattle.wit_tree.specs.declared.tree.IncludeName.{IncludeName as Renaming}
-use Rattle.wit_tree.specs.declared.tree.UsePath.{UsePath}
-use Rattle.wit_tree.specs.declared.tree.WorldSide.{WorldSide}
-use Rattle.wit_tree.specs.declared.tree.WorldSide.TheVariants.{Imported, Exported}
-use Rattle.wit_types.specs.declared.docs.Docs.{Docs}
-use Rattle.wit_types.specs.declared.stability.Stability.{Stability}
 use Rattle.wit_types.specs.declared.types.«Type».{«Type» as Ty}
-use Rattle.wit_functions.specs.declared.function.Function.{Function}
-use Rattle.wit_functions.specs.declared.function.FunctionKind.{FunctionKind}
+use Rattle.wit_arena.proofs.Common.{Def, Expr, Function, FunctionKind, Interface, Key, Param, WorldInclude, WorldItem, WorldKey, entries_on, expr_of, function_in, function_of, include_in, inline_entry, interface, kinds_of, link_item, link_key, link_span, name_imports, name_places, names_in_turn, own_interface, own_world, placed, renamed, role_kind, scope_place, settled, side_entries, type_of, world, world_entries}
 use Rattle.wit_functions.specs.declared.function.FunctionKind.TheVariants as kind
-use Rattle.wit_functions.specs.declared.function.Param.{Param}
-use Rattle.wit_functions.specs.SettersPlaced.{placed}
-use Rattle.wit_model.specs.declared.interface.Interface.{Interface}
 use Rattle.wit_model.specs.declared.world.IncludeName.{IncludeName}
-use Rattle.wit_model.specs.declared.world.WorldInclude.{WorldInclude}
-use Rattle.wit_model.specs.declared.world.WorldItem.{WorldItem}
 use Rattle.wit_model.specs.declared.world.WorldItem.TheVariants as item
-use Rattle.wit_model.specs.declared.world.WorldKey.{WorldKey}
 use Rattle.wit_model.specs.declared.world.WorldKey.TheVariants as key
-use Rattle.wit_model.specs.ItemsOfWorlds.{function_of}
 use Rattle.wit_grammar.specs.Trees.{Name, Extern as SeenExtern, Include as SeenInclude, RenamedName}
 use Rattle.wit_grammar.specs.Seen.{see_attribute, see_extern, see_include, see_name, see_renamed}
-use Rattle.wit_syntax.specs.Address.{Address, WorldNamed}
-use Rattle.wit_syntax.specs.Function.{Role, Freestanding, Method, Static, Constructor, OnSide, SourceParam, SourceFunction, all_params, functions}
-use Rattle.wit_syntax.specs.Metadata.{Metadata, docs_of, no_docs, stability_of}
-use Rattle.wit_syntax.specs.ScopeTables.{includes}
-use Rattle.wit_syntax.specs.Shape.{Shape}
-use Rattle.wit_syntax.specs.Sides.{Link, SideItem, SideFunction, SideLink, SideInline, inline_items, role_side, side_items}
-use Rattle.wit_syntax.specs.Source.{Item, ScopeName, TopName, about, address, declared_metadata, leads, local_id, local_name, path_id, path_scope, target_scope}
 use Rattle.wit_alike.proofs.Lists.{both_same, zip_of, zip_same}
 use Rattle.wit_alike.proofs.Leaves.{SameAttributes, SameId, same_span, same_text}
 use Rattle.wit_alike.proofs.Types.{SameShape}
@@ -46,12 +18,6 @@ use Rattle.wit_alike.proofs.Items.{SameItem, SameName, same_item_address, same_i
 use Rattle.wit_alike.proofs.Functions.{SameFunction, SameLink, SameParam, SameRole, SameSide, same_functions, same_role_side, same_side_items}
 use Rattle.wit_alike.proofs.Foreign.{include_attributes, include_from, same_inline_items}
 use Rattle.wit_alike.proofs.Scopes.{same_includes}
-use Rattle.wit_arena.specs.Expr.{Expr, expr_of}
-use Rattle.wit_arena.specs.Made.{entries_on, function_in, include_in, interface, name_imports, name_places, names_in_turn, own_interface, own_world, role_kind, scope_place, side_entries, type_of, world, world_entries}
-use Rattle.wit_arena.specs.Occurrences.{Def, Key}
-use Rattle.wit_arena.specs.SideItems.{inline_entry, link_item, link_key, link_span, settled}
-use Rattle.wit_arena.specs.SourceFunctions.{kinds_of}
-use Rattle.wit_arena.specs.Whole.{renamed}
 use Rattle.wit_alike_packages.proofs.Stated.{same_docs_of, same_item_called, same_item_metadata, same_stability_of, same_stated_text}
 use Rattle.wit_alike_packages.proofs.Occurrences.{same_all_params, same_expr}
 use Rattle.wit_alike_packages.proofs.Turns.{same_names_in_turn}

@@ -1,32 +1,11 @@
 -- Files that are alike make one package.
 use Rattle.std.proofs.Common.{◌≡◌, ℕ, List, ◌++◌, map, take, Some, inl, inr, refl, ap, ap₂, sym, ◌∙◌, subst}
-use Rattle.std.specs.Prelude.{Contains}
-use Rattle.std.specs.List.{AllZip, flat_map}
-use Rattle.std.specs.Option.{option_map}
-use Rattle.wit_values.specs.declared.span.Span.{Span}
-use Rattle.wit_tree.specs.declared.tree.PackageFile.{PackageFile}
+use Rattle.wit_syntax.proofs.Common.{Address, AllZip, Contains, Form, IsOrder, Item, Metadata, PackageFile, Row, ScopeName, Span, Stability, TypeDef, TypeOwner, about_name, address, all_items, all_scopes, firsts, flat_map, foreign_interfaces, foreign_uses, foreign_worlds, in_order, item_rows, last_header, one_answer, option_map, package_of, rows_of, same_edges, scope, scope_names, worlds_of}
 use Rattle.wit_tree.specs.declared.tree.PackageName.{PackageName as Header}
-use Rattle.wit_types.specs.declared.stability.Stability.{Stability}
-use Rattle.wit_types.specs.declared.types.TypeDef.{TypeDef}
-use Rattle.wit_types.specs.declared.types.TypeOwner.{TypeOwner}
 use Rattle.wit_types.specs.declared.types.«Type».{«Type» as Ty}
-use Rattle.wit_model.specs.declared.interface.Interface.{Interface}
-use Rattle.wit_model.specs.declared.unresolved.UnresolvedPackage.{UnresolvedPackage}
-use Rattle.wit_model.specs.declared.world.World.{World}
-use Rattle.wit_graph.specs.Table.{Row, IsOrder}
-use Rattle.wit_graph.proofs.SameEdges.{one_answer, same_edges}
+use Rattle.wit_arena.proofs.Common.{Def, Exprs, Interface, IsEntryOf, Key, Kind, Makes, Occurrence, UnresolvedPackage, Whole, World, all_occurrences, entry, foreign_interface, foreign_use_occurrence, foreign_world, interface_scopes, item_turns, keys, name_exprs, own_interface, own_interfaces, own_world, owner_at, turn_handles, turn_occurrences, types_of, world_scopes}
 use Rattle.wit_grammar.specs.Trees.{PackageId}
 use Rattle.wit_grammar.specs.Seen.{see_package_id}
-use Rattle.wit_syntax.specs.Address.{Address, package_of}
-use Rattle.wit_syntax.specs.Broken.{last_header}
-use Rattle.wit_syntax.specs.Foreign.{foreign_interfaces, foreign_worlds}
-use Rattle.wit_syntax.specs.Form.{Form}
-use Rattle.wit_syntax.specs.Metadata.{Metadata}
-use Rattle.wit_syntax.specs.Repeats.{firsts}
-use Rattle.wit_syntax.specs.ScopesOfTrees.{scope}
-use Rattle.wit_syntax.specs.ScopeTables.{in_order, item_rows, rows_of, worlds_of}
-use Rattle.wit_syntax.specs.Sides.{all_scopes}
-use Rattle.wit_syntax.specs.Source.{Item, ScopeName, about_name, address, all_items, foreign_uses, scope_names}
 use Rattle.wit_alike.proofs.Lists.{both_of, both_same, zip_flat, zip_same}
 use Rattle.wit_alike.proofs.Paths.{SameHeader, same_package_of}
 use Rattle.wit_alike.proofs.Items.{SameFile, SameItem, SameName, same_all_items, same_item_address, same_local_name, same_name_body, same_scope_names}
@@ -34,11 +13,6 @@ use Rattle.wit_alike.proofs.Tables.{SameTable, table_edges}
 use Rattle.wit_alike.proofs.Foreign.{SameForeignUse, same_all_scopes, same_foreign_uses, same_scope}
 use Rattle.wit_alike.proofs.Scopes.{same_in_order, same_item_rows, same_rows, same_worlds}
 use Rattle.wit_alike.proofs.Walk.{flat_same, same_last}
-use Rattle.wit_arena.specs.Expr.{Exprs, name_exprs}
-use Rattle.wit_arena.specs.Kind.{Kind}
-use Rattle.wit_arena.specs.Made.{IsEntryOf, Makes, entry, foreign_interface, foreign_world, interface_scopes, item_turns, own_interface, own_interfaces, own_world, types_of, world_scopes}
-use Rattle.wit_arena.specs.Occurrences.{Def, Key, Occurrence, Whole, keys}
-use Rattle.wit_arena.specs.Whole.{all_occurrences, foreign_use_occurrence, owner_at, turn_handles, turn_occurrences}
 use Rattle.wit_alike_packages.proofs.Entries.{same_own_interface, same_own_world}
 use Rattle.wit_alike_packages.proofs.Occurrences.{same_foreign_occurrence, same_name_exprs}
 use Rattle.wit_alike_packages.proofs.Others.{all_foreign_interfaces, all_foreign_worlds, like_among, required_alike, same_dep_spans, same_deps, same_first_docs, same_interface_scopes, same_unknown, same_world_scopes, zip_back}

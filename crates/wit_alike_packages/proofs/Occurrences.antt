@@ -1,20 +1,9 @@
 -- What occurs in names and functions that are alike is equal.
 use Rattle.std.proofs.Common.{◌≡◌, ℕ, List, [], ◌∷◌, ◌++◌, map, Option, Some, None, refl, ap, ap₂, ◌∙◌}
-use Rattle.std.specs.List.{AllZip, flat_map}
-use Rattle.std.specs.Option.{option_to_list, unwrap_or}
-use Rattle.wit_values.specs.declared.span.Span.{Span}
-use Rattle.wit_type_tree.specs.declared.types.Param.{Param}
-use Rattle.wit_types.specs.declared.stability.Stability.{Stability}
-use Rattle.wit_types.specs.declared.stability.Stability.TheVariants.{Unknown}
+use Rattle.wit_syntax.proofs.Common.{Address, AllZip, ForeignUse, Form, Metadata, Param, ScopeName, Shape, Shapes, SourceFunction, Span, Stability, Unknown, about_name, all_params, flat_map, local_name, option_to_list, signature, stability_of, unwrap_or, written_param}
 use Rattle.wit_grammar.specs.Trees.{Function}
 use Rattle.wit_grammar.specs.Seen.{see_param}
-use Rattle.wit_syntax.specs.Address.{Address}
-use Rattle.wit_syntax.specs.Form.{Form}
-use Rattle.wit_syntax.specs.Function.{SourceFunction, all_params, signature, written_param}
-use Rattle.wit_syntax.specs.Metadata.{Metadata, stability_of}
-use Rattle.wit_syntax.specs.Shape.{Shape, Shapes}
 use Rattle.wit_syntax.specs.Shape as shape
-use Rattle.wit_syntax.specs.Source.{ForeignUse, ScopeName, about_name, local_name}
 use Rattle.wit_alike.proofs.Lists.{Both, zip_append, zip_map, zip_of}
 use Rattle.wit_alike.proofs.Leaves.{same_span, same_text}
 use Rattle.wit_alike.proofs.Types.{SameShape, SameShapes}
@@ -22,9 +11,7 @@ use Rattle.wit_alike.proofs.Items.{SameName, same_from, same_local_name, same_na
 use Rattle.wit_alike.proofs.Functions.{SameFunction, SameParam, same_written_param}
 use Rattle.wit_alike.proofs.Foreign.{SameForeignUse}
 use Rattle.wit_alike.proofs.Walk.{flat_same}
-use Rattle.wit_arena.specs.Expr.{Exprs, Prim, Use, Of, More, expr_of, exprs_of, name_exprs}
-use Rattle.wit_arena.specs.Occurrences.{Def, Whole, Occurrence, all_function_occurrences, name_occurrences, shape_occurrences, shapes_occurrences}
-use Rattle.wit_arena.specs.Whole.{foreign_use_occurrence}
+use Rattle.wit_arena.proofs.Common.{Def, Exprs, More, Occurrence, Of, Prim, Use, Whole, all_function_occurrences, expr_of, exprs_of, foreign_use_occurrence, name_exprs, name_occurrences, shape_occurrences, shapes_occurrences}
 use Rattle.wit_alike_packages.proofs.Stated.{same_name_metadata, same_name_span, same_stability_of}
 
 -- ---- expressions

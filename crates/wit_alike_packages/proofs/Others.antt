@@ -1,40 +1,17 @@
 -- What alike files name of other packages, and what they require of them.
 use Rattle.std.proofs.Common.{◌≡◌, ℕ, ◌+◌, Bool, not, cond, List, [], ◌∷◌, ◌++◌, map, length, Bor, Option, Some, None, refl, ap, ap₂, sym, ◌∙◌, subst}
-use Rattle.std.specs.Prelude.{if◌then◌else◌, ◌==◌, Contains, slice_get}
-use Rattle.std.specs.List.{AllZip, filter, prefix_len}
-use Rattle.std.proofs.lemmas.List.{length-map}
-use Rattle.wit_values.specs.declared.span.Span.{Span}
-use Rattle.wit_type_tree.specs.declared.leaves.Id.{Id}
-use Rattle.wit_tree.specs.declared.tree.PackageFile.{PackageFile}
+use Rattle.wit_syntax.proofs.Common.{Address, AllZip, AtForeign, AtResource, Contains, Docs, End, EndsAt, ForeignUse, ForeignVisit, Id, Item, PackageFile, PackageName, Span, Stability, Word, address, at_contains, contains_at, docs_of, filter, first_foreign_uses, foreign_interfaces, foreign_items, foreign_packages, foreign_visits, foreign_worlds, headers, if◌then◌else◌, length-map, no_metadata, package_of, prefix_len, same_address, same_item, same_package, scope, shape_end, slice_get, stability_of, visited, worlds_of, ◌==◌}
 use Rattle.wit_tree.specs.declared.tree.PackageName.{PackageName as Header}
-use Rattle.wit_package_names.specs.declared.package_name.PackageName.{PackageName}
-use Rattle.wit_types.specs.declared.docs.Docs.{Docs}
-use Rattle.wit_types.specs.declared.stability.Stability.{Stability}
-use Rattle.wit_model.specs.declared.ast_item.AstItem.{AstItem}
+use Rattle.wit_arena.proofs.Common.{AreRequired, AstItem, HandleRequires, Interface, Key, World, dep, first_docs, foreign_entry, foreign_interface, foreign_place, foreign_world, interface, interface_scopes, name_places, own_interfaces, world, world_scopes}
 use Rattle.wit_model.specs.declared.ast_item.AstItem.TheVariants as entry
-use Rattle.wit_model.specs.declared.interface.Interface.{Interface}
-use Rattle.wit_model.specs.declared.world.World.{World}
 use Rattle.wit_grammar.specs.Trees.{PackageId}
 use Rattle.wit_grammar.specs.Seen.{see_package_id}
-use Rattle.wit_syntax.specs.Address.{Address, package_of, same_address, same_package}
-use Rattle.wit_syntax.specs.Broken.{headers}
-use Rattle.wit_syntax.specs.Foreign.{ForeignVisit, visited, same_item, foreign_interfaces, foreign_items, foreign_packages, foreign_visits, foreign_worlds}
-use Rattle.wit_syntax.specs.Metadata.{docs_of, no_metadata, stability_of}
-use Rattle.wit_syntax.specs.NameEnds.{AtForeign, AtResource, End, EndsAt, shape_end}
-use Rattle.wit_syntax.specs.ScopesOfTrees.{scope}
-use Rattle.wit_syntax.specs.ScopeTables.{worlds_of}
-use Rattle.wit_syntax.specs.Shape.{Word}
-use Rattle.wit_syntax.specs.Source.{ForeignUse, Item, address, first_foreign_uses}
-use Rattle.wit_syntax.proofs.Found.{at_contains, contains_at}
 use Rattle.wit_alike.proofs.Lists.{Both, both_of, consed, zip_at, zip_filter, zip_length, zip_same}
 use Rattle.wit_alike.proofs.Leaves.{SameId, same_span, same_text}
 use Rattle.wit_alike.proofs.Paths.{SameHeader, same_package_of}
 use Rattle.wit_alike.proofs.Items.{SameFile, SameItem, same_item_address}
 use Rattle.wit_alike.proofs.Foreign.{SameForeignUse, SameVisit, same_first_uses, same_foreign_items, same_scope, same_visited, same_visits, zip_firsts}
 use Rattle.wit_alike.proofs.Scopes.{same_end, same_worlds}
-use Rattle.wit_arena.specs.Made.{foreign_interface, foreign_world, interface, interface_scopes, name_places, own_interfaces, world, world_scopes}
-use Rattle.wit_arena.specs.Occurrences.{Key}
-use Rattle.wit_arena.specs.Whole.{AreRequired, HandleRequires, dep, first_docs, foreign_entry, foreign_place}
 use Rattle.wit_alike_packages.proofs.Entries.{same_name_places}
 use Rattle.wit_alike_packages.proofs.Stated.{same_docs_of, same_stability_of}
 use Rattle.wit_alike_packages.proofs.Turns.{SameHandle, same_own_interfaces}

@@ -1,23 +1,12 @@
 -- What is stated of things that are alike is equal.
 use Rattle.std.proofs.Common.{◌≡◌, ℕ, List, Option, Some, None, refl, ap, ap₂, sym, ◌∙◌}
-use Rattle.std.specs.Option.{option_and_then, option_map, option_map_or}
-use Rattle.semver.specs.declared.Version.{Version}
-use Rattle.wit_values.specs.declared.release.Release.{Release}
-use Rattle.wit_type_tree.specs.declared.leaves.Attribute.{Attribute}
+use Rattle.wit_syntax.proofs.Common.{Attribute, AttributeKind, Declared, Defined, Docs, ForeignName, Item, Metadata, Release, ScopeName, Stability, TheInline, TheInterface, TheWorld, Used, Version, about, about_name, attribute_text, attribute_version, declared_metadata, deprecation, docs_of, docs_text, first_of, metadata, no_docs, option_and_then, option_map, option_map_or, release_of, stability_of, stated_text, stated_version}
 use Rattle.wit_type_tree.specs.declared.leaves.Attribute.TheVariants.{Since, Unstable, Deprecated, ExternalId}
 use Rattle.wit_type_tree.specs.declared.leaves.Docs.{Docs as Comments}
-use Rattle.wit_type_tree.specs.declared.attribute_kind.AttributeKind.{AttributeKind}
 use Rattle.wit_type_tree.specs.declared.attribute_kind.AttributeKind.TheVariants as kind
-use Rattle.wit_type_tree.specs.Attributes.{attribute_text, attribute_version, first_of, stated_text, stated_version}
-use Rattle.wit_types.specs.declared.docs.Docs.{Docs}
-use Rattle.wit_types.specs.declared.stability.Stability.{Stability}
 use Rattle.wit_types.specs.declared.stability.Stability.TheVariants as stability
 use Rattle.wit_grammar.specs.Trees.{Attribute as SeenAttribute, since, unstable, deprecated, external, Definition, Documents, Extern as SeenExtern, Interface as SeenInterface, Release as Numbers, UsedName, World as SeenWorld}
 use Rattle.wit_grammar.specs.Seen.{see_attribute, see_docs}
-use Rattle.wit_syntax.specs.Address.{release_of}
-use Rattle.wit_syntax.specs.Docs.{docs_text}
-use Rattle.wit_syntax.specs.Metadata.{Metadata, deprecation, docs_of, metadata, no_docs, stability_of}
-use Rattle.wit_syntax.specs.Source.{Declared, TheInterface, TheWorld, TheInline, Item, ScopeName, Used, Defined, ForeignName, about, about_name, declared_metadata}
 use Rattle.wit_alike.proofs.Lists.{Both, zip_of}
 use Rattle.wit_alike.proofs.Leaves.{SameAttribute, SameAttributes, same_first_of, same_span}
 use Rattle.wit_alike.proofs.Items.{SameDeclared, SameItem, SameName, same_about_attributes}

@@ -1,20 +1,10 @@
 -- What is resolved of items that are alike is alike: names and functions in turn, what occurs in them, and the names in their handles.
 use Rattle.std.proofs.Common.{◌≡◌, ℕ, List, [], ◌∷◌, ◌++◌, map, ap, ap₂, ◌∙◌}
-use Rattle.std.specs.List.{AllZip, flat_map}
-use Rattle.std.specs.Option.{option_to_list}
-use Rattle.wit_type_tree.specs.declared.leaves.Id.{Id}
-use Rattle.wit_type_tree.specs.declared.types.Param.{Param}
-use Rattle.wit_type_tree.specs.declared.types.«Type».{«Type» as Written, None', Some', Row_of-Type, end_of-Type, more_of-Type}
+use Rattle.wit_syntax.proofs.Common.{Address, AllZip, Both', Defined, Err', ForeignName, Id, Item, Neither, None', Ok', Param, Row_of-Type, ScopeName, SideFunction, SideInline, SideItem, SideLink, Some', SourceFunction, Used, address, all_handles, all_types, end_of-Type, flat_map, functions, handles, inline_items, interfaces_of, more_of-Type, name_types, option_to_list, row_handles, scope_names, side_items, worlds_of, written_types}
+use Rattle.wit_type_tree.specs.declared.types.«Type».{«Type» as Written}
 use Rattle.wit_type_tree.specs.declared.types.«Type».TheVariants as written
-use Rattle.wit_type_tree.specs.declared.types.ResultTypes.{Neither, Ok', Err', Both'}
 use Rattle.wit_grammar.specs.Trees.{Definition, Function, Parameter}
 use Rattle.wit_grammar.specs.Seen.{see_param, see_type}
-use Rattle.wit_syntax.specs.Address.{Address}
-use Rattle.wit_syntax.specs.Function.{SourceFunction, all_types, functions, name_types, written_types}
-use Rattle.wit_syntax.specs.ScopeTables.{interfaces_of, worlds_of}
-use Rattle.wit_syntax.specs.Shape.{all_handles, handles, row_handles}
-use Rattle.wit_syntax.specs.Sides.{SideItem, SideFunction, SideLink, SideInline, inline_items, side_items}
-use Rattle.wit_syntax.specs.Source.{Item, ScopeName, Used, Defined, ForeignName, address, scope_names}
 use Rattle.wit_alike.proofs.Lists.{both_of, zip_append, zip_flat, zip_map, zip_of}
 use Rattle.wit_alike.proofs.Leaves.{SameId}
 use Rattle.wit_alike.proofs.Types.{SameType, SameRow, type_of}
@@ -24,9 +14,7 @@ use Rattle.wit_alike.proofs.Functions.{SameFunction, SameSide, same_functions, s
 use Rattle.wit_alike.proofs.Foreign.{same_inline_items}
 use Rattle.wit_alike.proofs.Scopes.{same_in_turn, same_interfaces, same_worlds}
 use Rattle.wit_alike.proofs.Walk.{flat_same}
-use Rattle.wit_arena.specs.Made.{interface_turn, item_turns, names_in_turn, own_interfaces, turns_of_world, turns_on_sides}
-use Rattle.wit_arena.specs.Occurrences.{Occurrence, all_function_occurrences, name_occurrences}
-use Rattle.wit_arena.specs.Whole.{Turned, turn_handles, turn_occurrences}
+use Rattle.wit_arena.proofs.Common.{Occurrence, Turned, all_function_occurrences, interface_turn, item_turns, name_occurrences, names_in_turn, own_interfaces, turn_handles, turn_occurrences, turns_of_world, turns_on_sides}
 use Rattle.wit_alike_packages.proofs.Occurrences.{same_function_occurrences, same_name_occurrences, zip_option}
 
 -- ---- names in handles

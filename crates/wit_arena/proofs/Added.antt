@@ -1,35 +1,17 @@
 -- Interfaces that were added are done.
 use Rattle.std.proofs.Common.{◌≡◌, ℕ, ◌+◌, true, false, List, [], ◌∷◌, ◌++◌, length, map, Option, Some, inl, inr, refl, sym, ap, ◌∙◌, subst, append_assoc, length-append}
-use Rattle.std.specs.Prelude.{slice_get}
-use Rattle.std.specs.List.{flat_map}
-use Rattle.std.specs.Option.{option_map, unwrap_or}
-use Rattle.std.proofs.lemmas.List.{append-nil, map-append, length-map}
-use Rattle.std.proofs.lemmas.Option.{slice_get-map}
-use Rattle.wit_tree.specs.declared.tree.PackageFile.{PackageFile}
+use Rattle.wit_syntax.proofs.Common.{Address, Imported, InterfaceNamed, Item, PackageFile, ScopeName, TypeDef, TypeOwner, address, all_items, append-cancel, append-nil, at_back, at_part, at_prefix, flat_map, foreign_interfaces, foreign_uses, foreign_worlds, functions, functions_imported, in_turn, inline_items, is_foreign, length-map, map-append, option_map, scope, scope_names, slice_get, slice_get-map, unwrap_or, visited}
 use Rattle.wit_model.specs.declared.interface.Interface.{Interface}
 use Rattle.wit_model.specs.declared.world.World.{World}
-use Rattle.wit_types.specs.declared.types.TypeDef.{TypeDef}
-use Rattle.wit_types.specs.declared.types.TypeOwner.{TypeOwner}
 use Rattle.wit_types.specs.declared.types.TypeOwner.TheVariants as owner
-use Rattle.wit_syntax.specs.Address.{Address, InterfaceNamed, is_foreign}
-use Rattle.wit_syntax.specs.Source.{address, Item, all_items, ScopeName, foreign_uses, scope_names}
-use Rattle.wit_syntax.specs.ScopesOfTrees.{scope}
-use Rattle.wit_syntax.specs.Foreign.{visited, foreign_interfaces, foreign_worlds}
-use Rattle.wit_syntax.specs.ScopeTables.{in_turn}
 use Rattle.wit_arena.specs.Occurrences.{Occurrence, Decls}
-use Rattle.wit_tree.specs.declared.tree.WorldSide.TheVariants.{Imported}
-use Rattle.wit_syntax.specs.Function.{functions}
-use Rattle.wit_syntax.specs.Sides.{inline_items}
 use Rattle.wit_arena.specs.SourceFunctions.{placed_functions}
-use Rattle.wit_syntax.proofs.Sides.{functions_imported}
 use Rattle.wit_arena.proofs.FreeNames.{free_of, free_keyed}
 use Rattle.wit_arena.proofs.Stating.{stated_placed}
 use Rattle.wit_arena.specs.UnfoldedTypes.{interface_functions}
 use Rattle.wit_arena.specs.Whole.{Ordered, owner_at, foreign_use_occurrence, all_occurrences, declarations}
 use Rattle.wit_arena.specs.Resolving.{Names, ResolvedScope, Required, resolved_scope, resolved_scopes, Defines}
 use Rattle.wit_arena.specs.ResolvedArenas.{IsInterfaceOf, AddsDeclared, AddsInterfaces, AddsForeign, AreUsableUses}
-use Rattle.wit_syntax.proofs.Lists.{at_prefix, at_back, append-cancel}
-use Rattle.wit_syntax.proofs.Turns.{at_part}
 use Rattle.wit_arena.proofs.Adding.{After, adds_after}
 use Rattle.wit_arena.proofs.Indexing.{resolved_scopes-append}
 use Rattle.wit_arena.proofs.Members.{DoneScope, resolved_scope_of, IsDone}

@@ -1,8 +1,6 @@
 -- Items added one after another.
 use Rattle.std.proofs.Common.{◌≡◌, List, [], ◌∷◌, ◌++◌, refl, sym, ap, ◌∙◌, subst, append_assoc}
-use Rattle.std.proofs.lemmas.List.{append-nil}
-use Rattle.wit_types.specs.declared.types.TypeDef.{TypeDef}
-use Rattle.wit_syntax.specs.Source.{Item}
+use Rattle.wit_syntax.proofs.Common.{Item, TypeDef, append-nil}
 use Rattle.wit_arena.specs.Resolving.{Required}
 use Rattle.wit_arena.specs.ResolvedArenas.{AddsEach}
 

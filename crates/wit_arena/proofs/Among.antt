@@ -1,19 +1,11 @@
 -- Where scopes are among all, once all interfaces and all worlds are done.
 use Rattle.std.proofs.Common.{◌≡◌, ℕ, ◌+◌, List, ◌++◌, length, Some, sym, ap, ◌∙◌, arith}
-use Rattle.std.specs.Prelude.{slice_get, map}
-use Rattle.std.specs.List.{flat_map}
-use Rattle.std.proofs.lemmas.Option.{slice_get_within}
-use Rattle.wit_tree.specs.declared.tree.PackageFile.{PackageFile}
+use Rattle.wit_syntax.proofs.Common.{Address, ForeignVisit, Item, PackageFile, TypeDef, at_back, at_prefix, flat_map, foreign_interfaces, foreign_worlds, map, slice_get, slice_get_within, visited}
 use Rattle.wit_model.specs.declared.interface.Interface.{Interface}
 use Rattle.wit_model.specs.declared.world.World.{World}
-use Rattle.wit_types.specs.declared.types.TypeDef.{TypeDef}
-use Rattle.wit_syntax.specs.Address.{Address}
-use Rattle.wit_syntax.specs.Source.{Item}
-use Rattle.wit_syntax.specs.Foreign.{ForeignVisit, visited, foreign_interfaces, foreign_worlds}
 use Rattle.wit_arena.specs.Whole.{all_inside}
 use Rattle.wit_arena.specs.Resolving.{ResolvedScope, Required}
 use Rattle.wit_arena.specs.ResolvedArenas.{WorldArenas}
-use Rattle.wit_syntax.proofs.Lists.{at_prefix, at_back}
 use Rattle.wit_arena.proofs.Members.{DoneScope, resolved_scope_of}
 use Rattle.wit_arena.proofs.Prefix.{interface_scope, interface_scopes, world_scopes, prefix_scopes, interface_scope_at}
 use Rattle.wit_arena.proofs.Added.{InterfacesDone}

@@ -1,18 +1,12 @@
 -- Types that refer only backwards, in the words of the data model.
 use Rattle.std.proofs.Common.{ℕ, ◌≤◌, List, [], ◌∷◌, ◌++◌, Option, Some, None, All, arith}
-use Rattle.std.specs.Prelude.{map}
-use Rattle.std.specs.List.{filter_map, cons_option}
-use Rattle.std.specs.Option.{option_to_list}
-use Rattle.std.proofs.lemmas.List.Elements.{All-nil, All-cons, All-head, All-tail}
+use Rattle.wit_syntax.proofs.Common.{All-cons, All-head, All-nil, All-tail, Field, IsBackward, IsBelow as IsKindBelow, PackageFile, TypeDefKind, cons_option, filter_map, map, option_to_list, places_to, rank}
 use Rattle.wit_types.specs.declared.types.«Type».{«Type» as Ty}
 use Rattle.wit_types.specs.declared.types.«Type».TheVariants as type
-use Rattle.wit_types.specs.declared.types.Field.{Field}
 use Rattle.wit_types.specs.declared.types.Case.{Case}
 use Rattle.wit_types.specs.declared.types.Handle.TheVariants as handle
-use Rattle.wit_types.specs.declared.types.TypeDefKind.{TypeDefKind}
 use Rattle.wit_types.specs.declared.types.TypeDefKind.TheVariants as kind
-use Rattle.wit_types.specs.InnerTypes.{place_of, places_to, rank, IsBelow as IsKindBelow, IsBackward}
-use Rattle.wit_tree.specs.declared.tree.PackageFile.{PackageFile}
+use Rattle.wit_types.specs.InnerTypes.{place_of}
 use Rattle.wit_model.specs.declared.unresolved.UnresolvedPackage.{UnresolvedPackage}
 use Rattle.wit_arena.specs.Kind.{kind_of}
 use Rattle.wit_arena.specs.UnfoldedTypes.{IsBelow}

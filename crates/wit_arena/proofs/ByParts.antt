@@ -1,27 +1,14 @@
 -- The package that files make, part by part: what the steps of resolving them come to.
-use Rattle.std.specs.Prelude.{◌≡◌, List, ◌++◌, map, Some}
-use Rattle.std.specs.Option.{option_map}
-use Rattle.semver.specs.Identifiers.{parts_of}
-use Rattle.wit_values.specs.ReleaseText.{release_parts}
+use Rattle.wit_syntax.proofs.Common.{Address, Exported, Imported, List, PackageFile, Some, about, address, declared_metadata, first_foreign_uses, flat_map, foreign_interfaces, foreign_packages, foreign_worlds, functions as item_functions, headers, includes, last_header, map, option_map, parts_of, release_parts, side_items, ◌++◌, ◌≡◌}
 use Rattle.wit_tree.specs.declared.tree.PackageName.{PackageName as Header}
-use Rattle.wit_tree.specs.declared.tree.PackageFile.{PackageFile}
 use Rattle.wit_model.specs.declared.interface.Interface.{Interface}
 use Rattle.wit_model.specs.declared.world.World.{World}
 use Rattle.wit_model.specs.declared.world.WorldKey.{WorldKey}
 use Rattle.wit_model.specs.declared.world.WorldItem.{WorldItem}
 use Rattle.wit_model.specs.declared.unresolved.UnresolvedPackage.{UnresolvedPackage}
-use Rattle.std.specs.List.{flat_map}
-use Rattle.wit_syntax.specs.Address.{Address}
-use Rattle.wit_syntax.specs.Source.{address, first_foreign_uses, about, declared_metadata}
-use Rattle.wit_syntax.specs.Foreign.{foreign_interfaces, foreign_worlds, foreign_packages}
 use Rattle.wit_functions.specs.declared.function.Function.{Function}
-use Rattle.wit_syntax.specs.Function.{functions as item_functions}
-use Rattle.wit_tree.specs.declared.tree.WorldSide.TheVariants.{Imported, Exported}
 use Rattle.wit_arena.specs.SourceFunctions.{IsFunction, placed_functions}
 use Rattle.wit_arena.specs.SideItems.{AreSideItems, settled}
-use Rattle.wit_syntax.specs.ScopeTables.{includes}
-use Rattle.wit_syntax.specs.Broken.{last_header, headers}
-use Rattle.wit_syntax.specs.Sides.{side_items}
 use Rattle.wit_arena.specs.Occurrences.{Key, Occurrence, keys, IsOccurrence}
 use Rattle.wit_arena.specs.OneByOne.{OneByOne, BothParts}
 use Rattle.wit_arena.specs.UnfoldedTypes.{IsInterface, IsWorld, IsForeignWorld, world_types}

@@ -1,34 +1,16 @@
 -- What occurs in the names of a scope, one after another.
 use Rattle.std.proofs.Common.{◌≡◌, ℕ, suc, ◌+◌, true, cond, List, [], ◌∷◌, ◌++◌, length, Option, Some, None, nat_eq, inl, inr, refl, sym, ap, ◌∙◌, subst, append_assoc, arith}
-use Rattle.std.specs.Prelude.{slice_get, map}
-use Rattle.std.specs.Cmp.Lexicographic.{pointwise}
-use Rattle.std.proofs.lemmas.List.{append-nil, map-append}
-use Rattle.std.proofs.lemmas.Option.{slice_get_within}
-use Rattle.indexmap.specs.IndexMap.{insert_entry}
-use Rattle.wit_type_tree.specs.declared.leaves.Attribute.{Attribute}
-use Rattle.wit_tree.specs.declared.tree.UseName.{UseName}
+use Rattle.wit_syntax.proofs.Common.{Address, AreDistinct, Attribute, Defined, ScopeName, TypeDef, TypeDefKind, TypeOwner, UseName, Used, about_name, append-nil, at_back, at_either, at_prefix, at_seam, body_of, differ_at, differ_by, flat_map-append, insert_entry, local_name, local_names, lookup-insert_entry, map, map-append, name_cases, name_itself, names-insert_entry, pointwise, slice_get, slice_get_within, unwrap_or}
 use Rattle.wit_type_tree.specs.declared.types.TypeDef.{TypeDef as Definition}
-use Rattle.wit_types.specs.declared.types.TypeDef.{TypeDef}
-use Rattle.wit_types.specs.declared.types.TypeDefKind.{TypeDefKind}
 use Rattle.wit_types.specs.declared.types.TypeDefKind.TheVariants.{Type_}
-use Rattle.wit_types.specs.declared.types.TypeOwner.{TypeOwner}
 use Rattle.wit_types.specs.declared.types.«Type».TheVariants as type
 use Rattle.wit_arena.specs.Kind.{kind_of}
-use Rattle.wit_syntax.specs.Address.{Address}
-use Rattle.wit_syntax.specs.Source.{ScopeName, Used, Defined, local_name, about_name}
 use Rattle.wit_arena.specs.Expr.{Exprs, End, exprs_of, name_exprs}
 use Rattle.wit_arena.specs.Occurrences.{Key, Def, Occurrence, keys, IsSeen, Collects, Decls, IsOccurrence, shapes_occurrences, name_occurrences}
 use Rattle.wit_arena.specs.Resolving.{all_seen, Names, ResolvedScope, env_of, Env, AreNames, AreKnown, IsExtended, AreResolved, IsAdded, IsUsed, Defines, AreNew, named, AreOwned}
-use Rattle.wit_syntax.specs.ScopeTables.{AreDistinct, local_names}
-use Rattle.wit_syntax.proofs.Repeated.{differ_at, differ_by}
-use Rattle.wit_syntax.proofs.Lists.{at_prefix, at_back, at_seam, at_either}
 use Rattle.wit_arena.proofs.Occurrence.{keys-append, collects_append, collects_from, collects_extended, names_kept, no_defs, occurrence_more, Has, has_either}
-use Rattle.wit_syntax.proofs.Names.{name_cases, name_itself, lookup-insert_entry, names-insert_entry}
-use Rattle.std.proofs.lemmas.Grind.{flat_map-append}
-use Rattle.wit_syntax.specs.Shape.{body_of}
 use Rattle.wit_arena.proofs.Keys.{keys-shapes}
 use Rattle.wit_arena.proofs.Places.{key_extended}
-use Rattle.std.specs.Option.{unwrap_or}
 use Rattle.wit_arena.proofs.Turns.{parts_occurrences, all_name_occurrences}
 
 -- a name that was not seen is free

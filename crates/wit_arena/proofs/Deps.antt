@@ -1,28 +1,12 @@
 -- Whose the items of other packages are, by what a package names of others.
 use Rattle.std.proofs.Common.{◌≡◌, ◌≤◌, ℕ, suc, Bool, true, List, [], ◌∷◌, length, Some, None, ◌⊎◌, inl, inr, refl, sym, ap, ◌∙◌, arith, eqb-true, eq-eqb}
-use Rattle.std.specs.Prelude.{slice_get, map, find, not, if◌then◌else◌}
-use Rattle.std.specs.List.{flat_map, filter}
-use Rattle.std.specs.Option.{option_map}
-use Rattle.std.proofs.lemmas.Bool.{cases_Bool}
-use Rattle.std.proofs.lemmas.Option.{slice_get_within, slice_get-map}
-use Rattle.wit_tree.specs.declared.tree.PackageFile.{PackageFile}
+use Rattle.wit_syntax.proofs.Common.{Address, AllDiffer, ForeignNamed, ForeignVisit, PackageFile, PackageName, Stability, cases_Bool, differ_at, filter, find, find_at, find_passes, find_some, firsts_at, firsts_has, flat_map, flat_map_at, flat_map_has, foreign_interfaces, foreign_items, foreign_packages, foreign_visits, foreign_worlds, if◌then◌else◌, kept_at, kept_has, map, map_at, not, option_map, package_of, same_address-equal, same_address-from, same_item, same_package, same_package-equal, same_package-from, slice_get, slice_get-map, slice_get_within, visited}
 use Rattle.wit_model.specs.declared.ast_item.AstItem.{AstItem}
 use Rattle.wit_model.specs.declared.ast_item.AstItem.TheVariants as entry
-use Rattle.wit_package_names.specs.declared.package_name.PackageName.{PackageName}
 use Rattle.wit_model.specs.declared.unresolved.UnresolvedPackage.{UnresolvedPackage}
-use Rattle.wit_types.specs.declared.stability.Stability.{Stability}
-use Rattle.wit_syntax.specs.Address.{Address, ForeignNamed, same_package, package_of}
-use Rattle.wit_syntax.specs.Foreign.{ForeignVisit, visited, same_item, foreign_visits, foreign_items, foreign_interfaces, foreign_worlds, foreign_packages}
 use Rattle.wit_arena.specs.UnfoldedTypes.{dep_items, same_entry, foreign_owner}
-use Rattle.wit_syntax.specs.Repeats.{AllDiffer}
 use Rattle.wit_arena.specs.Whole.{foreign_place, foreign_entry, dep}
-use Rattle.wit_syntax.proofs.Lists.{map_at, flat_map_at, flat_map_has}
-use Rattle.wit_syntax.proofs.Addresses.{same_package-from, same_package-equal, same_address-from, same_address-equal}
-use Rattle.wit_syntax.proofs.Repeated.{differ_at}
-use Rattle.wit_syntax.proofs.Kept.{kept_at, kept_has}
-use Rattle.wit_syntax.proofs.Firsts.{firsts_at, firsts_has}
 use Rattle.wit_arena.proofs.Interfaces.{prefix_len-only}
-use Rattle.wit_syntax.proofs.Found.{find_passes, find_some, find_at}
 use Rattle.wit_arena.proofs.Visits.{interfaces_differ, worlds_differ, interface_visit, world_visit}
 use Rattle.wit_arena.proofs.Turns.{dep_item}
 

@@ -1,33 +1,15 @@
 -- Where each type is at its place, its tree is the same at every depth.
 use Rattle.std.proofs.Common.{◌≡◌, ℕ, zero, suc, true, List, [], ◌∷◌, map, Option, Some, refl, sym, ap, ◌∙◌, inl, inr, arith}
-use Rattle.std.specs.Prelude.{slice_get}
-use Rattle.std.specs.Option.{option_map_or, unwrap_or}
-use Rattle.std.specs.Str.{bytes_eq}
-use Rattle.wit_values.specs.declared.span.Span.{Span}
-use Rattle.wit_tree.specs.declared.tree.PackageFile.{PackageFile}
+use Rattle.wit_syntax.proofs.Common.{Address, AreDistinct, AreMetadata, Docs, Form, Head, Leaf, Named, Nothing, PackageFile, Primitive, ScopeName, Shape, Shapes, Span, Stability, Tree, TypeDef, TypeOwner, Unnamed, about_name, bytes_eq, differ_at, differ_by, local_name, meaning, name_cases, name_itself, named_node, node_map, option_map_or, placed, primitive_type, scope, slice_get, source_tree, unwrap_or}
 use Rattle.wit_model.specs.declared.unresolved.UnresolvedPackage.{UnresolvedPackage}
 use Rattle.wit_types.specs.declared.types.«Type».{«Type» as Ty}
 use Rattle.wit_types.specs.declared.types.«Type».TheVariants as type
-use Rattle.wit_types.specs.declared.docs.Docs.{Docs}
-use Rattle.wit_types.specs.declared.stability.Stability.{Stability}
-use Rattle.wit_types.specs.declared.types.TypeDef.{TypeDef}
-use Rattle.wit_types.specs.declared.types.TypeOwner.{TypeOwner}
-use Rattle.wit_syntax.specs.Form.{Form}
 use Rattle.wit_arena.specs.Kind.{kind_of}
-use Rattle.wit_type_tree.specs.declared.types.Primitive.{Primitive}
-use Rattle.wit_syntax.specs.Node.{Tree, Head, Leaf, Named, Unnamed, Nothing, node_map, primitive_type}
-use Rattle.wit_syntax.specs.Shape.{Shape, Shapes}
 use Rattle.wit_syntax.specs.Shape as shape
-use Rattle.wit_syntax.specs.Metadata.{AreMetadata}
-use Rattle.wit_syntax.specs.Address.{Address}
-use Rattle.wit_syntax.specs.Source.{ScopeName, local_name, meaning, head, named_node, placed, about_name}
-use Rattle.wit_syntax.specs.ScopesOfTrees.{scope, source_tree}
+use Rattle.wit_syntax.specs.Source.{head}
 use Rattle.wit_arena.specs.Expr.{expr_of, exprs_of, name_exprs}
 use Rattle.wit_arena.specs.Occurrences.{Key, Def, Whole, IsAt, AreAt, Decls, IsKeyed}
 use Rattle.wit_arena.specs.UnfoldedTypes.{package_tree, entry_head, entry_node, owner_of}
-use Rattle.wit_syntax.specs.ScopeTables.{AreDistinct}
-use Rattle.wit_syntax.proofs.Repeated.{differ_at, differ_by}
-use Rattle.wit_syntax.proofs.Names.{name_cases, name_itself}
 use Rattle.wit_arena.proofs.Primitives.{primitive_node}
 use Rattle.wit_arena.proofs.Places.{all_at_untaken}
 use Rattle.wit_arena.proofs.Shape.{entry_of_key}

@@ -1,20 +1,7 @@
 -- From scopes that are done to names and functions that are, one by one, and back.
 use Rattle.std.proofs.Common.{◌≡◌, ℕ, zero, suc, List, [], ◌∷◌, ◌++◌, length, map, Some, inl, inr, sym, ap, ◌∙◌, subst}
-use Rattle.std.specs.Prelude.{slice_get}
-use Rattle.std.specs.List.{flat_map}
-use Rattle.std.specs.Option.{option_map}
-use Rattle.std.proofs.lemmas.List.{map-append}
-use Rattle.std.proofs.lemmas.Option.{slice_get-map}
-use Rattle.wit_tree.specs.declared.tree.PackageFile.{PackageFile}
-use Rattle.wit_types.specs.declared.types.TypeDef.{TypeDef}
+use Rattle.wit_syntax.proofs.Common.{Address, AllDiffer, PackageFile, SourceFunction, TypeDef, at_either, at_prefix, at_seam, differ_more, flat_map, flat_map_at, local_name, map-append, map_at, option_map, scope, slice_get, slice_get-map}
 use Rattle.wit_functions.specs.declared.function.Function.{Function}
-use Rattle.wit_syntax.specs.Address.{Address}
-use Rattle.wit_syntax.specs.Function.{SourceFunction}
-use Rattle.wit_syntax.specs.Repeats.{AllDiffer}
-use Rattle.wit_syntax.specs.Source.{local_name}
-use Rattle.wit_syntax.specs.ScopesOfTrees.{scope}
-use Rattle.wit_syntax.proofs.Lists.{at_prefix, at_seam, at_either, map_at, flat_map_at}
-use Rattle.wit_syntax.proofs.Repeated.{differ_more}
 use Rattle.wit_arena.specs.SourceFunctions.{IsFunction, AreFunctions}
 use Rattle.wit_arena.specs.Occurrences.{Def, Occurrence, keys, Decls}
 use Rattle.wit_arena.specs.Resolving.{ResolvedScope, env_of, AreNames, AreKnown, AreNew, IsDefined, Defines}

@@ -1,23 +1,9 @@
 -- Scopes that are done, one after another.
 use Rattle.std.proofs.Common.{◌≡◌, ℕ, List, [], ◌∷◌, ◌++◌, length, Some, inl, inr, sym, ap, ◌∙◌, subst}
-use Rattle.std.specs.Prelude.{slice_get, map}
-use Rattle.std.specs.Option.{option_map}
-use Rattle.std.proofs.lemmas.List.{map-append}
-use Rattle.std.proofs.lemmas.Option.{slice_get-map}
-use Rattle.wit_tree.specs.declared.tree.PackageFile.{PackageFile}
-use Rattle.wit_types.specs.declared.types.TypeDef.{TypeDef}
-use Rattle.wit_types.specs.declared.types.TypeOwner.{TypeOwner}
-use Rattle.wit_syntax.specs.Address.{Address}
-use Rattle.wit_syntax.specs.Source.{ScopeName, local_name}
-use Rattle.wit_syntax.specs.ScopesOfTrees.{scope}
+use Rattle.wit_syntax.proofs.Common.{Address, AllDiffer, PackageFile, ScopeName, SourceFunction, TypeDef, TypeOwner, all_handles, all_types, at_either, at_prefix, at_seam, differ_more, local_name, map, map-append, map_at, option_map, scope, slice_get, slice_get-map}
 use Rattle.wit_arena.specs.Occurrences.{Key, Def, Occurrence, keys, Decls, Collects, all_function_occurrences}
-use Rattle.wit_syntax.specs.Shape.{all_handles}
-use Rattle.wit_syntax.specs.Function.{SourceFunction, all_types}
 use Rattle.wit_arena.specs.Whole.{functions_at, turn_occurrences, turn_handles, AreRequired}
-use Rattle.wit_syntax.specs.Repeats.{AllDiffer}
 use Rattle.wit_arena.specs.Resolving.{ResolvedScope, env_of, AreNames, AreKnown, AreNew, IsDefined, Defines, HasFunctions, AddsFunctions, AreEnded, AreOwned}
-use Rattle.wit_syntax.proofs.Lists.{at_prefix, at_seam, at_either, map_at}
-use Rattle.wit_syntax.proofs.Repeated.{differ_more}
 use Rattle.wit_arena.proofs.Occurrence.{Has, has_either, keys-append, collects_append, collects_from, collects_extended}
 use Rattle.wit_arena.proofs.FreeNames.{AreStated}
 use Rattle.wit_arena.proofs.Signatures.{no_name_in_functions, names_beside, known_beside, functions_extended}

@@ -1,32 +1,12 @@
 -- What is once worlds are done, each with the interfaces that are written in it.
 use Rattle.std.proofs.Common.{◌≡◌, ℕ, suc, ◌+◌, List, [], ◌∷◌, ◌++◌, length, map, Some, ◌⊎◌, inl, inr, refl, sym, ap, ◌∙◌, subst, append_assoc, arith}
-use Rattle.std.specs.Prelude.{slice_get}
-use Rattle.std.specs.List.{flat_map}
-use Rattle.std.specs.Option.{option_map}
-use Rattle.std.proofs.lemmas.Grind.{flat_map-append}
-use Rattle.std.proofs.lemmas.List.{append-nil}
-use Rattle.std.proofs.lemmas.Option.{slice_get-map}
-use Rattle.wit_type_tree.specs.declared.leaves.Id.{Id}
-use Rattle.wit_tree.specs.declared.tree.PackageFile.{PackageFile}
-use Rattle.wit_tree.specs.declared.tree.Include.{Include}
-use Rattle.wit_tree.specs.declared.tree.WorldSide.TheVariants.{Imported, Exported}
+use Rattle.wit_syntax.proofs.Common.{Address, Exported, FunctionKey, Id, Imported, Include, Item, PackageFile, ScopeName, SideFunction, SideInline, SideItem, SideLink, TopName, TypeDef, WorldNamed, about, address, after_one, all_handles, append-nil, at_back, at_either, at_part, at_prefix, at_split, declared_metadata, flat_map, flat_map-append, flat_map_at, flat_map_has, foreign_interfaces, functions, handles, includes, inline_after, inline_items, item_inline, leads, local_names, map_at, name_types, option_map, side_items, slice_get, slice_get-map, target_scope, visited}
 use Rattle.wit_functions.specs.declared.function.Function.{Function}
 use Rattle.wit_model.specs.declared.world.World.{World}
 use Rattle.wit_model.specs.declared.world.WorldInclude.{WorldInclude}
 use Rattle.wit_model.specs.declared.world.WorldKey.{WorldKey}
 use Rattle.wit_model.specs.declared.world.WorldItem.{WorldItem}
-use Rattle.wit_types.specs.declared.types.TypeDef.{TypeDef}
-use Rattle.wit_syntax.specs.Address.{Address, WorldNamed}
-use Rattle.wit_syntax.specs.Function.{functions, name_types}
-use Rattle.wit_syntax.specs.Shape.{all_handles, handles}
 use Rattle.wit_type_tree.specs.declared.types.«Type».{«Type» as Written}
-use Rattle.wit_syntax.specs.Sides.{FunctionKey, side_items, inline_items, SideItem, SideFunction, SideLink, SideInline, item_inline, inline_after}
-use Rattle.wit_syntax.specs.Source.{address, Item, TopName, leads, ScopeName, about, declared_metadata, target_scope}
-use Rattle.wit_syntax.specs.Foreign.{visited, foreign_interfaces}
-use Rattle.wit_syntax.specs.ScopeTables.{includes, local_names}
-use Rattle.wit_syntax.proofs.Lists.{at_prefix, at_back, at_either, at_split, map_at, flat_map_at, flat_map_has}
-use Rattle.wit_syntax.proofs.Turns.{at_part}
-use Rattle.wit_syntax.proofs.Kept.{after_one}
 use Rattle.wit_arena.specs.Occurrences.{Occurrence, keys, Collects, Decls}
 use Rattle.wit_arena.specs.UnfoldedTypes.{IsWorld, import_types, world_types, world_functions}
 use Rattle.wit_arena.specs.ResolvedArenas.{WorldArenas}

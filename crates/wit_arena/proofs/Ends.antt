@@ -1,39 +1,19 @@
 -- Where names end: entries of the arena end where the trees of their names do.
 use Rattle.std.proofs.Common.{◌≡◌, ℕ, zero, suc, ◌<◌, List, [], ◌∷◌, ◌++◌, length, Option, Some, None, ◌⊎◌, inl, inr, refl, sym, ap, ◌∙◌, subst, arith}
-use Rattle.std.specs.Prelude.{slice_get, take, drop}
-use Rattle.std.proofs.lemmas.List.{take-append-le, take-append-drop, length-take-le}
-use Rattle.std.proofs.lemmas.Option.{slice_get_within}
-use Rattle.wit_type_tree.specs.declared.leaves.Id.{Id}
-use Rattle.wit_type_tree.specs.declared.types.Primitive.{Primitive}
+use Rattle.wit_syntax.proofs.Common.{Address, AliasForm, AreDistinct, AtForeign, AtResource, Defined, Elsewhere, End, EndsAt, ForeignName, Form, Id, More, None', PackageFile, Plain, Prim, Primitive, ResourceForm, ScopeName, Shape, Shapes, TypeBody, TypeDef, TypeOwner, UnknownForm, Used, Word, about_name, at_prefix, at_within, body_of, drop, length-take-le, local_name, meaning, meant_end, named_end, one, primitive_type, scope, shape_end, slice_get, slice_get_within, take, take-append-drop, take-append-le, unwrap_or, written_body}
 use Rattle.wit_type_tree.specs.declared.types.Primitive.TheVariants as primitive
-use Rattle.wit_type_tree.specs.declared.types.«Type».{«Type» as Written, None'}
+use Rattle.wit_type_tree.specs.declared.types.«Type».{«Type» as Written}
 use Rattle.wit_type_tree.specs.declared.types.«Type».TheVariants as written
-use Rattle.wit_type_tree.specs.declared.types.TypeBody.{TypeBody}
-use Rattle.wit_type_tree.specs.declared.types.TypeBody.TheVariants.{Plain}
-use Rattle.wit_tree.specs.declared.tree.PackageFile.{PackageFile}
 use Rattle.wit_types.specs.declared.types.«Type».{«Type» as Ty}
 use Rattle.wit_types.specs.declared.types.«Type».TheVariants as type
-use Rattle.wit_types.specs.declared.types.TypeDef.{TypeDef}
-use Rattle.wit_types.specs.declared.types.TypeOwner.{TypeOwner}
-use Rattle.wit_syntax.specs.Form.{Form, ResourceForm, AliasForm, UnknownForm}
 use Rattle.wit_arena.specs.Kind.{kind_of}
-use Rattle.wit_syntax.specs.Node.{primitive_type}
-use Rattle.wit_syntax.specs.Shape.{Shape, Shapes, Prim, Word, More, one, written_body, body_of}
-use Rattle.wit_syntax.specs.Address.{Address}
-use Rattle.wit_syntax.specs.Source.{ScopeName, Used, Defined, ForeignName, local_name, meaning, about_name}
-use Rattle.wit_syntax.specs.ScopesOfTrees.{scope}
 use Rattle.wit_arena.specs.Expr.{exprs_of, name_exprs}
 use Rattle.wit_arena.specs.Occurrences.{Key, Def, AreAt, Decls, IsKeyed}
 use Rattle.wit_arena.proofs.Parts.{HasPart}
-use Rattle.wit_syntax.specs.ScopeTables.{AreDistinct}
-use Rattle.wit_syntax.specs.NameEnds.{End, AtResource, AtForeign, Elsewhere, named_end, shape_end, EndsAt}
 use Rattle.wit_arena.specs.EntryEnds.{EntryEnd, IsResource, IsUnknown, IsOther, part_end, kind_end, found_end, entry_end}
-use Rattle.wit_syntax.proofs.Lists.{at_prefix, at_within}
 use Rattle.wit_arena.proofs.Places.{all_at_untaken}
 use Rattle.wit_arena.proofs.Shape.{entry_of_key, backward}
 use Rattle.wit_arena.proofs.Depth.{meaning_found}
-use Rattle.std.specs.Option.{unwrap_or}
-use Rattle.wit_syntax.proofs.Ends.{meant_end}
 
 -- two ways to say where something ends never differ
 abbrev Agreeing : {X : Type 0} → (X → Option End) → (X → Option End) → Type 0

@@ -1,35 +1,20 @@
 -- What follows for a package whose scopes are done.
 use Rattle.std.proofs.Common.{◌≡◌, ◌↔◌, ◌<◌, ℕ, List, [], ◌∷◌, length, map, take, Option, Some, None, ◌⊎◌, Contains, arith, inl, inr, refl, sym, ap, ◌∙◌, subst}
-use Rattle.std.specs.Prelude.{slice_get}
-use Rattle.wit_tree.specs.declared.tree.PackageFile.{PackageFile}
+use Rattle.wit_syntax.proofs.Common.{Address, AllDiffer, Form, FunctionKey, PackageFile, Place, ScopeName, Shape, SourceFunction, TypeDef, TypeOwner, UnknownForm, Word, about_name, at_contains, at_within, contains_at, differ_at, first_foreign_uses, function_key, local_id, local_name, lookup-place, named_node, role_side, scope, signature, slice_get, slice_get_within, unwrap_or}
 use Rattle.wit_types.specs.declared.types.«Type».{«Type» as Ty}
 use Rattle.wit_types.specs.declared.types.«Type».TheVariants.{Id}
-use Rattle.wit_types.specs.declared.types.TypeDef.{TypeDef}
-use Rattle.wit_types.specs.declared.types.TypeOwner.{TypeOwner}
 use Rattle.wit_model.specs.declared.unresolved.UnresolvedPackage.{UnresolvedPackage}
-use Rattle.wit_syntax.specs.Form.{Form, UnknownForm}
 use Rattle.wit_arena.specs.Kind.{kind_of}
-use Rattle.wit_syntax.specs.Shape.{Shape, Word}
-use Rattle.wit_syntax.specs.Address.{Address}
-use Rattle.wit_syntax.specs.Source.{ScopeName, Place, local_name, local_id, first_foreign_uses, named_node, about_name}
-use Rattle.wit_syntax.specs.ScopesOfTrees.{scope}
 use Rattle.wit_arena.specs.Expr.{Expr, Exprs, expr_of}
 use Rattle.wit_arena.specs.Occurrences.{Key, Def, Whole, Occurrence, keys, IsAt, Decls, IsEntry}
 use Rattle.wit_arena.specs.UnfoldedTypes.{owner_of, names_of, functions_of, function_types, IsBelow}
-use Rattle.std.proofs.lemmas.Option.{slice_get_within}
 use Rattle.wit_functions.specs.declared.function.Function.{Function}
-use Rattle.wit_syntax.specs.Function.{SourceFunction, signature}
 use Rattle.wit_arena.specs.SourceFunctions.{IsFunction}
-use Rattle.wit_syntax.specs.Repeats.{AllDiffer}
-use Rattle.wit_syntax.proofs.Found.{at_contains, contains_at}
-use Rattle.wit_syntax.proofs.Lists.{at_within}
-use Rattle.wit_syntax.proofs.Repeated.{differ_at}
 use Rattle.wit_arena.proofs.Signatures.{function_typed, type_of}
 use Rattle.wit_arena.proofs.SignatureForms.{signature_anonymous}
 use Rattle.wit_arena.specs.Whole.{functions_at}
 use Rattle.wit_arena.specs.Faithful.{node_parts, IsRoot, OfName, OfFunction, HasType, IsAnonymousForm, IsFaithful}
 use Rattle.wit_arena.specs.Resolving.{Names}
-use Rattle.wit_syntax.proofs.Names.{lookup-place}
 use Rattle.wit_arena.proofs.Places.{Extended, at_injective, at_functional}
 use Rattle.wit_arena.proofs.Occurrence.{Has, collects_from, once_of}
 use Rattle.wit_arena.proofs.Parts.{all_parts}
@@ -37,12 +22,10 @@ use Rattle.wit_arena.proofs.Shape.{key_of, backward, interned}
 use Rattle.wit_arena.proofs.Forms.{seen_anonymous, name_anonymous}
 use Rattle.wit_arena.proofs.Depth.{IsScope, same_tree}
 use Rattle.wit_arena.proofs.Positions.{type_parts, means, below_at, leads, all_lead}
-use Rattle.wit_syntax.specs.Sides.{role_side, FunctionKey, function_key}
 use Rattle.wit_arena.proofs.Members.{DoneScope, IsWholeOf, IsInSignatureOf, IsPresent}
 use Rattle.wit_arena.proofs.NamesOfDone.{has_types, function_at, named_at, entry_of, owner_at_name, parts_at}
 use Rattle.wit_arena.proofs.ForeignUses.{foreign_use_key}
 use Rattle.wit_arena.proofs.Unknowns.{unknown_prefix}
-use Rattle.std.specs.Option.{unwrap_or}
 
 -- an owner is that of one of these scopes
 pub record IsOwnerOf (cs : List DoneScope) (o : TypeOwner) (s : Address) : Type 0 where

@@ -1,9 +1,6 @@
 -- What is first seen, as the first of each.
 use Rattle.std.proofs.Common.{◌≡◌, ◌↔◌, zero, suc, Bool, true, false, not, cond, ◌&&◌, List, [], ◌∷◌, ◌++◌, Some, inl, inr, refl, sym, ap, ◌∙◌, subst, append_assoc, append-nil}
-use Rattle.std.specs.List.{filter}
-use Rattle.std.proofs.lemmas.Bool.{and_parts, both_ways, cases_Bool, cond-true, cond-false, not-true, not_from_true, not_from_false}
-use Rattle.wit_syntax.specs.Repeats.{AllDiffer, firsts}
-use Rattle.wit_syntax.proofs.Firsts.{firsts_differ}
+use Rattle.wit_syntax.proofs.Common.{AllDiffer, and_parts, both_ways, cases_Bool, cond-false, cond-true, filter, firsts, firsts_differ, not-true, not_from_false, not_from_true}
 use Rattle.wit_arena.specs.Occurrences.{Key, Occurrence, keys, IsSeen, Collects}
 use Rattle.wit_arena.proofs.Occurrence.{collects_one}
 

@@ -1,38 +1,10 @@
 -- The names that items use from other packages, where each is first used.
 use Rattle.std.proofs.Common.{◌≡◌, ℕ, zero, suc, Bool, true, cond, List, [], ◌∷◌, ◌++◌, Some, Contains, inl, inr, refl, sym, ap, ◌∙◌, subst, append_assoc}
-use Rattle.std.specs.Prelude.{slice_get, map}
-use Rattle.std.specs.List.{flat_map, filter}
-use Rattle.std.specs.Option.{option_map}
-use Rattle.std.specs.Str.{bytes_eq}
-use Rattle.std.proofs.lemmas.Bool.{and_parts, and_from, both_ways, cases_Bool}
-use Rattle.std.proofs.lemmas.List.{append-nil, map-append}
-use Rattle.std.proofs.lemmas.Option.{slice_get-map}
-use Rattle.wit_type_tree.specs.declared.leaves.Id.{Id}
-use Rattle.wit_tree.specs.declared.tree.Use.{Use}
-use Rattle.wit_tree.specs.declared.tree.UseName.{UseName}
-use Rattle.wit_tree.specs.declared.tree.PackageFile.{PackageFile}
-use Rattle.wit_tree.specs.declared.tree.WorldSide.{WorldSide}
-use Rattle.wit_tree.specs.declared.tree.WorldSide.TheVariants.{Imported, Exported}
-use Rattle.wit_package_names.specs.declared.package_name.PackageName.{PackageName}
-use Rattle.wit_syntax.specs.Address.{Address, same_address, is_foreign, InterfaceNamed}
-use Rattle.wit_syntax.specs.ExternPart.{same_side, inline_uses}
-use Rattle.wit_syntax.specs.Source.{TopName, Target, Local, Foreign, leads, path_scope, Part, DefinitionPart, UsePart, IncludePart, FunctionPart, ExternPart, Item, all_items, parts, ScopeName, ForeignName, local_name, ForeignUse, use_of_foreign, use_foreign_uses, part_foreign_uses, foreign_uses, same_foreign_use, first_foreign_uses, used_names, target_scope, at_side, walk}
-use Rattle.wit_syntax.specs.Foreign.{ForeignVisit, visited, foreign_interfaces}
+use Rattle.wit_syntax.proofs.Common.{Address, AllDiffer, AreDistinct, DefinitionPart, Exported, Extern, ExternPart, Foreign, ForeignName, ForeignUse, ForeignVisit, FunctionPart, Id, Imported, IncludePart, InterfaceNamed, Item, Local, PackageFile, PackageName, Part, ScopeName, Target, TopName, Use, UseName, UsePart, WorldSide, all_items, and_from, and_parts, append-nil, at_contains, at_prefix, at_side, both_ways, bytes_eq, cases_Bool, differ_at, differ_by, filter, first_foreign_uses, firsts, firsts-more, firsts_at, firsts_differ, firsts_has, flat_map, flat_map_at, flat_map_has, foreign_interfaces, foreign_uses, inline_uses, is_foreign, item_foreign_uses, kept_at, kept_differ, kept_has, leads, local_name, map, map-append, map_at, map_map, name_equal, name_itself, option_map, part_foreign_uses, part_uses, parts, path_scope, same_address, same_address-equal, same_address-from, same_foreign_use, same_side, side_itself, slice_get, slice_get-map, target_scope, use_foreign_uses, use_of_foreign, used_names, uses, visited, walk}
 use Rattle.wit_arena.specs.ResolvedArenas.{AreUsableUses}
 use Rattle.wit_arena.specs.Occurrences.{Key, Def, Occurrence, keys, Collects}
-use Rattle.wit_syntax.specs.Repeats.{AllDiffer, firsts}
 use Rattle.wit_arena.specs.Whole.{foreign_use_occurrence}
-use Rattle.wit_syntax.specs.ScopeTables.{part_uses, uses, AreDistinct}
-use Rattle.wit_syntax.proofs.Lists.{at_prefix, map_at, map_map, flat_map_at, flat_map_has}
-use Rattle.wit_syntax.proofs.Names.{name_itself, name_equal}
-use Rattle.wit_syntax.proofs.Addresses.{side_itself, same_address-from, same_address-equal}
-use Rattle.wit_syntax.proofs.Repeated.{differ_at, differ_by}
-use Rattle.wit_syntax.proofs.Kept.{kept_at, kept_has, kept_differ}
-use Rattle.wit_syntax.proofs.Firsts.{firsts_at, firsts_has, firsts_differ, firsts-more}
-use Rattle.wit_syntax.proofs.Found.{at_contains}
 use Rattle.wit_arena.proofs.Visits.{side_has, side_at, part_use_at, use_at, used_interface_visit}
-use Rattle.wit_tree.specs.declared.tree.Extern.{Extern}
-use Rattle.wit_syntax.proofs.JoinedItems.{item_foreign_uses}
 
 -- a name of a scope, as it occurs
 abbrev pub foreign_use_key : ForeignUse → Key

@@ -1,16 +1,9 @@
 -- What occurs in a type without a name: forms that an unnamed type can have.
 use Rattle.std.proofs.Common.{◌≡◌, List, [], ◌∷◌, inl, inr, subst}
-use Rattle.wit_type_tree.specs.declared.types.«Type».{«Type» as Written, None', Some', Row_of-Type, end_of-Type, more_of-Type}
-use Rattle.wit_type_tree.specs.declared.types.ResultTypes.{ResultTypes, Neither, Ok', Err', Both'}
+use Rattle.wit_syntax.proofs.Common.{Address, Both', Defined, Enum, Err', Flags, ForeignName, Form, Neither, None', Ok', Plain, Record, Resource, ResultTypes, Row_of-Type, ScopeName, Shape, Shapes, Some', TypeBody, UnknownForm, Used, Variant, all_shapes, body_of, case_types, end_of-Type, field_types, head, more_of-Type, result_shapes, row_shapes, shape_of, written_body}
+use Rattle.wit_type_tree.specs.declared.types.«Type».{«Type» as Written}
 use Rattle.wit_type_tree.specs.declared.types.«Type».TheVariants as written
-use Rattle.wit_type_tree.specs.declared.types.TypeBody.{TypeBody}
-use Rattle.wit_type_tree.specs.declared.types.TypeBody.TheVariants.{Record, Flags, Variant, Enum, Resource, Plain}
-use Rattle.wit_type_tree.specs.TypeParts.{field_types, case_types}
-use Rattle.wit_syntax.specs.Form.{Form, UnknownForm}
-use Rattle.wit_syntax.specs.Shape.{Shape, Shapes, shape_of, result_shapes, row_shapes, all_shapes, head, written_body, body_of}
 use Rattle.wit_syntax.specs.Shape as shape
-use Rattle.wit_syntax.specs.Address.{Address}
-use Rattle.wit_syntax.specs.Source.{ScopeName, Used, Defined, ForeignName}
 use Rattle.wit_arena.specs.Expr.{Exprs, expr_of, exprs_of, name_exprs}
 use Rattle.wit_arena.specs.Occurrences.{Whole}
 use Rattle.wit_arena.specs.Faithful.{IsAnonymousForm}

@@ -1,28 +1,14 @@
 -- The written names of functions that are no resource's, in the source and in the package.
 use Rattle.std.proofs.Common.{◌≡◌, ℕ, zero, suc, List, [], ◌∷◌, ◌++◌, Some, refl, sym, ap, ◌∙◌, subst, arith, Contains}
-use Rattle.std.specs.Prelude.{slice_get, map}
-use Rattle.std.specs.List.{flat_map}
-use Rattle.std.proofs.lemmas.Option.{slice_get_within}
-use Rattle.wit_type_tree.specs.declared.types.FuncForm.{FuncForm}
+use Rattle.wit_syntax.proofs.Common.{Address, Constructor, DefinitionPart, ExternPart, Freestanding, FuncForm, FunctionKey, FunctionPart, Id, IncludePart, Item, Method, OnSide, Part, ResourceFunc, Role, SourceFunction, Static, TypeBody, UsePart, WorldSide, accessor, at_contains, at_within, contains_at, definition_functions, extern_at, flat_map, flat_map_at, flat_map_has, free_function, functions, map, map_at, part_functions, parts, resource_function, role_names, role_side, slice_get, slice_get_within}
 use Rattle.wit_type_tree.specs.declared.types.FuncForm.TheVariants as form
-use Rattle.wit_type_tree.specs.declared.leaves.Id.{Id}
-use Rattle.wit_type_tree.specs.declared.types.TypeBody.{TypeBody}
 use Rattle.wit_type_tree.specs.declared.types.TypeBody.TheVariants as body
-use Rattle.wit_type_tree.specs.declared.types.ResourceFunc.{ResourceFunc}
 use Rattle.wit_type_tree.specs.declared.types.ResourceFunc.TheVariants as resource
 use Rattle.wit_functions.specs.declared.function.Function.{Function}
 use Rattle.wit_functions.specs.declared.function.FunctionKind.{FunctionKind}
-use Rattle.wit_syntax.specs.Address.{Address}
-use Rattle.wit_syntax.specs.Source.{Item, Part, DefinitionPart, UsePart, IncludePart, FunctionPart, ExternPart, parts}
-use Rattle.wit_syntax.specs.Function.{Role, Freestanding, Method, Static, Constructor, OnSide, SourceFunction, accessor, free_function, resource_function, definition_functions, part_functions, functions, role_names}
 use Rattle.wit_arena.specs.SourceFunctions.{IsKind, IsFunction, AreFunctions, freestanding_names}
-use Rattle.wit_tree.specs.declared.tree.WorldSide.{WorldSide}
-use Rattle.wit_syntax.specs.Sides.{role_side, FunctionKey}
 use Rattle.wit_arena.specs.UnfoldedTypes.{keyed}
 use Rattle.wit_arena.specs.Occurrences.{Key}
-use Rattle.wit_syntax.proofs.Lists.{at_within, map_at, flat_map_at, flat_map_has}
-use Rattle.wit_syntax.proofs.Found.{at_contains, contains_at}
-use Rattle.wit_syntax.proofs.Externs.{extern_at}
 use Rattle.wit_arena.proofs.Turns.{freestanding_kind, method_kind, static_kind}
 
 -- of functions of the package, each under its side and name

@@ -1,27 +1,10 @@
 -- The names of functions: where no two keys of a scope are one, no two of them are.
 use Rattle.std.proofs.Common.{◌≡◌, ℕ, suc, ◌+◌, false, List, [], ◌∷◌, ◌++◌, length, map, Some, inl, inr, refl, sym, ap, ◌∙◌, subst, arith, nat_eq}
-use Rattle.std.specs.Prelude.{slice_get}
-use Rattle.std.specs.Cmp.Lexicographic.{pointwise}
-use Rattle.std.specs.List.{flat_map, AllByRecursion, IsDistinct}
-use Rattle.std.specs.Option.{option_map}
-use Rattle.std.proofs.lemmas.Option.{slice_get-map}
-use Rattle.wit_names.specs.Folded.{folded_key}
+use Rattle.wit_syntax.proofs.Common.{AllByRecursion, AllDiffer, Called, ScopeName, SideFunction, SourceFunction, WorldSide, at_back, called_functions, called_key, differ_at, differ_by, differ_head, differ_tail, flat_map, folded_key, function_called, function_name, in_turn, items_on, name_called, name_cases, names_on, on_side, option_map, pointwise, side_called, slice_get, slice_get-map}
+use Rattle.std.specs.List.{IsDistinct}
 use Rattle.wit_functions.specs.declared.function.Function.{Function}
 use Rattle.wit_functions.specs.SettersPlaced.{name_in, HaveDistinctNames}
-use Rattle.wit_syntax.specs.Source.{ScopeName}
-use Rattle.wit_syntax.specs.Function.{SourceFunction}
 use Rattle.wit_arena.specs.SourceFunctions.{by_name}
-use Rattle.wit_syntax.specs.Repeats.{AllDiffer}
-use Rattle.wit_syntax.specs.ScopeTables.{in_turn}
-use Rattle.wit_syntax.specs.SignatureRules.{Called, name_called}
-use Rattle.wit_tree.specs.declared.tree.WorldSide.{WorldSide}
-use Rattle.wit_syntax.specs.Sides.{on_side, names_on, SideFunction, side_called, items_on}
-use Rattle.wit_syntax.proofs.Lists.{at_back}
-use Rattle.wit_syntax.proofs.Names.{name_cases}
-use Rattle.wit_syntax.proofs.Repeated.{differ_at, differ_by, called_key, function_called}
-use Rattle.wit_syntax.proofs.Kept.{differ_head, differ_tail}
-use Rattle.wit_syntax.proofs.Legal.{function_name}
-use Rattle.wit_syntax.proofs.Sides.{called_functions}
 
 -- where the keys on a side of a scope differ on which only functions come after names, so do the names of these
 pub names_differ : (side : WorldSide) (xs : List ScopeName) (fns : List SourceFunction) (order : List ℕ) → AllDiffer (map called_key (side_called side xs (items_on side (map SideFunction fns)) order)) → AllDiffer (map function_name (on_side side fns))

@@ -1,14 +1,7 @@
 -- What is while scopes are being resolved: names of scopes first, and then functions of them, one by one.
 use Rattle.std.proofs.Common.{◌≡◌, ℕ, List, [], ◌∷◌, length, map, Some}
-use Rattle.std.specs.Prelude.{slice_get}
-use Rattle.wit_tree.specs.declared.tree.PackageFile.{PackageFile}
-use Rattle.wit_types.specs.declared.types.TypeDef.{TypeDef}
+use Rattle.wit_syntax.proofs.Common.{Address, AllDiffer, PackageFile, SourceFunction, TypeDef, local_names, scope, slice_get}
 use Rattle.wit_functions.specs.declared.function.Function.{Function}
-use Rattle.wit_syntax.specs.Address.{Address}
-use Rattle.wit_syntax.specs.Repeats.{AllDiffer}
-use Rattle.wit_syntax.specs.Function.{SourceFunction}
-use Rattle.wit_syntax.specs.ScopeTables.{local_names}
-use Rattle.wit_syntax.specs.ScopesOfTrees.{scope}
 use Rattle.wit_arena.specs.SourceFunctions.{IsFunction}
 use Rattle.wit_arena.specs.Occurrences.{Key, Def, Occurrence, keys, Collects, Decls, IsOccurrence}
 use Rattle.wit_arena.specs.Resolving.{env_of, AreNames}

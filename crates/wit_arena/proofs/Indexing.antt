@@ -1,17 +1,10 @@
 -- Interfaces and worlds and their places by name, one more.
 use Rattle.std.proofs.Common.{◌≡◌, ℕ, zero, suc, ◌≤◌, true, false, cond, List, [], ◌∷◌, ◌++◌, length, Some, IsSome, nat_eq, inl, inr, refl, sym, ap, ◌∙◌, subst, arith}
-use Rattle.std.specs.Prelude.{slice_get, map}
-use Rattle.std.specs.Cmp.Lexicographic.{pointwise}
-use Rattle.std.specs.Option.{unwrap_or}
-use Rattle.std.proofs.lemmas.List.{length-map, map-append}
-use Rattle.indexmap.specs.IndexMap.{insert_entry}
+use Rattle.wit_syntax.proofs.Common.{Address, InterfaceNamed, WorldNamed, at_either, at_prefix, at_seam, insert_entry, is_foreign, length-map, lookup-insert_entry, map, map-append, map_map, name_cases, name_itself, pointwise, slice_get, unwrap_or}
 use Rattle.wit_model.specs.declared.interface.Interface.{Interface}
 use Rattle.wit_model.specs.declared.world.World.{World}
-use Rattle.wit_syntax.specs.Address.{Address, InterfaceNamed, WorldNamed, is_foreign}
 use Rattle.wit_arena.specs.Resolving.{Names, ResolvedScope, resolved_scope_at, resolved_scope, resolved_scopes, env_of, IsIndex, IsWorldIndex}
 use Rattle.wit_arena.specs.ResolvedArenas.{interfaces_at, worlds_at}
-use Rattle.wit_syntax.proofs.Lists.{at_prefix, at_seam, at_either, map_map}
-use Rattle.wit_syntax.proofs.Names.{name_cases, name_itself, lookup-insert_entry}
 
 -- what a name finds once another one was put into the table, and what that one finds
 found_other : (by_name : Names) (name : List ℕ) (place : ℕ) (n : List ℕ) → pointwise nat_eq n name ≡ false → env_of (insert_entry (pointwise nat_eq) by_name name place) n ≡ env_of by_name n

@@ -1,27 +1,10 @@
 -- Where the interfaces that are written in worlds are among what these have on their sides.
 use Rattle.std.proofs.Common.{◌≡◌, ℕ, zero, suc, true, false, List, [], ◌∷◌, ◌++◌, ◌+◌, length, map, Option, Some, None, ◌⊎◌, inl, inr, refl, sym, ap, ◌∙◌, arith, length-append}
-use Rattle.std.specs.Prelude.{slice_get}
-use Rattle.std.specs.List.{filter}
-use Rattle.std.specs.Option.{option_map_or}
-use Rattle.std.proofs.lemmas.Bool.{cases_Bool, cond-true, cond-false}
-use Rattle.std.proofs.lemmas.List.Elements.{filter-append}
-use Rattle.wit_type_tree.specs.declared.leaves.Id.{Id}
-use Rattle.wit_tree.specs.declared.tree.Include.{Include}
-use Rattle.wit_tree.specs.declared.tree.WorldSide.{WorldSide}
-use Rattle.wit_tree.specs.declared.tree.WorldSide.TheVariants.{Imported, Exported}
+use Rattle.wit_syntax.proofs.Common.{Address, Exported, Foreign, Id, Imported, Include, InlineAt, InterfaceNamed, Item, Link, Local, ScopeName, SideFunction, SideInline, SideItem, SideLink, SourceFunction, Target, WorldSide, address, at_back, at_part, at_prefix, cases_Bool, cond-false, cond-true, filter, filter-append, inline_after, inline_items, interfaces_on, interfaces_on-append, is_inside, is_interface, item_name, item_side, leads, option_map_or, path_scope, role_side, same_side, same_side-equal, side_items, side_itself, slice_get, target_scope}
 use Rattle.wit_functions.specs.declared.function.Function.{Function}
 use Rattle.wit_model.specs.declared.world.World.{World}
 use Rattle.wit_model.specs.declared.world.WorldKey.{WorldKey}
 use Rattle.wit_model.specs.declared.world.WorldItem.{WorldItem}
-use Rattle.wit_syntax.specs.Address.{Address, InlineAt, InterfaceNamed}
-use Rattle.wit_syntax.specs.ExternPart.{same_side}
-use Rattle.wit_syntax.specs.Function.{SourceFunction}
-use Rattle.wit_syntax.specs.Sides.{role_side, Link, SideItem, SideFunction, SideLink, SideInline, is_interface, item_side, side_items, inline_after, inline_items}
-use Rattle.wit_syntax.specs.Source.{Target, Local, Foreign, leads, path_scope, Item, item_name, address, ScopeName, target_scope}
-use Rattle.wit_syntax.proofs.Addresses.{same_side-equal, side_itself}
-use Rattle.wit_syntax.proofs.Inline.{is_inside, interfaces_on-append, interfaces_on}
-use Rattle.wit_syntax.proofs.Lists.{at_prefix, at_back}
-use Rattle.wit_syntax.proofs.Turns.{at_part}
 use Rattle.wit_arena.specs.SourceFunctions.{function_item}
 use Rattle.wit_arena.specs.UnfoldedTypes.{is_interface_item, interface_items, interface_at, interfaces_from, world_interfaces}
 use Rattle.wit_arena.specs.Resolving.{Names}

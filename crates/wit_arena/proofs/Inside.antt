@@ -1,11 +1,8 @@
 -- Interfaces that are written in worlds, as scopes that are done and as entries of the arena.
 use Rattle.std.proofs.Common.{◌≡◌, ◌<◌, ℕ, zero, suc, ◌+◌, List, [], ◌∷◌, ◌++◌, length, map, Some, refl, ap, subst, arith}
-use Rattle.std.specs.Prelude.{slice_get}
+use Rattle.wit_syntax.proofs.Common.{IsOrder, local_names, rows_of, scope_names, slice_get}
 use Rattle.wit_model.specs.declared.interface.Interface.{Interface}
 use Rattle.wit_types.specs.declared.types.TypeOwner.TheVariants as owner
-use Rattle.wit_graph.specs.Table.{IsOrder}
-use Rattle.wit_syntax.specs.ScopeTables.{rows_of, local_names}
-use Rattle.wit_syntax.specs.Source.{scope_names}
 use Rattle.wit_arena.specs.SourceFunctions.{placed_functions}
 use Rattle.wit_arena.specs.UnfoldedTypes.{interface_functions}
 use Rattle.wit_arena.specs.ResolvedArenas.{IsInterfaceOf}

@@ -1,31 +1,8 @@
 -- Where items are by their names and by their scopes.
 use Rattle.std.proofs.Common.{◌≡◌, ℕ, zero, suc, ◌+◌, Bool, true, false, not, cond, List, [], ◌∷◌, ◌++◌, length, Option, Some, None, inl, inr, refl, sym, ap, ◌∙◌, subst, arith, get_or}
-use Rattle.std.specs.Prelude.{slice_get, map, nat_lt, position}
-use Rattle.std.specs.List.{filter, flat_map, prefix_len}
-use Rattle.std.specs.Option.{option_map, option_map_or, option_or, unwrap_or}
-use Rattle.std.specs.Str.{bytes_eq}
-use Rattle.std.proofs.lemmas.Bool.{cases_Bool, cond-true, lt-ltb, not-true}
-use Rattle.std.proofs.lemmas.List.{map-append}
-use Rattle.std.proofs.lemmas.List.Quantifiers.{position-Some}
-use Rattle.std.proofs.lemmas.Option.{slice_get_within, slice_get-get_or}
-use Rattle.wit_tree.specs.declared.tree.PackageFile.{PackageFile}
+use Rattle.wit_syntax.proofs.Common.{Address, AllDiffer, AreDeclared, Declared, ForeignNamed, InlineAt, InterfaceNamed, Item, PackageFile, TheInline, TheInterface, TheWorld, WorldNamed, about, address, addresses_differ, all_declared, all_items, all_scopes, at_split, bytes_eq, cases_Bool, cond-true, differ_join, filter, find_at, find_passes, flat_map, flat_map_at, functions, inline_differ, inline_items, inside_one, interfaces_of, is_foreign, is_inside, is_world, item_at, item_name, item_named, kept_at, kept_differ, lt-ltb, map, map-append, map_at, nat_lt, none_if, not-true, option_map, option_map_or, option_or, position, position-Some, prefix_len, same_address, same_address-equal, same_address-itself, scope, scope_item_at, scope_names, slice_get, slice_get-get_or, slice_get_within, unwrap_or, worlds_of}
 use Rattle.wit_types.specs.declared.types.TypeOwner.TheVariants as owner
-use Rattle.wit_syntax.specs.Address.{Address, InterfaceNamed, WorldNamed, InlineAt, ForeignNamed, same_address, is_foreign}
-use Rattle.wit_syntax.specs.Source.{Declared, TheInterface, TheWorld, TheInline, address, Item, all_items, item_name, is_world, item_named, item_at, scope_names, about}
-use Rattle.wit_syntax.specs.ScopesOfTrees.{scope}
-use Rattle.wit_syntax.specs.ScopeTables.{interfaces_of, worlds_of}
-use Rattle.wit_syntax.specs.Repeats.{AllDiffer}
 use Rattle.wit_arena.specs.Whole.{place_at, owner_at, functions_at}
-use Rattle.wit_syntax.specs.Function.{functions}
-use Rattle.wit_syntax.specs.Sides.{inline_items, all_scopes}
-use Rattle.wit_syntax.proofs.Lists.{at_split, map_at, flat_map_at}
-use Rattle.wit_syntax.proofs.Addresses.{same_address-itself, same_address-equal}
-use Rattle.wit_syntax.proofs.Repeated.{differ_join}
-use Rattle.wit_syntax.proofs.Kept.{kept_at, kept_differ}
-use Rattle.wit_syntax.proofs.Tables.{none_if}
-use Rattle.wit_syntax.proofs.Found.{find_at, find_passes}
-use Rattle.wit_syntax.proofs.Inline.{is_inside}
-use Rattle.wit_syntax.proofs.Scopes.{AreDeclared, all_declared, addresses_differ, inline_differ, scope_item_at, inside_one}
 
 -- the only one that passes comes after those that fail
 pub prefix_len-only : {X : Type 0} (p : X → Bool) (xs : List X) (t : ℕ) (x : X) → slice_get xs t ≡ Some x → p x ≡ true → ((i : ℕ) (y : X) → slice_get xs i ≡ Some y → p y ≡ true → i ≡ t) → prefix_len (λ y. not (p y)) xs ≡ t

@@ -1,24 +1,6 @@
 -- The items of files, in an order of their table.
 use Rattle.std.proofs.Common.{◌≡◌, ℕ, zero, suc, ◌<◌, true, List, [], ◌∷◌, length, Some, inl, inr, sym, ap, ◌∙◌, subst, arith}
-use Rattle.std.specs.Prelude.{slice_get, map}
-use Rattle.std.specs.Str.{bytes_eq}
-use Rattle.std.proofs.lemmas.List.{length-map}
-use Rattle.std.proofs.lemmas.Option.{slice_get_within}
-use Rattle.wit_type_tree.specs.declared.leaves.Attribute.{Attribute}
-use Rattle.wit_tree.specs.declared.tree.UseName.{UseName}
-use Rattle.wit_tree.specs.declared.tree.Use.{Use}
-use Rattle.wit_tree.specs.declared.tree.PackageFile.{PackageFile}
-use Rattle.wit_graph.specs.Table.{IsOrder}
-use Rattle.wit_syntax.specs.Address.{Address}
-use Rattle.wit_syntax.specs.Source.{TopName, Item, Part, DefinitionPart, UsePart, IncludePart, FunctionPart, ExternPart, Used, ForeignName, path_scope, part_names, parts, item_name, item_named, all_items, scope_names}
-use Rattle.wit_syntax.specs.ScopeTables.{in_order, item_row, item_rows}
-use Rattle.std.specs.List.{flat_map}
-use Rattle.wit_syntax.specs.Repeats.{AllDiffer}
-use Rattle.wit_syntax.proofs.Lists.{map_at, flat_map_at}
-use Rattle.wit_syntax.proofs.Names.{name_cases, name_itself}
-use Rattle.wit_syntax.proofs.Repeated.{key_at, differ_by}
-use Rattle.wit_syntax.proofs.Orders.{order_within, in_order_at, in_order_read, index_of, index_once}
-use Rattle.wit_syntax.proofs.Turns.{AreOwn}
+use Rattle.wit_syntax.proofs.Common.{Address, AllDiffer, AreOwn, Attribute, DefinitionPart, ExternPart, ForeignName, FunctionPart, IncludePart, IsOrder, Item, PackageFile, Part, TopName, Use, UseName, UsePart, Used, all_items, bytes_eq, differ_by, flat_map, flat_map_at, in_order, in_order_at, in_order_read, index_of, index_once, item_name, item_named, item_row, item_rows, key_at, length-map, map, map_at, name_cases, name_itself, order_within, part_names, parts, path_scope, scope_names, slice_get, slice_get_within}
 use Rattle.wit_arena.proofs.Interfaces.{AreItems}
 
 -- where names differ, an item is the first of its name

@@ -1,18 +1,7 @@
 -- A package that files make is one that the file makes which they come to.
 use Rattle.std.proofs.Common.{◌≡◌, ℕ, List, [], ◌∷◌, ◌++◌, take, Some, None, refl, sym, ap, ◌∙◌, subst}
-use Rattle.std.specs.Prelude.{map, Contains}
-use Rattle.std.specs.List.{flat_map}
-use Rattle.std.specs.Option.{option_map}
-use Rattle.std.proofs.lemmas.List.{map-append}
-use Rattle.wit_values.specs.declared.span.Span.{Span}
-use Rattle.wit_tree.specs.declared.tree.Include.{Include}
-use Rattle.wit_tree.specs.declared.tree.PackageFile.{PackageFile}
+use Rattle.wit_syntax.proofs.Common.{Address, AreAlike, AreTwins, Contains, Exported, ForeignUse, ForeignVisit, Imported, Include, IsJoined, IsOrder, Item, PackageFile, ScopeName, SideFunction, SideInline, SideItem, SideLink, SourceFunction, Span, Stability, TopName, TypeDef, TypeOwner, WorldSide, about, about_name, address, alike_back, all_items, all_scopes, bare, declared_metadata, firsts, flat_map, foreign_interfaces, foreign_uses, foreign_uses_alike, foreign_worlds, functions, in_order, in_turn, includes, inline_items, inline_twins, interfaces_of, items_twins, joined_alike, map, map-append, map-flat_map, map_by, names_of_bare, names_same, no_metadata, no_names, option_map, package_of, parts, path_id, path_scope, retop, role_side, rows_of, scope, scope_alike, scope_names, side_items, stability_of, twin_among, twins_back, twins_become, twins_inside, twins_make, visited, worlds_of}
 use Rattle.wit_tree.specs.declared.tree.PackageName.{PackageName as Header}
-use Rattle.wit_tree.specs.declared.tree.WorldSide.{WorldSide}
-use Rattle.wit_tree.specs.declared.tree.WorldSide.TheVariants.{Imported, Exported}
-use Rattle.wit_types.specs.declared.stability.Stability.{Stability}
-use Rattle.wit_types.specs.declared.types.TypeDef.{TypeDef}
-use Rattle.wit_types.specs.declared.types.TypeOwner.{TypeOwner}
 use Rattle.wit_functions.specs.SettersPlaced.{placed}
 use Rattle.wit_functions.specs.declared.function.Function.{Function}
 use Rattle.wit_model.specs.declared.interface.Interface.{Interface}
@@ -23,24 +12,9 @@ use Rattle.wit_model.specs.declared.world.WorldItem.TheVariants as item
 use Rattle.wit_model.specs.declared.world.WorldKey.{WorldKey}
 use Rattle.wit_model.specs.declared.world.WorldKey.TheVariants as key
 use Rattle.wit_model.specs.declared.unresolved.UnresolvedPackage.{UnresolvedPackage}
-use Rattle.wit_graph.specs.Table.{IsOrder}
-use Rattle.wit_syntax.specs.Address.{Address, package_of}
-use Rattle.wit_syntax.specs.Foreign.{ForeignVisit, visited, foreign_interfaces, foreign_worlds}
-use Rattle.wit_syntax.specs.Function.{SourceFunction, functions}
-use Rattle.wit_syntax.specs.Metadata.{no_metadata, stability_of}
-use Rattle.wit_syntax.specs.Repeats.{firsts}
-use Rattle.wit_syntax.specs.ScopeTables.{in_order, in_turn, includes, interfaces_of, rows_of, worlds_of}
-use Rattle.wit_syntax.specs.ScopesOfTrees.{scope}
-use Rattle.wit_syntax.specs.Sides.{SideItem, SideFunction, SideLink, SideInline, all_scopes, inline_items, role_side, side_items}
-use Rattle.wit_syntax.specs.Source.{ForeignUse, Item, ScopeName, TopName, about, about_name, address, all_items, declared_metadata, foreign_uses, parts, path_id, path_scope, scope_names}
-use Rattle.wit_syntax.specs.Splitting.{IsJoined}
-use Rattle.wit_syntax.proofs.JoinedFiles.{AreAlike, alike_back, items_twins, joined_alike}
 use Rattle.wit_syntax.proofs.JoinedHeaders.{HaveSameHeaders, headers_back, joined_headers}
-use Rattle.wit_syntax.proofs.JoinedItems.{AreTwins, bare, inline_twins, names_of_bare, names_same, no_names, retop, twin_among, twins_back, twins_become, twins_inside, twins_make}
-use Rattle.wit_syntax.proofs.JoinedLists.{map-flat_map, map_by}
 use Rattle.wit_syntax.proofs.JoinedOrders.{order_onward}
 use Rattle.wit_syntax.proofs.JoinedTargets.{AreThemselves, included_same, used_same}
-use Rattle.wit_syntax.proofs.JoinedTrees.{foreign_uses_alike, scope_alike}
 use Rattle.wit_arena.specs.Made.{IsEntryOf, Makes, entries_on, foreign_interface, foreign_world, include_in, interface, interface_scopes, interface_turn, item_turns, name_imports, name_places, names_in_turn, own_interface, own_interfaces, own_world, function_in, scope_place, side_entries, turns_of_world, turns_on_sides, world, world_entries, world_scopes, entry}
 use Rattle.wit_arena.specs.Occurrences.{Def, Key, Occurrence, Whole, keys}
 use Rattle.wit_arena.specs.SideItems.{inline_entry, link_item, settled}

@@ -1,16 +1,7 @@
 -- Files that declare the same have the same first occurrences.
 use Rattle.std.proofs.Common.{◌≡◌, ℕ, List, [], ◌∷◌, ◌++◌, Some, sym, ap, ◌∙◌, subst}
-use Rattle.std.specs.Prelude.{slice_get, map}
-use Rattle.wit_tree.specs.declared.tree.PackageFile.{PackageFile}
-use Rattle.wit_graph.specs.Table.{IsOrder}
-use Rattle.wit_graph.proofs.Tables.{matched}
-use Rattle.wit_syntax.specs.Source.{Item, all_items, scope_names, ForeignUse, foreign_uses}
-use Rattle.wit_syntax.specs.ScopeTables.{interfaces_of, worlds_of, in_order, rows_of}
-use Rattle.wit_syntax.specs.Splitting.{IsJoined}
-use Rattle.wit_syntax.proofs.JoinedItems.{ArePlain, AreTwins}
-use Rattle.wit_syntax.proofs.JoinedFiles.{AreAlike, alike_back, items_twins, joined_alike}
+use Rattle.wit_syntax.proofs.Common.{AreAlike, ArePlain, AreTwins, ForeignUse, IsJoined, IsOrder, Item, PackageFile, alike_back, all_items, foreign_uses, foreign_uses_alike, in_order, interfaces_of, items_twins, joined_alike, map, matched, rows_of, scope_names, slice_get, worlds_of}
 use Rattle.wit_syntax.proofs.JoinedOrders.{order_onward}
-use Rattle.wit_syntax.proofs.JoinedTrees.{foreign_uses_alike}
 use Rattle.wit_arena.specs.Occurrences.{Occurrence, Collects}
 use Rattle.wit_arena.specs.Whole.{Ordered, OrderedWorld, AreOrdered, Turned, all_turns, foreign_use_occurrence, all_occurrences, AreFirstOccurrences}
 use Rattle.wit_arena.specs.SplitOccurrences.{HaveSameOccurrences}

@@ -1,13 +1,6 @@
 -- There is one list of what is first seen in files.
 use Rattle.std.proofs.Common.{◌≡◌, ℕ, zero, suc, ◌+◌, List, [], ◌∷◌, ◌++◌, length, Some, refl, sym, ap, ◌∙◌, subst}
-use Rattle.std.specs.Prelude.{slice_get, map}
-use Rattle.wit_tree.specs.declared.tree.PackageFile.{PackageFile}
-use Rattle.wit_graph.specs.Table.{IsOrder}
-use Rattle.wit_graph.proofs.SameEdges.{one_answer}
-use Rattle.wit_syntax.specs.Source.{Item, all_items, scope_names}
-use Rattle.wit_syntax.specs.ScopeTables.{item_rows, interfaces_of, worlds_of, in_order, rows_of}
-use Rattle.wit_syntax.specs.Sides.{inline_items}
-use Rattle.wit_syntax.proofs.Lists.{at_prefix, at_back}
+use Rattle.wit_syntax.proofs.Common.{IsOrder, Item, PackageFile, all_items, at_back, at_prefix, in_order, inline_items, interfaces_of, item_rows, map, one_answer, rows_of, scope_names, slice_get, worlds_of}
 use Rattle.wit_arena.specs.Occurrences.{Occurrence, Collects}
 use Rattle.wit_arena.specs.Whole.{Ordered, OrderedWorld, AreOrdered, all_inside, all_turns, all_occurrences, AreFirstOccurrences}
 use Rattle.wit_arena.proofs.JoinedWorlds.{HasInside}

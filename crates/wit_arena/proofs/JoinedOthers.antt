@@ -1,25 +1,11 @@
 -- Files that declare the same name the same of other packages, and require the same of them.
 use Rattle.std.proofs.Common.{◌≡◌, ℕ, not, List, Option, Some, None, ap, ◌∙◌}
-use Rattle.std.specs.Prelude.{if◌then◌else◌, map}
-use Rattle.std.specs.List.{filter}
-use Rattle.wit_values.specs.declared.span.Span.{Span}
-use Rattle.wit_type_tree.specs.declared.leaves.Id.{Id}
-use Rattle.wit_tree.specs.declared.tree.PackageFile.{PackageFile}
-use Rattle.wit_package_names.specs.declared.package_name.PackageName.{PackageName}
-use Rattle.wit_types.specs.declared.stability.Stability.{Stability}
+use Rattle.wit_syntax.proofs.Common.{Address, AreAlike, AtForeign, AtResource, ForeignUse, ForeignVisit, Id, PackageFile, PackageName, Span, Stability, filter, firsts, foreign_interfaces, foreign_uses_alike, foreign_worlds, if◌then◌else◌, map, package_of, same_address, same_foreign_use, same_item, same_package, stability_of, visited, visits_same}
 use Rattle.wit_model.specs.declared.ast_item.AstItem.{AstItem}
 use Rattle.wit_model.specs.declared.ast_item.AstItem.TheVariants as entry
 use Rattle.wit_model.specs.declared.interface.Interface.{Interface}
 use Rattle.wit_model.specs.declared.unresolved.UnresolvedPackage.{UnresolvedPackage}
-use Rattle.wit_syntax.specs.Address.{Address, same_package, same_address, package_of}
-use Rattle.wit_syntax.specs.Foreign.{ForeignVisit, visited, same_item, foreign_interfaces, foreign_worlds}
-use Rattle.wit_syntax.specs.Metadata.{stability_of}
-use Rattle.wit_syntax.specs.Repeats.{firsts}
-use Rattle.wit_syntax.specs.Source.{ForeignUse, same_foreign_use}
-use Rattle.wit_syntax.proofs.JoinedFiles.{AreAlike, visits_same}
-use Rattle.wit_syntax.proofs.JoinedTrees.{foreign_uses_alike}
 use Rattle.wit_syntax.proofs.JoinedLegal.{ends_onward}
-use Rattle.wit_syntax.specs.NameEnds.{AtResource, AtForeign}
 use Rattle.wit_arena.specs.Occurrences.{Key}
 use Rattle.wit_arena.specs.Whole.{foreign_place, HandleRequires, AreRequired}
 use Rattle.wit_arena.proofs.ByParts.{NamesOthers}

@@ -1,16 +1,7 @@
 -- Scopes with orders of their names, over items that are the same but for the names at the top of their files.
 use Rattle.std.proofs.Common.{◌≡◌, ℕ, suc, List, [], ◌∷◌, Bool, not, Option, Some, None, inl, inr, refl, sym, ap, ◌∙◌}
-use Rattle.std.specs.Prelude.{slice_get, map}
-use Rattle.std.specs.List.{filter, cons_option}
-use Rattle.std.specs.Option.{option_map}
-use Rattle.std.proofs.lemmas.Option.{slice_get-map}
-use Rattle.wit_syntax.specs.Source.{Declared, Item, ScopeName, scope_names, about}
-use Rattle.wit_syntax.specs.ScopeTables.{in_order, interfaces_of, worlds_of}
-use Rattle.wit_syntax.specs.Splitting.{declared_of}
-use Rattle.wit_syntax.proofs.Kept.{after_one, kept_at}
-use Rattle.wit_syntax.proofs.JoinedLists.{filter-map}
+use Rattle.wit_syntax.proofs.Common.{AreTwins, Declared, Item, ScopeName, about, after_one, bare, cons_option, declared_of, filter, filter-map, in_order, interfaces_of, kept_at, map, names_of_bare, option_map, scope_names, slice_get, slice_get-map, worlds_of}
 use Rattle.wit_syntax.proofs.JoinedTargets.{AreThemselves}
-use Rattle.wit_syntax.proofs.JoinedItems.{bare, AreTwins, names_of_bare}
 use Rattle.wit_arena.specs.Whole.{Ordered}
 use Rattle.wit_arena.proofs.Turns.{item_of}
 

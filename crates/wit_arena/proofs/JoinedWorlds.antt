@@ -1,16 +1,6 @@
 -- Worlds with orders of their names and what is written in them, over items that are the same but for the names at the top of their files.
 use Rattle.std.proofs.Common.{◌≡◌, ℕ, zero, suc, List, [], ◌∷◌, ◌++◌, Some, refl, sym, ap, ◌∙◌, subst}
-use Rattle.std.specs.Prelude.{slice_get, map}
-use Rattle.std.specs.List.{flat_map}
-use Rattle.std.proofs.lemmas.List.{map-append}
-use Rattle.wit_syntax.specs.Address.{Address}
-use Rattle.wit_syntax.specs.Function.{functions}
-use Rattle.wit_syntax.specs.Source.{Item, address, about}
-use Rattle.wit_syntax.specs.ScopeTables.{in_turn}
-use Rattle.wit_syntax.specs.Sides.{SideItem, SideFunction, SideLink, SideInline, side_items, inline_items}
-use Rattle.wit_syntax.proofs.Lists.{map_map}
-use Rattle.wit_syntax.proofs.JoinedLists.{flat_map_by, map-flat_map, flat_map-map}
-use Rattle.wit_syntax.proofs.JoinedItems.{bare, AreTwins, inline_twins}
+use Rattle.wit_syntax.proofs.Common.{Address, AreTwins, Item, SideFunction, SideInline, SideItem, SideLink, about, address, bare, flat_map, flat_map-map, flat_map_by, functions, in_turn, inline_items, inline_twins, map, map-append, map-flat_map, map_map, side_items, slice_get}
 use Rattle.wit_arena.specs.Whole.{Ordered, turned, Turned, OrderedWorld, side_turns, world_turns, all_turns, all_inside}
 use Rattle.wit_arena.proofs.JoinedTurns.{reordered, Stated, as_stated, stated_same, twins_first, twins_after, reordered_items, reordered_stated}
 use Rattle.wit_arena.proofs.Turns.{item_of, own_item, names_turn, function_turn}

@@ -1,9 +1,7 @@
 -- What occurs in types, by its keys.
 use Rattle.std.proofs.Common.{◌≡◌, [], ◌∷◌, ◌++◌, refl, ap, ◌∙◌}
-use Rattle.wit_types.specs.declared.stability.Stability.{Stability}
-use Rattle.wit_syntax.specs.Shape.{Shape, Shapes}
+use Rattle.wit_syntax.proofs.Common.{Address, Shape, Shapes, Stability}
 use Rattle.wit_syntax.specs.Shape as shape
-use Rattle.wit_syntax.specs.Address.{Address}
 use Rattle.wit_arena.specs.Expr.{expr_of, exprs_of}
 use Rattle.wit_arena.specs.Occurrences.{Whole, keys, shape_occurrences, shapes_occurrences}
 use Rattle.wit_arena.specs.Resolving.{seen, all_seen}

@@ -1,25 +1,11 @@
 -- A package knows an interface that is written in a world by the place where it is there.
 use Rattle.std.proofs.Common.{◌≡◌, ℕ, ◌+◌, true, false, List, [], length, Some, None, inl, inr, sym, ap, ◌∙◌, subst, eqb-true, eq-eqb, arith}
-use Rattle.std.specs.Option.{option_map}
-use Rattle.std.specs.Prelude.{slice_get, ◌++◌, map, take, nat_eq}
-use Rattle.std.specs.List.{flat_map}
-use Rattle.std.proofs.lemmas.Option.{slice_get_within}
+use Rattle.wit_syntax.proofs.Common.{Address, AllDiffer, Exported, Imported, InlineAt, Item, WorldSide, about, address, at_back, at_part, at_within, find_at, find_passes, find_some, flat_map, flat_map_at, flat_map_has, includes, inline_inside, inline_items, inline_items_at, interfaces_on, is_inside, item_name, map, nat_eq, option_map, side_items, slice_get, slice_get_within, take, ◌++◌}
 use Rattle.wit_functions.specs.declared.function.Function.{Function}
 use Rattle.wit_model.specs.declared.world.World.{World}
 use Rattle.wit_model.specs.declared.world.WorldKey.{WorldKey}
 use Rattle.wit_model.specs.declared.world.WorldItem.{WorldItem}
 use Rattle.wit_model.specs.declared.unresolved.UnresolvedPackage.{UnresolvedPackage}
-use Rattle.wit_tree.specs.declared.tree.WorldSide.{WorldSide}
-use Rattle.wit_tree.specs.declared.tree.WorldSide.TheVariants.{Imported, Exported}
-use Rattle.wit_syntax.specs.Address.{Address, InlineAt}
-use Rattle.wit_syntax.specs.Repeats.{AllDiffer}
-use Rattle.wit_syntax.specs.ScopeTables.{includes}
-use Rattle.wit_syntax.specs.Sides.{side_items, inline_items}
-use Rattle.wit_syntax.specs.Source.{Item, item_name, address, about}
-use Rattle.wit_syntax.proofs.Found.{find_at, find_passes, find_some}
-use Rattle.wit_syntax.proofs.Inline.{is_inside, inline_items_at, inline_inside, interfaces_on}
-use Rattle.wit_syntax.proofs.Lists.{at_back, at_within, flat_map_at, flat_map_has}
-use Rattle.wit_syntax.proofs.Turns.{at_part}
 use Rattle.wit_arena.specs.Occurrences.{Key}
 use Rattle.wit_arena.specs.OneByOne.{OneByOne}
 use Rattle.wit_arena.specs.UnfoldedTypes.{world_interfaces, world_types, inline_owner}

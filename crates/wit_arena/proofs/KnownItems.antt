@@ -1,22 +1,6 @@
 -- The items of a package in their orders: each is at its address, and no two are at one.
 use Rattle.std.proofs.Common.{◌≡◌, ℕ, suc, ◌+◌, List, [], ◌∷◌, ◌++◌, length, Option, Some, refl, sym, ap, ◌∙◌, subst, Contains}
-use Rattle.std.specs.Prelude.{slice_get, map, not}
-use Rattle.std.specs.Option.{option_map, option_map_or}
-use Rattle.std.proofs.lemmas.List.{map-append}
-use Rattle.std.proofs.lemmas.Option.{slice_get-map}
-use Rattle.wit_graph.specs.Table.{IsOrder}
-use Rattle.wit_tree.specs.declared.tree.PackageFile.{PackageFile}
-use Rattle.wit_syntax.specs.Address.{Address}
-use Rattle.wit_syntax.specs.Broken.{Names, Sides, IsLegal}
-use Rattle.wit_syntax.specs.Foreign.{visited, foreign_interfaces, foreign_worlds}
-use Rattle.wit_syntax.specs.Function.{SourceFunction, functions}
-use Rattle.wit_syntax.specs.Repeats.{AllDiffer}
-use Rattle.wit_syntax.specs.ScopeTables.{rows_of, in_order, interfaces_of, worlds_of}
-use Rattle.wit_syntax.specs.Sides.{FoldedTwice, all_scopes, function_key, inline_items, side_items}
-use Rattle.wit_syntax.specs.Source.{Item, ScopeName, address, all_items, is_world, item_at, scope_names}
-use Rattle.wit_syntax.specs.ScopesOfTrees.{scope}
-use Rattle.wit_syntax.proofs.Legal.{functions_differ, functions_items}
-use Rattle.wit_syntax.proofs.Lists.{at_prefix, at_back, map_map}
+use Rattle.wit_syntax.proofs.Common.{Address, AllDiffer, FoldedTwice, IsLegal, IsOrder, Item, Names, PackageFile, ScopeName, Sides, SourceFunction, address, all_items, all_scopes, at_back, at_prefix, foreign_interfaces, foreign_worlds, function_key, functions, functions_differ, functions_items, in_order, inline_items, interfaces_of, is_world, item_at, map, map-append, map_map, not, option_map, option_map_or, rows_of, scope, scope_names, side_items, slice_get, slice_get-map, visited, worlds_of}
 use Rattle.wit_arena.specs.Whole.{Ordered, OrderedWorld, AreOrdered, all_inside, functions_at, interface_addresses, ordered_names, world_addresses}
 use Rattle.wit_arena.proofs.Added.{inside_of, interface_list, world_list, all_addresses}
 use Rattle.wit_arena.proofs.DoneWorlds.{own_order}

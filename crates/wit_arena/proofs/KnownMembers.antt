@@ -1,21 +1,7 @@
 -- The scopes of a package are: all that occurs in files occurs in them, and each name of them means its place.
 use Rattle.std.proofs.Common.{◌≡◌, ℕ, suc, List, [], ◌∷◌, ◌++◌, Some, ◌⊎◌, inl, inr, refl, sym, ap, ◌∙◌, subst}
-use Rattle.std.specs.Prelude.{slice_get, map}
-use Rattle.std.specs.Option.{option_map}
-use Rattle.std.proofs.lemmas.Option.{slice_get-map}
-use Rattle.wit_tree.specs.declared.tree.PackageFile.{PackageFile}
+use Rattle.wit_syntax.proofs.Common.{Address, ForeignName, ForeignUse, Form, IsLegal, PackageFile, ScopeName, TypeOwner, at_prefix, firsts_has, foreign_interfaces, foreign_uses, local_name, lookup-place, map, option_map, same_foreign_use, scope, slice_get, slice_get-map, some_of, visited}
 use Rattle.wit_model.specs.declared.unresolved.UnresolvedPackage.{UnresolvedPackage}
-use Rattle.wit_types.specs.declared.types.TypeOwner.{TypeOwner}
-use Rattle.wit_syntax.specs.Address.{Address}
-use Rattle.wit_syntax.specs.Broken.{IsLegal}
-use Rattle.wit_syntax.specs.Foreign.{visited, foreign_interfaces}
-use Rattle.wit_syntax.specs.Form.{Form}
-use Rattle.wit_syntax.specs.Source.{ScopeName, ForeignName, ForeignUse, local_name, same_foreign_use, foreign_uses}
-use Rattle.wit_syntax.specs.ScopesOfTrees.{scope}
-use Rattle.wit_syntax.proofs.Firsts.{firsts_has}
-use Rattle.wit_syntax.proofs.Found.{some_of}
-use Rattle.wit_syntax.proofs.Lists.{at_prefix}
-use Rattle.wit_syntax.proofs.Names.{lookup-place}
 use Rattle.wit_arena.specs.Expr.{Exprs, expr_of, name_exprs}
 use Rattle.wit_arena.specs.Occurrences.{Key, Def, Whole, Occurrence, keys, Collects, Decls}
 use Rattle.wit_arena.specs.UnfoldedTypes.{names_of}

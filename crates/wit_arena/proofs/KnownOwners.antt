@@ -1,25 +1,10 @@
 -- At each address of a package is a scope that it knows by its place.
 use Rattle.std.proofs.Common.{◌≡◌, ℕ, ◌+◌, List, [], ◌++◌, length, Option, Some, None, inl, inr, refl, sym, ap, ◌∙◌, subst, arith}
-use Rattle.std.specs.Prelude.{slice_get, map}
-use Rattle.std.specs.Option.{option_map, option_or}
-use Rattle.std.proofs.lemmas.List.{length-map}
-use Rattle.std.proofs.lemmas.Option.{slice_get_within, slice_get-map}
-use Rattle.wit_tree.specs.declared.tree.PackageFile.{PackageFile}
+use Rattle.wit_syntax.proofs.Common.{Address, IsLegal, Item, PackageFile, SourceFunction, TypeOwner, about, address, all_items, at_back, at_prefix, at_split, at_within, flat_map_at, foreign_interfaces, foreign_worlds, functions, functions_items, in_order, includes, inline_interface, inline_items, interfaces_of, item_name, length-map, map, map_at, option_map, option_or, side_items, slice_get, slice_get-map, slice_get_within, visited}
 use Rattle.wit_model.specs.declared.interface.Interface.{Interface}
 use Rattle.wit_model.specs.declared.world.World.{World}
 use Rattle.wit_model.specs.declared.unresolved.UnresolvedPackage.{UnresolvedPackage}
-use Rattle.wit_types.specs.declared.types.TypeOwner.{TypeOwner}
 use Rattle.wit_types.specs.declared.types.TypeOwner.TheVariants as owner
-use Rattle.wit_syntax.specs.Address.{Address}
-use Rattle.wit_syntax.specs.Broken.{IsLegal}
-use Rattle.wit_syntax.specs.Foreign.{visited, foreign_interfaces, foreign_worlds}
-use Rattle.wit_syntax.specs.Function.{SourceFunction, functions}
-use Rattle.wit_syntax.specs.ScopeTables.{includes, in_order, interfaces_of}
-use Rattle.wit_syntax.specs.Sides.{inline_items, side_items}
-use Rattle.wit_syntax.specs.Source.{Item, address, all_items, item_name, about}
-use Rattle.wit_syntax.proofs.Inline.{inline_interface}
-use Rattle.wit_syntax.proofs.Legal.{functions_items}
-use Rattle.wit_syntax.proofs.Lists.{at_prefix, at_back, at_split, at_within, map_at, flat_map_at}
 use Rattle.wit_arena.specs.Occurrences.{Key, keys}
 use Rattle.wit_arena.specs.UnfoldedTypes.{inline_owner, world_functions, world_interfaces, world_types}
 use Rattle.wit_arena.specs.Whole.{Ordered, OrderedWorld, addresses, all_inside, interface_addresses, ordered_names, world_addresses}

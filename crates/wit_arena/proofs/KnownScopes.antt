@@ -1,29 +1,12 @@
 -- The scopes of a package: each has its names in turn and its functions, and the package knows it by an owner.
 use Rattle.std.proofs.Common.{◌≡◌, ℕ, ◌+◌, true, false, List, [], ◌∷◌, ◌++◌, length, Option, Some, None, refl, sym, ap, ◌∙◌}
-use Rattle.std.specs.Prelude.{slice_get, map}
-use Rattle.std.specs.List.{flat_map}
-use Rattle.std.specs.Option.{option_map_or, option_and_then, option_or}
-use Rattle.std.proofs.lemmas.List.{length-map}
-use Rattle.wit_names.specs.Label.{is_label}
-use Rattle.wit_tree.specs.declared.tree.PackageFile.{PackageFile}
-use Rattle.wit_tree.specs.declared.tree.WorldSide.TheVariants.{Imported, Exported}
+use Rattle.wit_syntax.proofs.Common.{Address, AllDiffer, Exported, ForeignVisit, Imported, IsLegal, PackageFile, TypeOwner, WorldNamed, address, at_back, at_prefix, differ_none, flat_map, foreign_interfaces, foreign_worlds, function_key, functions, functions_imported, is_label, is_world, length-map, map, option_and_then, option_map_or, option_or, slice_get, visited}
 use Rattle.wit_model.specs.declared.interface.Interface.{Interface}
 use Rattle.wit_model.specs.declared.world.World.{World}
 use Rattle.wit_model.specs.declared.world.WorldKey.{WorldKey}
 use Rattle.wit_model.specs.declared.world.WorldItem.{WorldItem}
 use Rattle.wit_model.specs.declared.unresolved.UnresolvedPackage.{UnresolvedPackage}
-use Rattle.wit_types.specs.declared.types.TypeOwner.{TypeOwner}
 use Rattle.wit_types.specs.declared.types.TypeOwner.TheVariants as owner
-use Rattle.wit_syntax.specs.Address.{Address, WorldNamed}
-use Rattle.wit_syntax.specs.Broken.{IsLegal}
-use Rattle.wit_syntax.specs.Foreign.{ForeignVisit, visited, foreign_interfaces, foreign_worlds}
-use Rattle.wit_syntax.specs.Function.{functions}
-use Rattle.wit_syntax.specs.Repeats.{AllDiffer}
-use Rattle.wit_syntax.specs.Sides.{function_key}
-use Rattle.wit_syntax.specs.Source.{address, is_world}
-use Rattle.wit_syntax.proofs.Lists.{at_prefix, at_back}
-use Rattle.wit_syntax.proofs.Repeated.{differ_none}
-use Rattle.wit_syntax.proofs.Sides.{functions_imported}
 use Rattle.wit_arena.specs.SourceFunctions.{AreFunctions}
 use Rattle.wit_arena.specs.Occurrences.{Key, keys}
 use Rattle.wit_arena.specs.UnfoldedTypes.{owner_of, names_of, functions_of, inline_owner, named_interface, named_world, interface_functions, interface_items, interfaces_from, import_types, item_functions, keyed, world_functions, world_interfaces, world_types}

@@ -1,24 +1,8 @@
 -- The scopes of a package are those that its interfaces and worlds are resolved as, one after another.
 use Rattle.std.proofs.Common.{◌≡◌, ℕ, zero, suc, ◌+◌, List, [], ◌∷◌, ◌++◌, length, Some, inl, inr, refl, ap, ◌∙◌, subst}
-use Rattle.std.specs.Prelude.{slice_get, map}
-use Rattle.std.specs.List.{flat_map}
-use Rattle.std.specs.Option.{option_map}
-use Rattle.std.proofs.lemmas.Option.{slice_get-map}
-use Rattle.wit_tree.specs.declared.tree.PackageFile.{PackageFile}
+use Rattle.wit_syntax.proofs.Common.{Address, IsLegal, PackageFile, ScopeName, SideFunction, SideInline, SideItem, SideLink, SourceFunction, TypeOwner, address, after_one, at_back, at_part, at_prefix, flat_map, flat_map_at, flat_map_has, foreign_interfaces, foreign_worlds, functions, functions_items, item_function, map, map_at, option_map, scope, side_items, slice_get, slice_get-map, visited}
 use Rattle.wit_model.specs.declared.unresolved.UnresolvedPackage.{UnresolvedPackage}
-use Rattle.wit_types.specs.declared.types.TypeOwner.{TypeOwner}
 use Rattle.wit_types.specs.declared.types.TypeOwner.TheVariants as owner
-use Rattle.wit_syntax.specs.Address.{Address}
-use Rattle.wit_syntax.specs.Broken.{IsLegal}
-use Rattle.wit_syntax.specs.Foreign.{visited, foreign_interfaces, foreign_worlds}
-use Rattle.wit_syntax.specs.Function.{SourceFunction, functions}
-use Rattle.wit_syntax.specs.Sides.{SideItem, SideFunction, SideLink, SideInline, item_function, side_items}
-use Rattle.wit_syntax.specs.Source.{ScopeName, address}
-use Rattle.wit_syntax.specs.ScopesOfTrees.{scope}
-use Rattle.wit_syntax.proofs.Kept.{after_one}
-use Rattle.wit_syntax.proofs.Legal.{functions_items}
-use Rattle.wit_syntax.proofs.Lists.{at_prefix, at_back, map_at, flat_map_at, flat_map_has}
-use Rattle.wit_syntax.proofs.Turns.{at_part}
 use Rattle.wit_arena.specs.Occurrences.{Key, keys}
 use Rattle.wit_arena.specs.Whole.{Ordered, OrderedWorld, Turned, addresses, all_inside, all_turns, functions_at, interface_addresses, ordered_names, side_turns, turned, world_addresses, world_turns}
 use Rattle.wit_arena.proofs.ByParts.{IsPackage}

@@ -1,38 +1,8 @@
 -- Where the paths of items lead.
 use Rattle.std.proofs.Common.{◌≡◌, ℕ, ◌<◌, Bool, true, false, List, ◌++◌, take, drop, Option, Some, None, ◌⊎◌, inl, inr, refl, sym, ap, ◌∙◌, subst, arith, Contains}
-use Rattle.std.specs.Prelude.{if◌then◌else◌, slice_get, slice_index, map}
-use Rattle.std.specs.List.{filter}
-use Rattle.std.specs.Option.{option_map}
-use Rattle.std.specs.Str.{bytes_eq}
-use Rattle.std.proofs.lemmas.List.{take-append-drop}
-use Rattle.std.proofs.lemmas.List.Elements.{filter-append}
-use Rattle.std.proofs.lemmas.Option.{slice_get-get_or, slice_get_within, get_or_from_slice_get}
-use Rattle.wit_type_tree.specs.declared.leaves.Id.{Id}
-use Rattle.wit_tree.specs.declared.tree.UsePath.{UsePath}
-use Rattle.wit_tree.specs.declared.tree.Use.{Use}
-use Rattle.wit_type_tree.specs.declared.leaves.Attribute.{Attribute}
-use Rattle.wit_tree.specs.declared.tree.UseName.{UseName}
-use Rattle.wit_tree.specs.declared.tree.PackageFile.{PackageFile}
-use Rattle.wit_package_names.specs.declared.package_name.PackageName.{PackageName}
-use Rattle.wit_graph.specs.Table.{Row, target, IsEdge, Leads, IsOrder}
-use Rattle.wit_graph.proofs.Tables.{slice_get-take}
-use Rattle.wit_syntax.specs.Address.{Address, InterfaceNamed, ForeignNamed, is_foreign}
-use Rattle.wit_syntax.specs.Source.{TopName, UsePart, Target, Local, Foreign, leads, path_scope, Item, Used, all_items, item_name, is_world, parts, item_named, scope_names, use_of_foreign, foreign_uses, target_scope}
-use Rattle.wit_syntax.specs.Foreign.{ForeignVisit, visited, foreign_interfaces}
-use Rattle.wit_syntax.specs.ScopeTables.{in_order, use_paths, include_paths, needed_paths, local_target, item_row, item_rows, uses}
-use Rattle.wit_syntax.specs.Sides.{with_inline, all_scopes}
-use Rattle.wit_syntax.specs.Broken.{is_world_at}
+use Rattle.wit_syntax.proofs.Common.{Address, AllDiffer, Attribute, Foreign, ForeignNamed, ForeignVisit, Id, InterfaceNamed, IsEdge, IsOrder, Item, Leads, Local, PackageFile, PackageName, Row, Target, TopName, Use, UseName, UsePart, UsePath, Used, all_items, all_scopes, at_contains, at_prefix, at_within, bytes_eq, contains_at, filter, filter-append, find_at, find_passes, flat_map_at, flat_map_has, foreign_interfaces, foreign_uses, get_or_from_slice_get, if◌then◌else◌, in_order, in_order-append, in_order_has, include_paths, is_foreign, is_world, is_world_at, item_name, item_named, item_row, item_row_at, item_rows, kept_has, leads, local_target, map, name_equal, needed_paths, option_map, parts, path_scope, place_of-Some, scope_names, slice_get, slice_get-get_or, slice_get-take, slice_get_within, slice_index, some_of, take-append-drop, target, target_scope, use_of_foreign, use_paths, uses, visited, with_inline, with_uses}
 use Rattle.wit_arena.specs.ResolvedArenas.{AreUsableUses}
-use Rattle.wit_syntax.specs.Repeats.{AllDiffer}
-use Rattle.wit_syntax.proofs.Lists.{at_prefix, at_within, flat_map_at, flat_map_has}
-use Rattle.wit_syntax.proofs.Names.{name_equal}
-use Rattle.wit_syntax.proofs.Tables.{place_of-Some}
-use Rattle.wit_syntax.proofs.Orders.{in_order-append, in_order_has}
-use Rattle.wit_syntax.proofs.Found.{at_contains, contains_at, some_of, find_at, find_passes}
-use Rattle.wit_syntax.proofs.Kept.{kept_has}
-use Rattle.wit_syntax.proofs.Inline.{with_uses}
 use Rattle.wit_arena.proofs.Itemizing.{named_found, used_part, length-item_rows}
-use Rattle.wit_syntax.proofs.Rows.{item_row_at}
 use Rattle.wit_arena.proofs.Visits.{use_at, use_path_at, used_interface_visit}
 use Rattle.wit_arena.proofs.ForeignUses.{foreign_use_has}
 

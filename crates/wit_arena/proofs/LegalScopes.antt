@@ -1,27 +1,7 @@
 -- What files that break no rule say of names and of uses: no two names of a scope are one, and uses lead to interfaces.
 use Rattle.std.proofs.Common.{◌≡◌, ℕ, zero, suc, true, false, List, [], ◌++◌, Option, Some, None, inl, inr, refl, sym, ap, ◌∙◌, Contains}
-use Rattle.std.specs.Prelude.{slice_get, map}
-use Rattle.std.specs.Option.{option_map, option_map_or}
-use Rattle.std.proofs.lemmas.Bool.{cases_Bool}
-use Rattle.std.proofs.lemmas.Option.{slice_get-map}
-use Rattle.wit_tree.specs.declared.tree.PackageFile.{PackageFile}
-use Rattle.wit_tree.specs.declared.tree.Use.{Use as WrittenUse}
-use Rattle.wit_syntax.specs.Address.{Address, InterfaceNamed, WorldNamed, InlineAt, ForeignNamed, same_address}
-use Rattle.wit_syntax.specs.Bodies.{IsSecond}
-use Rattle.wit_syntax.specs.Broken.{is_world_at, IsBrokenNames, DuplicateItem, Items, DefinedTwice, MissingUse, WorldUsed, Scope, Use, IsLegal}
-use Rattle.wit_syntax.specs.ExternPart.{extern_paths, inline_uses}
-use Rattle.wit_syntax.specs.Fault.{Fault, missing_at, item_word, item_twice, name_twice, world_there}
-use Rattle.wit_syntax.specs.Foreign.{foreign_at, ForeignVisit}
-use Rattle.wit_syntax.specs.Repeats.{AllDiffer}
-use Rattle.wit_syntax.specs.ScopeTables.{AreDistinct, used, defined, use_path, use_paths, part_uses, uses}
-use Rattle.wit_syntax.specs.Sides.{all_scopes}
-use Rattle.wit_syntax.specs.Source.{Part, DefinitionPart, UsePart, IncludePart, FunctionPart, ExternPart, Target, Local, Foreign, Item, address, all_items, item_at, item_name, item_named, is_world, leads, local_id, local_name, parts, path_id, scope_names, about}
-use Rattle.wit_syntax.specs.ScopesOfTrees.{scope}
-use Rattle.wit_syntax.proofs.Found.{at_contains, contains_at, find_at}
-use Rattle.wit_syntax.proofs.Legal.{three_ways}
-use Rattle.wit_syntax.proofs.Lists.{at_prefix, flat_map_at, flat_map_has}
-use Rattle.wit_syntax.proofs.Repeated.{differ_by}
-use Rattle.wit_syntax.proofs.Turns.{distinct_names, distinct_none}
+use Rattle.wit_syntax.proofs.Common.{Address, AllDiffer, AreDistinct, DefinedTwice, DefinitionPart, DuplicateItem, ExternPart, Fault, Foreign, ForeignNamed, ForeignVisit, FunctionPart, IncludePart, InlineAt, InterfaceNamed, IsBrokenNames, IsLegal, IsSecond, Item, Items, Local, MissingUse, PackageFile, Part, Scope, Target, Use as WrittenUse, UsePart, WorldNamed, WorldUsed, about, address, all_items, all_scopes, at_contains, at_prefix, cases_Bool, contains_at, defined, differ_by, distinct_names, distinct_none, extern_paths, find_at, flat_map_at, flat_map_has, foreign_at, inline_uses, is_world, is_world_at, item_at, item_name, item_named, item_twice, item_word, leads, local_id, local_name, map, missing_at, name_twice, option_map, option_map_or, part_uses, parts, path_id, same_address, scope, scope_names, slice_get, slice_get-map, three_ways, use_path, use_paths, used, uses, world_there}
+use Rattle.wit_syntax.specs.Broken.{Use}
 use Rattle.wit_arena.specs.ResolvedArenas.{AreUsableUses}
 use Rattle.wit_arena.proofs.ForeignUses.{used_distinct}
 use Rattle.wit_arena.proofs.Visits.{visit_listed, foreign_at-visited, leads_visited}

@@ -93,3 +93,4 @@ pub mod OneMadeTurns
 pub mod OneMadeOrders
 pub mod OneMadeArena
 pub mod OneMade
+pub mod Common

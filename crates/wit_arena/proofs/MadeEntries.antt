@@ -1,24 +1,8 @@
 -- Where a function gives the place of each key, each entry of the arena of types is stated.
 use Rattle.std.proofs.Common.{◌≡◌, ℕ, List, ◌∷◌, length, take, Option, Some, None, sym, ap, ◌∙◌}
-use Rattle.std.specs.Prelude.{slice_get, map}
-use Rattle.std.specs.Option.{option_map}
-use Rattle.std.proofs.lemmas.List.{length-map}
-use Rattle.std.proofs.lemmas.Option.{slice_get-map}
-use Rattle.wit_values.specs.declared.span.Span.{Span}
-use Rattle.wit_tree.specs.declared.tree.PackageFile.{PackageFile}
-use Rattle.wit_types.specs.declared.docs.Docs.{Docs}
-use Rattle.wit_types.specs.declared.stability.Stability.{Stability}
-use Rattle.wit_types.specs.declared.types.TypeDef.{TypeDef}
-use Rattle.wit_types.specs.declared.types.TypeDefKind.{TypeDefKind}
-use Rattle.wit_types.specs.declared.types.TypeOwner.{TypeOwner}
+use Rattle.wit_syntax.proofs.Common.{Address, Docs, Form, Metadata, PackageFile, Span, Stability, TypeDef, TypeDefKind, TypeOwner, about_name, contains_at, first_known, length-map, map, no_docs, option_map, scope, slice_get, slice_get-map}
 use Rattle.wit_types.specs.declared.types.TypeOwner.TheVariants as owner
 use Rattle.wit_types.specs.declared.types.«Type».{«Type» as Ty}
-use Rattle.wit_syntax.specs.Address.{Address}
-use Rattle.wit_syntax.specs.Form.{Form}
-use Rattle.wit_syntax.specs.Metadata.{Metadata, no_docs, first_known}
-use Rattle.wit_syntax.specs.Source.{about_name}
-use Rattle.wit_syntax.specs.ScopesOfTrees.{scope}
-use Rattle.wit_syntax.proofs.Found.{contains_at}
 use Rattle.wit_arena.specs.Expr.{Exprs, name_exprs}
 use Rattle.wit_arena.specs.Kind.{Kind, kind_of}
 use Rattle.wit_arena.specs.Made.{types_of, entry, IsEntryOf}

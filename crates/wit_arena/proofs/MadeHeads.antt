@@ -1,16 +1,8 @@
 -- The name of a package, and where it is written, as values.
 use Rattle.std.proofs.Common.{◌≡◌, ℕ, List, Option, Some, None, refl, sym, ap, ◌∙◌}
-use Rattle.std.specs.Option.{option_map}
-use Rattle.semver.specs.Identifiers.{parts_of, pre_text, build_text}
-use Rattle.semver.specs.declared.Version.{Version}
-use Rattle.wit_values.specs.ReleaseText.{release_parts}
-use Rattle.wit_values.specs.declared.release.Release.{Release}
-use Rattle.wit_tree.specs.declared.tree.PackageFile.{PackageFile}
+use Rattle.wit_syntax.proofs.Common.{PackageFile, PackageName, Release, Version, build_text, last_header, option_map, package_of, parts_of, pre_text, release_of, release_parts}
 use Rattle.wit_tree.specs.declared.tree.PackageName.{PackageName as Header}
-use Rattle.wit_package_names.specs.declared.package_name.PackageName.{PackageName}
 use Rattle.wit_model.specs.declared.unresolved.UnresolvedPackage.{UnresolvedPackage}
-use Rattle.wit_syntax.specs.Address.{package_of, release_of}
-use Rattle.wit_syntax.specs.Broken.{last_header}
 use Rattle.wit_arena.proofs.ByParts.{IsPackage}
 
 abbrev release : ℕ → ℕ → ℕ → List ℕ → List ℕ → Release

@@ -1,18 +1,9 @@
 -- Where a function gives the place of each key, each interface of the package is stated.
 use Rattle.std.proofs.Common.{◌≡◌, ℕ, List, [], Option, Some, None, ap, ◌∙◌}
-use Rattle.wit_values.specs.declared.span.Span.{Span}
-use Rattle.wit_types.specs.declared.docs.Docs.{Docs}
-use Rattle.wit_types.specs.declared.stability.Stability.{Stability}
-use Rattle.wit_tree.specs.declared.tree.PackageFile.{PackageFile}
+use Rattle.wit_syntax.proofs.Common.{Address, Docs, ForeignVisit, Metadata, PackageFile, Span, Stability, about, address, declared_metadata, functions as item_functions, map_map, no_metadata}
 use Rattle.wit_functions.specs.declared.function.Function.{Function}
 use Rattle.wit_functions.specs.SettersPlaced.{placed}
 use Rattle.wit_model.specs.declared.interface.Interface.{Interface}
-use Rattle.wit_syntax.specs.Address.{Address}
-use Rattle.wit_syntax.specs.Foreign.{ForeignVisit}
-use Rattle.wit_syntax.specs.Function.{functions as item_functions}
-use Rattle.wit_syntax.specs.Metadata.{Metadata, no_metadata}
-use Rattle.wit_syntax.specs.Source.{address, about, declared_metadata}
-use Rattle.wit_syntax.proofs.Lists.{map_map}
 use Rattle.wit_arena.specs.SourceFunctions.{by_name, placed_functions}
 use Rattle.wit_arena.specs.Made.{function_in, interface, foreign_interface, name_places, names_in_turn, own_interface}
 use Rattle.wit_arena.specs.Occurrences.{Key}

@@ -1,14 +1,7 @@
 -- Functions of a package that are on a side.
 use Rattle.std.proofs.Common.{◌≡◌, ℕ, zero, suc, Bool, true, false, List, [], ◌∷◌, Some, inl, inr, refl, sym, ap, ◌∙◌}
-use Rattle.std.specs.Prelude.{slice_get, if◌then◌else◌}
-use Rattle.std.proofs.lemmas.Bool.{cases_Bool, cond-true, cond-false}
-use Rattle.wit_tree.specs.declared.tree.WorldSide.{WorldSide}
+use Rattle.wit_syntax.proofs.Common.{SourceFunction, WorldSide, after_one, cases_Bool, cond-false, cond-true, if◌then◌else◌, role_side, same_side, same_side-equal, side_itself, slice_get}
 use Rattle.wit_functions.specs.declared.function.Function.{Function}
-use Rattle.wit_syntax.specs.Function.{SourceFunction}
-use Rattle.wit_syntax.specs.ExternPart.{same_side}
-use Rattle.wit_syntax.specs.Sides.{role_side}
-use Rattle.wit_syntax.proofs.Kept.{after_one}
-use Rattle.wit_syntax.proofs.Addresses.{side_itself, same_side-equal}
 
 -- those functions of a package that are on a side, where these are the written ones
 abbrev pub made_on : WorldSide → List SourceFunction → List Function → List Function

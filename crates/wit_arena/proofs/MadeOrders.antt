@@ -1,26 +1,6 @@
 -- The orders of the names of scopes, given by their addresses.
 use Rattle.std.proofs.Common.{◌≡◌, ℕ, ◌+◌, List, [], ◌++◌, length, Some, inl, inr, refl, sym, ap, ◌∙◌, subst, Contains}
-use Rattle.std.specs.Prelude.{slice_get, map, not, find}
-use Rattle.std.specs.List.{flat_map}
-use Rattle.std.specs.Option.{option_map_or}
-use Rattle.std.proofs.lemmas.Bool.{cases_Bool}
-use Rattle.std.proofs.lemmas.List.{map-append}
-use Rattle.wit_graph.specs.Table.{IsOrder}
-use Rattle.wit_tree.specs.declared.tree.PackageFile.{PackageFile}
-use Rattle.wit_syntax.specs.Address.{Address, same_address}
-use Rattle.wit_syntax.specs.Broken.{IsLegal}
-use Rattle.wit_syntax.specs.Repeats.{AllDiffer}
-use Rattle.wit_syntax.specs.ScopeTables.{rows_of, in_order, interfaces_of, worlds_of}
-use Rattle.wit_syntax.specs.Sides.{all_scopes, inline_items}
-use Rattle.wit_syntax.specs.Source.{Item, address, all_items, is_world, scope_names}
-use Rattle.wit_syntax.proofs.Addresses.{same_address-itself, same_address-equal}
-use Rattle.wit_syntax.proofs.Found.{at_contains, find_at, find_passes, find_some}
-use Rattle.wit_syntax.proofs.Inline.{inline_items_none}
-use Rattle.wit_syntax.proofs.Kept.{kept_has}
-use Rattle.wit_syntax.proofs.Lists.{at_prefix, at_back, flat_map_has, map_at, map_map}
-use Rattle.wit_syntax.proofs.Repeated.{differ_at, differ_join}
-use Rattle.wit_syntax.proofs.Scopes.{scopes_either}
-use Rattle.wit_syntax.proofs.Turns.{at_part}
+use Rattle.wit_syntax.proofs.Common.{Address, AllDiffer, IsLegal, IsOrder, Item, PackageFile, address, all_items, all_scopes, at_back, at_contains, at_part, at_prefix, cases_Bool, differ_at, differ_join, find, find_at, find_passes, find_some, flat_map, flat_map_has, in_order, inline_items, inline_items_none, interfaces_of, is_world, kept_has, map, map-append, map_at, map_map, not, option_map_or, rows_of, same_address, same_address-equal, same_address-itself, scope_names, scopes_either, slice_get, worlds_of}
 use Rattle.wit_arena.specs.Made.{own_interfaces, interface_scopes, world_scopes, AreInOrder, AreNamesInOrder}
 use Rattle.wit_arena.specs.Whole.{Ordered, OrderedWorld, AreOrdered, addresses, all_inside, interface_addresses, world_addresses}
 use Rattle.wit_arena.proofs.DoneWorlds.{own_order}

@@ -1,17 +1,7 @@
 -- Of legal files, a package that is given by its relations is what they make.
 use Rattle.std.proofs.Common.{◌≡◌, ℕ, List, ◌++◌, Some, refl, sym, ap, ◌∙◌, subst}
-use Rattle.std.specs.Prelude.{slice_get, map, take}
-use Rattle.std.specs.List.{flat_map, position_or_len}
-use Rattle.wit_tree.specs.declared.tree.PackageFile.{PackageFile}
-use Rattle.wit_types.specs.declared.types.TypeDef.{TypeDef}
+use Rattle.wit_syntax.proofs.Common.{Address, IsLegal, Item, PackageFile, TypeDef, all_items, firsts, flat_map, foreign_interfaces, foreign_worlds, in_order, map, position_or_len, scope, slice_get, take, worlds_of}
 use Rattle.wit_model.specs.declared.unresolved.UnresolvedPackage.{UnresolvedPackage}
-use Rattle.wit_syntax.specs.Address.{Address}
-use Rattle.wit_syntax.specs.Broken.{IsLegal}
-use Rattle.wit_syntax.specs.Foreign.{foreign_interfaces, foreign_worlds}
-use Rattle.wit_syntax.specs.Repeats.{firsts}
-use Rattle.wit_syntax.specs.ScopeTables.{in_order, worlds_of}
-use Rattle.wit_syntax.specs.Source.{Item, all_items}
-use Rattle.wit_syntax.specs.ScopesOfTrees.{scope}
 use Rattle.wit_arena.specs.Occurrences.{Key, Occurrence, keys}
 use Rattle.wit_arena.specs.Made.{IsEntryOf, Makes, foreign_interface, foreign_world, own_interface, own_interfaces, own_world, interface_scopes, world_scopes, item_turns}
 use Rattle.wit_arena.specs.Whole.{Ordered, OrderedWorld, all_inside, all_occurrences, all_turns, interface_addresses, owner_at, turn_handles, world_addresses, AreRequired}

@@ -1,13 +1,6 @@
 -- The scopes of a package differ, so each has one place.
 use Rattle.std.proofs.Common.{◌≡◌, ℕ, List, not, Option, Some, sym, ap, subst}
-use Rattle.std.specs.Prelude.{slice_get}
-use Rattle.std.specs.Option.{unwrap_or}
-use Rattle.wit_tree.specs.declared.tree.PackageFile.{PackageFile}
-use Rattle.wit_syntax.specs.Address.{Address}
-use Rattle.wit_syntax.specs.Broken.{Names, IsLegal}
-use Rattle.wit_syntax.specs.Repeats.{AllDiffer}
-use Rattle.wit_syntax.specs.ScopeTables.{interfaces_of, worlds_of}
-use Rattle.wit_syntax.specs.Source.{Item, is_world}
+use Rattle.wit_syntax.proofs.Common.{Address, AllDiffer, IsLegal, Item, Names, PackageFile, interfaces_of, is_world, slice_get, unwrap_or, worlds_of}
 use Rattle.wit_arena.specs.Made.{AreInOrder, interface_scopes, world_scopes, scope_place}
 use Rattle.wit_arena.proofs.Added.{all_addresses}
 use Rattle.wit_arena.proofs.Interfaces.{AreAddresses, AreItems, interfaces_sort, worlds_sort, items_kept, place_at-found}

@@ -1,18 +1,11 @@
 -- What is on a side of a world is what the written ones make there.
 use Rattle.std.proofs.Common.{◌≡◌, ℕ, Bool, true, false, cond, List, [], ◌∷◌, Some, None, refl, sym, ap, ◌∙◌}
-use Rattle.std.specs.Prelude.{slice_get, map}
-use Rattle.std.specs.List.{cons_option, flat_map}
-use Rattle.wit_tree.specs.declared.tree.WorldSide.{WorldSide}
+use Rattle.wit_syntax.proofs.Common.{Address, Item, SideFunction, SideInline, SideItem, SideLink, SourceFunction, TopName, WorldSide, address, cons_option, flat_map, item_function, map, path_scope, role_side, same_side, slice_get}
 use Rattle.wit_functions.specs.declared.function.Function.{Function}
 use Rattle.wit_model.specs.declared.world.WorldKey.{WorldKey}
 use Rattle.wit_model.specs.declared.world.WorldKey.TheVariants as key
 use Rattle.wit_model.specs.declared.world.WorldItem.{WorldItem}
 use Rattle.wit_model.specs.declared.world.WorldItem.TheVariants as item
-use Rattle.wit_syntax.specs.Address.{Address}
-use Rattle.wit_syntax.specs.ExternPart.{same_side}
-use Rattle.wit_syntax.specs.Function.{SourceFunction}
-use Rattle.wit_syntax.specs.Sides.{role_side, SideItem, SideFunction, SideLink, SideInline, item_function}
-use Rattle.wit_syntax.specs.Source.{Item, TopName, address, path_scope}
 use Rattle.wit_arena.specs.Made.{scope_place, side_entries, entries_on}
 use Rattle.wit_arena.specs.SideItems.{AreSideItems, put_on, link_item, inline_entry}
 

@@ -1,17 +1,6 @@
 -- What is resolved in turn, given by the items and the orders of their names.
 use Rattle.std.proofs.Common.{◌≡◌, ℕ, suc, ◌+◌, List, [], ◌∷◌, ◌++◌, length, Some, refl, ap, ◌∙◌}
-use Rattle.std.specs.Prelude.{slice_get, map}
-use Rattle.std.specs.List.{flat_map}
-use Rattle.std.specs.Option.{option_map}
-use Rattle.std.proofs.lemmas.Option.{slice_get-map}
-use Rattle.wit_tree.specs.declared.tree.PackageFile.{PackageFile}
-use Rattle.wit_syntax.specs.Address.{Address}
-use Rattle.wit_syntax.specs.Broken.{IsLegal}
-use Rattle.wit_syntax.specs.Function.{SourceFunction, functions}
-use Rattle.wit_syntax.specs.ScopeTables.{in_order, in_turn, interfaces_of}
-use Rattle.wit_syntax.specs.Sides.{SideItem, SideFunction, SideLink, SideInline, inline_items, side_items}
-use Rattle.wit_syntax.specs.Source.{Item, ScopeName, address, all_items, scope_names}
-use Rattle.wit_syntax.proofs.Lists.{at_prefix, at_back, flat_map_has}
+use Rattle.wit_syntax.proofs.Common.{Address, IsLegal, Item, PackageFile, ScopeName, SideFunction, SideInline, SideItem, SideLink, SourceFunction, address, all_items, at_back, at_prefix, flat_map, flat_map_has, functions, in_order, in_turn, inline_items, interfaces_of, map, option_map, scope_names, side_items, slice_get, slice_get-map}
 use Rattle.wit_arena.specs.Made.{names_in_turn, interface_turn, turns_on_sides, turns_of_world, item_turns}
 use Rattle.wit_arena.specs.Whole.{Ordered, OrderedWorld, Turned, AreOrdered, ordered_names, turned, side_turns, world_turns, all_turns, all_inside}
 use Rattle.wit_arena.proofs.DoneWorlds.{own_order}

@@ -1,13 +1,6 @@
 -- Where a function gives the place of each key, and scopes are where they are stated to, each world of the package is stated.
 use Rattle.std.proofs.Common.{◌≡◌, ℕ, List, [], ◌∷◌, ◌++◌, Option, refl, sym, ap, ◌∙◌, subst}
-use Rattle.std.specs.Prelude.{map}
-use Rattle.std.specs.List.{flat_map}
-use Rattle.wit_values.specs.declared.span.Span.{Span}
-use Rattle.wit_types.specs.declared.docs.Docs.{Docs}
-use Rattle.wit_types.specs.declared.stability.Stability.{Stability}
-use Rattle.wit_tree.specs.declared.tree.Include.{Include}
-use Rattle.wit_tree.specs.declared.tree.WorldSide.{WorldSide}
-use Rattle.wit_tree.specs.declared.tree.WorldSide.TheVariants.{Imported, Exported}
+use Rattle.wit_syntax.proofs.Common.{Address, Docs, Exported, ForeignVisit, Imported, Include, Item, Metadata, ScopeName, Span, Stability, TopName, WorldNamed, WorldSide, about, address, declared_metadata, flat_map, functions as item_functions, functions_items, includes, inline_items, item_function, leads, local_id, local_name, map, no_metadata, side_items, target_scope}
 use Rattle.wit_functions.specs.declared.function.Function.{Function}
 use Rattle.wit_model.specs.declared.world.IncludeName.{IncludeName}
 use Rattle.wit_model.specs.declared.world.World.{World}
@@ -16,14 +9,6 @@ use Rattle.wit_model.specs.declared.world.WorldItem.{WorldItem}
 use Rattle.wit_model.specs.declared.world.WorldItem.TheVariants.{Type_}
 use Rattle.wit_model.specs.declared.world.WorldKey.{WorldKey}
 use Rattle.wit_model.specs.declared.world.WorldKey.TheVariants as key
-use Rattle.wit_syntax.specs.Address.{Address, WorldNamed}
-use Rattle.wit_syntax.specs.Foreign.{ForeignVisit}
-use Rattle.wit_syntax.specs.Function.{functions as item_functions}
-use Rattle.wit_syntax.specs.Metadata.{Metadata, no_metadata}
-use Rattle.wit_syntax.specs.ScopeTables.{includes}
-use Rattle.wit_syntax.specs.Sides.{item_function, side_items, inline_items}
-use Rattle.wit_syntax.specs.Source.{Item, TopName, ScopeName, address, about, declared_metadata, leads, local_id, local_name, target_scope}
-use Rattle.wit_syntax.proofs.Legal.{functions_items}
 use Rattle.wit_arena.specs.Made.{function_in, name_places, names_in_turn, entries_on, name_imports, include_in, world, foreign_world, world_entries, own_world}
 use Rattle.wit_arena.specs.Occurrences.{Key, Def}
 use Rattle.wit_arena.specs.UnfoldedTypes.{IsWorld, IsForeignWorld, world_types}

@@ -1,17 +1,8 @@
 -- What names mean in a scope, and what its table has for them.
 use Rattle.std.proofs.Common.{◌≡◌, ℕ, List, Option, Some, None, IsSome, ap, ◌∙◌, subst}
-use Rattle.std.specs.Prelude.{slice_get, map}
-use Rattle.std.specs.Option.{option_map}
-use Rattle.std.specs.Str.{bytes_eq}
-use Rattle.std.proofs.lemmas.Option.{slice_get-map}
-use Rattle.wit_graph.specs.Table.{IsOrder}
-use Rattle.wit_syntax.specs.Source.{ScopeName, local_name, meaning}
-use Rattle.wit_syntax.specs.ScopeTables.{rows_of, in_turn, local_names}
+use Rattle.wit_syntax.proofs.Common.{IsOrder, ScopeName, bytes_eq, find_at, find_passes, in_turn, in_turn_has, local_name, local_names, map, meaning, name_equal, option_map, rows_of, slice_get, slice_get-map}
 use Rattle.wit_arena.specs.Resolving.{Names, env_of}
-use Rattle.wit_syntax.proofs.Names.{name_equal}
-use Rattle.wit_syntax.proofs.Found.{find_passes, find_at}
 use Rattle.wit_arena.proofs.Leading.{option_cases}
-use Rattle.wit_syntax.proofs.Turns.{in_turn_has}
 use Rattle.wit_arena.proofs.UsePart.{lookup-listed}
 
 -- a table that has the names of a scope, in whichever order

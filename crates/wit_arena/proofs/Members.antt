@@ -1,23 +1,12 @@
 -- What is once some scopes are done.
 use Rattle.std.proofs.Common.{◌≡◌, ℕ, List, [], Some}
-use Rattle.std.specs.Prelude.{slice_get, map}
-use Rattle.wit_tree.specs.declared.tree.PackageFile.{PackageFile}
-use Rattle.wit_types.specs.declared.types.TypeDef.{TypeDef}
-use Rattle.wit_types.specs.declared.types.TypeOwner.{TypeOwner}
-use Rattle.wit_syntax.specs.Form.{Form}
-use Rattle.wit_syntax.specs.Address.{Address}
-use Rattle.wit_syntax.specs.Source.{ScopeName, local_name}
-use Rattle.wit_syntax.specs.ScopesOfTrees.{scope}
+use Rattle.wit_syntax.proofs.Common.{Address, AllDiffer, AreDistinct, Form, FunctionKey, PackageFile, ScopeName, SourceFunction, TypeDef, TypeOwner, local_name, local_names, map, scope, slice_get}
 use Rattle.wit_arena.specs.Expr.{Exprs, name_exprs}
 use Rattle.wit_arena.specs.Occurrences.{Def, Whole, Occurrence, keys, Collects, Decls, IsOccurrence}
-use Rattle.wit_syntax.specs.Repeats.{AllDiffer}
 use Rattle.wit_functions.specs.declared.function.Function.{Function}
-use Rattle.wit_syntax.specs.Function.{SourceFunction}
-use Rattle.wit_syntax.specs.Sides.{FunctionKey}
 use Rattle.wit_arena.specs.SourceFunctions.{AreFunctions}
 use Rattle.wit_arena.specs.Whole.{Turned, functions_at, turn_handles, AreRequired}
 use Rattle.wit_arena.specs.Resolving.{Names, ResolvedScope, Required, env_of, all_seen, AreNames}
-use Rattle.wit_syntax.specs.ScopeTables.{AreDistinct, local_names}
 use Rattle.wit_arena.proofs.Occurrence.{Has}
 use Rattle.wit_arena.proofs.FreeNames.{free_of, AreStated}
 use Rattle.wit_arena.proofs.Signatures.{IsInFunctions}

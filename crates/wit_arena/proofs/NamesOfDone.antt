@@ -1,27 +1,15 @@
 -- The names of scopes that are done: each means its entry, and what is used is a name of the scope that it comes from.
 use Rattle.std.proofs.Common.{◌≡◌, ℕ, List, Some, sym, ap, ◌∙◌, subst, arith}
-use Rattle.std.specs.Prelude.{slice_get, map}
-use Rattle.std.specs.Option.{option_map}
-use Rattle.std.proofs.lemmas.Option.{slice_get-map, slice_get_within}
+use Rattle.wit_syntax.proofs.Common.{Address, PackageFile, ScopeName, SourceFunction, TypeDef, TypeOwner, at_within, differ_at, local_name, lookup-at, map, map_at, option_map, scope, slice_get, slice_get-map, slice_get_within}
 use Rattle.wit_functions.specs.declared.function.Function.{Function}
-use Rattle.wit_syntax.specs.Function.{SourceFunction}
 use Rattle.wit_arena.specs.SourceFunctions.{IsFunction}
-use Rattle.wit_tree.specs.declared.tree.PackageFile.{PackageFile}
-use Rattle.wit_types.specs.declared.types.TypeDef.{TypeDef}
 use Rattle.wit_arena.specs.Kind.{kind_of}
-use Rattle.wit_syntax.specs.Address.{Address}
-use Rattle.wit_syntax.specs.Source.{ScopeName, local_name}
-use Rattle.wit_syntax.specs.ScopesOfTrees.{scope}
 use Rattle.wit_arena.specs.Expr.{one, name_exprs}
 use Rattle.wit_arena.specs.Occurrences.{Key, Def, Occurrence, keys, AreAt, Decls}
 use Rattle.wit_arena.specs.Whole.{HasTypes}
-use Rattle.wit_syntax.proofs.Lists.{at_within, map_at}
-use Rattle.wit_syntax.proofs.Names.{lookup-at}
 use Rattle.wit_arena.proofs.Places.{all_at_untaken}
-use Rattle.wit_syntax.proofs.Repeated.{differ_at}
 use Rattle.wit_arena.proofs.Shape.{entry_of_key}
 use Rattle.wit_arena.proofs.Members.{DoneScope, turn_of, IsPresent}
-use Rattle.wit_types.specs.declared.types.TypeOwner.{TypeOwner}
 
 module _ (files : List PackageFile) (decls : Decls) (written : List Occurrence) (cs : List DoneScope) (es : List TypeDef) (d : IsPresent files decls written cs es) where
   abbrev ks : List Key

@@ -1,19 +1,10 @@
 -- The list of occurrences, as it grows.
 use Rattle.std.proofs.Common.{◌≡◌, ℕ, ◌+◌, List, [], ◌∷◌, ◌++◌, length, take, Some, None, ◌⊎◌, inl, inr, refl, sym, ap, ◌∙◌, subst, arith, length-append}
-use Rattle.std.specs.Prelude.{slice_get, map}
-use Rattle.std.proofs.lemmas.List.{map-append, length-map}
-use Rattle.std.proofs.lemmas.Option.{slice_get_within}
-use Rattle.wit_types.specs.declared.types.TypeDef.{TypeDef}
-use Rattle.wit_types.specs.declared.types.TypeDefKind.{TypeDefKind}
-use Rattle.wit_types.specs.declared.stability.Stability.{Stability}
-use Rattle.wit_values.specs.declared.span.Span.{Span}
+use Rattle.wit_syntax.proofs.Common.{Address, AllDiffer, Span, Stability, TypeDef, TypeDefKind, at_either, at_seam, at_within, length-map, map, map-append, slice_get, slice_get_within, take_prefix, take_seam}
 use Rattle.wit_arena.specs.Kind.{kind_of}
-use Rattle.wit_syntax.specs.Address.{Address}
 use Rattle.wit_arena.specs.Expr.{Expr, Prim, Use, Of, Exprs, End, More}
 use Rattle.wit_arena.specs.Occurrences.{Key, Def, Whole, Occurrence, keys, IsSeen, Collects, AreAt, Decls, IsEntry, IsKeyed, IsOccurrence, settled}
-use Rattle.wit_syntax.specs.Repeats.{AllDiffer}
 use Rattle.wit_arena.specs.Resolving.{seen, all_seen, Env, AreNames, IsInterned, unnamed}
-use Rattle.wit_syntax.proofs.Lists.{at_seam, at_either, take_prefix, take_seam, at_within}
 use Rattle.wit_arena.proofs.Places.{Extended, extended_refl, extended_trans, key_extended, all_at_untaken, all_at_injective, all_at_functional}
 
 pub keys-append : (ms ls : List Occurrence) → keys (ms ++ ls) ≡ keys ms ++ keys ls

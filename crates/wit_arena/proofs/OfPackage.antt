@@ -1,22 +1,10 @@
 -- What else holds of a package, from its being the one that legal files make.
 use Rattle.std.proofs.Common.{◌≡◌, ℕ, ◌+◌, List, ◌++◌, length, Option, Some, None, refl, sym, ap, ◌∙◌, arith, length-append}
-use Rattle.std.specs.Prelude.{slice_get, map}
-use Rattle.std.specs.Option.{option_and_then}
-use Rattle.std.proofs.lemmas.List.{length-map}
-use Rattle.std.proofs.lemmas.Option.{slice_get_within}
-use Rattle.wit_tree.specs.declared.tree.PackageFile.{PackageFile}
+use Rattle.wit_syntax.proofs.Common.{Address, AllDiffer, IsLegal, PackageFile, TypeOwner, address, at_within, first_foreign_uses, foreign_interfaces, foreign_worlds, function_key, length-map, map, option_and_then, slice_get, slice_get_within, visited}
 use Rattle.wit_model.specs.declared.interface.Interface.{Interface}
 use Rattle.wit_model.specs.declared.world.World.{World}
 use Rattle.wit_model.specs.declared.unresolved.UnresolvedPackage.{UnresolvedPackage}
-use Rattle.wit_types.specs.declared.types.TypeOwner.{TypeOwner}
 use Rattle.wit_types.specs.declared.types.TypeOwner.TheVariants as owner
-use Rattle.wit_syntax.specs.Address.{Address}
-use Rattle.wit_syntax.specs.Broken.{IsLegal}
-use Rattle.wit_syntax.specs.Foreign.{visited, foreign_interfaces, foreign_worlds}
-use Rattle.wit_syntax.specs.Repeats.{AllDiffer}
-use Rattle.wit_syntax.specs.Sides.{function_key}
-use Rattle.wit_syntax.specs.Source.{address, first_foreign_uses}
-use Rattle.wit_syntax.proofs.Lists.{at_within}
 use Rattle.wit_arena.specs.Faithful.{IsFaithful, HasArena}
 use Rattle.wit_arena.specs.UnfoldedTypes.{owner_of, named_interface, named_world}
 use Rattle.wit_arena.specs.Whole.{Ordered, OrderedWorld, addresses, all_inside, all_turns, interface_addresses, world_addresses}

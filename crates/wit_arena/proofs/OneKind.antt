@@ -1,18 +1,12 @@
 -- A type of the arena is given by its form and its parts.
 use Rattle.std.proofs.Common.{◌≡◌, ℕ, Bool, true, false, List, [], ◌∷◌, Option, Some, None, refl, sym, ap, ◌∙◌}
-use Rattle.std.specs.Prelude.{map}
-use Rattle.wit_values.specs.declared.span.Span.{Span}
-use Rattle.wit_types.specs.declared.docs.Docs.{Docs}
+use Rattle.wit_syntax.proofs.Common.{AliasForm, Borrow, BorrowForm, Docs, EnumForm, Field, FixedLengthListForm, FlagsForm, Form, FutureForm, ListForm, MapForm, Member, OptionForm, Own, OwnForm, RecordForm, ResourceForm, ResultForm, Span, StreamForm, TupleForm, TypeDefKind, UnknownForm, VariantForm, map}
 use Rattle.wit_types.specs.declared.types.Case.{Case}
 use Rattle.wit_types.specs.declared.types.EnumCase.{EnumCase}
-use Rattle.wit_types.specs.declared.types.Field.{Field}
 use Rattle.wit_types.specs.declared.types.Flag.{Flag}
-use Rattle.wit_types.specs.declared.types.Handle.TheVariants.{Own, Borrow}
 use Rattle.wit_types.specs.declared.types.«Type».{«Type» as Ty}
 use Rattle.wit_types.specs.declared.types.«Type».TheVariants as type
-use Rattle.wit_types.specs.declared.types.TypeDefKind.{TypeDefKind}
 use Rattle.wit_types.specs.declared.types.TypeDefKind.TheVariants as kind
-use Rattle.wit_syntax.specs.Form.{Form, Member, RecordForm, ResourceForm, OwnForm, BorrowForm, FlagsForm, TupleForm, VariantForm, EnumForm, OptionForm, ResultForm, ListForm, MapForm, FixedLengthListForm, FutureForm, StreamForm, AliasForm, UnknownForm}
 use Rattle.wit_arena.specs.Kind.{kind_of, field_member, flag_member, case_member, enum_case_member, payloads}
 
 -- the first of some types, and the second

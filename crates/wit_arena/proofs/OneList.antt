@@ -1,8 +1,6 @@
 -- Lists that agree at each place are one list.
 use Rattle.std.proofs.Common.{◌≡◌, ℕ, List, [], ◌∷◌, ◌++◌, length, Some, refl, sym, ap, ◌∙◌, arith, append_assoc}
-use Rattle.std.specs.Prelude.{slice_get, take}
-use Rattle.std.proofs.lemmas.Option.{slice_get_within}
-use Rattle.wit_syntax.proofs.Lists.{take_seam, at_within}
+use Rattle.wit_syntax.proofs.Common.{at_within, slice_get, slice_get_within, take, take_seam}
 use Rattle.wit_arena.specs.OneByOne.{OneByOne}
 
 -- what comes after a prefix is at its length

@@ -1,27 +1,11 @@
 -- What files make is one package.
 use Rattle.std.proofs.Common.{◌≡◌, ◌↔◌, ℕ, Bool, true, false, List, ◌++◌, length, Option, Some, None, refl, sym, ap, ◌∙◌, subst}
-use Rattle.std.specs.Prelude.{map}
-use Rattle.std.specs.List.{filter_map, flat_map, position_or_len}
+use Rattle.wit_syntax.proofs.Common.{Address, AllDiffer, AtForeign, AtResource, Docs, Id, IsLegal, Item, PackageFile, PackageName, Span, Stability, TypeDef, filter_map, firsts, flat_map, foreign_interfaces, foreign_worlds, map, position_or_len, scope, worlds_of}
 use Rattle.std.proofs.Math.Path.{fun_ext}
-use Rattle.wit_values.specs.declared.span.Span.{Span}
-use Rattle.wit_type_tree.specs.declared.leaves.Id.{Id}
-use Rattle.wit_tree.specs.declared.tree.PackageFile.{PackageFile}
-use Rattle.wit_package_names.specs.declared.package_name.PackageName.{PackageName}
-use Rattle.wit_types.specs.declared.docs.Docs.{Docs}
-use Rattle.wit_types.specs.declared.stability.Stability.{Stability}
-use Rattle.wit_types.specs.declared.types.TypeDef.{TypeDef}
 use Rattle.wit_model.specs.declared.ast_item.AstItem.{AstItem}
 use Rattle.wit_model.specs.declared.interface.Interface.{Interface}
 use Rattle.wit_model.specs.declared.unresolved.UnresolvedPackage.{UnresolvedPackage}
 use Rattle.wit_model.specs.declared.world.World.{World}
-use Rattle.wit_syntax.specs.Address.{Address}
-use Rattle.wit_syntax.specs.Broken.{IsLegal}
-use Rattle.wit_syntax.specs.NameEnds.{AtResource, AtForeign}
-use Rattle.wit_syntax.specs.Foreign.{foreign_interfaces, foreign_worlds}
-use Rattle.wit_syntax.specs.Repeats.{AllDiffer, firsts}
-use Rattle.wit_syntax.specs.ScopeTables.{worlds_of}
-use Rattle.wit_syntax.specs.Source.{Item}
-use Rattle.wit_syntax.specs.ScopesOfTrees.{scope}
 use Rattle.wit_arena.specs.Made.{foreign_interface, own_interface, foreign_world, own_world, item_turns, own_interfaces, interface_scopes, world_scopes, Makes}
 use Rattle.wit_arena.specs.Occurrences.{Key, Def, Occurrence, keys}
 use Rattle.wit_arena.specs.Whole.{Turned, all_occurrences, turn_handles, owner_at, HandleRequires, AreRequired}

@@ -1,22 +1,8 @@
 -- One arena of types is what some first occurrences make, where each scope has one name that is called so.
 use Rattle.std.proofs.Common.{◌≡◌, ℕ, List, ◌∷◌, length, take, Some, None, sym, ap, ◌∙◌, subst, arith, Contains}
-use Rattle.std.specs.Prelude.{slice_get, map}
-use Rattle.std.proofs.lemmas.Option.{slice_get_within}
-use Rattle.wit_values.specs.declared.span.Span.{Span}
-use Rattle.wit_types.specs.declared.stability.Stability.{Stability}
-use Rattle.wit_types.specs.declared.types.TypeDef.{TypeDef}
-use Rattle.wit_types.specs.declared.types.TypeDefKind.{TypeDefKind}
-use Rattle.wit_types.specs.declared.types.TypeOwner.{TypeOwner}
+use Rattle.wit_syntax.proofs.Common.{Address, AreDistinct, Form, ScopeName, Span, Stability, TypeDef, TypeDefKind, TypeOwner, about_name, at_contains, at_within, differ_at, first_known, local_name, map, no_docs, slice_get, slice_get_within}
 use Rattle.wit_types.specs.declared.types.TypeOwner.TheVariants as owner
 use Rattle.wit_types.specs.declared.types.«Type».{«Type» as Ty}
-use Rattle.wit_syntax.specs.Address.{Address}
-use Rattle.wit_syntax.specs.Form.{Form}
-use Rattle.wit_syntax.specs.Metadata.{no_docs, first_known}
-use Rattle.wit_syntax.specs.ScopeTables.{AreDistinct}
-use Rattle.wit_syntax.specs.Source.{ScopeName, local_name, about_name}
-use Rattle.wit_syntax.proofs.Found.{at_contains}
-use Rattle.wit_syntax.proofs.Lists.{at_within}
-use Rattle.wit_syntax.proofs.Repeated.{differ_at}
 use Rattle.wit_arena.specs.Expr.{name_exprs}
 use Rattle.wit_arena.specs.Kind.{Kind, kind_of}
 use Rattle.wit_arena.specs.Made.{types_of, entry, IsEntryOf}

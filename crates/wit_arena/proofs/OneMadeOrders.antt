@@ -1,18 +1,6 @@
 -- There is one order of the items of files, and one of the names of each, so that two that are stated agree on all items.
 use Rattle.std.proofs.Common.{◌≡◌, ℕ, suc, ◌<◌, Bool, not, List, length, Some, inl, inr, refl, sym, ap, ◌∙◌, subst, Contains}
-use Rattle.std.specs.Prelude.{slice_get}
-use Rattle.std.specs.List.{filter, flat_map}
-use Rattle.std.proofs.lemmas.List.{length-map}
-use Rattle.wit_tree.specs.declared.tree.PackageFile.{PackageFile}
-use Rattle.wit_graph.proofs.SameEdges.{one_answer}
-use Rattle.wit_syntax.specs.Address.{Address}
-use Rattle.wit_syntax.specs.ScopeTables.{item_row, item_rows, rows_of, in_order, interfaces_of, worlds_of}
-use Rattle.wit_syntax.specs.Sides.{inline_items, with_inline, all_scopes}
-use Rattle.wit_syntax.specs.Source.{Item, address, all_items, is_world, scope_names}
-use Rattle.wit_syntax.proofs.Found.{contains_at}
-use Rattle.wit_syntax.proofs.Kept.{kept_at}
-use Rattle.wit_syntax.proofs.Lists.{at_split, flat_map_at, flat_map_has}
-use Rattle.wit_syntax.proofs.Orders.{order_within, in_order_at}
+use Rattle.wit_syntax.proofs.Common.{Address, Item, PackageFile, address, all_items, all_scopes, at_split, contains_at, filter, flat_map, flat_map_at, flat_map_has, in_order, in_order_at, inline_items, interfaces_of, is_world, item_row, item_rows, kept_at, length-map, one_answer, order_within, rows_of, scope_names, slice_get, with_inline, worlds_of}
 use Rattle.wit_arena.specs.Made.{own_interfaces, AreInOrder, AreNamesInOrder}
 use Rattle.wit_arena.proofs.OneMadeTurns.{Agree}
 

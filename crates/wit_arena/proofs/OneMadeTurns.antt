@@ -1,11 +1,6 @@
 -- Where two orders of names agree on items, these are resolved in one way, and are in a package in one way.
 use Rattle.std.proofs.Common.{◌≡◌, ℕ, suc, List, [], ◌∷◌, ◌++◌, Some, refl, ap, ◌∙◌}
-use Rattle.std.specs.Prelude.{slice_get, map}
-use Rattle.std.specs.List.{flat_map}
-use Rattle.wit_syntax.specs.Address.{Address}
-use Rattle.wit_syntax.specs.ScopeTables.{in_turn, interfaces_of, worlds_of}
-use Rattle.wit_syntax.specs.Sides.{SideItem, SideFunction, SideLink, SideInline, side_items, inline_items}
-use Rattle.wit_syntax.specs.Source.{Item, address, scope_names}
+use Rattle.wit_syntax.proofs.Common.{Address, Item, SideFunction, SideInline, SideItem, SideLink, address, flat_map, in_turn, inline_items, interfaces_of, map, scope_names, side_items, slice_get, worlds_of}
 use Rattle.wit_arena.specs.Made.{names_in_turn, interface_turn, turns_on_sides, turns_of_world, item_turns, own_interface, own_world}
 use Rattle.wit_arena.specs.Occurrences.{Key}
 use Rattle.wit_arena.specs.Whole.{Turned}

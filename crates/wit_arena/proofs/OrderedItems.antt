@@ -1,18 +1,9 @@
 -- The interfaces and the worlds of files in their order, and interfaces that were resolved among them.
 use Rattle.std.proofs.Common.{◌≡◌, ℕ, false, not, List, Some, None, ap, Contains}
-use Rattle.std.specs.Prelude.{slice_get, map}
-use Rattle.wit_tree.specs.declared.tree.PackageFile.{PackageFile}
-use Rattle.wit_graph.specs.Table.{IsOrder}
-use Rattle.wit_syntax.specs.Address.{Address, InterfaceNamed}
-use Rattle.wit_syntax.specs.Source.{Item, all_items, item_name, is_world, meaning}
-use Rattle.wit_syntax.specs.ScopesOfTrees.{scope}
-use Rattle.wit_syntax.specs.ScopeTables.{in_order, item_rows, interfaces_of, worlds_of}
-use Rattle.wit_syntax.specs.Repeats.{AllDiffer}
+use Rattle.wit_syntax.proofs.Common.{Address, AllDiffer, InterfaceNamed, IsOrder, Item, PackageFile, all_items, at_contains, in_order, interfaces_of, is_world, item_name, item_rows, kept_has, map, meaning, scope, slice_get, worlds_of}
 use Rattle.wit_arena.specs.Resolving.{env_of}
-use Rattle.wit_syntax.proofs.Found.{at_contains}
 use Rattle.wit_arena.proofs.Members.{DoneScope, IsDoneScope}
 use Rattle.wit_arena.proofs.Meant.{lacks_nothing}
-use Rattle.wit_syntax.proofs.Kept.{kept_has}
 use Rattle.wit_arena.proofs.Interfaces.{AreItems, items_kept}
 use Rattle.wit_arena.proofs.Itemizing.{item_index, are_items}
 

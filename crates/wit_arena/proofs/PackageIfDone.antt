@@ -1,41 +1,20 @@
 -- What follows for a package once all interfaces and all worlds are done.
 use Rattle.std.proofs.Common.{◌≡◌, ℕ, ◌+◌, List, ◌++◌, length, Some, ◌⊎◌, inl, inr, refl, sym, ap, ◌∙◌, subst, append_assoc, length-append}
-use Rattle.std.specs.Prelude.{slice_get, map}
-use Rattle.std.specs.List.{flat_map}
-use Rattle.std.specs.Option.{option_map}
-use Rattle.std.proofs.lemmas.List.{length-map, map-append}
-use Rattle.std.proofs.lemmas.Grind.{flat_map-append}
-use Rattle.wit_type_tree.specs.declared.leaves.Id.{Id}
-use Rattle.std.proofs.lemmas.Option.{slice_get_within, slice_get-map}
+use Rattle.wit_syntax.proofs.Common.{Address, Exported, ForeignVisit, Id, Imported, IsOrder, Item, PackageFile, ScopeName, TypeDef, address, all_items, at_back, at_part, at_prefix, flat_map, flat_map-append, foreign_interfaces, foreign_worlds, functions, headers, in_order, includes, inline_items, interfaces_of, item_rows, last_header, length-map, map, map-append, map_map, option_map, parts_of, release_parts, rows_of, scope_names, side_items, slice_get, slice_get-map, slice_get_within, visited, worlds_of}
 use Rattle.wit_tree.specs.declared.tree.PackageName.{PackageName as Header}
-use Rattle.wit_tree.specs.declared.tree.PackageFile.{PackageFile}
 use Rattle.wit_model.specs.declared.interface.Interface.{Interface}
 use Rattle.wit_model.specs.declared.world.World.{World}
 use Rattle.wit_model.specs.declared.unresolved.UnresolvedPackage.{UnresolvedPackage}
-use Rattle.wit_types.specs.declared.types.TypeDef.{TypeDef}
-use Rattle.wit_graph.specs.Table.{IsOrder}
-use Rattle.semver.specs.Identifiers.{parts_of}
-use Rattle.wit_values.specs.ReleaseText.{release_parts}
-use Rattle.wit_syntax.specs.Address.{Address}
-use Rattle.wit_syntax.specs.Source.{address, Item, ScopeName, all_items, scope_names}
-use Rattle.wit_syntax.specs.Foreign.{ForeignVisit, visited, foreign_interfaces, foreign_worlds}
 use Rattle.wit_arena.specs.Occurrences.{Occurrence, Key, keys, IsOccurrence}
 use Rattle.wit_functions.specs.declared.function.Function.{Function}
-use Rattle.wit_syntax.specs.Function.{functions}
-use Rattle.wit_tree.specs.declared.tree.WorldSide.TheVariants.{Imported, Exported}
-use Rattle.wit_syntax.specs.Sides.{side_items, inline_items}
 use Rattle.wit_arena.specs.SourceFunctions.{AreFunctions, placed_functions}
 use Rattle.wit_arena.specs.SideItems.{AreSideItems, settled}
-use Rattle.wit_syntax.specs.ScopeTables.{includes, item_rows, rows_of, in_order, interfaces_of, worlds_of}
-use Rattle.wit_syntax.specs.Broken.{headers, last_header}
 use Rattle.wit_arena.specs.UnfoldedTypes.{world_types}
 use Rattle.wit_arena.specs.OneByOne.{OneByOne}
 use Rattle.wit_arena.specs.Whole.{Ordered, OrderedWorld, AreOrdered, Turned, ordered_names, turned, world_turns, all_turns, all_inside, turn_handles, AreRequired, all_occurrences, type_imports, addresses, interface_addresses, world_addresses, declarations, HasTypes, AreIncludes, first_docs, IsForeignInterface, AreFirstOccurrences}
 use Rattle.wit_arena.proofs.ByParts.{HasSides, NamesOthers, IsPackage, IsResolvedInterface, IsResolvedWorld}
 use Rattle.wit_arena.specs.Resolving.{Names, Required, resolved_scope}
 use Rattle.wit_arena.specs.ResolvedArenas.{WorldArenas, AddsForeign}
-use Rattle.wit_syntax.proofs.Lists.{at_prefix, at_back, map_map}
-use Rattle.wit_syntax.proofs.Turns.{at_part}
 use Rattle.wit_arena.proofs.Members.{DoneScope, turn_of, members}
 use Rattle.wit_arena.proofs.Prefix.{interface_scope, prefix_scopes}
 use Rattle.wit_arena.proofs.ScopesInTurn.{done_required, required_in_turn, ordered_addresses, scope_at, scope_of_entry}

@@ -1,11 +1,8 @@
 -- The types of parts, by their places.
 use Rattle.std.proofs.Common.{◌≡◌, ℕ, zero, suc, [], ◌∷◌, List, Some, All, subst, ◌⊎◌, inl, inr, refl}
-use Rattle.std.specs.Prelude.{slice_get}
-use Rattle.std.proofs.lemmas.List.Elements.{All-nil, All-cons}
+use Rattle.wit_syntax.proofs.Common.{Address, All-cons, All-nil, More, Place, Shapes, placed, slice_get}
 use Rattle.wit_types.specs.declared.types.«Type».{«Type» as Ty}
-use Rattle.wit_syntax.specs.Shape.{Shapes, End, More}
-use Rattle.wit_syntax.specs.Address.{Address}
-use Rattle.wit_syntax.specs.Source.{Place, placed}
+use Rattle.wit_syntax.specs.Shape.{End}
 use Rattle.wit_arena.specs.Expr.{expr_of, exprs_of}
 use Rattle.wit_arena.specs.Occurrences.{Key, IsAt, AreAt}
 

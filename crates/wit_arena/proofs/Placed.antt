@@ -1,17 +1,11 @@
 -- Functions whose setters were put directly after their getters are the same functions.
 use Rattle.std.proofs.Common.{◌≡◌, ℕ, zero, suc, Bool, true, false, ◌&&◌, ◌||◌, List, [], ◌∷◌, map, Option, Some, None, ◌⊎◌, inl, inr, refl, sym, ap, ◌∙◌}
-use Rattle.std.specs.Prelude.{slice_get}
-use Rattle.std.specs.List.{filter, list_any}
-use Rattle.std.specs.Option.{option_map}
-use Rattle.std.proofs.lemmas.Bool.{cases_Bool, cond-true, cond-false}
-use Rattle.std.proofs.lemmas.Option.{slice_get-map}
+use Rattle.wit_syntax.proofs.Common.{after_one, cases_Bool, cond-false, cond-true, filter, flat_map_at, flat_map_has, kept_at, kept_has, list_any, map_at, option_map, slice_get, slice_get-map}
 use Rattle.wit_functions.specs.SettersPlaced.{prefixes, is_getter, is_getter_of, goes_on_alike, goes_with, early, others, with_setters, setters_placed, pairs}
 use Rattle.wit_functions.specs.declared.function.Function.{Function}
 use Rattle.wit_functions.specs.declared.function.FunctionKind.{FunctionKind}
 use Rattle.wit_functions.specs.declared.function.FunctionKind.TheVariants as kind
 use Rattle.wit_arena.specs.SourceFunctions.{by_name, placed_functions}
-use Rattle.wit_syntax.proofs.Lists.{map_at, flat_map_at, flat_map_has}
-use Rattle.wit_syntax.proofs.Kept.{after_one, kept_at, kept_has}
 
 -- what passes a test that one of a list passes
 pub any_at : {X : Type 0} (test : X → Bool) (xs : List X) → list_any test xs ≡ true → (i : ℕ) × (x : X) × (slice_get xs i ≡ Some x) × (test x ≡ true)

@@ -1,14 +1,11 @@
 -- Where types are among the keys that occurred.
 use Rattle.std.proofs.Common.{◌≡◌, ℕ, List, [], ◌∷◌, ◌++◌, take, Some, refl, sym, ap, ◌∙◌, append_assoc}
-use Rattle.std.specs.Prelude.{slice_get}
-use Rattle.std.proofs.lemmas.List.{append-nil}
+use Rattle.wit_syntax.proofs.Common.{AllDiffer, append-nil, at_prefix, at_take, slice_get}
 use Rattle.wit_types.specs.declared.types.«Type».{«Type» as Ty}
 use Rattle.wit_types.specs.declared.types.«Type».TheVariants.{Id}
 use Rattle.wit_arena.specs.Expr.{Expr, Prim, Use, Of, Exprs, End, More, joined}
-use Rattle.wit_syntax.specs.Repeats.{AllDiffer}
 use Rattle.wit_arena.specs.Occurrences.{Key, Def, Whole, IsAt, AreAt}
 use Rattle.wit_arena.specs.Resolving.{seen, all_seen}
-use Rattle.wit_syntax.proofs.Lists.{at_prefix, at_take}
 use Rattle.wit_arena.proofs.Primitives.{primitive_type-injective, primitive_type-id}
 
 -- the second list is the first and more

@@ -1,12 +1,8 @@
 -- Where a function gives the place of each key, it gives the types of all expressions.
 use Rattle.std.proofs.Common.{◌≡◌, ◌↔◌, ℕ, Bool, true, List, [], ◌∷◌, take, Some, refl, sym, ap, ◌∙◌}
-use Rattle.std.specs.Prelude.{slice_get}
-use Rattle.std.specs.List.{position_or_len}
+use Rattle.wit_syntax.proofs.Common.{AllDiffer, at_take, differ_at, map_at, position_or_len, slice_get}
 use Rattle.wit_types.specs.declared.types.«Type».{«Type» as Ty}
 use Rattle.wit_types.specs.declared.types.«Type».TheVariants.{Id}
-use Rattle.wit_syntax.specs.Repeats.{AllDiffer}
-use Rattle.wit_syntax.proofs.Lists.{at_take, map_at}
-use Rattle.wit_syntax.proofs.Repeated.{differ_at}
 use Rattle.wit_arena.specs.Expr.{Expr, Prim, Use, Of, Exprs, End, More}
 use Rattle.wit_arena.specs.Occurrences.{Key, Def, Whole, Occurrence, keys, IsAt, AreAt}
 use Rattle.wit_arena.specs.Made.{type_of, types_of}

@@ -1,20 +1,11 @@
 -- Where a function gives the place of each key, what means written functions and for names is stated.
 use Rattle.std.proofs.Common.{◌≡◌, ℕ, suc, List, [], ◌∷◌, Option, Some, None, refl, sym, ap, ◌∙◌, arith}
-use Rattle.std.specs.Prelude.{slice_get, map}
-use Rattle.std.specs.Option.{option_map, option_to_list}
-use Rattle.wit_values.specs.declared.span.Span.{Span}
-use Rattle.wit_types.specs.declared.docs.Docs.{Docs}
-use Rattle.wit_types.specs.declared.stability.Stability.{Stability}
+use Rattle.wit_syntax.proofs.Common.{Address, Constructor, Docs, Freestanding, Id, Method, OnSide, Role, ScopeName, Shape, SourceFunction, SourceParam, Span, Stability, Static, all_params, local_name, map, option_map, option_to_list, slice_get}
 use Rattle.wit_types.specs.declared.types.«Type».{«Type» as Ty}
 use Rattle.wit_functions.specs.declared.function.Function.{Function}
 use Rattle.wit_functions.specs.declared.function.FunctionKind.{FunctionKind}
 use Rattle.wit_functions.specs.declared.function.FunctionKind.TheVariants as kind
 use Rattle.wit_functions.specs.declared.function.Param.{Param}
-use Rattle.wit_type_tree.specs.declared.leaves.Id.{Id}
-use Rattle.wit_syntax.specs.Address.{Address}
-use Rattle.wit_syntax.specs.Function.{Role, Freestanding, Method, Static, Constructor, OnSide, SourceParam, SourceFunction, all_params}
-use Rattle.wit_syntax.specs.Shape.{Shape}
-use Rattle.wit_syntax.specs.Source.{ScopeName, local_name}
 use Rattle.wit_arena.specs.Expr.{expr_of}
 use Rattle.wit_arena.specs.SourceFunctions.{kinds_of, IsKind, IsParam, IsFunction}
 use Rattle.wit_arena.specs.Made.{type_of, role_kind, function_in, name_places}

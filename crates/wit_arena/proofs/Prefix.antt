@@ -1,41 +1,18 @@
 -- What other packages put before the arenas, as scopes that are done.
 use Rattle.std.proofs.Common.{◌≡◌, ℕ, zero, suc, ◌+◌, false, List, [], ◌∷◌, ◌++◌, length, take, Option, Some, None, inl, inr, refl, sym, ap, ◌∙◌, subst, arith}
-use Rattle.std.specs.Prelude.{slice_get, map, IsSome}
-use Rattle.std.specs.Option.{option_map, option_map_or}
-use Rattle.std.specs.List.{flat_map, filter}
-use Rattle.std.proofs.lemmas.List.{map-append, length-map}
-use Rattle.std.proofs.lemmas.Option.{slice_get-map, slice_get_within}
-use Rattle.wit_tree.specs.declared.tree.PackageFile.{PackageFile}
-use Rattle.wit_types.specs.declared.types.TypeDef.{TypeDef}
-use Rattle.wit_types.specs.declared.types.TypeOwner.{TypeOwner}
+use Rattle.wit_syntax.proofs.Common.{Address, AllDiffer, Declared, ForeignName, ForeignNamed, ForeignUse, ForeignVisit, Imported, IsSome, Item, PackageFile, PackageName, ScopeName, TheInline, TheInterface, TheWorld, TypeDef, TypeOwner, about, all_handles, all_items, all_scopes, at_part, at_prefix, at_within, differ_join, differ_none, filter, first_foreign_uses, firsts_at, flat_map, foreign_interfaces, foreign_uses, foreign_worlds, functions, item_at, length-map, local_name, lookup-place, map, map-append, map_at, map_map, name_types, option_map, option_map_or, package_of, same_address, same_foreign_use, scope, slice_get, slice_get-map, slice_get_within, some_of, used_names, visited}
 use Rattle.wit_types.specs.declared.types.TypeOwner.TheVariants as owner
 use Rattle.wit_model.specs.declared.interface.Interface.{Interface}
 use Rattle.wit_model.specs.declared.world.World.{World}
 use Rattle.wit_type_tree.specs.declared.types.«Type».{«Type» as Written}
-use Rattle.wit_package_names.specs.declared.package_name.PackageName.{PackageName}
-use Rattle.wit_syntax.specs.Shape.{all_handles}
-use Rattle.wit_syntax.specs.Function.{functions, name_types}
 use Rattle.wit_arena.specs.SourceFunctions.{AreFunctions}
-use Rattle.wit_syntax.specs.Address.{Address, ForeignNamed, same_address, package_of}
-use Rattle.wit_syntax.specs.Source.{Declared, TheInterface, TheWorld, TheInline, Item, all_items, item_at, ForeignName, local_name, ForeignUse, foreign_uses, same_foreign_use, first_foreign_uses, used_names, about, ScopeName}
-use Rattle.wit_syntax.specs.Sides.{all_scopes}
-use Rattle.wit_syntax.specs.ScopesOfTrees.{scope}
-use Rattle.wit_syntax.specs.Foreign.{ForeignVisit, visited, foreign_interfaces, foreign_worlds}
 use Rattle.wit_arena.specs.Occurrences.{Key, Def, Occurrence, keys, Decls, IsEntry, IsOccurrence}
-use Rattle.wit_syntax.specs.Repeats.{AllDiffer}
 use Rattle.wit_arena.specs.Whole.{owner_at, foreign_use_occurrence, functions_at, turn_handles, AreRequired, IsForeignInterface}
 use Rattle.wit_arena.specs.Resolving.{resolved_scope_at, resolved_scopes, env_of, AreNames}
 use Rattle.wit_arena.specs.ResolvedArenas.{foreign_type, AddsForeign, AreUsableUses}
-use Rattle.wit_syntax.proofs.Lists.{at_prefix, at_within, map_at, map_map}
-use Rattle.wit_syntax.proofs.Names.{lookup-place}
-use Rattle.wit_syntax.proofs.Repeated.{differ_none, differ_join}
-use Rattle.wit_syntax.proofs.Firsts.{firsts_at}
-use Rattle.wit_syntax.proofs.Found.{some_of}
 use Rattle.wit_arena.proofs.UsePart.{lookup-listed}
 use Rattle.wit_arena.proofs.FreeNames.{free_keyed, AreStated}
 use Rattle.wit_arena.specs.UnfoldedTypes.{interface_functions}
-use Rattle.wit_tree.specs.declared.tree.WorldSide.TheVariants.{Imported}
-use Rattle.wit_syntax.proofs.Turns.{at_part}
 use Rattle.wit_arena.proofs.Required.{required_none}
 use Rattle.wit_arena.proofs.Members.{DoneScope, done_address, turn_of, resolved_scope_of, IsDoneScope, IsNameOf, IsDone}
 use Rattle.wit_arena.proofs.Interfaces.{interface_owner_at}

@@ -1,20 +1,12 @@
 -- What handles require of other packages: what is given by the arena is what the files say.
 use Rattle.std.proofs.Common.{◌≡◌, ℕ, zero, suc, ◌+◌, List, [], ◌∷◌, ◌++◌, length, map, Option, Some, None, ◌⊎◌, inl, inr, refl, sym, ap, ◌∙◌, subst, arith, length-append}
-use Rattle.std.specs.Prelude.{slice_get}
-use Rattle.std.specs.List.{cons_option, filter_map}
-use Rattle.std.proofs.lemmas.List.Elements.{filter_map-append}
-use Rattle.std.proofs.lemmas.Option.{slice_get_within}
-use Rattle.wit_type_tree.specs.declared.leaves.Id.{Id}
-use Rattle.wit_tree.specs.declared.tree.PackageFile.{PackageFile}
-use Rattle.wit_types.specs.declared.types.TypeDef.{TypeDef}
-use Rattle.wit_syntax.specs.Address.{Address}
+use Rattle.wit_syntax.proofs.Common.{Address, Id, PackageFile, TypeDef, at_split, cons_option, filter_map, filter_map-append, slice_get, slice_get_within}
 use Rattle.wit_arena.specs.EntryEnds.{EntryEnd, IsResource, entry_end}
 use Rattle.wit_arena.specs.EntryEnds as ends
 use Rattle.wit_arena.specs.Occurrences.{Key, Def, Decls, IsKeyed}
 use Rattle.wit_arena.specs.Whole.{HandleRequires, AreRequired}
 use Rattle.wit_arena.specs.Resolving.{Env, AreNames, Required, AreEnded}
 use Rattle.wit_arena.proofs.Places.{Extended, key_extended}
-use Rattle.wit_syntax.proofs.Lists.{at_split}
 use Rattle.wit_arena.proofs.Ends.{EndIs, IsDeclared, entry_end-more, end_source}
 
 -- those of names, and of further ones

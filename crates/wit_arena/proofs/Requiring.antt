@@ -1,15 +1,6 @@
 -- What the handles of a scope require is distinguished from what is while scopes are resolved.
 use Rattle.std.proofs.Common.{◌≡◌, ℕ, ◌+◌, List, [], ◌∷◌, ◌++◌, length, map, Some, ◌⊎◌, inl, inr, sym, ap, ◌∙◌, subst}
-use Rattle.std.specs.Prelude.{slice_get}
-use Rattle.std.proofs.lemmas.List.{map-append}
-use Rattle.wit_tree.specs.declared.tree.PackageFile.{PackageFile}
-use Rattle.wit_types.specs.declared.types.TypeDef.{TypeDef}
-use Rattle.wit_syntax.specs.Address.{Address}
-use Rattle.wit_syntax.specs.Function.{functions}
-use Rattle.wit_syntax.specs.Repeats.{AllDiffer}
-use Rattle.wit_syntax.specs.Source.{address}
-use Rattle.wit_syntax.specs.ScopesOfTrees.{scope}
-use Rattle.wit_syntax.proofs.Lists.{at_prefix, at_back, at_seam}
+use Rattle.wit_syntax.proofs.Common.{Address, AllDiffer, PackageFile, TypeDef, address, at_back, at_prefix, at_seam, functions, map-append, scope, slice_get}
 use Rattle.wit_arena.specs.Occurrences.{Occurrence, keys, Decls}
 use Rattle.wit_arena.specs.Resolving.{env_of, Required, resolved_scope, AreNames}
 use Rattle.wit_arena.proofs.Added.{decls}

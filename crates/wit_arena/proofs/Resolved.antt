@@ -1,22 +1,11 @@
 -- Files whose interfaces and then worlds were added are a package that is faithful to them.
 use Rattle.std.proofs.Common.{◌≡◌, ℕ, true, false, List, ◌++◌, Some, map, refl, sym, ap, ◌∙◌, subst}
-use Rattle.std.specs.Option.{option_map}
-use Rattle.semver.specs.Identifiers.{parts_of}
-use Rattle.wit_values.specs.ReleaseText.{release_parts}
+use Rattle.wit_syntax.proofs.Common.{AllDiffer, Fault, IsBrokenNames, IsOrder, Item, PackageFile, TypeDef, all_items, foreign_interfaces, foreign_worlds, headers, in_order, interfaces_of, item_name, item_rows, last_header, option_map, parts_of, release_parts, visited, worlds_of}
 use Rattle.wit_tree.specs.declared.tree.PackageName.{PackageName as Header}
-use Rattle.wit_tree.specs.declared.tree.PackageFile.{PackageFile}
 use Rattle.wit_model.specs.declared.interface.Interface.{Interface}
 use Rattle.wit_model.specs.declared.world.World.{World}
-use Rattle.wit_types.specs.declared.types.TypeDef.{TypeDef}
 use Rattle.wit_model.specs.declared.unresolved.UnresolvedPackage.{UnresolvedPackage}
-use Rattle.wit_graph.specs.Table.{IsOrder}
-use Rattle.wit_syntax.specs.Source.{Item, all_items, item_name}
-use Rattle.wit_syntax.specs.Foreign.{visited, foreign_interfaces, foreign_worlds}
-use Rattle.wit_syntax.specs.ScopeTables.{in_order, item_rows, interfaces_of, worlds_of}
 use Rattle.wit_arena.specs.Resolving.{Required}
-use Rattle.wit_syntax.specs.Fault.{Fault}
-use Rattle.wit_syntax.specs.Broken.{IsBrokenNames, headers, last_header}
-use Rattle.wit_syntax.specs.Repeats.{AllDiffer}
 use Rattle.wit_arena.specs.Whole.{first_docs}
 use Rattle.wit_arena.proofs.ByParts.{NamesOthers, IsPackage}
 use Rattle.wit_arena.specs.ResolvedArenas.{WorldArenas, prefix_worlds, AddsInterfaces, AddsWorlds, AddsForeign, AreUsableUses}

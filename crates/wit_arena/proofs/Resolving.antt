@@ -1,14 +1,9 @@
 -- What occurs in types, one after another.
 use Rattle.std.proofs.Common.{ℕ, List, [], ◌∷◌, ◌++◌, refl, sym, ap, ◌∙◌}
-use Rattle.std.proofs.lemmas.List.{append-nil}
-use Rattle.wit_values.specs.declared.span.Span.{Span}
-use Rattle.wit_types.specs.declared.stability.Stability.{Stability}
+use Rattle.wit_syntax.proofs.Common.{Address, Span, Stability, TypeDef, TypeDefKind, append-nil}
 use Rattle.wit_types.specs.declared.types.«Type».{«Type» as Ty}
 use Rattle.wit_types.specs.declared.types.«Type».TheVariants.{Id}
-use Rattle.wit_types.specs.declared.types.TypeDef.{TypeDef}
-use Rattle.wit_types.specs.declared.types.TypeDefKind.{TypeDefKind}
 use Rattle.wit_arena.specs.Kind.{kind_of}
-use Rattle.wit_syntax.specs.Address.{Address}
 use Rattle.wit_arena.specs.Expr.{Of, Exprs, End, one, joined}
 use Rattle.wit_arena.specs.Occurrences.{Whole, Occurrence, keys}
 use Rattle.wit_arena.specs.Resolving.{all_seen, Env, IsInterned, AreResolved}

@@ -1,19 +1,12 @@
 -- Whether two keys are one and the same.
 use Rattle.std.proofs.Common.{◌≡◌, ◌↔◌, Bool, true, false, ◌&&◌, nat_eq, refl, ap, rules}
 use Rattle.std.specs.Bool.{Decides, beq}
-use Rattle.std.specs.Str.{bytes_eq}
+use Rattle.wit_syntax.proofs.Common.{Address, AliasForm, BorrowForm, Decides-and, Decides-eqb, Decides-like, EnumForm, FixedLengthListForm, FlagsForm, Form, FutureForm, ListForm, MapForm, Member, OptionForm, OwnForm, Primitive, RecordForm, ResourceForm, ResultForm, StreamForm, TupleForm, UnknownForm, VariantForm, bytes_eq, pointwise, primitive_type, same_address, same_address-equal, same_address-from}
 use Rattle.std.specs.Cmp.{booleans_Decides}
-use Rattle.std.specs.Cmp.Lexicographic.{pointwise}
-use Rattle.std.proofs.lemmas.Bool.Decides.{Decides-like, Decides-and, Decides-eqb}
 use Rattle.wit_values.specs.contracts.span.SpanPartialEq.TheImpl.{eq-value as span_test}
-use Rattle.wit_type_tree.specs.declared.types.Primitive.{Primitive}
 use Rattle.wit_types.specs.contracts.docs.DocsPartialEq.TheImpl.{eq-value as docs_test}
 use Rattle.wit_types.specs.contracts.types.TypePartialEq.TheImpl.{eq-value as type_test}
 use Rattle.wit_types.proofs.Same.{Decides-row, Decides-text, Decides-type}
-use Rattle.wit_syntax.specs.Node.{primitive_type}
-use Rattle.wit_syntax.specs.Address.{Address, same_address}
-use Rattle.wit_syntax.proofs.Addresses.{same_address-equal, same_address-from}
-use Rattle.wit_syntax.specs.Form.{Form, Member, RecordForm, ResourceForm, OwnForm, BorrowForm, FlagsForm, TupleForm, VariantForm, EnumForm, OptionForm, ResultForm, ListForm, MapForm, FixedLengthListForm, FutureForm, StreamForm, AliasForm, UnknownForm}
 use Rattle.wit_arena.specs.Expr.{Expr, Prim, Use, Of, Exprs, End, More}
 use Rattle.wit_arena.specs.Occurrences.{Key, Def, Whole}
 use Rattle.wit_arena.proofs.Primitives.{primitive_type-injective}

@@ -1,30 +1,11 @@
 -- Interfaces, or worlds, that are done one after another, as scopes.
 use Rattle.std.proofs.Common.{◌≡◌, ℕ, suc, ◌+◌, List, [], ◌∷◌, ◌++◌, length, Some, inl, inr, refl, sym, ap, ◌∙◌, subst, append_assoc, arith, length-append, zero-add, add-zero}
-use Rattle.std.specs.Prelude.{slice_get, map}
-use Rattle.std.specs.Option.{option_map}
-use Rattle.std.proofs.lemmas.Grind.{flat_map-append}
-use Rattle.std.proofs.lemmas.List.{append-nil, map-append, length-map}
-use Rattle.std.proofs.lemmas.Option.{slice_get_within, slice_get-map}
-use Rattle.wit_tree.specs.declared.tree.PackageFile.{PackageFile}
-use Rattle.wit_types.specs.declared.types.TypeDef.{TypeDef}
-use Rattle.wit_types.specs.declared.types.TypeOwner.{TypeOwner}
-use Rattle.wit_graph.specs.Table.{IsOrder}
-use Rattle.wit_syntax.specs.Address.{Address}
-use Rattle.wit_syntax.specs.Source.{address, Item, ScopeName, foreign_uses, scope_names}
-use Rattle.wit_syntax.specs.ScopesOfTrees.{scope}
-use Rattle.wit_syntax.specs.Repeats.{AllDiffer}
-use Rattle.wit_syntax.specs.ScopeTables.{rows_of, in_turn, local_names, AreDistinct}
+use Rattle.wit_syntax.proofs.Common.{Address, AllDiffer, AreDistinct, FunctionKey, IsOrder, Item, PackageFile, ScopeName, TypeDef, TypeOwner, address, append-nil, at_either, at_part, at_seam, at_within, differ_at, flat_map, flat_map-append, foreign_uses, functions, in_turn, in_turn_among, in_turn_distinct, in_turn_has, length-map, local_names, map, map-append, map_at, map_map, option_map, rows_of, scope, scope_names, slice_get, slice_get-map, slice_get_within}
 use Rattle.wit_arena.specs.Occurrences.{Key, Occurrence, Decls}
 use Rattle.wit_arena.specs.Whole.{Ordered, Turned, ordered_names, turned, turn_occurrences, addresses, foreign_use_occurrence, all_occurrences, turn_handles, AreRequired}
 use Rattle.wit_functions.specs.declared.function.Function.{Function}
-use Rattle.wit_syntax.specs.Function.{functions}
-use Rattle.wit_syntax.specs.Sides.{FunctionKey}
-use Rattle.std.specs.List.{flat_map}
 use Rattle.wit_arena.specs.Resolving.{Names, ResolvedScope, Required, Defines}
 use Rattle.wit_arena.specs.ResolvedArenas.{AddsAfter, AddsEach}
-use Rattle.wit_syntax.proofs.Lists.{at_either, at_seam, at_within, map_at, map_map}
-use Rattle.wit_syntax.proofs.Repeated.{differ_at}
-use Rattle.wit_syntax.proofs.Turns.{at_part, in_turn_among, in_turn_has, in_turn_distinct}
 use Rattle.wit_arena.proofs.Members.{DoneScope, turn_of, resolved_scope_of, IsTurn, IsDone}
 use Rattle.wit_arena.proofs.Required.{required_none, required_append}
 use Rattle.wit_arena.proofs.DoneScopes.{AddsDone, done_more}

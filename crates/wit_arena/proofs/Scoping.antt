@@ -1,22 +1,7 @@
 -- Names of a scope, one after another, and their rows.
 use Rattle.std.proofs.Common.{◌≡◌, ℕ, zero, suc, Bool, true, false, cond, List, [], ◌∷◌, ◌++◌, take, Option, Some, IsSome, nat_eq, inl, inr, refl, sym, ap, ◌∙◌, subst, arith}
-use Rattle.std.specs.Prelude.{slice_get, slice_index, Contains}
-use Rattle.std.specs.Option.{option_map}
-use Rattle.std.specs.Cmp.Lexicographic.{pointwise}
-use Rattle.std.proofs.lemmas.List.{length-map}
-use Rattle.std.proofs.lemmas.Option.{slice_get-map, slice_get-get_or, slice_get_within, get_or_from_slice_get}
-use Rattle.wit_type_tree.specs.declared.leaves.Id.{Id}
-use Rattle.wit_graph.specs.Table.{Row, target, IsEdge, Leads, IsOrder}
-use Rattle.wit_graph.proofs.Tables.{slice_get-take}
-use Rattle.wit_syntax.specs.Source.{ScopeName, local_name}
-use Rattle.wit_syntax.specs.ScopeTables.{needed_ids, rows_of, in_order}
+use Rattle.wit_syntax.proofs.Common.{Contains, Id, IsEdge, IsOrder, Leads, Row, ScopeName, at_contains, at_either, get_or_from_slice_get, in_order, in_order_has, length-map, local_name, lookup-insert_entry, name_itself, needed_ids, option_map, place_of-Some, pointwise, row_of, rows_of, slice_get, slice_get-get_or, slice_get-map, slice_get-take, slice_get_within, slice_index, some_of, target}
 use Rattle.wit_arena.specs.Resolving.{Env, Names, env_of, HasNames, IsStored}
-use Rattle.wit_syntax.proofs.Lists.{at_either}
-use Rattle.wit_syntax.proofs.Names.{name_itself, lookup-insert_entry}
-use Rattle.wit_syntax.proofs.Tables.{place_of-Some}
-use Rattle.wit_syntax.proofs.Orders.{in_order_has}
-use Rattle.wit_syntax.proofs.Found.{at_contains, some_of}
-use Rattle.wit_syntax.proofs.Rows.{row_of}
 
 pub row_at : (xs : List ScopeName) (i : ℕ) (x : ScopeName) → slice_get xs i ≡ Some x → slice_get (rows_of xs) i ≡ Some (row_of x)
 row_at xs i x at = slice_get-map row_of xs i ∙ ap (option_map row_of) at

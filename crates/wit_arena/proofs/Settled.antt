@@ -1,25 +1,16 @@
 -- A side of a world whose setters were placed has what it had: its types in front, and its interfaces in their order.
 use Rattle.std.proofs.Common.{◌≡◌, ℕ, zero, suc, Bool, true, false, cond, List, [], ◌∷◌, ◌++◌, Some, None, Option, inl, inr, refl, sym, ap, ◌∙◌}
-use Rattle.std.specs.Prelude.{slice_get}
-use Rattle.std.specs.List.{filter, flat_map, list_any}
-use Rattle.std.proofs.lemmas.Bool.{cases_Bool, cond-true, cond-false}
-use Rattle.std.proofs.lemmas.Grind.{flat_map-append}
-use Rattle.std.proofs.lemmas.List.Elements.{filter-append}
-use Rattle.wit_tree.specs.declared.tree.Include.{Include}
+use Rattle.wit_syntax.proofs.Common.{Include, ScopeName, cases_Bool, cond-false, cond-true, filter, filter-append, flat_map, flat_map-append, flat_map_at, flat_map_has, kept_at, kept_none, list_any, slice_get}
 use Rattle.wit_functions.specs.SettersPlaced.{early, goes_with, others, with_setters, setters_placed, pairs}
 use Rattle.wit_model.specs.ItemsOfWorlds.{function_of}
 use Rattle.wit_functions.specs.declared.function.Function.{Function}
 use Rattle.wit_model.specs.declared.world.WorldItem.{WorldItem}
 use Rattle.wit_model.specs.declared.world.WorldItem.TheVariants as item
 use Rattle.wit_model.specs.declared.world.WorldKey.{WorldKey}
-use Rattle.wit_syntax.specs.Source.{ScopeName}
 use Rattle.wit_arena.specs.UnfoldedTypes.{is_interface_item, interface_items}
 use Rattle.wit_arena.specs.Resolving.{Names}
 use Rattle.wit_arena.specs.SideItems.{settled}
 use Rattle.wit_arena.specs.Whole.{type_imports}
-use Rattle.wit_syntax.proofs.Kept.{kept_at}
-use Rattle.wit_syntax.proofs.Lists.{flat_map_at, flat_map_has}
-use Rattle.wit_syntax.proofs.Sides.{kept_none}
 use Rattle.wit_arena.proofs.Placed.{any_at, getters_alone, placed_at, placed_has}
 
 abbrev Entry : Type 0

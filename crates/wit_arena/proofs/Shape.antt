@@ -1,16 +1,12 @@
 -- Types refer backwards, and unnamed ones are one where they are equal.
 use Rattle.std.proofs.Common.{◌≡◌, ℕ, List, [], ◌∷◌, take, Some, None, inl, inr, sym, ap, ◌∙◌, subst, arith}
-use Rattle.std.specs.Prelude.{slice_get}
-use Rattle.std.proofs.lemmas.Option.{slice_get_within}
+use Rattle.wit_syntax.proofs.Common.{TypeDef, TypeDefKind, at_take, at_within, slice_get, slice_get_within}
 use Rattle.wit_types.specs.declared.types.«Type».{«Type» as Ty}
-use Rattle.wit_types.specs.declared.types.TypeDef.{TypeDef}
-use Rattle.wit_types.specs.declared.types.TypeDefKind.{TypeDefKind}
 use Rattle.wit_arena.specs.Kind.{kind_of}
 use Rattle.wit_arena.specs.Expr.{Expr, Prim, Use, Of, Exprs, End, More, name_exprs}
 use Rattle.wit_arena.specs.Occurrences.{Key, Def, Whole, IsAt, AreAt, Decls, IsEntry, IsKeyed}
 use Rattle.wit_arena.specs.UnfoldedTypes.{At, IsBelow}
 use Rattle.wit_arena.proofs.Parts.{HasPart}
-use Rattle.wit_syntax.proofs.Lists.{at_take, at_within}
 use Rattle.wit_arena.proofs.Primitives.{primitive_below}
 use Rattle.wit_arena.proofs.Places.{all_at_untaken, all_at_injective}
 

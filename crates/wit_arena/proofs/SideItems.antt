@@ -1,17 +1,9 @@
 -- The functions and the types among what is on a side, and the addresses of its interfaces.
 use Rattle.std.proofs.Common.{◌≡◌, ℕ, List, [], ◌∷◌, ◌++◌, Option, Some, None, refl, sym, ap, ◌∙◌, map, inl, inr}
-use Rattle.std.specs.Prelude.{slice_get}
-use Rattle.std.specs.List.{flat_map}
-use Rattle.std.proofs.lemmas.Bool.{cases_Bool, cond-true, cond-false}
-use Rattle.wit_type_tree.specs.declared.leaves.Id.{Id}
-use Rattle.wit_tree.specs.declared.tree.WorldSide.{WorldSide}
+use Rattle.wit_syntax.proofs.Common.{Address, Id, Link, SideFunction, SideInline, SideItem, SideLink, TopName, WorldSide, cases_Bool, cond-false, cond-true, flat_map, item_function, path_scope, role_side, same_side, slice_get}
 use Rattle.wit_functions.specs.declared.function.Function.{Function}
 use Rattle.wit_model.specs.declared.world.WorldKey.{WorldKey}
 use Rattle.wit_model.specs.declared.world.WorldItem.{WorldItem}
-use Rattle.wit_syntax.specs.Address.{Address}
-use Rattle.wit_syntax.specs.ExternPart.{same_side}
-use Rattle.wit_syntax.specs.Source.{TopName, path_scope}
-use Rattle.wit_syntax.specs.Sides.{role_side, SideItem, SideFunction, SideLink, SideInline, Link, item_function}
 use Rattle.wit_arena.specs.SourceFunctions.{by_name, function_item}
 use Rattle.wit_arena.specs.UnfoldedTypes.{import_types, item_functions}
 use Rattle.wit_arena.specs.SideItems.{link_item, inline_entry, put_on, AreSideItems}

@@ -1,29 +1,10 @@
 -- What is on the sides of a world is done, one after another: its functions, and the interfaces that are written there.
 use Rattle.std.proofs.Common.{◌≡◌, ℕ, suc, ◌+◌, false, List, [], ◌∷◌, ◌++◌, length, map, Some, inl, inr, refl, sym, ap, ◌∙◌, subst, append_assoc, arith, length-append}
-use Rattle.std.specs.Prelude.{slice_get}
-use Rattle.std.specs.List.{flat_map}
-use Rattle.std.proofs.lemmas.List.{append-nil, map-append}
-use Rattle.wit_tree.specs.declared.tree.Extern.{Extern}
-use Rattle.wit_type_tree.specs.declared.leaves.Id.{Id}
-use Rattle.wit_tree.specs.declared.tree.InterfaceItem.{InterfaceItem}
+use Rattle.wit_syntax.proofs.Common.{Address, AllDiffer, Extern, Id, InterfaceItem, Item, Link, PackageFile, ScopeName, SideFunction, SideInline, SideItem, SideLink, SourceFunction, TypeDef, address, after_one, all_handles, all_types, append-nil, at_back, at_either, at_part, at_prefix, at_seam, differ_head, differ_tail, flat_map, functions, functions_imported, in_turn, is_world, item_function, item_inline, map-append, scope, scope_names, slice_get, written_types}
 use Rattle.wit_type_tree.specs.declared.types.«Type».{«Type» as Written}
-use Rattle.wit_tree.specs.declared.tree.PackageFile.{PackageFile}
-use Rattle.wit_types.specs.declared.types.TypeDef.{TypeDef}
 use Rattle.wit_types.specs.declared.types.TypeOwner.TheVariants as owner
 use Rattle.wit_functions.specs.declared.function.Function.{Function}
 use Rattle.wit_model.specs.declared.interface.Interface.{Interface}
-use Rattle.wit_syntax.specs.Address.{Address}
-use Rattle.wit_syntax.specs.Function.{SourceFunction, functions, written_types, all_types}
-use Rattle.wit_syntax.specs.Repeats.{AllDiffer}
-use Rattle.wit_syntax.specs.ScopeTables.{in_turn}
-use Rattle.wit_syntax.specs.Shape.{all_handles}
-use Rattle.wit_syntax.specs.Sides.{SideItem, SideFunction, Link, SideLink, SideInline, item_function, item_inline}
-use Rattle.wit_syntax.specs.Source.{address, Item, is_world, ScopeName, scope_names}
-use Rattle.wit_syntax.specs.ScopesOfTrees.{scope}
-use Rattle.wit_syntax.proofs.Kept.{after_one, differ_head, differ_tail}
-use Rattle.wit_syntax.proofs.Lists.{at_prefix, at_back, at_seam, at_either}
-use Rattle.wit_syntax.proofs.Sides.{functions_imported}
-use Rattle.wit_syntax.proofs.Turns.{at_part}
 use Rattle.wit_arena.specs.SourceFunctions.{IsFunction}
 use Rattle.wit_arena.specs.Occurrences.{Key, Def, Occurrence, keys, Collects, Decls, all_function_occurrences}
 use Rattle.wit_arena.specs.UnfoldedTypes.{interface_functions}

@@ -1,28 +1,12 @@
 -- The types in functions of files: each form in them is one that an unnamed type can have.
 use Rattle.std.proofs.Common.{◌≡◌, ℕ, zero, suc, List, [], ◌∷◌, map, Option, Some, None, inl, inr, subst}
-use Rattle.std.specs.Prelude.{slice_get}
-use Rattle.std.specs.Option.{option_map, option_map_or, option_to_list}
-use Rattle.wit_type_tree.specs.declared.leaves.Id.{Id}
+use Rattle.wit_syntax.proofs.Common.{Address, Attribute, DefinitionPart, ExternPart, Func, FunctionPart, Id, IncludePart, Item, NamedFunc, PackageFile, Param, Part, ResourceFunc, Role, Shape, SourceFunction, SourceParam, TypeBody, UsePart, Word, all_params, all_scopes, at_split, definition_functions, extern_at, flat_map_at, free_function, function_of, functions, item_at, map_at, option_map, option_map_or, option_to_list, part_functions, parts, resource_function, self_param, shape_of, side_function, signature, slice_get, written_param}
 use Rattle.wit_type_tree.specs.declared.types.«Type».{«Type» as Written}
-use Rattle.wit_type_tree.specs.declared.types.NamedFunc.{NamedFunc}
-use Rattle.wit_type_tree.specs.declared.types.Param.{Param}
-use Rattle.wit_type_tree.specs.declared.types.TypeBody.{TypeBody}
 use Rattle.wit_type_tree.specs.declared.types.TypeBody.TheVariants as body
-use Rattle.wit_type_tree.specs.declared.types.ResourceFunc.{ResourceFunc}
 use Rattle.wit_type_tree.specs.declared.types.ResourceFunc.TheVariants as resource
-use Rattle.wit_tree.specs.declared.tree.PackageFile.{PackageFile}
-use Rattle.wit_syntax.specs.Shape.{Shape, Word, shape_of}
-use Rattle.wit_syntax.specs.Address.{Address}
-use Rattle.wit_syntax.specs.Source.{Item, item_at, Part, DefinitionPart, UsePart, IncludePart, FunctionPart, ExternPart, parts}
-use Rattle.wit_syntax.specs.Sides.{all_scopes}
-use Rattle.wit_syntax.specs.Function.{Role, SourceParam, SourceFunction, all_params, written_param, self_param, free_function, resource_function, definition_functions, part_functions, functions, signature, function_of, side_function}
 use Rattle.wit_arena.specs.Whole.{functions_at}
-use Rattle.wit_syntax.proofs.Lists.{at_split, map_at, flat_map_at}
 use Rattle.wit_arena.proofs.Forms.{AreAnonymous, written_anonymous}
-use Rattle.wit_type_tree.specs.declared.types.Func.{Func}
 use Rattle.wit_type_tree.specs.declared.leaves.Docs.{Docs}
-use Rattle.wit_type_tree.specs.declared.leaves.Attribute.{Attribute}
-use Rattle.wit_syntax.proofs.Externs.{extern_at}
 
 -- of a function
 record IsPlain (fn : SourceFunction) : Type 0 where

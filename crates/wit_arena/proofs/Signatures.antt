@@ -1,27 +1,16 @@
 -- What occurs in functions, and the types of functions of the package.
 use Rattle.std.proofs.Common.{◌≡◌, ℕ, suc, List, [], ◌∷◌, ◌++◌, length, map, Some, inl, inr, refl, sym, ap, ◌∙◌, subst, length-append, arith}
-use Rattle.std.specs.Prelude.{slice_get}
-use Rattle.std.specs.List.{flat_map}
-use Rattle.std.specs.Option.{option_to_list}
-use Rattle.std.proofs.lemmas.Grind.{flat_map-append}
-use Rattle.std.proofs.lemmas.List.{length-map}
-use Rattle.std.proofs.lemmas.Option.{slice_get_within}
-use Rattle.wit_types.specs.declared.stability.Stability.TheVariants.{Unknown}
+use Rattle.wit_syntax.proofs.Common.{Address, Constructor, Form, Freestanding, Method, OnSide, Role, Shape, SourceFunction, SourceParam, Static, Unknown, all_params, at_split, at_within, flat_map, flat_map-append, length-map, map_at, option_to_list, signature, slice_get, slice_get_within}
 use Rattle.wit_types.specs.declared.types.«Type».{«Type» as Ty}
 use Rattle.wit_functions.specs.declared.function.Function.{Function}
 use Rattle.wit_functions.specs.declared.function.FunctionKind.{FunctionKind}
 use Rattle.wit_functions.specs.declared.function.Param.{Param}
-use Rattle.wit_syntax.specs.Form.{Form}
-use Rattle.wit_syntax.specs.Shape.{Shape}
-use Rattle.wit_syntax.specs.Address.{Address}
-use Rattle.wit_syntax.specs.Function.{Role, Freestanding, Method, Static, Constructor, OnSide, SourceParam, SourceFunction, all_params, signature}
 use Rattle.wit_arena.specs.SourceFunctions.{IsKind, IsFunction, AreFunctions, IsParam}
 use Rattle.wit_arena.specs.Expr.{Exprs, expr_of, exprs_of}
 use Rattle.wit_arena.specs.Occurrences.{Key, Def, Whole, Occurrence, keys, Collects, IsAt, shape_occurrences, shapes_occurrences, all_function_occurrences}
 use Rattle.wit_arena.specs.UnfoldedTypes.{function_types}
 use Rattle.wit_arena.specs.Resolving.{ResolvedScope, Env, env_of, seen, all_seen, AreNames, AreKnown}
 use Rattle.wit_arena.specs.Adding.{gathered}
-use Rattle.wit_syntax.proofs.Lists.{at_split, at_within, map_at}
 use Rattle.wit_arena.proofs.Keys.{keys-shape, keys-shapes}
 use Rattle.wit_arena.proofs.Occurrence.{Has, has_either, keys-append, names_kept, no_defs}
 use Rattle.wit_arena.proofs.Places.{Extended, key_extended, at_extended}

@@ -1,30 +1,16 @@
 -- The types and the functions among what a world imports and exports, and what owners state of the functions that were made of theirs.
 use Rattle.std.proofs.Common.{◌≡◌, ℕ, ◌+◌, List, [], ◌∷◌, ◌++◌, length, map, Some, inl, inr, refl, sym, ap, ◌∙◌, subst}
-use Rattle.std.specs.Prelude.{slice_get}
-use Rattle.std.specs.List.{flat_map}
-use Rattle.std.specs.Option.{option_map}
-use Rattle.std.proofs.lemmas.List.{append-nil}
-use Rattle.std.proofs.lemmas.Option.{slice_get-map}
-use Rattle.std.proofs.lemmas.Grind.{flat_map-append}
-use Rattle.wit_tree.specs.declared.tree.Include.{Include}
-use Rattle.wit_tree.specs.declared.tree.WorldSide.{WorldSide}
-use Rattle.wit_tree.specs.declared.tree.WorldSide.TheVariants.{Imported, Exported}
+use Rattle.wit_syntax.proofs.Common.{Address, Exported, FunctionKey, Imported, Include, ScopeName, SideItem, SourceFunction, TopName, WorldSide, append-nil, at_back, at_prefix, at_split, flat_map, flat_map-append, item_function, local_name, local_names, map_at, option_map, role_side, slice_get, slice_get-map}
 use Rattle.wit_functions.specs.declared.function.Function.{Function}
 use Rattle.wit_model.specs.declared.interface.Interface.{Interface}
 use Rattle.wit_model.specs.declared.world.World.{World}
-use Rattle.wit_syntax.specs.Source.{TopName, ScopeName, local_name}
-use Rattle.wit_syntax.specs.Address.{Address}
 use Rattle.wit_model.specs.declared.world.WorldKey.{WorldKey}
 use Rattle.wit_model.specs.declared.world.WorldItem.{WorldItem}
-use Rattle.wit_syntax.specs.ScopeTables.{local_names}
-use Rattle.wit_syntax.specs.Function.{SourceFunction}
-use Rattle.wit_syntax.specs.Sides.{role_side, FunctionKey, SideItem, item_function}
 use Rattle.wit_arena.specs.SourceFunctions.{by_name, placed_functions}
 use Rattle.wit_arena.specs.SideItems.{AreSideItems, settled}
 use Rattle.wit_arena.specs.UnfoldedTypes.{import_types, item_functions, keyed, interface_functions, world_functions}
 use Rattle.wit_arena.specs.Whole.{type_imports}
 use Rattle.wit_arena.specs.Resolving.{Names}
-use Rattle.wit_syntax.proofs.Lists.{at_prefix, at_back, at_split, map_at}
 use Rattle.wit_arena.proofs.FreeNames.{made_key, AreStated}
 use Rattle.wit_arena.proofs.MadeOn.{made_on, made_on_has, made_on_pair}
 use Rattle.wit_arena.proofs.SideItems.{side_functions}

@@ -1,21 +1,10 @@
 -- Words for what the definitions of occurrences, of turns and of kinds say in place.
-use Rattle.std.specs.Prelude.{ℕ, List, [], ◌∷◌, map}
-use Rattle.std.specs.List.{flat_map, filter}
-use Rattle.wit_types.specs.declared.stability.Stability.{Stability}
-use Rattle.wit_tree.specs.declared.tree.PackageFile.{PackageFile}
+use Rattle.wit_syntax.proofs.Common.{Address, ForeignVisit, FuncForm, Item, List, PackageFile, ScopeName, SourceFunction, Stability, [], about_name, filter, flat_map, foreign_visits, map, same_address, scope, stability_of, unwrap_or, visited, ℕ, ◌∷◌}
 use Rattle.wit_model.specs.declared.ast_item.AstItem.{AstItem}
-use Rattle.wit_syntax.specs.Address.{Address, same_address}
-use Rattle.wit_syntax.specs.Metadata.{stability_of}
-use Rattle.wit_syntax.specs.Source.{Item, ScopeName, about_name}
-use Rattle.wit_syntax.specs.ScopesOfTrees.{scope}
-use Rattle.wit_syntax.specs.Foreign.{ForeignVisit, visited, foreign_visits}
-use Rattle.wit_syntax.specs.Function.{SourceFunction}
-use Rattle.wit_type_tree.specs.declared.types.FuncForm.{FuncForm}
 use Rattle.wit_functions.specs.declared.function.FunctionKind.{FunctionKind}
 use Rattle.wit_arena.specs.SourceFunctions.{kinds_of}
 use Rattle.wit_arena.specs.Occurrences.{Occurrence, shapes_occurrences, name_occurrences}
 use Rattle.wit_arena.specs.Whole.{Ordered, OrderedWorld, Turned, turn_occurrences, foreign_entry}
-use Rattle.std.specs.Option.{unwrap_or}
 
 abbrev pub item_of : Ordered → Item
 item_of o = o.item

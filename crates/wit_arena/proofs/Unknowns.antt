@@ -1,32 +1,17 @@
 -- The types of unknown form are exactly the start of the arena: one for each name that is used from another package.
 use Rattle.std.proofs.Common.{◌≡◌, ◌↔◌, ℕ, ◌<◌, true, false, List, [], ◌∷◌, ◌++◌, length, Option, Some, None, inl, inr, refl, sym, ap, ◌∙◌, subst, arith}
-use Rattle.std.specs.Prelude.{slice_get, map}
-use Rattle.std.specs.Option.{option_map, option_map_or}
-use Rattle.std.proofs.lemmas.Bool.{cases_Bool}
-use Rattle.std.proofs.lemmas.Option.{slice_get-map, slice_get_within}
-use Rattle.wit_type_tree.specs.declared.leaves.Id.{Id}
-use Rattle.wit_type_tree.specs.declared.leaves.Attribute.{Attribute}
-use Rattle.wit_tree.specs.declared.tree.PackageFile.{PackageFile}
-use Rattle.wit_types.specs.declared.types.TypeDef.{TypeDef}
-use Rattle.wit_syntax.specs.Form.{UnknownForm}
+use Rattle.wit_syntax.proofs.Common.{Address, Attribute, Defined, ForeignName, ForeignNamed, ForeignUse, Id, InlineAt, InterfaceNamed, Item, PackageFile, ScopeName, TypeDef, TypeOwner, UnknownForm, Used, WorldNamed, about_name, all_scopes, at_within, cases_Bool, first_foreign_uses, firsts_at, foreign_uses, is_foreign, item_at, local_name, map, option_map, option_map_or, same_foreign_use, scope, scope_names, slice_get, slice_get-map, slice_get_within}
 use Rattle.wit_arena.specs.Kind.{kind_of}
-use Rattle.wit_syntax.specs.Address.{Address, InterfaceNamed, WorldNamed, InlineAt, ForeignNamed, is_foreign}
-use Rattle.wit_syntax.specs.Source.{Item, item_at, ScopeName, Used, Defined, ForeignName, local_name, scope_names, ForeignUse, foreign_uses, same_foreign_use, first_foreign_uses, about_name}
-use Rattle.wit_syntax.specs.ScopesOfTrees.{scope}
-use Rattle.wit_syntax.specs.Sides.{all_scopes}
 use Rattle.wit_arena.specs.Occurrences.{Key, Def, Whole, Occurrence, keys, Collects, Decls}
 use Rattle.wit_arena.specs.Whole.{foreign_use_occurrence}
 use Rattle.wit_arena.specs.Faithful.{IsAnonymousForm}
-use Rattle.wit_syntax.proofs.Lists.{at_within}
 use Rattle.wit_arena.proofs.Places.{Extended, key_extended}
 use Rattle.wit_arena.proofs.Occurrence.{collects_extended}
-use Rattle.wit_syntax.proofs.Firsts.{firsts_at}
 use Rattle.wit_arena.proofs.Shape.{key_of}
 use Rattle.wit_arena.proofs.Forms.{body_known}
 use Rattle.wit_arena.proofs.Members.{DoneScope, IsPresent}
 use Rattle.wit_arena.proofs.Itemizing.{own_names}
 use Rattle.wit_arena.proofs.ForeignUses.{foreign_use_key, keys-foreign_uses, foreign_uses_seen, used_at, used_name_at}
-use Rattle.wit_types.specs.declared.types.TypeOwner.{TypeOwner}
 
 -- what occurs after a prefix
 collects_after : (ks ls : List Occurrence) (a b c : List Occurrence) → Collects a ks b → Collects a (ks ++ ls) c → Collects b ls c

@@ -1,20 +1,7 @@
 -- Used names, one after another.
 use Rattle.std.proofs.Common.{◌≡◌, ℕ, zero, suc, List, [], ◌∷◌, ◌++◌, length, Some, IsSome, true, inl, inr, nat_eq, refl, sym, ap, ◌∙◌}
-use Rattle.std.specs.Prelude.{slice_get, map}
-use Rattle.std.specs.Cmp.Lexicographic.{pointwise}
-use Rattle.std.specs.Map.{lookup}
-use Rattle.std.specs.Option.{option_map}
-use Rattle.std.proofs.lemmas.Option.{slice_get-map}
-use Rattle.std.proofs.lemmas.List.{map-append}
-use Rattle.wit_types.specs.declared.types.TypeDef.{TypeDef}
-use Rattle.wit_types.specs.declared.types.TypeOwner.{TypeOwner}
-use Rattle.wit_type_tree.specs.declared.leaves.Attribute.{Attribute}
-use Rattle.wit_tree.specs.declared.tree.UseName.{UseName}
-use Rattle.wit_syntax.specs.Address.{Address}
-use Rattle.wit_syntax.specs.Source.{ScopeName, Used, local_name}
+use Rattle.wit_syntax.proofs.Common.{Address, Attribute, ScopeName, TypeDef, TypeOwner, UseName, Used, local_name, local_names, lookup, map, map-append, name_cases, name_itself, names-insert_entry, option_map, pointwise, slice_get, slice_get-map}
 use Rattle.wit_arena.specs.Resolving.{Names, ResolvedScope, env_of, HasNames, IsUsed}
-use Rattle.wit_syntax.specs.ScopeTables.{local_names}
-use Rattle.wit_syntax.proofs.Names.{name_cases, name_itself, names-insert_entry}
 
 -- a name that is listed finds a value
 pub lookup-listed : (es : Names) (k : ℕ) (name : List ℕ) → slice_get (map (λ p. p.0) es) k ≡ Some name → IsSome (lookup (pointwise nat_eq name) es)

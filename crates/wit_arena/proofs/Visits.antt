@@ -1,36 +1,9 @@
 -- The items of other packages, at the places of their first visits.
 use Rattle.std.proofs.Common.{◌≡◌, ℕ, zero, suc, ◌+◌, Bool, true, false, not, cond, List, [], ◌++◌, length, Option, Some, None, ◌⊎◌, inl, inr, refl, sym, ap, ◌∙◌, Contains}
-use Rattle.std.specs.Prelude.{slice_get, map, find}
-use Rattle.std.specs.List.{flat_map}
-use Rattle.std.specs.Option.{option_map, option_map_or}
-use Rattle.std.specs.Str.{bytes_eq}
-use Rattle.std.proofs.lemmas.Bool.{cases_Bool, not-true}
-use Rattle.wit_type_tree.specs.declared.leaves.Id.{Id}
-use Rattle.wit_type_tree.specs.declared.leaves.Attribute.{Attribute}
-use Rattle.wit_tree.specs.declared.tree.Use.{Use}
-use Rattle.wit_tree.specs.declared.tree.UsePath.{UsePath}
+use Rattle.wit_syntax.proofs.Common.{Address, AllDiffer, AstItem, Attribute, DefinitionPart, Exported, ExternPart, Foreign, ForeignNamed, ForeignVisit, FunctionPart, Id, Imported, IncludePart, Item, Local, PackageFile, PackageName, Part, TheInterface, TheWorld, TopName, Use, UsePart, UsePath, WorldSide, address, all_items, at_back, at_contains, at_part, at_prefix, at_side, bytes_eq, cases_Bool, contains_at, declaration_visits, declared_items, differ_at, differ_join, extern_paths, extern_visits, file_items, file_visits, find, find_at, find_passes, find_some, firsts_differ, firsts_has, flat_map, flat_map_at, flat_map_has, foreign_at, foreign_interfaces, foreign_items, foreign_visits, foreign_worlds, inline_uses, is_foreign, is_world_at, kept_at, kept_differ, kept_has, leads, map, map_at, not-true, option_map, option_map_or, package_of, part_uses, part_visits, parts, path_visits, same_address, same_address-equal, same_address-from, same_item, side_itself, slice_get, top_name, top_names, top_text, use_path, use_paths, uses, visited, walk}
 use Rattle.wit_tree.specs.declared.tree.UsePath.TheVariants as path
-use Rattle.wit_tree.specs.declared.tree.AstItem.{AstItem}
 use Rattle.wit_tree.specs.declared.tree.AstItem.TheVariants as ast
-use Rattle.wit_tree.specs.declared.tree.PackageFile.{PackageFile}
-use Rattle.wit_tree.specs.declared.tree.WorldSide.{WorldSide}
-use Rattle.wit_tree.specs.declared.tree.WorldSide.TheVariants.{Imported, Exported}
-use Rattle.wit_package_names.specs.declared.package_name.PackageName.{PackageName}
-use Rattle.wit_syntax.specs.Address.{Address, ForeignNamed, package_of, same_address, is_foreign}
-use Rattle.wit_syntax.specs.ExternPart.{extern_paths, inline_uses}
-use Rattle.wit_syntax.specs.Source.{Local, Foreign, DefinitionPart, UsePart, IncludePart, FunctionPart, ExternPart, TopName, top_name, top_names, top_text, leads, Part, Item, declared_items, file_items, all_items, address, parts, TheInterface, TheWorld, at_side, walk}
-use Rattle.wit_syntax.specs.Foreign.{ForeignVisit, visited, path_visits, part_visits, extern_visits, declaration_visits, file_visits, foreign_visits, same_item, foreign_items, foreign_interfaces, foreign_worlds, foreign_at}
-use Rattle.wit_syntax.specs.ScopeTables.{use_path, use_paths, part_uses, uses}
-use Rattle.wit_syntax.specs.Broken.{is_world_at}
 use Rattle.wit_arena.specs.ResolvedArenas.{AreUsableUses}
-use Rattle.wit_syntax.specs.Repeats.{AllDiffer}
-use Rattle.wit_syntax.proofs.Lists.{at_prefix, at_back, map_at, flat_map_at, flat_map_has}
-use Rattle.wit_syntax.proofs.Addresses.{side_itself, same_address-from, same_address-equal}
-use Rattle.wit_syntax.proofs.Repeated.{differ_at, differ_join}
-use Rattle.wit_syntax.proofs.Kept.{kept_at, kept_has, kept_differ}
-use Rattle.wit_syntax.proofs.Firsts.{firsts_has, firsts_differ}
-use Rattle.wit_syntax.proofs.Found.{contains_at, at_contains, find_at, find_passes, find_some}
-use Rattle.wit_syntax.proofs.Turns.{at_part}
 use Rattle.wit_arena.proofs.Interfaces.{AreAddresses, own_address}
 
 -- what is found is the only one that passes

@@ -1,10 +1,6 @@
 -- Where unnamed types occur in scopes.
 use Rattle.std.proofs.Common.{◌≡◌, ℕ, suc, List, [], ◌∷◌, ◌++◌, Some, ◌⊎◌, inl, inr, refl, subst}
-use Rattle.std.specs.Prelude.{slice_get}
-use Rattle.wit_syntax.specs.Form.{Form}
-use Rattle.wit_syntax.specs.Address.{Address}
-use Rattle.wit_syntax.specs.Source.{ScopeName, local_name}
-use Rattle.wit_syntax.specs.Function.{SourceFunction}
+use Rattle.wit_syntax.proofs.Common.{Address, Form, ScopeName, SourceFunction, local_name, slice_get}
 use Rattle.wit_arena.specs.Expr.{Exprs, name_exprs}
 use Rattle.wit_arena.specs.Occurrences.{Key, Def, Whole, keys, name_occurrences, all_function_occurrences}
 use Rattle.wit_arena.specs.Resolving.{all_seen}

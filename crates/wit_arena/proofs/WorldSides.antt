@@ -1,29 +1,10 @@
 -- The names of a world that comes next, and what is on its sides, after interfaces and worlds that are done.
 use Rattle.std.proofs.Common.{◌≡◌, ℕ, ◌+◌, true, false, List, [], ◌∷◌, ◌++◌, length, map, Some, inl, inr, sym, ap, ◌∙◌, subst, append_assoc, arith, length-append}
-use Rattle.std.specs.Prelude.{slice_get}
-use Rattle.std.specs.List.{flat_map}
-use Rattle.std.specs.Option.{option_map}
-use Rattle.std.proofs.lemmas.Grind.{flat_map-append}
-use Rattle.std.proofs.lemmas.List.{append-nil, map-append, length-map}
-use Rattle.std.proofs.lemmas.Option.{slice_get_within, slice_get-map}
-use Rattle.wit_tree.specs.declared.tree.PackageFile.{PackageFile}
+use Rattle.wit_syntax.proofs.Common.{Address, FunctionKey, Item, PackageFile, ScopeName, SideItem, TypeDef, TypeOwner, WorldNamed, address, all_items, append-nil, at_back, at_either, at_part, at_prefix, at_seam, differ_at, differ_by, flat_map, flat_map-append, foreign_interfaces, foreign_worlds, in_turn, inline_inside, inline_interface, inline_items, inline_items_differ, inside_one, is_inside, length-map, map-append, map_at, option_map, scope, scope_names, slice_get, slice_get-map, slice_get_within, visited}
 use Rattle.wit_functions.specs.declared.function.Function.{Function}
 use Rattle.wit_model.specs.declared.interface.Interface.{Interface}
 use Rattle.wit_model.specs.declared.world.World.{World}
-use Rattle.wit_types.specs.declared.types.TypeDef.{TypeDef}
-use Rattle.wit_types.specs.declared.types.TypeOwner.{TypeOwner}
 use Rattle.wit_types.specs.declared.types.TypeOwner.TheVariants as owner
-use Rattle.wit_syntax.specs.Address.{Address, WorldNamed}
-use Rattle.wit_syntax.specs.Sides.{FunctionKey, SideItem, inline_items}
-use Rattle.wit_syntax.specs.Source.{address, Item, all_items, ScopeName, scope_names}
-use Rattle.wit_syntax.specs.ScopesOfTrees.{scope}
-use Rattle.wit_syntax.specs.Foreign.{visited, foreign_interfaces, foreign_worlds}
-use Rattle.wit_syntax.specs.ScopeTables.{in_turn}
-use Rattle.wit_syntax.proofs.Lists.{at_prefix, at_back, at_seam, at_either, map_at}
-use Rattle.wit_syntax.proofs.Turns.{at_part}
-use Rattle.wit_syntax.proofs.Repeated.{differ_at, differ_by}
-use Rattle.wit_syntax.proofs.Inline.{is_inside, inline_inside, inline_interface, inline_items_differ}
-use Rattle.wit_syntax.proofs.Scopes.{inside_one}
 use Rattle.wit_arena.specs.Occurrences.{Occurrence}
 use Rattle.wit_arena.specs.ResolvedArenas.{interfaces_at, worlds_at, WorldArenas, AddsScope, AddsSides, AddsForeign, AreUsableUses}
 use Rattle.wit_arena.specs.Resolving.{Names, ResolvedScope, Required, resolved_scopes, Defines}

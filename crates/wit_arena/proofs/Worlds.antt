@@ -1,26 +1,10 @@
 -- Worlds that were added are done, after interfaces, each with the interfaces that are written in it.
 use Rattle.std.proofs.Common.{◌≡◌, ℕ, suc, ◌+◌, true, false, List, [], ◌∷◌, ◌++◌, length, map, Some, inl, inr, refl, sym, ap, ◌∙◌, subst, append_assoc, arith, length-append, zero-add, add-zero}
-use Rattle.std.specs.Prelude.{slice_get}
-use Rattle.std.specs.List.{flat_map}
-use Rattle.std.proofs.lemmas.Grind.{flat_map-append}
-use Rattle.std.proofs.lemmas.List.{append-nil, map-append, length-map}
-use Rattle.wit_type_tree.specs.declared.leaves.Id.{Id}
-use Rattle.wit_tree.specs.declared.tree.PackageFile.{PackageFile}
-use Rattle.wit_tree.specs.declared.tree.WorldSide.TheVariants.{Imported, Exported}
+use Rattle.wit_syntax.proofs.Common.{Address, Exported, FunctionKey, Id, Imported, Item, PackageFile, ScopeName, SourceFunction, TypeDef, address, all_handles, all_items, append-nil, at_back, at_either, at_prefix, at_seam, flat_map, flat_map-append, flat_map_has, foreign_interfaces, foreign_worlds, functions, functions_items, in_turn, includes, inline_items, item_function, length-map, local_names, map-append, name_types, scope_names, side_items, slice_get, visited, written_types}
 use Rattle.wit_functions.specs.declared.function.Function.{Function}
 use Rattle.wit_model.specs.declared.interface.Interface.{Interface}
 use Rattle.wit_model.specs.declared.world.World.{World}
-use Rattle.wit_types.specs.declared.types.TypeDef.{TypeDef}
-use Rattle.wit_syntax.specs.Address.{Address}
-use Rattle.wit_syntax.specs.Function.{SourceFunction, functions, name_types, written_types}
-use Rattle.wit_syntax.specs.Shape.{all_handles}
 use Rattle.wit_type_tree.specs.declared.types.«Type».{«Type» as Written}
-use Rattle.wit_syntax.specs.Sides.{FunctionKey, item_function, side_items, inline_items}
-use Rattle.wit_syntax.specs.Source.{address, Item, all_items, ScopeName, scope_names}
-use Rattle.wit_syntax.specs.Foreign.{visited, foreign_interfaces, foreign_worlds}
-use Rattle.wit_syntax.specs.ScopeTables.{in_turn, includes, local_names}
-use Rattle.wit_syntax.proofs.Lists.{at_prefix, at_back, at_seam, at_either, flat_map_has}
-use Rattle.wit_syntax.proofs.Legal.{functions_items}
 use Rattle.wit_arena.specs.Occurrences.{Occurrence, keys, Collects}
 use Rattle.wit_arena.specs.UnfoldedTypes.{import_types, world_functions}
 use Rattle.wit_arena.specs.SideItems.{settled}

@@ -1,17 +1,9 @@
 -- Written types by their parts: the shapes of these, and the names in them.
 use Rattle.std.proofs.Common.{◌≡◌, List, [], ◌∷◌, ◌++◌, refl, sym, ap, ◌∙◌, append_assoc, Vec}
-use Rattle.std.proofs.lemmas.List.{append-nil}
-use Rattle.std.specs.declared.alloc.Global.{Global}
-use Rattle.wit_values.specs.declared.span.Span.{Span}
-use Rattle.wit_type_tree.specs.declared.leaves.Id.{Id}
-use Rattle.wit_type_tree.specs.declared.types.«Type».{«Type» as Written, None', Some', Row_of-Type, end_of-Type, more_of-Type}
-use Rattle.wit_type_tree.specs.declared.types.ResultTypes.{ResultTypes, Neither, Ok', Err', Both'}
+use Rattle.wit_syntax.proofs.Common.{Address, Both', Err', Global, Id, More, Neither, None', Of, Ok', Prim, ResultTypes, Row_of-Type, Shape, Shapes, Some', Span, Stability, Word, all_handles, all_shapes, all_words, append-nil, end_of-Type, handles, head, more_of-Type, part_types, result_shapes, result_types, row_handles, row_shapes, row_types, shape_of, tuple_types, words}
+use Rattle.wit_type_tree.specs.declared.types.«Type».{«Type» as Written}
 use Rattle.wit_type_tree.specs.declared.types.«Type».TheVariants as written
-use Rattle.wit_type_tree.proofs.Rows.{tuple_types}
-use Rattle.wit_type_tree.specs.TypeParts.{result_types, row_types, part_types}
-use Rattle.wit_types.specs.declared.stability.Stability.{Stability}
-use Rattle.wit_syntax.specs.Shape.{Shape, Prim, Word, Of, Shapes, End, More, shape_of, result_shapes, row_shapes, all_shapes, head, words, all_words, handles, row_handles, all_handles}
-use Rattle.wit_syntax.specs.Address.{Address}
+use Rattle.wit_syntax.specs.Shape.{End}
 use Rattle.wit_arena.specs.Expr.{joined, expr_of, exprs_of}
 use Rattle.wit_arena.specs.Expr as exprs
 use Rattle.wit_arena.specs.Occurrences.{shape_occurrences, shapes_occurrences}

@@ -1,59 +1,20 @@
 -- Where names in handles end in an arena, they end by files in so many steps: also once some names of the next interface or world, or of what is written in it, were added.
 use Rattle.std.proofs.Common.{◌≡◌, ℕ, zero, suc, ◌<◌, List, [], ◌∷◌, ◌++◌, take, Option, Some, None, inl, inr, refl, sym, ap, ◌∙◌, arith, true, false, length, map, subst, ◌+◌}
-use Rattle.std.specs.Prelude.{slice_get}
-use Rattle.std.proofs.lemmas.Bool.{cases_lt}
-use Rattle.wit_type_tree.specs.declared.leaves.Id.{Id}
-use Rattle.wit_tree.specs.declared.tree.PackageFile.{PackageFile}
+use Rattle.wit_syntax.proofs.Common.{Address, AliasForm, AreDistinct, AtForeign, AtResource, Elsewhere, End, EndsAt, Form, Id, IsOrder, Item, PackageFile, ResourceForm, ScopeName, SideItem, TypeDef, TypeOwner, UnknownForm, Word, address, all_items, append-nil, at_part, at_prefix, at_seam, at_take, cases_lt, differ_at, differ_by, flat_map, foreign_interfaces, in_turn, in_turn_among, in_turn_distinct, inline_items, inline_items_differ, length-map, local_name, map-append, map_at, option_map, rows_of, scope, scope_names, shape_end, slice_get, slice_get-map, slice_get_within, visited}
 use Rattle.wit_types.specs.declared.types.«Type».{«Type» as Ty}
 use Rattle.wit_types.specs.declared.types.«Type».TheVariants as type
-use Rattle.wit_types.specs.declared.types.TypeDef.{TypeDef}
-use Rattle.wit_syntax.specs.Address.{Address}
-use Rattle.wit_syntax.specs.Form.{Form, AliasForm, ResourceForm, UnknownForm}
-use Rattle.wit_syntax.specs.NameEnds.{End, AtResource, AtForeign, Elsewhere, EndsAt, shape_end}
-use Rattle.wit_syntax.specs.Shape.{Word}
-use Rattle.wit_syntax.proofs.Lists.{at_take, map_at, at_seam, at_prefix}
-use Rattle.wit_walk.specs.Definitions.{handle_fault, end_fault as walk_fault}
-use Rattle.wit_arena.specs.EntryEnds.{EntryEnd, IsResource, IsUnknown, IsOther, part_end, kind_end, found_end, entry_end}
-use Rattle.wit_arena.specs.Kind.{kind_of}
-use Rattle.wit_arena.specs.Occurrences.{Decls, Def, IsKeyed, Key, Occurrence, keys}
-use Rattle.wit_arena.specs.Resolving.{AreNames, Env, AreKnown, AreOwned, Defines, IsDefined, Names, Required, ResolvedScope, env_of, resolved_scopes}
-use Rattle.wit_arena.proofs.Ends.{EndIs, IsDeclared, end_source-more}
-use Rattle.wit_arena.proofs.Leading.{option_cases}
+use Rattle.wit_walk.proofs.Common.{end_fault as walk_fault, handle_fault}
+use Rattle.wit_arena.proofs.Common.{AddsForeign, AddsInterface, AddsScope, AddsSides, AreItems, AreKnown, AreNames, AreOfSort, AreOwned, AreUsableUses, AreWorldsDone, Decls, Def, Defines, EndIs, EntryEnd, Env, Function, Interface, InterfacesDone, IsDeclared, IsDefined, IsKeyed, IsOther, IsResource, IsUnknown, Key, Names, Occurrence, Required, ResolvedScope, Turned, World, WorldArenas, all_name_occurrences, all_occurrences, all_turns, collects_from, decls, defines_wider, end_source-more, entry_end, env_of, found_end, function_part_declared, item_declared, item_of, item_scopes, keys, kind_end, kind_of, name_seen_in, next_interface, next_world, option_cases, own_item, own_order, part_end, prefix_apart, prefix_scopes, resolved_scopes, resolved_scopes_among, scope_of, scopes_of, turned, world_item_declared}
 use Rattle.wit_entries.specs.EntryFaults.{end_fault, end_in}
 use Rattle.wit_externs.specs.AloneFaults.{EndsIn, IsSafe}
-use Rattle.std.specs.List.{flat_map}
-use Rattle.std.proofs.lemmas.List.{length-map, append-nil, map-append}
-use Rattle.wit_model.specs.declared.interface.Interface.{Interface}
-use Rattle.wit_model.specs.declared.world.World.{World}
-use Rattle.wit_types.specs.declared.types.TypeOwner.{TypeOwner}
 use Rattle.wit_types.specs.declared.types.TypeOwner.TheVariants as owner
-use Rattle.wit_graph.specs.Table.{IsOrder}
-use Rattle.wit_syntax.specs.Foreign.{visited, foreign_interfaces}
-use Rattle.wit_syntax.specs.ScopeTables.{AreDistinct, in_turn, rows_of}
-use Rattle.wit_syntax.specs.ScopesOfTrees.{scope}
-use Rattle.wit_syntax.specs.Source.{address, Item, ScopeName, all_items, local_name, scope_names}
-use Rattle.wit_syntax.proofs.Repeated.{differ_at, differ_by}
-use Rattle.wit_syntax.proofs.Turns.{at_part, in_turn_among, in_turn_distinct}
-use Rattle.wit_arena.specs.ResolvedArenas.{AddsForeign, AreUsableUses, AddsInterface, AddsScope, AddsSides, WorldArenas}
-use Rattle.wit_arena.specs.Whole.{all_occurrences, turned, Turned, all_turns}
-use Rattle.wit_arena.proofs.Added.{InterfacesDone, decls, defines_wider, item_declared, next_interface, prefix_apart, resolved_scopes_among, next_world, world_item_declared}
-use Rattle.wit_arena.proofs.DefinitionPart.{name_seen_in}
 use Rattle.wit_arena.proofs.DoneNames.{function_part_of}
 use Rattle.wit_arena.proofs.FunctionPart.{DoneFunction, IsFunctionPart, scope_functions}
-use Rattle.wit_arena.proofs.Interfaces.{AreItems, AreOfSort, item_scopes, scope_of, functions_of}
+use Rattle.wit_arena.proofs.Interfaces.{functions_of}
 use Rattle.wit_arena.proofs.Members.{DoneScope, IsNameOf, resolved_scope_of, done_address}
-use Rattle.wit_arena.proofs.Occurrence.{collects_from}
-use Rattle.wit_arena.proofs.Prefix.{prefix_scopes}
 use Rattle.wit_arena.proofs.ScopesInTurn.{none_is_next}
-use Rattle.wit_arena.proofs.Turns.{all_name_occurrences, item_of, own_item}
-use Rattle.wit_arena.proofs.DoneWorlds.{function_part_declared, AreWorldsDone, own_order, scopes_of}
 use Rattle.wit_arena.proofs.Sided.{IsFreshInside, b as laid, inline_step, AreSided}
 use Rattle.wit_externs.proofs.AloneFaults.{safe_of}
-use Rattle.std.specs.Option.{option_map}
-use Rattle.std.proofs.lemmas.Option.{slice_get-map, slice_get_within}
-use Rattle.wit_functions.specs.declared.function.Function.{Function}
-use Rattle.wit_syntax.specs.Sides.{SideItem, inline_items}
-use Rattle.wit_syntax.proofs.Inline.{inline_items_differ}
 use Rattle.wit_arena.proofs.Inside.{inside_at, inside_scopes-count}
 use Rattle.wit_arena.proofs.WorldSides.{fresh_inside, names_done, sides_done, world_fresh}
 use Rattle.wit_arena.proofs.WorldSides as done

@@ -1,26 +1,8 @@
 -- The first fault of files from a step of the walk on: of their names, of uses, and of what is in interfaces and worlds.
 use Rattle.std.proofs.Common.{◌≡◌, ◌⊎◌, ℕ, List, Option, Some, None, inl, inr, refl, sym, ap, ◌∙◌, subst}
-use Rattle.std.specs.Prelude.{Result, Ok, Err, IfErr, IsErrAnd}
-use Rattle.std.specs.Option.{option_or}
-use Rattle.wit_type_tree.specs.RefusalText.{IsAllocationFailure}
-use Rattle.wit_type_tree.specs.declared.error.ParseError.{ParseError}
-use Rattle.wit_type_tree.specs.declared.leaves.Id.{Id}
-use Rattle.wit_tree.specs.declared.tree.PackageFile.{PackageFile}
-use Rattle.wit_graph.specs.Table.{Row, IsOrder}
-use Rattle.wit_syntax.specs.Fault.{Fault, cyclic_at, item_word, missing_at}
-use Rattle.wit_syntax.specs.Foreign.{foreign_visits}
-use Rattle.wit_syntax.specs.ScopeTables.{in_order, interfaces_of, item_rows, worlds_of}
-use Rattle.wit_syntax.specs.Source.{all_items}
-use Rattle.wit_first.specs.First.{Finds, Reports, first_in}
-use Rattle.wit_first.specs.FileFaults.{files_fault, tops_fault, visits_fault}
-use Rattle.wit_first.specs.NameFaults.{item_names_fault}
-use Rattle.wit_first.specs.OrderFaults.{IsNamesFault, IsOrderFault, IsOrderedFault, names_prefix}
-use Rattle.wit_first.specs.UseFaults.{all_uses_fault}
-use Rattle.wit_first.proofs.First.{or_assoc, or_none, reports_back, reports_prefix, reports_same}
+use Rattle.wit_syntax.proofs.Common.{Err, Fault, Id, IfErr, IsAllocationFailure, IsErrAnd, IsOrder, Ok, PackageFile, ParseError, Result, Row, all_items, cyclic_at, foreign_visits, in_order, interfaces_of, item_rows, item_word, missing_at, option_or, worlds_of}
+use Rattle.wit_walk.proofs.Common.{AtCycle, AtMissing, Finds, InOrder, IsNamesFault, IsOrderFault, IsOrderedFault, IsOutcome, Known, Outcome, Reports, all_uses_fault, contents_fault, files_fault, first_in, item_names_fault, names_prefix, or_assoc, or_none, order_fault, order_of, outcome_one, reports_back, reports_prefix, reports_same, tops_fault, visits_fault}
 use Rattle.wit_first.proofs.OrderFaults.{or_is, or_neither}
-use Rattle.wit_walk.specs.Orders.{AtCycle, AtMissing, InOrder, IsOutcome, Outcome, order_fault, order_of}
-use Rattle.wit_walk.specs.Walk.{Known, contents_fault}
-use Rattle.wit_walk.proofs.One.{outcome_one}
 use Rattle.wit_contents.specs.FileFaults.{IsRight, fault_after}
 
 -- the fault of the order of a table is that of its outcome

@@ -1,36 +1,13 @@
 -- What holds of files, of what comes before their interfaces and worlds, and once these were added.
 use Rattle.std.proofs.Common.{◌≡◌, List, true, false, sym, ap, ◌∙◌, ◌<◌, ℕ, All, length, map, get_or, Some, subst, ◌≤◌, [], arith}
-use Rattle.wit_tree.specs.declared.tree.PackageFile.{PackageFile}
-use Rattle.wit_syntax.specs.Source.{Declared, all_items, about, scope_names}
-use Rattle.wit_syntax.proofs.Inline.{is_inside}
-use Rattle.wit_syntax.proofs.Scopes.{all_declared}
+use Rattle.wit_syntax.proofs.Common.{Declared, ForeignVisit, IsOrder, PackageFile, TypeDef, WorldSide, about, all_declared, all_items, append-nil, foreign_interfaces, foreign_items, foreign_worlds, headers, is_inside, item_rows, last_header, length-map, option_map, parts_of, release_parts, scope_names, slice_get-get_or, visited}
 use Rattle.wit_contents.specs.Outer.{AreOuter}
-use Rattle.std.proofs.lemmas.List.{length-map, append-nil}
-use Rattle.std.proofs.lemmas.Option.{slice_get-get_or}
-use Rattle.wit_graph.specs.Table.{IsOrder}
-use Rattle.wit_arena.proofs.Itemizing.{items_within}
+use Rattle.wit_arena.proofs.Common.{AddsForeign, AreUsableUses, Interface, IsIndex, IsPackage, IsWorldIndex, Names, NamesOthers, Required, UnresolvedPackage, World, first_docs, index_prefix, interfaces_differ, items_within, resolved_scopes, visited_foreign, world_index_prefix, worlds_at, worlds_at-append}
 use Rattle.wit_items.specs.declared.items.Item.{Item as BorrowedItem}
 use Rattle.wit_items.specs.BorrowedItems.{item_view, HaveSoundUses, others_of, names_view}
-use Rattle.std.specs.Option.{option_map}
-use Rattle.semver.specs.Identifiers.{parts_of}
-use Rattle.wit_values.specs.ReleaseText.{release_parts}
 use Rattle.wit_tree.specs.declared.tree.PackageName.{PackageName as Header}
-use Rattle.wit_model.specs.declared.interface.Interface.{Interface}
-use Rattle.wit_model.specs.declared.world.World.{World}
-use Rattle.wit_types.specs.declared.types.TypeDef.{TypeDef}
-use Rattle.wit_model.specs.declared.unresolved.UnresolvedPackage.{UnresolvedPackage}
-use Rattle.wit_syntax.specs.ScopeTables.{item_rows}
-use Rattle.wit_syntax.specs.Broken.{headers, last_header}
-use Rattle.wit_arena.specs.ResolvedArenas.{AreUsableUses, AddsForeign, worlds_at}
-use Rattle.wit_arena.specs.Resolving.{Required, Names, resolved_scopes, IsIndex, IsWorldIndex}
-use Rattle.wit_arena.specs.Whole.{first_docs}
-use Rattle.wit_arena.proofs.ByParts.{NamesOthers, IsPackage}
 use Rattle.wit_arena.proofs.Resolved.{files_package as package_by}
 use Rattle.wit_contents.specs.AddedFiles.{AddsFiles}
-use Rattle.wit_tree.specs.declared.tree.WorldSide.{WorldSide}
-use Rattle.wit_syntax.specs.Foreign.{ForeignVisit, visited, foreign_items, foreign_interfaces, foreign_worlds}
-use Rattle.wit_arena.proofs.Indexing.{index_prefix, world_index_prefix, worlds_at-append}
-use Rattle.wit_arena.proofs.Visits.{visited_foreign, interfaces_differ}
 use Rattle.wit_files.specs.ForeignPaths.{foreign_view}
 use Rattle.wit_files.specs.declared.foreign.ForeignVisit.{ForeignVisit as BorrowedVisit}
 use Rattle.wit_front.specs.declared.foreign.ForeignArenas.{ForeignArenas}

@@ -1,23 +1,13 @@
 -- A fault that is found once some names of an item are resolved is found by the walk's test of names in handles.
 use Rattle.std.proofs.Common.{◌≡◌, ℕ, List, [], ◌++◌, take, Option, Some, None, refl, sym, ◌∙◌, subst, map, ap}
-use Rattle.wit_type_tree.specs.declared.leaves.Id.{Id}
-use Rattle.wit_types.specs.declared.types.TypeDef.{TypeDef}
-use Rattle.wit_types.specs.declared.types.TypeOwner.{TypeOwner}
-use Rattle.wit_syntax.specs.Fault.{Fault, missing_type_at, cyclic_at, type_word}
-use Rattle.wit_syntax.specs.ScopeTables.{AreDistinct, in_turn, rows_of, defined, used}
-use Rattle.wit_syntax.specs.Source.{Item, scope_names, ScopeName, local_id}
-use Rattle.wit_walk.specs.Orders.{Outcome, AtCycle, AtMissing, InOrder, IsOutcome, order_fault, order_of}
-use Rattle.wit_arena.specs.Resolving.{Defines, ResolvedScope, env_of, Env}
+use Rattle.wit_syntax.proofs.Common.{AreDistinct, Fault, Id, Item, ScopeName, TypeDef, TypeOwner, cyclic_at, defined, distinct_names, in_turn, local_id, missing_type_at, option_or, rows_of, scope_names, type_word, used}
+use Rattle.wit_walk.proofs.Common.{AtCycle, AtMissing, InOrder, IsOutcome, Outcome, local_names_differ, local_names_fault, or_assoc, or_none_both, order_fault, order_of}
+use Rattle.wit_arena.proofs.Common.{Defines, Env, ResolvedScope, env_of}
 use Rattle.wit_externs.specs.AloneFaults.{EndsIn}
 use Rattle.wit_item_entries.specs.ReachedFaults.{Reaches}
 use Rattle.wit_contents.proofs.Ends.{IsReached}
-use Rattle.std.specs.Option.{option_or}
-use Rattle.wit_syntax.proofs.Turns.{distinct_names}
-use Rattle.wit_first.specs.NameFaults.{local_names_fault}
-use Rattle.wit_first.proofs.Bridge.{local_names_differ, or_none_both}
 use Rattle.wit_scopes.proofs.Turning.{differ_names}
 use Rattle.wit_entries.specs.EntryFaults.{end_fault, end_in}
-use Rattle.wit_first.proofs.First.{or_assoc}
 
 -- the fault of a name by its end in an arena
 abbrev pub own_fault : List TypeDef → Id → Option ℕ → Option Fault

@@ -1,19 +1,9 @@
 -- The first fault of an interface: of its names, or, once they are resolved, of what comes after them.
 use Rattle.std.proofs.Common.{◌≡◌, ℕ, List, [], length, map, take, Option, Some, None, sym, ap, ◌∙◌, subst, arith}
-use Rattle.std.specs.Option.{option_or}
-use Rattle.std.proofs.lemmas.List.{take_all}
-use Rattle.wit_type_tree.specs.declared.leaves.Id.{Id}
-use Rattle.wit_types.specs.declared.types.TypeDef.{TypeDef}
-use Rattle.wit_types.specs.declared.types.TypeOwner.{TypeOwner}
+use Rattle.wit_syntax.proofs.Common.{Address, Fault, Id, ScopeName, TypeDef, TypeOwner, in_turn, local_id, option_or, rows_of, scope_names, take_all}
 use Rattle.wit_types.specs.declared.types.TypeOwner.TheVariants as owner
-use Rattle.wit_syntax.specs.Address.{Address}
-use Rattle.wit_syntax.specs.Fault.{Fault}
-use Rattle.wit_syntax.specs.ScopeTables.{in_turn, rows_of}
-use Rattle.wit_syntax.specs.Source.{ScopeName, local_id, scope_names}
-use Rattle.wit_first.proofs.First.{none_both}
-use Rattle.wit_walk.specs.Orders.{Outcome, InOrder, IsOutcome, order_of}
-use Rattle.wit_walk.proofs.One.{outcome_one}
-use Rattle.wit_arena.specs.Resolving.{Defines, Names, Required, ResolvedScope, env_of}
+use Rattle.wit_walk.proofs.Common.{InOrder, IsOutcome, Outcome, none_both, order_of, outcome_one}
+use Rattle.wit_arena.proofs.Common.{Defines, Names, Required, ResolvedScope, env_of}
 use Rattle.wit_entries.specs.Requiring.{IsExtended}
 use Rattle.wit_externs.specs.AloneFaults.{EndsIn, IsSafe}
 use Rattle.wit_externs.proofs.AloneFaults.{safe_arena, safe_of}

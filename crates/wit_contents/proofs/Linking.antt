@@ -1,17 +1,7 @@
 -- The paths of the links of a world.
 use Rattle.std.proofs.Common.{◌≡◌, ℕ, ◌+◌, zero, suc, List, length, Some, None, ap, Contains}
-use Rattle.std.specs.Prelude.{map, slice_get}
-use Rattle.wit_tree.specs.declared.tree.Extern.{Extern}
-use Rattle.wit_tree.specs.declared.tree.ExternKind.{ExternKind}
+use Rattle.wit_syntax.proofs.Common.{DefinitionPart, Extern, ExternKind, ExternPart, FunctionPart, IncludePart, Item, Link, Part, SideFunction, SideLink, SourceFunction, Use, UsePart, at_back, contains_at, extern_items, extern_paths, flat_map_at, flat_map_has, inline_uses, map, map_at, part_items, parts, side_items, slice_get, use_path, use_paths}
 use Rattle.wit_tree.specs.declared.tree.ExternKind.TheVariants as extern
-use Rattle.wit_tree.specs.declared.tree.Use.{Use}
-use Rattle.wit_syntax.specs.ExternPart.{extern_paths, inline_uses}
-use Rattle.wit_syntax.specs.Function.{SourceFunction}
-use Rattle.wit_syntax.specs.ScopeTables.{use_path, use_paths}
-use Rattle.wit_syntax.specs.Sides.{Link, SideFunction, SideLink, extern_items, part_items, side_items}
-use Rattle.wit_syntax.specs.Source.{Item, Part, DefinitionPart, UsePart, IncludePart, FunctionPart, ExternPart, parts}
-use Rattle.wit_syntax.proofs.Found.{contains_at}
-use Rattle.wit_syntax.proofs.Lists.{at_back, flat_map_at, flat_map_has, map_at}
 
 -- a function among parts is no link
 no_link : (fns : List SourceFunction) (k : ℕ) (link : Link) → slice_get (map SideFunction fns) k ≡ Some (SideLink link) → ⊥

@@ -1,32 +1,8 @@
 -- The first fault of a link of a world, by the interfaces that are resolved, is that of the walk of files.
 use Rattle.std.proofs.Common.{◌≡◌, ℕ, ◌+◌, suc, Bool, true, false, not, ◌||◌, List, [], ◌∷◌, ◌++◌, nat_eq, Option, Some, None, IsSome, inl, inr, refl, sym, ap, ◌∙◌, arith}
-use Rattle.std.specs.Prelude.{◌&&◌, if◌then◌else◌, is_none, slice_get}
-use Rattle.std.specs.List.{flat_map, list_any}
-use Rattle.std.specs.Option.{option_map, option_map_or, option_or, option_to_list}
-use Rattle.std.proofs.lemmas.Bool.{cases_Bool}
-use Rattle.std.proofs.lemmas.Option.{slice_get-map}
-use Rattle.wit_type_tree.specs.declared.leaves.Id.{Id}
-use Rattle.wit_tree.specs.declared.tree.PackageFile.{PackageFile}
-use Rattle.wit_tree.specs.declared.tree.UsePath.{UsePath}
-use Rattle.wit_package_names.specs.declared.package_name.PackageName.{PackageName}
-use Rattle.wit_syntax.specs.Address.{Address, ForeignNamed, InterfaceNamed, same_address}
-use Rattle.wit_syntax.specs.Broken.{is_world_at}
-use Rattle.wit_syntax.specs.Fault.{Fault, item_word, missing_at, world_there, linked_twice}
-use Rattle.wit_syntax.specs.Foreign.{ForeignVisit, foreign_at, foreign_interfaces, foreign_items, visited}
-use Rattle.wit_syntax.specs.Sides.{Link, SideFunction, SideInline, SideItem, SideLink, item_link, items_on}
-use Rattle.wit_syntax.specs.Source.{Foreign, Item, Local, Target, TopName, all_items, is_world, item_named, leads, path_id, path_scope, target_scope}
-use Rattle.wit_syntax.proofs.Addresses.{same_address-equal, same_address-from}
-use Rattle.wit_syntax.proofs.Found.{find_at, find_passes, some_of}
-use Rattle.wit_syntax.proofs.Kept.{kept_has}
-use Rattle.wit_first.specs.AttributeFaults.{metadata_fault}
-use Rattle.wit_first.specs.FileFaults.{lost_fault}
-use Rattle.wit_first.specs.UseFaults.{reached_fault}
-use Rattle.wit_first.proofs.First.{or_assoc}
-use Rattle.wit_walk.specs.Paths.{is_same_link, link_fault, linked_fault as again_fault, there_fault}
-use Rattle.wit_arena.specs.Resolving.{Names, env_of}
-use Rattle.wit_arena.specs.Whole.{place_at}
-use Rattle.wit_arena.proofs.Interfaces.{place_at-found}
-use Rattle.wit_arena.proofs.Visits.{interfaces_differ}
+use Rattle.wit_syntax.proofs.Common.{Address, Fault, Foreign, ForeignNamed, ForeignVisit, Id, InterfaceNamed, Item, Link, Local, PackageFile, PackageName, SideFunction, SideInline, SideItem, SideLink, Target, TopName, UsePath, all_items, cases_Bool, find_at, find_passes, flat_map, foreign_at, foreign_interfaces, foreign_items, if◌then◌else◌, is_none, is_world, is_world_at, item_link, item_named, item_word, items_on, kept_has, leads, linked_twice, list_any, missing_at, option_map, option_map_or, option_or, option_to_list, path_id, path_scope, same_address, same_address-equal, same_address-from, slice_get, slice_get-map, some_of, target_scope, visited, world_there, ◌&&◌}
+use Rattle.wit_walk.proofs.Common.{is_same_link, link_fault, linked_fault as again_fault, lost_fault, metadata_fault, or_assoc, reached_fault, there_fault}
+use Rattle.wit_arena.proofs.Common.{Names, env_of, interfaces_differ, place_at, place_at-found}
 use Rattle.wit_externs.specs.Links.{bare_places}
 use Rattle.wit_items.specs.ForeignAddresses.{prefix_of}
 use Rattle.wit_links.specs.Links.{interface_place, linked_fault, path_place, unresolved_fault}

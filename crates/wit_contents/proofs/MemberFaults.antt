@@ -1,27 +1,8 @@
 -- The first fault of what is on the sides of a world: of one that comes next, and of more after some, part by part.
 use Rattle.std.proofs.Common.{◌≡◌, ◌⊎◌, ℕ, List, [], ◌∷◌, ◌++◌, length, map, take, Option, Some, None, refl, sym, ap, ◌∙◌, subst, append_assoc, ◌<◌, ◌+◌, drop, get_or}
-use Rattle.std.specs.Prelude.{slice_get}
-use Rattle.std.specs.List.{flat_map}
-use Rattle.std.specs.Option.{option_map_or, option_or}
-use Rattle.std.proofs.lemmas.Grind.{flat_map-append}
-use Rattle.std.proofs.lemmas.List.{append-nil, map-append}
-use Rattle.wit_type_tree.specs.declared.error.ParseError.{ParseError}
-use Rattle.wit_type_tree.specs.RefusalText.{IsAllocationFailure}
-use Rattle.wit_type_tree.specs.declared.leaves.Id.{Id}
-use Rattle.wit_types.specs.declared.types.TypeDef.{TypeDef}
-use Rattle.wit_syntax.specs.Address.{Address}
-use Rattle.wit_syntax.specs.Fault.{Fault, fault_of}
-use Rattle.wit_syntax.specs.Function.{SourceFunction, definition_functions, resource_function}
-use Rattle.wit_syntax.specs.Sides.{Link, SideFunction, SideItem, SideLink, inline_item, item_function, item_inline, items_on, part_items, side_items}
-use Rattle.wit_syntax.specs.Source.{Item, ScopeName, TheInline, TopName, item_name, scope_names, Declared, TheWorld, about, world_part}
-use Rattle.wit_syntax.proofs.Legal.{functions_items}
-use Rattle.wit_syntax.proofs.Lists.{take_seam}
-use Rattle.wit_first.specs.AttributeFaults.{metadata_fault}
-use Rattle.wit_first.specs.First.{Reports, first_after}
-use Rattle.wit_first.proofs.First.{after-append, none_both, or_none, reports_prefix, reports_same}
-use Rattle.wit_walk.specs.Functions.{function_fault, word_fault}
-use Rattle.wit_arena.specs.Resolving.{Env, env_of}
-use Rattle.wit_arena.specs.ResolvedArenas.{AddsInterface}
+use Rattle.wit_syntax.proofs.Common.{Address, Declared, Fault, Id, IsAllocationFailure, Item, Link, ParseError, ResourceFunc, ScopeName, SideFunction, SideItem, SideLink, SourceFunction, TheInline, TheWorld, TopName, TypeBody, TypeDef, World, WorldItem, about, append-nil, definition_functions, fault_of, flat_map, flat_map-append, functions_items, inline_item, item_function, item_inline, item_name, items_on, map-append, option_map_or, option_or, part_items, resource_function, scope_names, side_items, slice_get, slice_get_read, take_seam, world_part}
+use Rattle.wit_walk.proofs.Common.{Reports, after-append, first_after, function_fault, metadata_fault, none_both, or_none, reports_prefix, reports_same, word_fault}
+use Rattle.wit_arena.proofs.Common.{AddsInterface, Env, env_of}
 use Rattle.wit_rules.specs.Signatures.{functions_view}
 use Rattle.wit_signatures.specs.SignatureFaults.{function_fault as signature_function_fault}
 use Rattle.wit_externs.specs.AloneFaults.{EndsIn, IsSafe, signed_by, words_in}
@@ -49,12 +30,7 @@ use Rattle.wit_contents.specs.MemberFaults.{AddsFaultless, AreRightMembers, HasN
 use Rattle.wit_contents.specs.Walk.{AddsMembers, AddsNext, IsNext, ItemWalk, Stage, lead, next_place, walk_item, resource_items}
 use Rattle.wit_contents.proofs.FileFaults.{or_found}
 use Rattle.wit_contents.proofs.Members.{function_there, inline_here, members_none, members_then, next_then}
-use Rattle.std.proofs.lemmas.Option.{slice_get_read}
-use Rattle.wit_type_tree.specs.declared.types.ResourceFunc.{ResourceFunc}
-use Rattle.wit_type_tree.specs.declared.types.TypeBody.{TypeBody}
 use Rattle.wit_type_tree.specs.declared.types.TypeBody.TheVariants as body
-use Rattle.wit_tree.specs.declared.tree.World.{World}
-use Rattle.wit_tree.specs.declared.tree.WorldItem.{WorldItem}
 use Rattle.wit_items.proofs.UsableNames.{parts_more}
 use Rattle.wit_externs.proofs.Steps.{split_at, used_next}
 

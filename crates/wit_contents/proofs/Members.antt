@@ -1,29 +1,8 @@
 -- What is on the sides of a world, resolved one after another: nothing, more after some, and a function, an interface by its path, or an inline one.
 use Rattle.std.proofs.Common.{◌≡◌, ℕ, ◌+◌, List, [], ◌∷◌, ◌++◌, length, refl, sym, ap, ◌∙◌, subst, append_assoc, arith, Bool, true, false, if◌then◌else◌, map, Some, inl, inr, add-zero, Option}
-use Rattle.std.specs.List.{flat_map}
-use Rattle.std.proofs.lemmas.List.{append-nil, length-append, length-map, map-append}
-use Rattle.wit_types.specs.declared.types.TypeDef.{TypeDef}
-use Rattle.wit_functions.specs.declared.function.Function.{Function}
-use Rattle.wit_model.specs.declared.interface.Interface.{Interface}
-use Rattle.wit_tree.specs.declared.tree.Extern.{Extern}
-use Rattle.wit_type_tree.specs.declared.leaves.Id.{Id}
-use Rattle.wit_tree.specs.declared.tree.InterfaceItem.{InterfaceItem}
-use Rattle.wit_syntax.specs.Address.{Address}
-use Rattle.wit_syntax.specs.Function.{SourceFunction, functions, written_types}
-use Rattle.wit_syntax.specs.Sides.{Link, SideItem, SideFunction, SideLink, SideInline, item_inline, inline_after, item_function, item_side, items_on, role_side, side_items}
-use Rattle.wit_syntax.specs.Source.{Item, TopName, address, TheInline, item_name, path_scope}
-use Rattle.wit_arena.specs.Resolving.{ResolvedScope, Names, Required, AddsFunctions, env_of}
-use Rattle.wit_arena.specs.ResolvedArenas.{AddsFunction, AddsInterface, AddsSides, interfaces_at}
-use Rattle.std.specs.Prelude.{slice_get}
-use Rattle.std.proofs.lemmas.Grind.{flat_map-append}
-use Rattle.std.proofs.lemmas.List.Elements.{Contains-append_cases, filter-append}
-use Rattle.wit_tree.specs.declared.tree.WorldSide.{WorldSide}
-use Rattle.wit_syntax.specs.ExternPart.{same_side}
-use Rattle.wit_syntax.proofs.Inline.{inline_after-append, length-inline_after, interfaces_on}
-use Rattle.wit_syntax.proofs.Lists.{at_back, at_prefix}
-use Rattle.wit_walk.specs.Members.{Sorted, item_sorted}
-use Rattle.wit_arena.specs.SourceFunctions.{function_item}
-use Rattle.wit_arena.specs.SideItems.{AreSideItems, inline_entry, link_item, put_on}
+use Rattle.wit_syntax.proofs.Common.{Address, Contains-append_cases, Extern, Id, InterfaceItem, Item, Link, SideFunction, SideInline, SideItem, SideLink, SourceFunction, TheInline, TopName, TypeDef, WorldSide, address, all_handles, append-nil, at_back, at_prefix, filter-append, flat_map, flat_map-append, functions, functions_items, inline_after, inline_after-append, interfaces_on, item_function, item_inline, item_name, item_side, items_on, length-append, length-inline_after, length-map, map-append, option_map_or, option_to_list, path_scope, role_side, same_side, side_items, slice_get, written_types}
+use Rattle.wit_arena.proofs.Common.{AddsFunction, AddsFunctions, AddsInterface, AddsSides, AreSideItems, Function, Interface, Names, Required, ResolvedScope, env_of, function_item, inline_entry, interfaces_at, link_item, put_on}
+use Rattle.wit_walk.proofs.Common.{Sorted, item_sorted}
 use Rattle.wit_entries.proofs.Requiring.{extended_then}
 use Rattle.wit_refusals.specs.NameScopes.{Name}
 use Rattle.wit_sides.specs.SideNames.{defined_on}
@@ -36,9 +15,6 @@ use Rattle.wit_world_sides.specs.Members.{AreKeyed, Entry, sorted_on, Puts, bare
 use Rattle.wit_world_sides.specs.FilledSides.{entries_of}
 use Rattle.wit_links.specs.SideCounts.{IsSeen, inline_of, inline_side}
 use Rattle.wit_contents.specs.Walk.{AddsMembers, HasMore, HavePlaces, IsNext, ItemWalk, Stage, lead, next_place, walk_item, AddsInside, stage}
-use Rattle.std.specs.Option.{option_map_or, option_to_list}
-use Rattle.wit_syntax.specs.Shape.{all_handles}
-use Rattle.wit_syntax.proofs.Legal.{functions_items}
 use Rattle.wit_items.proofs.UsableNames.{contains_one}
 use Rattle.wit_entries.specs.Requiring.{IsExtended, Requires}
 use Rattle.wit_externs.proofs.DoneFunctions.{same_name}

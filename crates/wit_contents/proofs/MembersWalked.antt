@@ -1,26 +1,8 @@
 -- The walk's fault of what is on the sides of a world is what is found of it, one after another: of its name, and of itself.
 use Rattle.std.proofs.Common.{◌≡◌, ℕ, Bool, List, [], ◌∷◌, ◌++◌, map, Option, None, refl, sym, ap, ◌∙◌, Some, inl, inr, Contains, length}
-use Rattle.std.specs.Prelude.{codes, if◌then◌else◌, slice_get}
-use Rattle.std.specs.List.{flat_map, filter}
-use Rattle.std.specs.Option.{option_or}
-use Rattle.wit_names.specs.Folded.{folded_key}
-use Rattle.wit_type_tree.specs.declared.leaves.Id.{Id}
-use Rattle.wit_tree.specs.declared.tree.WorldSide.{WorldSide}
-use Rattle.wit_tree.specs.declared.tree.WorldSide.TheVariants.{Imported, Exported}
-use Rattle.wit_values.specs.declared.span.Span.{Span}
-use Rattle.wit_syntax.specs.Fault.{Fault}
-use Rattle.wit_syntax.specs.ScopeTables.{in_turn, local_names}
-use Rattle.wit_syntax.specs.Sides.{SideItem, item_called, item_side, items_on, names_on, Link, SideFunction, SideInline, SideLink, inline_after, inline_item, is_interface, item_function, side_items}
-use Rattle.wit_syntax.specs.SignatureRules.{Called, name_called}
-use Rattle.wit_syntax.specs.Source.{ScopeName, local_id, Item, TheInline, about, address, item_name, leads, path_scope, scope_names}
-use Rattle.wit_syntax.proofs.Lists.{map_map}
-use Rattle.wit_first.specs.First.{first_in, repeat_of}
-use Rattle.wit_first.proofs.Clashes.{clash-made}
-use Rattle.wit_first.proofs.First.{in-map}
-use Rattle.wit_walk.specs.Members.{Sorted, called_fault, crossed, is_extern, own_fault, side_sorted, item_sorted, member_fault}
-use Rattle.wit_walk.specs.Names.{folded_clash, folded_fault}
-use Rattle.wit_arena.specs.Resolving.{Names, names_in, env_of}
-use Rattle.wit_arena.specs.Whole.{type_imports}
+use Rattle.wit_syntax.proofs.Common.{Address, Called, Exported, Extern, Fault, Id, Imported, InterfaceItem, Item, Link, PackageFile, ScopeName, SideFunction, SideInline, SideItem, SideLink, SourceFunction, Span, TheInline, TypeDef, WorldSide, about, address, codes, contains_at, filter, flat_map, folded_key, if◌then◌else◌, in_turn, inline_after, inline_item, is_interface, item_called, item_function, item_name, item_side, items_on, kept_at, leads, local_id, local_names, map_map, name_called, names_on, option_or, path_scope, same_side, scope_names, side_items, slice_get}
+use Rattle.wit_walk.proofs.Common.{Known, Sorted, called_fault, clash-made, crossed, external_fault, first_in, folded_clash, folded_fault, function_fault, handle_fault, in-map, inline_fault, is_extern, item_sorted, linked_fault as again_fault, member_fault, or_none_both, own_fault, repeat_of, side_sorted, signed_fault, stability_fault}
+use Rattle.wit_arena.proofs.Common.{Interface, Names, env_of, interfaces_at, names_in, type_imports}
 use Rattle.wit_refusals.specs.NameScopes.{Name}
 use Rattle.wit_signatures.specs.ForeignName.{name_of_id}
 use Rattle.wit_sides.specs.SideNames.{defined_on}
@@ -32,23 +14,6 @@ use Rattle.wit_world_sides.specs.PutFaults.{crossed_fault, named_fault, put_faul
 use Rattle.wit_world_sides.specs.declared.members.Members.{Members}
 use Rattle.wit_contents.proofs.PathsWalked.{in_same}
 use Rattle.wit_contents.proofs.Walked.{repeat-made}
-use Rattle.wit_tree.specs.declared.tree.Extern.{Extern}
-use Rattle.wit_tree.specs.declared.tree.InterfaceItem.{InterfaceItem}
-use Rattle.wit_tree.specs.declared.tree.PackageFile.{PackageFile}
-use Rattle.wit_types.specs.declared.types.TypeDef.{TypeDef}
-use Rattle.wit_model.specs.declared.interface.Interface.{Interface}
-use Rattle.wit_syntax.specs.Address.{Address}
-use Rattle.wit_syntax.specs.ExternPart.{same_side}
-use Rattle.wit_syntax.specs.Function.{SourceFunction}
-use Rattle.wit_syntax.proofs.Found.{contains_at}
-use Rattle.wit_syntax.proofs.Kept.{kept_at}
-use Rattle.wit_first.specs.AttributeFaults.{external_fault, stability_fault}
-use Rattle.wit_first.proofs.Bridge.{or_none_both}
-use Rattle.wit_walk.specs.Definitions.{handle_fault}
-use Rattle.wit_walk.specs.Functions.{function_fault, signed_fault}
-use Rattle.wit_walk.specs.Paths.{linked_fault as again_fault}
-use Rattle.wit_walk.specs.Walk.{Known, inline_fault}
-use Rattle.wit_arena.specs.ResolvedArenas.{interfaces_at}
 use Rattle.wit_entries.specs.Requiring.{IsExtended}
 use Rattle.wit_entries.proofs.Requiring.{extended_then}
 use Rattle.wit_externs.specs.Links.{bare_places}

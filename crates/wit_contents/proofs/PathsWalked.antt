@@ -1,54 +1,11 @@
 -- Interfaces and worlds that are resolved say of used names and of includes what files do.
 use Rattle.std.proofs.Common.{◌≡◌, ℕ, ◌+◌, true, false, List, ◌++◌, length, map, Option, Some, None, ◌⊎◌, IsSome, inl, inr, refl, sym, ap, ◌∙◌, subst, arith, Contains, ◌<◌, zero, suc, Bool, [], ◌∷◌, take}
-use Rattle.std.specs.Prelude.{slice_get, if◌then◌else◌, is_none}
-use Rattle.std.specs.Option.{option_and_then, option_map, option_map_or, option_or}
-use Rattle.std.specs.List.{list_any}
-use Rattle.std.specs.Str.{bytes_eq}
-use Rattle.std.proofs.lemmas.Bool.{cases_Bool}
-use Rattle.std.proofs.lemmas.List.{length-map}
-use Rattle.std.proofs.lemmas.Option.{slice_get-map, slice_get_within}
-use Rattle.wit_type_tree.specs.declared.leaves.Attribute.{Attribute}
-use Rattle.wit_type_tree.specs.declared.leaves.Id.{Id}
-use Rattle.wit_tree.specs.declared.tree.UseName.{UseName}
-use Rattle.wit_tree.specs.declared.tree.PackageFile.{PackageFile}
-use Rattle.wit_types.specs.declared.types.TypeDef.{TypeDef}
-use Rattle.wit_model.specs.declared.interface.Interface.{Interface}
-use Rattle.wit_model.specs.declared.world.World.{World}
-use Rattle.wit_graph.specs.Table.{IsOrder}
-use Rattle.wit_syntax.specs.Address.{Address, InterfaceNamed, is_foreign, same_address, ForeignNamed, WorldNamed}
-use Rattle.wit_syntax.specs.Fault.{Fault, missing_at, item_word, interface_there}
-use Rattle.wit_syntax.specs.Foreign.{visited, foreign_interfaces, ForeignVisit, foreign_at, foreign_worlds}
-use Rattle.wit_syntax.specs.Function.{SourceFunction, functions}
-use Rattle.wit_syntax.specs.Repeats.{AllDiffer}
-use Rattle.wit_syntax.specs.ScopeTables.{item_rows, in_order, include_path, include_paths, includes, part_includes, worlds_of}
-use Rattle.wit_syntax.specs.ScopesOfTrees.{scope}
-use Rattle.wit_syntax.specs.Source.{Declared, TheInterface, TheWorld, TheInline, Item, ScopeName, Used, about, address, all_items, item_at, item_name, is_world, local_name, meaning, scope_names, foreign_uses, same_foreign_use, use_of_foreign, DefinitionPart, ExternPart, Foreign, FunctionPart, IncludePart, Local, Part, Target, UsePart, item_named, leads, parts, path_id}
-use Rattle.wit_syntax.proofs.Addresses.{same_address-equal}
-use Rattle.wit_syntax.proofs.Firsts.{firsts_has}
-use Rattle.wit_syntax.proofs.Found.{at_contains, contains_at, find_passes, find_some, some_of}
-use Rattle.wit_syntax.proofs.Lists.{at_back, at_prefix, at_split, at_within, map_at, flat_map_at, flat_map_has}
-use Rattle.wit_syntax.proofs.Names.{lookup-place, name_equal, name_itself}
-use Rattle.wit_syntax.proofs.Scopes.{all_declared, first_named}
-use Rattle.wit_first.proofs.Bridge.{any_found}
-use Rattle.wit_first.proofs.First.{any_some}
-use Rattle.wit_walk.specs.Names.{lost_use, unless_meant, use_fault}
-use Rattle.wit_arena.specs.Occurrences.{Def, keys}
-use Rattle.wit_arena.specs.Resolving.{Names, Required, ResolvedScope, env_of, free_functions, resolved_scope, resolved_scope_at, resolved_scopes, IsFound, IsIndex, IsNoWorld, IsWorldIndex}
-use Rattle.wit_arena.specs.ResolvedArenas.{AddsForeign, AreUsableUses, WorldArenas, worlds_at}
-use Rattle.wit_arena.specs.SourceFunctions.{AreFunctions}
-use Rattle.wit_arena.specs.Whole.{Turned, Ordered, foreign_entry, foreign_place}
-use Rattle.wit_arena.proofs.Added.{InterfacesDone, world_list}
-use Rattle.wit_arena.proofs.ForeignUses.{foreign_use_key, use_of_foreign-from, use_of_foreign-equal}
+use Rattle.wit_syntax.proofs.Common.{Address, AllDiffer, Attribute, Declared, DefinitionPart, ExternPart, Fault, Foreign, ForeignNamed, ForeignVisit, FunctionPart, Id, Include, IncludePart, InterfaceNamed, IsOrder, Item, Local, PackageFile, PackageName, Part, ScopeName, SourceFunction, Target, TheInline, TheInterface, TheWorld, TypeDef, UseName, UsePart, UsePath, Used, WorldNamed, about, address, all_declared, all_items, at_back, at_contains, at_part, at_prefix, at_split, at_within, bytes_eq, cases_Bool, contains_at, find_passes, find_some, first_named, firsts_has, flat_map_at, flat_map_has, foreign_at, foreign_interfaces, foreign_uses, foreign_worlds, functions, if◌then◌else◌, in_order, include_path, include_paths, includes, interface_there, is_foreign, is_none, is_world, is_world_at, item_at, item_name, item_named, item_rows, item_word, leads, length-map, list_any, local_name, lookup-place, map_at, meaning, missing_at, name_equal, name_itself, option_and_then, option_map, option_map_or, option_or, part_includes, parts, path_id, same_address, same_address-equal, same_foreign_use, scope, scope_names, slice_get, slice_get-map, slice_get_within, some_of, use_of_foreign, visited, worlds_of}
+use Rattle.wit_arena.proofs.Common.{AddsForeign, AreFunctions, AreUsableUses, AreWorldsDone, Def, Interface, InterfacesDone, IsForeignUse, IsFound, IsIndex, IsNoWorld, IsResolvedUse, IsWorldIndex, Names, Ordered, Required, ResolvedScope, Turned, World, WorldArenas, are_interfaces, are_worlds, env_of, foreign_entry, foreign_place, foreign_use_key, free_functions, interface_address, interfaces, item_of, item_scopes, kept_early, keys, named_at, needed_before, option_cases, own_item, own_order, paths_of_world, prefix_resolved_scope, prefix_scopes, resolved_scope, resolved_scope_at, resolved_scopes, resolved_scopes-append, scope_of, unstated, use_of_foreign-equal, use_of_foreign-from, used_listed, visited_foreign, world_address, world_list, worlds, worlds_at, worlds_at-append, worlds_sort}
+use Rattle.wit_walk.proofs.Common.{any_found, any_some, first_in, include_fault, interface_fault, lost_use, stability_fault, unless_meant, use_fault}
 use Rattle.wit_arena.proofs.FreeNames.{free_of, AreStated, free_stated, stated_free, free_names}
-use Rattle.wit_arena.proofs.Indexing.{prefix_resolved_scope, resolved_scopes-append, worlds_at-append}
-use Rattle.wit_arena.proofs.Interfaces.{interface_address, item_scopes, scope_of, world_address, worlds_sort}
-use Rattle.wit_arena.proofs.Leading.{IsForeignUse, option_cases, kept_early, named_at, needed_before, paths_of_world}
-use Rattle.wit_arena.proofs.OrderedItems.{IsResolvedUse, are_interfaces, interfaces, unstated, worlds, are_worlds}
 use Rattle.wit_arena.proofs.Members.{resolved_scope_of, DoneScope}
-use Rattle.wit_arena.proofs.Prefix.{prefix_scopes, used_listed}
 use Rattle.wit_arena.proofs.ScopesInTurn.{ordered_at, scope_at, entry_of_item}
-use Rattle.wit_arena.proofs.Turns.{item_of, own_item}
-use Rattle.wit_arena.proofs.Visits.{visited_foreign}
 use Rattle.wit_entries.specs.EntryFaults.{unless_found}
 use Rattle.wit_scopes.specs.BorrowedNames.{IsPlaced, source_view, use_view}
 use Rattle.wit_scopes.specs.declared.scope_name.UsedName.{UsedName}
@@ -59,16 +16,7 @@ use Rattle.wit_item_entries.specs.UseFaults.{asked_fault, interface_of, lost_nam
 use Rattle.wit_item_entries.proofs.ResolvedScopes.{named_within}
 use Rattle.wit_item_entries.proofs.UseFaults.{found_of, of_function, of_nothing, used_from}
 use Rattle.wit_contents.proofs.Walked.{AreAsWalked}
-use Rattle.wit_tree.specs.declared.tree.Include.{Include}
-use Rattle.wit_tree.specs.declared.tree.UsePath.{UsePath}
-use Rattle.wit_package_names.specs.declared.package_name.PackageName.{PackageName}
 use Rattle.wit_model.specs.declared.ast_item.AstItem.TheVariants as entry
-use Rattle.wit_syntax.specs.Broken.{is_world_at}
-use Rattle.wit_syntax.proofs.Turns.{at_part}
-use Rattle.wit_first.specs.AttributeFaults.{stability_fault}
-use Rattle.wit_first.specs.First.{first_in}
-use Rattle.wit_walk.specs.Paths.{include_fault, interface_fault}
-use Rattle.wit_arena.proofs.DoneWorlds.{AreWorldsDone, own_order}
 use Rattle.wit_items.specs.ItemPaths.{world_at, world_entry}
 use Rattle.wit_items.proofs.Others.{world_missing}
 use Rattle.wit_links.specs.Includes.{included_fault}

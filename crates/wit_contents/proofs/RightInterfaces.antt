@@ -1,30 +1,14 @@
 -- The walk's fault of each interface is what is found of it, where its uses are as walked and the walk's test of names in handles is right, as it is once those before it are resolved.
 use Rattle.std.proofs.Common.{◌≡◌, ◌⊎◌, ◌++◌, ℕ, zero, suc, false, List, [], ◌∷◌, map, take, Option, Some, Contains, inl, inr, refl, sym, ap, ◌∙◌, subst, ◌+◌, Bool, true, not, length}
-use Rattle.std.specs.Prelude.{slice_get}
-use Rattle.std.specs.List.{flat_map, filter}
-use Rattle.std.specs.Option.{option_map, option_or}
-use Rattle.std.proofs.lemmas.Option.{slice_get-map}
-use Rattle.wit_type_tree.specs.declared.leaves.Id.{Id}
-use Rattle.wit_tree.specs.declared.tree.PackageFile.{PackageFile}
-use Rattle.wit_types.specs.declared.types.TypeDef.{TypeDef}
+use Rattle.wit_syntax.proofs.Common.{Address, AllDiffer, Attribute, Fault, Id, IsOrder, Item, PackageFile, ScopeName, TypeDef, UseName, Used, address, all_items, at_seam, contains_at, defined, filter, flat_map, foreign_interfaces, in_order, in_turn, interfaces_of, is_world, item_name, item_rows, kept_next, local_id, option_map, option_or, rows_of, scope_names, slice_get, slice_get-map, used, used_at, visited}
 use Rattle.wit_types.specs.declared.types.TypeOwner.TheVariants as owner
-use Rattle.wit_model.specs.declared.interface.Interface.{Interface}
-use Rattle.wit_syntax.specs.Address.{Address}
-use Rattle.wit_syntax.specs.Fault.{Fault}
-use Rattle.wit_syntax.specs.ScopeTables.{defined, in_order, in_turn, rows_of, used, interfaces_of, item_rows}
-use Rattle.wit_syntax.specs.Source.{Item, ScopeName, address, is_world, local_id, scope_names, Used, all_items, item_name}
-use Rattle.wit_syntax.proofs.Found.{contains_at}
-use Rattle.wit_syntax.proofs.Turns.{used_at}
+use Rattle.wit_arena.proofs.Common.{AddsForeign, AddsInterface, AddsInterfaces, AreUsableUses, Interface, InterfacesDone, IsForeignUse, IsIndex, IsNext, IsResolvedUse, Required, ResolvedScope, World, are_interfaces, are_worlds, env_of, interfaces, interfaces_done, interfaces_sort, kept_early, kept_prefix, resolved_scopes, used_before, worlds, worlds_sort}
 use Rattle.wit_scopes.specs.BorrowedNames.{Borrowed, IsPlaced, name_view, own_use, use_view, source_view}
 use Rattle.wit_scopes.specs.PlacedNames.{AreNamesPlaced}
 use Rattle.wit_scopes.specs.declared.scope_name.Named.TheVariants as borrowed
 use Rattle.wit_scopes.specs.declared.scope_name.UsedName.{UsedName}
 use Rattle.wit_scopes.proofs.UsedNames.{uses_viewed}
-use Rattle.wit_walk.specs.Definitions.{handle_fault}
-use Rattle.wit_walk.specs.Orders.{AreOutcomes, IsOutcome, Outcome, order_of}
-use Rattle.wit_walk.specs.Walk.{Known, earliest, ordered_fault, scope_faults, contents_fault, inline_fault}
-use Rattle.wit_arena.specs.Resolving.{Required, env_of, IsIndex, ResolvedScope, resolved_scopes}
-use Rattle.wit_arena.specs.ResolvedArenas.{AddsInterface, AddsForeign, AddsInterfaces, AreUsableUses, IsNext}
+use Rattle.wit_walk.proofs.Common.{AreOutcomes, IsOutcome, Known, Outcome, contents_fault, earliest, handle_fault, inline_fault, or_assoc, order_of, ordered_fault, scope_faults}
 use Rattle.wit_externs.specs.AloneFaults.{EndsIn, IsSafe}
 use Rattle.wit_items.specs.BorrowedItems.{scope_item, item_view}
 use Rattle.wit_items.specs.ResolvedInterfaces.{resolved_scopes_of}
@@ -35,24 +19,11 @@ use Rattle.wit_item_entries.specs.ReachedFaults.{Reaches, definitions_fault, ite
 use Rattle.wit_contents.specs.InterfaceFaults.{IsLent, IsRightOf, interface_fault, names_of, rest_fault, IsInterfaceFault}
 use Rattle.wit_contents.proofs.Ends.{IsReached, IsEnough, interface_ends, interface_safe}
 use Rattle.wit_contents.proofs.Walked.{AreAsWalked, interface_walked}
-use Rattle.wit_type_tree.specs.declared.leaves.Attribute.{Attribute}
-use Rattle.wit_tree.specs.declared.tree.UseName.{UseName}
-use Rattle.wit_model.specs.declared.world.World.{World}
-use Rattle.wit_graph.specs.Table.{IsOrder}
-use Rattle.wit_syntax.specs.Foreign.{visited, foreign_interfaces}
-use Rattle.wit_syntax.specs.Repeats.{AllDiffer}
-use Rattle.wit_syntax.proofs.Kept.{kept_next}
-use Rattle.wit_syntax.proofs.Lists.{at_seam}
-use Rattle.wit_arena.proofs.Added.{InterfacesDone, interfaces_done}
-use Rattle.wit_arena.proofs.Interfaces.{interfaces_sort, worlds_sort}
-use Rattle.wit_arena.proofs.Leading.{IsForeignUse, kept_early, kept_prefix, used_before}
-use Rattle.wit_arena.proofs.OrderedItems.{IsResolvedUse, are_interfaces, are_worlds, interfaces, worlds}
 use Rattle.wit_items.specs.ForeignAddresses.{prefix_of}
 use Rattle.wit_items.specs.declared.items.Item.{Item as BorrowedItem}
 use Rattle.wit_contents.specs.AddedInterfaces.{IsIndexed}
 use Rattle.wit_contents.proofs.PathsWalked.{uses_as_walked}
 use Rattle.wit_contents.proofs.FoundBy.{found_by}
-use Rattle.wit_first.proofs.First.{or_assoc}
 
 -- a borrowed name that is used is among those of its scope, and placed where they are
 pub borrowed_uses : (names : List Borrowed) (xs : List ScopeName) → map name_view names ≡ xs → (k : ℕ) (u : UsedName) → slice_get (flat_map own_use names) k ≡ Some u → Contains xs (use_view u)

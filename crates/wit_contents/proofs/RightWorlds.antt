@@ -1,47 +1,9 @@
 -- The walk's fault of each world is what is found of it, once all interfaces and the worlds before it are resolved.
 use Rattle.std.proofs.Common.{◌≡◌, ◌⊎◌, ℕ, ◌+◌, true, false, List, [], ◌∷◌, ◌++◌, length, map, take, Option, Some, None, IsSome, inl, inr, refl, sym, ap, ◌∙◌, subst, Contains, arith}
-use Rattle.std.specs.Prelude.{slice_get}
-use Rattle.std.specs.List.{flat_map}
-use Rattle.std.specs.Option.{option_map}
-use Rattle.std.specs.Str.{bytes_eq}
-use Rattle.wit_type_tree.specs.declared.leaves.Attribute.{Attribute}
-use Rattle.wit_type_tree.specs.declared.leaves.Id.{Id}
-use Rattle.wit_tree.specs.declared.tree.Include.{Include}
-use Rattle.wit_tree.specs.declared.tree.PackageFile.{PackageFile}
-use Rattle.wit_tree.specs.declared.tree.UseName.{UseName}
-use Rattle.wit_package_names.specs.declared.package_name.PackageName.{PackageName}
-use Rattle.wit_types.specs.declared.types.TypeDef.{TypeDef}
+use Rattle.wit_syntax.proofs.Common.{Address, AllDiffer, Attribute, Fault, Foreign, ForeignNamed, ForeignVisit, Id, Include, IncludePart, InterfaceNamed, IsBrokenNames, IsOrder, Item, Link, PackageFile, PackageName, ParseError, ScopeName, SideItem, SideLink, TopName, TypeDef, UseName, Used, address, all_items, all_scopes, at_contains, bytes_eq, contains_at, find_at, find_passes, flat_map, foreign_at, foreign_interfaces, in_order, in_turn, includes, inline_after, inline_after-append, inline_interface, inline_items, interfaces_of, is_world, item_inline, item_name, item_named, item_rows, leads, length-inline_after, local_id, name_equal, option_map, parts, rows_of, scope_names, scopes_declared, scopes_inline, side_items, slice_get, slice_get-map, take_seam, visited, worlds_of}
 use Rattle.wit_types.specs.declared.types.TypeOwner.TheVariants as owner
-use Rattle.wit_model.specs.declared.interface.Interface.{Interface}
-use Rattle.wit_model.specs.declared.world.World.{World}
-use Rattle.wit_graph.specs.Table.{IsOrder}
-use Rattle.wit_syntax.specs.Address.{Address, ForeignNamed, InterfaceNamed}
-use Rattle.wit_syntax.specs.Fault.{Fault}
-use Rattle.wit_syntax.specs.Foreign.{ForeignVisit, foreign_at, foreign_interfaces, visited}
-use Rattle.wit_syntax.specs.Repeats.{AllDiffer}
-use Rattle.wit_syntax.specs.ScopeTables.{in_order, in_turn, includes, interfaces_of, item_rows, rows_of, worlds_of}
-use Rattle.wit_syntax.specs.Sides.{Link, SideItem, SideLink, all_scopes, inline_after, inline_items, item_inline, side_items}
-use Rattle.wit_syntax.specs.Source.{Foreign, IncludePart, Item, ScopeName, TopName, Used, address, all_items, is_world, item_name, item_named, leads, local_id, parts, scope_names}
-use Rattle.wit_syntax.proofs.Found.{at_contains, contains_at, find_at, find_passes}
-use Rattle.wit_syntax.proofs.Inline.{inline_after-append, inline_interface, length-inline_after}
-use Rattle.wit_syntax.proofs.Lists.{take_seam}
-use Rattle.wit_syntax.proofs.Names.{name_equal}
-use Rattle.wit_syntax.proofs.Scopes.{scopes_declared, scopes_inline}
-use Rattle.wit_first.specs.First.{first_in, Reports}
-use Rattle.wit_walk.specs.Definitions.{handle_fault}
-use Rattle.wit_walk.specs.Members.{member_fault}
-use Rattle.wit_walk.specs.Orders.{AreOutcomes, InOrder, Outcome, order_of}
-use Rattle.wit_walk.specs.Paths.{include_fault}
-use Rattle.wit_walk.specs.Walk.{Known, contents_fault, inline_fault}
-use Rattle.wit_walk.proofs.One.{outcome_one}
-use Rattle.wit_arena.specs.Resolving.{IsIndex, IsWorldIndex, Names, Required, ResolvedScope, env_of, resolved_scopes}
-use Rattle.wit_arena.specs.ResolvedArenas.{AddsForeign, AddsInterface, AddsInterfaces, AddsScope, AddsSides, AddsWorlds, AreUsableUses, WorldArenas, prefix_worlds, worlds_at}
-use Rattle.wit_arena.proofs.Added.{InterfacesDone, interfaces_done}
-use Rattle.wit_arena.proofs.DoneWorlds.{AreWorldsDone}
-use Rattle.wit_arena.proofs.Interfaces.{interfaces_sort, worlds_sort}
-use Rattle.wit_arena.proofs.Leading.{IsForeignUse, kept_prefix, option_cases, used_interface}
-use Rattle.wit_arena.proofs.OrderedItems.{IsResolvedUse, are_interfaces, are_worlds, interface_at, interfaces, worlds}
-use Rattle.wit_arena.proofs.Prefix.{prefix_scopes}
+use Rattle.wit_arena.proofs.Common.{AddsForeign, AddsInterface, AddsInterfaces, AddsScope, AddsSides, AddsWorlds, AreUsableUses, AreWorldsDone, Interface, InterfacesDone, IsForeignUse, IsIndex, IsResolvedUse, IsWorldIndex, Names, Required, ResolvedScope, World, WorldArenas, are_interfaces, are_worlds, distinct_items, env_of, interface_at, interfaces, interfaces_done, interfaces_sort, kept_prefix, option_cases, prefix_scopes, prefix_worlds, resolved_scopes, used_interface, worlds, worlds_at, worlds_sort}
+use Rattle.wit_walk.proofs.Common.{AreOutcomes, InOrder, Known, Outcome, Reports, all_uses_fault, contents_fault, first_in, handle_fault, include_fault, inline_fault, member_fault, order_of, outcome_one, reports_same}
 use Rattle.wit_arena.proofs.WorldSides.{world_added}
 use Rattle.wit_arena.proofs.Worlds.{worlds_done}
 use Rattle.wit_entries.specs.Requiring.{IsExtended}
@@ -81,12 +43,6 @@ use Rattle.wit_contents.proofs.LinksWalked.{IsLeading}
 use Rattle.wit_contents.proofs.MembersWalked.{right_members}
 use Rattle.wit_contents.proofs.RightInterfaces.{borrowed_uses, next_kept, placed_uses, right_interface, AreRightFrom, interfaces_right}
 use Rattle.wit_contents.proofs.Walked.{AreAsWalked, head_found, head_walked, walked_head, world_split}
-use Rattle.std.proofs.lemmas.Option.{slice_get-map}
-use Rattle.wit_type_tree.specs.declared.error.ParseError.{ParseError}
-use Rattle.wit_syntax.specs.Broken.{IsBrokenNames}
-use Rattle.wit_first.specs.UseFaults.{all_uses_fault}
-use Rattle.wit_first.proofs.First.{reports_same}
-use Rattle.wit_arena.proofs.LegalScopes.{distinct_items}
 use Rattle.wit_contents.specs.FileFaults.{IsRight, fault_after}
 use Rattle.wit_contents.proofs.FileFaults.{interfaces_reported, none_after, worlds_reported}
 use Rattle.wit_contents.proofs.Files.{uses_usable}

@@ -1,45 +1,11 @@
 -- The first fault of an interface by tables, and that of a world before its members, is that of the walk of files, where the tables say what the files do.
 use Rattle.std.proofs.Common.{◌≡◌, ℕ, zero, suc, Bool, true, false, ◌||◌, List, [], ◌∷◌, ◌++◌, map, Option, Some, None, refl, sym, ap, ◌∙◌, subst, length}
-use Rattle.std.specs.Prelude.{if◌then◌else◌, slice_get}
-use Rattle.std.specs.List.{flat_map, list_any}
-use Rattle.std.specs.Option.{option_or}
-use Rattle.std.specs.Str.{bytes_eq}
-use Rattle.std.proofs.lemmas.List.{map-append}
-use Rattle.wit_names.specs.Folded.{folded_key}
-use Rattle.wit_type_tree.specs.declared.leaves.Id.{Id}
-use Rattle.wit_type_tree.specs.declared.types.TypeBody.{TypeBody}
+use Rattle.wit_syntax.proofs.Common.{Called, Declared, Defined, Exported, Fault, ForeignName, Id, Imported, InterfaceItem, Item, PackageFile, ResourceFunc, ScopeName, SideFunction, SideItem, SourceFunction, Span, TheInline, TheInterface, TheWorld, TypeBody, TypeDef, Used, WorldSide, about, address, bytes_eq, cyclic_at, defined, definition_functions, flat_map, flat_map_at, folded_key, free_function, functions, functions_imported, if◌then◌else◌, in_order, in_turn, includes, interface_part, is_world, item_function, items_on, kept_all, kept_none, list_any, local_id, local_name, map-append, map_at, missing_type_at, name_called, name_twice, names_on, on_side, option_or, part_functions, part_includes, resource_function, role_side, rows_of, same_side, scope_names, side_called, side_items, side_items_functions, slice_get, type_word, used}
 use Rattle.wit_type_tree.specs.declared.types.TypeBody.TheVariants as body
-use Rattle.wit_type_tree.specs.declared.types.ResourceFunc.{ResourceFunc}
 use Rattle.wit_type_tree.specs.declared.types.ResourceFunc.TheVariants as resource
-use Rattle.wit_tree.specs.declared.tree.InterfaceItem.{InterfaceItem}
 use Rattle.wit_tree.specs.declared.tree.InterfaceItem.TheVariants as interface_item
-use Rattle.wit_tree.specs.declared.tree.PackageFile.{PackageFile}
-use Rattle.wit_tree.specs.declared.tree.WorldSide.{WorldSide}
-use Rattle.wit_tree.specs.declared.tree.WorldSide.TheVariants.{Imported, Exported}
-use Rattle.wit_values.specs.declared.span.Span.{Span}
-use Rattle.wit_syntax.specs.ExternPart.{same_side}
-use Rattle.wit_syntax.specs.Fault.{Fault, missing_type_at, cyclic_at, type_word, name_twice}
-use Rattle.wit_syntax.specs.Function.{SourceFunction, functions, part_functions, definition_functions, free_function, resource_function}
-use Rattle.wit_syntax.specs.ScopeTables.{defined, in_order, in_turn, includes, part_includes, used, rows_of}
-use Rattle.wit_syntax.specs.Sides.{SideItem, SideFunction, item_function, items_on, names_on, on_side, role_side, side_called, side_items}
-use Rattle.wit_syntax.specs.SignatureRules.{Called, name_called}
-use Rattle.wit_syntax.specs.Source.{Declared, TheInterface, TheWorld, TheInline, Item, ScopeName, Used, Defined, ForeignName, about, address, interface_part, is_world, local_id, local_name, scope_names}
-use Rattle.wit_syntax.proofs.Lists.{flat_map_at, map_at}
-use Rattle.wit_syntax.proofs.Sides.{functions_imported, kept_all, kept_none, side_items_functions}
-use Rattle.wit_first.specs.First.{first_after, first_in, repeat_of}
-use Rattle.wit_first.specs.NameFaults.{local_names_fault}
-use Rattle.wit_first.proofs.Clashes.{clash-made, clash-map}
-use Rattle.wit_first.proofs.First.{or_assoc, after-append, or_none, repeat-map}
+use Rattle.wit_walk.proofs.Common.{IsOutcome, Outcome, after-append, called_fault, clash-made, clash-map, crossed, definition_fault, earliest, first_after, first_in, folded_clash, folded_fault, function_fault, handle_fault, include_fault, is_on_side, local_names_fault, member_fault, name_fault, or_assoc, or_none, or_none_both, order_fault, order_of, own_fault, repeat-map, repeat_of, scope_faults, setters_beside, setters_fault, side_setters_fault, side_sorted, signed_fault, stability_fault, use_fault, word_fault}
 use Rattle.wit_first.proofs.Repeats.{after_kept}
-use Rattle.wit_first.proofs.Bridge.{or_none_both}
-use Rattle.wit_walk.specs.Definitions.{handle_fault, definition_fault}
-use Rattle.wit_walk.specs.Functions.{function_fault, signed_fault, word_fault}
-use Rattle.wit_walk.specs.Members.{called_fault, crossed, is_on_side, member_fault, own_fault, side_sorted}
-use Rattle.wit_walk.specs.Names.{folded_clash, folded_fault, name_fault, use_fault}
-use Rattle.wit_walk.specs.Orders.{Outcome, order_fault, order_of, IsOutcome}
-use Rattle.wit_walk.specs.Paths.{include_fault}
-use Rattle.wit_walk.specs.Setters.{setters_beside, setters_fault, side_setters_fault}
-use Rattle.wit_walk.specs.Walk.{earliest, scope_faults}
 use Rattle.wit_refusals.specs.NameScopes.{Name}
 use Rattle.wit_signatures.specs.ForeignName.{name_key, name_of_function, name_of_id}
 use Rattle.wit_externs.specs.AloneFaults.{again, again_fault, alone_fault, alone_faults, defined_fault, lone_setters, EndsIn}
@@ -55,10 +21,8 @@ use Rattle.wit_item_entries.proofs.NameOrder.{all_used, called}
 use Rattle.wit_item_entries.specs.ReachedFaults.{definitions_fault, item_stability, ordered_fault}
 use Rattle.wit_item_entries.specs.ScopeFunctionFaults.{functions_fault}
 use Rattle.wit_contents.specs.InterfaceFaults.{interface_fault, names_of}
-use Rattle.wit_types.specs.declared.types.TypeDef.{TypeDef}
 use Rattle.wit_types.specs.declared.types.TypeOwner.TheVariants as owner
-use Rattle.wit_first.specs.AttributeFaults.{stability_fault}
-use Rattle.wit_arena.specs.Resolving.{env_of}
+use Rattle.wit_arena.proofs.Common.{env_of}
 use Rattle.wit_items.specs.ResolvedInterfaces.{resolved_scopes_of}
 use Rattle.wit_items.specs.declared.items.Item.{Item as BorrowedItem}
 use Rattle.wit_links.specs.Includes.{includes_fault}

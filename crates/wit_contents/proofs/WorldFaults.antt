@@ -1,33 +1,9 @@
 -- The first fault of a world: of its attributes, of its names, of its includes, or of what is on its sides.
 use Rattle.std.proofs.Common.{◌≡◌, ℕ, ◌+◌, Bool, true, List, [], ◌∷◌, ◌++◌, drop, length, map, take, Option, Some, None, refl, sym, ap, ◌∙◌, subst, All, ◌<◌, get_or}
-use Rattle.std.specs.Prelude.{if◌then◌else◌, slice_get}
-use Rattle.std.specs.List.{filter}
-use Rattle.std.specs.Option.{option_map, option_or}
-use Rattle.std.proofs.lemmas.List.{append-nil, take-append-drop}
-use Rattle.std.proofs.lemmas.List.Elements.{filter-append, filter_map-append}
-use Rattle.std.proofs.lemmas.Option.{slice_get-get_or, slice_get-map}
-use Rattle.wit_type_tree.specs.declared.error.ParseError.{ParseError}
-use Rattle.wit_type_tree.specs.declared.leaves.Id.{Id}
-use Rattle.wit_tree.specs.declared.tree.Include.{Include}
-use Rattle.wit_tree.specs.declared.tree.WorldSide.TheVariants.{Imported}
-use Rattle.wit_types.specs.declared.types.TypeDef.{TypeDef}
-use Rattle.wit_types.specs.declared.types.TypeOwner.{TypeOwner}
+use Rattle.wit_syntax.proofs.Common.{AllDiffer, Fault, Id, Imported, Include, Item, ParseError, ScopeName, SourceFunction, TypeDef, TypeOwner, append-nil, filter, filter-append, filter_map-append, functions, if◌then◌else◌, in_order, in_turn, includes, kept_next, local_id, option_map, option_or, rows_of, scope_names, side_items, slice_get, slice_get-get_or, slice_get-map, take-append-drop}
 use Rattle.wit_types.specs.declared.types.TypeOwner.TheVariants as owner
-use Rattle.wit_model.specs.declared.interface.Interface.{Interface}
-use Rattle.wit_syntax.specs.Fault.{Fault}
-use Rattle.wit_syntax.specs.Function.{SourceFunction, functions}
-use Rattle.wit_syntax.specs.Repeats.{AllDiffer}
-use Rattle.wit_syntax.specs.ScopeTables.{in_order, in_turn, includes, rows_of}
-use Rattle.wit_syntax.specs.Sides.{side_items}
-use Rattle.wit_syntax.specs.Source.{Item, ScopeName, local_id, scope_names}
-use Rattle.wit_syntax.proofs.Kept.{kept_next}
-use Rattle.wit_first.specs.First.{Reports, first_after, first_in}
-use Rattle.wit_first.proofs.Clashes.{no_clashes}
-use Rattle.wit_first.proofs.First.{in-append, in-more, none_both, reports_prefix, reports_same}
-use Rattle.wit_walk.specs.Orders.{IsOutcome, Outcome, order_of}
-use Rattle.wit_walk.specs.Setters.{setters_beside, setters_fault}
-use Rattle.wit_arena.specs.Resolving.{Defines, ResolvedScope, env_of}
-use Rattle.wit_arena.proofs.DefinitionPart.{defines_none}
+use Rattle.wit_arena.proofs.Common.{Defines, Interface, ResolvedScope, defines_none, env_of}
+use Rattle.wit_walk.proofs.Common.{IsOutcome, Outcome, Reports, first_after, first_in, in-append, in-more, no_clashes, none_both, order_of, reports_prefix, reports_same, setters_beside, setters_fault}
 use Rattle.wit_refusals.specs.NameScopes.{Name}
 use Rattle.wit_signatures.specs.ForeignName.{name_key, name_of_id}
 use Rattle.wit_externs.specs.AloneFaults.{EndsIn, IsSafe, again, sides_setters}

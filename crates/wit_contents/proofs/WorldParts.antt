@@ -1,11 +1,7 @@
 -- The walk of a world of the files, and what the world adds: after its names what is on its sides, or nothing.
 use Rattle.std.proofs.Common.{◌≡◌, List, map, refl, sym, ap, ◌∙◌, subst, true, ◌+◌, ℕ, ◌∷◌, [], ◌++◌, Some, length, arith, false, None}
-use Rattle.wit_type_tree.specs.declared.leaves.Id.{Id}
-use Rattle.wit_types.specs.declared.types.TypeDef.{TypeDef}
-use Rattle.wit_types.specs.declared.types.TypeOwner.{TypeOwner}
-use Rattle.wit_syntax.specs.Function.{functions}
-use Rattle.wit_syntax.specs.Source.{is_world, scope_names, Item, address, about, declared_metadata, Declared, ScopeName, TheWorld, world_part}
-use Rattle.wit_arena.specs.Resolving.{env_of, names_in, Required, Names}
+use Rattle.wit_syntax.proofs.Common.{Address, AllDiffer, Declared, Exported, Id, Imported, Include, Item, ScopeName, SideItem, TheWorld, TypeDef, TypeOwner, World as Written, WorldItem, WorldSide, about, address, and_parts, append-nil, at_back, at_prefix, declared_metadata, eqb-true, flat_map, functions, functions_items, in_turn, in_turn_distinct, includes, inline_after, inline_items, is_ascii_uppercase, is_world, item_function, length-inline_after, list_all, list_any, names_on, nil_from_length, part_items, scope_names, side_items, slice_get, world_part}
+use Rattle.wit_arena.proofs.Common.{AddsSides, AddsWorld, AreIncludes, AreSideItems, Interface, IsWorld, Names, Required, World, env_of, function_of, interfaces_at, names_in, settled, type_imports, worlds_at}
 use Rattle.wit_rules.specs.BorrowedFunctions.{function_view}
 use Rattle.wit_rules.specs.Signatures.{HaveOwners, functions_view}
 use Rattle.wit_items.specs.Gathered.{IsItemOf}
@@ -20,44 +16,16 @@ use Rattle.wit_item_entries.proofs.Owners.{owners, turn_has}
 use Rattle.wit_contents.specs.declared.walk.Walk.{Walk}
 use Rattle.wit_contents.specs.declared.world.WorldScope.{WorldScope}
 use Rattle.wit_contents.specs.WorldWalk.{IsScopeOfWorld, IsWalkOf}
-use Rattle.std.specs.Prelude.{slice_get}
-use Rattle.wit_tree.specs.declared.tree.WorldSide.TheVariants.{Imported, Exported}
 use Rattle.wit_types.specs.declared.types.TypeOwner.TheVariants as owner
-use Rattle.wit_model.specs.declared.interface.Interface.{Interface}
-use Rattle.wit_model.specs.declared.world.World.{World}
-use Rattle.wit_syntax.specs.Address.{Address}
-use Rattle.wit_syntax.specs.ScopeTables.{in_turn, includes}
-use Rattle.wit_syntax.specs.Sides.{inline_items, side_items, SideItem, inline_after, item_function, names_on, part_items}
-use Rattle.wit_syntax.proofs.Inline.{length-inline_after}
-use Rattle.wit_syntax.proofs.Lists.{at_back, at_prefix}
-use Rattle.wit_arena.specs.UnfoldedTypes.{IsWorld}
-use Rattle.wit_arena.specs.ResolvedArenas.{AddsWorld, interfaces_at, worlds_at, AddsSides}
-use Rattle.wit_arena.specs.SideItems.{settled, AreSideItems}
-use Rattle.wit_arena.specs.Whole.{AreIncludes, type_imports}
 use Rattle.wit_items.specs.ForeignAddresses.{prefix_of}
 use Rattle.wit_world_sides.specs.Members.{Entry}
 use Rattle.wit_links.proofs.Leading.{addresses_count}
 use Rattle.wit_contents.specs.AddedWorlds.{arenas}
 use Rattle.wit_contents.specs.declared.walk.Walked.{Walked}
 use Rattle.wit_contents.specs.Walk.{AddsAll, HavePlaces, IsWalk, ItemWalk, walk_item, puts_nothing}
-use Rattle.std.specs.Char.{is_ascii_uppercase}
-use Rattle.std.specs.List.{flat_map, list_all, list_any}
-use Rattle.std.proofs.lemmas.Bool.{and_parts, eqb-true}
-use Rattle.std.proofs.lemmas.List.{append-nil, nil_from_length}
-use Rattle.wit_tree.specs.declared.tree.Include.{Include}
-use Rattle.wit_tree.specs.declared.tree.World.{World as Written}
-use Rattle.wit_tree.specs.declared.tree.WorldItem.{WorldItem}
-use Rattle.wit_tree.specs.declared.tree.WorldSide.{WorldSide}
 use Rattle.wit_functions.specs.MaybeFunction.{is_setter}
 use Rattle.wit_functions.proofs.NoSetters.{no_setters}
-use Rattle.wit_model.specs.ItemsOfWorlds.{function_of}
-use Rattle.wit_syntax.specs.Repeats.{AllDiffer}
-use Rattle.wit_syntax.proofs.Legal.{functions_items}
-use Rattle.wit_syntax.proofs.Turns.{in_turn_distinct}
-use Rattle.wit_first.specs.First.{first_after}
-use Rattle.wit_first.proofs.Clashes.{no_clashes}
-use Rattle.wit_first.proofs.First.{none_both}
-use Rattle.wit_walk.specs.Setters.{setters_beside, setters_fault}
+use Rattle.wit_walk.proofs.Common.{first_after, no_clashes, none_both, setters_beside, setters_fault}
 use Rattle.wit_refusals.specs.NameScopes.{Name}
 use Rattle.wit_signatures.specs.ForeignName.{name_key, name_of_id}
 use Rattle.wit_externs.specs.AloneFaults.{again, sides_setters}

@@ -1,16 +1,7 @@
 -- Worlds that are added one after another, with the interfaces that are written in them, and one more.
 use Rattle.std.proofs.Common.{◌≡◌, ◌+◌, List, [], ◌∷◌, ◌++◌, length, map, refl, sym, ap, ◌∙◌, subst, append_assoc, arith}
-use Rattle.std.specs.List.{flat_map}
-use Rattle.std.proofs.lemmas.Grind.{flat_map-append}
-use Rattle.std.proofs.lemmas.List.{append-nil, length-append, length-map, map-append}
-use Rattle.wit_types.specs.declared.types.TypeDef.{TypeDef}
-use Rattle.wit_model.specs.declared.interface.Interface.{Interface}
-use Rattle.wit_model.specs.declared.world.World.{World}
-use Rattle.wit_syntax.specs.Address.{Address}
-use Rattle.wit_syntax.specs.Sides.{inline_items}
-use Rattle.wit_syntax.specs.Source.{Item, address}
-use Rattle.wit_arena.specs.Resolving.{Required}
-use Rattle.wit_arena.specs.ResolvedArenas.{AddsEach, AddsWorld, AddsWorlds, prefix_worlds}
+use Rattle.wit_syntax.proofs.Common.{Address, Item, TypeDef, address, append-nil, flat_map, flat_map-append, inline_items, length-append, length-map, map-append}
+use Rattle.wit_arena.proofs.Common.{AddsEach, AddsWorld, AddsWorlds, Interface, Required, World, prefix_worlds}
 use Rattle.wit_item_entries.specs.NewRequirements.{Appends}
 use Rattle.wit_contents.specs.AddedWorlds.{arenas}
 

@@ -1,13 +1,9 @@
 -- The types of cases that hold something, case by case, and the first fault of them.
 use Rattle.std.proofs.Common.{◌≡◌, List, [], ◌∷◌, ◌++◌, Option, Some, None, refl, ap, ◌∙◌}
-use Rattle.std.specs.List.{cons_option}
-use Rattle.std.specs.Option.{option_or, option_to_list}
-use Rattle.wit_type_tree.specs.declared.types.Case.{Case}
-use Rattle.wit_type_tree.specs.TypeParts.{case_types}
-use Rattle.wit_types.specs.declared.types.TypeDef.{TypeDef}
+use Rattle.wit_syntax.proofs.Common.{Case, TypeDef, case_types, cons_option, option_or, option_to_list}
 use Rattle.wit_first.specs.First.{first_in}
 use Rattle.wit_first.proofs.First.{in-append}
-use Rattle.wit_arena.specs.Resolving.{Env}
+use Rattle.wit_arena.proofs.Common.{Env}
 use Rattle.wit_entries.specs.EntryFaults.{types_fault, written_fault}
 
 in_prefix : {X : Type 0} (o : Option X) (xs : List X) → cons_option o xs ≡ option_to_list o ++ xs

@@ -1,13 +1,9 @@
 -- In how many steps it is found where an entry ends.
 use Rattle.std.proofs.Common.{◌≡◌, ℕ, zero, suc, ◌≤◌, List, [], ◌∷◌, Option, Some, None, refl, sym, ap, ◌∙◌, arith}
-use Rattle.std.specs.Prelude.{slice_get, take}
+use Rattle.wit_syntax.proofs.Common.{AliasForm, Form, TypeDef, at_take, slice_get, take}
 use Rattle.wit_types.specs.declared.types.«Type».{«Type» as Ty}
 use Rattle.wit_types.specs.declared.types.«Type».TheVariants as type
-use Rattle.wit_types.specs.declared.types.TypeDef.{TypeDef}
-use Rattle.wit_syntax.specs.Form.{Form, AliasForm}
-use Rattle.wit_syntax.proofs.Lists.{at_take}
-use Rattle.wit_arena.specs.EntryEnds.{EntryEnd, part_end, kind_end, found_end, entry_end}
-use Rattle.wit_arena.specs.Kind.{kind_of}
+use Rattle.wit_arena.proofs.Common.{EntryEnd, entry_end, found_end, kind_end, kind_of, part_end}
 use Rattle.wit_entries.specs.EntryFaults.{end_in}
 
 -- what one way to say ends finds, another one finds that says all that the first does

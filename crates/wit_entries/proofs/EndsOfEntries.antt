@@ -1,17 +1,10 @@
 -- Arenas beside which it is stated where each entry ends, and one entry more.
 use Rattle.std.proofs.Common.{◌≡◌, ℕ, suc, List, [], ◌∷◌, ◌++◌, length, Option, Some, inl, inr, refl, sym, ap, ◌∙◌, subst, length-append, arith}
-use Rattle.std.specs.Prelude.{slice_get}
-use Rattle.std.proofs.Math.Seq.{take-append_seam}
-use Rattle.std.proofs.lemmas.Option.{slice_get_within}
+use Rattle.wit_syntax.proofs.Common.{TypeDef, TypeDefKind, at_either, slice_get, slice_get_within, take-append_seam}
 use Rattle.wit_types.specs.declared.types.«Type».TheVariants as type
-use Rattle.wit_types.specs.declared.types.TypeDef.{TypeDef}
-use Rattle.wit_types.specs.declared.types.TypeDefKind.{TypeDefKind}
 use Rattle.wit_types.specs.declared.types.TypeDefKind.TheVariants as kind
 use Rattle.wit_types.specs.declared.types.Handle.TheVariants as handle
-use Rattle.wit_arena.specs.Kind.{kind_of}
-use Rattle.wit_arena.specs.EntryEnds.{EntryEnd, found_end, kind_end, entry_end}
-use Rattle.wit_syntax.proofs.Lists.{at_either}
-use Rattle.wit_arena.proofs.Ends.{entry_end-same}
+use Rattle.wit_arena.proofs.Common.{EntryEnd, entry_end, entry_end-same, found_end, kind_end, kind_of}
 use Rattle.wit_entries.specs.declared.ends.End.{End}
 use Rattle.wit_entries.specs.EndsOfEntries.{end_means, EndsAt, EndsNext, AreAsStated}
 

@@ -1,24 +1,13 @@
 -- Written types without a fault in an arena that grows.
 use Rattle.std.proofs.Common.{◌≡◌, ℕ, suc, List, [], ◌∷◌, ◌++◌, take, Option, Some, None, refl, sym, ap, ◌∙◌, Vec}
-use Rattle.std.specs.declared.alloc.Global.{Global}
-use Rattle.std.specs.Prelude.{slice_get}
-use Rattle.std.specs.Option.{option_or}
-use Rattle.std.proofs.lemmas.Option.{slice_get_within}
-use Rattle.wit_values.specs.declared.span.Span.{Span}
-use Rattle.wit_type_tree.specs.declared.leaves.Id.{Id}
+use Rattle.wit_syntax.proofs.Common.{Fault, Global, Id, Span, TypeBody, TypeDef, body_types, missing_type_at, option_or, slice_get, slice_get_within}
 use Rattle.wit_type_tree.specs.declared.types.«Type».{«Type» as Written}
 use Rattle.wit_type_tree.specs.declared.types.«Type».TheVariants as written
-use Rattle.wit_type_tree.specs.declared.types.TypeBody.{TypeBody}
-use Rattle.wit_type_tree.specs.TypeParts.{body_types}
-use Rattle.wit_types.specs.declared.types.TypeDef.{TypeDef}
-use Rattle.wit_syntax.specs.Fault.{Fault, missing_type_at}
 use Rattle.wit_first.specs.ListFaults.{empty_fault, list_fault}
 use Rattle.wit_first.proofs.Bridge.{or_none_both}
 use Rattle.wit_first.proofs.First.{none_both}
 use Rattle.wit_first.proofs.TypeFaults.{tuple_fault, type_kept}
-use Rattle.wit_arena.specs.EntryEnds.{IsOther, entry_end, found_end}
-use Rattle.wit_arena.specs.Resolving.{Env}
-use Rattle.wit_arena.proofs.Ends.{entry_end-same}
+use Rattle.wit_arena.proofs.Common.{Env, IsOther, entry_end, entry_end-same, found_end}
 use Rattle.wit_entries.specs.EntryFaults.{end_in, name_fault, end_fault, handled_fault, handle_fault, named_fault, written_fault, types_fault, body_fault}
 use Rattle.wit_entries.specs.Requiring.{IsExtended}
 

@@ -1,23 +1,11 @@
 -- The kinds of forms over their resolved parts.
 use Rattle.std.proofs.Common.{◌≡◌, List, [], ◌∷◌, ◌++◌, Option, Some, None, is_some, refl, sym, ap, ◌∙◌, subst, Vec, Box}
-use Rattle.std.specs.Option.{option_to_list}
-use Rattle.std.specs.declared.alloc.Global.{Global}
-use Rattle.wit_values.specs.declared.span.Span.{Span}
+use Rattle.wit_syntax.proofs.Common.{Address, FutureForm, Global, ResultForm, ResultTypes, Span, Stability, StreamForm, TypeDef, boxed_types, err_type, ok_type, option_to_list, result_types, shape_of}
 use Rattle.wit_type_tree.specs.declared.types.«Type».{«Type» as Written}
 use Rattle.wit_type_tree.specs.declared.types.«Type».TheVariants as written
-use Rattle.wit_type_tree.specs.declared.types.ResultTypes.{ResultTypes}
-use Rattle.wit_type_tree.specs.TypeParts.{ok_type, err_type, result_types, boxed_types}
 use Rattle.wit_types.specs.declared.types.«Type».{«Type» as Ty}
-use Rattle.wit_types.specs.declared.stability.Stability.{Stability}
-use Rattle.wit_types.specs.declared.types.TypeDef.{TypeDef}
 use Rattle.wit_types.specs.declared.types.TypeDefKind.TheVariants as kind
-use Rattle.wit_syntax.specs.Form.{ResultForm, FutureForm, StreamForm}
-use Rattle.wit_syntax.specs.Shape.{shape_of}
-use Rattle.wit_syntax.specs.Address.{Address}
-use Rattle.wit_arena.specs.Expr.{exprs_of}
-use Rattle.wit_arena.specs.Occurrences.{shapes_occurrences}
-use Rattle.wit_arena.specs.Resolving.{Env, AreResolved}
-use Rattle.wit_arena.proofs.Written.{tuple_inner, result_shapes-all}
+use Rattle.wit_arena.proofs.Common.{AreResolved, Env, exprs_of, result_shapes-all, shapes_occurrences, tuple_inner}
 use Rattle.wit_entries.specs.ResolvedForms.{IsResolved, AreTypes, IsForm}
 use Rattle.wit_entries.proofs.Reading.{types_one, types_then}
 

@@ -1,13 +1,8 @@
 -- Tables that know unnamed entries, and one entry more.
 use Rattle.std.proofs.Common.{◌≡◌, ◌⊎◌, ℕ, Bool, true, false, List, [], ◌∷◌, ◌++◌, length, Option, Some, None, if◌then◌else◌, inl, inr, refl, sym, ap, ◌∙◌}
 use Rattle.std.specs.Bool.{Decides}
-use Rattle.wit_values.specs.declared.span.Span.{Span}
-use Rattle.wit_types.specs.declared.stability.Stability.{Stability}
-use Rattle.wit_types.specs.declared.types.TypeDef.{TypeDef}
-use Rattle.wit_types.specs.declared.types.TypeDefKind.{TypeDefKind}
-use Rattle.wit_arena.specs.UnfoldedTypes.{At}
-use Rattle.wit_arena.specs.Resolving.{IsUnnamedOf, unnamed}
-use Rattle.wit_syntax.proofs.Lists.{at_either}
+use Rattle.wit_syntax.proofs.Common.{Span, Stability, TypeDef, TypeDefKind, at_either}
+use Rattle.wit_arena.proofs.Common.{At, IsUnnamedOf, unnamed}
 use Rattle.wit_intern.specs.declared.key.InternKey.{InternKey}
 use Rattle.wit_intern.specs.TypeKeys.{key_of}
 use Rattle.wit_intern.specs.FiniteMap.{FiniteMap}

@@ -1,22 +1,9 @@
 -- Definitions and functions with the metadata that their docs and attributes say.
 use Rattle.std.proofs.Common.{◌≡◌, List, [], ◌∷◌, ap, ◌∙◌, subst}
-use Rattle.wit_type_tree.specs.declared.leaves.Attribute.{Attribute}
+use Rattle.wit_syntax.proofs.Common.{Address, AreMetadata, Attribute, Defined, Metadata, SourceFunction, Stability, TypeDef, TypeDefKind, TypeOwner, about_name, body_of, docs_of, metadata}
 use Rattle.wit_type_tree.specs.declared.leaves.Docs.{Docs}
 use Rattle.wit_type_tree.specs.declared.types.TypeDef.{TypeDef as Definition}
-use Rattle.wit_types.specs.declared.stability.Stability.{Stability}
-use Rattle.wit_types.specs.declared.types.TypeDef.{TypeDef}
-use Rattle.wit_types.specs.declared.types.TypeDefKind.{TypeDefKind}
-use Rattle.wit_types.specs.declared.types.TypeOwner.{TypeOwner}
-use Rattle.wit_syntax.specs.Address.{Address}
-use Rattle.wit_arena.specs.Expr.{exprs_of}
-use Rattle.wit_arena.specs.Kind.{kind_of}
-use Rattle.wit_syntax.specs.Function.{SourceFunction}
-use Rattle.wit_arena.specs.Occurrences.{shapes_occurrences}
-use Rattle.wit_syntax.specs.Metadata.{Metadata, metadata, docs_of, AreMetadata}
-use Rattle.wit_arena.specs.Resolving.{ResolvedScope, Names, env_of, AreResolved, IsAdded, Defines}
-use Rattle.wit_syntax.specs.Shape.{body_of}
-use Rattle.wit_syntax.specs.Source.{Defined, about_name}
-use Rattle.wit_arena.proofs.DefinitionPart.{defines_one}
+use Rattle.wit_arena.proofs.Common.{AreResolved, Defines, IsAdded, Names, ResolvedScope, defines_one, env_of, exprs_of, kind_of, shapes_occurrences}
 use Rattle.wit_notes.specs.BorrowedMetadata.{metadata_view}
 use Rattle.wit_notes.specs.declared.metadata.Metadata.{Metadata as Made}
 

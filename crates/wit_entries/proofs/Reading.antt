@@ -1,27 +1,15 @@
 -- Written types whose parts are resolved: as they are in a type, and under a name.
 use Rattle.std.proofs.Common.{◌≡◌, ℕ, List, [], ◌∷◌, ◌++◌, Some, refl, sym, ap, ◌∙◌, subst}
-use Rattle.std.proofs.lemmas.List.{append-nil}
+use Rattle.wit_syntax.proofs.Common.{Address, AliasForm, Id as Name, Of, Prim, Shape, Span, Stability, TypeDef, TypeDefKind, Word, append-nil, head, one, shape_of, written_body}
 use Rattle.wit_types.specs.declared.types.«Type».{«Type» as Ty}
 use Rattle.wit_types.specs.declared.types.«Type».TheVariants.{Id}
-use Rattle.wit_types.specs.declared.types.TypeDef.{TypeDef}
-use Rattle.wit_type_tree.specs.declared.leaves.Id.{Id as Name}
 use Rattle.wit_type_tree.specs.declared.types.«Type».{«Type» as Written}
 use Rattle.wit_type_tree.specs.declared.types.«Type».TheVariants as written
-use Rattle.wit_types.specs.declared.types.TypeDefKind.{TypeDefKind}
-use Rattle.wit_types.specs.declared.stability.Stability.{Stability}
-use Rattle.wit_values.specs.declared.span.Span.{Span}
-use Rattle.wit_syntax.specs.Form.{AliasForm}
-use Rattle.wit_arena.specs.Kind.{kind_of}
-use Rattle.wit_syntax.specs.Shape.{Shape, Prim, Word, Of, one, shape_of, Body, head, written_body}
-use Rattle.wit_syntax.specs.Address.{Address}
-use Rattle.wit_arena.specs.Expr.{exprs_of, expr_of}
+use Rattle.wit_arena.proofs.Common.{AreResolved, Env, IsAnonymousForm, IsInterned, all_exprs-append, all_occurrences-append, expr_of, exprs_of, kind_of, shape_occurrences, shapes_occurrences}
+use Rattle.wit_syntax.specs.Shape.{Body}
 use Rattle.wit_arena.specs.Expr as exprs
-use Rattle.wit_arena.specs.Occurrences.{shape_occurrences, shapes_occurrences}
-use Rattle.wit_arena.specs.Faithful.{IsAnonymousForm}
-use Rattle.wit_arena.specs.Resolving.{Env, AreResolved, IsInterned}
 use Rattle.wit_arena.proofs.UnnamedKinds.{only_anonymous}
 use Rattle.wit_arena.proofs.Resolving.{resolved_more, resolved_whole}
-use Rattle.wit_arena.proofs.Written.{all_exprs-append, all_occurrences-append}
 use Rattle.wit_entries.specs.declared.types.Reading.{Reading}
 use Rattle.wit_entries.specs.declared.types.Reading.TheVariants as reading
 use Rattle.wit_entries.specs.ResolvedForms.{IsResolved, AreTypes, IsLeaf, IsOwn, IsForm, IsRead, Denotes, named_kind}

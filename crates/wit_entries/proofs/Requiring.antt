@@ -1,14 +1,8 @@
 -- Arenas that grow, and what handles require, one after another.
 use Rattle.std.proofs.Common.{◌≡◌, List, [], ◌∷◌, ◌++◌, refl, sym, ap, ◌∙◌, subst, append_assoc}
-use Rattle.std.proofs.lemmas.List.{append-nil}
-use Rattle.wit_type_tree.specs.declared.leaves.Id.{Id}
+use Rattle.wit_syntax.proofs.Common.{Id, TypeDef, all_handles, append-nil, handles, part_types}
 use Rattle.wit_type_tree.specs.declared.types.«Type».{«Type» as Written}
-use Rattle.wit_type_tree.specs.TypeParts.{part_types}
-use Rattle.wit_types.specs.declared.types.TypeDef.{TypeDef}
-use Rattle.wit_syntax.specs.Shape.{handles, all_handles}
-use Rattle.wit_arena.specs.Resolving.{Env, Required, AreEnded}
-use Rattle.wit_arena.proofs.Written.{all_handles-append, IsNoHandle, handles-parts}
-use Rattle.wit_arena.proofs.Required.{ended_append, ended_more}
+use Rattle.wit_arena.proofs.Common.{AreEnded, Env, IsNoHandle, Required, all_handles-append, ended_append, ended_more, handles-parts}
 use Rattle.wit_entries.specs.Requiring.{IsExtended, Requires}
 
 pub extended_then : (old mid new : List TypeDef) → IsExtended old mid → IsExtended mid new → IsExtended old new

@@ -1,24 +1,12 @@
 -- The first known stability of the parts of a kind, slot by slot.
 use Rattle.std.proofs.Common.{◌≡◌, ℕ, zero, suc, ◌+◌, List, [], ◌∷◌, ◌++◌, take, Option, Some, None, refl, sym, ap, ◌∙◌}
-use Rattle.std.specs.Prelude.{map, slice_get}
-use Rattle.std.specs.List.{cons_option}
-use Rattle.std.specs.Option.{option_map, option_to_list}
-use Rattle.std.proofs.lemmas.Option.{slice_get-map, slice_get_within, get_or_from_slice_get}
-use Rattle.std.proofs.lemmas.List.{take_more}
-use Rattle.wit_types.specs.declared.stability.Stability.{Stability}
+use Rattle.wit_syntax.proofs.Common.{Field, Stability, TypeDef, TypeDefKind, cons_option, first_known, get_or_from_slice_get, map, map_map, option_map, option_to_list, slice_get, slice_get-map, slice_get_within, slots, take_more}
 use Rattle.wit_types.specs.declared.stability.Stability.TheVariants as stability
 use Rattle.wit_types.specs.declared.types.Case.{Case}
-use Rattle.wit_types.specs.declared.types.Field.{Field}
 use Rattle.wit_types.specs.declared.types.Handle.{Handle}
 use Rattle.wit_types.specs.declared.types.«Type».{«Type» as Ty}
-use Rattle.wit_types.specs.declared.types.TypeDef.{TypeDef}
-use Rattle.wit_types.specs.declared.types.TypeDefKind.{TypeDefKind}
 use Rattle.wit_types.specs.declared.types.TypeDefKind.TheVariants as kind
-use Rattle.wit_types.specs.InnerTypes.{slots}
-use Rattle.wit_arena.specs.Kind.{payloads, kind_of}
-use Rattle.wit_syntax.specs.Metadata.{first_known}
-use Rattle.wit_arena.specs.Occurrences.{stability_at}
-use Rattle.wit_syntax.proofs.Lists.{map_map}
+use Rattle.wit_arena.proofs.Common.{kind_of, payloads, stability_at}
 use Rattle.wit_entries.specs.FirstStability.{known, slot_stability, known_in_slots, known_in_parts}
 
 -- a known one is the first of all after it

@@ -1,36 +1,14 @@
 -- The first fault of functions where nothing else is on the sides of a scope: names again, and tests of names in handles in an arena that grows.
 use Rattle.std.proofs.Common.{◌≡◌, ℕ, suc, true, false, List, [], ◌∷◌, ◌++◌, map, take, Option, Some, None, Result, Ok, Err, inl, inr, refl, sym, ap, ◌∙◌, add-one}
-use Rattle.std.specs.Prelude.{IfErr, OnOk, slice_get}
-use Rattle.std.specs.List.{list_any}
-use Rattle.std.specs.Option.{option_map, option_or}
-use Rattle.std.specs.Str.{bytes_eq}
-use Rattle.std.proofs.lemmas.Bool.{false_from_ne_true}
+use Rattle.wit_syntax.proofs.Common.{Fault, Id, IfErr, OnOk, Param, ParseError, Refused, ScopeName, SourceFunction, SourceParam, Span, TypeDef, bytes_eq, false_from_ne_true, folded, folded_key, list_any, name_equal, name_itself, option_map, option_or, param_twice, slice_get, written_param}
 use mathlib.Core.Path.{fun_ext}
-use Rattle.wit_names.specs.Folded.{folded_key}
-use Rattle.wit_values.specs.declared.span.Span.{Span}
-use Rattle.wit_type_tree.specs.declared.error.ParseError.{ParseError}
-use Rattle.wit_type_tree.specs.declared.leaves.Id.{Id}
-use Rattle.wit_type_tree.specs.declared.types.Param.{Param}
 use Rattle.wit_type_tree.specs.declared.types.«Type».{«Type» as Written}
 use Rattle.wit_type_tree.specs.declared.types.«Type».TheVariants as written
-use Rattle.wit_types.specs.declared.types.TypeDef.{TypeDef}
-use Rattle.wit_syntax.specs.Bodies.{folded}
-use Rattle.wit_syntax.specs.Broken.{Refused}
-use Rattle.wit_syntax.specs.Fault.{Fault, param_twice}
-use Rattle.wit_syntax.specs.Function.{SourceFunction, SourceParam, written_param}
-use Rattle.wit_syntax.specs.Source.{ScopeName}
-use Rattle.wit_syntax.proofs.Names.{name_equal, name_itself}
-use Rattle.wit_first.specs.AttributeFaults.{metadata_fault}
-use Rattle.wit_first.specs.First.{Finds, Reports, first_after, repeat_of}
+use Rattle.wit_walk.proofs.Common.{Finds, Reports, any_found, find-only, find_none, first_after, function_fault, lost_word, metadata_fault, none_both, or_none_both, param_fault, repeat_of, return_fault, type_fault}
 use Rattle.wit_first.specs.FunctionFaults.{given_fault, gives_fault}
-use Rattle.wit_first.specs.TypeFaults.{type_fault}
-use Rattle.wit_first.proofs.Bridge.{any_found, or_none_both}
-use Rattle.wit_first.proofs.Clashes.{find-only, find_none}
-use Rattle.wit_first.proofs.First.{none_both}
 use Rattle.wit_first.proofs.Repeats.{after_kept}
 use Rattle.wit_first.proofs.TypeFaults.{type_kept}
-use Rattle.wit_walk.specs.Functions.{function_fault, lost_word, param_fault, return_fault}
-use Rattle.wit_arena.specs.Resolving.{Env}
+use Rattle.wit_arena.proofs.Common.{Env}
 use Rattle.wit_refusals.specs.NameScopes.{Name, AreUsed, IsDefinedAgain}
 use Rattle.wit_entries.specs.EntryFaults.{handle_fault, handled_fault, name_fault, unless_found}
 use Rattle.wit_entries.specs.Requiring.{IsExtended}

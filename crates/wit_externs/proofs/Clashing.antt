@@ -1,16 +1,6 @@
 -- What is on each side once names are defined there.
 use Rattle.std.proofs.Common.{◌≡◌, ℕ, ◌+◌, Bool, List, [], ◌∷◌, ◌++◌, take, map, Some, None, refl, sym, ap, ◌∙◌, subst, append_assoc}
-use Rattle.std.specs.Prelude.{slice_get, Result, Ok, Err, OnOk}
-use Rattle.std.proofs.lemmas.List.{append-nil}
-use Rattle.wit_values.specs.declared.span.Span.{Span}
-use Rattle.wit_type_tree.specs.declared.leaves.Id.{Id}
-use Rattle.wit_type_tree.specs.declared.types.FuncForm.{FuncForm}
-use Rattle.wit_tree.specs.declared.tree.WorldSide.{WorldSide}
-use Rattle.wit_tree.specs.declared.tree.WorldSide.TheVariants.{Imported, Exported}
-use Rattle.wit_syntax.specs.Function.{Role, Freestanding, Method, Static, Constructor, OnSide}
-use Rattle.wit_syntax.specs.Repeats.{AllDiffer}
-use Rattle.wit_syntax.specs.ExternPart.{same_side}
-use Rattle.wit_syntax.specs.Sides.{role_side, names_on, SideItem, item_side, items_on}
+use Rattle.wit_syntax.proofs.Common.{AllDiffer, Constructor, Err, Exported, Freestanding, FuncForm, Id, Imported, Method, Ok, OnOk, OnSide, Result, Role, SideItem, Span, Static, WorldSide, append-nil, item_side, items_on, names_on, role_side, same_side, slice_get}
 use Rattle.wit_refusals.specs.NameScopes.{Name, AreUsed}
 use Rattle.wit_sides.specs.SideNames.{only_on}
 use Rattle.wit_rules.specs.BorrowedFunctions.{across_of}

@@ -1,24 +1,9 @@
 -- The functions among what is on the sides of a scope, one after the other, over their types.
 use Rattle.std.proofs.Common.{◌≡◌, ◌<◌, ◌≤◌, ◌+◌, ℕ, List, [], ◌∷◌, ◌++◌, length, map, take, Some, All, IsTrue, sym, ap, ◌∙◌, subst, arith}
-use Rattle.std.specs.Prelude.{slice_get}
-use Rattle.std.specs.List.{flat_map}
-use Rattle.std.specs.Option.{option_map}
-use Rattle.std.proofs.lemmas.Grind.{flat_map-append}
-use Rattle.std.proofs.lemmas.List.{map-append, append-nil, length-map, length-take-le, take_all}
-use Rattle.std.proofs.lemmas.List.Elements.{All-push, All-same}
-use Rattle.std.proofs.lemmas.Option.{slice_get_within, slice_get-map}
-use Rattle.wit_names.specs.Mangled.{is_mangled}
-use Rattle.wit_values.specs.declared.span.Span.{Span}
+use Rattle.wit_syntax.proofs.Common.{Address, All-push, All-same, SideFunction, SourceFunction, Span, TypeDef, all_handles, append-nil, flat_map, flat_map-append, is_mangled, length-map, length-take-le, map-append, option_map, slice_get, slice_get-map, slice_get_within, take_all, written_types}
 use Rattle.wit_refusals.specs.NameScopes.{Name}
-use Rattle.wit_types.specs.declared.types.TypeDef.{TypeDef}
-use Rattle.wit_functions.specs.declared.function.Function.{Function}
+use Rattle.wit_arena.proofs.Common.{AddsFunctions, Function, Required, env_of, functions_append}
 use Rattle.wit_type_tree.specs.declared.types.«Type».{«Type» as Written}
-use Rattle.wit_syntax.specs.Address.{Address}
-use Rattle.wit_syntax.specs.Shape.{all_handles}
-use Rattle.wit_syntax.specs.Function.{SourceFunction, written_types}
-use Rattle.wit_syntax.specs.Sides.{SideFunction}
-use Rattle.wit_arena.specs.Resolving.{Required, env_of, AddsFunctions}
-use Rattle.wit_arena.proofs.AddingFunctions.{functions_append}
 use Rattle.wit_rules.specs.declared.function_scope.FunctionScope.{FunctionScope}
 use Rattle.wit_rules.specs.declared.borrowed.BorrowedFunction.{BorrowedFunction}
 use Rattle.wit_rules.specs.BorrowedFunctions.{function_view}

@@ -1,24 +1,7 @@
 -- The first setter without its getter among functions, by the names of a scope or of a side in which theirs are, one after another.
 use Rattle.std.proofs.Common.{◌≡◌, ◌⊎◌, ◌+◌, ◌<◌, ℕ, zero, suc, true, false, List, [], ◌∷◌, ◌++◌, map, Option, Some, None, Result, Ok, Err, inl, inr, refl, sym, ap, ◌∙◌, subst, arith, Contains}
-use Rattle.std.specs.Prelude.{IfErr, OnOk, slice_get}
-use Rattle.std.specs.List.{flat_map}
-use Rattle.std.specs.Option.{option_map_or, option_or}
-use Rattle.std.proofs.lemmas.Bool.{cases_Bool, cond-true, cond-false}
-use Rattle.wit_names.specs.Setter.{getter_of, is_setter}
-use Rattle.wit_type_tree.specs.declared.error.ParseError.{ParseError}
-use Rattle.wit_type_tree.specs.declared.leaves.Id.{Id}
-use Rattle.wit_tree.specs.declared.tree.WorldSide.{WorldSide}
-use Rattle.wit_tree.specs.declared.tree.WorldSide.TheVariants.{Imported, Exported}
-use Rattle.wit_syntax.specs.Broken.{Refused}
-use Rattle.wit_syntax.specs.ExternPart.{same_side}
-use Rattle.wit_syntax.specs.Fault.{Fault, fault_of, lone_setter as lone_fault}
-use Rattle.wit_syntax.specs.Function.{SourceFunction}
-use Rattle.wit_syntax.specs.Sides.{SideItem, SideFunction, SideLink, SideInline, item_function, item_side, items_on, names_on, on_side, role_side}
-use Rattle.wit_syntax.specs.SignatureRules.{IsUnpairedSetter}
-use Rattle.wit_syntax.proofs.Found.{at_contains}
-use Rattle.wit_first.specs.First.{Finds, first_in}
-use Rattle.wit_first.proofs.Bridge.{in_some}
-use Rattle.wit_walk.specs.Setters.{setter_fault}
+use Rattle.wit_syntax.proofs.Common.{Exported, Fault, Id, IfErr, Imported, IsUnpairedSetter, OnOk, ParseError, Refused, SideFunction, SideInline, SideItem, SideLink, SourceFunction, WorldSide, at_contains, cases_Bool, cond-false, cond-true, fault_of, flat_map, getter_of, is_setter, item_function, item_side, items_on, lone_setter as lone_fault, names_on, on_side, option_map_or, option_or, role_side, same_side, slice_get}
+use Rattle.wit_walk.proofs.Common.{Finds, first_in, in_some, setter_fault}
 use Rattle.wit_walk.proofs.SetterFaults.{IsAlone, setter_alone_at, setter_found, setter_wrong}
 use Rattle.wit_refusals.specs.NameScopes.{Name, IsLoneSetter, IsFirstLoneSetter}
 use Rattle.wit_signatures.specs.ForeignName.{name_of_function, name_of_id}

@@ -1,17 +1,7 @@
 -- Interfaces on the sides of a world that have no name of their own, and one more of them.
 use Rattle.std.proofs.Common.{◌≡◌, ℕ, Bool, true, false, not, List, [], ◌∷◌, ◌++◌, Contains, sym, ap, ◌∙◌, subst}
-use Rattle.std.specs.Prelude.{MatchBool}
-use Rattle.std.specs.List.{list_any}
-use Rattle.std.proofs.lemmas.Bool.{cond-false, not-true, not-false}
-use Rattle.std.proofs.lemmas.List.{append-nil}
-use Rattle.std.proofs.lemmas.Map.Keys.{any_passes_from_place}
-use Rattle.indexmap.specs.IndexSet.{insert_key}
+use Rattle.wit_syntax.proofs.Common.{AllDiffer, Exported, Imported, MatchBool, WorldSide, any_passes_from_place, append-nil, at_contains, cond-false, contains_at, differ_more, insert_key, list_any, not-false, not-true}
 use Rattle.indexmap.proofs.CallerLemmas.{Contains-list_any}
-use Rattle.wit_tree.specs.declared.tree.WorldSide.{WorldSide}
-use Rattle.wit_tree.specs.declared.tree.WorldSide.TheVariants.{Imported, Exported}
-use Rattle.wit_syntax.specs.Repeats.{AllDiffer}
-use Rattle.wit_syntax.proofs.Found.{contains_at, at_contains}
-use Rattle.wit_syntax.proofs.Repeated.{differ_more}
 use Rattle.wit_externs.specs.Next.{only_place}
 
 -- an interface of a side, where it is none of these

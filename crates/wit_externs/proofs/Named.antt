@@ -1,12 +1,6 @@
 -- Names that are defined one after the other, of which no two may have one key.
 use Rattle.std.proofs.Common.{ℕ, ◌+◌, List, [], ◌∷◌, ◌++◌, sym, subst}
-use Rattle.std.specs.Prelude.{map}
-use Rattle.std.proofs.lemmas.List.{map-append}
-use Rattle.wit_names.specs.Folded.{folded_key}
-use Rattle.wit_values.specs.declared.span.Span.{Span}
-use Rattle.wit_syntax.specs.Repeats.{AllDiffer}
-use Rattle.wit_syntax.proofs.Lists.{map_at}
-use Rattle.wit_syntax.proofs.Repeated.{differ_more}
+use Rattle.wit_syntax.proofs.Common.{AllDiffer, Span, differ_more, folded_key, map, map-append, map_at}
 use Rattle.wit_refusals.specs.NameScopes.{Name, AreUsed}
 use Rattle.wit_signatures.specs.ForeignName.{name_key}
 

@@ -1,13 +1,6 @@
 -- Functions among which no setter is.
 use Rattle.std.proofs.Common.{◌≡◌, ◌||◌, List, [], ◌∷◌, false, true, map, refl, sym, ap, ◌∙◌}
-use Rattle.std.specs.List.{list_any}
-use Rattle.wit_tree.specs.declared.tree.WorldSide.{WorldSide}
-use Rattle.wit_syntax.specs.ExternPart.{same_side}
-use Rattle.wit_syntax.specs.Fault.{Fault}
-use Rattle.wit_syntax.specs.Function.{SourceFunction}
-use Rattle.wit_syntax.specs.Sides.{on_side, role_side}
-use Rattle.wit_syntax.specs.SignatureRules.{IsUnpairedSetter}
-use Rattle.wit_syntax.proofs.Found.{at_contains}
+use Rattle.wit_syntax.proofs.Common.{Fault, IsUnpairedSetter, SourceFunction, WorldSide, at_contains, list_any, on_side, role_side, same_side}
 use Rattle.wit_functions.proofs.InTurn.{list_any-filter_none}
 use Rattle.wit_functions.proofs.Walk.{list_any-found}
 use Rattle.wit_rules.specs.declared.borrowed.BorrowedFunction.{BorrowedFunction}

@@ -1,14 +1,7 @@
 -- Setters whose names are among those of a scope or of a side, and the getters that go with them.
 use Rattle.std.proofs.Common.{◌≡◌, ℕ, ◌⊎◌, Bool, List, Some, false, true, inl, inr, sym, ap, ◌∙◌, subst, Contains}
-use Rattle.std.specs.Prelude.{slice_get}
-use Rattle.wit_names.specs.Label.{is_label}
-use Rattle.wit_names.specs.Setter.{getter_of, is_setter}
-use Rattle.wit_type_tree.specs.declared.leaves.Id.{Id}
+use Rattle.wit_syntax.proofs.Common.{Fault, Id, IsUnpairedSetter, SourceFunction, at_contains, contains_at, getter_of, is_label, is_setter, slice_get}
 use Rattle.wit_type_tree.specs.declared.types.FuncForm.TheVariants as form
-use Rattle.wit_syntax.specs.Fault.{Fault}
-use Rattle.wit_syntax.specs.Function.{SourceFunction}
-use Rattle.wit_syntax.specs.SignatureRules.{IsUnpairedSetter}
-use Rattle.wit_syntax.proofs.Found.{at_contains, contains_at}
 use Rattle.wit_refusals.specs.NameScopes.{Name, IsLoneSetter}
 use Rattle.wit_rules.specs.declared.borrowed.BorrowedFunction.{BorrowedFunction}
 use Rattle.wit_rules.specs.BorrowedFunctions.{function_view}

@@ -1,17 +1,6 @@
 -- The names of an interface, and those of a side of a world, are those of its functions and labels.
 use Rattle.std.proofs.Common.{◌≡◌, ℕ, suc, zero, ◌+◌, ◌++◌, ◌⊎◌, Bool, true, List, [], ◌∷◌, length, Option, Some, None, inl, inr, refl, sym, ap, ◌∙◌}
-use Rattle.std.specs.Prelude.{slice_get, map}
-use Rattle.std.specs.List.{flat_map}
-use Rattle.std.specs.Option.{option_map, option_map_or}
-use Rattle.std.proofs.lemmas.Option.{slice_get-map}
-use Rattle.wit_type_tree.specs.declared.leaves.Id.{Id}
-use Rattle.wit_tree.specs.declared.tree.WorldSide.{WorldSide}
-use Rattle.wit_tree.specs.declared.tree.WorldSide.TheVariants.{Imported, Exported}
-use Rattle.wit_syntax.specs.ExternPart.{same_side}
-use Rattle.wit_syntax.specs.Function.{SourceFunction}
-use Rattle.wit_syntax.specs.Sides.{role_side, on_side, SideItem, SideFunction, SideLink, SideInline, item_function, item_side, items_on, names_on}
-use Rattle.wit_syntax.proofs.Kept.{kept_at, kept_has}
-use Rattle.wit_syntax.proofs.Lists.{at_back, at_split, flat_map_at, flat_map_has, map_at}
+use Rattle.wit_syntax.proofs.Common.{Exported, Id, Imported, SideFunction, SideInline, SideItem, SideLink, SourceFunction, WorldSide, at_back, at_split, flat_map, flat_map_at, flat_map_has, item_function, item_side, items_on, kept_at, kept_has, map, map_at, names_on, on_side, option_map, option_map_or, role_side, same_side, slice_get, slice_get-map}
 use Rattle.wit_refusals.specs.NameScopes.{Name}
 use Rattle.wit_rules.specs.declared.borrowed.BorrowedFunction.{BorrowedFunction}
 use Rattle.wit_rules.specs.BorrowedFunctions.{function_view}

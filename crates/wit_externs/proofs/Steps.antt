@@ -1,13 +1,6 @@
 -- A list that is read one element after another, and what passes a test among those that are read.
 use Rattle.std.proofs.Common.{◌≡◌, ℕ, ◌+◌, Bool, List, [], ◌∷◌, ◌++◌, length, take, drop, Some, inl, inr, refl, sym, ap, ◌∙◌, subst, append_assoc, add-zero}
-use Rattle.std.specs.Prelude.{slice_get, cond}
-use Rattle.std.specs.List.{filter, flat_map}
-use Rattle.std.proofs.lemmas.Bool.{cases_Bool, cond-true, cond-false}
-use Rattle.std.proofs.lemmas.Grind.{flat_map-append}
-use Rattle.std.proofs.lemmas.List.{append-nil, take_more, take-append-drop}
-use Rattle.std.proofs.lemmas.List.Elements.{filter-append}
-use Rattle.std.proofs.lemmas.Option.{slice_get_within, get_or_from_slice_get}
-use Rattle.wit_syntax.proofs.Lists.{at_back}
+use Rattle.wit_syntax.proofs.Common.{append-nil, at_back, cases_Bool, cond, cond-false, cond-true, filter, filter-append, flat_map, flat_map-append, get_or_from_slice_get, slice_get, slice_get_within, take-append-drop, take_more}
 
 -- the next item
 pub used_next : {X : Type 0} (xs : List X) (i : ℕ) (x : X) → slice_get xs i ≡ Some x → take (i + 1) xs ≡ take i xs ++ x ∷ []

@@ -1,30 +1,7 @@
 -- What is gathered from files, one file and one item at a time.
 use Rattle.std.proofs.Common.{◌≡◌, ◌<◌, ℕ, zero, suc, ◌+◌, List, [], ◌∷◌, ◌++◌, length, map, take, Option, Some, None, inl, inr, refl, sym, ap, ◌∙◌, subst, arith, append_assoc, length-append, Vec, Global, Bor}
-use Rattle.std.specs.Prelude.{slice_get, position}
-use Rattle.std.specs.List.{flat_map}
-use Rattle.std.specs.Option.{option_map, option_or}
-use Rattle.std.specs.Str.{bytes_eq}
-use Rattle.std.proofs.lemmas.List.{append-nil, map-append}
-use Rattle.std.proofs.lemmas.Option.{slice_get-map, slice_get_within, slice_get_cases}
-use Rattle.indexmap.specs.IndexMap.{insert_entry}
-use Rattle.wit_type_tree.specs.declared.leaves.Id.{Id}
-use Rattle.wit_tree.specs.declared.tree.AstItem.{AstItem}
-use Rattle.wit_tree.specs.declared.tree.PackageFile.{PackageFile}
-use Rattle.wit_graph.specs.Laws.{AreAccepted}
-use Rattle.wit_graph.specs.Table.{Row, entry_row, rows, place_of, target, IsOrder}
+use Rattle.wit_syntax.proofs.Common.{AllDiffer, AreAccepted, AstItem, CyclicItem, DuplicateItem, DuplicateTopName, Fault, ForeignStability, Id, IsBrokenItems, IsBrokenNames, IsOrder, Item, Items, MissingItem, PackageFile, Row, TopName, TopUse, all_items, append-nil, at_back, at_contains, at_either, at_prefix, bytes_eq, declared_items, entry_row, file_items, flat_map, foreign_visits, insert_entry, item_name, item_row, item_rows, item_word, map-append, map_map, missing_at, no_cyclic_edge, no_missing_edge, none_if, option_map, option_or, place_by_key, place_of, place_of-Some, position, rows, slice_get, slice_get-map, slice_get_cases, slice_get_within, take_next, target, top_names}
 use Rattle.wit_graph.proofs.Rows.{key_eq, rows-insert}
-use Rattle.wit_graph.proofs.Tables.{place_by_key}
-use Rattle.wit_syntax.specs.Source.{TopName, top_names, declared_items, Item, file_items, all_items, item_name}
-use Rattle.wit_syntax.specs.ScopeTables.{item_row, item_rows}
-use Rattle.wit_syntax.specs.Fault.{Fault, missing_at, item_word}
-use Rattle.wit_syntax.specs.Broken.{IsBrokenItems, DuplicateItem, DuplicateTopName, MissingItem, CyclicItem, IsBrokenNames, Items, ForeignStability, TopUse}
-use Rattle.wit_syntax.specs.Foreign.{foreign_visits}
-use Rattle.wit_syntax.specs.Repeats.{AllDiffer}
-use Rattle.wit_syntax.proofs.Lists.{at_prefix, at_back, at_either, map_map}
-use Rattle.wit_syntax.proofs.Orders.{take_next}
-use Rattle.wit_syntax.proofs.Tables.{place_of-Some, none_if}
-use Rattle.wit_syntax.proofs.Found.{at_contains}
-use Rattle.wit_syntax.proofs.Legal.{no_missing_edge, no_cyclic_edge}
 use Rattle.wit_first.specs.FileFaults.{file_fault, files_fault, paths_fault, tops_fault, visits_fault}
 use Rattle.wit_first.specs.First.{IsOr, first_in}
 use Rattle.wit_first.specs.Laws.{AgreesBy}

@@ -1,37 +1,10 @@
 -- Paths with a package among those of files, and the items of other packages by their keys.
 use Rattle.std.proofs.Common.{◌≡◌, ℕ, zero, suc, ◌||◌, ◌&&◌, Bool, true, false, not, cond, length, List, [], ◌∷◌, ◌++◌, ◌+◌, map, Option, Some, None, inl, inr, refl, sym, ap, ◌∙◌}
-use Rattle.std.specs.Prelude.{slice_get, position, nat_lt}
-use Rattle.std.specs.List.{flat_map, list_any, prefix_len}
-use Rattle.std.specs.Map.{keys_of}
-use Rattle.std.specs.Option.{option_map, option_eq}
-use Rattle.std.specs.Str.{bytes_eq}
-use Rattle.std.proofs.lemmas.Bool.{cases_Bool, cond-true, cond-false, both_ways}
-use Rattle.std.proofs.lemmas.Grind.{flat_map-append}
-use Rattle.std.proofs.lemmas.List.{append-nil, map-append, length-map}
-use Rattle.std.proofs.lemmas.Option.{slice_get-map}
-use Rattle.indexmap.specs.IndexSet.{insert_key}
-use Rattle.wit_type_tree.specs.declared.leaves.Id.{Id}
-use Rattle.wit_type_tree.specs.declared.leaves.Attribute.{Attribute}
-use Rattle.wit_tree.specs.declared.tree.Use.{Use}
-use Rattle.wit_tree.specs.declared.tree.ExternKind.{ExternKind}
+use Rattle.wit_syntax.proofs.Common.{Address, AstItem, Attribute, Exported, ExternKind, ForeignVisit, Id, Imported, InterfaceItem, PackageFile, Part, Use, WorldItem, WorldSide, append-nil, at_side, both_ways, bytes_eq, cases_Bool, cond-false, cond-true, declaration_visits, extern_paths, extern_visits, file_visits, firsts, firsts-more, firsts_at, firsts_has, flat_map, flat_map-append, inline_uses, insert_key, interface_part, item_uses, keys_of, length-map, list_any, map-append, map_at, nat_lt, option_eq, option_map, part_visits as the_part_visits, path_visits, position, prefix_len, same_address, same_address-equal, same_address-from, same_item, same_side, same_version, slice_get, slice_get-map, visited, world_part}
 use Rattle.wit_tree.specs.declared.tree.ExternKind.TheVariants as extern
-use Rattle.wit_tree.specs.declared.tree.WorldSide.{WorldSide}
-use Rattle.wit_tree.specs.declared.tree.WorldSide.TheVariants.{Imported, Exported}
-use Rattle.wit_tree.specs.declared.tree.InterfaceItem.{InterfaceItem}
 use Rattle.wit_tree.specs.declared.tree.InterfaceItem.TheVariants as interface_item
-use Rattle.wit_tree.specs.declared.tree.WorldItem.{WorldItem}
 use Rattle.wit_tree.specs.declared.tree.WorldItem.TheVariants as world_item
-use Rattle.wit_tree.specs.declared.tree.AstItem.{AstItem}
 use Rattle.wit_tree.specs.declared.tree.AstItem.TheVariants as ast
-use Rattle.wit_tree.specs.declared.tree.PackageFile.{PackageFile}
-use Rattle.wit_syntax.specs.Address.{Address, same_version, same_address}
-use Rattle.wit_syntax.specs.Source.{Part, interface_part, world_part, at_side}
-use Rattle.wit_syntax.specs.ExternPart.{same_side, extern_paths, item_uses, inline_uses}
-use Rattle.wit_syntax.specs.Foreign.{ForeignVisit, visited, path_visits, part_visits as the_part_visits, declaration_visits, file_visits, same_item, extern_visits}
-use Rattle.wit_syntax.specs.Repeats.{firsts}
-use Rattle.wit_syntax.proofs.Lists.{map_at}
-use Rattle.wit_syntax.proofs.Addresses.{same_address-from, same_address-equal}
-use Rattle.wit_syntax.proofs.Firsts.{firsts_at, firsts_has, firsts-more}
 use Rattle.wit_files.specs.Visits.{Visit, part_visits, world_part_visits, kind_visits, side_part_visits, item_visits, visits}
 use Rattle.wit_files.specs.ForeignPaths.{wants_world, foreign_view, key_release, key_address, AreItemsOf}
 use Rattle.wit_files.specs.declared.foreign.ForeignVisit.{ForeignVisit as BorrowedVisit}

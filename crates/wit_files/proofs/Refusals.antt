@@ -1,12 +1,7 @@
 -- The refusal of an edge that forbids an order.
 use Rattle.std.proofs.Common.{◌≡◌, ◌⊎◌, ℕ, List, Some, inl, inr, sym, ap, ◌∙◌}
-use Rattle.std.specs.Prelude.{slice_get}
-use Rattle.wit_type_tree.specs.declared.leaves.Id.{Id}
-use Rattle.wit_type_tree.specs.declared.error.ParseError.{ParseError}
-use Rattle.wit_type_tree.specs.RefusalText.{IsAllocationFailure}
-use Rattle.wit_graph.specs.Table.{Row, IsEdge}
+use Rattle.wit_syntax.proofs.Common.{Fault, Id, IsAllocationFailure, IsEdge, ParseError, Row, fault_of, slice_get}
 use Rattle.wit_graph.specs.TableFaults.{IsFirstMissing, IsFirstCyclic}
-use Rattle.wit_syntax.specs.Fault.{Fault, fault_of}
 use Rattle.wit_first.specs.OrderFaults.{IsOrderFault}
 
 -- one place and index have one edge

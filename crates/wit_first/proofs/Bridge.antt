@@ -1,41 +1,15 @@
 -- The first fault is a broken rule; and where there is no first fault, no rule is broken.
 use Rattle.std.proofs.Common.{◌≡◌, ◌≢◌, ℕ, zero, suc, ◌<◌, Bool, true, false, List, [], ◌∷◌, ◌++◌, take, Option, Some, None, ◌⊎◌, inl, inr, refl, sym, ap, ◌∙◌, subst, append_assoc, arith}
-use Rattle.std.specs.Prelude.{Contains, slice_get, not, map, find, codes}
-use Rattle.std.specs.Option.{option_or}
-use Rattle.std.specs.List.{list_any}
-use Rattle.std.specs.Str.{bytes_eq}
-use Rattle.std.proofs.lemmas.List.{append-nil}
-use Rattle.std.proofs.lemmas.Option.{none-some}
-use Rattle.wit_values.specs.declared.span.Span.{Span}
-use Rattle.wit_type_tree.specs.declared.error.ParseError.{ParseError}
-use Rattle.wit_type_tree.specs.declared.leaves.Id.{Id}
-use Rattle.wit_type_tree.specs.declared.leaves.Attribute.{Attribute}
+use Rattle.wit_syntax.proofs.Common.{AllDiffer, AreBroken, Attribute, AttributeKind, CanBeKey, Case, Contains, DeprecatedAlone, DeprecatedTwice, ExternalId, Fault, Id, IsBrokenList, IsBrokenMetadata, IsBrokenStability, IsDuplicateName, IsEmpty, IsFlagTooMany, IsInvalidKey, IsKey, IsSecond, IsSecondIn, IsTwice, Item, PackageFile, ParseError, Primitive, Refused, SinceAndUnstable, SinceTwice, Span, TopName, TypeBody, UnstableTwice, about, all_items, append-nil, at_contains, at_take, attribute_span, bytes_eq, clash, codes, contains_at, fault, fault_in, find, find_at, find_passes, find_some, first_of, folded, is_of, item_name, item_twice, kind_of, list_any, map, map_at, name_equal, name_itself, name_twice, none-some, not, option_or, slice_get, slice_get-take, top_names, top_text, top_twice}
 use Rattle.wit_type_tree.specs.declared.leaves.Attribute.TheVariants as attribute
-use Rattle.wit_type_tree.specs.declared.attribute_kind.AttributeKind.TheVariants.{Since, Unstable, Deprecated, ExternalId}
-use Rattle.wit_type_tree.specs.declared.attribute_kind.AttributeKind.{AttributeKind}
+use Rattle.wit_type_tree.specs.declared.attribute_kind.AttributeKind.TheVariants.{Since, Unstable, Deprecated}
 use Rattle.wit_type_tree.specs.declared.types.Field.{Field}
 use Rattle.wit_type_tree.specs.declared.types.Flag.{Flag}
-use Rattle.wit_type_tree.specs.declared.types.Case.{Case}
 use Rattle.wit_type_tree.specs.declared.types.EnumCase.{EnumCase}
-use Rattle.wit_type_tree.specs.declared.types.Primitive.{Primitive}
 use Rattle.wit_type_tree.specs.declared.types.Primitive.TheVariants as primitive
 use Rattle.wit_type_tree.specs.declared.types.«Type».{«Type» as Written}
 use Rattle.wit_type_tree.specs.declared.types.«Type».TheVariants as written
-use Rattle.wit_type_tree.specs.declared.types.TypeBody.{TypeBody}
 use Rattle.wit_type_tree.specs.declared.types.TypeBody.TheVariants as body
-use Rattle.wit_type_tree.specs.Attributes.{attribute_span, is_of, kind_of, first_of}
-use Rattle.wit_tree.specs.declared.tree.PackageFile.{PackageFile}
-use Rattle.wit_graph.proofs.Tables.{slice_get-take}
-use Rattle.wit_syntax.specs.Bodies.{folded, CanBeKey, IsKey, IsInvalidKey, IsSecond, IsSecondIn, IsEmpty, IsFlagTooMany, IsDuplicateName, AreBroken, IsBrokenList}
-use Rattle.wit_syntax.specs.Broken.{Refused}
-use Rattle.wit_syntax.specs.Fault.{Fault, fault, fault_in, item_twice, name_twice, top_twice}
-use Rattle.wit_syntax.specs.Words.{clash}
-use Rattle.wit_syntax.specs.Metadata.{IsTwice, IsBrokenStability, IsBrokenMetadata, SinceTwice, DeprecatedTwice, UnstableTwice, SinceAndUnstable, DeprecatedAlone}
-use Rattle.wit_syntax.specs.Repeats.{AllDiffer}
-use Rattle.wit_syntax.specs.Source.{TopName, top_text, top_names, Item, item_name, all_items, about}
-use Rattle.wit_syntax.proofs.Found.{at_contains, contains_at, find_at, find_passes, find_some}
-use Rattle.wit_syntax.proofs.Lists.{at_take, map_at}
-use Rattle.wit_syntax.proofs.Names.{name_equal, name_itself}
 use Rattle.wit_first.specs.AttributeFaults.{number_of, repeat_fault, counted_fault, each_once_fault, kinds_fault, together_fault, stability_fault, external_fault, metadata_fault}
 use Rattle.wit_first.specs.First.{first_in, first_after, Reports, repeat_of, first_repeat, clash_of, first_clash}
 use Rattle.wit_first.specs.KeyFaults.{can_be_key, is_key, key_fault}

@@ -1,17 +1,6 @@
 -- Items whose keys repeat, where the fault is made of both.
 use Rattle.std.proofs.Common.{◌≡◌, ℕ, Bool, true, false, List, [], ◌∷◌, ◌++◌, take, Option, Some, None, refl, sym, ap, ◌∙◌}
-use Rattle.std.specs.Prelude.{slice_get, map, find}
-use Rattle.std.specs.List.{list_any}
-use Rattle.std.specs.Option.{option_map, option_or}
-use Rattle.std.specs.Str.{bytes_eq}
-use Rattle.std.proofs.lemmas.List.{map-append, take-map}
-use Rattle.wit_graph.proofs.Tables.{slice_get-take}
-use Rattle.wit_syntax.specs.Fault.{Fault}
-use Rattle.wit_syntax.specs.Repeats.{IsRepeatAt, AllDiffer}
-use Rattle.wit_syntax.proofs.Found.{find_at, find_passes, find_some}
-use Rattle.wit_syntax.proofs.JoinedLists.{find-map}
-use Rattle.wit_syntax.proofs.Names.{name_equal, name_itself}
-use Rattle.wit_syntax.proofs.Repeated.{key_at}
+use Rattle.wit_syntax.proofs.Common.{AllDiffer, Fault, IsRepeatAt, bytes_eq, find, find-map, find_at, find_passes, find_some, key_at, list_any, map, map-append, name_equal, name_itself, option_map, option_or, slice_get, slice_get-take, take-map}
 use Rattle.wit_first.specs.First.{first_after, repeat_of, clash_of, first_clash}
 use Rattle.wit_first.proofs.First.{any_some, no_repeat-after, none_both, after-at}
 

@@ -1,22 +1,8 @@
 -- The first fault of the names of files is a broken rule; and where there is none, no rule about them is broken.
 use Rattle.std.proofs.Common.{◌≡◌, ◌≢◌, ℕ, List, [], ◌∷◌, Option, Some, None, inl, inr, refl, ap, ◌∙◌}
-use Rattle.std.specs.Prelude.{slice_get, find, Contains}
-use Rattle.std.specs.Option.{option_map_or}
-use Rattle.std.specs.Str.{bytes_eq}
-use Rattle.wit_values.specs.declared.span.Span.{Span}
-use Rattle.wit_type_tree.specs.declared.leaves.Attribute.{Attribute}
-use Rattle.wit_type_tree.specs.declared.leaves.Id.{Id}
-use Rattle.wit_tree.specs.declared.tree.UsePath.{UsePath}
+use Rattle.wit_syntax.proofs.Common.{AstItem, Attribute, AttributedUse, Contains, Fault, Foreign, ForeignVisit, Id, IsBrokenStability, IsWrongTop, Item, Local, LostUse, PackageFile, Span, Target, TopName, UsePath, all_items, at_contains, bytes_eq, contains_at, fault, find, item_named, item_word, leads, missing_at, option_map_or, slice_get, top_text}
 use Rattle.wit_tree.specs.declared.tree.UsePath.TheVariants as path
-use Rattle.wit_tree.specs.declared.tree.AstItem.{AstItem}
 use Rattle.wit_tree.specs.declared.tree.AstItem.TheVariants as ast
-use Rattle.wit_tree.specs.declared.tree.PackageFile.{PackageFile}
-use Rattle.wit_syntax.specs.Broken.{IsWrongTop, AttributedUse, LostUse}
-use Rattle.wit_syntax.specs.Fault.{Fault, fault, missing_at, item_word}
-use Rattle.wit_syntax.specs.Foreign.{ForeignVisit}
-use Rattle.wit_syntax.specs.Metadata.{IsBrokenStability}
-use Rattle.wit_syntax.specs.Source.{TopName, top_text, Target, Local, Foreign, leads, Item, all_items, item_named}
-use Rattle.wit_syntax.proofs.Found.{at_contains, contains_at}
 use Rattle.wit_first.specs.AttributeFaults.{stability_fault}
 use Rattle.wit_first.specs.First.{first_in}
 use Rattle.wit_first.specs.FileFaults.{visits_fault, lost_fault, unless_named, unnamed_fault, attributed_fault, top_fault, file_tops_fault, tops_fault}

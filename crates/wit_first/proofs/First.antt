@@ -1,21 +1,7 @@
 -- The first fault of lists that grow.
 use Rattle.std.proofs.Common.{◌≡◌, ℕ, zero, suc, ◌+◌, ◌<◌, ◌≤◌, Bool, true, false, ◌||◌, List, [], ◌∷◌, ◌++◌, length, take, get_or, Option, Some, None, inl, inr, refl, sym, ap, ◌∙◌, append_assoc, arith}
-use Rattle.std.specs.Prelude.{slice_get, map, if◌then◌else◌}
-use Rattle.std.specs.List.{flat_map, list_any}
-use Rattle.std.specs.Str.{bytes_eq}
-use Rattle.std.specs.Option.{option_or}
-use Rattle.std.proofs.lemmas.List.{append-nil, map-append, take_all, take_more, take-map}
-use Rattle.wit_type_tree.specs.declared.error.ParseError.{ParseError}
-use Rattle.wit_syntax.specs.Fault.{Fault, fault_of}
+use Rattle.wit_syntax.proofs.Common.{AllDiffer, Fault, IsRepeatAt, ParseError, append-nil, at_prefix, bytes_eq, false_from_ne_true, fault_of, flat_map, if◌then◌else◌, key_at, list_any, map, map-append, map_at, name_equal, name_itself, option_or, slice_get, slice_get-take, slice_get_within, take-map, take_all, take_more, take_next}
 use Rattle.wit_first.specs.First.{first_in, first_after, Reports, repeat_of, first_repeat}
-use Rattle.std.proofs.lemmas.Bool.{false_from_ne_true}
-use Rattle.wit_graph.proofs.Tables.{slice_get-take}
-use Rattle.std.proofs.lemmas.Option.{slice_get_within}
-use Rattle.wit_syntax.specs.Repeats.{IsRepeatAt, AllDiffer}
-use Rattle.wit_syntax.proofs.Lists.{map_at, at_prefix}
-use Rattle.wit_syntax.proofs.Names.{name_equal, name_itself}
-use Rattle.wit_syntax.proofs.Orders.{take_next}
-use Rattle.wit_syntax.proofs.Repeated.{key_at}
 
 pub or_assoc : {X : Type 0} (a b c : Option X) → option_or (option_or a b) c ≡ option_or a (option_or b c)
 or_assoc None b c = refl

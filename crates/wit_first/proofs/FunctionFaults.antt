@@ -1,21 +1,9 @@
 -- The first fault of what a function is given, and of what it gives, is a broken rule; and where there is none, no rule is broken.
 use Rattle.std.proofs.Common.{◌≡◌, ◌⊎◌, Bool, true, false, List, [], ◌∷◌, length, Option, Some, None, inl, inr, refl, sym, ap, ◌∙◌, subst, arith}
-use Rattle.std.specs.Prelude.{slice_get}
-use Rattle.std.specs.Option.{option_map_or}
-use Rattle.std.specs.Str.{bytes_eq}
-use Rattle.wit_values.specs.declared.span.Span.{Span}
-use Rattle.wit_type_tree.specs.declared.leaves.Id.{Id}
-use Rattle.wit_type_tree.specs.declared.types.FuncForm.{FuncForm}
+use Rattle.wit_syntax.proofs.Common.{Constructor, Fault, Freestanding, FuncForm, Id, IsConstructorOfOther, IsConstructorWithoutResult, IsGetterGiven, IsGetterWithoutResult, IsSetterGiven, IsSetterWithResult, IsWrittenAs, Method, None', OnSide, Param, Role, ScopeName, Some', SourceFunction, Span, Static, Word, bytes_eq, fault, name_equal, name_itself, ok_span, option_map_or, result_ok, slice_get, type_span}
 use Rattle.wit_type_tree.specs.declared.types.FuncForm.TheVariants as form
-use Rattle.wit_type_tree.specs.declared.types.Param.{Param}
-use Rattle.wit_type_tree.specs.declared.types.«Type».{«Type» as Written, None', Some'}
+use Rattle.wit_type_tree.specs.declared.types.«Type».{«Type» as Written}
 use Rattle.wit_type_tree.specs.declared.types.«Type».TheVariants as written
-use Rattle.wit_syntax.specs.Fault.{Fault, fault}
-use Rattle.wit_syntax.specs.Function.{Role, Freestanding, Method, Static, Constructor, OnSide, SourceFunction}
-use Rattle.wit_syntax.specs.Shape.{Word}
-use Rattle.wit_syntax.specs.SignatureRules.{ok_span, result_ok, type_span, IsWrittenAs, IsGetterGiven, IsSetterGiven, IsGetterWithoutResult, IsSetterWithResult, IsConstructorWithoutResult, IsConstructorOfOther}
-use Rattle.wit_syntax.specs.Source.{ScopeName}
-use Rattle.wit_syntax.proofs.Names.{name_equal, name_itself}
 use Rattle.wit_first.specs.FunctionFaults.{params_fault, given_fault, getter_fault, no_result_fault, setter_fault, is_written_as, made_fault, result_fault, gives_fault}
 use Rattle.wit_first.specs.Laws.{Agrees}
 

@@ -1,11 +1,6 @@
 -- The first fault of the order of a table, one step after another, and that it is a broken rule.
 use Rattle.std.proofs.Common.{◌≡◌, ◌⊎◌, ℕ, List, Option, Some, None, inl, inr, refl, sym, subst}
-use Rattle.wit_type_tree.specs.declared.leaves.Id.{Id}
-use Rattle.wit_type_tree.specs.declared.error.ParseError.{ParseError}
-use Rattle.wit_type_tree.specs.RefusalText.{IsAllocationFailure}
-use Rattle.wit_graph.specs.Table.{Row}
-use Rattle.wit_syntax.specs.Broken.{IsMissingEdge, IsCyclicEdge}
-use Rattle.wit_syntax.specs.Fault.{Fault, fault_of, cyclic_at}
+use Rattle.wit_syntax.proofs.Common.{Fault, Id, IsAllocationFailure, IsCyclicEdge, IsMissingEdge, ParseError, Row, cyclic_at, fault_of}
 use Rattle.wit_first.specs.First.{IsOr, Reports}
 use Rattle.wit_first.specs.OrderFaults.{IsOrderFault}
 

@@ -1,16 +1,8 @@
 -- Written types by their parts: what holds of a type where it holds of its parts, and the first fault of one by those of its parts.
 use Rattle.std.proofs.Common.{◌≡◌, ℕ, zero, suc, List, [], ◌∷◌, Option, Some, None, refl, sym, ap, ◌∙◌, subst, Vec}
-use Rattle.std.specs.declared.alloc.Global.{Global}
-use Rattle.std.specs.Prelude.{slice_get}
-use Rattle.std.specs.Option.{option_or}
-use Rattle.wit_values.specs.declared.span.Span.{Span}
-use Rattle.wit_type_tree.specs.declared.leaves.Id.{Id}
-use Rattle.wit_type_tree.specs.declared.types.«Type».{«Type» as Written, Tuple, None', Some', Row_of-Type, end_of-Type, more_of-Type}
+use Rattle.wit_syntax.proofs.Common.{Both', Err', Fault, Global, Id, Neither, None', Ok', ResultTypes, Row_of-Type, Some', Span, Tuple, end_of-Type, more_of-Type, option_or, part_types, result_types, row_types, slice_get, tuple_types}
+use Rattle.wit_type_tree.specs.declared.types.«Type».{«Type» as Written}
 use Rattle.wit_type_tree.specs.declared.types.«Type».TheVariants as written
-use Rattle.wit_type_tree.specs.declared.types.ResultTypes.{ResultTypes, Neither, Ok', Err', Both'}
-use Rattle.wit_type_tree.specs.TypeParts.{result_types, row_types, part_types}
-use Rattle.wit_type_tree.proofs.Rows.{tuple_types}
-use Rattle.wit_syntax.specs.Fault.{Fault}
 use Rattle.wit_first.specs.First.{first_in}
 use Rattle.wit_first.specs.KeyFaults.{key_fault}
 use Rattle.wit_first.specs.ListFaults.{empty_fault}

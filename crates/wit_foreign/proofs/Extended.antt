@@ -1,23 +1,9 @@
 -- The table of the items of visits, with a visit more.
 use Rattle.std.proofs.Common.{◌≡◌, ℕ, Bool, true, false, cond, not, ◌&&◌, List, [], ◌∷◌, ◌++◌, Option, Some, None, length, map, nat_eq, if◌then◌else◌, refl, sym, ap, ◌∙◌}
-use Rattle.std.specs.List.{filter, list_any}
-use Rattle.std.specs.Map.{lookup}
-use Rattle.std.specs.Option.{is_some, unwrap_or}
-use Rattle.std.specs.Str.{bytes_eq}
-use Rattle.std.specs.Cmp.Lexicographic.{pointwise}
-use Rattle.std.proofs.lemmas.List.{append-nil, map-append}
-use Rattle.std.proofs.lemmas.Bool.{and_parts}
-use Rattle.std.proofs.lemmas.List.Elements.{filter-append}
-use Rattle.wit_types.specs.declared.stability.Stability.{Stability}
-use Rattle.wit_model.specs.declared.ast_item.AstItem.{AstItem}
+use Rattle.wit_syntax.proofs.Common.{ForeignVisit, PackageName, Stability, and_parts, append-nil, bytes_eq, filter, filter-append, is_some, list_any, lookup, map-append, name_equal, name_itself, package_of, pointwise, same_address, same_item, same_package, same_package-equal, same_package-itself, unwrap_or, visited}
+use Rattle.wit_arena.proofs.Common.{AstItem, foreign_place}
 use Rattle.wit_model.specs.declared.ast_item.AstItem.TheVariants as entry
-use Rattle.wit_package_names.specs.declared.package_name.PackageName.{PackageName}
-use Rattle.wit_syntax.specs.Address.{same_package, same_address, package_of}
-use Rattle.wit_syntax.specs.Foreign.{ForeignVisit, visited, same_item}
-use Rattle.wit_arena.specs.Whole.{foreign_place}
-use Rattle.wit_syntax.proofs.Names.{name_itself, name_equal}
 use Rattle.wit_foreign.specs.Kept.{Visited, Items, item_more, row_more, table_more, items_of, interfaces_in, worlds_in, packages_of, entry_in, visit_stability, item_in, row_in, table_in}
-use Rattle.wit_syntax.proofs.Addresses.{same_package-itself, same_package-equal}
 use Rattle.wit_foreign.proofs.Same.{same_package-flip, name-flip}
 use Rattle.wit_foreign.proofs.Firsts.{firsts-more, Each, each_map, each_both, each_filter, each_firsts, each_passed, each_lost, filter_lost, map_each, Apart, apart_filter, apart_firsts, each_found, prefix_len-found, prefix_len-next, any-firsts, any-filter}
 use Rattle.wit_foreign.proofs.Upserts.{upsert-map, is_some-lookup-map, lookup-as_stated}

@@ -1,9 +1,7 @@
 -- The first of each in a list that grows at its end.
 use Rattle.std.proofs.Common.{◌≡◌, ◌+◌, Bool, true, false, cond, not, ◌||◌, ◌&&◌, List, [], ◌∷◌, ◌++◌, length, map, refl, sym, ap, ◌∙◌, arith}
-use Rattle.std.specs.List.{filter, list_any, prefix_len}
-use Rattle.std.proofs.lemmas.List.Elements.{filter-append}
+use Rattle.wit_syntax.proofs.Common.{filter, filter-append, firsts, list_any, prefix_len}
 use Rattle.std.proofs.lemmas.Map.Views.{any-filter_same}
-use Rattle.wit_syntax.specs.Repeats.{firsts}
 
 -- one item stays by a test that says it
 filter-one : {X : Type 0} (t : X → Bool) (x : X) (known here : Bool) → t x ≡ not here → filter t (cond known [] (x ∷ [])) ≡ cond (here || known) [] (x ∷ [])

@@ -1,15 +1,8 @@
 -- The items of the visits so far, with a visit more.
 use Rattle.std.proofs.Common.{◌≡◌, ℕ, ◌+◌, Bool, true, false, cond, not, nat_lt, nat_eq, List, [], ◌∷◌, ◌++◌, length, map, if◌then◌else◌, refl, sym, ap, ◌∙◌, arith, lt-ltb, le-ltb, length-append}
-use Rattle.std.specs.List.{filter}
-use Rattle.std.specs.Map.{lookup}
-use Rattle.std.specs.Option.{is_some, unwrap_or}
-use Rattle.std.specs.Cmp.Lexicographic.{pointwise}
-use Rattle.std.proofs.lemmas.List.{map-append, length-map}
-use Rattle.wit_values.specs.declared.span.Span.{Span}
-use Rattle.wit_model.specs.declared.ast_item.AstItem.{AstItem}
+use Rattle.wit_syntax.proofs.Common.{ForeignVisit, Span, filter, is_some, length-map, lookup, map-append, package_of, pointwise, same_package, unwrap_or}
+use Rattle.wit_arena.proofs.Common.{AstItem}
 use Rattle.wit_model.specs.declared.ast_item.AstItem.TheVariants as entry
-use Rattle.wit_syntax.specs.Address.{same_package, package_of}
-use Rattle.wit_syntax.specs.Foreign.{ForeignVisit}
 use Rattle.wit_foreign.specs.declared.package_table.Deps.{Deps}
 use Rattle.wit_foreign.specs.Kept.{table_more, interfaces_in, worlds_in, packages_of, table_in, visit_stability, row_in}
 use Rattle.wit_foreign.specs.Growing.{AreDeps}

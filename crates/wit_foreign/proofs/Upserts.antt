@@ -1,10 +1,6 @@
 -- Tables over the first of each.
 use Rattle.std.proofs.Common.{◌≡◌, Bool, true, false, cond, ◌||◌, List, [], ◌∷◌, ◌++◌, Option, Some, None, map, refl, sym, ap, ◌∙◌}
-use Rattle.std.specs.List.{list_any}
-use Rattle.std.specs.Map.{lookup}
-use Rattle.std.specs.Option.{is_some}
-use Rattle.std.proofs.lemmas.List.{append-nil}
-use Rattle.indexmap.specs.IndexMap.{insert_entry}
+use Rattle.wit_syntax.proofs.Common.{append-nil, insert_entry, is_some, list_any, lookup}
 use Rattle.wit_foreign.proofs.Firsts.{Apart, each_map, map_each}
 
 -- a table with a value at each key, where the value at one key grows

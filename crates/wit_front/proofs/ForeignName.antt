@@ -1,48 +1,14 @@
 -- The arenas of other packages' items, with one item more, and with one name more.
 use Rattle.std.proofs.Common.{◌≡◌, ℕ, ◌+◌, Bool, true, false, if◌then◌else◌, List, [], ◌∷◌, ◌++◌, length, Option, Some, None, inl, inr, nat_eq, refl, sym, ap, ◌∙◌, subst, append_assoc, zero-add, Bor}
-use Rattle.std.specs.Prelude.{slice_get, slice_set, map, is_some}
-use Rattle.std.specs.List.{filter, flat_map}
-use Rattle.std.specs.Map.{lookup}
-use Rattle.std.specs.Cmp.Lexicographic.{pointwise}
-use Rattle.std.specs.Option.{option_copied, option_map, option_or, unwrap_or}
-use Rattle.std.proofs.lemmas.Bool.{cases_Bool, both_ways}
-use Rattle.std.proofs.lemmas.List.{map-append, append-nil, length-map}
-use Rattle.std.proofs.lemmas.Grind.{flat_map-append}
-use Rattle.std.proofs.lemmas.Option.{slice_get-map}
-use Rattle.indexmap.specs.IndexMap.{insert_entry}
-use Rattle.wit_values.specs.declared.span.Span.{Span}
-use Rattle.wit_type_tree.specs.declared.leaves.Attribute.{Attribute}
-use Rattle.wit_tree.specs.declared.tree.UseName.{UseName}
-use Rattle.wit_tree.specs.declared.tree.PackageFile.{PackageFile}
-use Rattle.wit_types.specs.declared.types.TypeDef.{TypeDef}
+use Rattle.wit_syntax.proofs.Common.{Address, Attribute, ForeignName, ForeignUse, ForeignVisit, PackageFile, Span, TypeDef, TypeOwner, UseName, append-nil, both_ways, cases_Bool, differ_at, filter, first_foreign_uses, firsts, firsts-more, firsts_at, firsts_has, flat_map, flat_map-append, foreign_interfaces, foreign_items, foreign_uses, foreign_worlds, insert_entry, length-map, local_name, lookup, lookup-place, map, map-append, map_at, map_map, metadata, no_docs, option_copied, option_map, option_or, pointwise, same_address, same_address-equal, same_address-from, same_foreign_use, slice_get, slice_get-map, slice_set, unwrap_or, use_of_foreign, visited}
+use Rattle.std.specs.Prelude.{is_some}
 use Rattle.wit_types.specs.declared.types.TypeDefKind.TheVariants as kind
-use Rattle.wit_types.specs.declared.types.TypeOwner.{TypeOwner}
 use Rattle.wit_types.specs.declared.types.TypeOwner.TheVariants as owner
-use Rattle.wit_model.specs.declared.ast_item.AstItem.{AstItem}
+use Rattle.wit_arena.proofs.Common.{AstItem, Def, HasTypes, Interface, IsForeignInterface, IsForeignWorld, Key, Names, World, foreign_turned, foreign_use_key, foreign_use_occurrence, keys, keys-foreign_uses, named, owner_at, place_at, place_at-found, use_of_foreign-equal, use_of_foreign-from, visits_differ}
 use Rattle.wit_model.specs.declared.ast_item.AstItem.TheVariants as entry
-use Rattle.wit_model.specs.declared.interface.Interface.{Interface}
-use Rattle.wit_model.specs.declared.world.World.{World}
-use Rattle.wit_syntax.specs.Address.{Address, same_address}
-use Rattle.wit_syntax.specs.Source.{ForeignUse, use_of_foreign, same_foreign_use, foreign_uses, first_foreign_uses, local_name, ForeignName}
-use Rattle.wit_syntax.specs.Metadata.{metadata, no_docs}
-use Rattle.wit_syntax.specs.Repeats.{firsts}
-use Rattle.wit_syntax.specs.Foreign.{ForeignVisit, visited, foreign_items, foreign_interfaces, foreign_worlds}
-use Rattle.wit_arena.specs.Occurrences.{Key, Def, keys}
-use Rattle.wit_arena.specs.UnfoldedTypes.{IsForeignWorld}
-use Rattle.wit_arena.specs.Whole.{place_at, owner_at, foreign_use_occurrence, HasTypes, IsForeignInterface}
-use Rattle.wit_arena.specs.Resolving.{Names, named}
-use Rattle.wit_syntax.proofs.Lists.{map_at, map_map}
-use Rattle.wit_syntax.proofs.Names.{lookup-place}
-use Rattle.wit_syntax.proofs.Addresses.{same_address-equal, same_address-from}
-use Rattle.wit_syntax.proofs.Repeated.{differ_at}
-use Rattle.wit_syntax.proofs.Firsts.{firsts_at, firsts_has, firsts-more}
-use Rattle.wit_arena.proofs.Interfaces.{place_at-found}
-use Rattle.wit_arena.proofs.Visits.{visits_differ}
-use Rattle.wit_arena.proofs.ForeignUses.{foreign_use_key, use_of_foreign-from, use_of_foreign-equal, keys-foreign_uses}
 use Rattle.wit_front.specs.declared.foreign.ForeignArenas.{ForeignArenas}
 use Rattle.wit_front.specs.ForeignPrefix.{interface_with, with_types, bare_world, interfaces_among, worlds_among, addresses_among, entry_after, entries_after, used_from, visited_interface, type_among, AreAdded, AreApart, IsPrefix}
 use Rattle.wit_front.proofs.Prefixes.{interfaces-more, interfaces-same, worlds-more, worlds-same, entries-more, in_use-more, names-used_from, used_from-at, used_from-has, insert_entry-last, slice_set-map, entries_after-among}
-use Rattle.wit_arena.proofs.Turns.{foreign_turned}
 
 module _ (vs : List ForeignVisit) (v : ForeignVisit) (a a' : ForeignArenas) (before : AreAdded vs [] [] a) (spans : a'.spans.items ≡ a.spans.items) where
   -- one world more

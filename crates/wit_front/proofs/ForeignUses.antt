@@ -1,21 +1,7 @@
 -- The names that items use from other packages are those among their names, and among those of what is written in them.
 use Rattle.std.proofs.Common.{◌≡◌, ℕ, zero, suc, List, [], ◌∷◌, ◌++◌, Some, inl, inr, refl, sym, ap, ◌∙◌, subst}
-use Rattle.std.specs.Prelude.{All, slice_get, map}
-use Rattle.std.specs.List.{filter, flat_map}
-use Rattle.std.proofs.lemmas.Bool.{cases_Bool}
-use Rattle.std.proofs.lemmas.Grind.{flat_map-append}
-use Rattle.std.proofs.lemmas.List.Elements.{filter-append}
-use Rattle.wit_type_tree.specs.declared.leaves.Attribute.{Attribute}
-use Rattle.wit_tree.specs.declared.tree.InterfaceItem.{InterfaceItem}
+use Rattle.wit_syntax.proofs.Common.{Address, All, Attribute, DefinitionPart, Exported, Extern, ExternPart, ForeignUse, FunctionPart, Imported, IncludePart, InterfaceItem, Item, PackageFile, Part, ScopeName, TopName, Use, UseName, UsePart, Used, WorldSide, all_items, at_side, cases_Bool, filter, filter-append, flat_map, flat_map-append, foreign_uses, inline_uses, interface_part, is_foreign, item_foreign_uses, item_uses, map, part_foreign_uses, part_names, parts, path_scope, same_side, scope_names, slice_get, use_foreign_uses, use_of_foreign}
 use Rattle.wit_tree.specs.declared.tree.InterfaceItem.TheVariants as interface_item
-use Rattle.wit_tree.specs.declared.tree.PackageFile.{PackageFile}
-use Rattle.wit_tree.specs.declared.tree.Use.{Use}
-use Rattle.wit_tree.specs.declared.tree.UseName.{UseName}
-use Rattle.wit_tree.specs.declared.tree.WorldSide.{WorldSide}
-use Rattle.wit_tree.specs.declared.tree.WorldSide.TheVariants.{Imported, Exported}
-use Rattle.wit_syntax.specs.Address.{Address, is_foreign}
-use Rattle.wit_syntax.specs.ExternPart.{same_side, item_uses, inline_uses}
-use Rattle.wit_syntax.specs.Source.{Item, TopName, path_scope, interface_part, Part, DefinitionPart, UsePart, IncludePart, FunctionPart, ExternPart, parts, part_names, scope_names, ScopeName, Used, ForeignUse, use_of_foreign, use_foreign_uses, part_foreign_uses, all_items, foreign_uses, at_side}
 use Rattle.wit_scopes.specs.PlacedNames.{AreNamesPlaced}
 use Rattle.wit_items.specs.declared.items.Item.{Item as BorrowedItem}
 use Rattle.wit_items.specs.PlacedItems.{AreItemsPlaced}
@@ -24,8 +10,6 @@ use Rattle.wit_items.specs.NamesInside.{written_items, side_uses}
 use Rattle.wit_items.specs.InlineNames.{inside_view, names_written}
 use Rattle.wit_items.proofs.WrittenNames.{items_names, uses_written, names_written_in}
 use Rattle.wit_front.specs.ForeignPrefix.{name_foreign_uses, names_foreign_uses, borrowed_foreign_uses}
-use Rattle.wit_tree.specs.declared.tree.Extern.{Extern}
-use Rattle.wit_syntax.proofs.JoinedItems.{item_foreign_uses}
 
 -- those from other packages
 abbrev foreign : List ForeignUse → List ForeignUse

@@ -1,27 +1,8 @@
 -- What comes before the arenas, with one item more, and with one name more.
 use Rattle.std.proofs.Common.{◌≡◌, ℕ, zero, suc, ◌+◌, ◌<◌, Bool, true, false, not, cond, if◌then◌else◌, List, [], ◌∷◌, ◌++◌, length, Some, None, inl, inr, nat_eq, refl, sym, ap, ◌∙◌, subst, arith, append_assoc, add-zero}
-use Rattle.std.specs.Prelude.{slice_get, slice_set, map}
-use Rattle.std.specs.List.{filter}
-use Rattle.std.specs.Map.{lookup}
-use Rattle.std.specs.Cmp.Lexicographic.{pointwise}
-use Rattle.std.proofs.lemmas.Bool.{cases_Bool}
-use Rattle.std.proofs.lemmas.List.{append-nil}
-use Rattle.std.proofs.lemmas.List.Elements.{filter-append}
-use Rattle.std.proofs.lemmas.Option.{slice_get_within}
-use Rattle.indexmap.specs.IndexMap.{insert_entry}
-use Rattle.wit_model.specs.declared.ast_item.AstItem.{AstItem}
+use Rattle.wit_syntax.proofs.Common.{Address, AllDiffer, ForeignUse, ForeignVisit, after_one, append-nil, at_prefix, cases_Bool, differ_at, filter, filter-append, insert_entry, kept_at, lookup, map, name_itself, pointwise, same_address, same_address-equal, same_address-from, same_address-itself, same_item, slice_get, slice_get_within, slice_set, visited}
+use Rattle.wit_arena.proofs.Common.{AstItem, Names, foreign_place}
 use Rattle.wit_model.specs.declared.ast_item.AstItem.TheVariants as entry
-use Rattle.wit_syntax.specs.Address.{Address, same_address}
-use Rattle.wit_syntax.specs.Source.{ForeignUse}
-use Rattle.wit_syntax.specs.Repeats.{AllDiffer}
-use Rattle.wit_syntax.specs.Foreign.{ForeignVisit, visited, same_item}
-use Rattle.wit_arena.specs.Whole.{foreign_place}
-use Rattle.wit_arena.specs.Resolving.{Names}
-use Rattle.wit_syntax.proofs.Lists.{at_prefix}
-use Rattle.wit_syntax.proofs.Names.{name_itself}
-use Rattle.wit_syntax.proofs.Addresses.{same_address-itself, same_address-equal, same_address-from}
-use Rattle.wit_syntax.proofs.Repeated.{differ_at}
-use Rattle.wit_syntax.proofs.Kept.{kept_at, after_one}
 use Rattle.wit_front.specs.ForeignPrefix.{interfaces_among, worlds_among, entry_after, entries_after, used_from}
 
 -- one is moved from what comes before to what is counted

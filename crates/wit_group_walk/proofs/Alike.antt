@@ -1,27 +1,14 @@
 -- Sources that are stated alike come to one first fault, whatever is read of them: what is read is one but for addresses, and alike trees come to one fault.
 use Rattle.std.proofs.Common.{◌≡◌, ℕ, suc, Bool, not, cond, ◌&&◌, ◌||◌, ◌==◌, List, [], ◌∷◌, ◌++◌, map, length, Bor, Option, Some, None, refl, sym, ap, ap₂, ◌∙◌, subst}
-use Rattle.std.specs.List.{AllZip, list_any}
-use Rattle.std.specs.Option.{option_map, option_or}
-use Rattle.wit_values.specs.declared.span.Span.{Span}
-use Rattle.wit_tree.specs.declared.tree.AstItem.{AstItem}
-use Rattle.wit_tree.specs.declared.tree.NestedPackage.{NestedPackage}
-use Rattle.wit_tree.specs.declared.tree.PackageFile.{PackageFile}
+use Rattle.wit_syntax.proofs.Common.{AllZip, AstItem, Fault, NestedPackage, PackageFile, PackageName, SourceFile, Span, fault, fault_in, headers, last_header, list_any, mismatch, option_map, option_or, package_of, package_words, same_package}
 use Rattle.wit_tree.specs.declared.tree.PackageName.{PackageName as Header}
-use Rattle.wit_tree.specs.declared.tree.SourceFile.{SourceFile}
-use Rattle.wit_package_names.specs.declared.package_name.PackageName.{PackageName}
 use Rattle.wit_lex.specs.declared.fault.ReadFault.{ReadFault}
 use Rattle.wit_lex.specs.declared.source.Source.{Source}
 use Rattle.wit_lex.specs.Sources.{stated_of}
 use Rattle.wit_grammar.specs.Laws.{IsSpelled, StopsAt}
 use Rattle.wit_grammar.specs.Trees.{File, Nested, PackageId}
 use Rattle.wit_grammar.specs.Seen.{see_declaration, see_file, see_nested, see_package_id}
-use Rattle.wit_syntax.specs.Address.{package_of, same_package}
-use Rattle.wit_syntax.specs.Broken.{headers, last_header}
-use Rattle.wit_syntax.specs.Fault.{Fault, fault, fault_in}
-use Rattle.wit_syntax.specs.Words.{mismatch, package_words}
-use Rattle.wit_first.specs.First.{IsOr}
-use Rattle.wit_first.specs.HeaderFaults.{have_docs, is_documented, other_fault, second_docs_fault}
-use Rattle.wit_walk.specs.Walk.{earliest}
+use Rattle.wit_walk.proofs.Common.{IsOr, earliest, have_docs, is_documented, other_fault, second_docs_fault}
 use Rattle.wit_alike.proofs.Lists.{zip_after, zip_any, zip_append, zip_first, zip_flat, zip_map, zip_of}
 use Rattle.wit_alike.proofs.Paths.{SameAst, SameHeader, ast_of, same_package_of}
 use Rattle.wit_alike.proofs.Items.{SameFile}

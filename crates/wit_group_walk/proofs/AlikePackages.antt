@@ -1,13 +1,8 @@
 -- Files that are alike make one package.
 use Rattle.std.proofs.Common.{◌≡◌, List, sym}
-use Rattle.std.specs.List.{AllZip}
-use Rattle.wit_tree.specs.declared.tree.AstItem.{AstItem}
+use Rattle.wit_syntax.proofs.Common.{AllZip, AstItem, IsLegal, PackageFile}
 use Rattle.wit_tree.specs.declared.tree.AstItem.TheVariants as ast
-use Rattle.wit_tree.specs.declared.tree.PackageFile.{PackageFile}
-use Rattle.wit_model.specs.declared.unresolved.UnresolvedPackage.{UnresolvedPackage}
-use Rattle.wit_syntax.specs.Broken.{IsLegal}
-use Rattle.wit_arena.specs.Made.{Makes}
-use Rattle.wit_arena.proofs.OneMade.{one_made}
+use Rattle.wit_arena.proofs.Common.{Makes, UnresolvedPackage, one_made}
 use Rattle.wit_alike.proofs.Paths.{SameAst}
 use Rattle.wit_alike.proofs.Items.{SameFile}
 use Rattle.wit_alike.proofs.Tables.{turned}

@@ -1,13 +1,8 @@
 -- Sources have one order by their paths, and so have those that are stated alike.
 use Rattle.std.proofs.Common.{◌≡◌, ℕ, suc, ◌<◌, ◌≤◌, Bool, true, false, List, [], ◌∷◌, length, map, get_or, string_bytes, refl, sym, ap, ap₂, ◌∙◌, subst, true≢false, arith}
 use Rattle.std.specs.Cmp.{IsStrictWeakOrder}
-use Rattle.std.specs.Cmp.Lexicographic.{slice_cmp}
-use Rattle.std.specs.List.{AllZip, filter}
-use Rattle.std.specs.List.Sorted.{ties}
-use Rattle.std.specs.Ordering.{nat_cmp, is_lt}
-use Rattle.std.proofs.lemmas.Bool.{false_from_ne_true}
+use Rattle.wit_syntax.proofs.Common.{AllZip, false_from_ne_true, filter, is_lt, nat_cmp, ranks_by, slice_cmp, sorted_far, ties}
 use Rattle.std.proofs.lemmas.Cmp.{nat_list_cmp_total}
-use Rattle.std.proofs.lemmas.List.Sorted.{ranks_by, sorted_far}
 use Rattle.wit_lex.specs.declared.source.Source.{Source}
 use Rattle.wit_lex.specs.Sources.{stated_of}
 use Rattle.wit_bundle.specs.SourcePaths.{IsByPath}

@@ -1,22 +1,13 @@
 -- Sources that make a group have no fault.
 use Rattle.std.proofs.Common.{◌≡◌, ◌⊎◌, List, [], ◌∷◌, ◌++◌, Option, Some, None, inl, inr, refl, sym, ap, ◌∙◌, subst, append_assoc}
-use Rattle.std.specs.List.{AllZip}
-use Rattle.std.proofs.lemmas.List.{append-nil, map-append}
-use Rattle.wit_tree.specs.declared.tree.PackageFile.{PackageFile}
-use Rattle.wit_tree.specs.declared.tree.SourceFile.{SourceFile}
+use Rattle.wit_syntax.proofs.Common.{AllZip, Fault, PackageFile, SourceFile, append-nil, last_header, map-append}
 use Rattle.wit_lex.specs.declared.source.Source.{Source}
 use Rattle.wit_bundle.specs.SourcePaths.{IsByPath}
-use Rattle.wit_model.specs.declared.unresolved.UnresolvedPackage.{UnresolvedPackage}
-use Rattle.wit_syntax.specs.Broken.{last_header}
-use Rattle.wit_syntax.specs.Fault.{Fault}
-use Rattle.wit_arena.specs.Faithful.{IsMadeOf}
-use Rattle.wit_first.specs.First.{first_after}
-use Rattle.wit_first.proofs.Bridge.{or_none_both}
-use Rattle.wit_first.proofs.First.{or_none}
+use Rattle.wit_arena.proofs.Common.{IsMadeOf, UnresolvedPackage}
+use Rattle.wit_walk.proofs.Common.{earliest, first_after, or_none, or_none_both}
 use Rattle.wit_nested.specs.Nested.{GrowByNested, IsMadeByNested}
 use Rattle.wit_groups.specs.Groups.{AreUsed, IsGroup, IsTree}
 use Rattle.wit_groups.specs.Groups.AreUsed.{None as NoneUsed, More}
-use Rattle.wit_walk.specs.Walk.{earliest}
 use Rattle.wit_nested.specs.GroupFaults.{names_fault, nested_names}
 use Rattle.wit_nested.specs.PushFaults.{IsWalk, files_of, nested_of}
 use Rattle.wit_groups.specs.SourceFaults.{Read, IsRead, trees_of, SourcesComeTo, IsFirstOfSources, AreFaultless, AreBroken}

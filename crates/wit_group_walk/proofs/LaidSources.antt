@@ -1,12 +1,10 @@
 -- Sources of the same paths and texts have one first fault, whatever is read of them.
 use Rattle.std.proofs.Common.{◌≡◌, ℕ, List, [], ◌∷◌, Option, string_bytes, refl, sym, ap, ◌∙◌, subst}
-use Rattle.std.specs.List.{AllZip}
-use Rattle.wit_tree.specs.declared.tree.PackageFile.{PackageFile}
+use Rattle.wit_syntax.proofs.Common.{AllZip, Fault, PackageFile}
 use Rattle.wit_lex.specs.declared.source.Source.{Source}
 use Rattle.wit_lex.specs.Sources.{as_stated, stated_of}
 use Rattle.wit_bundle.specs.Laid.{AreLaid}
 use Rattle.wit_bundle.specs.SourcePaths.{IsByPath}
-use Rattle.wit_syntax.specs.Fault.{Fault}
 use Rattle.wit_alike.proofs.Lists.{zip_of}
 use Rattle.wit_nested.proofs.Pushes.{one_walk}
 use Rattle.wit_groups.specs.Groups.{IsAlone}

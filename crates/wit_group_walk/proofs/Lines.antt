@@ -1,20 +1,11 @@
 -- The line of a refusal is a function of its fault, and of the paths and texts of the sources.
 use Rattle.std.proofs.Common.{◌≡◌, ℕ, ◌+◌, ◌-◌, ◌≤◌, zero, suc, false, List, [], ◌∷◌, ◌++◌, length, string_bytes, Option, Some, None, refl, sym, ap, ◌∙◌, subst, true≢false, arith}
-use Rattle.std.specs.Prelude.{codes, slice_get, slice_range}
+use Rattle.wit_syntax.proofs.Common.{Fault, IsCharBoundary, ItemNotFound, OutOfMemory, ParseError, ParseErrorKind, Span, Syntax, TypeCycle, as_stated, codes, fault_of, map_at, option_map, slice_get, slice_get-map, slice_range}
 use Rattle.std.specs.Fmt.{decimal}
-use Rattle.std.specs.Option.{option_map}
-use Rattle.std.specs.Str.{IsCharBoundary}
-use Rattle.std.proofs.lemmas.Option.{slice_get-map}
-use Rattle.wit_values.specs.declared.span.Span.{Span}
-use Rattle.wit_type_tree.specs.declared.error.ParseError.{ParseError}
-use Rattle.wit_type_tree.specs.declared.error.ParseErrorKind.{ParseErrorKind}
-use Rattle.wit_type_tree.specs.declared.error.ParseErrorKind.TheVariants.{Syntax, ItemNotFound, TypeCycle, OutOfMemory}
 use Rattle.wit_lex.specs.declared.source.Source.{Source}
 use Rattle.wit_lex.specs.Sources.{IsLocated, IsTooLarge, LiesIn, ReportsTooLarge, stated_of}
 use Rattle.wit_bundle.specs.Laid.{AreLaid, laid_out}
 use Rattle.wit_listing.specs.ErrorLine.{IsErrorLine, IsPlaceAt, Place, first_line, has_place, place_text}
-use Rattle.wit_syntax.specs.Fault.{Fault, as_stated, fault_of}
-use Rattle.wit_syntax.proofs.Lists.{map_at}
 use Rattle.wit_groups.specs.Groups.{IsUnparsed}
 use Rattle.wit_groups.specs.Groups.IsUnparsed.{Alone, TooLarge}
 use Rattle.wit_groups.specs.SourceFaults.{HaveFirst, TextHasFirst}

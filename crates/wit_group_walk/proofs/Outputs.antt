@@ -1,24 +1,15 @@
 -- The output of a text is one.
 use Rattle.std.proofs.Common.{◌≡◌, ℕ, List, [], ◌∷◌, ◌++◌, Option, Some, None, refl, sym, ap₂, ◌∙◌, subst, arith}
-use Rattle.std.specs.List.{AllZip}
-use Rattle.wit_tree.specs.declared.tree.NestedPackage.{NestedPackage}
-use Rattle.wit_tree.specs.declared.tree.PackageFile.{PackageFile}
-use Rattle.wit_tree.specs.declared.tree.SourceFile.{SourceFile}
+use Rattle.wit_syntax.proofs.Common.{AllZip, Fault, IsLegal, NestedPackage, PackageFile, SourceFile, last_header}
 use Rattle.wit_lex.specs.declared.source.Source.{Source}
 use Rattle.wit_lex.specs.Sources.{stated_of}
 use Rattle.wit_bundle.specs.Bundle.{sources_of}
 use Rattle.wit_bundle.specs.Laid.{AreLaid}
 use Rattle.wit_grammar.specs.Laws.{IsSpelled}
 use Rattle.wit_grammar.specs.Seen.{see_file}
-use Rattle.wit_model.specs.declared.unresolved.UnresolvedPackage.{UnresolvedPackage}
-use Rattle.wit_syntax.specs.Broken.{IsLegal, last_header}
-use Rattle.wit_syntax.specs.Fault.{Fault}
+use Rattle.wit_arena.proofs.Common.{Makes, UnresolvedPackage}
 use Rattle.wit_alike.proofs.Lists.{zip_flat}
-use Rattle.wit_arena.specs.Made.{Makes}
-use Rattle.wit_first.specs.First.{first_after, first_in}
-use Rattle.wit_first.proofs.Bridge.{or_none_both}
-use Rattle.wit_first.proofs.First.{in-append, none_both}
-use Rattle.wit_walk.specs.Walk.{earliest}
+use Rattle.wit_walk.proofs.Common.{earliest, first_after, first_in, in-append, none_both, or_none_both}
 use Rattle.wit_nested.specs.GroupFaults.{joined_faults, names_fault, nested_names}
 use Rattle.wit_nested.specs.Nested.{file_of}
 use Rattle.wit_nested.specs.PushFaults.{IsWalk, file_fault, files_of, inner_fault, nested_fault, nested_of}

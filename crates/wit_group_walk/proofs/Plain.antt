@@ -1,11 +1,6 @@
 -- A refusal in plain values is a function of its fault, and of the paths and texts of the sources.
 use Rattle.std.proofs.Common.{◌≡◌, ℕ, ◌+◌, ◌-◌, ◌≤◌, Bool, List, length, string_bytes, refl, sym, ap, ◌∙◌, subst, arith}
-use Rattle.std.specs.Str.{IsCharBoundary}
-use Rattle.wit_values.specs.declared.span.Span.{Span}
-use Rattle.wit_type_tree.specs.declared.error.ParseError.{ParseError}
-use Rattle.wit_type_tree.specs.declared.error.ParseErrorKind.{ParseErrorKind}
-use Rattle.wit_type_tree.specs.declared.error.ParseErrorKind.TheVariants.{Syntax, ItemNotFound, TypeCycle, OutOfMemory}
-use Rattle.wit_type_tree.specs.RefusalText.{kind_text, span_of}
+use Rattle.wit_syntax.proofs.Common.{Fault, IsCharBoundary, ItemNotFound, OutOfMemory, ParseError, ParseErrorKind, Span, Syntax, TypeCycle, as_stated, fault_of, kind_text, span_of}
 use Rattle.wit_lex.specs.declared.source.Source.{Source}
 use Rattle.wit_lex.specs.Sources.{LiesIn, stated_of}
 use Rattle.wit_bundle.specs.Laid.{AreLaid}
@@ -13,7 +8,6 @@ use Rattle.wit_listing.specs.ErrorLine.{has_place}
 use Rattle.wit_outcome.specs.declared.plain.Plain.{Plain}
 use Rattle.wit_outcome.specs.Plain.{IsPlain, IsPlaced}
 use Rattle.wit_outcome.specs.Plain.IsPlaced.{Within, Nowhere}
-use Rattle.wit_syntax.specs.Fault.{Fault, as_stated, fault_of}
 use Rattle.wit_tool.specs.FaultLine.{fault_text}
 use Rattle.wit_tool.proofs.FaultLines.{text_is}
 use Rattle.wit_group_walk.proofs.Lines.{Stated, one_source, other_at, stated_at}

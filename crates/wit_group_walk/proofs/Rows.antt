@@ -1,25 +1,13 @@
 -- Sources with two faults, and the one that is first.
 use Rattle.std.proofs.Common.{◌≡◌, ℕ, suc, ◌+◌, ◌-◌, ◌<◌, ◌^◌, true, List, [], ◌∷◌, length, Option, Some, None, refl, lit<, arith}
-use Rattle.std.specs.Prelude.{codes, Vec}
-use Rattle.std.specs.declared.alloc.Global.{Global}
+use Rattle.wit_syntax.proofs.Common.{AstItem, Attribute, Fault, Global, Id, NestedPackage, PackageFile, Row, SourceFile, Span, Vec, codes, fault, fault_in, is_label}
 use denote.RawPtr.{Ptr}
-use Rattle.wit_names.specs.Label.{is_label}
-use Rattle.wit_values.specs.declared.span.Span.{Span}
-use Rattle.wit_type_tree.specs.declared.leaves.Id.{Id}
 use Rattle.wit_type_tree.specs.declared.leaves.Docs.{Docs as Comments}
-use Rattle.wit_type_tree.specs.declared.leaves.Attribute.{Attribute}
 use Rattle.wit_type_tree.specs.declared.types.TypeBody.TheVariants as body
-use Rattle.wit_tree.specs.declared.tree.AstItem.{AstItem}
 use Rattle.wit_tree.specs.declared.tree.AstItem.TheVariants as ast
 use Rattle.wit_tree.specs.declared.tree.InterfaceItem.TheVariants as interface_item
-use Rattle.wit_tree.specs.declared.tree.NestedPackage.{NestedPackage}
-use Rattle.wit_tree.specs.declared.tree.PackageFile.{PackageFile}
 use Rattle.wit_tree.specs.declared.tree.PackageName.{PackageName as Header}
-use Rattle.wit_tree.specs.declared.tree.SourceFile.{SourceFile}
-use Rattle.wit_graph.specs.Table.{Row}
-use Rattle.wit_syntax.specs.Fault.{Fault, fault, fault_in}
-use Rattle.wit_walk.specs.Orders.{Outcome, InOrder}
-use Rattle.wit_walk.specs.Walk.{first_fault}
+use Rattle.wit_walk.proofs.Common.{InOrder, Outcome, first_fault}
 use Rattle.wit_nested.specs.GroupFaults.{group_fault}
 
 abbrev at : ℕ → ℕ → Span

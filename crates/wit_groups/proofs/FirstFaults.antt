@@ -1,15 +1,6 @@
 -- Sources that are refused come to the refusal, and those that make a group to none.
 use Rattle.std.proofs.Common.{◌≡◌, ◌⊎◌, ℕ, ◌+◌, ◌<◌, ◌≤◌, suc, true, false, arith, lt-ltb, le-ltb, List, [], ◌∷◌, ◌++◌, Bor, length, get_or, map, take, drop, Option, Some, None, inl, inr, refl, sym, ap, ◌∙◌, subst}
-use Rattle.std.specs.Prelude.{Result, Ok, Err, IfOk, nat_lt, string_bytes}
-use Rattle.std.specs.List.{AllZip}
-use Rattle.std.proofs.lemmas.List.{append-nil}
-use Rattle.wit_values.specs.declared.span.Span.{Span}
-use Rattle.wit_type_tree.specs.declared.error.ParseError.{ParseError}
-use Rattle.wit_type_tree.specs.declared.error.ParseErrorKind.{ParseErrorKind}
-use Rattle.wit_type_tree.specs.declared.error.ParseErrorKind.TheVariants.{Syntax, ItemNotFound, TypeCycle, OutOfMemory}
-use Rattle.wit_type_tree.specs.RefusalText.{IsAllocationFailure}
-use Rattle.wit_tree.specs.declared.tree.PackageFile.{PackageFile}
-use Rattle.wit_tree.specs.declared.tree.SourceFile.{SourceFile}
+use Rattle.wit_syntax.proofs.Common.{AllZip, Err, Fault, IfOk, IsAllocationFailure, ItemNotFound, Ok, OutOfMemory, PackageFile, ParseError, ParseErrorKind, Result, SourceFile, Span, Syntax, TypeCycle, append-nil, as_stated, fault, fault_in, fault_of, nat_lt, string_bytes, words_of}
 use Rattle.wit_lex.specs.declared.fault.ReadFault.{ReadFault}
 use Rattle.wit_lex.specs.declared.fault.ReadError.TheVariants.{Fault as Stopped, OutOfMemory as Wanting}
 use Rattle.wit_lex.specs.declared.fault.ReadFault.TheVariants.{Character, Token, Comment, Nesting, Version, Number}
@@ -20,11 +11,8 @@ use Rattle.wit_lex.specs.declared.source_map.SourceMap.{SourceMap}
 use Rattle.wit_bundle.specs.SourcePaths.{IsByPath}
 use Rattle.wit_text.specs.Files.{IsFaultOf}
 use Rattle.wit_text.specs.Files.IsFaultOf.{At, Wanted as FaultWanted}
-use Rattle.wit_model.specs.declared.unresolved.UnresolvedPackage.{UnresolvedPackage}
-use Rattle.wit_syntax.specs.Fault.{Fault, as_stated, fault, fault_in, fault_of}
-use Rattle.wit_syntax.specs.Words.{words_of}
-use Rattle.wit_first.specs.First.{Finds, FindsBy, Reports}
-use Rattle.wit_walk.specs.Walk.{earliest}
+use Rattle.wit_arena.proofs.Common.{UnresolvedPackage}
+use Rattle.wit_walk.proofs.Common.{Finds, FindsBy, Reports, earliest}
 use Rattle.wit_nested.specs.GroupFaults.{FindsJoined, joined_faults}
 use Rattle.wit_nested.specs.PushFaults.{IsWalk, files_of, pushes_fault, source_fault}
 use Rattle.wit_nested.proofs.Prefixes.{prefix_split}

@@ -1,9 +1,6 @@
 -- What sources come to, one more at a time.
 use Rattle.std.proofs.Common.{◌≡◌, ℕ, ◌+◌, ◌<◌, suc, List, [], ◌∷◌, ◌++◌, Bor, length, get_or, map, take, drop, inl, inr, ap, sym, subst, ◌∙◌}
-use Rattle.std.specs.Prelude.{Result, Ok, Err, IfErr, IfOk, string_bytes}
-use Rattle.wit_tree.specs.declared.tree.PackageFile.{PackageFile}
-use Rattle.wit_tree.specs.declared.tree.SourceFile.{SourceFile}
-use Rattle.wit_type_tree.specs.declared.error.ParseError.{ParseError}
+use Rattle.wit_syntax.proofs.Common.{Err, Fault, IfErr, IfOk, Ok, PackageFile, ParseError, Refused, Result, SourceFile, string_bytes}
 use Rattle.wit_lex.specs.declared.source.Source.{Source}
 use Rattle.wit_lex.specs.declared.source_map.SourceMap.{SourceMap}
 use Rattle.wit_lex.specs.Sources.{IsSource, space}
@@ -11,9 +8,7 @@ use Rattle.wit_grammar.specs.Trees.{File}
 use Rattle.wit_grammar.specs.Laws.{IsSpelled}
 use Rattle.wit_text.specs.Files.{Gives, IsFaultOf}
 use Rattle.wit_bundle.specs.SourcePaths.{IsByPath}
-use Rattle.wit_model.specs.declared.unresolved.UnresolvedPackage.{UnresolvedPackage}
-use Rattle.wit_syntax.specs.Fault.{Fault}
-use Rattle.wit_syntax.specs.Broken.{Refused}
+use Rattle.wit_arena.proofs.Common.{UnresolvedPackage}
 use Rattle.wit_nested.specs.Nested.{GrowByNested, IsUnfit}
 use Rattle.wit_nested.specs.PackageNames.{IsUnjoined}
 use Rattle.wit_nested.specs.PackageNames.IsUnjoined.{Broken, Repeated as RepeatedName}

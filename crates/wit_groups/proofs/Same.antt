@@ -1,9 +1,7 @@
 -- Groups with equal packages and equal sources are the same.
 use Rattle.std.proofs.Common.{◌≡◌, List, [], ◌∷◌, Option, Some, None, refl, subst}
 use Rattle.wit_lex.specs.Sources.{as_stated}
-use Rattle.wit_model.specs.declared.interface.Interface.{Interface}
-use Rattle.wit_model.specs.declared.unresolved.UnresolvedPackage.{UnresolvedPackage}
-use Rattle.wit_model.specs.declared.world.World.{World}
+use Rattle.wit_arena.proofs.Common.{Interface, UnresolvedPackage, World}
 use Rattle.wit_model.specs.SamePackages.{AreBothSame, AreSame, HoldSamePairs, IsSameInterface, IsSamePackage, IsSameWorld, is_same_name}
 use Rattle.wit_groups.specs.SameGroups.{IsSameGroup}
 use Rattle.wit_groups.specs.declared.group.UnresolvedPackageGroup.{UnresolvedPackageGroup}

@@ -1,18 +1,10 @@
 -- What sources come to, one after another.
 use Rattle.std.proofs.Common.{◌≡◌, ◌⊎◌, List, [], ◌∷◌, ◌++◌, Option, Some, None, inl, inr, refl, sym, ap, ◌∙◌, subst, append_assoc, map}
-use Rattle.std.specs.List.{AllZip}
-use Rattle.std.proofs.lemmas.List.{append-nil}
-use Rattle.wit_tree.specs.declared.tree.PackageFile.{PackageFile}
-use Rattle.wit_tree.specs.declared.tree.SourceFile.{SourceFile}
+use Rattle.wit_syntax.proofs.Common.{AllZip, Fault, IsBroken, PackageFile, SourceFile, append-nil, last_header}
 use Rattle.wit_lex.specs.declared.source.Source.{Source}
-use Rattle.wit_syntax.specs.Broken.{IsBroken, last_header}
-use Rattle.wit_syntax.specs.Fault.{Fault}
-use Rattle.wit_first.specs.First.{IsOr, first_after}
-use Rattle.wit_first.proofs.Bridge.{or_none_both}
-use Rattle.wit_first.proofs.First.{none_both}
+use Rattle.wit_walk.proofs.Common.{IsOr, earliest, first_after, none_both, or_none_both}
 use Rattle.wit_groups.specs.Groups.{IsTree}
 use Rattle.wit_nested.proofs.Making.{zip_more}
-use Rattle.wit_walk.specs.Walk.{earliest}
 use Rattle.wit_nested.specs.GroupFaults.{IsNamedTwice, joined_faults, nested_names}
 use Rattle.wit_nested.specs.PushFaults.{IsWalk, files_of, source_fault}
 use Rattle.wit_groups.specs.SourceFaults.{Read, Tree, Stop, IsRead, IsStop, trees_of, SequenceComesTo, IsBrokenSequence}

@@ -1,18 +1,9 @@
 -- Sources that are read and pushed, by their trees.
 use Rattle.std.proofs.Common.{◌≡◌, List, [], ◌∷◌, ◌++◌, Option, None, refl, sym, ap, ◌∙◌, subst, map}
-use Rattle.std.specs.List.{AllZip}
-use Rattle.std.proofs.lemmas.Grind.{flat_map-append}
-use Rattle.std.proofs.lemmas.List.{append-nil, map-append}
-use Rattle.wit_tree.specs.declared.tree.NestedPackage.{NestedPackage}
-use Rattle.wit_tree.specs.declared.tree.PackageFile.{PackageFile}
-use Rattle.wit_tree.specs.declared.tree.SourceFile.{SourceFile}
+use Rattle.wit_syntax.proofs.Common.{AllZip, Fault, NestedPackage, PackageFile, SourceFile, append-nil, flat_map-append, last_header, map-append}
 use Rattle.wit_lex.specs.declared.source.Source.{Source}
-use Rattle.wit_model.specs.declared.unresolved.UnresolvedPackage.{UnresolvedPackage}
-use Rattle.wit_syntax.specs.Broken.{last_header}
-use Rattle.wit_syntax.specs.Fault.{Fault}
-use Rattle.wit_arena.specs.Faithful.{IsMadeOf}
-use Rattle.wit_first.proofs.First.{after-more, none_both, or_none}
-use Rattle.wit_walk.specs.Walk.{earliest}
+use Rattle.wit_arena.proofs.Common.{IsMadeOf, UnresolvedPackage}
+use Rattle.wit_walk.proofs.Common.{after-more, earliest, none_both, or_none}
 use Rattle.wit_nested.specs.Nested.{IsMadeByNested, IsUnfit}
 use Rattle.wit_nested.specs.PackageNames.{AreNamedApart}
 use Rattle.wit_nested.specs.GroupFaults.{joined_faults, names_fault, nested_names}

@@ -1,12 +1,7 @@
 -- Written names of functions that are no resource's, among those of an interface.
 use Rattle.std.proofs.Common.{◌≡◌, ◌≤◌, ◌<◌, ℕ, List, length, Some, arith, Contains}
-use Rattle.std.specs.Prelude.{slice_get}
-use Rattle.std.specs.List.{flat_map}
-use Rattle.std.proofs.lemmas.Option.{slice_get_within}
-use Rattle.wit_functions.specs.declared.function.Function.{Function}
-use Rattle.wit_arena.specs.SourceFunctions.{freestanding_names}
-use Rattle.wit_syntax.proofs.Lists.{flat_map_at, flat_map_has}
-use Rattle.wit_syntax.proofs.Found.{contains_at, at_contains}
+use Rattle.wit_syntax.proofs.Common.{at_contains, contains_at, flat_map, flat_map_at, flat_map_has, slice_get, slice_get_within}
+use Rattle.wit_arena.proofs.Common.{Function, freestanding_names}
 
 -- the written names of a function at its name: none, or one
 abbrev pub written_names : List ℕ × Function → List (List ℕ)

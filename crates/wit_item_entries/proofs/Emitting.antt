@@ -1,9 +1,7 @@
 -- What items add, one after another, where each requires something after what was required before.
 use Rattle.std.proofs.Common.{List, [], ◌∷◌, ◌++◌, ap, ◌∙◌, append_assoc}
-use Rattle.wit_types.specs.declared.types.TypeDef.{TypeDef}
-use Rattle.wit_syntax.specs.Source.{Item}
-use Rattle.wit_arena.specs.Resolving.{Required}
-use Rattle.wit_arena.specs.ResolvedArenas.{AddsEach}
+use Rattle.wit_syntax.proofs.Common.{Item, TypeDef}
+use Rattle.wit_arena.proofs.Common.{AddsEach, Required}
 use Rattle.wit_arena.proofs.Adding.{adds_append, adds_one}
 use Rattle.wit_item_entries.specs.NewRequirements.{Appends}
 

@@ -1,23 +1,9 @@
 -- The names of a scope in turn: on the side of imports, and what a table of them means.
 use Rattle.std.proofs.Common.{◌≡◌, ℕ, true, List, [], ◌++◌, map, Option, Some, None, refl, sym, ap, ◌∙◌}
-use Rattle.std.specs.Prelude.{slice_get}
-use Rattle.std.specs.Option.{option_map}
-use Rattle.std.specs.Str.{bytes_eq}
-use Rattle.std.proofs.lemmas.Option.{slice_get-map}
+use Rattle.wit_syntax.proofs.Common.{Id, ScopeName, SourceFunction, WorldSide, bytes_eq, find_some, in_turn, in_turn_among, local_id, local_name, local_names, lookup-place, map_at, map_map, meaning, name_itself, names_on, option_map, slice_get, slice_get-map}
 use mathlib.Core.Path.{fun_ext}
-use Rattle.wit_type_tree.specs.declared.leaves.Id.{Id}
-use Rattle.wit_syntax.specs.Source.{ScopeName, local_id, local_name, meaning}
-use Rattle.wit_syntax.specs.ScopeTables.{in_turn, local_names}
-use Rattle.wit_syntax.specs.Function.{SourceFunction}
-use Rattle.wit_tree.specs.declared.tree.WorldSide.{WorldSide}
-use Rattle.wit_syntax.specs.Sides.{names_on}
-use Rattle.wit_arena.specs.Resolving.{Names, env_of, names_in}
-use Rattle.wit_syntax.proofs.Lists.{map_at, map_map}
-use Rattle.wit_syntax.proofs.Found.{find_some}
-use Rattle.wit_syntax.proofs.Names.{lookup-place, name_itself}
-use Rattle.wit_syntax.proofs.Turns.{in_turn_among}
-use Rattle.wit_walk.specs.Functions.{lost_word, word_fault}
-use Rattle.wit_walk.specs.Names.{unless_meant}
+use Rattle.wit_arena.proofs.Common.{Names, env_of, names_in}
+use Rattle.wit_walk.proofs.Common.{lost_word, unless_meant, word_fault}
 use Rattle.wit_arena.proofs.Meant.{free_unmeant}
 use Rattle.wit_refusals.specs.NameScopes.{Name}
 use Rattle.wit_sides.specs.SideNames.{defined_on}

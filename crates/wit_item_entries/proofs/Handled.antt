@@ -1,26 +1,8 @@
 -- What handles in the definitions of a scope require, one definition after another.
 use Rattle.std.proofs.Common.{◌≡◌, ℕ, ◌+◌, cond, List, [], ◌∷◌, ◌++◌, length, take, Option, Some, None, nat_eq, inl, inr, refl, sym, ap, ◌∙◌, subst, arith, append_assoc, zero-add, suc-add}
-use Rattle.std.specs.Prelude.{slice_get}
-use Rattle.std.specs.List.{flat_map}
-use Rattle.std.specs.Option.{option_map}
-use Rattle.std.specs.Cmp.Lexicographic.{pointwise}
-use Rattle.std.proofs.lemmas.Grind.{flat_map-append}
-use Rattle.std.proofs.lemmas.List.{append-nil, map-append}
-use Rattle.std.proofs.lemmas.Option.{slice_get-map, slice_get_within}
-use Rattle.wit_type_tree.specs.declared.leaves.Id.{Id}
+use Rattle.wit_syntax.proofs.Common.{AllDiffer, Defined, ForeignName, Id, ScopeName, TypeDef, Used, all_handles, append-nil, at_back, at_prefix, at_split, at_take, body_types, defined, flat_map, flat_map-append, in_order, in_turn, local_name, local_names, lookup-insert_entry, lookup-place, map-append, map_at, name_cases, name_types, names-insert_entry, option_map, pointwise, slice_get, slice_get-map, slice_get_within, used}
 use Rattle.wit_type_tree.specs.declared.types.TypeDef.{TypeDef as Definition}
-use Rattle.wit_type_tree.specs.TypeParts.{body_types}
-use Rattle.wit_types.specs.declared.types.TypeDef.{TypeDef}
-use Rattle.wit_syntax.specs.Source.{ScopeName, Used, Defined, ForeignName, local_name}
-use Rattle.wit_syntax.specs.ScopeTables.{used, defined, in_order, in_turn, local_names}
-use Rattle.wit_syntax.specs.Shape.{all_handles}
-use Rattle.wit_syntax.specs.Function.{name_types}
-use Rattle.wit_syntax.specs.Repeats.{AllDiffer}
-use Rattle.wit_arena.specs.Resolving.{Env, Names, env_of, IsStored, Required, AreEnded, names_in}
-use Rattle.wit_syntax.proofs.Lists.{at_prefix, at_back, at_split, at_take, map_at}
-use Rattle.wit_syntax.proofs.Names.{name_cases, lookup-insert_entry, names-insert_entry, lookup-place}
-use Rattle.wit_arena.proofs.Written.{all_handles-append}
-use Rattle.wit_arena.proofs.Required.{ended_append, ended_more}
+use Rattle.wit_arena.proofs.Common.{AreEnded, Env, IsStored, Names, Required, all_handles-append, ended_append, ended_more, env_of, names_in}
 use Rattle.wit_entries.specs.Requiring.{IsExtended, Requires}
 
 -- where texts differ, and those of a table are some of them, the next one is free

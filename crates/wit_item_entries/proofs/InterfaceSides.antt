@@ -1,14 +1,6 @@
 -- An interface has functions alone on its sides, and they are where imports do.
 use Rattle.std.proofs.Common.{◌≡◌, ◌∷◌, ◌++◌, [], List, map, false, inl, inr, refl, sym, ap, ◌∙◌}
-use Rattle.std.specs.List.{flat_map}
-use Rattle.std.proofs.lemmas.Bool.{cases_Bool, cond-true, cond-false}
-use Rattle.wit_type_tree.specs.declared.leaves.Id.{Id}
-use Rattle.wit_tree.specs.declared.tree.WorldSide.TheVariants.{Imported}
-use Rattle.wit_syntax.specs.ExternPart.{same_side}
-use Rattle.wit_syntax.specs.Source.{Declared, TheInterface, TheWorld, TheInline, Item, is_world, about}
-use Rattle.wit_syntax.specs.Function.{SourceFunction, functions, part_functions}
-use Rattle.wit_syntax.specs.Sides.{SideFunction, items_on, on_side, role_side}
-use Rattle.wit_syntax.proofs.Sides.{interface_imported}
+use Rattle.wit_syntax.proofs.Common.{Declared, Id, Imported, Item, SideFunction, SourceFunction, TheInline, TheInterface, TheWorld, about, cases_Bool, cond-false, cond-true, flat_map, functions, interface_imported, is_world, items_on, on_side, part_functions, role_side, same_side}
 use Rattle.wit_refusals.specs.NameScopes.{Name}
 use Rattle.wit_rules.specs.declared.borrowed.BorrowedFunction.{BorrowedFunction}
 use Rattle.wit_rules.specs.BorrowedFunctions.{function_view}

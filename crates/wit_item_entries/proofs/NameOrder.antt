@@ -1,20 +1,9 @@
 -- Names that are taken on a side, as they are called there: where their keys differ, so do those of all that is called.
 use Rattle.std.proofs.Common.{◌≡◌, ℕ, List, [], ◌∷◌, ◌++◌, map, Option, Some, None, refl, sym, ap, ◌∙◌, subst}
-use Rattle.std.specs.List.{flat_map}
-use Rattle.std.specs.Option.{option_map_or}
-use Rattle.std.proofs.lemmas.List.{map-append}
-use Rattle.wit_type_tree.specs.declared.leaves.Id.{Id}
-use Rattle.wit_syntax.specs.Repeats.{AllDiffer}
-use Rattle.wit_syntax.specs.Source.{ScopeName, local_id}
-use Rattle.wit_syntax.specs.ScopeTables.{in_turn}
-use Rattle.wit_syntax.specs.SignatureRules.{Called, name_called}
-use Rattle.wit_tree.specs.declared.tree.WorldSide.{WorldSide}
-use Rattle.wit_tree.specs.declared.tree.WorldSide.TheVariants.{Imported, Exported}
-use Rattle.wit_syntax.specs.Sides.{SideItem, SideFunction, SideLink, SideInline, item_called, items_on, names_on, side_called}
+use Rattle.wit_syntax.proofs.Common.{AllDiffer, Called, Exported, Id, Imported, ScopeName, SideFunction, SideInline, SideItem, SideLink, WorldSide, called_key, flat_map, in_turn, item_called, items_on, local_id, map-append, name_called, names_on, option_map_or, side_called}
 use Rattle.wit_refusals.specs.NameScopes.{Name}
 use Rattle.wit_signatures.specs.ForeignName.{name_of_id, name_key}
 use Rattle.wit_externs.specs.Clash.{item_names, names_of_items, all_on}
-use Rattle.wit_syntax.proofs.Repeated.{called_key}
 
 -- a name as it is called
 abbrev pub called : Name → Called

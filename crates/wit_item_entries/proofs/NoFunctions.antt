@@ -1,15 +1,6 @@
 -- Scopes that have no functions, and nothing else, on their sides.
 use Rattle.std.proofs.Common.{◌≡◌, List, [], ◌++◌, length, map, false, sym, ap, subst}
-use Rattle.std.specs.Char.{is_ascii_uppercase}
-use Rattle.std.specs.List.{list_any}
-use Rattle.std.proofs.lemmas.List.{nil_from_length}
-use Rattle.wit_type_tree.specs.declared.leaves.Id.{Id}
-use Rattle.wit_tree.specs.declared.tree.WorldSide.{WorldSide}
-use Rattle.wit_tree.specs.declared.tree.WorldSide.TheVariants.{Imported, Exported}
-use Rattle.wit_syntax.specs.Repeats.{AllDiffer}
-use Rattle.wit_syntax.specs.Sides.{SideFunction, names_on}
-use Rattle.wit_syntax.proofs.Repeated.{differ_none}
-use Rattle.wit_syntax.specs.Source.{ScopeName}
+use Rattle.wit_syntax.proofs.Common.{AllDiffer, Exported, Id, Imported, ScopeName, SideFunction, WorldSide, differ_none, is_ascii_uppercase, list_any, names_on, nil_from_length}
 use Rattle.wit_rules.specs.declared.borrowed.BorrowedFunction.{BorrowedFunction}
 use Rattle.wit_rules.specs.BorrowedFunctions.{function_view}
 use Rattle.wit_signatures.specs.ForeignName.{name_of_id, name_key}

@@ -1,16 +1,8 @@
 -- Names without a letter in upper case, which are their own keys.
 use Rattle.std.proofs.Common.{◌≡◌, ℕ, ◌||◌, false, List, [], ◌∷◌, ◌++◌, map, refl, sym, ap, ◌∙◌, subst}
-use Rattle.std.specs.Char.{is_ascii_uppercase}
-use Rattle.std.specs.List.{list_any}
-use Rattle.std.proofs.lemmas.List.{append-nil}
+use Rattle.wit_syntax.proofs.Common.{AllDiffer, Id, ScopeName, append-nil, folded, in_turn_distinct, is_ascii_uppercase, list_any, map_map}
 use denote.Ref.{Bor}
 use Rattle.wit_names.proofs.Labels.{folded_key-label}
-use Rattle.wit_type_tree.specs.declared.leaves.Id.{Id}
-use Rattle.wit_syntax.specs.Bodies.{folded}
-use Rattle.wit_syntax.specs.Repeats.{AllDiffer}
-use Rattle.wit_syntax.specs.Source.{ScopeName}
-use Rattle.wit_syntax.proofs.Lists.{map_map}
-use Rattle.wit_syntax.proofs.Turns.{in_turn_distinct}
 use Rattle.wit_refusals.proofs.Cases.{texts-lower, names-folded}
 use Rattle.wit_signatures.specs.ForeignName.{name_of_id, name_key}
 use Rattle.wit_item_entries.specs.NameOrder.{IsTurn}

@@ -1,25 +1,14 @@
 -- The resource of a function of an item is a name of its scope.
 use Rattle.std.proofs.Common.{◌≡◌, ℕ, zero, suc, List, map, Some, IsSome, refl, ap, ◌∙◌, subst}
-use Rattle.std.specs.Prelude.{slice_get}
-use Rattle.std.specs.Option.{option_map}
-use Rattle.std.proofs.lemmas.Option.{slice_get-map}
-use Rattle.wit_type_tree.specs.declared.leaves.Id.{Id}
-use Rattle.wit_type_tree.specs.declared.types.TypeBody.{TypeBody}
+use Rattle.wit_syntax.proofs.Common.{Defined, DefinitionPart, ExternPart, FunctionPart, Id, IncludePart, Item, Part, ResourceFunc, ScopeName, SourceFunction, TypeBody, UsePart, definition_functions, extern_at, flat_map_at, flat_map_has, free_function, functions, in_turn, in_turn_has, local_name, local_names, map_at, option_map, part_functions, part_names, parts, resource_function, scope_names, slice_get, slice_get-map}
 use Rattle.wit_type_tree.specs.declared.types.TypeBody.TheVariants as body
-use Rattle.wit_type_tree.specs.declared.types.ResourceFunc.{ResourceFunc}
 use Rattle.wit_type_tree.specs.declared.types.ResourceFunc.TheVariants as resource
-use Rattle.wit_syntax.specs.Source.{Item, Part, DefinitionPart, UsePart, IncludePart, FunctionPart, ExternPart, parts, ScopeName, Defined, part_names, scope_names, local_name}
-use Rattle.wit_syntax.specs.ScopeTables.{in_turn, local_names}
-use Rattle.wit_syntax.specs.Function.{SourceFunction, definition_functions, free_function, resource_function, part_functions, functions}
-use Rattle.wit_arena.specs.Resolving.{Env, Names, env_of, names_in}
-use Rattle.wit_syntax.proofs.Lists.{map_at, flat_map_at, flat_map_has}
-use Rattle.wit_syntax.proofs.Turns.{in_turn_has}
+use Rattle.wit_arena.proofs.Common.{Env, Names, env_of, names_in}
 use Rattle.wit_arena.proofs.UsePart.{lookup-listed}
 use Rattle.wit_rules.specs.BorrowedFunctions.{owner_of}
 use Rattle.wit_rules.specs.Signatures.{HasOwner, HaveOwners}
 use Rattle.wit_item_entries.specs.NameOrder.{IsTurn}
 use Rattle.wit_item_entries.proofs.FunctionFaults.{turn_texts}
-use Rattle.wit_syntax.proofs.Externs.{extern_at}
 
 resource_owner : (env : Env) (r : Id) (f : ResourceFunc) → IsSome (env r.name.now) → HasOwner env (owner_of (resource_function r f).role)
 resource_owner env r (resource.Method f) has = has

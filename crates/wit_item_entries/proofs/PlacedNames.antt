@@ -1,13 +1,9 @@
 -- Functions whose names differ still do once setters are placed.
 use Rattle.std.proofs.Common.{◌≡◌, ℕ, List, [], ◌∷◌, Some, refl, sym, ap, ◌∙◌, subst}
-use Rattle.std.specs.Prelude.{map}
-use Rattle.wit_functions.specs.declared.function.Function.{Function}
-use Rattle.wit_functions.specs.SettersPlaced.{is_getter_of, pairs, placed, setters_placed}
+use Rattle.wit_syntax.proofs.Common.{AllDiffer, map}
+use Rattle.wit_arena.proofs.Common.{Function, by_name, is_getter_of, made_name, names_distinct, pairs, placed, setters_placed}
 use Rattle.wit_functions.proofs.InTurn.{in_turn}
 use Rattle.wit_functions.proofs.Pairs.{in_turn-placed}
-use Rattle.wit_arena.specs.SourceFunctions.{by_name}
-use Rattle.wit_syntax.specs.Repeats.{AllDiffer}
-use Rattle.wit_arena.proofs.FunctionNames.{made_name, names_distinct}
 use Rattle.wit_setters.proofs.Keys.{in_turn_differ}
 use Rattle.wit_item_entries.proofs.SettersPlaced.{setters_placed-map}
 

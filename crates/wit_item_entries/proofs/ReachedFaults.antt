@@ -1,42 +1,14 @@
 -- The first fault of the names of a scope: tests of names in handles in an arena that grows, and one step after another.
 use Rattle.std.proofs.Common.{◌≡◌, ◌⊎◌, ℕ, List, [], ◌∷◌, ◌++◌, length, map, take, ◌+◌, Option, Some, None, inl, inr, refl, sym, ap, ◌∙◌, subst, Contains}
-use Rattle.std.specs.Prelude.{slice_get}
-use Rattle.std.specs.List.{flat_map}
-use Rattle.std.specs.Option.{option_or}
-use Rattle.std.proofs.lemmas.List.{append-nil}
-use Rattle.wit_type_tree.specs.declared.error.ParseError.{ParseError}
-use Rattle.wit_type_tree.specs.declared.leaves.Id.{Id}
+use Rattle.wit_syntax.proofs.Common.{Address, Defined, Fault, Id, IsAllocationFailure, IsOrder, ParseError, Plain, Record, ScopeName, TypeBody, TypeDef, TypeOwner, Variant, all_shapes, all_words, append-nil, body_of, body_types, cyclic_at, defined, fault_of, flat_map, in_order, in_turn, local_id, missing_type_at, option_or, rows_of, shape_of, slice_get, type_word, used, words, written_body}
 use Rattle.wit_type_tree.specs.declared.types.«Type».{«Type» as Written}
 use Rattle.wit_type_tree.specs.declared.types.«Type».TheVariants as written
-use Rattle.wit_type_tree.specs.declared.types.TypeBody.{TypeBody}
-use Rattle.wit_type_tree.specs.declared.types.TypeBody.TheVariants.{Record, Variant, Plain}
 use Rattle.wit_type_tree.specs.declared.types.TypeDef.{TypeDef as Definition}
-use Rattle.wit_type_tree.specs.RefusalText.{IsAllocationFailure}
-use Rattle.wit_type_tree.specs.TypeParts.{body_types}
-use Rattle.wit_types.specs.declared.types.TypeDef.{TypeDef}
-use Rattle.wit_types.specs.declared.types.TypeOwner.{TypeOwner}
-use Rattle.wit_graph.specs.Table.{IsOrder}
-use Rattle.wit_syntax.specs.Address.{Address}
-use Rattle.wit_syntax.specs.Fault.{Fault, fault_of, missing_type_at, cyclic_at, type_word}
-use Rattle.wit_syntax.specs.ScopeTables.{defined, in_order, in_turn, rows_of, used}
-use Rattle.wit_syntax.specs.Shape.{all_shapes, all_words, body_of, shape_of, words, written_body}
-use Rattle.wit_syntax.specs.Source.{ScopeName, Defined, local_id}
-use Rattle.wit_first.specs.AttributeFaults.{metadata_fault}
-use Rattle.wit_first.specs.First.{first_in}
+use Rattle.wit_walk.proofs.Common.{AtCycle, AtMissing, InOrder, IsOutcome, IsTypeOrderFault, Outcome, definition_fault as scope_definition_fault, first_in, local_names_fault, metadata_fault, none_both, or_none_both, order_fault, order_of, outcome_one, type_fault}
 use Rattle.wit_first.specs.ListFaults.{list_fault}
-use Rattle.wit_first.specs.NameFaults.{local_names_fault}
-use Rattle.wit_first.specs.OrderFaults.{IsTypeOrderFault}
-use Rattle.wit_first.specs.TypeFaults.{type_fault}
-use Rattle.wit_first.proofs.Bridge.{or_none_both}
-use Rattle.wit_first.proofs.First.{none_both}
 use Rattle.wit_first.proofs.TypeFaults.{type_kept}
-use Rattle.wit_walk.specs.Definitions.{definition_fault as scope_definition_fault}
-use Rattle.wit_walk.specs.Orders.{Outcome, InOrder, AtMissing, AtCycle, IsOutcome, order_fault, order_of}
-use Rattle.wit_walk.proofs.One.{outcome_one}
 use Rattle.wit_walk.proofs.SameTypes.{Agree, types_same}
-use Rattle.wit_arena.specs.Resolving.{Defines, Env, HasNames, Names, ResolvedScope}
-use Rattle.wit_arena.proofs.DefinitionPart.{defines_more, defines_none}
-use Rattle.wit_arena.proofs.Written.{words-head}
+use Rattle.wit_arena.proofs.Common.{Defines, Env, HasNames, Names, ResolvedScope, defines_more, defines_none, words-head}
 use Rattle.wit_entries.specs.EntryFaults.{unless_found, name_fault, handled_fault, handle_fault, written_fault, types_fault, body_fault, definition_fault}
 use Rattle.wit_entries.specs.Requiring.{IsExtended}
 use Rattle.wit_entries.specs.declared.scope.Scope.{Scope}

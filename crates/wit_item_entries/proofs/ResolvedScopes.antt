@@ -1,10 +1,7 @@
 -- Interfaces as scopes, those of other packages in front.
 use Rattle.std.proofs.Common.{◌≡◌, ℕ, zero, suc, ◌<◌, ◌≤◌, List, [], ◌∷◌, length, Some, refl, sym, ap, ◌∙◌, arith}
-use Rattle.std.specs.Prelude.{slice_get}
-use Rattle.std.proofs.lemmas.Option.{slice_get_within}
-use Rattle.wit_model.specs.declared.interface.Interface.{Interface}
-use Rattle.wit_syntax.specs.Address.{Address, InterfaceNamed}
-use Rattle.wit_arena.specs.Resolving.{Names, resolved_scope_at, resolved_scopes, env_of, IsFound}
+use Rattle.wit_syntax.proofs.Common.{Address, InterfaceNamed, slice_get, slice_get_within}
+use Rattle.wit_arena.proofs.Common.{Interface, IsFound, Names, env_of, resolved_scope_at, resolved_scopes}
 use Rattle.wit_items.specs.Found.{AreFound, interface_name}
 use Rattle.wit_items.proofs.Found.{found_resolved_scope, named_at}
 

@@ -1,21 +1,10 @@
 -- Definitions of a scope that are written as results, given by their names.
 use Rattle.std.proofs.Common.{◌≡◌, ℕ, zero, suc, arith, true, false, cond, List, [], ◌∷◌, ◌++◌, Option, Some, None, inl, inr, nat_eq, take, refl, sym, ap, ◌∙◌}
-use Rattle.std.specs.Prelude.{slice_get}
-use Rattle.std.specs.Cmp.Lexicographic.{pointwise}
+use Rattle.wit_syntax.proofs.Common.{AreDistinct, Defined, ScopeName, body_ok, bytes_eq, differ_at, differ_by, find-append, insert_entry, local_name, lookup, meaning, meant_ok, name_cases, name_itself, option_or, pointwise, slice_get}
 use Rattle.std.specs.List.{find}
-use Rattle.std.specs.Map.{lookup}
-use Rattle.std.specs.Option.{option_or}
-use Rattle.std.specs.Str.{bytes_eq}
-use Rattle.std.proofs.lemmas.List.Folds.{find-append}
-use Rattle.indexmap.specs.IndexMap.{insert_entry}
 use denote.Ref.{Bor}
 use Rattle.wit_type_tree.specs.declared.types.«Type».{«Type» as Written}
 use Rattle.wit_type_tree.specs.declared.types.TypeDef.{TypeDef as Definition}
-use Rattle.wit_syntax.specs.Source.{ScopeName, Defined, local_name, meaning}
-use Rattle.wit_syntax.specs.SignatureRules.{body_ok, meant_ok}
-use Rattle.wit_syntax.specs.ScopeTables.{AreDistinct}
-use Rattle.wit_syntax.proofs.Names.{name_cases, name_itself}
-use Rattle.wit_syntax.proofs.Repeated.{differ_at, differ_by}
 use Rattle.wit_rules.specs.Signatures.{stated_ok, AreResults}
 use Rattle.wit_setters.proofs.Results.{lookup-inserted}
 

@@ -1,25 +1,8 @@
 -- The functions of an item, added after its names.
 use Rattle.std.proofs.Common.{◌≡◌, List, [], ◌++◌, map, sym, ap, ◌∙◌, subst}
-use Rattle.std.specs.List.{flat_map}
-use Rattle.wit_type_tree.specs.declared.leaves.Id.{Id}
-use Rattle.wit_types.specs.declared.types.TypeDef.{TypeDef}
-use Rattle.wit_types.specs.declared.types.TypeOwner.{TypeOwner}
-use Rattle.wit_functions.specs.declared.function.Function.{Function}
-use Rattle.wit_syntax.specs.Address.{Address}
-use Rattle.wit_syntax.specs.Repeats.{AllDiffer}
-use Rattle.wit_syntax.specs.Shape.{all_handles}
-use Rattle.wit_syntax.specs.Source.{Item, address, ScopeName, scope_names}
-use Rattle.wit_syntax.specs.ScopeTables.{in_turn}
-use Rattle.wit_syntax.specs.Function.{functions, name_types, written_types}
-use Rattle.wit_tree.specs.declared.tree.WorldSide.TheVariants.{Imported}
-use Rattle.wit_syntax.specs.Sides.{SideItem, SideFunction, on_side, side_items}
-use Rattle.wit_arena.specs.Resolving.{Env, Names, env_of, ResolvedScope, Required, AreEnded, AddsFunctions}
-use Rattle.wit_arena.specs.ResolvedArenas.{AddsAfter}
-use Rattle.wit_syntax.proofs.Legal.{function_name}
-use Rattle.wit_arena.proofs.FunctionNames.{names_differ, made_name}
-use Rattle.wit_syntax.proofs.Lists.{map_map}
-use Rattle.wit_arena.proofs.Required.{ended_append, ended_more}
-use Rattle.wit_arena.proofs.Written.{all_handles-append}
+use Rattle.wit_syntax.proofs.Common.{Address, AllDiffer, Id, Imported, Item, ScopeName, SideFunction, SideItem, TypeDef, TypeOwner, address, all_handles, flat_map, function_name, functions, in_turn, map_map, name_types, on_side, scope_names, side_items, written_types}
+use Rattle.wit_arena.proofs.Common.{AddsAfter, AddsFunctions, AreEnded, Env, Function, Names, Required, ResolvedScope, all_handles-append, ended_append, ended_more, env_of, made_name}
+use Rattle.wit_arena.proofs.FunctionNames.{names_differ}
 use Rattle.wit_refusals.specs.NameScopes.{Name}
 use Rattle.wit_entries.specs.Requiring.{IsExtended, Requires}
 use Rattle.wit_signatures.specs.ForeignName.{name_of_function, name_of_made, name_key}

@@ -1,9 +1,7 @@
 -- A world is what is stated of it.
 use Rattle.std.proofs.Common.{ℕ, List, ◌∙◌}
-use Rattle.wit_values.specs.declared.span.Span.{Span}
-use Rattle.wit_model.specs.declared.world.World.{World}
-use Rattle.wit_syntax.specs.Metadata.{Metadata}
-use Rattle.wit_arena.specs.UnfoldedTypes.{IsWorld}
+use Rattle.wit_syntax.proofs.Common.{Metadata, Span}
+use Rattle.wit_arena.proofs.Common.{IsWorld, World}
 use Rattle.wit_items.specs.declared.metadata.ItemMetadata.{ItemMetadata}
 use Rattle.wit_items.specs.SourceItems.{metadata_view, AreOf}
 

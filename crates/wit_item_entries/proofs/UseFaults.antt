@@ -1,21 +1,9 @@
 -- The first fault of used names: one name more.
 use Rattle.std.proofs.Common.{◌≡◌, ℕ, Bool, true, false, ◌||◌, List, [], ◌∷◌, map, Option, Some, None, nat_eq, inl, inr, refl, sym, ap, ◌∙◌, Contains}
-use Rattle.std.specs.Prelude.{if◌then◌else◌, is_some, slice_get}
-use Rattle.std.specs.Cmp.Lexicographic.{pointwise}
-use Rattle.std.specs.List.{list_any}
-use Rattle.std.specs.Option.{option_and_then, option_map_or, option_or}
-use Rattle.std.specs.Str.{bytes_eq}
-use Rattle.std.proofs.lemmas.Bool.{false_from_ne_true}
-use Rattle.wit_type_tree.specs.declared.leaves.Id.{Id}
-use Rattle.wit_model.specs.declared.interface.Interface.{Interface}
-use Rattle.wit_syntax.specs.Fault.{Fault, missing_at, name_word, function_used, name_twice}
-use Rattle.wit_syntax.specs.ScopeTables.{local_names}
-use Rattle.wit_syntax.specs.Source.{local_id, local_name}
-use Rattle.wit_syntax.proofs.Found.{at_contains, contains_at}
-use Rattle.wit_syntax.proofs.Names.{name_cases, name_equal, name_itself}
-use Rattle.wit_first.proofs.Bridge.{any_found}
-use Rattle.wit_first.proofs.First.{any_some}
-use Rattle.wit_arena.specs.Resolving.{Names, env_of, names_in, resolved_scope_at, IsFound}
+use Rattle.wit_syntax.proofs.Common.{Fault, Id, at_contains, bytes_eq, contains_at, false_from_ne_true, function_used, if◌then◌else◌, list_any, local_id, local_name, local_names, missing_at, name_cases, name_equal, name_itself, name_twice, name_word, option_and_then, option_map_or, option_or, pointwise, slice_get}
+use Rattle.std.specs.Prelude.{is_some}
+use Rattle.wit_arena.proofs.Common.{Interface, IsFound, Names, env_of, names_in, resolved_scope_at}
+use Rattle.wit_walk.proofs.Common.{any_found, any_some}
 use Rattle.wit_scopes.specs.BorrowedNames.{source_view, use_view, IsPlaced}
 use Rattle.wit_scopes.specs.declared.scope_name.UsedName.{UsedName}
 use Rattle.wit_scopes.specs.declared.scope_name.Source.{Source as BorrowedSource}

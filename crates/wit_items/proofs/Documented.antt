@@ -1,14 +1,7 @@
 -- Headers that have docs, one header more, and the first of them.
 use Rattle.std.proofs.Common.{◌≡◌, Bool, true, false, not, ℕ, zero, suc, ◌+◌, List, [], ◌∷◌, ◌++◌, length, Option, Some, None, Bor, inl, inr, refl, sym, ap, ◌∙◌, arith}
-use Rattle.std.specs.Prelude.{◌==◌, ◌||◌, ◌&&◌, slice_get, if◌then◌else◌}
-use Rattle.std.specs.List.{cons_option}
-use Rattle.std.specs.Option.{option_to_list}
-use Rattle.std.proofs.lemmas.Bool.{cases_Bool, ne_eqb}
+use Rattle.wit_syntax.proofs.Common.{Fault, IsDocumented, IsSecondDocs, PackageFile, at_contains, cases_Bool, cons_option, contains_at, fault, headers, if◌then◌else◌, ne_eqb, option_to_list, slice_get, ◌&&◌, ◌==◌, ◌||◌}
 use Rattle.wit_tree.specs.declared.tree.PackageName.{PackageName as Header}
-use Rattle.wit_tree.specs.declared.tree.PackageFile.{PackageFile}
-use Rattle.wit_syntax.specs.Fault.{Fault, fault}
-use Rattle.wit_syntax.specs.Broken.{IsDocumented, IsSecondDocs, headers}
-use Rattle.wit_syntax.proofs.Found.{at_contains, contains_at}
 use Rattle.wit_first.specs.HeaderFaults.{is_documented, have_docs, second_docs_fault}
 use Rattle.wit_first.specs.Laws.{Agrees}
 

@@ -1,23 +1,8 @@
 -- Where a path leads, by the table of items.
 use Rattle.std.proofs.Common.{◌≡◌, ℕ, ◌<◌, Bool, List, [], ◌∷◌, length, Option, Some, None, inl, inr, refl, sym, ap, ◌∙◌, arith, Bor}
-use Rattle.std.specs.Prelude.{slice_get, map, find, nat_lt, position}
-use Rattle.std.specs.List.{position_or_len}
-use Rattle.std.specs.Option.{option_map, option_copied}
+use Rattle.wit_syntax.proofs.Common.{Id, Item, Local, PackageFile, Row, Target, all_items, bytes_eq, cases_Bool, find, is_world, is_world_at, item_name, item_named, item_row, item_rows, length-map, ltb-false, ltb-true, map, map_at, name_cases, nat_lt, option_copied, option_map, place_of, position, position-Some, position_or_len, slice_get, slice_get_past, slice_get_read, target}
 use Rattle.std.specs.Slice.{IsItemAt}
-use Rattle.std.specs.Str.{bytes_eq}
-use Rattle.std.proofs.lemmas.Bool.{cases_Bool, ltb-true, ltb-false}
-use Rattle.std.proofs.lemmas.List.{length-map}
 use Rattle.std.proofs.lemmas.List.Folds.{find_at}
-use Rattle.std.proofs.lemmas.List.Quantifiers.{position-Some}
-use Rattle.std.proofs.lemmas.Option.{slice_get_past, slice_get_read}
-use Rattle.wit_type_tree.specs.declared.leaves.Id.{Id}
-use Rattle.wit_tree.specs.declared.tree.PackageFile.{PackageFile}
-use Rattle.wit_graph.specs.Table.{Row, place_of, target}
-use Rattle.wit_syntax.specs.Source.{Target, Local, Item, item_name, item_named, is_world, all_items}
-use Rattle.wit_syntax.specs.ScopeTables.{item_row, item_rows}
-use Rattle.wit_syntax.specs.Broken.{is_world_at}
-use Rattle.wit_syntax.proofs.Names.{name_cases}
-use Rattle.wit_syntax.proofs.Lists.{map_at}
 use Rattle.wit_files.specs.FileNames.{found_at}
 use Rattle.wit_files.specs.declared.file_names.Found.{Found}
 use Rattle.wit_files.specs.declared.file_names.Found.TheVariants.{Item as ItemAt, Foreign as ForeignAt}

@@ -1,19 +1,7 @@
 -- Items of an arena that are found by their names, with one more, and the scopes of interfaces and the addresses of worlds.
 use Rattle.std.proofs.Common.{◌≡◌, ◌≤◌, ℕ, zero, suc, true, cond, List, [], ◌∷◌, ◌++◌, length, Result, Ok, Err, Option, Some, inl, inr, refl, sym, ap, ◌∙◌, subst, nat_eq, arith}
-use Rattle.std.specs.Prelude.{OnErr, OnOk, slice_get}
-use Rattle.std.specs.Cmp.Lexicographic.{pointwise}
-use Rattle.std.specs.Option.{option_and_then, option_map, unwrap_or}
-use Rattle.std.proofs.lemmas.List.{length-append}
-use Rattle.std.proofs.lemmas.Option.{slice_get-map}
-use Rattle.indexmap.specs.IndexMap.{insert_entry}
-use Rattle.wit_tree.specs.declared.tree.PackageFile.{PackageFile}
-use Rattle.wit_model.specs.declared.interface.Interface.{Interface}
-use Rattle.wit_model.specs.declared.world.World.{World}
-use Rattle.wit_syntax.specs.Address.{Address, InterfaceNamed, WorldNamed}
-use Rattle.wit_syntax.proofs.Lists.{at_prefix, at_seam}
-use Rattle.wit_syntax.proofs.Names.{name_cases, name_itself, lookup-insert_entry}
-use Rattle.wit_arena.specs.Resolving.{Names, resolved_scope, resolved_scope_at, resolved_scopes, env_of}
-use Rattle.wit_arena.specs.ResolvedArenas.{worlds_at}
+use Rattle.wit_syntax.proofs.Common.{Address, InterfaceNamed, OnErr, OnOk, PackageFile, WorldNamed, at_prefix, at_seam, insert_entry, length-append, lookup-insert_entry, name_cases, name_itself, option_and_then, option_map, pointwise, slice_get, slice_get-map, unwrap_or}
+use Rattle.wit_arena.proofs.Common.{Interface, Names, World, env_of, resolved_scope, resolved_scope_at, resolved_scopes, worlds_at}
 use Rattle.wit_items.specs.Found.{AreFound, interface_name, name_at, world_name}
 use Rattle.wit_items.specs.BorrowedItems.{others_of}
 

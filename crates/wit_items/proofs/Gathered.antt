@@ -1,11 +1,6 @@
 -- Declared items that are borrowed with all their names.
 use Rattle.std.proofs.Common.{◌≡◌, ℕ, zero, suc, List, [], ◌∷◌, Some, sym, ap, ◌∙◌, subst}
-use Rattle.std.specs.Prelude.{All, map, slice_get}
-use Rattle.wit_tree.specs.declared.tree.PackageFile.{PackageFile}
-use Rattle.wit_tree.specs.declared.tree.WorldSide.{WorldSide}
-use Rattle.wit_syntax.specs.Address.{Address}
-use Rattle.wit_syntax.specs.Source.{all_items, scope_names}
-use Rattle.wit_syntax.proofs.Lists.{map_map}
+use Rattle.wit_syntax.proofs.Common.{Address, All, PackageFile, WorldSide, all_items, map, map_map, scope_names, slice_get}
 use Rattle.wit_scopes.specs.PlacedNames.{AreNamesPlaced}
 use Rattle.wit_scopes.proofs.Declaring.{alike}
 use Rattle.wit_items.specs.ForeignAddresses.{prefix_of}

@@ -1,34 +1,8 @@
 -- Paths to items of other packages, and the entries of those items.
 use Rattle.std.proofs.Common.{◌≡◌, ℕ, zero, suc, ◌+◌, ◌≤◌, Bool, true, false, not, cond, List, [], ◌∷◌, length, Option, Some, None, inl, inr, refl, sym, ap, ◌∙◌, arith}
-use Rattle.std.specs.Prelude.{Contains, slice_get, map, find}
-use Rattle.std.specs.List.{flat_map}
-use Rattle.std.specs.Option.{option_map}
-use Rattle.std.proofs.lemmas.Bool.{cases_Bool}
-use Rattle.std.proofs.lemmas.Option.{slice_get-map}
-use Rattle.wit_type_tree.specs.declared.leaves.Id.{Id}
-use Rattle.wit_type_tree.specs.declared.leaves.Attribute.{Attribute}
-use Rattle.wit_tree.specs.declared.tree.UsePath.{UsePath}
-use Rattle.wit_tree.specs.declared.tree.PackageFile.{PackageFile}
-use Rattle.wit_tree.specs.declared.tree.Extern.{Extern}
-use Rattle.wit_tree.specs.declared.tree.Use.{Use as WrittenUse}
-use Rattle.wit_package_names.specs.declared.package_name.PackageName.{PackageName}
-use Rattle.wit_model.specs.declared.ast_item.AstItem.{AstItem}
+use Rattle.wit_syntax.proofs.Common.{Address, Attribute, Contains, DefinitionPart, Extern, ExternPart, Foreign, ForeignNamed, ForeignVisit, FunctionPart, Id, IncludePart, Item, Local, PackageFile, PackageName, Part, Target, Use as WrittenUse, UsePart, UsePath, WorldNamed, all_items, at_back, at_contains, at_side, at_split, cases_Bool, extern_paths, extern_visits, find, find_at, find_passes, find_some, flat_map, flat_map_at, flat_map_has, foreign_at, foreign_interfaces, foreign_items, foreign_worlds, inline_uses, is_world_at, kept_has, leads, map, map_at, option_map, part_visits, parts, path_visits, same_address, same_address-equal, same_address-from, same_item, side_itself, slice_get, slice_get-map, target_scope, use_path, visited, walk}
+use Rattle.wit_arena.proofs.Common.{AstItem, IsNoWorld, IsVisited, Names, World, env_of, foreign_entry, foreign_place, leads_visited, part_use_at, path_among, path_visited, side_has, visit_listed, worlds_at}
 use Rattle.wit_model.specs.declared.ast_item.AstItem.TheVariants as entry
-use Rattle.wit_model.specs.declared.world.World.{World}
-use Rattle.wit_syntax.specs.Address.{Address, ForeignNamed, same_address, WorldNamed}
-use Rattle.wit_syntax.specs.Source.{Target, Local, Foreign, leads, Item, Part, DefinitionPart, UsePart, IncludePart, FunctionPart, ExternPart, parts, all_items, target_scope, at_side, walk}
-use Rattle.wit_syntax.specs.Foreign.{ForeignVisit, visited, path_visits, part_visits, extern_visits, same_item, foreign_at, foreign_items, foreign_interfaces, foreign_worlds}
-use Rattle.wit_syntax.specs.ExternPart.{extern_paths, inline_uses}
-use Rattle.wit_syntax.specs.ScopeTables.{use_path}
-use Rattle.wit_arena.specs.Whole.{foreign_place, foreign_entry}
-use Rattle.wit_syntax.specs.Broken.{is_world_at}
-use Rattle.wit_arena.specs.Resolving.{Names, env_of, IsNoWorld}
-use Rattle.wit_arena.specs.ResolvedArenas.{worlds_at}
-use Rattle.wit_syntax.proofs.Addresses.{side_itself, same_address-equal, same_address-from}
-use Rattle.wit_syntax.proofs.Found.{find_passes, find_some, find_at, at_contains}
-use Rattle.wit_syntax.proofs.Kept.{kept_has}
-use Rattle.wit_syntax.proofs.Lists.{at_back, at_split, map_at, flat_map_at, flat_map_has}
-use Rattle.wit_arena.proofs.Visits.{IsVisited, visit_listed, path_among, path_visited, side_has, leads_visited, part_use_at}
 use Rattle.wit_files.specs.FileNames.{found_at, top_at}
 use Rattle.wit_files.specs.declared.file_names.Found.{Found}
 use Rattle.wit_files.specs.declared.file_names.Found.TheVariants.{Item as ItemAt, Foreign as ForeignAt}

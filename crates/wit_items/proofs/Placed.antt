@@ -1,9 +1,6 @@
 -- Names of scopes, and the interfaces of other packages at their places.
 use Rattle.std.proofs.Common.{◌≡◌, ℕ, zero, suc, List, [], ◌∷◌, ◌++◌, Some, inl, inr, refl, sym, subst}
-use Rattle.std.specs.Prelude.{All, slice_get}
-use Rattle.std.proofs.lemmas.List.Elements.{All-nil}
-use Rattle.wit_syntax.specs.Address.{Address}
-use Rattle.wit_syntax.proofs.Lists.{at_either}
+use Rattle.wit_syntax.proofs.Common.{Address, All, All-nil, at_either, slice_get}
 use Rattle.wit_items.specs.declared.items.Item.{Item}
 use Rattle.wit_scopes.specs.PlacedNames.{AreNamesPlaced}
 use Rattle.wit_items.specs.PlacedItems.{AreItemsPlaced}

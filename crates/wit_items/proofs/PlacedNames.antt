@@ -1,8 +1,6 @@
 -- Names of scopes, and the interfaces of other packages at their places.
 use Rattle.std.proofs.Common.{◌≡◌, List, [], ◌∷◌, ◌++◌}
-use Rattle.std.specs.Prelude.{All}
-use Rattle.std.proofs.lemmas.List.Elements.{All-push}
-use Rattle.wit_syntax.specs.Address.{Address}
+use Rattle.wit_syntax.proofs.Common.{Address, All, All-push}
 use Rattle.wit_scopes.specs.PlacedNames.{AreNamesPlaced}
 
 pub names_none : (prefix : List Address) → AreNamesPlaced prefix []

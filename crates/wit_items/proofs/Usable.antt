@@ -1,19 +1,6 @@
 -- Items of files, and the first fault of their uses.
 use Rattle.std.proofs.Common.{◌≡◌, ℕ, Bool, true, false, List, [], ◌∷◌, ◌++◌, Option, Some, None, inl, inr, refl, sym, ap, ◌∙◌, subst, Contains}
-use Rattle.std.specs.Prelude.{slice_get}
-use Rattle.std.specs.List.{flat_map}
-use Rattle.std.specs.Option.{option_map}
-use Rattle.std.proofs.lemmas.Option.{slice_get_within}
-use Rattle.wit_type_tree.specs.declared.leaves.Id.{Id}
-use Rattle.wit_tree.specs.declared.tree.PackageFile.{PackageFile}
-use Rattle.wit_package_names.specs.declared.package_name.PackageName.{PackageName}
-use Rattle.wit_syntax.specs.Address.{ForeignNamed}
-use Rattle.wit_syntax.specs.Broken.{is_world_at}
-use Rattle.wit_syntax.specs.Fault.{missing_at, item_word}
-use Rattle.wit_syntax.specs.Foreign.{ForeignVisit, foreign_at}
-use Rattle.wit_syntax.specs.Source.{Target, Local, Foreign, leads, path_id, top_names, Declared, Item, item_named, is_world, parts, file_items, all_items}
-use Rattle.wit_syntax.proofs.Lists.{at_either}
-use Rattle.wit_syntax.proofs.Found.{at_contains, contains_at}
+use Rattle.wit_syntax.proofs.Common.{Declared, Foreign, ForeignNamed, ForeignVisit, Id, Item, Local, PackageFile, PackageName, Target, all_items, at_contains, at_either, contains_at, file_items, flat_map, foreign_at, is_world, is_world_at, item_named, item_word, leads, missing_at, option_map, parts, path_id, slice_get, slice_get_within, top_names}
 use Rattle.wit_first.specs.AttributeFaults.{metadata_fault}
 use Rattle.wit_first.specs.FileFaults.{lost_fault}
 use Rattle.wit_first.specs.UseFaults.{all_uses_fault, item_uses_fault, path_fault, reached_fault}

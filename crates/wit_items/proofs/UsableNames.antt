@@ -1,18 +1,6 @@
 -- The paths of uses, part by part.
 use Rattle.std.proofs.Common.{◌≡◌, ℕ, zero, suc, List, [], ◌∷◌, ◌++◌, Some, sym, ap, ◌∙◌, arith, Contains}
-use Rattle.std.specs.Prelude.{slice_get, map}
-use Rattle.std.specs.List.{flat_map}
-use Rattle.std.specs.Option.{option_map}
-use Rattle.std.proofs.lemmas.List.{map-append}
-use Rattle.std.proofs.lemmas.Option.{slice_get-map}
-use Rattle.wit_tree.specs.declared.tree.Use.{Use as WrittenUse}
-use Rattle.wit_tree.specs.declared.tree.UsePath.{UsePath}
-use Rattle.wit_tree.specs.declared.tree.PackageFile.{PackageFile}
-use Rattle.wit_syntax.specs.Source.{Declared, Part, DefinitionPart, UsePart, IncludePart, FunctionPart, ExternPart, parts, about}
-use Rattle.wit_syntax.specs.ScopeTables.{use_path, part_uses}
-use Rattle.wit_syntax.specs.ExternPart.{extern_paths, inline_uses}
-use Rattle.wit_syntax.proofs.Lists.{at_prefix, flat_map_at, flat_map_has}
-use Rattle.wit_syntax.proofs.Found.{at_contains, contains_at}
+use Rattle.wit_syntax.proofs.Common.{Declared, DefinitionPart, ExternPart, FunctionPart, IncludePart, PackageFile, Part, Use as WrittenUse, UsePart, UsePath, about, at_contains, at_prefix, contains_at, extern_paths, flat_map, flat_map_at, flat_map_has, inline_uses, map, map-append, option_map, part_uses, parts, slice_get, slice_get-map, use_path}
 use Rattle.wit_top_names.proofs.Lost.{at_flat, flat_more}
 use Rattle.wit_items.specs.ItemPaths.{HasItem, HasPath}
 

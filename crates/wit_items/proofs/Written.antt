@@ -1,23 +1,7 @@
 -- The uses and the names of interfaces that are written in a world: those of its parts on each side.
 use Rattle.std.proofs.Common.{◌≡◌, ℕ, List, [], ◌∷◌, ◌++◌, Some, None, refl, sym, ap, ◌∙◌, Contains}
-use Rattle.std.specs.Prelude.{slice_get, map}
-use Rattle.std.specs.List.{flat_map}
-use Rattle.std.specs.Option.{option_or}
-use Rattle.std.proofs.lemmas.List.{append-nil}
-use Rattle.wit_tree.specs.declared.tree.Extern.{Extern}
-use Rattle.wit_tree.specs.declared.tree.Interface.{Interface}
-use Rattle.wit_tree.specs.declared.tree.InterfaceItem.{InterfaceItem}
+use Rattle.wit_syntax.proofs.Common.{DefinitionPart, Exported, Extern, ExternPart, FunctionPart, Imported, IncludePart, Interface, InterfaceItem, Item, PackageFile, Part, TheInterface, TopName, Use as WrittenUse, UsePart, WorldSide, append-nil, at_contains, contains_at, flat_map, flat_map_at, inline_uses, interface_part, item_uses, map, option_or, part_uses, side_itself, slice_get, walk}
 use Rattle.wit_tree.specs.declared.tree.InterfaceItem.TheVariants as interface_item
-use Rattle.wit_tree.specs.declared.tree.PackageFile.{PackageFile}
-use Rattle.wit_tree.specs.declared.tree.Use.{Use as WrittenUse}
-use Rattle.wit_tree.specs.declared.tree.WorldSide.{WorldSide}
-use Rattle.wit_tree.specs.declared.tree.WorldSide.TheVariants.{Imported, Exported}
-use Rattle.wit_syntax.specs.ExternPart.{inline_uses, item_uses}
-use Rattle.wit_syntax.specs.Source.{TopName, TheInterface, interface_part, Item, Part, DefinitionPart, UsePart, IncludePart, FunctionPart, ExternPart, walk}
-use Rattle.wit_syntax.specs.ScopeTables.{part_uses}
-use Rattle.wit_syntax.proofs.Addresses.{side_itself}
-use Rattle.wit_syntax.proofs.Lists.{flat_map_at}
-use Rattle.wit_syntax.proofs.Found.{at_contains, contains_at}
 use Rattle.wit_first.specs.UseFaults.{item_uses_fault, own_uses, use_fault, uses_fault}
 use Rattle.wit_first.proofs.Bridge.{in_only, or_none_both}
 use Rattle.wit_first.proofs.First.{in-append}

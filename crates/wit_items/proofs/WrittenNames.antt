@@ -1,23 +1,8 @@
 -- The uses and the names of interfaces that are written in a world: those of its parts on each side.
 use Rattle.std.proofs.Common.{◌≡◌, Bool, cond, List, [], ◌∷◌, ◌++◌, inl, inr, refl, sym, ap, ◌∙◌, Contains}
-use Rattle.std.specs.Prelude.{map}
-use Rattle.std.specs.List.{flat_map}
-use Rattle.std.proofs.lemmas.Bool.{cases_Bool}
-use Rattle.std.proofs.lemmas.Grind.{flat_map-append}
-use Rattle.std.proofs.lemmas.List.{map-append, append-nil}
-use Rattle.std.proofs.lemmas.List.Elements.{filter-append}
-use Rattle.wit_tree.specs.declared.tree.ExternKind.{ExternKind}
+use Rattle.wit_syntax.proofs.Common.{DefinitionPart, ExternKind, ExternPart, FunctionPart, IncludePart, InterfaceItem, Part, ScopeName, SideFunction, SideItem, SourceFunction, TopName, Use as WrittenUse, UsePart, WorldSide, append-nil, at_contains, cases_Bool, definition_functions, extern_items, filter-append, flat_map, flat_map-append, free_function, inline_uses, interface_part, item_side, item_uses, items_on, map, map-append, part_items, part_names, part_uses, same_side}
 use Rattle.wit_tree.specs.declared.tree.ExternKind.TheVariants as extern
-use Rattle.wit_tree.specs.declared.tree.InterfaceItem.{InterfaceItem}
 use Rattle.wit_tree.specs.declared.tree.InterfaceItem.TheVariants as interface_item
-use Rattle.wit_tree.specs.declared.tree.Use.{Use as WrittenUse}
-use Rattle.wit_tree.specs.declared.tree.WorldSide.{WorldSide}
-use Rattle.wit_syntax.specs.ExternPart.{same_side, item_uses, inline_uses}
-use Rattle.wit_syntax.specs.Function.{SourceFunction, definition_functions, free_function}
-use Rattle.wit_syntax.specs.Source.{TopName, interface_part, part_names, Part, DefinitionPart, UsePart, IncludePart, FunctionPart, ExternPart, ScopeName}
-use Rattle.wit_syntax.specs.ScopeTables.{part_uses}
-use Rattle.wit_syntax.specs.Sides.{SideItem, SideFunction, item_side, items_on, extern_items, part_items}
-use Rattle.wit_syntax.proofs.Found.{at_contains}
 use Rattle.wit_first.specs.UseFaults.{own_uses}
 use Rattle.wit_items.specs.NamesInside.{inline_names, kind_items, written_items, side_uses}
 

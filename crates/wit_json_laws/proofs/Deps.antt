@@ -1,22 +1,7 @@
 -- The map of other packages has no key twice, and none of its maps has.
 use Rattle.std.proofs.Common.{◌≡◌, ℕ, List, map, sym, ap, ◌∙◌, subst}
-use Rattle.std.specs.Prelude.{All}
-use Rattle.std.specs.List.{filter}
-use Rattle.wit_tree.specs.declared.tree.PackageFile.{PackageFile}
-use Rattle.wit_types.specs.declared.stability.Stability.{Stability}
-use Rattle.wit_package_names.specs.declared.package_name.PackageName.{PackageName}
-use Rattle.wit_model.specs.declared.ast_item.AstItem.{AstItem}
-use Rattle.wit_syntax.specs.Address.{ForeignNamed, package_of, same_address, same_package}
-use Rattle.wit_syntax.specs.Foreign.{ForeignVisit, visited, foreign_items, foreign_packages, foreign_visits}
-use Rattle.wit_syntax.specs.Metadata.{stability_of}
-use Rattle.wit_syntax.specs.Repeats.{AllDiffer}
-use Rattle.wit_syntax.proofs.Addresses.{same_package-equal, same_package-from}
-use Rattle.wit_syntax.proofs.Firsts.{firsts_differ}
-use Rattle.wit_syntax.proofs.Kept.{kept_at, kept_differ}
-use Rattle.wit_syntax.proofs.Lists.{map_map}
-use Rattle.wit_syntax.proofs.Repeated.{differ_at, differ_by}
-use Rattle.wit_arena.specs.Whole.{dep, foreign_entry}
-use Rattle.wit_arena.proofs.Visits.{visits_differ}
+use Rattle.wit_syntax.proofs.Common.{All, AllDiffer, ForeignNamed, ForeignVisit, PackageFile, PackageName, Stability, differ_at, differ_by, filter, firsts_differ, foreign_items, foreign_packages, foreign_visits, kept_at, kept_differ, map_map, package_of, same_address, same_package, same_package-equal, same_package-from, stability_of, visited}
+use Rattle.wit_arena.proofs.Common.{AstItem, dep, foreign_entry, visits_differ}
 use Rattle.wit_json.specs.DistinctKeys.{HasOwnKeys}
 use Rattle.wit_json_laws.proofs.Lists.{all_map, own_keys}
 

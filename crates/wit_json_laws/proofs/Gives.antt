@@ -1,15 +1,10 @@
 -- What is spelled by a grammar has a property, where what is spelled by its parts has theirs.
 use Rattle.std.proofs.Common.{◌≡◌, ℕ, ◌+◌, ◌==◌, ◌&&◌, cond, Bool, true, false, not, List, [], ◌∷◌, Option, Some, None, inl, inr, sym, ◌∙◌, refl, subst}
-use Rattle.std.specs.Prelude.{⊤, Result, Ok, Err, All, IfSome, slice_range}
-use Rattle.std.specs.Char.{is_ascii_alphanumeric}
-use Rattle.std.proofs.lemmas.Bool.{and_from, and_parts, eqb-true}
+use Rattle.wit_syntax.proofs.Common.{All, Err, IfSome, IsValid, Ok, Result, Span, and_from, and_parts, eqb-true, is_ascii_alphanumeric, is_label, slice_range, ⊤}
 use Rattle.semver.specs.declared.error.Error.{Error}
-use Rattle.semver.specs.Grammar.{IsValid}
 use Rattle.semver.specs.Parse.{version_parts}
 use Rattle.semver.proofs.Grammar.{version_parts-sound}
-use Rattle.wit_names.specs.Label.{is_label}
 use Rattle.wit_names.proofs.LabelBytes.{list_all-label}
-use Rattle.wit_values.specs.declared.span.Span.{Span}
 use Rattle.wit_lex.specs.Words.{unescaped}
 use Rattle.wit_lex.specs.declared.fault.ReadFault.TheVariants as fault
 use Rattle.wit_lex.specs.declared.kind.Kind.{Kind}

@@ -1,42 +1,8 @@
 -- The maps of interfaces that legal files make have no key twice.
 use Rattle.std.proofs.Common.{◌≡◌, ℕ, false, not, List, ◌++◌, map, Some, Contains, inl, inr, refl, sym, ap, ◌∙◌, subst}
-use Rattle.std.specs.Prelude.{All, slice_get}
-use Rattle.std.specs.List.{flat_map}
-use Rattle.std.proofs.lemmas.Bool.{not-true}
-use Rattle.wit_tree.specs.declared.tree.PackageFile.{PackageFile}
-use Rattle.wit_tree.specs.declared.tree.WorldSide.{WorldSide}
-use Rattle.wit_tree.specs.declared.tree.WorldSide.TheVariants.{Imported}
-use Rattle.wit_functions.specs.declared.function.Function.{Function}
-use Rattle.wit_functions.specs.SettersPlaced.{placed}
-use Rattle.wit_graph.specs.Table.{IsOrder}
-use Rattle.wit_syntax.specs.Address.{Address}
-use Rattle.wit_syntax.specs.Broken.{Sides, IsLegal}
-use Rattle.wit_syntax.specs.ExternPart.{same_side}
-use Rattle.wit_syntax.specs.Fault.{fault}
-use Rattle.wit_syntax.specs.Foreign.{ForeignVisit, visited, foreign_interfaces}
-use Rattle.wit_syntax.specs.Function.{SourceFunction, functions}
-use Rattle.wit_syntax.specs.Repeats.{AllDiffer}
-use Rattle.wit_syntax.specs.ScopeTables.{AreDistinct, interfaces_of, rows_of, worlds_of}
-use Rattle.wit_syntax.specs.Sides.{SideItem, FoldedTwice, all_scopes, inline_items, items_on, on_side, role_side, side_called, side_items}
-use Rattle.wit_syntax.specs.SignatureRules.{Called}
-use Rattle.wit_syntax.specs.Source.{Item, ScopeName, address, all_items, is_world, local_name, scope_names}
-use Rattle.wit_syntax.specs.Words.{words_of}
-use Rattle.wit_syntax.specs.ScopesOfTrees.{scope}
-use Rattle.wit_syntax.proofs.Found.{contains_at}
-use Rattle.wit_syntax.proofs.Inline.{inline_interface}
-use Rattle.wit_syntax.proofs.Kept.{kept_at}
-use Rattle.wit_syntax.proofs.Legal.{function_name}
-use Rattle.wit_syntax.proofs.Lists.{at_split, flat_map_at, map_at, map_map}
-use Rattle.wit_syntax.proofs.Orders.{in_order_at}
-use Rattle.wit_syntax.proofs.Repeated.{called_key}
-use Rattle.wit_syntax.proofs.Scopes.{scopes_declared, scopes_inline}
-use Rattle.wit_syntax.proofs.Sides.{functions_imported, kept_all, side_items_functions}
-use Rattle.wit_syntax.proofs.Turns.{in_turn_distinct}
-use Rattle.wit_arena.specs.Made.{AreInOrder, AreNamesInOrder, foreign_interface, function_in, name_places, names_in_turn, own_interface, own_interfaces}
-use Rattle.wit_arena.specs.Occurrences.{Key, Def}
+use Rattle.wit_syntax.proofs.Common.{Address, All, AllDiffer, AreDistinct, Called, FoldedTwice, ForeignVisit, Imported, IsLegal, IsOrder, Item, PackageFile, ScopeName, SideItem, Sides, SourceFunction, WorldSide, address, all_items, all_scopes, at_split, called_key, contains_at, fault, flat_map, flat_map_at, foreign_interfaces, function_name, functions, functions_imported, in_order_at, in_turn_distinct, inline_interface, inline_items, interfaces_of, is_world, items_on, kept_all, kept_at, local_name, map_at, map_map, not-true, on_side, role_side, rows_of, same_side, scope, scope_names, scopes_declared, scopes_inline, side_called, side_items, side_items_functions, slice_get, visited, words_of, worlds_of}
+use Rattle.wit_arena.proofs.Common.{AreInOrder, AreNamesInOrder, Def, Function, Key, all_differ, foreign_interface, function_in, items_within, name_places, names_differ, names_in_turn, own_interface, own_interfaces, placed, scope_differs}
 use Rattle.wit_arena.proofs.FunctionNames.{names_differ as function_names_differ}
-use Rattle.wit_arena.proofs.Itemizing.{items_within}
-use Rattle.wit_arena.proofs.LegalScopes.{all_differ, names_differ, scope_differs}
 use Rattle.wit_json.specs.DistinctKeys.{HasOwnKeys, HasOwnMembers}
 use Rattle.wit_json_laws.proofs.Lists.{all_both, all_map, no_keys, own_keys}
 use Rattle.wit_json_laws.proofs.Placed.{placed_differ}

@@ -1,14 +1,11 @@
 -- The keys of functions still differ once setters are placed.
 use Rattle.std.proofs.Common.{◌≡◌, ℕ, suc, List, [], ◌∷◌, Option, Some, map, refl, sym, ap, ◌∙◌, subst}
-use Rattle.std.specs.Prelude.{slice_get}
+use Rattle.wit_syntax.proofs.Common.{AllDiffer, HasNot, differ_head, differ_tail, slice_get}
 use Rattle.std.specs.List.{IsDistinct}
-use Rattle.wit_functions.specs.declared.function.Function.{Function}
-use Rattle.wit_functions.specs.SettersPlaced.{pairs, placed}
+use Rattle.wit_arena.proofs.Common.{Function, pairs, placed}
 use Rattle.wit_functions.specs.MaybeFunction.{HaveOwnNames}
 use Rattle.wit_functions.proofs.OwnNames.{Differs, differs_more, names, own_more}
 use Rattle.wit_functions.proofs.Pairs.{in_turn-placed}
-use Rattle.wit_syntax.specs.Repeats.{AllDiffer}
-use Rattle.wit_syntax.proofs.Kept.{HasNot, differ_head, differ_tail}
 use Rattle.wit_setters.proofs.Keys.{in_turn_differ}
 
 module _ {K V : Type 0} (gives : V → Option Function) (as_key : List ℕ → K) where

@@ -1,33 +1,12 @@
 -- The items of plain trees, and what they name of other packages.
 use Rattle.std.proofs.Common.{ℕ, Bool, true, false, cond, List, [], ◌∷◌, ◌++◌, Option, Some, None, Contains, inl, inr, refl, sym, subst}
-use Rattle.std.specs.Prelude.{All, IfSome}
-use Rattle.std.specs.List.{flat_map}
-use Rattle.std.specs.Option.{option_map, option_or}
-use Rattle.wit_type_tree.specs.declared.leaves.Attribute.{Attribute}
-use Rattle.wit_tree.specs.declared.tree.AstItem.{AstItem}
+use Rattle.wit_syntax.proofs.Common.{All, AstItem, Attribute, DefinitionPart, Exported, Extern, ExternKind, ExternPart, ForeignUse, ForeignVisit, FunctionPart, IfSome, Imported, IncludePart, IsWritten, Item, PackageFile, Part, SideInline, TheInterface, TheWorld, TopName, Use, UsePart, UsePath, WorldSide, about, all_items, all_scopes, at_contains, at_side, declaration_visits, declared_items, extern_paths, extern_visits, file_items, file_visits, flat_map, foreign_uses, foreign_visits, functions, inline_items, inline_items_at, inline_uses, last_header, option_map, option_or, part_functions, part_items, part_names, part_uses, part_visits, parts, path_visits, same_side, scope_names, scopes_either, side_items, top_names, uses, walk}
 use Rattle.wit_tree.specs.declared.tree.AstItem.TheVariants as ast
-use Rattle.wit_tree.specs.declared.tree.Extern.{Extern}
-use Rattle.wit_tree.specs.declared.tree.ExternKind.{ExternKind}
 use Rattle.wit_tree.specs.declared.tree.ExternKind.TheVariants as extern
-use Rattle.wit_tree.specs.declared.tree.PackageFile.{PackageFile}
 use Rattle.wit_tree.specs.declared.tree.PackageName.{PackageName as Header}
-use Rattle.wit_tree.specs.declared.tree.Use.{Use}
-use Rattle.wit_tree.specs.declared.tree.UsePath.{UsePath}
 use Rattle.wit_tree.specs.declared.tree.UsePath.TheVariants as path
-use Rattle.wit_tree.specs.declared.tree.WorldSide.{WorldSide}
-use Rattle.wit_tree.specs.declared.tree.WorldSide.TheVariants.{Imported, Exported}
 use Rattle.wit_grammar.specs.Seen.{see_declaration, see_kind, see_package_id, see_path}
-use Rattle.wit_syntax.specs.Broken.{last_header}
-use Rattle.wit_syntax.specs.ExternPart.{extern_paths, inline_uses, same_side}
-use Rattle.wit_syntax.specs.Foreign.{ForeignVisit, declaration_visits, extern_visits, file_visits, foreign_visits, part_visits, path_visits}
-use Rattle.wit_syntax.specs.Function.{functions, part_functions}
-use Rattle.wit_syntax.specs.ScopeTables.{part_uses, uses}
-use Rattle.wit_syntax.specs.Sides.{SideInline, all_scopes, inline_items, part_items, side_items}
-use Rattle.wit_syntax.specs.Source.{Part, DefinitionPart, UsePart, IncludePart, FunctionPart, ExternPart, Item, TopName, TheInterface, TheWorld, about, all_items, at_side, declared_items, file_items, part_names, parts, scope_names, ForeignUse, foreign_uses, top_names, walk}
-use Rattle.wit_syntax.proofs.Found.{at_contains}
-use Rattle.wit_syntax.proofs.Inline.{IsWritten, inline_items_at}
-use Rattle.wit_syntax.proofs.Scopes.{scopes_either}
-use Rattle.wit_arena.proofs.ForeignUses.{IsUsedAt, used_at}
+use Rattle.wit_arena.proofs.Common.{IsUsedAt, used_at}
 use Rattle.wit_json_laws.specs.PlainTrees.{HasPlainNames, IsPlainDeclaration, IsPlainKind, IsPlainPackageId, IsPlainPath}
 use Rattle.wit_json_laws.proofs.Lists.{all_at, all_both, all_more, all_none, all_tail, at_all}
 use Rattle.wit_json_laws.proofs.PlainMetadata.{ArePlain, all_flat, all_seen}

@@ -1,28 +1,11 @@
 -- What plain trees say of things: stabilities whose versions are by SemVer, and packages with plain names.
 use Rattle.std.proofs.Common.{◌≡◌, ℕ, ◌==◌, ◌&&◌, true, false, not, List, ◌++◌, map, Option, Some, None, get_or, refl, sym, ap, ◌∙◌}
-use Rattle.std.specs.Prelude.{All, Contains, IfSome, slice_get}
-use Rattle.std.specs.List.{flat_map, list_all}
-use Rattle.std.specs.Option.{option_and_then, option_map, option_map_or, unwrap_or}
-use Rattle.std.proofs.lemmas.Bool.{and_from}
-use Rattle.std.proofs.lemmas.List.Folds.{list_all-append, list_all_at}
-use Rattle.std.proofs.lemmas.Option.{slice_get-map}
-use Rattle.semver.specs.Grammar.{IsValid}
-use Rattle.semver.specs.Identifiers.{parts_of}
-use Rattle.semver.specs.declared.Version.{Version}
-use Rattle.wit_values.specs.declared.release.Release.{Release}
-use Rattle.wit_type_tree.specs.Attributes.{attribute_version, first_of, is_of, stated_text, stated_version}
-use Rattle.wit_type_tree.specs.declared.attribute_kind.AttributeKind.{AttributeKind}
+use Rattle.wit_syntax.proofs.Common.{All, Attribute, AttributeKind, Contains, Id, IfSome, IsValid, Release, Version, and_from, attribute_version, deprecation, find_at, first_of, flat_map, flat_map_at, is_of, list_all, list_all-append, list_all_at, option_and_then, option_map, option_map_or, package_of, parts_of, release_of, slice_get, slice_get-map, stability_of, stated_text, stated_version, unwrap_or}
 use Rattle.wit_type_tree.specs.declared.attribute_kind.AttributeKind.TheVariants as as_stated
-use Rattle.wit_type_tree.specs.declared.leaves.Attribute.{Attribute}
 use Rattle.wit_type_tree.specs.declared.leaves.Attribute.TheVariants as attribute
-use Rattle.wit_type_tree.specs.declared.leaves.Id.{Id}
 use Rattle.wit_tree.specs.declared.tree.PackageName.{PackageName as Written}
 use Rattle.wit_types.specs.declared.stability.Stability.TheVariants as stability
 use Rattle.wit_grammar.specs.Seen.{see_attribute, see_name, see_package_id}
-use Rattle.wit_syntax.specs.Address.{package_of, release_of}
-use Rattle.wit_syntax.specs.Metadata.{deprecation, stability_of}
-use Rattle.wit_syntax.proofs.Found.{find_at}
-use Rattle.wit_syntax.proofs.Lists.{flat_map_at}
 use Rattle.wit_json.specs.PlainPackages.{HasVersions, IsPlainName, IsVersion}
 use Rattle.wit_json_laws.specs.PlainTrees.{IsPlainAttribute, IsPlainPackageId, IsPlainText}
 use Rattle.wit_json_laws.proofs.Lists.{all_at, at_all}

@@ -1,46 +1,11 @@
 -- A package that legal plain trees make is plain, where its interfaces have ids of 64 bits.
 use Rattle.std.proofs.Common.{◌≡◌, ℕ, ◌≤◌, ◌^◌, Bool, true, false, cond, List, [], ◌∷◌, ◌++◌, length, map, Option, Some, None, Contains, refl, sym, subst, arith}
-use Rattle.std.specs.Prelude.{⊤, All, IfSome, slice_get}
-use Rattle.std.specs.List.{cons_option, filter}
-use Rattle.std.specs.Option.{option_map}
-use Rattle.wit_tree.specs.declared.tree.Include.{Include}
-use Rattle.wit_tree.specs.declared.tree.PackageFile.{PackageFile}
+use Rattle.wit_syntax.proofs.Common.{Address, All, DefinitionPart, Exported, ExternPart, ForeignVisit, FunctionPart, Id, IfSome, Imported, Include, IncludePart, IsLegal, Item, PackageFile, PackageName, Part, ScopeName, SideFunction, SideInline, SideItem, SideLink, SourceFunction, Stability, TopName, UsePart, WorldSide, about, address, cons_option, filter, firsts_at, foreign_interfaces, foreign_items, foreign_packages, foreign_visits, foreign_worlds, functions, includes, inline_items, kept_at, last_header, local_id, local_name, option_map, package_of, part_includes, parts, path_scope, role_side, same_address, same_package, same_side, scopes_declared, side_items, slice_get, stability_of, visited, worlds_of, ⊤}
 use Rattle.wit_tree.specs.declared.tree.PackageName.{PackageName as Header}
-use Rattle.wit_tree.specs.declared.tree.WorldSide.{WorldSide}
-use Rattle.wit_tree.specs.declared.tree.WorldSide.TheVariants.{Imported, Exported}
-use Rattle.wit_type_tree.specs.declared.leaves.Id.{Id}
-use Rattle.wit_types.specs.declared.stability.Stability.{Stability}
-use Rattle.wit_package_names.specs.declared.package_name.PackageName.{PackageName}
-use Rattle.wit_functions.specs.SettersPlaced.{pairs, placed}
-use Rattle.wit_functions.specs.declared.function.Function.{Function}
-use Rattle.wit_model.specs.ItemsOfWorlds.{function_of}
-use Rattle.wit_model.specs.declared.ast_item.AstItem.{AstItem}
-use Rattle.wit_model.specs.declared.interface.Interface.{Interface}
-use Rattle.wit_model.specs.declared.unresolved.UnresolvedPackage.{UnresolvedPackage}
-use Rattle.wit_model.specs.declared.world.World.{World}
-use Rattle.wit_model.specs.declared.world.WorldInclude.{WorldInclude}
-use Rattle.wit_model.specs.declared.world.WorldItem.{WorldItem}
+use Rattle.wit_arena.proofs.Common.{AstItem, Def, Function, Interface, Key, Makes, UnresolvedPackage, World, WorldInclude, WorldItem, WorldKey, dep, entries_on, foreign_entry, foreign_interface, foreign_world, function_in, function_of, include_in, inline_entry, interface_scopes, link_item, link_key, name_imports, names_in_turn, own_interface, own_interfaces, own_world, pairs, placed, placed_at, scope_place, settled, side_entries, world_entries, world_scopes}
 use Rattle.wit_model.specs.declared.world.WorldItem.TheVariants as item
-use Rattle.wit_model.specs.declared.world.WorldKey.{WorldKey}
 use Rattle.wit_model.specs.declared.world.WorldKey.TheVariants as key
 use Rattle.wit_grammar.specs.Seen.{see_include, see_package_id}
-use Rattle.wit_syntax.specs.Address.{Address, package_of, same_address, same_package}
-use Rattle.wit_syntax.specs.Broken.{IsLegal, last_header}
-use Rattle.wit_syntax.specs.ExternPart.{same_side}
-use Rattle.wit_syntax.specs.Foreign.{ForeignVisit, foreign_interfaces, foreign_items, foreign_packages, foreign_visits, foreign_worlds, visited}
-use Rattle.wit_syntax.specs.Function.{SourceFunction, functions}
-use Rattle.wit_syntax.specs.Metadata.{stability_of}
-use Rattle.wit_syntax.specs.ScopeTables.{includes, part_includes, worlds_of}
-use Rattle.wit_syntax.specs.Sides.{SideItem, SideFunction, SideLink, SideInline, inline_items, role_side, side_items}
-use Rattle.wit_syntax.specs.Source.{Part, DefinitionPart, UsePart, IncludePart, FunctionPart, ExternPart, Item, ScopeName, TopName, about, address, local_id, local_name, parts, path_scope}
-use Rattle.wit_syntax.proofs.Firsts.{firsts_at}
-use Rattle.wit_syntax.proofs.Kept.{kept_at}
-use Rattle.wit_syntax.proofs.Scopes.{scopes_declared}
-use Rattle.wit_arena.specs.Made.{Makes, entries_on, foreign_interface, foreign_world, function_in, include_in, interface_scopes, name_imports, names_in_turn, own_interface, own_interfaces, own_world, scope_place, side_entries, world_entries, world_scopes}
-use Rattle.wit_arena.specs.Occurrences.{Key, Def}
-use Rattle.wit_arena.specs.SideItems.{inline_entry, link_item, link_key, settled}
-use Rattle.wit_arena.specs.Whole.{dep, foreign_entry}
-use Rattle.wit_arena.proofs.Placed.{placed_at}
 use Rattle.wit_parser.specs.Ids.{AreIdsWithin, AreItemsWithin, IsKeyWithin}
 use Rattle.wit_json.specs.PlainPackages.{HasVersions, IsPlainDep, IsPlainExtern, IsPlainInterface, IsPlainItem, IsPlainKey, IsPlainName, IsPlainPackage, IsPlainWorld}
 use Rattle.wit_json_laws.specs.PlainTrees.{HasPlainNames, IsPlainInclude, IsPlainPackageId, IsPlainText}

@@ -1,31 +1,13 @@
 -- The parts of items that plain trees declare: their functions, their names and what is on their sides.
 use Rattle.std.proofs.Common.{ℕ, List, [], ◌++◌, map, Option, Some, None, refl}
-use Rattle.std.specs.Prelude.{All, IfSome, codes}
-use Rattle.wit_type_tree.specs.declared.leaves.Id.{Id}
-use Rattle.wit_type_tree.specs.declared.leaves.Attribute.{Attribute}
-use Rattle.wit_type_tree.specs.declared.types.TypeBody.{TypeBody}
+use Rattle.wit_syntax.proofs.Common.{Address, All, Attribute, Defined, DefinitionPart, Extern, ExternKind, ExternPart, FuncForm, FunctionPart, Id, IfSome, IncludePart, InterfaceItem, NamedFunc, Part, ResourceFunc, ScopeName, SideFunction, SideInline, SideItem, SideLink, SourceFunction, TopName, TypeBody, Use, UseName, UsePart, Used, WorldItem, about_name, accessor, codes, definition_functions, extern_functions, extern_items, extern_link, free_function, inline_uses, interface_part, item_uses, local_name, part_functions, part_items, part_names, part_uses, path_scope, resource_function, side_function, world_part}
 use Rattle.wit_type_tree.specs.declared.types.TypeBody.TheVariants as body
-use Rattle.wit_type_tree.specs.declared.types.NamedFunc.{NamedFunc}
-use Rattle.wit_type_tree.specs.declared.types.FuncForm.{FuncForm}
 use Rattle.wit_type_tree.specs.declared.types.FuncForm.TheVariants as form
-use Rattle.wit_type_tree.specs.declared.types.ResourceFunc.{ResourceFunc}
 use Rattle.wit_type_tree.specs.declared.types.ResourceFunc.TheVariants as resource
-use Rattle.wit_tree.specs.declared.tree.InterfaceItem.{InterfaceItem}
 use Rattle.wit_tree.specs.declared.tree.InterfaceItem.TheVariants as interface_item
-use Rattle.wit_tree.specs.declared.tree.WorldItem.{WorldItem}
 use Rattle.wit_tree.specs.declared.tree.WorldItem.TheVariants as world_item
-use Rattle.wit_tree.specs.declared.tree.Extern.{Extern}
-use Rattle.wit_tree.specs.declared.tree.ExternKind.{ExternKind}
 use Rattle.wit_tree.specs.declared.tree.ExternKind.TheVariants as extern
-use Rattle.wit_tree.specs.declared.tree.Use.{Use}
-use Rattle.wit_tree.specs.declared.tree.UseName.{UseName}
 use Rattle.wit_grammar.specs.Seen.{see_body, see_definition, see_extern, see_include, see_item, see_kind, see_named_func, see_resource_func, see_use, see_used, see_world_item}
-use Rattle.wit_syntax.specs.Address.{Address}
-use Rattle.wit_syntax.specs.ExternPart.{inline_uses, item_uses}
-use Rattle.wit_syntax.specs.Function.{SourceFunction, accessor, definition_functions, extern_functions, free_function, part_functions, resource_function, side_function}
-use Rattle.wit_syntax.specs.ScopeTables.{part_uses}
-use Rattle.wit_syntax.specs.Sides.{SideItem, SideFunction, SideLink, SideInline, extern_items, extern_link, part_items}
-use Rattle.wit_syntax.specs.Source.{Part, DefinitionPart, UsePart, IncludePart, FunctionPart, ExternPart, ScopeName, Used, Defined, TopName, about_name, interface_part, local_name, part_names, path_scope, world_part}
 use Rattle.wit_json.specs.PlainPackages.{HasVersions}
 use Rattle.wit_json_laws.specs.PlainTrees.{IsPlainBody, IsPlainDefinition, IsPlainExtern, IsPlainFunction, IsPlainInclude, IsPlainItem, IsPlainKind, IsPlainMember, IsPlainText, IsPlainUse, IsPlainUsed, IsPlainWorldItem}
 use Rattle.wit_json_laws.proofs.Lists.{all_map, all_more, all_none, at_all}

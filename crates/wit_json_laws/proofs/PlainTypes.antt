@@ -1,38 +1,11 @@
 -- The versions of the types that plain trees make are by SemVer.
 use Rattle.std.proofs.Common.{◌≡◌, ℕ, zero, suc, ◌<◌, List, [], ◌∷◌, length, map, take, Option, Some, None, Contains, refl, sym, ap, ◌∙◌, subst, arith}
-use Rattle.std.specs.Prelude.{All, slice_get}
-use Rattle.std.specs.List.{filter, flat_map}
-use Rattle.std.specs.Option.{option_map_or, unwrap_or}
-use Rattle.std.proofs.lemmas.Option.{slice_get_within}
-use Rattle.wit_tree.specs.declared.tree.PackageFile.{PackageFile}
-use Rattle.wit_types.specs.declared.stability.Stability.{Stability}
+use Rattle.wit_syntax.proofs.Common.{Address, All, ForeignName, ForeignNamed, ForeignUse, InlineAt, InterfaceNamed, IsLegal, Item, PackageFile, ScopeName, Shape, Shapes, SideFunction, SideInline, SideItem, SideLink, SourceFunction, Span, Stability, TypeDef, TypeOwner, WorldNamed, about_name, address, all_scopes, at_contains, at_prefix, at_take, at_within, contains_at, filter, find_among, first_foreign_uses, first_known, firsts_at, flat_map, foreign_uses, in_turn_among, inline_items, interfaces_of, item_at, kept_at, map_at, option_map_or, same_address, same_foreign_use, scope, scope_names, scopes_declared, scopes_inline, side_items, signature, slice_get, slice_get_within, stability_of, unwrap_or, used_names, worlds_of}
 use Rattle.wit_types.specs.declared.stability.Stability.TheVariants as stability
 use Rattle.wit_types.specs.declared.types.«Type».{«Type» as Ty}
 use Rattle.wit_types.specs.declared.types.«Type».TheVariants as ty
-use Rattle.wit_types.specs.declared.types.TypeDef.{TypeDef}
-use Rattle.wit_types.specs.declared.types.TypeOwner.{TypeOwner}
-use Rattle.wit_values.specs.declared.span.Span.{Span}
-use Rattle.wit_model.specs.declared.unresolved.UnresolvedPackage.{UnresolvedPackage}
-use Rattle.wit_syntax.specs.Address.{Address, InterfaceNamed, WorldNamed, InlineAt, ForeignNamed, same_address}
-use Rattle.wit_syntax.specs.Broken.{IsLegal}
-use Rattle.wit_syntax.specs.Function.{SourceFunction, signature}
-use Rattle.wit_syntax.specs.Metadata.{first_known, stability_of}
-use Rattle.wit_syntax.specs.ScopeTables.{interfaces_of, worlds_of}
-use Rattle.wit_syntax.specs.Shape.{Shape, Shapes}
+use Rattle.wit_arena.proofs.Common.{AreInOrder, AreNamesInOrder, Def, IsEntryOf, Key, Makes, Occurrence, Turned, UnresolvedPackage, Whole, all_function_occurrences, all_occurrences, exprs_of, foreign_use_occurrence, interface_scopes, interface_turn, item_turns, name_occurrences, names_in_turn, owner_at, shape_occurrences, shapes_occurrences, stability_at, turn_occurrences, turns_of_world, turns_on_sides, types_of, world_scopes}
 use Rattle.wit_syntax.specs.Shape as shape
-use Rattle.wit_syntax.specs.Sides.{SideItem, SideFunction, SideLink, SideInline, all_scopes, inline_items, side_items}
-use Rattle.wit_syntax.specs.Source.{Item, ScopeName, ForeignName, ForeignUse, about_name, address, first_foreign_uses, item_at, same_foreign_use, scope_names, used_names, foreign_uses}
-use Rattle.wit_syntax.specs.ScopesOfTrees.{scope}
-use Rattle.wit_syntax.proofs.Firsts.{firsts_at}
-use Rattle.wit_syntax.proofs.Found.{at_contains, contains_at, find_among}
-use Rattle.wit_syntax.proofs.Kept.{kept_at}
-use Rattle.wit_syntax.proofs.Lists.{at_prefix, at_take, at_within, map_at}
-use Rattle.wit_syntax.proofs.Scopes.{scopes_declared, scopes_inline}
-use Rattle.wit_syntax.proofs.Turns.{in_turn_among}
-use Rattle.wit_arena.specs.Expr.{exprs_of}
-use Rattle.wit_arena.specs.Made.{AreInOrder, AreNamesInOrder, IsEntryOf, Makes, interface_scopes, interface_turn, item_turns, names_in_turn, turns_of_world, turns_on_sides, types_of, world_scopes}
-use Rattle.wit_arena.specs.Occurrences.{Key, Def, Whole, Occurrence, all_function_occurrences, name_occurrences, shape_occurrences, shapes_occurrences, stability_at}
-use Rattle.wit_arena.specs.Whole.{Turned, all_occurrences, owner_at, foreign_use_occurrence, turn_occurrences}
 use Rattle.wit_json.specs.PlainPackages.{HasVersions}
 use Rattle.wit_json_laws.specs.PlainTrees.{HasPlainNames}
 use Rattle.wit_json_laws.proofs.Lists.{all_at, all_both, all_map, all_more, all_none, at_all}

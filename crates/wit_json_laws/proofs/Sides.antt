@@ -1,28 +1,9 @@
 -- The keys of what a world has on a side: names, and places of interfaces without one.
 use Rattle.std.proofs.Common.{◌≡◌, ℕ, zero, suc, ◌<◌, Bool, true, false, cond, List, [], ◌∷◌, ◌++◌, length, map, Option, Some, None, inl, inr, refl, sym, ap, ◌∙◌, subst, arith}
-use Rattle.std.specs.Prelude.{slice_get}
-use Rattle.std.specs.List.{cons_option, flat_map}
-use Rattle.std.specs.Option.{option_map_or}
-use Rattle.std.proofs.lemmas.List.{map-append}
-use Rattle.wit_type_tree.specs.declared.leaves.Id.{Id}
-use Rattle.wit_tree.specs.declared.tree.WorldSide.{WorldSide}
-use Rattle.wit_functions.specs.declared.function.Function.{Function}
-use Rattle.wit_model.specs.declared.world.WorldItem.{WorldItem}
+use Rattle.wit_syntax.proofs.Common.{Address, AllDiffer, Called, Id, Item, Link, ScopeName, SideFunction, SideInline, SideItem, SideLink, TopName, WorldSide, address, at_split, cons_option, differ_none, flat_map, flat_map_at, flat_map_has, item_called, item_inline, items_on, local_id, local_name, map-append, name_called, option_map_or, path_scope, role_side, same_side, slice_get}
+use Rattle.wit_arena.proofs.Common.{Def, Function, Key, WorldItem, WorldKey, entries_on, function_in, function_of, inline_entry, link_item, link_key, name_imports, scope_place, side_entries}
 use Rattle.wit_model.specs.declared.world.WorldItem.TheVariants as item
-use Rattle.wit_model.specs.declared.world.WorldKey.{WorldKey}
 use Rattle.wit_model.specs.declared.world.WorldKey.TheVariants as key
-use Rattle.wit_model.specs.ItemsOfWorlds.{function_of}
-use Rattle.wit_syntax.specs.Address.{Address}
-use Rattle.wit_syntax.specs.ExternPart.{same_side}
-use Rattle.wit_syntax.specs.Repeats.{AllDiffer}
-use Rattle.wit_syntax.specs.Sides.{SideItem, SideFunction, SideLink, SideInline, Link, item_called, item_inline, items_on, role_side}
-use Rattle.wit_syntax.specs.SignatureRules.{Called, name_called}
-use Rattle.wit_syntax.specs.Source.{Item, ScopeName, TopName, address, local_id, local_name, path_scope}
-use Rattle.wit_syntax.proofs.Lists.{at_split, flat_map_at, flat_map_has}
-use Rattle.wit_syntax.proofs.Repeated.{differ_none}
-use Rattle.wit_arena.specs.Made.{entries_on, function_in, name_imports, scope_place, side_entries}
-use Rattle.wit_arena.specs.Occurrences.{Key, Def}
-use Rattle.wit_arena.specs.SideItems.{inline_entry, link_item, link_key}
 use Rattle.wit_json_laws.proofs.Placed.{IsAtName}
 
 abbrev pub Entry : Type 0

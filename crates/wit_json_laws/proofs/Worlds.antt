@@ -1,39 +1,8 @@
 -- The maps of worlds that legal files make have no key twice.
 use Rattle.std.proofs.Common.{◌≡◌, ℕ, false, List, [], ◌∷◌, ◌++◌, length, map, take, Some, Contains, refl, sym, ap, ◌∙◌, subst}
-use Rattle.std.specs.Prelude.{All, slice_get}
-use Rattle.std.specs.List.{flat_map}
-use Rattle.std.proofs.lemmas.Grind.{flat_map-append}
-use Rattle.std.proofs.lemmas.List.{map-append}
-use Rattle.wit_names.specs.Folded.{folded_key}
-use Rattle.wit_tree.specs.declared.tree.Include.{Include}
-use Rattle.wit_tree.specs.declared.tree.PackageFile.{PackageFile}
-use Rattle.wit_tree.specs.declared.tree.WorldSide.{WorldSide}
-use Rattle.wit_tree.specs.declared.tree.WorldSide.TheVariants.{Imported, Exported}
-use Rattle.wit_functions.specs.SettersPlaced.{placed}
-use Rattle.wit_graph.specs.Table.{IsOrder}
-use Rattle.wit_graph.proofs.Tables.{slice_get-take}
-use Rattle.wit_model.specs.declared.world.WorldItem.{WorldItem}
-use Rattle.wit_model.specs.declared.world.WorldKey.{WorldKey}
+use Rattle.wit_syntax.proofs.Common.{Address, All, AllDiffer, Called, Exported, ForeignVisit, Imported, Include, IsLegal, IsOrder, Item, Link, LinkedTwice, PackageFile, ScopeName, SideItem, SideLink, WorldSide, address, all_items, all_scopes, called_key, contains_at, differ_at, differ_by, flat_map, flat_map-append, folded_key, foreign_worlds, includes, inline_items, is_world_at, item_called, item_inline, item_side, items_on, kept_at, leads, length-inline_after, linked_twice, map-append, name_called, path_id, path_scope, rows_of, same_side, scope_names, scopes_declared, side_called, side_items, slice_get, slice_get-take, worlds_of}
+use Rattle.wit_arena.proofs.Common.{AreInOrder, AreNamesInOrder, Key, WorldItem, WorldKey, entries_on, foreign_world, function_of, interface_scopes, name_imports, names_in_turn, own_world, placed, scope_place, settled, world_entries}
 use Rattle.wit_model.specs.declared.world.WorldKey.TheVariants as key
-use Rattle.wit_model.specs.ItemsOfWorlds.{function_of}
-use Rattle.wit_syntax.specs.Address.{Address}
-use Rattle.wit_syntax.specs.Broken.{LinkedTwice, IsLegal, is_world_at}
-use Rattle.wit_syntax.specs.ExternPart.{same_side}
-use Rattle.wit_syntax.specs.Fault.{linked_twice}
-use Rattle.wit_syntax.specs.Foreign.{ForeignVisit, foreign_worlds}
-use Rattle.wit_syntax.specs.Repeats.{AllDiffer}
-use Rattle.wit_syntax.specs.ScopeTables.{includes, rows_of, worlds_of}
-use Rattle.wit_syntax.specs.Sides.{SideItem, SideLink, Link, all_scopes, inline_items, item_called, item_inline, item_side, items_on, side_called, side_items}
-use Rattle.wit_syntax.specs.SignatureRules.{Called, name_called}
-use Rattle.wit_syntax.specs.Source.{Item, ScopeName, address, all_items, leads, path_id, path_scope, scope_names}
-use Rattle.wit_syntax.proofs.Found.{contains_at}
-use Rattle.wit_syntax.proofs.Inline.{length-inline_after}
-use Rattle.wit_syntax.proofs.Kept.{kept_at}
-use Rattle.wit_syntax.proofs.Repeated.{called_key, differ_at, differ_by}
-use Rattle.wit_syntax.proofs.Scopes.{scopes_declared}
-use Rattle.wit_arena.specs.Made.{AreInOrder, AreNamesInOrder, entries_on, foreign_world, interface_scopes, name_imports, names_in_turn, own_world, scope_place, world_entries}
-use Rattle.wit_arena.specs.Occurrences.{Key}
-use Rattle.wit_arena.specs.SideItems.{settled}
 use Rattle.wit_json.specs.DistinctKeys.{HasOwnKeys, HasOwnSides}
 use Rattle.wit_parser.proofs.PartsScopes.{link_leads}
 use Rattle.wit_parser.proofs.PartsSides.{HasPlace}

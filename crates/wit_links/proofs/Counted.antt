@@ -1,17 +1,6 @@
 -- What occurred on the sides of a world, and one more of it.
 use Rattle.std.proofs.Common.{◌≡◌, ℕ, ◌+◌, Bool, true, false, if◌then◌else◌, List, [], ◌∷◌, ◌++◌, length, inl, inr, refl, sym, ap, ◌∙◌, subst, add-zero}
-use Rattle.std.specs.List.{filter, flat_map}
-use Rattle.std.proofs.lemmas.Bool.{cases_Bool, cond-true, cond-false}
-use Rattle.std.proofs.lemmas.Grind.{flat_map-append}
-use Rattle.std.proofs.lemmas.List.{append-nil, length-append}
-use Rattle.std.proofs.lemmas.List.Elements.{filter-append}
-use Rattle.wit_tree.specs.declared.tree.WorldSide.{WorldSide}
-use Rattle.wit_tree.specs.declared.tree.WorldSide.TheVariants.{Imported, Exported}
-use Rattle.wit_syntax.specs.ExternPart.{same_side}
-use Rattle.wit_syntax.specs.Function.{SourceFunction}
-use Rattle.wit_syntax.specs.Sides.{SideItem, SideFunction, SideLink, SideInline, is_interface, item_function, item_inline, item_side, items_on, role_side}
-use Rattle.wit_syntax.proofs.Addresses.{same_side-equal, side_itself}
-use Rattle.wit_syntax.proofs.Inline.{interfaces_on, interfaces_on-append}
+use Rattle.wit_syntax.proofs.Common.{Exported, Imported, SideFunction, SideInline, SideItem, SideLink, SourceFunction, WorldSide, append-nil, cases_Bool, cond-false, cond-true, filter, filter-append, flat_map, flat_map-append, interfaces_on, interfaces_on-append, is_interface, item_function, item_inline, item_side, items_on, length-append, role_side, same_side, same_side-equal, side_itself}
 use Rattle.wit_links.specs.declared.inside.Counts.{Counts}
 use Rattle.wit_links.specs.declared.inside.Seen.{Seen}
 use Rattle.wit_links.specs.SideCounts.{IsInterfaceOn, IsSeen, seen_on}

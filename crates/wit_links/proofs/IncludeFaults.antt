@@ -1,10 +1,6 @@
 -- The first fault of includes, by the parts of a world.
 use Rattle.std.proofs.Common.{◌≡◌, ℕ, List, Option, sym}
-use Rattle.wit_tree.specs.declared.tree.World.{World as Written}
-use Rattle.wit_tree.specs.declared.tree.WorldItem.{WorldItem}
-use Rattle.wit_syntax.specs.Fault.{Fault}
-use Rattle.wit_syntax.specs.ScopeTables.{part_includes}
-use Rattle.wit_syntax.specs.Source.{TopName, TheWorld, world_part}
+use Rattle.wit_syntax.proofs.Common.{Fault, TheWorld, TopName, World as Written, WorldItem, part_includes, world_part}
 use Rattle.wit_first.specs.First.{first_in}
 use Rattle.wit_first.proofs.First.{in-parts}
 use Rattle.wit_links.specs.Includes.{included_fault, includes_fault, item_in, top_of}

@@ -1,21 +1,8 @@
 -- Includes of a world, one more.
 use Rattle.std.proofs.Common.{◌≡◌, ℕ, ◌+◌, List, [], ◌∷◌, ◌++◌, length, take, Some, map, inl, inr, refl, sym, ap, ◌∙◌, subst, arith}
-use Rattle.std.specs.Prelude.{slice_get}
-use Rattle.std.specs.List.{flat_map}
-use Rattle.std.proofs.lemmas.Grind.{flat_map-append}
-use Rattle.std.proofs.lemmas.List.{append-nil, map-append, length-append}
-use Rattle.std.proofs.lemmas.Option.{slice_get_within}
-use Rattle.wit_tree.specs.declared.tree.Include.{Include}
-use Rattle.wit_tree.specs.declared.tree.World.{World as Written}
-use Rattle.wit_tree.specs.declared.tree.WorldItem.{WorldItem}
+use Rattle.wit_syntax.proofs.Common.{Address, Include, TheWorld, TopName, World as Written, WorldItem, append-nil, at_either, flat_map, flat_map-append, length-append, map-append, part_includes, slice_get, slice_get_within, take_next, world_part}
 use Rattle.wit_tree.specs.declared.tree.WorldItem.TheVariants as world_item
-use Rattle.wit_model.specs.declared.world.WorldInclude.{WorldInclude}
-use Rattle.wit_syntax.specs.Address.{Address}
-use Rattle.wit_syntax.specs.Source.{TopName, TheWorld, world_part}
-use Rattle.wit_syntax.specs.ScopeTables.{part_includes}
-use Rattle.wit_arena.specs.Whole.{IsInclude, AreIncludes}
-use Rattle.wit_syntax.proofs.Lists.{at_either}
-use Rattle.wit_syntax.proofs.Orders.{take_next}
+use Rattle.wit_arena.proofs.Common.{AreIncludes, IsInclude, WorldInclude}
 
 -- the includes among parts of a world
 abbrev pub included : List WorldItem → List Include

@@ -1,19 +1,6 @@
 -- The names that are borrowed of the interfaces that are written in a world.
 use Rattle.std.proofs.Common.{◌≡◌, ℕ, suc, ◌+◌, ◌<◌, All, Bool, cond, List, [], ◌∷◌, ◌++◌, length, get_or, Some, map, refl, sym, ap, ◌∙◌, subst, arith}
-use Rattle.std.specs.Prelude.{slice_get}
-use Rattle.std.specs.List.{flat_map}
-use Rattle.std.proofs.lemmas.Grind.{flat_map-append}
-use Rattle.std.proofs.lemmas.List.Elements.{All-get_or, filter-append}
-use Rattle.std.specs.Option.{option_map}
-use Rattle.std.proofs.lemmas.Option.{slice_get-get_or, slice_get-map, slice_get_within}
-use Rattle.wit_tree.specs.declared.tree.Extern.{Extern}
-use Rattle.wit_type_tree.specs.declared.leaves.Id.{Id}
-use Rattle.wit_tree.specs.declared.tree.InterfaceItem.{InterfaceItem}
-use Rattle.wit_syntax.specs.ExternPart.{same_side}
-use Rattle.wit_syntax.specs.Source.{Item, ScopeName, TopName, interface_part, part_names, scope_names}
-use Rattle.wit_syntax.specs.Sides.{SideItem, SideFunction, SideLink, SideInline, inline_item, item_inline, item_side, items_on, side_items}
-use Rattle.wit_syntax.proofs.Addresses.{side_itself}
-use Rattle.wit_syntax.proofs.Lists.{at_back}
+use Rattle.wit_syntax.proofs.Common.{All-get_or, Extern, Id, InterfaceItem, Item, ScopeName, SideFunction, SideInline, SideItem, SideLink, TopName, at_back, filter-append, flat_map, flat_map-append, inline_item, interface_part, item_inline, item_side, items_on, option_map, part_names, same_side, scope_names, side_items, side_itself, slice_get, slice_get-get_or, slice_get-map, slice_get_within}
 use Rattle.wit_items.specs.NamesInside.{inline_names}
 use Rattle.wit_items.specs.InlineNames.{names_written}
 

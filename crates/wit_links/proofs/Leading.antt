@@ -1,24 +1,9 @@
 -- Where the paths lead by which a world imports and exports interfaces: to places in the arena.
 use Rattle.std.proofs.Common.{◌≡◌, ◌≤◌, ℕ, zero, suc, Bool, false, List, [], ◌∷◌, length, Option, Some, None, refl, sym, ap, ◌∙◌, arith}
-use Rattle.std.specs.Prelude.{slice_get}
-use Rattle.std.specs.Option.{option_map}
-use Rattle.std.proofs.lemmas.List.{length-map}
-use Rattle.std.proofs.lemmas.List.Quantifiers.{position-Some}
-use Rattle.std.proofs.lemmas.Option.{slice_get-map, slice_get-get_or}
-use Rattle.wit_type_tree.specs.declared.leaves.Id.{Id}
-use Rattle.wit_tree.specs.declared.tree.UsePath.{UsePath}
-use Rattle.wit_tree.specs.declared.tree.PackageFile.{PackageFile}
-use Rattle.wit_model.specs.declared.interface.Interface.{Interface}
-use Rattle.wit_syntax.specs.Address.{Address, InterfaceNamed, WorldNamed, InlineAt, ForeignNamed, package_of, same_address, is_foreign}
-use Rattle.wit_syntax.specs.Broken.{is_world_at}
-use Rattle.wit_syntax.specs.Source.{Target, Local, Foreign, leads, path_id, path_scope, TopName, target_scope, all_items}
-use Rattle.wit_syntax.proofs.Addresses.{same_address-equal}
+use Rattle.wit_syntax.proofs.Common.{Address, Foreign, ForeignNamed, Id, InlineAt, InterfaceNamed, Local, PackageFile, Target, TopName, UsePath, WorldNamed, all_items, is_foreign, is_world_at, leads, length-map, option_map, package_of, path_id, path_scope, position-Some, same_address, same_address-equal, slice_get, slice_get-get_or, slice_get-map, target_scope}
+use Rattle.wit_arena.proofs.Common.{Interface, Names, ResolvedScope, env_of, interfaces_at, interfaces_differ, place_at-found, resolved_scopes}
 use Rattle.wit_first.specs.FileFaults.{lost_fault}
 use Rattle.wit_first.specs.UseFaults.{path_fault, reached_fault}
-use Rattle.wit_arena.specs.Resolving.{ResolvedScope, Names, env_of, resolved_scopes}
-use Rattle.wit_arena.specs.ResolvedArenas.{interfaces_at}
-use Rattle.wit_arena.proofs.Interfaces.{place_at-found}
-use Rattle.wit_arena.proofs.Visits.{interfaces_differ}
 use Rattle.wit_items.specs.ForeignAddresses.{prefix_of}
 use Rattle.wit_items.specs.Found.{AreFound, interface_name}
 use Rattle.wit_items.proofs.Found.{found_resolved_scope}

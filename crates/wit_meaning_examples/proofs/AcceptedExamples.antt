@@ -1,32 +1,11 @@
 -- A file breaks no rule where a path has the name of its own package: that the path leads to an item of another package, and not to the interface around it.
 use Rattle.std.proofs.Common.{◌≡◌, ℕ, zero, suc, List, [], ◌∷◌, map, Some, inl, sym, ap, ◌∙◌, subst}
-use Rattle.std.specs.Prelude.{codes, slice_get, Contains}
-use Rattle.std.specs.Str.{bytes_eq}
-use Rattle.std.specs.declared.alloc.Global.{Global}
+use Rattle.wit_syntax.proofs.Common.{Address, AllDiffer, AttributedUse, Body, Contains, CrossedTwice, CyclicItem, CyclicType, Defined, DefinedTwice, DuplicateItem, DuplicateTopName, Exported, Fault, FoldedTwice, ForeignName, ForeignStability, ForeignVisit, Function, Global, Handle, Headerless, Imported, IncludeStability, InterfaceIncluded, InterfaceMetadata, IsBrokenMetadata, IsBrokenNames, IsBrokenScope, IsBrokenSides, IsBrokenStability, IsBrokenUse, IsLegal, IsLinkedTwice, Item, ItemStability, Items, LinkedTwice, LostUse, MissingItem, MissingName, MissingType, MissingUse, Names, PackageFile, Scope, ScopeName, Setter, Sides, TopUse, Use as WrittenUse, UseMetadata, UsePath, Used, WorldSide, WorldUsed, about, address, all_handles, all_items, all_scopes, at_contains, bytes_eq, called_key, codes, differ_none, find_among, functions, include_paths, includes, is_world_at, item_name, item_rows, item_types, item_word, items_on, leads, local_name, missing_at, missing_type_at, no_crossed, no_cyclic_edge, no_fold, no_missing_edge, no_repeat, on_side, rows_of, scope_names, side_called, side_items, slice_get, top_names, top_text, type_word, unbroken_metadata, uses}
 use denote.RawPtr.{Ptr}
 use Rattle.wit_tree.specs.declared.tree.AstItem.TheVariants as ast
-use Rattle.wit_tree.specs.declared.tree.PackageFile.{PackageFile}
 use Rattle.wit_type_tree.specs.declared.types.TypeDef.{TypeDef}
-use Rattle.wit_tree.specs.declared.tree.Use.{Use as WrittenUse}
-use Rattle.wit_tree.specs.declared.tree.UsePath.{UsePath}
-use Rattle.wit_tree.specs.declared.tree.WorldSide.{WorldSide}
-use Rattle.wit_tree.specs.declared.tree.WorldSide.TheVariants.{Imported, Exported}
-use Rattle.wit_syntax.specs.Address.{Address}
-use Rattle.wit_syntax.specs.Broken.{DuplicateItem, DuplicateTopName, MissingItem, CyclicItem, IsBrokenNames, Items, ForeignStability, is_world_at, IsBrokenUse, MissingUse, WorldUsed, IsBrokenScope, DefinedTwice, MissingType, CyclicType, Metadata, Body, Function, Headerless, Names, ItemStability, UseMetadata, IncludeStability, Use, InterfaceIncluded, MissingName, LinkedTwice, IsLinkedTwice, Scope, Sides, Handle, Setter, IsLegal, TopUse, AttributedUse, LostUse}
-use Rattle.wit_syntax.specs.Fault.{Fault, missing_at, missing_type_at, item_word, type_word}
-use Rattle.wit_syntax.specs.Foreign.{ForeignVisit}
-use Rattle.wit_syntax.specs.Function.{functions, item_types}
-use Rattle.wit_syntax.specs.Metadata.{IsBrokenStability, IsBrokenMetadata}
-use Rattle.wit_syntax.specs.Repeats.{AllDiffer}
-use Rattle.wit_syntax.specs.ScopeTables.{include_paths, includes, item_rows, rows_of, uses}
-use Rattle.wit_syntax.specs.Shape.{all_handles}
-use Rattle.wit_syntax.specs.Sides.{all_scopes, on_side, side_items, IsBrokenSides, FoldedTwice, CrossedTwice, side_called, items_on, InterfaceMetadata}
-use Rattle.wit_syntax.specs.Source.{Item, ScopeName, Used, Defined, ForeignName, leads, address, all_items, item_name, local_name, scope_names, top_names, top_text, about}
-use Rattle.wit_syntax.proofs.Found.{at_contains, find_among}
-use Rattle.wit_syntax.proofs.Legal.{no_missing_edge, no_cyclic_edge, no_fold, no_crossed}
-use Rattle.wit_syntax.proofs.Repeated.{differ_none, no_repeat, called_key}
+use Rattle.wit_syntax.specs.Broken.{Metadata, Use}
 use Rattle.wit_meaning_examples.proofs.SideExamples.{none_among, one_differs}
-use Rattle.wit_syntax.proofs.Unnoted.{unbroken_metadata}
 use Rattle.wit_meaning_examples.proofs.SignatureExamples.{one_order}
 use Rattle.wit_meaning_examples.proofs.ElsewhereExamples.{own_file, i_item, use_own, visit, t_used, other}
 

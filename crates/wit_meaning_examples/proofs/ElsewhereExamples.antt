@@ -1,48 +1,18 @@
 -- Paths that lead to an item of another package: an include of an interface, a `use` of a world, and a path that has the package's own name.
 use Rattle.std.proofs.Common.{◌≡◌, ℕ, true, false, List, [], ◌∷◌, map, Some, None, refl, lit<}
-use Rattle.std.specs.Prelude.{codes}
-use Rattle.std.specs.declared.alloc.Global.{Global}
+use Rattle.wit_syntax.proofs.Common.{Address, AliasForm, Foreign, ForeignName, ForeignNamed, ForeignVisit, Global, Head, Id, Interface as WrittenInterface, InterfaceIncluded, InterfaceNamed, IsBroken, IsOrder, Item, Named, PackageFile, PackageName, Span, TheInterface, TheWorld, ToplevelUse, Tree, TypeDef, TypeDefKind, Unknown, UnknownForm, Use as WrittenUse, UseName, UsePath, Used, Word, World as WrittenWorld, WorldItem, WorldUsed, codes, fault_in, foreign_items, foreign_uses, foreign_visits, is_world_at, item_rows, leads, no_docs, path_scope, rows_of, scope_names, source_tree, top_names}
 use denote.RawPtr.{Ptr}
-use Rattle.wit_values.specs.declared.span.Span.{Span}
-use Rattle.wit_type_tree.specs.declared.leaves.Id.{Id}
-use Rattle.wit_tree.specs.declared.tree.Use.{Use as WrittenUse}
-use Rattle.wit_tree.specs.declared.tree.UseName.{UseName}
-use Rattle.wit_tree.specs.declared.tree.UsePath.{UsePath}
 use Rattle.wit_tree.specs.declared.tree.UsePath.TheVariants as path
-use Rattle.wit_tree.specs.declared.tree.ToplevelUse.{ToplevelUse}
 use Rattle.wit_tree.specs.declared.tree.InterfaceItem.TheVariants as interface_item
-use Rattle.wit_tree.specs.declared.tree.Interface.{Interface as WrittenInterface}
-use Rattle.wit_tree.specs.declared.tree.WorldItem.{WorldItem}
 use Rattle.wit_tree.specs.declared.tree.WorldItem.TheVariants as world_item
-use Rattle.wit_tree.specs.declared.tree.World.{World as WrittenWorld}
 use Rattle.wit_tree.specs.declared.tree.AstItem.TheVariants as ast
 use Rattle.wit_tree.specs.declared.tree.PackageName.{PackageName as Written}
-use Rattle.wit_tree.specs.declared.tree.PackageFile.{PackageFile}
-use Rattle.wit_types.specs.declared.stability.Stability.TheVariants.{Unknown}
 use Rattle.wit_types.specs.declared.types.«Type».TheVariants as type
-use Rattle.wit_types.specs.declared.types.TypeDef.{TypeDef}
-use Rattle.wit_types.specs.declared.types.TypeDefKind.{TypeDefKind}
 use Rattle.wit_types.specs.declared.types.TypeDefKind.TheVariants as kind
 use Rattle.wit_types.specs.declared.types.TypeOwner.TheVariants as owner
-use Rattle.wit_package_names.specs.declared.package_name.PackageName.{PackageName}
 use Rattle.wit_model.specs.declared.ast_item.AstItem.TheVariants as entry
-use Rattle.wit_model.specs.declared.unresolved.UnresolvedPackage.{UnresolvedPackage}
-use Rattle.wit_graph.specs.Table.{IsOrder}
-use Rattle.wit_syntax.specs.Address.{Address, InterfaceNamed, ForeignNamed}
-use Rattle.wit_syntax.specs.Broken.{is_world_at, IsBroken, Use, WorldUsed, InterfaceIncluded}
-use Rattle.wit_syntax.specs.Fault.{fault_in}
-use Rattle.wit_syntax.specs.Foreign.{ForeignVisit, foreign_visits, foreign_items}
-use Rattle.wit_syntax.specs.Form.{AliasForm, UnknownForm}
-use Rattle.wit_syntax.specs.Node.{Head, Named, Tree}
-use Rattle.wit_syntax.specs.Metadata.{no_docs}
-use Rattle.wit_syntax.specs.ScopeTables.{item_rows, rows_of}
-use Rattle.wit_syntax.specs.Shape.{Word}
-use Rattle.wit_syntax.specs.Source.{Foreign, leads, path_scope, top_names, TheInterface, TheWorld, Item, Used, scope_names, foreign_uses, ForeignName}
-use Rattle.wit_syntax.specs.ScopesOfTrees.{source_tree}
-use Rattle.wit_arena.specs.Occurrences.{Def, Occurrence, Collects, IsOccurrence}
-use Rattle.wit_arena.specs.UnfoldedTypes.{owner_of, package_tree}
-use Rattle.wit_arena.specs.Whole.{Ordered, turned, all_occurrences, interface_addresses, declarations}
-use Rattle.wit_arena.proofs.ByParts.{NamesOthers}
+use Rattle.wit_arena.proofs.Common.{Collects, Def, IsOccurrence, NamesOthers, Occurrence, Ordered, UnresolvedPackage, all_occurrences, declarations, interface_addresses, owner_of, package_tree, turned}
+use Rattle.wit_syntax.specs.Broken.{Use}
 use Rattle.wit_meaning_examples.proofs.Examples.{at, id, vec, no_comments, unstated, header}
 use Rattle.wit_meaning_examples.proofs.SignatureExamples.{one_order}
 use Rattle.wit_meaning_examples.proofs.FirstSeen.{collects_each, none_seen, seen_named}

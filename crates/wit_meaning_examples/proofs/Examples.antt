@@ -1,58 +1,23 @@
 -- Worked rows, computed by the definitions.
 use Rattle.std.proofs.Common.{◌≡◌, ℕ, ◌<◌, ◌^◌, true, List, [], ◌∷◌, length, map, Some, None, zero, suc, inl, inr, refl, lit<, arith}
-use Rattle.std.specs.Prelude.{codes, Vec, Box}
-use Rattle.std.specs.declared.alloc.Global.{Global}
+use Rattle.wit_syntax.proofs.Common.{AliasForm, Attribute, Box, Cyclic, Defined, Field, Global, Head, Headerless, Id, Interface as WrittenInterface, InterfaceNamed, IsBroken, IsCyclic, IsCyclicEdge, IsDuplicateName, IsMissing, IsMissingEdge, IsOrder, IsSecond, IsWrongTop, Item, Leads, Leaf, ListForm, Local, LostUse, Member, Missing, Named, PackageFile, Plain, ReachesCycle, Record, RecordForm, Row, ScopeName, Span, TheInterface, TopName, ToplevelUse, Tree, TypeDef, Unknown, Unnamed, Use, UseName, Used, Vec, Word, all_items, codes, fault, fault_in, folded, in_turn, is_label, item_rows, last_header, missing_type_at, no_docs, path_id, rows_of, scope_names, source_tree, top_names, top_text, top_twice, type_word}
 use denote.RawPtr.{Ptr}
-use Rattle.wit_names.specs.Label.{is_label}
-use Rattle.wit_values.specs.declared.span.Span.{Span}
-use Rattle.wit_type_tree.specs.declared.leaves.Id.{Id}
 use Rattle.wit_type_tree.specs.declared.leaves.Docs.{Docs as Comments}
-use Rattle.wit_type_tree.specs.declared.leaves.Attribute.{Attribute}
 use Rattle.wit_type_tree.specs.declared.types.Field.{Field as WrittenField}
 use Rattle.wit_type_tree.specs.declared.types.Primitive.TheVariants as primitive
 use Rattle.wit_type_tree.specs.declared.types.«Type».{«Type» as Written}
 use Rattle.wit_type_tree.specs.declared.types.«Type».TheVariants as written
-use Rattle.wit_type_tree.specs.declared.types.TypeBody.TheVariants.{Record, Plain}
 use Rattle.wit_type_tree.specs.declared.types.TypeDef.{TypeDef as Definition}
 use Rattle.wit_tree.specs.declared.tree.UsePath.TheVariants as path
-use Rattle.wit_tree.specs.declared.tree.UseName.{UseName}
-use Rattle.wit_tree.specs.declared.tree.Use.{Use}
 use Rattle.wit_tree.specs.declared.tree.InterfaceItem.TheVariants.{TypeDef as TypeItem, Use as UseItem}
-use Rattle.wit_tree.specs.declared.tree.Interface.{Interface as WrittenInterface}
 use Rattle.wit_tree.specs.declared.tree.AstItem.TheVariants.{Interface as InterfaceItem, Use as ToplevelItem}
-use Rattle.wit_tree.specs.declared.tree.ToplevelUse.{ToplevelUse}
 use Rattle.wit_tree.specs.declared.tree.PackageName.{PackageName as Header}
-use Rattle.wit_tree.specs.declared.tree.PackageFile.{PackageFile}
-use Rattle.wit_types.specs.declared.stability.Stability.TheVariants.{Unknown}
-use Rattle.wit_types.specs.declared.types.Field.{Field}
 use Rattle.wit_types.specs.declared.types.«Type».{«Type» as Ty}
 use Rattle.wit_types.specs.declared.types.«Type».TheVariants as type
-use Rattle.wit_types.specs.declared.types.TypeDef.{TypeDef}
 use Rattle.wit_types.specs.declared.types.TypeDefKind.TheVariants as kind
 use Rattle.wit_types.specs.declared.types.TypeOwner.TheVariants as owner
-use Rattle.wit_model.specs.declared.interface.Interface.{Interface}
-use Rattle.wit_model.specs.declared.unresolved.UnresolvedPackage.{UnresolvedPackage}
-use Rattle.wit_graph.specs.Table.{Row, Leads, IsMissing, IsCyclic, IsOrder}
-use Rattle.wit_graph.specs.Order.{ReachesCycle}
-use Rattle.wit_syntax.specs.Form.{Member, RecordForm, ListForm, AliasForm}
-use Rattle.wit_arena.specs.Kind.{kind_of}
-use Rattle.wit_syntax.specs.Node.{Head, Leaf, Named, Unnamed, Tree}
-use Rattle.wit_syntax.specs.Address.{InterfaceNamed}
-use Rattle.wit_syntax.specs.Metadata.{no_docs}
-use Rattle.wit_syntax.specs.Source.{path_id, Local, TopName, top_names, top_text, TheInterface, Item, all_items, ScopeName, Used, Defined, scope_names}
-use Rattle.wit_syntax.specs.ScopesOfTrees.{source_tree}
-use Rattle.wit_arena.specs.Expr.{Prim, one}
-use Rattle.wit_arena.specs.Occurrences.{Def, Whole, Occurrence, IsSeen, Collects}
-use Rattle.wit_syntax.specs.ScopeTables.{rows_of, item_rows, in_turn}
-use Rattle.wit_type_tree.specs.RefusalText.{Missing, Cyclic}
-use Rattle.wit_syntax.specs.Fault.{fault, fault_in, missing_type_at, type_word, top_twice}
-use Rattle.wit_syntax.specs.Shape.{Word}
-use Rattle.wit_syntax.specs.Bodies.{folded, IsSecond, IsDuplicateName}
-use Rattle.wit_syntax.specs.Broken.{last_header, IsMissingEdge, IsCyclicEdge, IsBroken, Headerless, IsWrongTop, LostUse}
-use Rattle.wit_arena.specs.UnfoldedTypes.{package_tree}
-use Rattle.wit_arena.specs.Whole.{turned}
+use Rattle.wit_arena.proofs.Common.{Collects, Def, Interface, IsSeen, Occurrence, Prim, UnresolvedPackage, Whole, kind_of, occurrences, one, package_tree, turned}
 use Rattle.wit_meaning_examples.proofs.SmallOrders.{two, three, two_order, three_order}
-use Rattle.wit_arena.proofs.Turns.{occurrences}
 
 folded_names : map folded (codes "P-q1" ∷ codes "p-Q1" ∷ []) ≡ (codes "p-q1" ∷ codes "p-q1" ∷ [])
 folded_names = refl

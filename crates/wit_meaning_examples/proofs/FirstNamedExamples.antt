@@ -1,37 +1,16 @@
 -- Worked rows in which a path means the first item of a name alone: what a later one has breaks no rule of used names, of handles or of paths.
 use Rattle.std.proofs.Common.{◌≡◌, ℕ, ◌<◌, ◌^◌, zero, suc, Bool, true, false, List, [], ◌∷◌, length, Some, None, refl, sym, ap, ◌∙◌, lit<}
-use Rattle.std.specs.Prelude.{codes, map, nat_eq, slice_get}
-use Rattle.std.specs.Option.{option_map}
-use Rattle.std.specs.declared.alloc.Global.{Global}
+use Rattle.wit_syntax.proofs.Common.{AstItem, Declared, Elsewhere, EndsAt, Exported, Fault, Global, Id, Imported, Interface, InterfaceItem as Part, InterfaceNamed, IsBroken, IsLinkedTwice, Item, Link, NamedFunc, PackageFile, Plain, Resource, ScopeName, SideLink, Span, TheInline, TheInterface, TheWorld, TopName, Use as WrittenUse, World, WorldItem, WorldSide, WorldUsed, about, about_name, address, all_items, codes, fault_in, is_world, is_world_at, item_name, item_named, items_on, leads, map, nat_eq, option_map, scope, scope_names, side_items, slice_get, top_names}
 use denote.RawPtr.{Ptr}
-use Rattle.wit_values.specs.declared.span.Span.{Span}
-use Rattle.wit_type_tree.specs.declared.leaves.Id.{Id}
-use Rattle.wit_type_tree.specs.declared.types.NamedFunc.{NamedFunc}
 use Rattle.wit_type_tree.specs.declared.types.FuncForm.TheVariants as form
 use Rattle.wit_type_tree.specs.declared.types.Primitive.TheVariants as primitive
-use Rattle.wit_type_tree.specs.declared.types.TypeBody.TheVariants.{Plain, Resource}
 use Rattle.wit_type_tree.specs.declared.types.«Type».TheVariants as written
-use Rattle.wit_tree.specs.declared.tree.WorldSide.{WorldSide}
-use Rattle.wit_tree.specs.declared.tree.WorldSide.TheVariants.{Imported, Exported}
 use Rattle.wit_tree.specs.declared.tree.UsePath.TheVariants as path
 use Rattle.wit_tree.specs.declared.tree.ExternKind.TheVariants as extern
-use Rattle.wit_tree.specs.declared.tree.InterfaceItem.{InterfaceItem as Part}
 use Rattle.wit_tree.specs.declared.tree.InterfaceItem.TheVariants as interface_item
-use Rattle.wit_tree.specs.declared.tree.Use.{Use as WrittenUse}
-use Rattle.wit_tree.specs.declared.tree.WorldItem.{WorldItem}
 use Rattle.wit_tree.specs.declared.tree.WorldItem.TheVariants as world_item
-use Rattle.wit_tree.specs.declared.tree.Interface.{Interface}
-use Rattle.wit_tree.specs.declared.tree.World.{World}
-use Rattle.wit_tree.specs.declared.tree.AstItem.{AstItem}
 use Rattle.wit_tree.specs.declared.tree.AstItem.TheVariants as ast
-use Rattle.wit_tree.specs.declared.tree.PackageFile.{PackageFile}
-use Rattle.wit_syntax.specs.Address.{InterfaceNamed}
-use Rattle.wit_syntax.specs.NameEnds.{Elsewhere, EndsAt}
-use Rattle.wit_syntax.specs.Fault.{Fault, fault_in}
-use Rattle.wit_syntax.specs.Source.{Declared, TheInterface, TheWorld, TheInline, TopName, Item, about, about_name, address, all_items, is_world, item_name, item_named, leads, ScopeName, scope_names, top_names}
-use Rattle.wit_syntax.specs.Sides.{Link, SideLink, items_on, side_items}
-use Rattle.wit_syntax.specs.ScopesOfTrees.{scope}
-use Rattle.wit_syntax.specs.Broken.{is_world_at, IsBroken, IsLinkedTwice, Use, WorldUsed}
+use Rattle.wit_syntax.specs.Broken.{Use}
 use Rattle.wit_meaning_examples.proofs.Examples.{at, id, vec, no_comments, unstated, header}
 
 -- whether the first of some spans starts there

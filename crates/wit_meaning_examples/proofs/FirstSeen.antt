@@ -1,23 +1,8 @@
 -- What occurs for the first time, given by marks, and the entries of it, one after the other.
 use Rattle.std.proofs.Common.{◌≡◌, ℕ, zero, suc, Bool, true, false, not, ◌&&◌, List, [], ◌∷◌, ◌++◌, Some, inr, refl, sym, ap, ◌∙◌, subst, append_assoc}
-use Rattle.std.specs.Prelude.{slice_get}
-use Rattle.std.specs.Str.{bytes_eq}
-use Rattle.std.proofs.lemmas.Bool.{and_parts}
-use Rattle.std.proofs.lemmas.List.{append-nil}
-use Rattle.wit_types.specs.declared.stability.Stability.{Stability}
-use Rattle.wit_types.specs.declared.types.TypeDef.{TypeDef}
-use Rattle.wit_types.specs.declared.types.TypeDefKind.{TypeDefKind}
-use Rattle.wit_values.specs.declared.span.Span.{Span}
-use Rattle.wit_syntax.specs.Address.{Address, InterfaceNamed, WorldNamed, InlineAt, ForeignNamed}
-use Rattle.wit_syntax.specs.Form.{Form, BorrowForm, ListForm, ResultForm}
-use Rattle.wit_syntax.proofs.Names.{name_itself}
-use Rattle.wit_syntax.proofs.Repeated.{differ_none}
-use Rattle.wit_arena.specs.Expr.{Exprs, name_exprs}
-use Rattle.wit_arena.specs.Kind.{kind_of}
-use Rattle.wit_arena.specs.Occurrences.{Key, Def, Whole, Occurrence, keys, IsSeen, Collects, AreAt, Decls, IsEntry, IsOccurrence, settled}
-use Rattle.wit_arena.specs.Resolving.{named, unnamed}
-use Rattle.wit_arena.proofs.Occurrence.{keys-append, occurrence_more, IsSettled}
-use Rattle.wit_syntax.specs.Source.{ScopeName, local_name, about_name}
+use Rattle.wit_syntax.proofs.Common.{Address, BorrowForm, ForeignNamed, Form, InlineAt, InterfaceNamed, ListForm, ResultForm, ScopeName, Span, Stability, TypeDef, TypeDefKind, WorldNamed, about_name, and_parts, append-nil, bytes_eq, differ_none, local_name, name_itself, slice_get}
+use Rattle.wit_arena.proofs.Common.{AreAt, Collects, Decls, Def, Exprs, IsEntry, IsOccurrence, IsSeen, IsSettled, Key, Occurrence, Whole, keys, keys-append, kind_of, name_exprs, named, occurrence_more, unnamed}
+use Rattle.wit_arena.specs.Occurrences.{settled}
 
 -- a mark of a scope, of a form, and of what occurs: it says some of it
 abbrev scope_mark : Address → List ℕ

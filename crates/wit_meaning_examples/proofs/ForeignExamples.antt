@@ -1,41 +1,16 @@
 -- A worked row with an item of another package, computed by the definitions.
 use Rattle.std.proofs.Common.{◌≡◌, ℕ, false, List, [], ◌∷◌, map, Some, None, refl, lit<}
-use Rattle.std.specs.Prelude.{codes}
-use Rattle.std.specs.declared.alloc.Global.{Global}
+use Rattle.wit_syntax.proofs.Common.{Address, AliasForm, ForeignNamed, Global, Head, Id, Interface as WrittenInterface, InterfaceNamed, Item, Named, PackageFile, PackageName, TheInterface, ToplevelUse, Tree, TypeDef, TypeDefKind, Unknown, UnknownForm, UseName, Word, codes, foreign_items, foreign_uses, item_rows, no_docs, source_tree, top_names}
 use denote.RawPtr.{Ptr}
-use Rattle.wit_type_tree.specs.declared.leaves.Id.{Id}
 use Rattle.wit_tree.specs.declared.tree.UsePath.TheVariants as path
-use Rattle.wit_tree.specs.declared.tree.UseName.{UseName}
 use Rattle.wit_tree.specs.declared.tree.InterfaceItem.TheVariants.{Use as UseItem}
-use Rattle.wit_tree.specs.declared.tree.Interface.{Interface as WrittenInterface}
 use Rattle.wit_tree.specs.declared.tree.AstItem.TheVariants.{Interface as InterfaceItem, Use as ToplevelItem}
-use Rattle.wit_tree.specs.declared.tree.ToplevelUse.{ToplevelUse}
 use Rattle.wit_tree.specs.declared.tree.PackageName.{PackageName as Written}
-use Rattle.wit_tree.specs.declared.tree.PackageFile.{PackageFile}
-use Rattle.wit_types.specs.declared.stability.Stability.TheVariants.{Unknown}
 use Rattle.wit_types.specs.declared.types.«Type».TheVariants as type
-use Rattle.wit_types.specs.declared.types.TypeDef.{TypeDef}
-use Rattle.wit_types.specs.declared.types.TypeDefKind.{TypeDefKind}
 use Rattle.wit_types.specs.declared.types.TypeDefKind.TheVariants as kind
 use Rattle.wit_types.specs.declared.types.TypeOwner.TheVariants as owner
 use Rattle.wit_model.specs.declared.ast_item.AstItem.TheVariants as entry
-use Rattle.wit_package_names.specs.declared.package_name.PackageName.{PackageName}
-use Rattle.wit_model.specs.declared.interface.Interface.{Interface}
-use Rattle.wit_model.specs.declared.unresolved.UnresolvedPackage.{UnresolvedPackage}
-use Rattle.wit_syntax.specs.Form.{AliasForm, UnknownForm}
-use Rattle.wit_syntax.specs.Address.{Address, InterfaceNamed, ForeignNamed}
-use Rattle.wit_syntax.specs.Node.{Head, Named, Tree}
-use Rattle.wit_syntax.specs.Metadata.{no_docs}
-use Rattle.wit_syntax.specs.Source.{top_names, TheInterface, Item, foreign_uses}
-use Rattle.wit_syntax.specs.ScopesOfTrees.{source_tree}
-use Rattle.wit_syntax.specs.Foreign.{foreign_items}
-use Rattle.wit_syntax.specs.ScopeTables.{item_rows}
-use Rattle.wit_arena.specs.Occurrences.{Def, Occurrence}
-use Rattle.wit_syntax.specs.Shape.{Word}
-use Rattle.wit_arena.specs.UnfoldedTypes.{owner_of, package_tree}
-use Rattle.wit_arena.specs.Whole.{turned, all_occurrences}
-use Rattle.wit_arena.proofs.ByParts.{NamesOthers}
-use Rattle.wit_arena.specs.ResolvedArenas.{foreign_type}
+use Rattle.wit_arena.proofs.Common.{Def, Interface, NamesOthers, Occurrence, UnresolvedPackage, all_occurrences, foreign_type, owner_of, package_tree, turned}
 use Rattle.wit_meaning_examples.proofs.Examples.{at, id, vec, no_comments, unstated, header}
 
 -- package foo:foo; use a:b/c as d; interface i { use d.{t}; }

@@ -1,58 +1,23 @@
 -- A worked row with the functions of a resource and of an interface, computed by the definitions.
 use Rattle.std.proofs.Common.{◌≡◌, ℕ, zero, suc, false, true, List, [], ◌∷◌, length, map, Option, Some, None, refl, subst, lit<}
-use Rattle.std.specs.Prelude.{codes, Box, slice_get}
-use Rattle.std.specs.List.{flat_map}
-use Rattle.std.specs.declared.alloc.Global.{Global}
+use Rattle.wit_syntax.proofs.Common.{Address, Borrow, BorrowForm, Box, Constructor, FixedLengthListForm, Freestanding, FunctionKey, FutureForm, Global, Id, Interface as WrittenInterface, InterfaceNamed, Item, MapForm, Method, NamedFunc, None', OptionForm, PackageFile, Param as WrittenParam, Primitive, Resource, Shape, Some', SourceFunction, SourceParam, Span, Static, StreamForm, TheInterface, TypeDef, TypeDefKind, Unknown, Word, all_handles, codes, flat_map, folded_key, free_function, functions, item_types, no_docs, resource_function, role_names, rows_of, scope_names, signature, slice_get, source_tree, top_names}
 use denote.RawPtr.{Ptr}
-use Rattle.wit_names.specs.Folded.{folded_key}
-use Rattle.wit_values.specs.declared.span.Span.{Span}
-use Rattle.wit_type_tree.specs.declared.leaves.Id.{Id}
-use Rattle.wit_type_tree.specs.declared.types.Primitive.{Primitive}
 use Rattle.wit_type_tree.specs.declared.types.Primitive.TheVariants as primitive
-use Rattle.wit_type_tree.specs.declared.types.«Type».{«Type» as Written, None', Some'}
+use Rattle.wit_type_tree.specs.declared.types.«Type».{«Type» as Written}
 use Rattle.wit_type_tree.specs.declared.types.«Type».TheVariants as written
-use Rattle.wit_type_tree.specs.declared.types.TypeBody.TheVariants.{Resource}
 use Rattle.wit_type_tree.specs.declared.types.TypeDef.{TypeDef as Definition}
 use Rattle.wit_type_tree.specs.declared.types.ResourceFunc.TheVariants as resource
-use Rattle.wit_type_tree.specs.declared.types.NamedFunc.{NamedFunc}
 use Rattle.wit_type_tree.specs.declared.types.FuncForm.TheVariants as form
-use Rattle.wit_type_tree.specs.declared.types.Param.{Param as WrittenParam}
 use Rattle.wit_tree.specs.declared.tree.InterfaceItem.TheVariants.{TypeDef as TypeItem, Func as FuncItem}
-use Rattle.wit_tree.specs.declared.tree.Interface.{Interface as WrittenInterface}
 use Rattle.wit_tree.specs.declared.tree.AstItem.TheVariants.{Interface as InterfaceItem}
-use Rattle.wit_tree.specs.declared.tree.PackageFile.{PackageFile}
-use Rattle.wit_types.specs.declared.stability.Stability.TheVariants.{Unknown}
 use Rattle.wit_types.specs.declared.types.«Type».{«Type» as Ty}
 use Rattle.wit_types.specs.declared.types.«Type».TheVariants as type
-use Rattle.wit_types.specs.declared.types.Handle.TheVariants.{Borrow}
-use Rattle.wit_types.specs.declared.types.TypeDef.{TypeDef}
-use Rattle.wit_types.specs.declared.types.TypeDefKind.{TypeDefKind}
 use Rattle.wit_types.specs.declared.types.TypeDefKind.TheVariants as kind
 use Rattle.wit_types.specs.declared.types.TypeOwner.TheVariants as owner
-use Rattle.wit_functions.specs.declared.function.Function.{Function}
-use Rattle.wit_functions.specs.declared.function.FunctionKind.{FunctionKind}
+use Rattle.wit_arena.proofs.Common.{AreFunctions, Def, End, Expr, Function, FunctionKind, Interface, IsAt, IsFunction, IsParam, Key, More, Occurrence, Of, OneByOne, Param, Prim, UnresolvedPackage, Use, Whole, expr_of, function_types, functions_of, occurrences, one, package_tree, placed_functions, turned}
 use Rattle.wit_functions.specs.declared.function.FunctionKind.TheVariants as function_kind
-use Rattle.wit_functions.specs.declared.function.Param.{Param}
-use Rattle.wit_model.specs.declared.interface.Interface.{Interface}
-use Rattle.wit_model.specs.declared.unresolved.UnresolvedPackage.{UnresolvedPackage}
-use Rattle.wit_syntax.specs.Form.{BorrowForm, FutureForm, FixedLengthListForm, MapForm, StreamForm, OptionForm}
-use Rattle.wit_syntax.specs.Address.{Address, InterfaceNamed}
-use Rattle.wit_syntax.specs.Metadata.{no_docs}
-use Rattle.wit_syntax.specs.Source.{top_names, TheInterface, Item, scope_names}
-use Rattle.wit_syntax.specs.ScopesOfTrees.{source_tree}
-use Rattle.wit_syntax.specs.ScopeTables.{rows_of}
-use Rattle.wit_arena.specs.Expr.{Expr, Prim, Use, Of, End, More, one, expr_of}
-use Rattle.wit_arena.specs.Occurrences.{Key, Def, Whole, Occurrence, IsAt}
-use Rattle.wit_syntax.specs.Shape.{Word, all_handles, Shape}
 use Rattle.wit_syntax.specs.Shape as shape
-use Rattle.wit_syntax.specs.Function.{Freestanding, Method, Static, Constructor, SourceParam, SourceFunction, resource_function, free_function, functions, item_types, signature, role_names}
-use Rattle.wit_arena.specs.SourceFunctions.{IsParam, IsFunction, AreFunctions, placed_functions}
-use Rattle.wit_syntax.specs.Sides.{FunctionKey}
-use Rattle.wit_arena.specs.UnfoldedTypes.{package_tree, functions_of, function_types}
-use Rattle.wit_arena.specs.Whole.{turned}
 use Rattle.wit_meaning_examples.proofs.Examples.{at, id, vec, no_comments, unstated, header}
-use Rattle.wit_arena.proofs.Turns.{occurrences}
-use Rattle.wit_arena.specs.OneByOne.{OneByOne}
 
 -- what holds of two lists, place by place
 abbrev pub Pairs : {X Y : Type 0} → (X → Y → Type 0) → List X → List Y → Type 0

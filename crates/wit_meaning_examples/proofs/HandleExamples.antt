@@ -1,47 +1,19 @@
 -- Worked rows with handles: of a resource, of another word for it, of a name of another package, and of no resource.
 use Rattle.std.proofs.Common.{◌≡◌, ℕ, ◌<◌, ◌^◌, zero, suc, Bool, true, false, List, [], ◌∷◌, length, map, Option, Some, None, inr, refl, ap, lit<}
-use Rattle.std.specs.Prelude.{codes}
-use Rattle.std.specs.Str.{bytes_eq}
-use Rattle.std.specs.declared.alloc.Global.{Global}
+use Rattle.wit_syntax.proofs.Common.{Address, AtForeign, AtResource, Borrow, BorrowForm, Elsewhere, EndsAt, ForeignNamed, Global, Handle, Id, Interface, InterfaceItem as Part, InterfaceNamed, IsBroken, Item, NamedFunc, PackageFile, Param, Plain, Resource, Span, TheInterface, TypeDef, TypeDefKind, Unknown, UseName, UsePath, bytes_eq, codes, fault_in, no_docs, shape_of, top_names}
 use denote.RawPtr.{Ptr}
-use Rattle.wit_values.specs.declared.span.Span.{Span}
-use Rattle.wit_type_tree.specs.declared.leaves.Id.{Id}
 use Rattle.wit_type_tree.specs.declared.types.Primitive.TheVariants as primitive
 use Rattle.wit_type_tree.specs.declared.types.«Type».{«Type» as Written}
 use Rattle.wit_type_tree.specs.declared.types.«Type».TheVariants as written
-use Rattle.wit_type_tree.specs.declared.types.TypeBody.TheVariants.{Plain, Resource}
 use Rattle.wit_type_tree.specs.declared.types.TypeDef.{TypeDef as Definition}
-use Rattle.wit_type_tree.specs.declared.types.NamedFunc.{NamedFunc}
 use Rattle.wit_type_tree.specs.declared.types.FuncForm.TheVariants as form
-use Rattle.wit_type_tree.specs.declared.types.Param.{Param}
-use Rattle.wit_tree.specs.declared.tree.UsePath.{UsePath}
 use Rattle.wit_tree.specs.declared.tree.UsePath.TheVariants as path
-use Rattle.wit_tree.specs.declared.tree.UseName.{UseName}
-use Rattle.wit_tree.specs.declared.tree.InterfaceItem.{InterfaceItem as Part}
 use Rattle.wit_tree.specs.declared.tree.InterfaceItem.TheVariants.{TypeDef as TypeItem, Use as UseItem, Func as FuncItem}
-use Rattle.wit_tree.specs.declared.tree.Interface.{Interface}
 use Rattle.wit_tree.specs.declared.tree.AstItem.TheVariants.{Interface as InterfaceItem}
-use Rattle.wit_tree.specs.declared.tree.PackageFile.{PackageFile}
-use Rattle.wit_types.specs.declared.stability.Stability.TheVariants.{Unknown}
 use Rattle.wit_types.specs.declared.types.«Type».TheVariants as type
-use Rattle.wit_types.specs.declared.types.Handle.TheVariants.{Borrow}
-use Rattle.wit_types.specs.declared.types.TypeDef.{TypeDef}
-use Rattle.wit_types.specs.declared.types.TypeDefKind.{TypeDefKind}
 use Rattle.wit_types.specs.declared.types.TypeDefKind.TheVariants as kind
 use Rattle.wit_types.specs.declared.types.TypeOwner.TheVariants as owner
-use Rattle.wit_syntax.specs.Form.{BorrowForm}
-use Rattle.wit_syntax.specs.Address.{Address, InterfaceNamed, ForeignNamed}
-use Rattle.wit_syntax.specs.Metadata.{no_docs}
-use Rattle.wit_syntax.specs.Source.{top_names, TheInterface, Item}
-use Rattle.wit_arena.specs.Expr.{Use, More, expr_of, one}
-use Rattle.wit_arena.specs.Occurrences.{Key, Def, Whole, Occurrence, IsSeen, Collects, IsAt}
-use Rattle.wit_syntax.specs.Fault.{fault_in}
-use Rattle.wit_syntax.specs.Shape.{shape_of}
-use Rattle.wit_syntax.specs.NameEnds.{AtResource, AtForeign, Elsewhere, EndsAt}
-use Rattle.wit_arena.specs.EntryEnds.{IsResource, IsUnknown, IsOther, entry_end}
-use Rattle.wit_syntax.specs.Broken.{IsBroken, Handle}
-use Rattle.wit_arena.specs.Whole.{Ordered, turned, turn_handles, all_occurrences, AreRequired}
-use Rattle.wit_arena.proofs.Required.{required_none, required_more}
+use Rattle.wit_arena.proofs.Common.{AreRequired, Collects, Def, IsAt, IsOther, IsResource, IsSeen, IsUnknown, Key, More, Occurrence, Ordered, Use, Whole, all_occurrences, entry_end, expr_of, one, required_more, required_none, turn_handles, turned}
 use Rattle.wit_meaning_examples.proofs.Examples.{at, id, vec, no_comments, unstated, header}
 
 none_is_seen : {k : Key} → IsSeen [] k → ⊥

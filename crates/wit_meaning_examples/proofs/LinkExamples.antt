@@ -1,35 +1,11 @@
 -- Worked rows about interfaces that a world imports and exports by their paths.
 use Rattle.std.proofs.Common.{◌≡◌, ℕ, zero, suc, true, false, List, [], ◌∷◌, map, Option, Some, None, refl, sym, ap, ◌∙◌, subst, lit<, take, Contains}
-use Rattle.std.specs.Prelude.{codes, slice_get}
-use Rattle.std.specs.Str.{bytes_eq}
-use Rattle.std.specs.declared.alloc.Global.{Global}
+use Rattle.wit_syntax.proofs.Common.{AllDiffer, Attribute, CrossedTwice, Exported, ExternKind, Fault, FoldedTwice, Global, Id, Imported, Interface as WrittenInterface, InterfaceMetadata, InterfaceNamed, IsBroken, IsBrokenMetadata, IsBrokenSides, IsLinkedTwice, Item, Link, LinkedTwice, PackageFile, SideItem, SideLink, Span, TheWorld, ToplevelUse, World as WrittenWorld, WorldItem, WorldSide, at_contains, bytes_eq, called_key, codes, differ_none, fault_in, interface_attributes, items_on, no_crossed, no_fold, path_scope, side_called, side_items, slice_get, top_names, unbroken_metadata}
 use denote.RawPtr.{Ptr}
-use Rattle.wit_values.specs.declared.span.Span.{Span}
-use Rattle.wit_type_tree.specs.declared.leaves.Id.{Id}
-use Rattle.wit_type_tree.specs.declared.leaves.Attribute.{Attribute}
-use Rattle.wit_tree.specs.declared.tree.WorldSide.{WorldSide}
-use Rattle.wit_tree.specs.declared.tree.WorldSide.TheVariants.{Imported, Exported}
 use Rattle.wit_tree.specs.declared.tree.UsePath.TheVariants as path
-use Rattle.wit_tree.specs.declared.tree.ExternKind.{ExternKind}
 use Rattle.wit_tree.specs.declared.tree.ExternKind.TheVariants as extern
-use Rattle.wit_tree.specs.declared.tree.WorldItem.{WorldItem}
 use Rattle.wit_tree.specs.declared.tree.WorldItem.TheVariants as world_item
-use Rattle.wit_tree.specs.declared.tree.Interface.{Interface as WrittenInterface}
-use Rattle.wit_tree.specs.declared.tree.World.{World as WrittenWorld}
-use Rattle.wit_tree.specs.declared.tree.ToplevelUse.{ToplevelUse}
 use Rattle.wit_tree.specs.declared.tree.AstItem.TheVariants as ast
-use Rattle.wit_tree.specs.declared.tree.PackageFile.{PackageFile}
-use Rattle.wit_syntax.specs.Address.{InterfaceNamed}
-use Rattle.wit_syntax.specs.Fault.{Fault, fault_in}
-use Rattle.wit_syntax.specs.Metadata.{IsBrokenMetadata}
-use Rattle.wit_syntax.specs.Repeats.{AllDiffer}
-use Rattle.wit_syntax.specs.Source.{top_names, TheWorld, Item, path_scope}
-use Rattle.wit_syntax.specs.Sides.{SideItem, SideLink, Link, side_items, items_on, side_called, IsBrokenSides, FoldedTwice, CrossedTwice, InterfaceMetadata, interface_attributes}
-use Rattle.wit_syntax.specs.Broken.{IsBroken, IsLinkedTwice, LinkedTwice}
-use Rattle.wit_syntax.proofs.Found.{at_contains}
-use Rattle.wit_syntax.proofs.Legal.{no_fold, no_crossed}
-use Rattle.wit_syntax.proofs.Repeated.{differ_none, called_key}
-use Rattle.wit_syntax.proofs.Unnoted.{unbroken_metadata}
 use Rattle.wit_meaning_examples.proofs.Examples.{at, id, vec, no_comments, unstated, header}
 use Rattle.wit_meaning_examples.proofs.SideExamples.{no_rows, none_among, attributes_of}
 

@@ -1,45 +1,25 @@
 -- Worked rows with docs and attributes: what they say, what occurs in a definition with a stability, and what breaks the rules of docs and attributes.
 use Rattle.std.proofs.Common.{◌≡◌, ℕ, List, [], ◌∷◌, Some, None, inr, refl, ap, lit<, rules}
-use Rattle.std.specs.Prelude.{codes, Box}
-use Rattle.std.specs.Str.{drop_trailing_whitespace, encode_utf8_all, trim_end}
-use Rattle.std.specs.declared.alloc.Global.{Global}
+use Rattle.wit_syntax.proofs.Common.{Address, AreMetadata, Attribute, AttributedUse, Box, Defined, DeprecatedAlone, ExternalId, Global, InterfaceNamed, IsBrokenMetadata, IsBrokenStability, IsSecondDocs, IsWrongTop, ListForm, Plain, Release, SinceAndUnstable, SinceTwice, Span, Stability, Stable, ToplevelUse, TypeDef, Unknown, Version, about_name, chars-IsAscii, codes, docs_of, drop_trailing_whitespace, encode_utf8_all, fault, first_known, no_docs, stability_of, stated_text}
+use Rattle.std.specs.Str.{trim_end}
 use Rattle.std.proofs.Math.Utf8.{encode}
-use Rattle.std.proofs.lemmas.Str.{chars-IsAscii}
 use Rattle.std.proofs.lemmas.Str.Ascii.{IsAscii-from_all}
 use denote.RawPtr.{Ptr}
-use Rattle.semver.specs.declared.Version.{Version}
-use Rattle.wit_values.specs.declared.span.Span.{Span}
-use Rattle.wit_values.specs.declared.release.Release.{Release}
-use Rattle.wit_type_tree.specs.declared.leaves.Attribute.{Attribute}
 use Rattle.wit_type_tree.specs.declared.leaves.Attribute.TheVariants as attribute
-use Rattle.wit_type_tree.specs.declared.attribute_kind.AttributeKind.TheVariants.{ExternalId}
-use Rattle.wit_type_tree.specs.Attributes.{stated_text}
 use Rattle.wit_tree.specs.declared.tree.AstItem.TheVariants.{Use as ToplevelItem}
 use Rattle.wit_type_tree.specs.declared.leaves.Docs.{Docs as Comments}
 use Rattle.wit_type_tree.specs.declared.types.Primitive.TheVariants as primitive
 use Rattle.wit_type_tree.specs.declared.types.«Type».TheVariants as written
-use Rattle.wit_type_tree.specs.declared.types.TypeBody.TheVariants.{Plain}
 use Rattle.wit_type_tree.specs.declared.types.TypeDef.{TypeDef as Definition}
 use Rattle.wit_tree.specs.declared.tree.UsePath.TheVariants as path
-use Rattle.wit_tree.specs.declared.tree.ToplevelUse.{ToplevelUse}
 use Rattle.wit_tree.specs.declared.tree.PackageName.{PackageName as Header}
-use Rattle.wit_types.specs.declared.stability.Stability.{Stability}
-use Rattle.wit_types.specs.declared.stability.Stability.TheVariants.{Unknown, Unstable, Stable}
+use Rattle.wit_types.specs.declared.stability.Stability.TheVariants.{Unstable}
 use Rattle.wit_types.specs.declared.types.«Type».TheVariants as type
-use Rattle.wit_types.specs.declared.types.TypeDef.{TypeDef}
 use Rattle.wit_types.specs.declared.types.TypeDefKind.TheVariants as kind
 use Rattle.wit_types.specs.declared.types.TypeOwner.TheVariants as owner
-use Rattle.wit_syntax.specs.Address.{Address, InterfaceNamed}
-use Rattle.wit_syntax.specs.Broken.{IsSecondDocs, IsWrongTop, AttributedUse}
-use Rattle.wit_arena.specs.Expr.{Prim, one}
-use Rattle.wit_syntax.specs.Fault.{fault}
-use Rattle.wit_syntax.specs.Form.{ListForm}
-use Rattle.wit_arena.specs.Occurrences.{Def, Whole, Occurrence, name_occurrences, settled}
-use Rattle.wit_syntax.specs.Metadata.{docs_of, no_docs, stability_of, AreMetadata, first_known, IsBrokenStability, SinceTwice, SinceAndUnstable, DeprecatedAlone, IsBrokenMetadata}
-use Rattle.wit_arena.specs.Resolving.{named, unnamed}
-use Rattle.wit_syntax.specs.Source.{Defined, about_name}
+use Rattle.wit_arena.proofs.Common.{Def, IsSettled, Occurrence, Prim, Whole, name_occurrences, named, one, unnamed}
+use Rattle.wit_arena.specs.Occurrences.{settled}
 use Rattle.wit_meaning_examples.proofs.Examples.{at, id, vec, no_comments}
-use Rattle.wit_arena.proofs.Occurrence.{IsSettled}
 
 abbrev version : ℕ → Version
 version major = record { major = major; minor = 0; patch = 0; pre = record { identifier = None }; build = record { identifier = None } }

@@ -1,52 +1,21 @@
 -- Rules of functions that no worked row shows, and a world whose resource has functions, computed by the definitions.
 use Rattle.std.proofs.Common.{◌≡◌, ℕ, zero, suc, Bool, true, false, List, [], ◌∷◌, ◌++◌, map, Option, Some, None, refl, sym, ap, ◌∙◌, arith, lit<}
-use Rattle.std.specs.Prelude.{codes, slice_get}
-use Rattle.std.specs.List.{flat_map}
-use Rattle.std.specs.Option.{option_map}
-use Rattle.std.specs.Str.{bytes_eq}
-use Rattle.std.specs.declared.alloc.Global.{Global}
+use Rattle.wit_syntax.proofs.Common.{Borrow, ConstructorOfOther, ConstructorWithoutResult, Defined, Freestanding, Function, GetterGiven, GetterWithoutResult, Global, Id, Imported, Interface, IsBroken, IsEntered, IsSetterAlone, Item, Missing, MissingInSignature, NamedFunc, Neither, OfNothing, Ok', PackageFile, Plain, Role, ScopeName, SetterGiven, SetterWithResult, Shape, SourceFunction, Span, TheWorld, TypeDef, Unknown, World as WrittenWorld, WorldNamed, at_contains, bytes_eq, codes, fault, fault_in, flat_map, functions, no_docs, option_map, result_ok, signature, slice_get, source_tree, top_names}
 use denote.RawPtr.{Ptr}
-use Rattle.wit_values.specs.declared.span.Span.{Span}
-use Rattle.wit_type_tree.specs.declared.leaves.Id.{Id}
 use Rattle.wit_type_tree.specs.declared.types.Primitive.TheVariants as primitive
 use Rattle.wit_type_tree.specs.declared.types.«Type».{«Type» as Written}
-use Rattle.wit_type_tree.specs.declared.types.ResultTypes.{Neither, Ok'}
 use Rattle.wit_type_tree.specs.declared.types.«Type».TheVariants as written
-use Rattle.wit_type_tree.specs.declared.types.TypeBody.TheVariants.{Plain}
 use Rattle.wit_type_tree.specs.declared.types.TypeDef.{TypeDef as Definition}
-use Rattle.wit_type_tree.specs.declared.types.NamedFunc.{NamedFunc}
 use Rattle.wit_type_tree.specs.declared.types.FuncForm.TheVariants as form
 use Rattle.wit_type_tree.specs.declared.types.ResourceFunc.TheVariants as resource
 use Rattle.wit_tree.specs.declared.tree.InterfaceItem.TheVariants.{TypeDef as TypeItem, Func as FuncItem}
-use Rattle.wit_tree.specs.declared.tree.Interface.{Interface}
-use Rattle.wit_tree.specs.declared.tree.World.{World as WrittenWorld}
 use Rattle.wit_tree.specs.declared.tree.WorldItem.TheVariants as world_item
 use Rattle.wit_tree.specs.declared.tree.AstItem.TheVariants as ast
-use Rattle.wit_tree.specs.declared.tree.PackageFile.{PackageFile}
-use Rattle.wit_type_tree.specs.RefusalText.{Missing}
-use Rattle.wit_types.specs.declared.stability.Stability.TheVariants.{Unknown}
 use Rattle.wit_types.specs.declared.types.«Type».TheVariants as type
-use Rattle.wit_types.specs.declared.types.Handle.TheVariants.{Borrow}
-use Rattle.wit_types.specs.declared.types.TypeDef.{TypeDef}
 use Rattle.wit_types.specs.declared.types.TypeDefKind.TheVariants as kind
 use Rattle.wit_types.specs.declared.types.TypeOwner.TheVariants as owner
-use Rattle.wit_functions.specs.declared.function.Function.{Function as Made}
+use Rattle.wit_arena.proofs.Common.{Function as Made, Ordered, UnresolvedPackage, function_item, function_types, functions_of, names_of, ordered_names, package_tree, type_imports}
 use Rattle.wit_functions.specs.declared.function.FunctionKind.TheVariants as function_kind
-use Rattle.wit_model.specs.declared.unresolved.UnresolvedPackage.{UnresolvedPackage}
-use Rattle.wit_syntax.specs.Fault.{fault, fault_in}
-use Rattle.wit_syntax.specs.Address.{WorldNamed}
-use Rattle.wit_syntax.specs.Metadata.{no_docs}
-use Rattle.wit_syntax.specs.Source.{top_names, TheWorld, Item, ScopeName, Defined}
-use Rattle.wit_syntax.specs.ScopesOfTrees.{source_tree}
-use Rattle.wit_syntax.specs.Shape.{Shape}
-use Rattle.wit_syntax.specs.Function.{Role, Freestanding, SourceFunction, functions, signature}
-use Rattle.wit_tree.specs.declared.tree.WorldSide.TheVariants.{Imported}
-use Rattle.wit_arena.specs.SourceFunctions.{function_item}
-use Rattle.wit_syntax.specs.SignatureRules.{OfNothing, MissingInSignature, GetterGiven, SetterGiven, GetterWithoutResult, SetterWithResult, ConstructorWithoutResult, ConstructorOfOther, IsEntered, result_ok}
-use Rattle.wit_syntax.specs.Broken.{IsBroken, Function, IsSetterAlone}
-use Rattle.wit_syntax.proofs.Found.{at_contains}
-use Rattle.wit_arena.specs.UnfoldedTypes.{names_of, functions_of, function_types, package_tree}
-use Rattle.wit_arena.specs.Whole.{Ordered, ordered_names, type_imports}
 use Rattle.wit_meaning_examples.proofs.Examples.{at, id, vec, no_comments, unstated, header}
 use Rattle.wit_meaning_examples.proofs.SignatureExamples.{i_of, file_of, item_of, in_scope, f_id, r_id, t_id, x_id, param, func, func_of, v_u8, resource_of}
 

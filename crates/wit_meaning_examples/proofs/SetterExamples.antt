@@ -1,38 +1,16 @@
 -- Setters of worlds, computed by the definitions: placed where nothing is included, and alone on their side.
 use Rattle.std.proofs.Common.{◌≡◌, ℕ, zero, suc, true, false, List, [], ◌∷◌, map, Some, None, refl, ap, ◌∙◌, lit<}
-use Rattle.std.specs.Prelude.{codes, slice_get}
-use Rattle.std.specs.Option.{option_map}
-use Rattle.std.specs.Str.{bytes_eq}
-use Rattle.std.specs.declared.alloc.Global.{Global}
+use Rattle.wit_syntax.proofs.Common.{Exported, Extern, Global, Imported, Include, IsBroken, Item, NamedFunc, PackageFile, Setter, SourceFunction, TheWorld, Unknown, World as WrittenWorld, WorldSide, at_contains, bytes_eq, codes, fault_in, functions, no_docs, on_side, option_map, slice_get, top_names}
 use denote.RawPtr.{Ptr}
-use Rattle.wit_tree.specs.declared.tree.Extern.{Extern}
 use Rattle.wit_tree.specs.declared.tree.ExternKind.TheVariants as extern
 use Rattle.wit_type_tree.specs.declared.types.FuncForm.TheVariants as form
-use Rattle.wit_tree.specs.declared.tree.Include.{Include}
-use Rattle.wit_type_tree.specs.declared.types.NamedFunc.{NamedFunc}
-use Rattle.wit_tree.specs.declared.tree.PackageFile.{PackageFile}
 use Rattle.wit_tree.specs.declared.tree.AstItem.TheVariants as ast
-use Rattle.wit_tree.specs.declared.tree.World.{World as WrittenWorld}
 use Rattle.wit_tree.specs.declared.tree.WorldItem.TheVariants as world_item
-use Rattle.wit_tree.specs.declared.tree.WorldSide.{WorldSide}
-use Rattle.wit_tree.specs.declared.tree.WorldSide.TheVariants.{Imported, Exported}
 use Rattle.wit_type_tree.specs.declared.types.Primitive.TheVariants as primitive
 use Rattle.wit_type_tree.specs.declared.types.«Type».TheVariants as written
-use Rattle.wit_types.specs.declared.stability.Stability.TheVariants.{Unknown}
 use Rattle.wit_types.specs.declared.types.«Type».TheVariants as type
-use Rattle.wit_functions.specs.declared.function.Function.{Function}
+use Rattle.wit_arena.proofs.Common.{Function, WorldItem, WorldKey, function_item, settled}
 use Rattle.wit_functions.specs.declared.function.FunctionKind.TheVariants as kind
-use Rattle.wit_model.specs.declared.world.WorldItem.{WorldItem}
-use Rattle.wit_model.specs.declared.world.WorldKey.{WorldKey}
-use Rattle.wit_syntax.specs.Broken.{IsBroken, Setter}
-use Rattle.wit_syntax.specs.Fault.{fault_in}
-use Rattle.wit_syntax.specs.Function.{SourceFunction, functions}
-use Rattle.wit_syntax.specs.Metadata.{no_docs}
-use Rattle.wit_syntax.specs.Sides.{on_side}
-use Rattle.wit_syntax.specs.Source.{Item, TheWorld, top_names}
-use Rattle.wit_syntax.proofs.Found.{at_contains}
-use Rattle.wit_arena.specs.SourceFunctions.{function_item}
-use Rattle.wit_arena.specs.SideItems.{settled}
 use Rattle.wit_meaning_examples.proofs.Examples.{at, id, vec, no_comments, unstated, header}
 use Rattle.wit_meaning_examples.proofs.SignatureExamples.{x_id, func, func_of, v_u8}
 

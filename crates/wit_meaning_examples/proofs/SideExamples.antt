@@ -1,47 +1,19 @@
 -- Worked rows about functions that a world imports and exports.
 use Rattle.std.proofs.Common.{◌≡◌, ℕ, zero, suc, List, [], ◌∷◌, map, Some, None, refl, sym, ap, ◌∙◌, subst, arith, lit<, Contains}
-use Rattle.std.specs.Prelude.{codes, slice_get}
-use Rattle.std.specs.declared.alloc.Global.{Global}
+use Rattle.wit_syntax.proofs.Common.{AllDiffer, Attribute, Body, BrokenMetadata, BrokenTypes, ConstructorOfOther, ConstructorWithoutResult, CrossedTwice, CyclicType, Defined, DefinedTwice, DuplicateParam, Exported, Extern, Fault, FoldedTwice, Func, Function, GetterGiven, GetterWithoutResult, Global, Id, Imported, InterfaceMetadata, IsBroken, IsBrokenFunction, IsBrokenMetadata, IsBrokenScope, IsBrokenSides, IsCrossedTwice, IsFoldedTwice, IsOrder, Item, MissingInSignature, MissingType, PackageFile, Plain, SetterGiven, SetterWithResult, SideFunction, SideItem, Sides, SourceFunction, Span, TheWorld, Unknown, World as WrittenWorld, WorldSide, at_contains, called_key, codes, fault_in, flat_map, functions, interface_attributes, items_on, no_crossed, no_docs, no_fold, role_names, scope_names, side_called, side_function, side_items, slice_get, top_names, unbroken_metadata}
 use denote.RawPtr.{Ptr}
-use Rattle.wit_values.specs.declared.span.Span.{Span}
-use Rattle.wit_type_tree.specs.declared.leaves.Id.{Id}
 use Rattle.wit_type_tree.specs.declared.types.FuncForm.TheVariants as form
-use Rattle.wit_tree.specs.declared.tree.WorldSide.{WorldSide}
-use Rattle.wit_tree.specs.declared.tree.WorldSide.TheVariants.{Imported, Exported}
 use Rattle.wit_type_tree.specs.declared.types.Primitive.TheVariants as primitive
 use Rattle.wit_type_tree.specs.declared.types.«Type».TheVariants as written
-use Rattle.wit_type_tree.specs.declared.types.TypeBody.TheVariants.{Plain}
-use Rattle.wit_type_tree.specs.declared.types.Func.{Func}
-use Rattle.wit_type_tree.specs.declared.leaves.Attribute.{Attribute}
-use Rattle.wit_tree.specs.declared.tree.Extern.{Extern}
 use Rattle.wit_tree.specs.declared.tree.ExternKind.TheVariants as extern
 use Rattle.wit_tree.specs.declared.tree.WorldItem.TheVariants as world_item
-use Rattle.wit_tree.specs.declared.tree.World.{World as WrittenWorld}
 use Rattle.wit_tree.specs.declared.tree.AstItem.TheVariants as ast
-use Rattle.wit_tree.specs.declared.tree.PackageFile.{PackageFile}
-use Rattle.wit_types.specs.declared.stability.Stability.TheVariants.{Unknown}
 use Rattle.wit_types.specs.declared.types.TypeOwner.TheVariants as owner
-use Rattle.wit_functions.specs.declared.function.Function.{Function as Made}
+use Rattle.wit_arena.proofs.Common.{Function as Made, UnresolvedPackage, function_item, functions_of}
 use Rattle.wit_functions.specs.declared.function.FunctionKind.TheVariants as function_kind
-use Rattle.wit_model.specs.declared.unresolved.UnresolvedPackage.{UnresolvedPackage}
-use Rattle.wit_graph.specs.Table.{IsOrder}
-use Rattle.wit_syntax.specs.Fault.{Fault, fault_in}
-use Rattle.wit_syntax.specs.Metadata.{no_docs, IsBrokenMetadata}
-use Rattle.wit_syntax.specs.Repeats.{AllDiffer}
-use Rattle.wit_syntax.specs.Source.{top_names, TheWorld, Item, Defined, scope_names}
-use Rattle.wit_syntax.specs.Function.{SourceFunction, side_function, functions, role_names}
-use Rattle.wit_syntax.specs.SignatureRules.{IsBrokenFunction, BrokenMetadata, BrokenTypes, MissingInSignature, GetterGiven, SetterGiven, DuplicateParam, GetterWithoutResult, SetterWithResult, ConstructorWithoutResult, ConstructorOfOther}
-use Rattle.wit_syntax.specs.Sides.{SideItem, SideFunction, side_items, items_on, side_called, IsFoldedTwice, IsCrossedTwice, IsBrokenSides, FoldedTwice, CrossedTwice, InterfaceMetadata, interface_attributes}
-use Rattle.wit_syntax.specs.Broken.{IsBrokenScope, DefinedTwice, MissingType, CyclicType, Metadata, Body, Function, IsBroken, Sides}
-use Rattle.wit_syntax.proofs.Found.{at_contains}
-use Rattle.wit_syntax.proofs.Legal.{no_fold, no_crossed}
-use Rattle.wit_syntax.proofs.Unnoted.{unbroken_metadata}
-use Rattle.wit_arena.specs.SourceFunctions.{function_item}
-use Rattle.wit_arena.specs.UnfoldedTypes.{functions_of}
+use Rattle.wit_syntax.specs.Broken.{Metadata}
 use Rattle.wit_meaning_examples.proofs.Examples.{at, id, vec, no_comments, unstated, header}
 use Rattle.wit_meaning_examples.proofs.SignatureExamples.{one_order}
-use Rattle.std.specs.List.{flat_map}
-use Rattle.wit_syntax.proofs.Repeated.{called_key}
 use Rattle.wit_arena.proofs.MadeOn.{made_on}
 
 -- a scope without names has one order

@@ -1,57 +1,19 @@
 -- Worked rows about names of functions, their results, and the names in them.
 use Rattle.std.proofs.Common.{◌≡◌, ℕ, ◌<◌, ◌≤◌, ◌^◌, zero, suc, Bool, true, false, List, [], ◌∷◌, length, map, Option, Some, None, refl, ap, ◌∙◌, arith, lit<, lit≤}
-use Rattle.std.specs.Prelude.{codes, Box, slice_get, slice_index, take}
-use Rattle.std.specs.Str.{bytes_eq}
-use Rattle.std.specs.declared.alloc.Global.{Global}
+use Rattle.wit_syntax.proofs.Common.{Box, Called, ConstructorOfOther, DuplicateParam, Err', Fault, FoldedTwice, FuncForm, Function, Global, Id, Imported, Interface, InterfaceItem as Part, InterfaceNamed, IsBroken, IsBrokenScope, IsDependencyFirst, IsEdge, IsOrder, IsWrittenAs, Item, Leads, Missing, MissingInSignature, MissingName, MissingType, NamedFunc, OfFunction, Ok', PackageFile, Param, Plain, Resource, ResourceFunc, ResultForm, Row, Scope, Setter, SetterWithResult, Shape, Sides, SourceFunction, Span, TheInterface, Unknown, UseName, Word, all_scopes, at_contains, bytes_eq, called_key, codes, contains_at, fault, fault_in, flat_map, functions, items_on, no_docs, result_ok, role_names, scope_names, shape_of, side_called, side_items, slice_get, slice_index, take, top_names}
 use denote.RawPtr.{Ptr}
-use Rattle.wit_values.specs.declared.span.Span.{Span}
-use Rattle.wit_type_tree.specs.declared.leaves.Id.{Id}
 use Rattle.wit_type_tree.specs.declared.types.Primitive.TheVariants as primitive
 use Rattle.wit_type_tree.specs.declared.types.«Type».{«Type» as Written}
-use Rattle.wit_type_tree.specs.declared.types.ResultTypes.{Ok', Err'}
 use Rattle.wit_type_tree.specs.declared.types.«Type».TheVariants as written
-use Rattle.wit_type_tree.specs.declared.types.TypeBody.TheVariants.{Plain, Resource}
 use Rattle.wit_type_tree.specs.declared.types.TypeDef.{TypeDef as Definition}
-use Rattle.wit_type_tree.specs.declared.types.NamedFunc.{NamedFunc}
-use Rattle.wit_type_tree.specs.declared.types.FuncForm.{FuncForm}
 use Rattle.wit_type_tree.specs.declared.types.FuncForm.TheVariants as form
-use Rattle.wit_type_tree.specs.declared.types.Param.{Param}
-use Rattle.wit_type_tree.specs.declared.types.ResourceFunc.{ResourceFunc}
 use Rattle.wit_type_tree.specs.declared.types.ResourceFunc.TheVariants as resource
 use Rattle.wit_tree.specs.declared.tree.UsePath.TheVariants as path
-use Rattle.wit_tree.specs.declared.tree.UseName.{UseName}
-use Rattle.wit_tree.specs.declared.tree.InterfaceItem.{InterfaceItem as Part}
 use Rattle.wit_tree.specs.declared.tree.InterfaceItem.TheVariants.{TypeDef as TypeItem, Use as UseItem, Func as FuncItem}
-use Rattle.wit_tree.specs.declared.tree.Interface.{Interface}
 use Rattle.wit_tree.specs.declared.tree.AstItem.TheVariants.{Interface as InterfaceItem}
-use Rattle.wit_tree.specs.declared.tree.PackageFile.{PackageFile}
-use Rattle.wit_types.specs.declared.stability.Stability.TheVariants.{Unknown}
-use Rattle.wit_functions.specs.declared.function.Function.{Function as Made}
-use Rattle.wit_functions.specs.declared.function.FunctionKind.{FunctionKind}
+use Rattle.wit_arena.proofs.Common.{Def, Function as Made, FunctionKind, Use, Whole, occurrences, one, placed_functions, turned}
 use Rattle.wit_functions.specs.declared.function.FunctionKind.TheVariants as kind
-use Rattle.wit_type_tree.specs.RefusalText.{Missing}
-use Rattle.wit_graph.specs.Order.{IsDependencyFirst}
-use Rattle.wit_graph.specs.Table.{Row, IsEdge, Leads, IsOrder}
-use Rattle.wit_syntax.specs.Form.{ResultForm}
-use Rattle.wit_syntax.specs.Address.{InterfaceNamed}
-use Rattle.wit_syntax.specs.Metadata.{no_docs}
-use Rattle.wit_syntax.specs.Source.{top_names, TheInterface, Item, scope_names}
-use Rattle.wit_arena.specs.Expr.{Use, one}
-use Rattle.wit_arena.specs.Occurrences.{Def, Whole}
-use Rattle.wit_syntax.specs.Fault.{Fault, fault, fault_in}
-use Rattle.wit_syntax.specs.Shape.{Shape, Word, shape_of}
-use Rattle.wit_syntax.specs.Function.{SourceFunction, functions, role_names}
-use Rattle.wit_arena.specs.SourceFunctions.{placed_functions}
-use Rattle.wit_syntax.specs.SignatureRules.{Called, OfFunction, MissingInSignature, DuplicateParam, SetterWithResult, ConstructorOfOther, IsWrittenAs, result_ok}
-use Rattle.wit_tree.specs.declared.tree.WorldSide.TheVariants.{Imported}
-use Rattle.wit_syntax.specs.Sides.{side_items, all_scopes, side_called, FoldedTwice, items_on}
-use Rattle.wit_syntax.specs.Broken.{IsBrokenScope, MissingType, Function, IsBroken, Scope, Sides, MissingName, Setter}
-use Rattle.wit_arena.specs.Whole.{turned}
-use Rattle.wit_syntax.proofs.Found.{contains_at, at_contains}
 use Rattle.wit_meaning_examples.proofs.Examples.{at, id, vec, no_comments, unstated, header}
-use Rattle.std.specs.List.{flat_map}
-use Rattle.wit_syntax.proofs.Repeated.{called_key}
-use Rattle.wit_arena.proofs.Turns.{occurrences}
 
 -- a scope of one name that needs none has one order
 abbrev pub alone : List ℕ → List Row

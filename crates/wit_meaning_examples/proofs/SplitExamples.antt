@@ -1,44 +1,16 @@
 -- Where a `use` is at the top of a file it matters that files are split: these break no rule, and the one file with their declarations does.
 use Rattle.std.proofs.Common.{◌≡◌, ◌↔◌, ℕ, zero, suc, true, false, List, [], ◌∷◌, map, Some, None, ◌⊎◌, inl, inr, refl, sym, ap, ◌∙◌, subst, lit<}
-use Rattle.std.specs.Prelude.{codes, slice_get, Contains}
-use Rattle.std.specs.Str.{bytes_eq}
-use Rattle.std.specs.declared.alloc.Global.{Global}
+use Rattle.wit_syntax.proofs.Common.{Address, AllDiffer, Attribute, AttributedUse, Body, Contains, CrossedTwice, CyclicItem, CyclicType, Defined, DefinedTwice, DuplicateItem, DuplicateTopName, Exported, Fault, FoldedTwice, ForeignNamed, ForeignStability, ForeignVisit, Function, Global, Handle, Headerless, Imported, IncludeStability, Inside, Interface, InterfaceIncluded, InterfaceMetadata, IsBroken, IsBrokenBody, IsBrokenMetadata, IsBrokenNames, IsBrokenScope, IsBrokenSides, IsBrokenStability, IsBrokenType, IsBrokenUse, IsLegal, IsLinkedTwice, Item, ItemStability, Items, Itself, LinkedTwice, LostUse, MissingItem, MissingName, MissingType, MissingUse, Names, PackageFile, Plain, Scope, ScopeName, Setter, Sides, TheInterface, TopUse, ToplevelUse, Use as WrittenUse, UseMetadata, UseName, UsePath, Used, WorldSide, WorldUsed, about, address, all_handles, all_items, all_scopes, at_contains, bytes_eq, called_key, codes, declarations, differ_none, fault_in, file_declarations, find_among, functions, headers, include_paths, includes, is_world_at, item_name, item_rows, item_types, item_word, items_on, leads, local_name, missing_at, missing_type_at, no_crossed, no_cyclic_edge, no_fold, no_missing_edge, no_repeat, on_side, rows_of, scope_names, side_called, side_items, slice_get, top_names, top_text, type_word, unbroken_metadata, uses}
 use denote.RawPtr.{Ptr}
-use Rattle.wit_type_tree.specs.declared.leaves.Attribute.{Attribute}
 use Rattle.wit_tree.specs.declared.tree.AstItem.TheVariants as ast
-use Rattle.wit_tree.specs.declared.tree.Interface.{Interface}
 use Rattle.wit_tree.specs.declared.tree.InterfaceItem.TheVariants.{TypeDef as TypeItem, Use as UseItem}
-use Rattle.wit_tree.specs.declared.tree.PackageFile.{PackageFile}
 use Rattle.wit_tree.specs.declared.tree.PackageName.{PackageName as Header}
-use Rattle.wit_tree.specs.declared.tree.ToplevelUse.{ToplevelUse}
-use Rattle.wit_type_tree.specs.declared.types.TypeBody.TheVariants.{Plain}
 use Rattle.wit_type_tree.specs.declared.types.TypeDef.{TypeDef}
 use Rattle.wit_type_tree.specs.declared.types.Primitive.TheVariants as primitive
 use Rattle.wit_type_tree.specs.declared.types.«Type».{«Type» as Written}
 use Rattle.wit_type_tree.specs.declared.types.«Type».TheVariants as written
-use Rattle.wit_tree.specs.declared.tree.Use.{Use as WrittenUse}
-use Rattle.wit_tree.specs.declared.tree.UseName.{UseName}
-use Rattle.wit_tree.specs.declared.tree.UsePath.{UsePath}
 use Rattle.wit_tree.specs.declared.tree.UsePath.TheVariants as path
-use Rattle.wit_tree.specs.declared.tree.WorldSide.{WorldSide}
-use Rattle.wit_tree.specs.declared.tree.WorldSide.TheVariants.{Imported, Exported}
-use Rattle.wit_syntax.specs.Address.{Address, ForeignNamed}
-use Rattle.wit_syntax.specs.Bodies.{IsBrokenBody, IsBrokenType, Itself, Inside}
-use Rattle.wit_syntax.specs.Broken.{headers, DuplicateItem, DuplicateTopName, MissingItem, CyclicItem, IsBrokenNames, Items, ForeignStability, is_world_at, IsBrokenUse, MissingUse, WorldUsed, IsBrokenScope, DefinedTwice, MissingType, CyclicType, Metadata, Body, Function, IsBroken, Headerless, Names, ItemStability, UseMetadata, IncludeStability, Use, InterfaceIncluded, MissingName, LinkedTwice, IsLinkedTwice, Scope, Sides, Handle, Setter, IsLegal, TopUse, AttributedUse, LostUse}
-use Rattle.wit_syntax.specs.Fault.{Fault, fault_in, missing_at, missing_type_at, item_word, type_word}
-use Rattle.wit_syntax.specs.Foreign.{ForeignVisit}
-use Rattle.wit_syntax.specs.Function.{functions, item_types}
-use Rattle.wit_syntax.specs.Metadata.{IsBrokenStability, IsBrokenMetadata}
-use Rattle.wit_syntax.specs.Repeats.{AllDiffer}
-use Rattle.wit_syntax.specs.ScopeTables.{include_paths, includes, item_rows, rows_of, uses}
-use Rattle.wit_syntax.specs.Shape.{all_handles}
-use Rattle.wit_syntax.specs.Sides.{all_scopes, on_side, side_items, IsBrokenSides, FoldedTwice, CrossedTwice, side_called, items_on, InterfaceMetadata}
-use Rattle.wit_syntax.specs.Source.{Item, ScopeName, Used, Defined, TheInterface, leads, address, all_items, item_name, local_name, scope_names, top_names, top_text, about}
-use Rattle.wit_syntax.specs.Splitting.{declarations, file_declarations}
-use Rattle.wit_syntax.proofs.Found.{at_contains, find_among}
-use Rattle.wit_syntax.proofs.Legal.{no_missing_edge, no_cyclic_edge, no_fold, no_crossed}
-use Rattle.wit_syntax.proofs.Repeated.{differ_none, no_repeat, called_key}
-use Rattle.wit_syntax.proofs.Unnoted.{unbroken_metadata}
+use Rattle.wit_syntax.specs.Broken.{Metadata, Use}
 use Rattle.wit_meaning_examples.proofs.Examples.{at, id, vec, no_comments, unstated, header}
 use Rattle.wit_meaning_examples.proofs.SideExamples.{none_among, one_differs}
 use Rattle.wit_meaning_examples.proofs.SignatureExamples.{one_order}

@@ -1,75 +1,29 @@
 -- A package as it is usually written, computed by the definitions: a version, docs, a stability, a name of another package, a method, and a world.
 use Rattle.std.proofs.Common.{◌≡◌, ℕ, false, true, List, [], ◌∷◌, map, Some, None, refl, ap, lit<}
-use Rattle.std.specs.Prelude.{codes, take, Box}
-use Rattle.std.specs.List.{flat_map}
-use Rattle.std.specs.declared.alloc.Global.{Global}
+use Rattle.wit_syntax.proofs.Common.{Address, Borrow, BorrowForm, Both', Box, Defined, Exported, Extern, ExternKind, ForeignName, ForeignNamed, Global, Id, Imported, Interface as WrittenInterface, InterfaceNamed, IsOrder, Item, ListForm, Metadata, NamedFunc, Neither, PackageFile, PackageName, Release, Resource, ResultForm, Shape, Span, Stable, TheInterface, TheWorld, TypeDef, Unknown, Use as WrittenUse, UseName, Used, Version, Word, World as WrittenWorld, WorldNamed, WorldSide, all_items, codes, declared_metadata, flat_map, foreign_items, foreign_uses, functions, in_order, item_rows, joined, metadata, no_docs, package_of, rows_of, scope_names, side_items, signature, source_tree, take, top_names}
 use denote.RawPtr.{Ptr}
-use Rattle.semver.specs.declared.Version.{Version}
-use Rattle.wit_values.specs.declared.span.Span.{Span}
-use Rattle.wit_values.specs.declared.release.Release.{Release}
 use Rattle.wit_type_tree.specs.declared.leaves.Attribute.TheVariants as attribute
 use Rattle.wit_type_tree.specs.declared.leaves.Docs.{Docs as Comments}
-use Rattle.wit_tree.specs.declared.tree.Extern.{Extern}
-use Rattle.wit_tree.specs.declared.tree.ExternKind.{ExternKind}
 use Rattle.wit_tree.specs.declared.tree.ExternKind.TheVariants as extern
 use Rattle.wit_type_tree.specs.declared.types.FuncForm.TheVariants as form
-use Rattle.wit_type_tree.specs.declared.leaves.Id.{Id}
-use Rattle.wit_type_tree.specs.declared.types.NamedFunc.{NamedFunc}
 use Rattle.wit_type_tree.specs.declared.types.ResourceFunc.TheVariants as resource
 use Rattle.wit_type_tree.specs.declared.types.Primitive.TheVariants as primitive
 use Rattle.wit_type_tree.specs.declared.types.«Type».{«Type» as Written}
-use Rattle.wit_type_tree.specs.declared.types.ResultTypes.{Neither, Both'}
 use Rattle.wit_type_tree.specs.declared.types.«Type».TheVariants as written
-use Rattle.wit_type_tree.specs.declared.types.TypeBody.TheVariants.{Resource}
 use Rattle.wit_type_tree.specs.declared.types.TypeDef.{TypeDef as Definition}
-use Rattle.wit_tree.specs.declared.tree.Use.{Use as WrittenUse}
-use Rattle.wit_tree.specs.declared.tree.UseName.{UseName}
 use Rattle.wit_tree.specs.declared.tree.UsePath.TheVariants as path
 use Rattle.wit_tree.specs.declared.tree.InterfaceItem.TheVariants as interface_item
-use Rattle.wit_tree.specs.declared.tree.Interface.{Interface as WrittenInterface}
-use Rattle.wit_tree.specs.declared.tree.World.{World as WrittenWorld}
 use Rattle.wit_tree.specs.declared.tree.WorldItem.TheVariants as world_item
-use Rattle.wit_tree.specs.declared.tree.WorldSide.{WorldSide}
-use Rattle.wit_tree.specs.declared.tree.WorldSide.TheVariants.{Imported, Exported}
 use Rattle.wit_tree.specs.declared.tree.AstItem.TheVariants as ast
 use Rattle.wit_tree.specs.declared.tree.PackageName.{PackageName as Header}
-use Rattle.wit_tree.specs.declared.tree.PackageFile.{PackageFile}
-use Rattle.wit_types.specs.declared.stability.Stability.TheVariants.{Unknown, Stable}
-use Rattle.wit_types.specs.declared.types.Handle.TheVariants.{Borrow}
 use Rattle.wit_types.specs.declared.types.«Type».TheVariants as type
-use Rattle.wit_types.specs.declared.types.TypeDef.{TypeDef}
 use Rattle.wit_types.specs.declared.types.TypeDefKind.TheVariants as kind
 use Rattle.wit_types.specs.declared.types.TypeOwner.TheVariants as owner
-use Rattle.wit_package_names.specs.declared.package_name.PackageName.{PackageName}
 use Rattle.wit_model.specs.declared.ast_item.AstItem.TheVariants as entry
-use Rattle.wit_functions.specs.declared.function.Function.{Function}
+use Rattle.wit_arena.proofs.Common.{AreSideItems, Collects, Def, End, Function, Interface, IsOccurrence, Key, More, NamesOthers, Occurrence, Of, Prim, Turned, UnresolvedPackage, Use, Whole, WorldItem, WorldKey, all_occurrences, all_turns, declarations, function_item, function_types, interface_addresses, named, one, owner_of, package_tree, turn_handles, unnamed}
 use Rattle.wit_functions.specs.declared.function.FunctionKind.TheVariants as function_kind
-use Rattle.wit_model.specs.declared.interface.Interface.{Interface}
-use Rattle.wit_model.specs.declared.unresolved.UnresolvedPackage.{UnresolvedPackage}
-use Rattle.wit_model.specs.declared.world.WorldItem.{WorldItem}
 use Rattle.wit_model.specs.declared.world.WorldItem.TheVariants as item
-use Rattle.wit_model.specs.declared.world.WorldKey.{WorldKey}
 use Rattle.wit_model.specs.declared.world.WorldKey.TheVariants as key
-use Rattle.wit_graph.specs.Table.{IsOrder}
-use Rattle.wit_syntax.specs.Address.{Address, InterfaceNamed, WorldNamed, ForeignNamed, package_of}
-use Rattle.wit_syntax.specs.Foreign.{foreign_items}
-use Rattle.wit_syntax.specs.Form.{BorrowForm, ListForm, ResultForm}
-use Rattle.wit_syntax.specs.Function.{functions, signature}
-use Rattle.wit_syntax.specs.Metadata.{Metadata, no_docs, metadata}
-use Rattle.wit_syntax.specs.Docs.{joined}
-use Rattle.wit_syntax.specs.ScopeTables.{in_order, item_rows, rows_of}
-use Rattle.wit_syntax.specs.Shape.{Shape, Word}
-use Rattle.wit_syntax.specs.Sides.{side_items}
-use Rattle.wit_syntax.specs.Source.{TheInterface, TheWorld, Item, all_items, Used, Defined, scope_names, foreign_uses, top_names, declared_metadata, ForeignName}
-use Rattle.wit_syntax.specs.ScopesOfTrees.{source_tree}
-use Rattle.wit_arena.specs.Expr.{End, More, Of, Prim, Use, one}
-use Rattle.wit_arena.specs.SourceFunctions.{function_item}
-use Rattle.wit_arena.specs.Occurrences.{Key, Def, Whole, Occurrence, Collects, IsOccurrence}
-use Rattle.wit_arena.specs.UnfoldedTypes.{owner_of, function_types, package_tree}
-use Rattle.wit_arena.specs.Resolving.{named, unnamed}
-use Rattle.wit_arena.specs.SideItems.{AreSideItems}
-use Rattle.wit_arena.specs.Whole.{Turned, all_occurrences, all_turns, declarations, turn_handles, interface_addresses}
-use Rattle.wit_arena.proofs.ByParts.{NamesOthers}
 use Rattle.wit_meaning_examples.proofs.Examples.{at, id, vec, no_comments, unstated}
 use Rattle.wit_meaning_examples.proofs.MetadataExamples.{trimmed}
 use Rattle.wit_meaning_examples.proofs.SmallOrders.{straight, apart_order}

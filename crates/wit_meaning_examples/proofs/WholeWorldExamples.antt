@@ -1,65 +1,24 @@
 -- A world with all that can be in one, computed by the definitions: a `use`, an interface that is written there, paths on both sides, a function, and an include.
 use Rattle.std.proofs.Common.{◌≡◌, ℕ, List, [], ◌∷◌, map, Some, None, refl, lit<}
-use Rattle.std.specs.Prelude.{codes, take}
-use Rattle.std.specs.List.{flat_map}
-use Rattle.std.specs.declared.alloc.Global.{Global}
+use Rattle.wit_syntax.proofs.Common.{Address, Defined, Exported, Extern, ExternKind, Func, Global, Id, Imported, Include, InlineAt, Interface as WrittenInterface, InterfaceItem, InterfaceNamed, IsOrder, Item, PackageFile, Plain, Shape, Span, TheInline, TheInterface, TheWorld, TypeDef, TypeOwner, Unknown, Use, UseName, Used, Word, World as WrittenWorld, WorldItem as WorldPart, WorldNamed, WorldSide, all_items, codes, flat_map, functions, in_order, inline_items, interfaces_of, item_rows, no_docs, rows_of, scope_names, side_items, signature, source_tree, take, top_names, worlds_of}
 use denote.RawPtr.{Ptr}
-use Rattle.wit_values.specs.declared.span.Span.{Span}
-use Rattle.wit_tree.specs.declared.tree.Extern.{Extern}
-use Rattle.wit_tree.specs.declared.tree.ExternKind.{ExternKind}
 use Rattle.wit_tree.specs.declared.tree.ExternKind.TheVariants as extern
 use Rattle.wit_type_tree.specs.declared.types.TypeDef.{TypeDef as Definition}
-use Rattle.wit_type_tree.specs.declared.types.Func.{Func}
 use Rattle.wit_type_tree.specs.declared.types.FuncForm.TheVariants as form
-use Rattle.wit_type_tree.specs.declared.leaves.Id.{Id}
-use Rattle.wit_tree.specs.declared.tree.Include.{Include}
 use Rattle.wit_type_tree.specs.declared.types.Primitive.TheVariants as primitive
 use Rattle.wit_type_tree.specs.declared.types.«Type».TheVariants as written
-use Rattle.wit_type_tree.specs.declared.types.TypeBody.TheVariants.{Plain}
-use Rattle.wit_tree.specs.declared.tree.Use.{Use}
-use Rattle.wit_tree.specs.declared.tree.UseName.{UseName}
 use Rattle.wit_tree.specs.declared.tree.UsePath.TheVariants as path
-use Rattle.wit_tree.specs.declared.tree.InterfaceItem.{InterfaceItem}
 use Rattle.wit_tree.specs.declared.tree.InterfaceItem.TheVariants as interface_item
-use Rattle.wit_tree.specs.declared.tree.Interface.{Interface as WrittenInterface}
-use Rattle.wit_tree.specs.declared.tree.World.{World as WrittenWorld}
-use Rattle.wit_tree.specs.declared.tree.WorldItem.{WorldItem as WorldPart}
 use Rattle.wit_tree.specs.declared.tree.WorldItem.TheVariants as world_item
-use Rattle.wit_tree.specs.declared.tree.WorldSide.{WorldSide}
-use Rattle.wit_tree.specs.declared.tree.WorldSide.TheVariants.{Imported, Exported}
 use Rattle.wit_tree.specs.declared.tree.AstItem.TheVariants as ast
-use Rattle.wit_tree.specs.declared.tree.PackageFile.{PackageFile}
-use Rattle.wit_types.specs.declared.stability.Stability.TheVariants.{Unknown}
 use Rattle.wit_types.specs.declared.types.«Type».{«Type» as Ty}
 use Rattle.wit_types.specs.declared.types.«Type».TheVariants as type
-use Rattle.wit_types.specs.declared.types.TypeDef.{TypeDef}
 use Rattle.wit_types.specs.declared.types.TypeDefKind.TheVariants as kind
-use Rattle.wit_types.specs.declared.types.TypeOwner.{TypeOwner}
 use Rattle.wit_types.specs.declared.types.TypeOwner.TheVariants as owner
-use Rattle.wit_functions.specs.declared.function.Function.{Function}
+use Rattle.wit_arena.proofs.Common.{AreSideItems, Collects, Def, Function, IsInclude, IsOccurrence, Occurrence, Ordered, OrderedWorld, Param, UnresolvedPackage, World, WorldInclude, WorldItem, WorldKey, all_occurrences, all_turns, declarations, function_item, function_types, inline_entry, interface_addresses, names_of, owner_of, package_tree, world_addresses}
 use Rattle.wit_functions.specs.declared.function.FunctionKind.TheVariants as function_kind
-use Rattle.wit_functions.specs.declared.function.Param.{Param}
-use Rattle.wit_model.specs.declared.unresolved.UnresolvedPackage.{UnresolvedPackage}
-use Rattle.wit_model.specs.declared.world.World.{World}
-use Rattle.wit_model.specs.declared.world.WorldInclude.{WorldInclude}
-use Rattle.wit_model.specs.declared.world.WorldItem.{WorldItem}
 use Rattle.wit_model.specs.declared.world.WorldItem.TheVariants as item
-use Rattle.wit_model.specs.declared.world.WorldKey.{WorldKey}
 use Rattle.wit_model.specs.declared.world.WorldKey.TheVariants as key
-use Rattle.wit_graph.specs.Table.{IsOrder}
-use Rattle.wit_syntax.specs.Address.{Address, InterfaceNamed, WorldNamed, InlineAt}
-use Rattle.wit_syntax.specs.Function.{functions, signature}
-use Rattle.wit_syntax.specs.Metadata.{no_docs}
-use Rattle.wit_syntax.specs.ScopeTables.{in_order, item_rows, rows_of, interfaces_of, worlds_of}
-use Rattle.wit_syntax.specs.Shape.{Shape, Word}
-use Rattle.wit_syntax.specs.Sides.{side_items, inline_items}
-use Rattle.wit_syntax.specs.Source.{TheInterface, TheWorld, TheInline, Item, all_items, Used, Defined, scope_names, top_names}
-use Rattle.wit_syntax.specs.ScopesOfTrees.{source_tree}
-use Rattle.wit_arena.specs.SourceFunctions.{function_item}
-use Rattle.wit_arena.specs.Occurrences.{Def, Occurrence, Collects, IsOccurrence}
-use Rattle.wit_arena.specs.UnfoldedTypes.{owner_of, names_of, function_types, package_tree}
-use Rattle.wit_arena.specs.SideItems.{inline_entry, AreSideItems}
-use Rattle.wit_arena.specs.Whole.{Ordered, OrderedWorld, all_occurrences, all_turns, declarations, interface_addresses, world_addresses, IsInclude}
 use Rattle.wit_meaning_examples.proofs.Examples.{at, id, vec, no_comments, unstated, header}
 use Rattle.wit_meaning_examples.proofs.SideExamples.{no_rows}
 use Rattle.wit_meaning_examples.proofs.SignatureExamples.{one_order}

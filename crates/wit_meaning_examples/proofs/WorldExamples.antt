@@ -1,48 +1,20 @@
 -- A world with a use, a definition and an include, computed by the definitions.
 use Rattle.std.proofs.Common.{◌≡◌, ℕ, List, [], ◌∷◌, map, Some, None, refl, lit<}
-use Rattle.std.specs.Prelude.{codes}
-use Rattle.std.specs.declared.alloc.Global.{Global}
+use Rattle.wit_syntax.proofs.Common.{Address, AliasForm, Defined, Global, Head, Include, Interface as WrittenInterface, InterfaceNamed, Item, Leaf, Named, PackageFile, Plain, Span, TheInterface, TheWorld, TypeDef, TypeOwner, Unknown, UseName, Used, Word, World as WrittenWorld, WorldNamed, all_items, codes, in_order, interfaces_of, item_rows, no_docs, scope_names, source_tree, top_names, worlds_of}
 use denote.RawPtr.{Ptr}
-use Rattle.wit_values.specs.declared.span.Span.{Span}
 use Rattle.wit_type_tree.specs.declared.types.Primitive.TheVariants as primitive
 use Rattle.wit_type_tree.specs.declared.types.«Type».TheVariants as written
-use Rattle.wit_type_tree.specs.declared.types.TypeBody.TheVariants.{Plain}
 use Rattle.wit_type_tree.specs.declared.types.TypeDef.{TypeDef as Definition}
 use Rattle.wit_tree.specs.declared.tree.UsePath.TheVariants as path
-use Rattle.wit_tree.specs.declared.tree.UseName.{UseName}
-use Rattle.wit_tree.specs.declared.tree.Include.{Include}
 use Rattle.wit_tree.specs.declared.tree.InterfaceItem.TheVariants as interface_item
 use Rattle.wit_tree.specs.declared.tree.WorldItem.TheVariants as world_item
-use Rattle.wit_tree.specs.declared.tree.Interface.{Interface as WrittenInterface}
-use Rattle.wit_tree.specs.declared.tree.World.{World as WrittenWorld}
 use Rattle.wit_tree.specs.declared.tree.AstItem.TheVariants as ast
-use Rattle.wit_tree.specs.declared.tree.PackageFile.{PackageFile}
-use Rattle.wit_types.specs.declared.stability.Stability.TheVariants.{Unknown}
 use Rattle.wit_types.specs.declared.types.«Type».{«Type» as Ty}
 use Rattle.wit_types.specs.declared.types.«Type».TheVariants as type
-use Rattle.wit_types.specs.declared.types.TypeDef.{TypeDef}
 use Rattle.wit_types.specs.declared.types.TypeDefKind.TheVariants as kind
-use Rattle.wit_types.specs.declared.types.TypeOwner.{TypeOwner}
 use Rattle.wit_types.specs.declared.types.TypeOwner.TheVariants as owner
-use Rattle.wit_model.specs.declared.interface.Interface.{Interface}
-use Rattle.wit_model.specs.declared.world.World.{World}
-use Rattle.wit_model.specs.declared.world.WorldInclude.{WorldInclude}
-use Rattle.wit_model.specs.declared.world.WorldKey.{WorldKey}
-use Rattle.wit_model.specs.declared.world.WorldItem.{WorldItem}
-use Rattle.wit_model.specs.declared.unresolved.UnresolvedPackage.{UnresolvedPackage}
-use Rattle.wit_syntax.specs.Form.{AliasForm}
-use Rattle.wit_syntax.specs.Node.{Head, Leaf, Named}
-use Rattle.wit_syntax.specs.Address.{Address, InterfaceNamed, WorldNamed}
-use Rattle.wit_syntax.specs.Metadata.{no_docs}
-use Rattle.wit_syntax.specs.Source.{TheInterface, TheWorld, Item, top_names, all_items, Used, Defined, scope_names}
-use Rattle.wit_syntax.specs.ScopesOfTrees.{source_tree}
-use Rattle.wit_arena.specs.Occurrences.{Def, Occurrence}
-use Rattle.wit_syntax.specs.ScopeTables.{in_order, item_rows, interfaces_of, worlds_of}
-use Rattle.wit_syntax.specs.Shape.{Word}
-use Rattle.wit_arena.specs.UnfoldedTypes.{names_of, package_tree}
-use Rattle.wit_arena.specs.Whole.{Ordered, addresses, turned, ordered_names, type_imports, IsInclude}
+use Rattle.wit_arena.proofs.Common.{Def, Interface, IsInclude, Occurrence, Ordered, UnresolvedPackage, World, WorldInclude, WorldItem, WorldKey, addresses, names_of, occurrences, ordered_names, package_tree, turned, type_imports}
 use Rattle.wit_meaning_examples.proofs.Examples.{at, id, vec, no_comments, unstated, header}
-use Rattle.wit_arena.proofs.Turns.{occurrences}
 
 -- package foo:foo; interface x { type t = u8; } world v { include w; } world w { use x.{t}; type s = t; }
 module _ (ptr : Ptr) (alloc : Global) where

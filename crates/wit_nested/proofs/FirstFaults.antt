@@ -1,23 +1,9 @@
 -- The first fault of a nested package, of several, of a source, and of what was pushed.
 use Rattle.std.proofs.Common.{◌≡◌, ◌⊎◌, List, [], ◌∷◌, ◌++◌, Option, Some, None, inl, inr, refl, sym, ap, ◌∙◌, subst, map}
-use Rattle.std.specs.Prelude.{Result, Ok, Err}
-use Rattle.std.specs.List.{AllZip}
-use Rattle.std.specs.Option.{option_or}
-use Rattle.wit_tree.specs.declared.tree.NestedPackage.{NestedPackage}
+use Rattle.wit_syntax.proofs.Common.{AllZip, Err, Fault, IsAllocationFailure, NestedPackage, Ok, PackageFile, ParseError, Refused, Result, SourceFile, fault_of, headers, last_header, option_or}
 use Rattle.wit_tree.specs.declared.tree.PackageName.{PackageName as Header}
-use Rattle.wit_tree.specs.declared.tree.PackageFile.{PackageFile}
-use Rattle.wit_tree.specs.declared.tree.SourceFile.{SourceFile}
-use Rattle.wit_type_tree.specs.declared.error.ParseError.{ParseError}
-use Rattle.wit_type_tree.specs.RefusalText.{IsAllocationFailure}
-use Rattle.wit_model.specs.declared.unresolved.UnresolvedPackage.{UnresolvedPackage}
-use Rattle.wit_syntax.specs.Broken.{Refused, headers, last_header}
-use Rattle.wit_syntax.specs.Fault.{Fault, fault_of}
-use Rattle.wit_arena.specs.Faithful.{IsMadeOf}
-use Rattle.wit_first.specs.First.{Finds, FindsBy, Reports, first_in}
-use Rattle.wit_first.specs.HeaderFaults.{nesting_fault, other_fault, push_fault, second_docs_fault}
-use Rattle.wit_first.proofs.First.{in-append, or_none}
-use Rattle.wit_walk.specs.Walk.{ComesTo, earliest}
-use Rattle.wit_walk.proofs.One.{one_first}
+use Rattle.wit_arena.proofs.Common.{IsMadeOf, UnresolvedPackage}
+use Rattle.wit_walk.proofs.Common.{ComesTo, Finds, FindsBy, Reports, earliest, first_in, in-append, nesting_fault, one_first, or_none, other_fault, push_fault, second_docs_fault}
 use Rattle.wit_nested.specs.Nested.{IsMadeByNested, file_of}
 use Rattle.wit_nested.specs.NestedSources.{IsSourceOf}
 use Rattle.wit_nested.specs.PackageNames.{AreNamedApart, IsRepeatedPackage}

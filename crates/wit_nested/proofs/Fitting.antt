@@ -1,14 +1,7 @@
 -- What was taken is not unfit.
 use Rattle.std.proofs.Common.{◌≡◌, ℕ, zero, suc, List, [], ◌∷◌, Some, inl, inr, sym, subst}
-use Rattle.std.specs.Prelude.{Contains, slice_get}
-use Rattle.std.specs.List.{AllZip}
-use Rattle.wit_tree.specs.declared.tree.NestedPackage.{NestedPackage}
-use Rattle.wit_tree.specs.declared.tree.PackageFile.{PackageFile}
-use Rattle.wit_tree.specs.declared.tree.SourceFile.{SourceFile}
-use Rattle.wit_model.specs.declared.unresolved.UnresolvedPackage.{UnresolvedPackage}
-use Rattle.wit_syntax.specs.Fault.{Fault}
-use Rattle.wit_syntax.specs.Broken.{IsDocumentedTwice, IsOtherPackage}
-use Rattle.wit_syntax.proofs.Found.{at_contains}
+use Rattle.wit_syntax.proofs.Common.{AllZip, Contains, Fault, IsDocumentedTwice, IsOtherPackage, NestedPackage, PackageFile, SourceFile, at_contains, slice_get}
+use Rattle.wit_arena.proofs.Common.{UnresolvedPackage}
 use Rattle.wit_parser.specs.Stray.{IsStray}
 use Rattle.wit_nested.specs.Nested.{IsBrokenAmong, IsBrokenNested, IsMadeByNested, IsUnfit}
 use Rattle.wit_nested.specs.Nested.IsBrokenNested.{Inner, Alone}

@@ -1,15 +1,10 @@
 -- The first fault of a group: it is one, and something that is wrong with it.
 use Rattle.std.proofs.Common.{◌≡◌, ◌⊎◌, List, Option, Some, None, inl, inr, refl, sym, ap, ◌∙◌, subst}
-use Rattle.wit_tree.specs.declared.tree.PackageFile.{PackageFile}
-use Rattle.wit_tree.specs.declared.tree.SourceFile.{SourceFile}
-use Rattle.wit_syntax.specs.Broken.{IsBroken, last_header}
-use Rattle.wit_syntax.specs.Fault.{Fault}
-use Rattle.wit_first.specs.Laws.{Agrees}
-use Rattle.wit_first.proofs.First.{or_none}
+use Rattle.wit_syntax.proofs.Common.{Fault, IsBroken, PackageFile, SourceFile, last_header}
+use Rattle.wit_walk.proofs.Common.{Agrees, earliest, or_none}
 use Rattle.wit_nested.specs.PushFaults.{IsWalk, files_of}
 use Rattle.wit_nested.specs.GroupFaults.{names_fault, nested_names, joined_faults, group_fault, GroupComesTo, IsFirstOfGroup, IsFaultlessGroup, IsUnfitAmong, IsNamedTwice, IsBrokenGroup, IsLegalGroup}
 use Rattle.wit_nested.specs.GroupFaults.IsBrokenGroup.{Unfit, Broken, NamedTwice}
-use Rattle.wit_walk.specs.Walk.{earliest}
 use Rattle.wit_nested.proofs.Names.{names_agree}
 use Rattle.wit_nested.proofs.Pushes.{a_walk, none_of, one_walk, or_agrees, pushes_agree, walk_agrees}
 

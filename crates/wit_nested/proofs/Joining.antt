@@ -1,11 +1,7 @@
 -- Why files and the packages that were nested in them make no group.
 use Rattle.std.proofs.Common.{List}
-use Rattle.wit_tree.specs.declared.tree.PackageFile.{PackageFile}
-use Rattle.wit_type_tree.specs.declared.error.ParseError.{ParseError}
-use Rattle.wit_model.specs.declared.unresolved.UnresolvedPackage.{UnresolvedPackage}
-use Rattle.wit_syntax.specs.Broken.{IsBroken, Refused}
-use Rattle.wit_syntax.proofs.Refusing.{refused_weaker}
-use Rattle.wit_arena.specs.Faithful.{IsMadeOf}
+use Rattle.wit_syntax.proofs.Common.{IsBroken, PackageFile, ParseError, Refused, refused_weaker}
+use Rattle.wit_arena.proofs.Common.{IsMadeOf, UnresolvedPackage}
 use Rattle.wit_nested.specs.PackageNames.{IsRepeatedPackage, IsUnjoined}
 use Rattle.wit_nested.specs.PackageNames.IsUnjoined.{Broken, Repeated}
 

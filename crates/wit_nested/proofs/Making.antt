@@ -1,20 +1,8 @@
 -- Nested packages, one more at a time, and what a source with them comes to.
 use Rattle.std.proofs.Common.{◌≡◌, ◌⊎◌, List, [], ◌∷◌, ◌++◌, Some, None, inl, inr, ap, sym, subst, ◌∙◌, append_assoc, map}
-use Rattle.std.specs.Prelude.{Result, Ok, Err, IfOk, OnOk, IfErr, Contains}
-use Rattle.std.specs.List.{AllZip}
-use Rattle.std.proofs.lemmas.List.{map-append}
-use Rattle.std.proofs.lemmas.List.Elements.{Contains-append_left, Contains-push}
-use Rattle.wit_tree.specs.declared.tree.NestedPackage.{NestedPackage}
+use Rattle.wit_syntax.proofs.Common.{AllZip, Contains, Contains-append_left, Contains-push, Err, Fault, IfErr, IfOk, IsBroken, IsDocumentedTwice, IsLegal, IsOtherPackage, NestedPackage, Ok, OnOk, PackageFile, ParseError, Refused, Result, SourceFile, map-append, refused_weaker}
 use Rattle.wit_tree.specs.declared.tree.PackageName.{PackageName as Header}
-use Rattle.wit_tree.specs.declared.tree.PackageFile.{PackageFile}
-use Rattle.wit_tree.specs.declared.tree.SourceFile.{SourceFile}
-use Rattle.wit_type_tree.specs.declared.error.ParseError.{ParseError}
-use Rattle.wit_model.specs.declared.unresolved.UnresolvedPackage.{UnresolvedPackage}
-use Rattle.wit_syntax.specs.Fault.{Fault}
-use Rattle.wit_syntax.specs.Broken.{IsBroken, IsDocumentedTwice, IsLegal, IsOtherPackage, Refused}
-use Rattle.wit_syntax.proofs.Refusing.{refused_weaker}
-use Rattle.wit_arena.specs.Made.{Makes}
-use Rattle.wit_arena.specs.Faithful.{IsMadeOf}
+use Rattle.wit_arena.proofs.Common.{IsMadeOf, Makes, UnresolvedPackage}
 use Rattle.wit_parser.specs.Stray.{IsNesting, IsStray}
 use Rattle.wit_nested.specs.Nested.{GrowByNested, IsBrokenAmong, IsBrokenNested, IsMadeByNested, IsUnfit, file_of}
 use Rattle.wit_nested.specs.Nested.IsBrokenNested.{Inner, Alone}

@@ -1,31 +1,10 @@
 -- The names of the packages of a group: E53 is what is refused where the packages are made.
 use Rattle.std.proofs.Common.{◌≡◌, ℕ, zero, suc, Bool, true, false, List, [], ◌∷◌, ◌++◌, take, Option, Some, None, inl, inr, refl, sym, ap, ◌∙◌, subst, append_assoc, map, arith}
-use Rattle.std.specs.Prelude.{Contains, slice_get}
-use Rattle.std.specs.List.{AllZip, list_any}
-use Rattle.std.specs.Option.{option_map}
-use Rattle.std.proofs.lemmas.List.{append-nil, map-append, take-map}
-use Rattle.std.proofs.lemmas.Option.{slice_get-map}
-use Rattle.wit_values.specs.declared.span.Span.{Span}
-use Rattle.wit_tree.specs.declared.tree.NestedPackage.{NestedPackage}
+use Rattle.wit_syntax.proofs.Common.{AllDiffer, AllZip, Contains, Fault, IsSamePackage, NestedPackage, PackageName, SourceFile, Span, append-nil, at_contains, at_take, contains_at, differ_at, differ_more, differ_none, fault_in, last_header, list_any, map-append, map_at, option_map, package_of, package_words, same_package, same_package-equal, same_package-from, slice_get, slice_get-map, take-map}
 use Rattle.wit_tree.specs.declared.tree.PackageName.{PackageName as Header}
-use Rattle.wit_tree.specs.declared.tree.SourceFile.{SourceFile}
-use Rattle.wit_package_names.specs.declared.package_name.PackageName.{PackageName}
-use Rattle.wit_model.specs.declared.unresolved.UnresolvedPackage.{UnresolvedPackage}
-use Rattle.wit_syntax.specs.Address.{package_of, same_package}
-use Rattle.wit_syntax.specs.Broken.{IsSamePackage, last_header}
-use Rattle.wit_syntax.specs.Fault.{Fault, fault_in}
-use Rattle.wit_syntax.specs.Words.{package_words}
-use Rattle.wit_syntax.specs.Repeats.{AllDiffer}
-use Rattle.wit_syntax.proofs.Addresses.{same_package-equal, same_package-from}
-use Rattle.wit_syntax.proofs.Found.{at_contains, contains_at}
-use Rattle.wit_syntax.proofs.Lists.{at_take, map_at}
-use Rattle.wit_syntax.proofs.Repeated.{differ_at, differ_more, differ_none}
-use Rattle.wit_arena.specs.Faithful.{IsMadeOf}
+use Rattle.wit_arena.proofs.Common.{IsMadeOf, UnresolvedPackage}
 use Rattle.wit_arena.proofs.MadeHeads.{header_there}
-use Rattle.wit_first.specs.First.{first_after}
-use Rattle.wit_first.specs.Laws.{Agrees}
-use Rattle.wit_first.proofs.Bridge.{after_only, after_some, any_found, or_none_both, or_some}
-use Rattle.wit_first.proofs.First.{after-at, any_some, none_both}
+use Rattle.wit_walk.proofs.Common.{Agrees, after-at, after_only, after_some, any_found, any_some, first_after, none_both, or_none_both, or_some}
 use Rattle.wit_parser.proofs.Pushing.{package_same, same_by}
 use Rattle.wit_nested.specs.Nested.{IsMadeByNested}
 use Rattle.wit_nested.specs.PackageNames.{IsRepeatedPackage, package_names}

@@ -1,17 +1,7 @@
 -- Names that occur one by one, and which of them occurs again.
 use Rattle.std.proofs.Common.{◌≡◌, ℕ, ◌<◌, ◌+◌, suc, Bool, true, false, not, List, [], ◌∷◌, ◌++◌, length, take, get_or, map, Some, Contains, inl, inr, sym, ap, subst, ◌∙◌, true≢false}
-use Rattle.std.specs.Prelude.{MatchBool}
-use Rattle.std.specs.List.{list_any}
-use Rattle.std.proofs.lemmas.Bool.{cases_Bool, cond-false, not-true, not-false}
-use Rattle.std.proofs.lemmas.List.{map-append}
-use Rattle.std.proofs.lemmas.Map.Keys.{any_passes_from_place}
-use Rattle.indexmap.specs.IndexSet.{insert_key}
-use Rattle.wit_package_names.specs.declared.package_name.PackageName.{PackageName}
-use Rattle.wit_model.specs.declared.unresolved.UnresolvedPackage.{UnresolvedPackage}
-use Rattle.wit_syntax.specs.Repeats.{AllDiffer}
-use Rattle.wit_syntax.proofs.Found.{contains_at, at_contains}
-use Rattle.wit_syntax.proofs.Lists.{map_at}
-use Rattle.wit_syntax.proofs.Repeated.{differ_none, differ_more}
+use Rattle.wit_syntax.proofs.Common.{AllDiffer, MatchBool, PackageName, any_passes_from_place, at_contains, cases_Bool, cond-false, contains_at, differ_more, differ_none, insert_key, list_any, map-append, map_at, not-false, not-true}
+use Rattle.wit_arena.proofs.Common.{UnresolvedPackage}
 use Rattle.wit_nested.specs.PackageNames.{package_names}
 use Rattle.wit_nested.proofs.Prefixes.{prefix_more}
 use Rattle.wit_nested.proofs.PackageNames.{none_among}

@@ -1,11 +1,7 @@
 -- The same files make the same packages.
 use Rattle.std.proofs.Common.{◌≡◌, List, [], ◌∷◌, refl}
-use Rattle.std.specs.List.{AllZip}
-use Rattle.wit_tree.specs.declared.tree.NestedPackage.{NestedPackage}
-use Rattle.wit_tree.specs.declared.tree.PackageFile.{PackageFile}
-use Rattle.wit_model.specs.declared.unresolved.UnresolvedPackage.{UnresolvedPackage}
-use Rattle.wit_arena.specs.Faithful.{IsMadeOf}
-use Rattle.wit_arena.proofs.OneMade.{one_made}
+use Rattle.wit_syntax.proofs.Common.{AllZip, NestedPackage, PackageFile}
+use Rattle.wit_arena.proofs.Common.{IsMadeOf, UnresolvedPackage, one_made}
 use Rattle.wit_nested.specs.Nested.{file_of, IsMadeByNested}
 
 pub one_main : (files : List PackageFile) (p q : UnresolvedPackage) → IsMadeOf files p → IsMadeOf files q → p ≡ q

@@ -1,12 +1,7 @@
 -- Nested packages and their names.
 use Rattle.std.proofs.Common.{◌≡◌, List, [], ◌∷◌, Some, None, refl, ap, sym, ◌∙◌, map}
-use Rattle.std.specs.Prelude.{Contains, slice_get}
-use Rattle.std.specs.Option.{option_map}
-use Rattle.std.proofs.lemmas.Option.{slice_get-map}
-use Rattle.wit_tree.specs.declared.tree.NestedPackage.{NestedPackage}
+use Rattle.wit_syntax.proofs.Common.{Contains, Fault, NestedPackage, at_contains, contains_at, fault, option_map, slice_get, slice_get-map}
 use Rattle.wit_tree.specs.declared.tree.PackageName.{PackageName as Header}
-use Rattle.wit_syntax.specs.Fault.{Fault, fault}
-use Rattle.wit_syntax.proofs.Found.{at_contains, contains_at}
 use Rattle.wit_parser.specs.Stray.{IsNesting}
 use Rattle.wit_nested.specs.Nested.{IsInner}
 

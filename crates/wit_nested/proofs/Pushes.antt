@@ -1,30 +1,16 @@
 -- The first fault of sources is a reason why one of them cannot be pushed; and where there is none, each of them can.
 use Rattle.std.proofs.Common.{◌≡◌, ◌⊎◌, Bool, true, false, List, [], ◌∷◌, take, Option, Some, None, inl, inr, refl, sym, ap, ◌∙◌, subst}
-use Rattle.std.specs.Prelude.{Contains}
-use Rattle.std.specs.Option.{option_or}
+use Rattle.wit_syntax.proofs.Common.{Contains, Fault, IsBroken, IsDocumentedTwice, IsMismatch, IsOtherPackage, NestedPackage, PackageFile, SourceFile, at_contains, contains_at, fault, headers, last_header, option_or, package_of, same_package}
 use mathlib.Core.Path.{fun_ext}
-use Rattle.wit_tree.specs.declared.tree.NestedPackage.{NestedPackage}
 use Rattle.wit_tree.specs.declared.tree.PackageName.{PackageName as Header}
-use Rattle.wit_tree.specs.declared.tree.PackageFile.{PackageFile}
-use Rattle.wit_tree.specs.declared.tree.SourceFile.{SourceFile}
-use Rattle.wit_syntax.specs.Address.{package_of, same_package}
-use Rattle.wit_syntax.specs.Broken.{IsBroken, IsMismatch, IsDocumentedTwice, IsOtherPackage, headers, last_header}
-use Rattle.wit_syntax.specs.Fault.{Fault, fault}
-use Rattle.wit_syntax.proofs.Found.{at_contains, contains_at}
-use Rattle.wit_first.specs.First.{first_in}
-use Rattle.wit_first.specs.HeaderFaults.{other_fault}
-use Rattle.wit_first.specs.Laws.{Agrees}
-use Rattle.wit_first.proofs.Bridge.{after_only, after_some, in_agrees, or_none_both, or_some}
+use Rattle.wit_walk.proofs.Common.{Agrees, ComesTo, after_only, after_some, faultless, first_in, in_agrees, legal, one_first, or_none_both, or_some, other_fault}
 use Rattle.wit_items.proofs.Documented.{docs_agree}
 use Rattle.wit_parser.proofs.Pushing.{another, other_here, same_by}
 use Rattle.wit_nested.specs.Nested.{IsBrokenAmong, IsBrokenNested, IsInner, IsUnfit, file_of}
 use Rattle.wit_nested.specs.Nested.IsBrokenNested.{Inner, Alone}
 use Rattle.wit_nested.specs.Nested.IsUnfit.{Nested, OtherPackage, DocumentedTwice}
-use Rattle.wit_walk.specs.Walk.{ComesTo}
 use Rattle.wit_walk.proofs.Broken.{broken}
 use Rattle.wit_walk.proofs.Decided.{decided}
-use Rattle.wit_walk.proofs.Legal.{faultless, legal}
-use Rattle.wit_walk.proofs.One.{one_first}
 use Rattle.wit_nested.specs.GroupFaults.{IsUnfitAmong}
 use Rattle.wit_nested.specs.PushFaults.{IsWalk, inner_fault, nested_fault, file_fault, source_fault, files_of, pushes_fault}
 

@@ -1,17 +1,11 @@
 -- Texts without a CR, line by line; and the indent of the first of some texts as the least.
 use Rattle.std.proofs.Common.{◌≡◌, ℕ, zero, suc, ◌+◌, ◌-◌, ◌<◌, ◌≤◌, ◌==◌, true, false, List, [], ◌∷◌, ◌++◌, length, get_or, take, append-nil, slice_index, Option, Some, None, is_some, inl, inr, refl, sym, ap, ◌∙◌, subst, arith, cond}
-use Rattle.std.specs.Prelude.{map, filter, min}
-use Rattle.std.specs.Char.{is_ascii_whitespace}
-use Rattle.std.specs.List.{All, flat_map, fold, onto_first, prefix_len, slice_split}
-use Rattle.std.specs.Str.Lines.{lines, lines_of_parts, strip_carriage_return}
-use Rattle.std.proofs.lemmas.Bool.{cases_Bool, eqb-true, ne_eqb}
-use Rattle.std.proofs.lemmas.Grind.{flat_map-append}
-use Rattle.std.proofs.lemmas.List.{map-append, take_more}
-use Rattle.std.proofs.lemmas.List.Elements.{All-cons, All-head, All-nil, All-push, All-same, All-tail}
+use Rattle.wit_syntax.proofs.Common.{All-cons, All-head, All-nil, All-push, All-same, All-tail, after_spaces, cases_Bool, common_indent, ended, ended_lines, eqb-true, flat_map, flat_map-append, fold, indent, is_ascii_whitespace, is_written, lines, lines_of_parts, map, map-append, min, ne_eqb, onto_first, prefix_len, said, slice_split, strip_carriage_return, take_more, without_spaces}
+use Rattle.std.specs.Prelude.{filter}
+use Rattle.std.specs.List.{All}
 use denote.Ref.{Bor}
 use Rattle.memchr.specs.Find.{IsFirstByte, is_byte}
 use Rattle.wit_notes.specs.PlainComments.{HasNoReturn, IsIndented, IsPushed, all_lines, ends_in_line, first_indent}
-use Rattle.wit_syntax.specs.Docs.{after_spaces, common_indent, ended, ended_lines, indent, is_written, said, without_spaces}
 
 -- CRs in two texts, one after the other
 no_return-split : (prefix back : List ℕ) → HasNoReturn (prefix ++ back) → HasNoReturn prefix × HasNoReturn back

@@ -1,22 +1,12 @@
 -- Marks at both ends of texts, spaces in front, and lines.
 use Rattle.std.proofs.Common.{◌≡◌, ◌≢◌, ℕ, zero, suc, ◌-◌, ◌<◌, ◌==◌, ◌&&◌, true, false, List, [], ◌∷◌, ◌++◌, length, take, drop, append-nil, slice_index, Option, Some, None, is_some, IfSome, inl, inr, refl, sym, ap, ◌∙◌, arith, lit<, if◌then◌else◌}
-use Rattle.std.specs.Prelude.{Bool, codes, map, filter, nat_eq}
-use Rattle.std.specs.List.{ends_with, filter_map, flat_map, slice_split, starts_with}
-use Rattle.std.specs.Str.{IsCharBoundary}
-use Rattle.std.specs.Str.Lines.{lines_of_parts}
+use Rattle.wit_syntax.proofs.Common.{Bool, IsCharBoundary, after_slashes, after_spaces, cases_Bool, codes, docs_text, drop-length, encode_ascii, ended, ended_lines, ends_with, eqb-true, filter_map, flat_map, indent, is_written, joined, lines_of_parts, map, map_map, name_equal, nat_eq, ne_eqb, rest_after, said, slice_split, starts_with, take-append-drop, unmarked, without_end, without_last_lines}
+use Rattle.std.specs.Prelude.{filter}
 use Rattle.std.specs.Str.Pattern.{CutsPrefixes, CutsSuffixes, IsTrimStartMatches, IsTrimEndMatches, FindsCharPrefix, FindsCharSuffix, FindsTextSuffix, HasCharAt, StripsSuffix}
-use Rattle.std.proofs.lemmas.Bool.{cases_Bool, eqb-true, ne_eqb}
-use Rattle.std.proofs.lemmas.Str.{encode_ascii}
 use Rattle.std.proofs.lemmas.Str.Pattern.{drop_at_char, ends_text}
-use Rattle.std.proofs.lemmas.List.{take-append-drop}
-use Rattle.std.proofs.Math.Seq.{drop-length}
 use denote.Ref.{Bor}
 use Rattle.memchr.specs.Find.{IsFirstByte, is_byte}
-use Rattle.wit_names.specs.Prefix.{rest_after}
 use Rattle.wit_notes.specs.Indents.{written_indent}
-use Rattle.wit_syntax.proofs.Lists.{map_map}
-use Rattle.wit_syntax.proofs.Names.{name_equal}
-use Rattle.wit_syntax.specs.Docs.{after_slashes, after_spaces, docs_text, ended, ended_lines, indent, is_written, joined, said, unmarked, without_end, without_last_lines}
 
 -- a text whose end was taken off
 pub without_end-stripped : (n s : List ℕ) (x : Bor (List ℕ)) → StripsSuffix (FindsTextSuffix n) s x.now → x.now ≡ without_end n s

@@ -1,10 +1,7 @@
 -- A text that ends with a sign of ASCII has no white space at its end.
 use Rattle.std.proofs.Common.{◌≡◌, ℕ, ◌+◌, ◌-◌, ◌<◌, ◌==◌, ◌&&◌, true, false, Bool, List, [], ◌∷◌, ◌++◌, length, lit<, nat_lt, take, slice_index, refl, sym, ap, ◌∙◌, arith, if◌then◌else◌}
-use Rattle.std.specs.Char.{is_ascii_graphic, is_whitespace}
-use Rattle.std.specs.Str.{IsCharBoundary, IsUtf8, chars, drop_trailing_whitespace, encode_utf8_all, trim_end}
-use Rattle.std.proofs.lemmas.Bool.{ne_eqb}
-use Rattle.std.proofs.lemmas.List.{length-append, take_more, take_all}
-use Rattle.std.proofs.lemmas.Str.{IsCharBoundary-before_ascii, IsUtf8-take, chars-append, encodes-chars}
+use Rattle.wit_syntax.proofs.Common.{IsCharBoundary, IsCharBoundary-before_ascii, IsUtf8, IsUtf8-take, chars-append, drop_trailing_whitespace, encode_utf8_all, encodes-chars, is_ascii_graphic, is_whitespace, length-append, ne_eqb, take_all, take_more}
+use Rattle.std.specs.Str.{chars, trim_end}
 
 -- a sign is no white space, and one byte
 sign-high : (b : ℕ) → is_ascii_graphic b ≡ true → 32 < b

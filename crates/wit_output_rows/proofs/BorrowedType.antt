@@ -1,34 +1,18 @@
 -- A package with a handle of another package's type, and its listing.
 use Rattle.std.proofs.Common.{◌≡◌, ℕ, zero, suc, List, [], ◌∷◌, None, Some, refl, lit<, lit≤}
 use Rattle.std.specs.Fmt.{digits}
-use Rattle.std.specs.Prelude.{codes, slice_get, take}
-use Rattle.std.specs.declared.alloc.Global.{Global}
+use Rattle.wit_syntax.proofs.Common.{Borrow, ForeignName, Global, SourceFile, TypeDef, Unknown, Used, codes, contains_at, no_docs, rows_of, scope, scope_names, slice_get, take}
 use denote.RawPtr.{Ptr}
-use Rattle.wit_tree.specs.declared.tree.SourceFile.{SourceFile}
 use Rattle.wit_lex.specs.declared.source.Source.{Source}
 use Rattle.wit_grammar.specs.Laws.{IsReadAs}
 use Rattle.wit_grammar.specs.Seen.{see_file}
 use Rattle.wit_grammar.proofs.Opened.{all_rules, reading}
 use Rattle.wit_grammar.proofs.Whole.{read_is_spelled}
-use Rattle.wit_types.specs.declared.stability.Stability.TheVariants.{Unknown}
-use Rattle.wit_types.specs.declared.types.Handle.TheVariants.{Borrow}
 use Rattle.wit_types.specs.declared.types.«Type».TheVariants as type
-use Rattle.wit_types.specs.declared.types.TypeDef.{TypeDef}
 use Rattle.wit_types.specs.declared.types.TypeDefKind.TheVariants as kind
-use Rattle.wit_functions.specs.declared.function.Function.{Function}
+use Rattle.wit_arena.proofs.Common.{Function, Interface, IsEntryOf, Makes, Occurrence, UnresolvedPackage, interface_scopes, owner_at, same_key, same_key_determines, world_scopes}
 use Rattle.wit_functions.specs.declared.function.FunctionKind.TheVariants.{Freestanding}
 use Rattle.wit_model.specs.declared.ast_item.AstItem.TheVariants as entry
-use Rattle.wit_model.specs.declared.interface.Interface.{Interface}
-use Rattle.wit_model.specs.declared.unresolved.UnresolvedPackage.{UnresolvedPackage}
-use Rattle.wit_syntax.specs.Metadata.{no_docs}
-use Rattle.wit_syntax.specs.ScopeTables.{rows_of}
-use Rattle.wit_syntax.specs.ScopesOfTrees.{scope}
-use Rattle.wit_syntax.specs.Source.{ForeignName, Used, scope_names}
-use Rattle.wit_syntax.proofs.Found.{contains_at}
-use Rattle.wit_arena.specs.Made.{IsEntryOf, Makes, interface_scopes, world_scopes}
-use Rattle.wit_arena.specs.Occurrences.{Occurrence}
-use Rattle.wit_arena.specs.Whole.{owner_at}
-use Rattle.wit_arena.proofs.SameKeys.{same_key, same_key_determines}
 use Rattle.wit_listing.specs.Listing.{listing_text}
 use Rattle.wit_groups.specs.SourceFaults.{AreFaultless, Tree}
 use Rattle.wit_nested.proofs.Pushes.{a_walk}

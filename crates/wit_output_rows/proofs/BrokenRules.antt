@@ -1,31 +1,20 @@
 -- Texts that break a rule, each with the line that is printed of it.
 use Rattle.std.proofs.Common.{◌≡◌, ℕ, true, List, [], ◌∷◌, None, Some, refl, lit<, lit≤}
 use Rattle.std.specs.Fmt.{digits}
-use Rattle.std.specs.Prelude.{codes, Vec}
-use Rattle.std.specs.declared.alloc.Global.{Global}
+use Rattle.wit_syntax.proofs.Common.{AstItem, Global, Id, Imported, InterfaceItem, Plain, Record, Resource, SourceFile, Span, TypeBody, Vec, codes, fault_in, function_as_type, is_label, name_twice, param_twice}
 use denote.RawPtr.{Ptr}
-use Rattle.wit_names.specs.Label.{is_label}
-use Rattle.wit_values.specs.declared.span.Span.{Span}
-use Rattle.wit_type_tree.specs.declared.leaves.Id.{Id}
 use Rattle.wit_type_tree.specs.declared.types.FuncForm.TheVariants as form
 use Rattle.wit_type_tree.specs.declared.types.Primitive.TheVariants as primitive
 use Rattle.wit_type_tree.specs.declared.types.ResourceFunc.TheVariants as resource
-use Rattle.wit_type_tree.specs.declared.types.TypeBody.{TypeBody}
-use Rattle.wit_type_tree.specs.declared.types.TypeBody.TheVariants.{Plain, Record, Resource}
 use Rattle.wit_type_tree.specs.declared.types.TypeDef.{TypeDef as Definition}
 use Rattle.wit_type_tree.specs.declared.types.«Type».TheVariants as written
-use Rattle.wit_tree.specs.declared.tree.AstItem.{AstItem}
 use Rattle.wit_tree.specs.declared.tree.AstItem.TheVariants as ast
 use Rattle.wit_tree.specs.declared.tree.ExternKind.TheVariants as extern
-use Rattle.wit_tree.specs.declared.tree.InterfaceItem.{InterfaceItem}
 use Rattle.wit_tree.specs.declared.tree.InterfaceItem.TheVariants.{Func as FuncItem, TypeDef as TypeItem, Use as UseItem}
-use Rattle.wit_tree.specs.declared.tree.SourceFile.{SourceFile}
 use Rattle.wit_tree.specs.declared.tree.UsePath.TheVariants as path
 use Rattle.wit_tree.specs.declared.tree.WorldItem.TheVariants as world_item
-use Rattle.wit_tree.specs.declared.tree.WorldSide.TheVariants.{Imported}
 use Rattle.wit_lex.specs.declared.source.Source.{Source}
 use Rattle.wit_grammar.proofs.Opened.{all_rules, reading}
-use Rattle.wit_syntax.specs.Fault.{fault_in, function_as_type, name_twice, param_twice}
 use Rattle.wit_tool.specs.Output.{IsOutput, OfSources}
 use Rattle.wit_meaning_examples.proofs.Examples.{at, header, id, no_comments, unstated, vec}
 use Rattle.wit_output_rows.proofs.Lines.{located, refused}

@@ -1,18 +1,14 @@
 -- First faults of sources, and the places of their lines.
 use Rattle.std.proofs.Common.{◌≡◌, ℕ, ◌+◌, ◌-◌, ◌≤◌, true, List, [], ◌∷◌, length, None, Some, string_bytes, refl, arith}
-use Rattle.std.specs.Prelude.{slice_get, slice_range}
-use Rattle.std.proofs.lemmas.Str.{IsCharBoundary-from_ascii}
-use Rattle.wit_values.specs.declared.span.Span.{Span}
-use Rattle.wit_tree.specs.declared.tree.SourceFile.{SourceFile}
+use Rattle.wit_syntax.proofs.Common.{Fault, IsCharBoundary-from_ascii, SourceFile, Span, slice_get, slice_range}
 use Rattle.wit_lex.specs.declared.fault.ReadFault.{ReadFault}
 use Rattle.wit_lex.specs.declared.source.Source.{Source}
 use Rattle.wit_lex.specs.Sources.{IsLocated}
 use Rattle.wit_grammar.specs.Laws.{IsReadAs, StopsAt}
 use Rattle.wit_grammar.specs.Seen.{see_file}
 use Rattle.wit_grammar.proofs.Whole.{read_is_spelled}
-use Rattle.wit_syntax.specs.Fault.{Fault}
 use Rattle.wit_listing.specs.ErrorLine.{IsPlaceAt, Place, has_place, line_text}
-use Rattle.wit_walk.specs.Walk.{first_fault}
+use Rattle.wit_walk.proofs.Common.{first_fault}
 use Rattle.wit_tool.specs.FaultLine.{fault_text}
 use Rattle.wit_tool.specs.Output.{IsSourcesOutput, Line}
 use Rattle.wit_groups.specs.Groups.{IsTree}

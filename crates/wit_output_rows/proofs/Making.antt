@@ -1,20 +1,7 @@
 -- Parts of what files make, where their tables have orders.
 use Rattle.std.proofs.Common.{◌≡◌, ℕ, zero, suc, true, List, [], ◌∷◌, Option, Some, None, refl, subst, subst₂}
-use Rattle.std.specs.Prelude.{slice_get}
-use Rattle.std.specs.List.{position_or_len}
-use Rattle.std.proofs.lemmas.Option.{same_Some}
-use Rattle.wit_tree.specs.declared.tree.PackageFile.{PackageFile}
-use Rattle.wit_graph.specs.Table.{IsOrder}
-use Rattle.wit_syntax.specs.Address.{Address}
-use Rattle.wit_syntax.specs.ScopeTables.{in_order, item_rows, rows_of}
-use Rattle.wit_syntax.specs.ScopesOfTrees.{scope}
-use Rattle.wit_syntax.specs.Sides.{all_scopes}
-use Rattle.wit_syntax.specs.Source.{Item, address, all_items, scope_names}
-use Rattle.wit_syntax.proofs.Found.{at_contains}
-use Rattle.wit_arena.specs.Made.{AreInOrder, AreNamesInOrder}
-use Rattle.wit_arena.specs.Occurrences.{Key, Occurrence}
-use Rattle.wit_arena.specs.Whole.{AreRequired}
-use Rattle.wit_arena.proofs.SameKeys.{same_key}
+use Rattle.wit_syntax.proofs.Common.{Address, IsOrder, Item, PackageFile, address, all_items, all_scopes, at_contains, in_order, item_rows, position_or_len, rows_of, same_Some, scope, scope_names, slice_get}
+use Rattle.wit_arena.proofs.Common.{AreInOrder, AreNamesInOrder, AreRequired, Key, Occurrence, same_key}
 use Rattle.wit_output_rows.proofs.Sorting.{is_sorted, sorted, sorted_order}
 
 -- the items of files, and the names of each scope, in their orders

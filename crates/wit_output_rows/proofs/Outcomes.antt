@@ -1,9 +1,7 @@
 -- Outcomes of tables that compute: where there is an order, and where the only name that is needed is missing.
 use Rattle.std.proofs.Common.{◌≡◌, ℕ, Bool, true, false, List, [], ◌∷◌, Option, Some, None, inl, inr, refl, ap, arith}
-use Rattle.std.specs.Prelude.{slice_get}
-use Rattle.wit_type_tree.specs.declared.leaves.Id.{Id}
-use Rattle.wit_graph.specs.Table.{Row, target}
-use Rattle.wit_walk.specs.Orders.{Outcome, InOrder, AtMissing, IsOutcome, AreOutcomes}
+use Rattle.wit_syntax.proofs.Common.{Id, Row, slice_get, target}
+use Rattle.wit_walk.proofs.Common.{AreOutcomes, AtMissing, InOrder, IsOutcome, Outcome}
 use Rattle.wit_walk.proofs.Outcomes.{outcome_of}
 use Rattle.wit_output_rows.proofs.Sorting.{is_sorted, sorted, sorted_order}
 

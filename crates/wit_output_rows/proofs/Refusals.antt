@@ -1,29 +1,18 @@
 -- Texts that are refused, each with the line that is printed of it.
 use Rattle.std.proofs.Common.{ℕ, List, [], ◌∷◌, Option, Some, None, refl, lit<, lit≤}
 use Rattle.std.specs.Fmt.{digits}
-use Rattle.std.specs.Prelude.{codes, Vec}
-use Rattle.std.specs.declared.alloc.Global.{Global}
+use Rattle.wit_syntax.proofs.Common.{AstItem, Fault, Global, Id, InterfaceItem, Plain, SourceFile, Span, Vec, Version, codes, fault, fault_in, mismatch, missing_type_at, package_of}
 use denote.RawPtr.{Ptr}
-use Rattle.semver.specs.declared.Version.{Version}
-use Rattle.wit_values.specs.declared.span.Span.{Span}
-use Rattle.wit_type_tree.specs.declared.leaves.Id.{Id}
-use Rattle.wit_type_tree.specs.declared.types.TypeBody.TheVariants.{Plain}
 use Rattle.wit_type_tree.specs.declared.types.«Type».TheVariants as written
-use Rattle.wit_tree.specs.declared.tree.AstItem.{AstItem}
 use Rattle.wit_tree.specs.declared.tree.AstItem.TheVariants as ast
-use Rattle.wit_tree.specs.declared.tree.InterfaceItem.{InterfaceItem}
 use Rattle.wit_tree.specs.declared.tree.InterfaceItem.TheVariants.{TypeDef as TypeItem}
 use Rattle.wit_tree.specs.declared.tree.PackageName.{PackageName as Header}
-use Rattle.wit_tree.specs.declared.tree.SourceFile.{SourceFile}
 use Rattle.wit_lex.specs.declared.fault.ReadFault.TheVariants.{Comment, Token}
 use Rattle.wit_lex.specs.declared.source.Source.{Source}
 use Rattle.wit_grammar.specs.Laws.{IsReadAs, StopsAt}
 use Rattle.wit_grammar.specs.Seen.{see_file}
 use Rattle.wit_grammar.proofs.Opened.{all_rules, reading}
 use Rattle.wit_grammar.proofs.Whole.{read_is_spelled}
-use Rattle.wit_syntax.specs.Address.{package_of}
-use Rattle.wit_syntax.specs.Fault.{Fault, fault, fault_in, missing_type_at}
-use Rattle.wit_syntax.specs.Words.{mismatch}
 use Rattle.wit_groups.specs.SourceFaults.{IsFirstOfSources, Stop, Tree, stop_fault}
 use Rattle.wit_nested.proofs.Pushes.{a_walk}
 use Rattle.wit_tool.specs.FaultLine.{IsFaultLine}

@@ -1,32 +1,16 @@
 -- A package with another one that is nested in its file, and their listings.
 use Rattle.std.proofs.Common.{◌≡◌, ℕ, List, [], ◌∷◌, Option, Some, None, refl, ap, lit<, lit≤}
 use Rattle.std.specs.Fmt.{digits}
-use Rattle.std.specs.Option.{option_or}
-use Rattle.std.specs.Prelude.{codes, Vec}
-use Rattle.std.specs.declared.alloc.Global.{Global}
+use Rattle.wit_syntax.proofs.Common.{AstItem, Fault, Global, Id, Interface as WrittenInterface, Item, NestedPackage, PackageFile, SourceFile, TheInterface, Unknown, Vec, codes, no_docs, option_or, package_of, rows_of, scope_names, top_names}
 use denote.RawPtr.{Ptr}
-use Rattle.wit_type_tree.specs.declared.leaves.Id.{Id}
-use Rattle.wit_tree.specs.declared.tree.AstItem.{AstItem}
 use Rattle.wit_tree.specs.declared.tree.AstItem.TheVariants as ast
-use Rattle.wit_tree.specs.declared.tree.Interface.{Interface as WrittenInterface}
-use Rattle.wit_tree.specs.declared.tree.NestedPackage.{NestedPackage}
-use Rattle.wit_tree.specs.declared.tree.PackageFile.{PackageFile}
 use Rattle.wit_tree.specs.declared.tree.PackageName.{PackageName as Header}
-use Rattle.wit_tree.specs.declared.tree.SourceFile.{SourceFile}
 use Rattle.wit_lex.specs.declared.source.Source.{Source}
 use Rattle.wit_grammar.specs.Laws.{IsReadAs}
 use Rattle.wit_grammar.specs.Seen.{see_file}
 use Rattle.wit_grammar.proofs.Opened.{all_rules, reading}
 use Rattle.wit_grammar.proofs.Whole.{read_is_spelled}
-use Rattle.wit_types.specs.declared.stability.Stability.TheVariants.{Unknown}
-use Rattle.wit_model.specs.declared.unresolved.UnresolvedPackage.{UnresolvedPackage}
-use Rattle.wit_syntax.specs.Address.{package_of}
-use Rattle.wit_syntax.specs.Fault.{Fault}
-use Rattle.wit_syntax.specs.Metadata.{no_docs}
-use Rattle.wit_syntax.specs.ScopeTables.{rows_of}
-use Rattle.wit_syntax.specs.Source.{Item, TheInterface, scope_names, top_names}
-use Rattle.wit_arena.specs.Made.{Makes}
-use Rattle.wit_arena.proofs.SameKeys.{same_key, same_key_determines}
+use Rattle.wit_arena.proofs.Common.{Makes, UnresolvedPackage, same_key, same_key_determines}
 use Rattle.wit_listing.specs.Listing.{listing_text}
 use Rattle.wit_nested.specs.Nested.{file_of}
 use Rattle.wit_nested.specs.PushFaults.{source_fault}

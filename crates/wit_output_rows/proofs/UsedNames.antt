@@ -1,28 +1,16 @@
 -- A package whose interfaces and names come in other orders than they are written in, and its listing.
 use Rattle.std.proofs.Common.{◌≡◌, ℕ, zero, suc, List, [], ◌∷◌, None, Some, refl, lit<, lit≤}
 use Rattle.std.specs.Fmt.{digits}
-use Rattle.std.specs.Prelude.{codes, slice_get, take}
-use Rattle.std.specs.declared.alloc.Global.{Global}
+use Rattle.wit_syntax.proofs.Common.{Defined, Global, InterfaceNamed, SourceFile, TypeDef, Used, codes, contains_at, rows_of, scope, scope_names, slice_get, take}
 use denote.RawPtr.{Ptr}
-use Rattle.wit_tree.specs.declared.tree.SourceFile.{SourceFile}
 use Rattle.wit_lex.specs.declared.source.Source.{Source}
 use Rattle.wit_grammar.specs.Laws.{IsReadAs}
 use Rattle.wit_grammar.specs.Seen.{see_file}
 use Rattle.wit_grammar.proofs.Opened.{all_rules, reading}
 use Rattle.wit_grammar.proofs.Whole.{read_is_spelled}
 use Rattle.wit_types.specs.declared.types.«Type».TheVariants as type
-use Rattle.wit_types.specs.declared.types.TypeDef.{TypeDef}
 use Rattle.wit_types.specs.declared.types.TypeDefKind.TheVariants as kind
-use Rattle.wit_model.specs.declared.unresolved.UnresolvedPackage.{UnresolvedPackage}
-use Rattle.wit_syntax.specs.Address.{InterfaceNamed}
-use Rattle.wit_syntax.specs.ScopeTables.{rows_of}
-use Rattle.wit_syntax.specs.ScopesOfTrees.{scope}
-use Rattle.wit_syntax.specs.Source.{Defined, Used, scope_names}
-use Rattle.wit_syntax.proofs.Found.{contains_at}
-use Rattle.wit_arena.specs.Made.{IsEntryOf, Makes, interface_scopes, world_scopes}
-use Rattle.wit_arena.specs.Occurrences.{Occurrence, keys}
-use Rattle.wit_arena.specs.Whole.{owner_at}
-use Rattle.wit_arena.proofs.SameKeys.{same_key, same_key_determines}
+use Rattle.wit_arena.proofs.Common.{IsEntryOf, Makes, Occurrence, UnresolvedPackage, interface_scopes, keys, owner_at, same_key, same_key_determines, world_scopes}
 use Rattle.wit_listing.specs.Listing.{listing_text}
 use Rattle.wit_groups.specs.SourceFaults.{AreFaultless, Tree}
 use Rattle.wit_nested.proofs.Pushes.{a_walk}

@@ -1,26 +1,13 @@
 -- A package as it is usually written, and its listing.
 use Rattle.std.proofs.Common.{◌≡◌, ℕ, zero, suc, List, [], ◌∷◌, ◌++◌, Some, None, refl, sym, ap, lit<, lit≤}
 use Rattle.std.specs.Fmt.{digits}
-use Rattle.std.specs.Prelude.{codes, map, slice_get, take}
-use Rattle.std.specs.declared.alloc.Global.{Global}
+use Rattle.wit_syntax.proofs.Common.{Borrow, Defined, ForeignName, Global, Metadata, SourceFile, TypeDef, Used, codes, contains_at, foreign_interfaces, map, rows_of, scope, scope_names, slice_get, take}
 use denote.RawPtr.{Ptr}
-use Rattle.wit_tree.specs.declared.tree.SourceFile.{SourceFile}
 use Rattle.wit_lex.specs.declared.source.Source.{Source}
 use Rattle.wit_grammar.proofs.Examples.{this_tree}
-use Rattle.wit_types.specs.declared.types.Handle.TheVariants.{Borrow}
 use Rattle.wit_types.specs.declared.types.«Type».TheVariants as type
-use Rattle.wit_types.specs.declared.types.TypeDef.{TypeDef}
 use Rattle.wit_types.specs.declared.types.TypeDefKind.TheVariants as kind
-use Rattle.wit_syntax.specs.Foreign.{foreign_interfaces}
-use Rattle.wit_syntax.specs.Metadata.{Metadata}
-use Rattle.wit_syntax.specs.ScopeTables.{rows_of}
-use Rattle.wit_syntax.specs.ScopesOfTrees.{scope}
-use Rattle.wit_syntax.specs.Source.{Defined, ForeignName, Used, scope_names}
-use Rattle.wit_syntax.proofs.Found.{contains_at}
-use Rattle.wit_arena.specs.Made.{IsEntryOf, Makes, foreign_interface, interface_scopes, own_interface, own_interfaces, world_scopes}
-use Rattle.wit_arena.specs.Occurrences.{Occurrence, keys}
-use Rattle.wit_arena.specs.Whole.{owner_at}
-use Rattle.wit_arena.proofs.SameKeys.{same_key, same_key_determines}
+use Rattle.wit_arena.proofs.Common.{IsEntryOf, Makes, Occurrence, foreign_interface, interface_scopes, keys, own_interface, own_interfaces, owner_at, same_key, same_key_determines, world_scopes}
 use Rattle.wit_listing.specs.Listing.{listing_text}
 use Rattle.wit_nested.proofs.Pushes.{a_walk}
 use Rattle.wit_groups.specs.SourceFaults.{AreFaultless, Tree}

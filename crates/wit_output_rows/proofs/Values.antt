@@ -1,11 +1,8 @@
 -- Strings and sources with given bytes, wherever they lie.
 use Rattle.std.proofs.Common.{◌≡◌, ℕ, ◌+◌, ◌<◌, ◌^◌, Bool, true, List, [], ◌∷◌, length, nat_lt, ltb-true}
-use Rattle.std.specs.Prelude.{String, IsUtf8, IsAscii}
-use Rattle.std.specs.List.{list_all}
-use Rattle.std.specs.declared.alloc.Global.{Global}
+use Rattle.wit_syntax.proofs.Common.{Global, IsAscii, IsUtf8-from_ascii, String, and_parts, list_all}
+use Rattle.std.specs.Prelude.{IsUtf8}
 use denote.RawPtr.{Ptr}
-use Rattle.std.proofs.lemmas.Bool.{and_parts}
-use Rattle.std.proofs.lemmas.Str.{IsUtf8-from_ascii}
 use Rattle.std.proofs.lemmas.Str.Ascii.{IsAscii-nil, IsAscii-cons}
 use Rattle.wit_lex.specs.declared.source.Source.{Source}
 use Rattle.wit_meaning_examples.proofs.Examples.{vec}

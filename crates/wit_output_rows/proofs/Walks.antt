@@ -1,17 +1,9 @@
 -- What the walk of files comes to, where it computes; and sources that are in the order of their paths.
 use Rattle.std.proofs.Common.{◌≡◌, ℕ, zero, suc, ◌+◌, ◌<◌, ◌≤◌, false, List, [], ◌∷◌, Option, Some, None, get_or, string_bytes, refl, sym, subst, arith}
-use Rattle.std.specs.Cmp.Lexicographic.{slice_cmp}
-use Rattle.std.specs.Ordering.{nat_cmp, is_lt}
-use Rattle.std.proofs.lemmas.List.Sorted.{IsPermutation-refl}
+use Rattle.wit_syntax.proofs.Common.{Fault, IsPermutation-refl, PackageFile, SourceFile, is_lt, last_header, nat_cmp, slice_cmp}
 use Rattle.wit_lex.specs.declared.source.Source.{Source}
-use Rattle.wit_tree.specs.declared.tree.PackageFile.{PackageFile}
-use Rattle.wit_tree.specs.declared.tree.SourceFile.{SourceFile}
 use Rattle.wit_bundle.specs.SourcePaths.{IsByPath}
-use Rattle.wit_syntax.specs.Broken.{last_header}
-use Rattle.wit_syntax.specs.Fault.{Fault}
-use Rattle.wit_first.specs.First.{IsOr}
-use Rattle.wit_walk.specs.Walk.{ComesTo, earliest, first_fault}
-use Rattle.wit_walk.proofs.One.{one_first}
+use Rattle.wit_walk.proofs.Common.{ComesTo, IsOr, earliest, first_fault, one_first}
 use Rattle.wit_nested.specs.GroupFaults.{joined_faults, names_fault, nested_names}
 use Rattle.wit_nested.specs.PushFaults.{IsWalk, files_of}
 use Rattle.wit_output_rows.proofs.Outcomes.{outcome, outcomes}

@@ -1,23 +1,9 @@
 -- What is found of files that have a header is what the walk comes to; and where they have none, that is the fault.
 use Rattle.std.proofs.Common.{◌≡◌, ◌⊎◌, ℕ, ◌≤◌, List, Option, Some, None, inl, inr, refl, sym, ap, ◌∙◌, arith}
-use Rattle.std.specs.Prelude.{Result, Ok, Err, IfErr, OnOk}
-use Rattle.std.specs.Option.{option_or}
-use Rattle.std.proofs.lemmas.Bool.{cases_lt}
-use Rattle.wit_type_tree.specs.RefusalText.{IsAllocationFailure}
-use Rattle.wit_type_tree.specs.declared.error.ParseError.{ParseError}
-use Rattle.wit_type_tree.specs.declared.error.ParseErrorKind.{ParseErrorKind}
-use Rattle.wit_type_tree.specs.declared.error.ParseErrorKind.TheVariants.{Syntax, ItemNotFound, TypeCycle, OutOfMemory}
+use Rattle.wit_syntax.proofs.Common.{Err, Fault, IfErr, IsAllocationFailure, IsBroken, IsLegal, ItemNotFound, Ok, OnOk, OutOfMemory, PackageFile, ParseError, ParseErrorKind, Refused, Result, Row, Syntax, TypeCycle, Word, cases_lt, fault, fault_of, last_header, option_or}
 use Rattle.wit_tree.specs.declared.tree.PackageName.{PackageName as Header}
-use Rattle.wit_tree.specs.declared.tree.PackageFile.{PackageFile}
-use Rattle.wit_graph.specs.Table.{Row}
-use Rattle.wit_syntax.specs.Broken.{IsBroken, IsLegal, Refused, last_header}
-use Rattle.wit_syntax.specs.Fault.{Fault, fault, fault_of}
-use Rattle.wit_syntax.specs.Shape.{Word}
-use Rattle.wit_first.specs.First.{FindsBy, Reports}
-use Rattle.wit_walk.specs.Orders.{AreOutcomes, Outcome}
-use Rattle.wit_walk.specs.Walk.{ComesTo, IsFaultless, IsFirst, Known, header_fault}
+use Rattle.wit_walk.proofs.Common.{AreOutcomes, ComesTo, FindsBy, IsFaultless, IsFirst, Known, Outcome, Reports, header_fault, legal}
 use Rattle.wit_walk.proofs.Broken.{broken}
-use Rattle.wit_walk.proofs.Legal.{legal}
 use Rattle.wit_walk.proofs.Outcomes.{outcome_of}
 use Rattle.wit_walk.proofs.ScopesLegal.{steps_more}
 use Rattle.wit_walk.proofs.Steps.{enough as enough_steps}

@@ -1,43 +1,10 @@
 -- The functions of a package that files make have the marks of their kinds in their names.
 use Rattle.std.proofs.Common.{◌≡◌, ℕ, zero, suc, Bool, true, false, cond, List, [], ◌∷◌, ◌++◌, map, Option, Some, None, inl, inr, refl, sym, ap, ◌∙◌, subst}
-use Rattle.std.specs.Prelude.{slice_get}
-use Rattle.std.specs.List.{cons_option, flat_map}
-use Rattle.std.specs.Option.{option_map_or}
-use Rattle.std.proofs.lemmas.Grind.{flat_map-append}
-use Rattle.wit_values.specs.declared.span.Span.{Span}
-use Rattle.wit_tree.specs.declared.tree.Include.{Include}
-use Rattle.wit_tree.specs.declared.tree.PackageFile.{PackageFile}
-use Rattle.wit_tree.specs.declared.tree.WorldSide.{WorldSide}
-use Rattle.wit_tree.specs.declared.tree.WorldSide.TheVariants.{Imported, Exported}
-use Rattle.wit_types.specs.declared.docs.Docs.{Docs}
-use Rattle.wit_types.specs.declared.stability.Stability.{Stability}
-use Rattle.wit_types.specs.declared.types.TypeOwner.{TypeOwner}
+use Rattle.wit_syntax.proofs.Common.{Address, Docs, Exported, FunctionKey, Imported, Include, Item, PackageFile, ScopeName, SideFunction, SideInline, SideItem, SideLink, SourceFunction, Span, Stability, TopName, TypeOwner, WorldSide, address, at_split, cons_option, flat_map, flat_map-append, foreign_interfaces, foreign_worlds, functions, functions_items, includes, item_function, map_at, option_map_or, path_scope, role_side, same_side, side_items, slice_get, worlds_of}
 use Rattle.wit_types.specs.declared.types.TypeOwner.TheVariants as owner
-use Rattle.wit_functions.specs.FunctionNames.{mark_of, HasMarkOf}
-use Rattle.wit_functions.specs.SettersPlaced.{pairs, placed}
-use Rattle.wit_functions.specs.declared.function.Function.{Function}
-use Rattle.wit_arena.proofs.Placed.{placed_at}
-use Rattle.wit_model.specs.declared.interface.Interface.{Interface}
-use Rattle.wit_model.specs.declared.world.World.{World}
-use Rattle.wit_model.specs.declared.world.WorldItem.{WorldItem}
+use Rattle.wit_arena.proofs.Common.{Def, Function, HasMarkOf, Interface, Key, Makes, UnresolvedPackage, World, WorldItem, WorldKey, entries_on, foreign_interface, foreign_world, function_in, functions_of, inline_entry, interface_functions, interface_scopes, item_functions, keyed, link_item, mark_of, moved, name_imports, names_in_turn, own_interface, own_interfaces, own_world, pairs, placed, placed_at, scope_place, settled, settled_at, side_entries, world_entries, world_functions, world_scopes}
 use Rattle.wit_model.specs.declared.world.WorldItem.TheVariants as item
-use Rattle.wit_model.specs.declared.world.WorldKey.{WorldKey}
 use Rattle.wit_model.specs.declared.world.WorldKey.TheVariants as key
-use Rattle.wit_model.specs.declared.unresolved.UnresolvedPackage.{UnresolvedPackage}
-use Rattle.wit_syntax.specs.Address.{Address}
-use Rattle.wit_syntax.specs.ExternPart.{same_side}
-use Rattle.wit_syntax.specs.Foreign.{foreign_interfaces, foreign_worlds}
-use Rattle.wit_syntax.specs.Function.{SourceFunction, functions}
-use Rattle.wit_syntax.specs.ScopeTables.{includes, worlds_of}
-use Rattle.wit_syntax.specs.Sides.{FunctionKey, SideItem, SideFunction, SideLink, SideInline, item_function, role_side, side_items}
-use Rattle.wit_syntax.specs.Source.{Item, ScopeName, TopName, address, path_scope}
-use Rattle.wit_syntax.proofs.Legal.{functions_items}
-use Rattle.wit_syntax.proofs.Lists.{at_split, map_at}
-use Rattle.wit_arena.specs.Made.{Makes, entries_on, foreign_interface, foreign_world, function_in, interface_scopes, name_imports, names_in_turn, own_interface, own_interfaces, own_world, scope_place, side_entries, world_entries, world_scopes}
-use Rattle.wit_arena.specs.Occurrences.{Def, Key}
-use Rattle.wit_arena.specs.SideItems.{inline_entry, link_item, settled}
-use Rattle.wit_arena.specs.UnfoldedTypes.{functions_of, interface_functions, item_functions, keyed, world_functions}
-use Rattle.wit_arena.proofs.Settled.{moved, settled_at}
 use Rattle.wit_parser.proofs.WrittenMarks.{written_marked}
 use Rattle.wit_parser.specs.Marks.{HaveMarks}
 

@@ -1,46 +1,14 @@
 -- The ids of a package are places of entries of its arenas.
 use Rattle.std.proofs.Common.{◌≡◌, ◌<◌, ◌≤◌, ℕ, ◌+◌, List, ◌++◌, length, map, take, Option, Some, None, refl, sym, ap, ◌∙◌, subst, arith, inl, inr, length-append}
-use Rattle.std.specs.Prelude.{slice_get}
-use Rattle.std.specs.List.{flat_map, filter}
-use Rattle.std.specs.Option.{option_map, option_or, unwrap_or}
-use Rattle.std.proofs.lemmas.List.{length-map}
-use Rattle.std.proofs.lemmas.List.Quantifiers.{position-Some}
-use Rattle.std.proofs.lemmas.Option.{slice_get_within}
-use Rattle.wit_tree.specs.declared.tree.PackageFile.{PackageFile}
-use Rattle.wit_tree.specs.declared.tree.WorldSide.TheVariants.{Imported, Exported}
-use Rattle.wit_types.specs.declared.stability.Stability.{Stability}
-use Rattle.wit_types.specs.declared.types.TypeDef.{TypeDef}
+use Rattle.wit_syntax.proofs.Common.{Address, Exported, ForeignVisit, Imported, Item, PackageFile, PackageName, Stability, TypeDef, WorldNamed, address, at_split, at_within, filter, flat_map, foreign_interfaces, foreign_items, foreign_packages, foreign_worlds, functions, includes, kept_at, leads, length-map, map_at, option_map, option_or, package_of, position-Some, same_address, same_package, side_items, slice_get, slice_get_within, target_scope, unwrap_or, visited}
 use Rattle.wit_types.specs.declared.types.TypeOwner.TheVariants as owner
-use Rattle.wit_package_names.specs.declared.package_name.PackageName.{PackageName}
-use Rattle.wit_model.specs.declared.ast_item.AstItem.{AstItem}
-use Rattle.wit_functions.specs.declared.function.Function.{Function}
-use Rattle.wit_model.specs.declared.interface.Interface.{Interface}
-use Rattle.wit_model.specs.declared.world.World.{World}
-use Rattle.wit_model.specs.declared.world.WorldInclude.{WorldInclude}
-use Rattle.wit_model.specs.declared.unresolved.UnresolvedPackage.{UnresolvedPackage}
-use Rattle.wit_syntax.specs.Address.{Address, same_address, same_package, WorldNamed, package_of}
-use Rattle.wit_syntax.specs.Foreign.{ForeignVisit, visited, foreign_items, foreign_interfaces, foreign_worlds, foreign_packages}
-use Rattle.wit_syntax.specs.Function.{functions}
-use Rattle.wit_syntax.specs.ScopeTables.{includes}
-use Rattle.wit_syntax.specs.Sides.{side_items}
-use Rattle.wit_syntax.specs.Source.{Item, address, leads, target_scope}
-use Rattle.wit_arena.specs.Kind.{kind_of}
-use Rattle.wit_arena.specs.Occurrences.{Key, Def, Whole, keys, IsEntry, IsKeyed}
-use Rattle.wit_arena.specs.UnfoldedTypes.{world_types, IsForeignWorld}
-use Rattle.wit_arena.specs.OneByOne.{OneByOne}
-use Rattle.wit_arena.specs.Whole.{Ordered, OrderedWorld, turned, ordered_names, addresses, all_inside, all_turns, turn_handles, type_imports, place_at, owner_at, declarations, AreIncludes, interface_addresses, world_addresses, foreign_entry, dep, IsForeignInterface}
-use Rattle.wit_arena.proofs.ByParts.{IsPackage, IsResolvedInterface, IsResolvedWorld}
-use Rattle.wit_syntax.proofs.Kept.{kept_at}
-use Rattle.wit_syntax.proofs.Lists.{at_split, at_within, map_at}
+use Rattle.wit_arena.proofs.Common.{AreIncludes, AstItem, Def, Function, Interface, IsEntry, IsForeignInterface, IsForeignWorld, IsKeyed, IsPackage, IsResolvedInterface, IsResolvedWorld, Key, OneByOne, Ordered, OrderedWorld, UnresolvedPackage, Whole, World, WorldInclude, addresses, all_inside, all_turns, declarations, dep, dep_item, foreign_entry, foreign_turned, function_from, interface_addresses, keys, kind_of, name_exprs, ordered_names, owner_at, place_at, turn_handles, turned, type_imports, world_addresses, world_types}
 use Rattle.wit_arena.proofs.Deps.{entry_of_interface, entry_of_world, item_sort}
-use Rattle.wit_arena.proofs.Placed.{function_from}
 use Rattle.wit_arena.proofs.Places.{all_at_untaken}
 use Rattle.wit_arena.proofs.Shape.{key_of}
 use Rattle.wit_parser.proofs.TypeIds.{parts_within, names_within, functions_within, required_within}
 use Rattle.wit_parser.proofs.SideIds.{none_within, both_within, settled_within, type_imports_within, side_within}
 use Rattle.wit_parser.specs.Ids.{IsOwnerWithin, IsTypeWithin, IsInterfaceWithin, IsWorldWithin, IsForeignWithin, AreIdsWithin}
-use Rattle.wit_arena.proofs.Turns.{foreign_turned, dep_item}
-use Rattle.wit_arena.specs.Expr.{name_exprs}
 
 -- what is found among addresses is among them
 place_within : (ss : List Address) (s : Address) (k : ℕ) → place_at ss s ≡ Some k → k < length ss

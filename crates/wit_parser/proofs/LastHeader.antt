@@ -1,12 +1,7 @@
 -- The place of the last file that has a header, one file more.
 use Rattle.std.proofs.Common.{◌≡◌, ℕ, true, false, List, [], ◌∷◌, ◌++◌, length, Option, Some, None, inl, inr, refl, sym, ap, ◌∙◌}
-use Rattle.std.specs.Prelude.{slice_get}
-use Rattle.std.specs.Option.{option_and_then, option_or, is_some}
+use Rattle.wit_syntax.proofs.Common.{PackageFile, at_either, at_prefix, at_seam, is_some, last_header, last_header-append, option_and_then, option_or, slice_get}
 use Rattle.wit_tree.specs.declared.tree.PackageName.{PackageName as Header}
-use Rattle.wit_tree.specs.declared.tree.PackageFile.{PackageFile}
-use Rattle.wit_syntax.specs.Broken.{last_header}
-use Rattle.wit_syntax.proofs.Lists.{at_prefix, at_seam, at_either}
-use Rattle.wit_syntax.proofs.Headers.{last_header-append}
 use Rattle.wit_items.specs.FileHeaders.{header_at}
 
 abbrev of_file : Option PackageFile → Option Header

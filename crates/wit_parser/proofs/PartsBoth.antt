@@ -1,35 +1,13 @@
 -- The interfaces and the worlds that files make are those of other packages, and then the written ones.
 use Rattle.std.proofs.Common.{◌≡◌, ℕ, List, ◌++◌, Some, refl, sym, ap, ◌∙◌, subst}
-use Rattle.std.specs.Prelude.{slice_get, map}
-use Rattle.std.specs.List.{flat_map}
-use Rattle.std.specs.Option.{option_map}
-use Rattle.std.proofs.lemmas.List.{length-map}
-use Rattle.std.proofs.lemmas.Option.{slice_get-map}
-use Rattle.wit_tree.specs.declared.tree.Include.{Include}
-use Rattle.wit_tree.specs.declared.tree.PackageFile.{PackageFile}
-use Rattle.wit_model.specs.declared.unresolved.UnresolvedPackage.{UnresolvedPackage}
-use Rattle.wit_syntax.specs.Address.{Address, WorldNamed}
-use Rattle.wit_syntax.specs.Broken.{IsLegal}
-use Rattle.wit_syntax.specs.Foreign.{foreign_interfaces, foreign_worlds}
-use Rattle.wit_syntax.specs.Repeats.{AllDiffer}
-use Rattle.wit_syntax.specs.ScopeTables.{includes, worlds_of}
-use Rattle.wit_syntax.specs.Sides.{Link, inline_items, item_link, side_items}
-use Rattle.wit_syntax.specs.Source.{Item, address, leads, path_scope, target_scope}
-use Rattle.wit_syntax.proofs.Lists.{map_at}
-use Rattle.wit_arena.specs.Made.{Makes, foreign_interface, foreign_world, interface_scopes, item_turns, own_interface, own_interfaces, own_world, world_scopes}
-use Rattle.wit_arena.specs.Occurrences.{keys}
-use Rattle.wit_arena.specs.OneByOne.{OneByOne, BothParts}
-use Rattle.wit_arena.specs.UnfoldedTypes.{IsForeignWorld}
-use Rattle.wit_arena.specs.Whole.{Ordered, all_inside, all_occurrences, interface_addresses, world_addresses, IsForeignInterface}
-use Rattle.wit_arena.proofs.ByParts.{IsResolvedInterface, IsResolvedWorld}
-use Rattle.wit_arena.proofs.FirstsOf.{firsts-differ}
+use Rattle.wit_syntax.proofs.Common.{Address, AllDiffer, Include, IsLegal, Item, Link, PackageFile, WorldNamed, address, flat_map, foreign_interfaces, foreign_worlds, includes, inline_items, item_link, leads, length-map, map, map_at, option_map, path_scope, side_items, slice_get, slice_get-map, target_scope, worlds_of}
+use Rattle.wit_arena.proofs.Common.{BothParts, GivesPlaces, IsForeignInterface, IsForeignWorld, IsResolvedInterface, IsResolvedWorld, Makes, OneByOne, Ordered, UnresolvedPackage, all_inside, all_occurrences, firsts-differ, foreign_interface, foreign_world, gives_places, interface_addresses, interface_scopes, item_turns, keys, own_interface, own_interfaces, own_world, world_addresses, world_scopes}
 use Rattle.wit_parser.proofs.PartsInterfaces.{foreign_interface-is, own_interface-is}
 use Rattle.wit_parser.proofs.PartsKeys.{interface_seen, world_seen, foreign_seen}
 use Rattle.wit_parser.proofs.PartsOrders.{interfaces_in, worlds_in, own_in, interface_scopes_in, world_scopes_in, own_world as world_in_order}
 use Rattle.wit_parser.proofs.PartsPlaces.{one_by_one-mapped}
 use Rattle.wit_parser.proofs.PartsSides.{HasPlace}
 use Rattle.wit_parser.proofs.PartsWorlds.{own_world-is}
-use Rattle.wit_arena.proofs.Placing.{GivesPlaces, gives_places}
 
 -- two images of a list belong together, one by one
 one_by_one-pair_with : {X Y Z : Type 0} (Holds : Y → Z → Type 0) (f : X → Y) (g : X → Z) (xs : List X) → ((k : ℕ) (x : X) → slice_get xs k ≡ Some x → Holds (f x) (g x)) → OneByOne Holds (map f xs) (map g xs)

@@ -1,22 +1,9 @@
 -- What a function of an item names occurs with the item.
 use Rattle.std.proofs.Common.{◌≡◌, ℕ, zero, suc, Some, refl, subst}
-use Rattle.std.specs.Prelude.{slice_get}
-use Rattle.std.specs.List.{flat_map}
-use Rattle.wit_type_tree.specs.declared.leaves.Id.{Id}
-use Rattle.wit_type_tree.specs.declared.types.TypeBody.{TypeBody}
+use Rattle.wit_syntax.proofs.Common.{Address, Defined, DefinitionPart, ExternPart, FunctionPart, Id, IncludePart, Item, Of, Part, Prim, ResourceFunc, ScopeName, Shape, SourceFunction, TypeBody, Unknown, UsePart, Word, definition_functions, extern_at, flat_map, flat_map_at, flat_map_has, free_function, functions, local_name, map_at, part_functions, part_names, parts, resource_function, scope_names, signature, slice_get, words}
 use Rattle.wit_type_tree.specs.declared.types.TypeBody.TheVariants as body
-use Rattle.wit_type_tree.specs.declared.types.ResourceFunc.{ResourceFunc}
 use Rattle.wit_type_tree.specs.declared.types.ResourceFunc.TheVariants as resource
-use Rattle.wit_types.specs.declared.stability.Stability.TheVariants.{Unknown}
-use Rattle.wit_syntax.specs.Address.{Address}
-use Rattle.wit_syntax.specs.Function.{SourceFunction, resource_function, definition_functions, free_function, part_functions, functions, signature}
-use Rattle.wit_syntax.specs.Shape.{Shape, words, Prim, Word, Of}
-use Rattle.wit_syntax.specs.Source.{Item, Part, DefinitionPart, UsePart, IncludePart, FunctionPart, ExternPart, ScopeName, Defined, local_name, part_names, parts, scope_names}
-use Rattle.wit_syntax.proofs.Externs.{extern_at}
-use Rattle.wit_syntax.proofs.Lists.{flat_map_at, flat_map_has, map_at}
-use Rattle.wit_arena.specs.Expr.{expr_of, exprs_of}
-use Rattle.wit_arena.specs.Occurrences.{Key, Def, Whole, keys, shape_occurrences, shapes_occurrences}
-use Rattle.wit_arena.proofs.Occurrence.{Has}
+use Rattle.wit_arena.proofs.Common.{Def, Has, Key, Whole, expr_of, exprs_of, keys, shape_occurrences, shapes_occurrences}
 use Rattle.wit_parser.proofs.PartsPlaces.{IsPresent, RolePresent}
 use Rattle.wit_parser.proofs.PartsReady.{has_last, has_of}
 

@@ -1,12 +1,7 @@
 -- The name of a package, as its parts say it.
 use Rattle.std.proofs.Common.{◌≡◌, Option, Some, None, refl, sym, ap, ◌∙◌}
-use Rattle.std.specs.Option.{option_map}
-use Rattle.semver.specs.Identifiers.{parts_of}
-use Rattle.semver.specs.declared.Version.{Version}
-use Rattle.wit_values.specs.ReleaseText.{release_parts}
+use Rattle.wit_syntax.proofs.Common.{PackageName, Version, option_map, package_of, parts_of, release_of, release_parts}
 use Rattle.wit_tree.specs.declared.tree.PackageName.{PackageName as Header}
-use Rattle.wit_package_names.specs.declared.package_name.PackageName.{PackageName}
-use Rattle.wit_syntax.specs.Address.{package_of, release_of}
 
 -- the parts of a version are those of the written one
 version_parts : (v : Option Version) → option_map release_parts (option_map release_of v) ≡ option_map parts_of v

@@ -1,22 +1,8 @@
 -- An interface that is given by places is the written one, where all that it names occurs.
 use Rattle.std.proofs.Common.{◌≡◌, ℕ, List, Some, refl, sym, ap}
-use Rattle.std.specs.Prelude.{slice_get, map}
-use Rattle.wit_tree.specs.declared.tree.PackageFile.{PackageFile}
-use Rattle.wit_functions.specs.SettersPlaced.{placed}
-use Rattle.wit_syntax.specs.Address.{Address}
-use Rattle.wit_syntax.specs.Foreign.{ForeignVisit, visited}
-use Rattle.wit_syntax.specs.Function.{SourceFunction, functions}
-use Rattle.wit_syntax.specs.Source.{Item, ScopeName, address, local_name}
-use Rattle.wit_syntax.specs.ScopesOfTrees.{scope}
-use Rattle.wit_syntax.proofs.Lists.{map_map}
-use Rattle.wit_arena.specs.SourceFunctions.{by_name}
-use Rattle.wit_arena.specs.Made.{foreign_interface, function_in, names_in_turn, own_interface}
-use Rattle.wit_arena.specs.Occurrences.{Key, Def, IsSeen}
-use Rattle.wit_arena.specs.Whole.{Ordered, turned, IsForeignInterface}
-use Rattle.wit_arena.proofs.ByParts.{IsResolvedInterface}
+use Rattle.wit_syntax.proofs.Common.{Address, ForeignVisit, Item, PackageFile, ScopeName, SourceFunction, address, functions, local_name, map, map_map, scope, slice_get, visited}
+use Rattle.wit_arena.proofs.Common.{Def, GivesPlaces, IsForeignInterface, IsResolvedInterface, IsSeen, Key, Ordered, by_name, foreign_interface, foreign_turned, function_in, names_in_turn, own_interface, placed, turned}
 use Rattle.wit_parser.proofs.PartsPlaces.{FunctionPresent, functions_in-are, name_places-are}
-use Rattle.wit_arena.proofs.Placing.{GivesPlaces}
-use Rattle.wit_arena.proofs.Turns.{foreign_turned}
 
 module _ (id : Key → ℕ) (ks : List Key) (gives : GivesPlaces id ks) where
   pub foreign_interface-is : (files : List PackageFile) (v : ForeignVisit) → ((k : ℕ) (x : ScopeName) → slice_get (scope files (visited v)) k ≡ Some x → IsSeen ks (Def (visited v) (local_name x))) → IsForeignInterface files ks v (foreign_interface files id v)

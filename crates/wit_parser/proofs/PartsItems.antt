@@ -1,48 +1,10 @@
 -- What occurs in all items of files occurs in an order in which the parts of each come before it.
 use Rattle.std.proofs.Common.{◌≡◌, ◌≤◌, ℕ, ◌+◌, zero, suc, Bool, true, false, not, List, [], ◌∷◌, ◌++◌, length, take, Option, Some, None, ◌⊎◌, inl, inr, refl, sym, ap, ◌∙◌, subst, arith, append-nil}
-use Rattle.std.specs.Prelude.{slice_get, map, Contains}
-use Rattle.std.specs.List.{flat_map}
-use Rattle.std.specs.Option.{option_map}
-use Rattle.std.specs.Str.{bytes_eq}
-use Rattle.std.proofs.lemmas.Bool.{cases_Bool}
-use Rattle.std.proofs.lemmas.Grind.{flat_map-append}
-use Rattle.std.proofs.lemmas.List.{take_all}
-use Rattle.std.proofs.lemmas.Option.{slice_get-map}
-use Rattle.wit_tree.specs.declared.tree.PackageFile.{PackageFile}
-use Rattle.wit_tree.specs.declared.tree.UseName.{UseName}
-use Rattle.wit_type_tree.specs.declared.leaves.Attribute.{Attribute}
-use Rattle.wit_graph.specs.Table.{IsOrder}
-use Rattle.wit_syntax.specs.Address.{Address, InterfaceNamed, WorldNamed, InlineAt, ForeignNamed, is_foreign}
-use Rattle.wit_syntax.specs.Broken.{IsLegal, MissingName, Names}
-use Rattle.wit_syntax.specs.Fault.{missing_at, name_word, function_used}
-use Rattle.wit_syntax.specs.Function.{SourceFunction, functions, role_names}
-use Rattle.wit_syntax.specs.Repeats.{AllDiffer}
-use Rattle.wit_syntax.specs.ScopeTables.{in_order, item_rows, interfaces_of, worlds_of}
-use Rattle.wit_syntax.specs.Sides.{SideItem, SideFunction, SideLink, SideInline, all_scopes, inline_items, item_function, side_items, with_inline}
-use Rattle.wit_syntax.specs.SignatureRules.{OfFunction, OfNothing}
-use Rattle.wit_syntax.specs.Source.{Item, ScopeName, Used, address, all_items, is_world, item_at, item_name, local_name, meaning, scope_names, foreign_uses}
-use Rattle.wit_syntax.specs.ScopesOfTrees.{scope}
-use Rattle.wit_syntax.proofs.Found.{at_contains, find_at, find_passes}
-use Rattle.wit_syntax.proofs.Kept.{kept_at, kept_early, kept_has, kept_next, kept_past}
-use Rattle.wit_syntax.proofs.Legal.{functions_items}
-use Rattle.wit_syntax.proofs.Lists.{at_within}
-use Rattle.wit_syntax.proofs.Names.{name_equal}
-use Rattle.wit_syntax.proofs.Orders.{in_order_at}
-use Rattle.wit_syntax.proofs.Scopes.{all_declared, scope_item_at}
-use Rattle.wit_arena.specs.Expr.{name_exprs}
-use Rattle.wit_arena.specs.Made.{AreNamesInOrder, interface_turn, item_turns, turns_of_world, turns_on_sides}
-use Rattle.wit_arena.specs.Occurrences.{Key, Def, Occurrence, keys, name_occurrences, all_function_occurrences}
-use Rattle.wit_arena.specs.Whole.{Ordered, Turned, ordered_names, turn_occurrences, foreign_use_occurrence}
-use Rattle.wit_arena.proofs.Interfaces.{own_interface_address}
-use Rattle.wit_arena.proofs.Itemizing.{items_within, item_index, named_found}
-use Rattle.wit_arena.proofs.KnownItems.{IsItem}
-use Rattle.wit_arena.proofs.Leading.{IsForeignUse, used_before, used_interface}
-use Rattle.wit_arena.proofs.LegalScopes.{distinct_items, scope_among, uses_lead}
-use Rattle.wit_arena.proofs.Occurrence.{Has}
+use Rattle.wit_syntax.proofs.Common.{Address, AllDiffer, Attribute, Contains, ForeignNamed, InlineAt, InterfaceNamed, IsLegal, IsOrder, Item, MissingName, Names, OfFunction, OfNothing, PackageFile, ScopeName, SideFunction, SideInline, SideItem, SideLink, SourceFunction, UseName, Used, WorldNamed, address, all_declared, all_items, all_scopes, at_contains, at_within, bytes_eq, cases_Bool, find_at, find_passes, flat_map, flat_map-append, foreign_uses, function_used, functions, functions_items, in_order, in_order_at, inline_items, interfaces_of, is_foreign, is_world, item_at, item_function, item_name, item_rows, kept_at, kept_early, kept_has, kept_next, kept_past, local_name, map, meaning, missing_at, name_equal, name_word, option_map, role_names, scope, scope_item_at, scope_names, side_items, slice_get, slice_get-map, take_all, with_inline, worlds_of}
+use Rattle.wit_arena.proofs.Common.{AreNamesInOrder, Def, Has, IsForeignUse, IsItem, Key, Occurrence, Ordered, Turned, all_function_occurrences, distinct_items, foreign_use_occurrence, interface_turn, item_index, item_turns, items_within, keys, name_exprs, name_occurrences, named_found, ordered_names, own_interface_address, scope_among, turn_occurrences, turns_of_world, turns_on_sides, used_before, used_interface, used_name_at, uses_lead}
 use Rattle.wit_parser.proofs.PartsPlaces.{AllPresent}
 use Rattle.wit_parser.proofs.PartsReady.{After, Ready, has_prefix, has_of, ready_append, functions_ready}
 use Rattle.wit_parser.proofs.PartsTurns.{UsesPresent, NamesPresent, names_seen, names_ready, signature_known, turn_names, turn_ready}
-use Rattle.wit_arena.proofs.ForeignUses.{used_name_at}
 
 -- what is in a list occurs in it
 pub has_at : (ms : List Occurrence) (i : ℕ) (m : Occurrence) → slice_get ms i ≡ Some m → Has (keys ms) m.key

@@ -1,32 +1,7 @@
 -- All that an item names occurs, and all that is taken from another package.
 use Rattle.std.proofs.Common.{◌≡◌, ℕ, zero, suc, ◌+◌, List, [], ◌∷◌, length, Some, inl, inr, refl, sym, ap, ◌∙◌, subst, arith}
-use Rattle.std.specs.Prelude.{slice_get, map}
-use Rattle.std.specs.List.{flat_map}
-use Rattle.std.specs.Option.{option_map}
-use Rattle.std.proofs.lemmas.Option.{slice_get-map}
-use Rattle.wit_tree.specs.declared.tree.PackageFile.{PackageFile}
-use Rattle.wit_types.specs.declared.stability.Stability.TheVariants.{Unknown}
-use Rattle.wit_model.specs.declared.unresolved.UnresolvedPackage.{UnresolvedPackage}
-use Rattle.wit_graph.specs.Table.{IsOrder}
-use Rattle.wit_syntax.specs.Address.{Address}
-use Rattle.wit_syntax.specs.Broken.{IsLegal}
-use Rattle.wit_syntax.specs.Foreign.{ForeignVisit, visited}
-use Rattle.wit_syntax.specs.Function.{SourceFunction, functions, signature}
-use Rattle.wit_syntax.specs.ScopeTables.{in_order, item_rows, interfaces_of, worlds_of}
-use Rattle.wit_syntax.specs.Sides.{SideItem, SideFunction, SideLink, SideInline, inline_items, item_function, item_inline, side_items}
-use Rattle.wit_syntax.specs.Source.{Item, ScopeName, address, all_items, local_name, foreign_uses, same_foreign_use}
-use Rattle.wit_syntax.specs.ScopesOfTrees.{scope}
-use Rattle.wit_syntax.proofs.Firsts.{firsts_at}
-use Rattle.wit_syntax.proofs.Inline.{length-inline_after}
-use Rattle.wit_syntax.proofs.Legal.{functions_items}
-use Rattle.wit_syntax.proofs.Lists.{at_prefix, at_back, flat_map_at, flat_map_has}
-use Rattle.wit_syntax.proofs.Turns.{at_part}
-use Rattle.wit_arena.specs.Made.{AreNamesInOrder, Makes, interface_turn, item_turns, names_in_turn, own_interfaces, turns_of_world, turns_on_sides}
-use Rattle.wit_arena.specs.Occurrences.{Key, Def, IsSeen, Collects, keys, name_occurrences, shape_occurrences, all_function_occurrences}
-use Rattle.wit_arena.specs.Whole.{Ordered, Turned, all_occurrences, foreign_use_occurrence, turn_occurrences}
-use Rattle.wit_arena.proofs.FirstsOf.{firsts-collects}
-use Rattle.wit_arena.proofs.KnownItems.{IsItem}
-use Rattle.wit_arena.proofs.Occurrence.{Has}
+use Rattle.wit_syntax.proofs.Common.{Address, ForeignVisit, IsLegal, IsOrder, Item, PackageFile, ScopeName, SideFunction, SideInline, SideItem, SideLink, SourceFunction, Unknown, address, all_items, at_back, at_part, at_prefix, firsts_at, flat_map, flat_map_at, flat_map_has, foreign_uses, functions, functions_items, in_order, inline_items, interfaces_of, item_function, item_inline, item_rows, length-inline_after, local_name, map, option_map, same_foreign_use, scope, side_items, signature, slice_get, slice_get-map, visited, worlds_of}
+use Rattle.wit_arena.proofs.Common.{AreNamesInOrder, Collects, Def, Has, IsItem, IsSeen, Key, Makes, Ordered, Turned, UnresolvedPackage, all_function_occurrences, all_occurrences, firsts-collects, foreign_use_occurrence, interface_turn, item_turns, keys, name_occurrences, names_in_turn, own_interfaces, shape_occurrences, turn_occurrences, turns_of_world, turns_on_sides, used_name_at}
 use Rattle.wit_parser.proofs.PartsFunctions.{role_present, signature_present}
 use Rattle.wit_parser.proofs.PartsItems.{has_at}
 use Rattle.wit_parser.proofs.PartsSeen.{collects_has}
@@ -34,7 +9,6 @@ use Rattle.wit_parser.proofs.PartsOrders.{interface_in, inline_in, world_in}
 use Rattle.wit_parser.proofs.PartsPlaces.{FunctionPresent}
 use Rattle.wit_parser.proofs.PartsReady.{has_back, has_prefix, has_of}
 use Rattle.wit_parser.proofs.PartsTurns.{NamesPresent, name_has, names_seen, signature_known}
-use Rattle.wit_arena.proofs.ForeignUses.{used_name_at}
 
 -- among some are the names of a scope in turn, and all that its functions name
 pub record ItemPresent (a : Key → Type 0) (order : Address → List ℕ) (i : Item) : Type 0 where

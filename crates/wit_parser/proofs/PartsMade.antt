@@ -1,11 +1,7 @@
 -- The package that legal files make is the package of the files.
 use Rattle.std.proofs.Common.{List}
-use Rattle.wit_tree.specs.declared.tree.PackageFile.{PackageFile}
-use Rattle.wit_model.specs.declared.unresolved.UnresolvedPackage.{UnresolvedPackage}
-use Rattle.wit_syntax.specs.Broken.{IsLegal}
-use Rattle.wit_arena.specs.Faithful.{HasArena, IsFaithful}
-use Rattle.wit_arena.specs.Made.{Makes}
-use Rattle.wit_arena.proofs.ByParts.{IsPackage}
+use Rattle.wit_syntax.proofs.Common.{IsLegal, PackageFile}
+use Rattle.wit_arena.proofs.Common.{HasArena, IsFaithful, IsPackage, Makes, UnresolvedPackage}
 use Rattle.wit_arena.proofs.OfPackage.{arena_of_package, faithful_of_package}
 use Rattle.wit_parser.proofs.PartsPackage.{package_of_places}
 use Rattle.wit_parser.proofs.PartsScopes.{inside_placed, links_placed, includes_placed}

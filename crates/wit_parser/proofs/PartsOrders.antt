@@ -1,26 +1,8 @@
 -- The items of files in an order, each with an order of its names, as orders of items.
 use Rattle.std.proofs.Common.{◌≡◌, ℕ, suc, ◌+◌, not, List, [], ◌∷◌, ◌++◌, Some, inl, inr, refl, sym, ap, ◌∙◌, subst}
-use Rattle.std.specs.Prelude.{slice_get, map}
-use Rattle.std.specs.List.{flat_map}
-use Rattle.std.proofs.lemmas.List.{map-append}
-use Rattle.wit_tree.specs.declared.tree.PackageFile.{PackageFile}
-use Rattle.wit_graph.specs.Table.{IsOrder}
-use Rattle.wit_syntax.specs.Address.{Address}
-use Rattle.wit_syntax.specs.Broken.{IsLegal}
-use Rattle.wit_syntax.specs.Foreign.{visited, foreign_interfaces, foreign_worlds}
-use Rattle.wit_syntax.specs.ScopeTables.{in_order, item_rows, rows_of, interfaces_of, worlds_of}
-use Rattle.wit_syntax.specs.Sides.{SideItem, SideFunction, SideLink, SideInline, inline_items, side_items}
-use Rattle.wit_syntax.specs.Source.{Item, address, all_items, is_world, scope_names}
-use Rattle.wit_syntax.proofs.Kept.{kept_at}
-use Rattle.wit_syntax.proofs.Lists.{flat_map_at, map_at, map_map}
-use Rattle.wit_syntax.proofs.Orders.{in_order_at}
-use Rattle.wit_syntax.proofs.Turns.{at_part}
-use Rattle.wit_arena.specs.Made.{AreNamesInOrder, interface_turn, item_turns, turns_of_world, turns_on_sides, own_interfaces, interface_scopes, world_scopes}
-use Rattle.wit_arena.specs.Whole.{Ordered, OrderedWorld, AreOrdered, ordered_names, turned, side_turns, world_turns, all_turns, all_inside, interface_addresses, world_addresses}
-use Rattle.wit_arena.proofs.Itemizing.{items_within}
-use Rattle.wit_arena.proofs.KnownItems.{IsItem}
+use Rattle.wit_syntax.proofs.Common.{Address, IsLegal, IsOrder, Item, PackageFile, SideFunction, SideInline, SideItem, SideLink, address, all_items, at_part, flat_map, flat_map_at, foreign_interfaces, foreign_worlds, in_order, in_order_at, inline_items, interfaces_of, is_world, item_rows, kept_at, map, map-append, map_at, map_map, rows_of, scope_names, side_items, slice_get, visited, worlds_of}
+use Rattle.wit_arena.proofs.Common.{AreNamesInOrder, AreOrdered, IsItem, Ordered, OrderedWorld, all_inside, all_turns, interface_addresses, interface_scopes, interface_turn, item_of, item_turns, items_within, names_turn, ordered_names, own_interfaces, own_item, side_turns, turned, turns_of_world, turns_on_sides, world_addresses, world_scopes, world_turns}
 use Rattle.wit_parser.proofs.PartsItems.{own, declared_item, with_item}
-use Rattle.wit_arena.proofs.Turns.{item_of, own_item, names_turn}
 
 map_itself : {X Y : Type 0} (f : X → Y) (g : Y → X) → ((x : X) → g (f x) ≡ x) → (xs : List X) → map g (map f xs) ≡ xs
 map_itself f g same [] = refl

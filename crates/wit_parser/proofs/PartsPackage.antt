@@ -1,21 +1,8 @@
 -- The package that files make is the package of the files, where each scope that a world names has its place.
 use Rattle.std.proofs.Common.{◌≡◌, ℕ, List, [], ◌++◌, Some, sym, ap, ◌∙◌, subst}
-use Rattle.std.specs.Prelude.{slice_get}
-use Rattle.std.specs.List.{flat_map}
-use Rattle.std.specs.Option.{option_map}
-use Rattle.wit_tree.specs.declared.tree.PackageFile.{PackageFile}
+use Rattle.wit_syntax.proofs.Common.{Address, IsLegal, Item, PackageFile, all_items, firsts, flat_map, in_order, last_header, option_map, slice_get, worlds_of}
 use Rattle.wit_tree.specs.declared.tree.PackageName.{PackageName as Header}
-use Rattle.wit_model.specs.declared.unresolved.UnresolvedPackage.{UnresolvedPackage}
-use Rattle.wit_syntax.specs.Address.{Address}
-use Rattle.wit_syntax.specs.Broken.{IsLegal, last_header}
-use Rattle.wit_syntax.specs.Repeats.{firsts}
-use Rattle.wit_syntax.specs.ScopeTables.{in_order, worlds_of}
-use Rattle.wit_syntax.specs.Source.{Item, all_items}
-use Rattle.wit_arena.specs.Made.{Makes, interface_scopes, item_turns, world_scopes}
-use Rattle.wit_arena.specs.Occurrences.{Occurrence, keys, Collects, IsOccurrence}
-use Rattle.wit_arena.specs.Whole.{AreFirstOccurrences, AreOrdered, AreRequired, Turned, all_inside, all_occurrences, declarations, interface_addresses, turn_handles, world_addresses}
-use Rattle.wit_arena.proofs.ByParts.{IsPackage}
-use Rattle.wit_arena.proofs.FirstsOf.{firsts-collects}
+use Rattle.wit_arena.proofs.Common.{AreFirstOccurrences, AreOrdered, AreRequired, Collects, IsOccurrence, IsPackage, Makes, Occurrence, Turned, UnresolvedPackage, all_inside, all_occurrences, declarations, firsts-collects, interface_addresses, interface_scopes, item_turns, keys, turn_handles, world_addresses, world_scopes}
 use Rattle.wit_parser.proofs.PartsBoth.{HasPlaces, made_interfaces, made_worlds}
 use Rattle.wit_arena.proofs.MadeHeads.{header_there}
 use Rattle.wit_parser.proofs.PartsHeads.{name_parts}

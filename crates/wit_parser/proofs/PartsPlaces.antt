@@ -1,24 +1,8 @@
 -- Where a function gives the place of each key, what it says of a key that occurs is there.
 use Rattle.std.proofs.Common.{◌≡◌, ℕ, List, [], ◌∷◌, ◌+◌, length, Option, Some, None, refl, sym, ap, ◌∙◌, subst}
-use Rattle.std.specs.Prelude.{slice_get, map}
-use Rattle.std.specs.Option.{option_map, option_to_list}
-use Rattle.std.proofs.lemmas.List.{length-map}
-use Rattle.std.proofs.lemmas.Option.{slice_get-map}
+use Rattle.wit_syntax.proofs.Common.{Address, Constructor, Freestanding, Id, Method, OnSide, Role, ScopeName, Shape, SourceFunction, SourceParam, Static, all_params, at_back, at_prefix, length-map, local_name, map, map_at, map_map, option_map, option_to_list, signature, slice_get, slice_get-map}
 use Rattle.wit_types.specs.declared.types.«Type».{«Type» as Ty}
-use Rattle.wit_functions.specs.declared.function.Param.{Param}
-use Rattle.wit_type_tree.specs.declared.leaves.Id.{Id}
-use Rattle.wit_syntax.specs.Address.{Address}
-use Rattle.wit_syntax.specs.Function.{Role, Freestanding, Method, Static, Constructor, OnSide, SourceParam, SourceFunction, all_params, signature}
-use Rattle.wit_syntax.specs.Shape.{Shape}
-use Rattle.wit_syntax.specs.Source.{ScopeName, local_name}
-use Rattle.wit_syntax.proofs.Lists.{at_prefix, at_back, map_at, map_map}
-use Rattle.wit_arena.specs.Expr.{Expr, Prim, Use, Of, Exprs, End, More, expr_of}
-use Rattle.wit_arena.specs.SourceFunctions.{IsKind, IsParam, IsFunction}
-use Rattle.wit_arena.specs.Made.{type_of, types_of, role_kind, function_in, name_places}
-use Rattle.wit_arena.specs.Occurrences.{Key, Def, Whole, IsSeen, IsAt, AreAt}
-use Rattle.wit_arena.specs.OneByOne.{OneByOne}
-use Rattle.wit_arena.specs.Whole.{Turned, HasTypes}
-use Rattle.wit_arena.proofs.Placing.{GivesPlaces}
+use Rattle.wit_arena.proofs.Common.{AreAt, Def, End, Expr, Exprs, GivesPlaces, HasTypes, IsAt, IsFunction, IsKind, IsParam, IsSeen, Key, More, Of, OneByOne, Param, Prim, Turned, Use, Whole, expr_of, function_in, name_places, role_kind, type_of, types_of}
 
 -- what an expression means is among some keys, and so is each of these
 abbrev pub IsPresent : (Key → Type 0) → Expr → Type 0

@@ -1,26 +1,10 @@
 -- Occurrences in an order in which the parts of each occur before it.
 use Rattle.std.proofs.Common.{◌≡◌, ◌≤◌, ℕ, ◌+◌, zero, suc, List, [], ◌∷◌, ◌++◌, length, take, Some, ◌⊎◌, inl, inr, refl, sym, ap, ◌∙◌, subst, arith, append_assoc, append-nil, length-append}
-use Rattle.std.specs.Prelude.{slice_get, Contains}
-use Rattle.std.specs.List.{flat_map}
-use Rattle.std.specs.Option.{unwrap_or}
-use Rattle.std.proofs.lemmas.List.{length-map}
-use Rattle.std.proofs.lemmas.Option.{slice_get_within}
-use Rattle.wit_types.specs.declared.stability.Stability.{Stability}
-use Rattle.wit_types.specs.declared.stability.Stability.TheVariants.{Unknown}
-use Rattle.wit_type_tree.specs.declared.leaves.Id.{Id}
-use Rattle.wit_values.specs.declared.span.Span.{Span}
-use Rattle.wit_syntax.specs.Address.{Address}
-use Rattle.wit_syntax.specs.Function.{SourceFunction, signature}
-use Rattle.wit_syntax.specs.Shape.{Shape, Shapes, words, all_words, Prim, Word, Of, End, More}
-use Rattle.wit_syntax.specs.Source.{ScopeName, about_name, local_name}
-use Rattle.wit_syntax.proofs.Lists.{at_prefix, at_back, at_seam, take_seam}
-use Rattle.wit_syntax.proofs.Legal.{three_ways}
-use Rattle.wit_arena.specs.Expr.{Expr, Exprs, expr_of, exprs_of, name_exprs}
+use Rattle.wit_syntax.proofs.Common.{Address, Contains, Id, More, Of, Prim, ScopeName, Shape, Shapes, SourceFunction, Span, Stability, Unknown, Word, about_name, all_words, at_back, at_prefix, at_seam, flat_map, length-map, local_name, signature, slice_get, slice_get_within, take_seam, three_ways, unwrap_or, words}
+use Rattle.wit_syntax.specs.Shape.{End}
+use Rattle.wit_arena.proofs.Common.{Collects, Def, Expr, Exprs, Has, IsSeen, Key, Occurrence, Whole, all_function_occurrences, expr_of, exprs_of, keys, keys-append, name_exprs, name_occurrences, parts_occurrences, shape_occurrences, shapes_occurrences}
 use Rattle.wit_arena.specs.Expr as expr
-use Rattle.wit_arena.specs.Occurrences.{Key, Def, Whole, Occurrence, keys, IsSeen, Collects, shape_occurrences, shapes_occurrences, name_occurrences, all_function_occurrences}
-use Rattle.wit_arena.proofs.Occurrence.{Has, keys-append}
 use Rattle.wit_parser.proofs.PartsPlaces.{IsPresent, AllPresent}
-use Rattle.wit_arena.proofs.Turns.{parts_occurrences}
 
 pub present_wider : (a b : Key → Type 0) → ((k : Key) → a k → b k) → (e : Expr) → IsPresent a e → IsPresent b e
 present_wider a b wider (expr.Prim p) h = tt

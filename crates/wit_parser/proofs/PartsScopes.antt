@@ -1,45 +1,12 @@
 -- Of a world of files that break no rule, the scope of each interface that is linked there, or written there, has its place among those of interfaces,
 -- and the scope of each include among those of worlds.
 use Rattle.std.proofs.Common.{◌≡◌, ℕ, zero, suc, Bool, true, false, not, cond, List, [], ◌+◌, length, Some, None, ◌⊎◌, inl, inr, refl, sym, ap, ◌∙◌, subst, Contains}
-use Rattle.std.specs.Prelude.{slice_get, map}
-use Rattle.std.specs.List.{flat_map}
-use Rattle.std.specs.Option.{option_map}
-use Rattle.std.specs.Str.{bytes_eq}
-use Rattle.std.proofs.lemmas.Option.{slice_get-map}
-use Rattle.wit_type_tree.specs.declared.leaves.Id.{Id}
-use Rattle.wit_tree.specs.declared.tree.Extern.{Extern}
-use Rattle.wit_tree.specs.declared.tree.ExternKind.{ExternKind}
+use Rattle.wit_syntax.proofs.Common.{Address, AllDiffer, DefinitionPart, Extern, ExternKind, ExternPart, Foreign, ForeignVisit, FunctionPart, Id, Include, IncludePart, InterfaceIncluded, InterfaceNamed, IsLegal, Item, Link, Local, MissingUse, Names, PackageFile, PackageName, Part, SideFunction, SideInline, SideItem, SideLink, Target, Use as WrittenUse, UsePart, UsePath, WorldNamed, WorldUsed, address, all_declared, all_items, at_back, at_prefix, at_side, bytes_eq, contains_at, definition_functions, extern_items, extern_link, extern_paths, extern_visits, find_at, find_passes, flat_map, flat_map_at, flat_map_has, foreign_at, foreign_interfaces, foreign_items, foreign_worlds, in_order_at, include_path, include_paths, includes, inline_items, inline_uses, interface_there, interfaces_of, is_world, is_world_at, item_link, item_name, item_named, item_word, kept_at, kept_has, leads, map, map_at, missing_at, name_equal, needed_paths, option_map, part_includes, part_items, part_visits, parts, path_id, path_scope, path_visits, side_items, side_itself, slice_get, slice_get-map, target_scope, use_path, use_paths, visited, walk, world_there, worlds_of}
 use Rattle.wit_tree.specs.declared.tree.ExternKind.TheVariants as extern
-use Rattle.wit_tree.specs.declared.tree.Include.{Include}
-use Rattle.wit_tree.specs.declared.tree.PackageFile.{PackageFile}
-use Rattle.wit_tree.specs.declared.tree.Use.{Use as WrittenUse}
-use Rattle.wit_tree.specs.declared.tree.UsePath.{UsePath}
-use Rattle.wit_package_names.specs.declared.package_name.PackageName.{PackageName}
-use Rattle.wit_syntax.specs.Address.{Address, InterfaceNamed, WorldNamed}
-use Rattle.wit_syntax.specs.Broken.{is_world_at, Names, MissingUse, WorldUsed, InterfaceIncluded, Use, IsLegal}
-use Rattle.wit_syntax.specs.ExternPart.{extern_paths, inline_uses}
-use Rattle.wit_syntax.specs.Fault.{missing_at, item_word, interface_there, world_there}
-use Rattle.wit_syntax.specs.Foreign.{ForeignVisit, visited, path_visits, part_visits, extern_visits, foreign_at, foreign_items, foreign_interfaces, foreign_worlds}
-use Rattle.wit_syntax.specs.Function.{definition_functions}
-use Rattle.wit_syntax.specs.Repeats.{AllDiffer}
-use Rattle.wit_syntax.specs.ScopeTables.{includes, include_path, include_paths, interfaces_of, needed_paths, part_includes, use_path, use_paths, worlds_of}
-use Rattle.wit_syntax.specs.Sides.{Link, SideItem, SideFunction, SideLink, SideInline, extern_items, extern_link, inline_items, item_link, part_items, side_items}
-use Rattle.wit_syntax.specs.Source.{Part, DefinitionPart, UsePart, IncludePart, FunctionPart, ExternPart, Target, Local, Foreign, Item, address, all_items, at_side, is_world, item_name, item_named, leads, parts, path_id, path_scope, target_scope, walk}
-use Rattle.wit_syntax.proofs.Addresses.{side_itself}
-use Rattle.wit_syntax.proofs.Found.{contains_at, find_at, find_passes}
-use Rattle.wit_syntax.proofs.Kept.{kept_at, kept_has}
-use Rattle.wit_syntax.proofs.Lists.{at_prefix, at_back, flat_map_at, flat_map_has, map_at}
-use Rattle.wit_syntax.proofs.Names.{name_equal}
-use Rattle.wit_syntax.proofs.Orders.{in_order_at}
-use Rattle.wit_syntax.proofs.Scopes.{all_declared}
-use Rattle.wit_arena.specs.Made.{AreInOrder, interface_scopes, own_interfaces, world_scopes}
-use Rattle.wit_arena.proofs.Interfaces.{own_interface_address, world_address}
-use Rattle.wit_arena.proofs.Itemizing.{items_within, item_index}
-use Rattle.wit_arena.proofs.Leading.{named_at, needed_before, option_cases}
-use Rattle.wit_arena.proofs.LegalScopes.{distinct_items}
+use Rattle.wit_syntax.specs.Broken.{Use}
+use Rattle.wit_arena.proofs.Common.{AreInOrder, IsVisited, distinct_items, foreign_at-visited, interface_scopes, item_index, items_within, named_at, needed_before, option_cases, own_interface_address, own_interfaces, path_among, path_visited, side_has, visit_listed, world_address, world_scopes}
 use Rattle.wit_arena.proofs.MadeScopes.{scope_place-found, interface_scopes-differ, world_scopes-differ}
 use Rattle.wit_parser.proofs.PartsSides.{HasPlace}
-use Rattle.wit_arena.proofs.Visits.{IsVisited, foreign_at-visited, path_among, path_visited, side_has, visit_listed}
 
 -- what is among such as differ has its place
 present_placed : (ss : List Address) (i : ℕ) (s : Address) → AllDiffer ss → slice_get ss i ≡ Some s → HasPlace ss s

@@ -1,41 +1,13 @@
 -- The arena of types that is given by places is the list of first occurrences.
 use Rattle.std.proofs.Common.{◌≡◌, ◌↔◌, ℕ, suc, Bool, true, List, [], ◌∷◌, ◌++◌, length, take, Some, None, inl, inr, refl, sym, ap, ◌∙◌, subst, arith}
-use Rattle.std.specs.Prelude.{slice_get, map, Contains}
-use Rattle.std.specs.List.{flat_map, position_or_len}
-use Rattle.std.specs.Option.{option_map}
-use Rattle.std.proofs.lemmas.List.{length-map}
-use Rattle.std.proofs.lemmas.Option.{slice_get-map}
-use Rattle.wit_values.specs.declared.span.Span.{Span}
-use Rattle.wit_tree.specs.declared.tree.PackageFile.{PackageFile}
-use Rattle.wit_types.specs.declared.stability.Stability.{Stability}
-use Rattle.wit_types.specs.declared.types.TypeDef.{TypeDef}
+use Rattle.wit_syntax.proofs.Common.{Address, AllDiffer, Contains, ForeignNamed, ForeignUse, InlineAt, InterfaceNamed, IsLegal, IsOrder, Item, PackageFile, ScopeName, Span, Stability, TypeDef, WorldNamed, about_name, all_items, at_contains, at_prefix, at_seam, at_within, differ_at, first_foreign_uses, first_known, firsts, firsts_at, flat_map, foreign_uses, in_order, is_foreign, item_rows, length-map, local_name, map, map_at, option_map, position_or_len, same_foreign_use, scope, slice_get, slice_get-map, three_ways}
 use Rattle.wit_types.specs.declared.types.«Type».{«Type» as Ty}
-use Rattle.wit_graph.specs.Table.{IsOrder}
-use Rattle.wit_syntax.specs.Address.{Address, InterfaceNamed, WorldNamed, InlineAt, ForeignNamed, is_foreign}
-use Rattle.wit_syntax.specs.Broken.{IsLegal}
-use Rattle.wit_syntax.specs.Metadata.{first_known}
-use Rattle.wit_syntax.specs.Repeats.{AllDiffer, firsts}
-use Rattle.wit_syntax.specs.ScopeTables.{in_order, item_rows}
-use Rattle.wit_syntax.specs.Source.{Item, ScopeName, ForeignUse, about_name, all_items, first_foreign_uses, local_name, same_foreign_use, foreign_uses}
-use Rattle.wit_syntax.specs.ScopesOfTrees.{scope}
-use Rattle.wit_syntax.proofs.Firsts.{firsts_at}
-use Rattle.wit_syntax.proofs.Found.{at_contains}
-use Rattle.wit_syntax.proofs.Legal.{three_ways}
-use Rattle.wit_syntax.proofs.Lists.{at_prefix, at_seam, at_within, map_at}
-use Rattle.wit_syntax.proofs.Repeated.{differ_at}
-use Rattle.wit_arena.specs.Expr.{Exprs, name_exprs}
-use Rattle.wit_arena.specs.Kind.{kind_of}
-use Rattle.wit_arena.specs.Made.{AreNamesInOrder, IsEntryOf, item_turns, types_of}
-use Rattle.wit_arena.specs.Occurrences.{Key, Def, Whole, Occurrence, keys, IsSeen, Collects, AreAt, IsEntry, IsOccurrence, settled, stability_at}
-use Rattle.wit_arena.specs.Whole.{all_occurrences, declarations, owner_at, foreign_use_occurrence, turn_occurrences}
-use Rattle.wit_arena.proofs.FirstsOf.{firsts-differ, firsts-collects}
-use Rattle.wit_arena.proofs.Occurrence.{Has, collects_extended}
+use Rattle.wit_arena.proofs.Common.{AreAt, AreNamesInOrder, Collects, Def, Exprs, GivesPlaces, Has, IsEntry, IsEntryOf, IsOccurrence, IsSeen, Key, Occurrence, Whole, all_occurrences, collects_extended, declarations, firsts-collects, firsts-differ, foreign_use_key, foreign_use_occurrence, foreign_uses_differ, foreign_uses_seen, gives_places, gives_used, item_turns, keys, kind_of, name_exprs, owner_at, stability_at, turn_occurrences, types_of, used_at, used_name_at}
+use Rattle.wit_arena.specs.Occurrences.{settled}
 use Rattle.wit_parser.proofs.PartsItems.{all_ready, no_parts}
 use Rattle.wit_parser.proofs.PartsPlaces.{AllPresent, types_of-at}
 use Rattle.wit_parser.proofs.PartsReady.{PartsPresent, Ready, collects_prefix, seen_ready, ready_wider}
 use Rattle.wit_arena.proofs.Places.{key_extended}
-use Rattle.wit_arena.proofs.Placing.{GivesPlaces, gives_places, gives_used}
-use Rattle.wit_arena.proofs.ForeignUses.{used_name_at, used_at, foreign_use_key, foreign_uses_differ, foreign_uses_seen}
 
 -- what occurs is in the end
 pub collects_has : (ls ms all : List Occurrence) → Collects ms ls all → (k : Key) → Has (keys ls) k → IsSeen (keys all) k

@@ -1,23 +1,9 @@
 -- What is stated of a side of a world is there, where each interface that is named there has a place.
 use Rattle.std.proofs.Common.{◌≡◌, ℕ, suc, Bool, true, false, cond, List, [], ◌∷◌, length, Some, None, refl, sym, ap, ◌∙◌, arith}
-use Rattle.std.specs.Prelude.{slice_get, map}
-use Rattle.std.specs.List.{cons_option, flat_map}
-use Rattle.wit_tree.specs.declared.tree.Include.{Include}
-use Rattle.wit_tree.specs.declared.tree.WorldSide.{WorldSide}
-use Rattle.wit_functions.specs.declared.function.Function.{Function}
-use Rattle.wit_model.specs.declared.world.WorldKey.{WorldKey}
+use Rattle.wit_syntax.proofs.Common.{Address, Include, Item, Link, SideFunction, SideInline, SideItem, SideLink, SourceFunction, TopName, WorldNamed, WorldSide, address, cons_option, flat_map, item_function, item_inline, item_link, leads, map, path_scope, role_side, same_side, slice_get, target_scope}
+use Rattle.wit_arena.proofs.Common.{AreSideItems, Function, IsInclude, OneByOne, WorldItem, WorldKey, entries_on, include_in, inline_entry, link_item, put_on, scope_place, side_entries}
 use Rattle.wit_model.specs.declared.world.WorldKey.TheVariants as key
-use Rattle.wit_model.specs.declared.world.WorldItem.{WorldItem}
 use Rattle.wit_model.specs.declared.world.WorldItem.TheVariants as item
-use Rattle.wit_syntax.specs.Address.{Address, WorldNamed}
-use Rattle.wit_syntax.specs.ExternPart.{same_side}
-use Rattle.wit_syntax.specs.Function.{SourceFunction}
-use Rattle.wit_syntax.specs.Sides.{role_side, SideItem, SideFunction, SideLink, SideInline, Link, item_function, item_inline, item_link}
-use Rattle.wit_syntax.specs.Source.{Item, TopName, address, path_scope, leads, target_scope}
-use Rattle.wit_arena.specs.Made.{scope_place, side_entries, entries_on, include_in}
-use Rattle.wit_arena.specs.OneByOne.{OneByOne}
-use Rattle.wit_arena.specs.SideItems.{AreSideItems, put_on, link_item, inline_entry}
-use Rattle.wit_arena.specs.Whole.{IsInclude}
 use Rattle.wit_parser.proofs.PartsPlaces.{one_by_one-mapped}
 
 abbrev Entry : Type 0

@@ -1,43 +1,8 @@
 -- What occurs in a scope occurs in an order in which the parts of each come before it.
 use Rattle.std.proofs.Common.{◌≡◌, ◌<◌, ◌≤◌, ℕ, ◌+◌, zero, suc, List, [], ◌∷◌, ◌++◌, length, take, Option, Some, None, inl, inr, refl, sym, ap, ◌∙◌, subst, arith, append-nil}
-use Rattle.std.specs.Prelude.{slice_get, slice_index, Contains}
-use Rattle.std.specs.List.{flat_map}
-use Rattle.std.specs.Option.{option_map}
-use Rattle.std.specs.Str.{bytes_eq}
-use Rattle.std.proofs.lemmas.Grind.{flat_map-append}
-use Rattle.std.proofs.lemmas.List.{length-map, take_all}
-use Rattle.std.proofs.lemmas.Option.{slice_get-map, slice_get_within, slice_get-get_or, get_or_from_slice_get}
-use Rattle.wit_tree.specs.declared.tree.PackageFile.{PackageFile}
-use Rattle.wit_tree.specs.declared.tree.UseName.{UseName}
-use Rattle.wit_type_tree.specs.declared.leaves.Attribute.{Attribute}
-use Rattle.wit_type_tree.specs.declared.leaves.Id.{Id}
-use Rattle.wit_graph.specs.Table.{Row, IsEdge, Leads, IsOrder, target}
-use Rattle.wit_syntax.specs.Address.{Address}
-use Rattle.wit_syntax.specs.Broken.{IsLegal, Scope, Function}
-use Rattle.wit_syntax.specs.Fault.{missing_at, name_word, function_as_type}
-use Rattle.wit_syntax.specs.Function.{SourceFunction, functions, signature}
-use Rattle.wit_syntax.specs.ScopeTables.{rows_of, in_order, used, defined, is_defined, needed_ids}
-use Rattle.wit_syntax.specs.Shape.{Shape, words}
-use Rattle.wit_syntax.specs.Sides.{all_scopes}
-use Rattle.wit_syntax.specs.SignatureRules.{IsEntered, MissingInSignature, OfFunction, OfNothing}
-use Rattle.wit_syntax.specs.Source.{ScopeName, Used, Defined, ForeignName, about_name, address, local_name, meaning, scope_names}
-use Rattle.wit_syntax.specs.ScopesOfTrees.{scope}
-use Rattle.wit_syntax.proofs.Found.{at_contains, contains_at, find_at, find_passes, some_of}
-use Rattle.wit_syntax.proofs.Kept.{kept_early, kept_next, kept_past}
-use Rattle.wit_syntax.proofs.Lists.{at_within, flat_map_has}
-use Rattle.wit_syntax.proofs.Names.{name_equal}
-use Rattle.wit_syntax.proofs.Repeated.{differ_at}
-use Rattle.wit_syntax.proofs.Rows.{row_of}
-use Rattle.wit_syntax.proofs.Tables.{place_of-Some}
-use Rattle.wit_syntax.proofs.Turns.{in_turn_has, names_within, used_at, used_has, used_is}
-use Rattle.wit_arena.specs.Occurrences.{Key, Def, Occurrence, keys, name_occurrences, all_function_occurrences}
-use Rattle.wit_arena.specs.Whole.{Ordered, turned, ordered_names, turn_occurrences}
-use Rattle.wit_arena.proofs.Itemizing.{own_names}
-use Rattle.wit_arena.proofs.KnownItems.{IsItem, scope_is}
-use Rattle.wit_arena.proofs.LegalScopes.{names_differ, scope_among}
-use Rattle.wit_arena.proofs.Occurrence.{Has}
+use Rattle.wit_syntax.proofs.Common.{Address, Attribute, Contains, Defined, ForeignName, Function, Id, IsEdge, IsEntered, IsLegal, IsOrder, Leads, MissingInSignature, OfFunction, OfNothing, PackageFile, Row, Scope, ScopeName, Shape, SourceFunction, UseName, Used, about_name, address, all_scopes, at_contains, at_within, bytes_eq, contains_at, defined, differ_at, find_at, find_passes, flat_map, flat_map-append, flat_map_has, function_as_type, functions, get_or_from_slice_get, in_order, in_turn_has, is_defined, kept_early, kept_next, kept_past, length-map, local_name, meaning, missing_at, name_equal, name_word, names_within, needed_ids, option_map, place_of-Some, row_of, rows_of, scope, scope_names, signature, slice_get, slice_get-get_or, slice_get-map, slice_get_within, slice_index, some_of, take_all, target, used, used_at, used_has, used_is, words}
+use Rattle.wit_arena.proofs.Common.{Def, Has, IsItem, Key, Occurrence, Ordered, all_function_occurrences, keys, name_occurrences, names_differ, ordered_names, own_names, parts_occurrences, scope_among, scope_is, turn_occurrences, turned}
 use Rattle.wit_parser.proofs.PartsReady.{After, Ready, has_prefix, has_last, has_of, ready_all, ready_append, name_ready, functions_ready}
-use Rattle.wit_arena.proofs.Turns.{parts_occurrences}
 
 one_word : (x id : Id) (k : ℕ) → slice_get (x ∷ []) k ≡ Some id → x ≡ id
 one_word x id zero at = cc

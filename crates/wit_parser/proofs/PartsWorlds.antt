@@ -1,36 +1,11 @@
 -- A world that is given by places is the written one, where all that it names occurs, and has a place.
 use Rattle.std.proofs.Common.{◌≡◌, ℕ, List, [], ◌∷◌, ◌++◌, Some, refl, sym, ap, ◌∙◌, subst}
-use Rattle.std.specs.Prelude.{slice_get, map}
-use Rattle.std.specs.List.{flat_map}
-use Rattle.wit_tree.specs.declared.tree.Include.{Include}
-use Rattle.wit_tree.specs.declared.tree.WorldSide.{WorldSide}
-use Rattle.wit_tree.specs.declared.tree.WorldSide.TheVariants.{Imported, Exported}
-use Rattle.wit_functions.specs.declared.function.Function.{Function}
-use Rattle.wit_model.specs.declared.world.World.{World}
-use Rattle.wit_model.specs.declared.world.WorldItem.{WorldItem}
-use Rattle.wit_model.specs.declared.world.WorldItem.TheVariants.{Type_}
-use Rattle.wit_model.specs.declared.world.WorldKey.{WorldKey}
+use Rattle.wit_syntax.proofs.Common.{Address, Exported, Imported, Include, Item, Link, ScopeName, SourceFunction, WorldNamed, WorldSide, address, flat_map, functions, functions_items, includes, inline_items, item_link, leads, length-inline_after, local_id, local_name, map, map_map, path_scope, side_items, slice_get, target_scope}
+use Rattle.wit_arena.proofs.Common.{AreSideItems, Def, Function, GivesPlaces, HasTypes, IsResolvedWorld, IsSeen, Key, Ordered, OrderedWorld, Type_, World, WorldItem, WorldKey, addresses, entries_on, function_in, import_types, name_imports, name_places, names_in_turn, own_types, own_world, settled, settled_none, settled_types, turned, type_imports, world_entries, world_types}
 use Rattle.wit_model.specs.declared.world.WorldKey.TheVariants as key
-use Rattle.wit_syntax.specs.Address.{Address, WorldNamed}
-use Rattle.wit_syntax.specs.Function.{SourceFunction, functions}
-use Rattle.wit_syntax.specs.ScopeTables.{includes}
-use Rattle.wit_syntax.specs.Sides.{Link, item_link, side_items, inline_items}
-use Rattle.wit_syntax.specs.Source.{Item, ScopeName, address, leads, local_id, local_name, path_scope, target_scope}
-use Rattle.wit_syntax.proofs.Inline.{length-inline_after}
-use Rattle.wit_syntax.proofs.Legal.{functions_items}
-use Rattle.wit_syntax.proofs.Lists.{map_map}
-use Rattle.wit_arena.specs.Made.{function_in, name_places, names_in_turn, entries_on, name_imports, world_entries, own_world}
-use Rattle.wit_arena.specs.Occurrences.{Key, Def, IsSeen}
-use Rattle.wit_arena.specs.UnfoldedTypes.{import_types, world_types}
-use Rattle.wit_arena.specs.SideItems.{AreSideItems, settled}
-use Rattle.wit_arena.specs.Whole.{Ordered, OrderedWorld, turned, addresses, type_imports, HasTypes}
-use Rattle.wit_arena.proofs.ByParts.{IsResolvedWorld}
-use Rattle.wit_arena.proofs.DoneWorlds.{own_types}
 use Rattle.wit_parser.proofs.PartsOrders.{own_world as world_in_order}
 use Rattle.wit_parser.proofs.PartsPlaces.{FunctionPresent, functions_in-are, name_places-are}
 use Rattle.wit_parser.proofs.PartsSides.{HasPlace, side_entries-are, includes_in-are}
-use Rattle.wit_arena.proofs.Placing.{GivesPlaces}
-use Rattle.wit_arena.proofs.Settled.{settled_none, settled_types}
 use Rattle.wit_arena.proofs.SideItems.{side_types}
 
 imports_named : (id : Key → ℕ) (s : Address) (xs : List ScopeName) → name_imports id s xs ≡ type_imports xs (name_places id s xs)

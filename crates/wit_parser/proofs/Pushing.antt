@@ -1,25 +1,8 @@
 -- The first fault of a source that is pushed after files is a broken rule; and where there is none, no rule is broken.
 use Rattle.std.proofs.Common.{◌≡◌, ℕ, Bool, true, false, List, [], ◌∷◌, Option, Some, None, inl, inr, refl, sym, ap, ◌∙◌}
-use Rattle.std.specs.Option.{option_map, option_or}
-use Rattle.std.proofs.lemmas.Bool.{false_from_ne_true}
-use Rattle.semver.specs.Identifiers.{parts_of}
-use Rattle.semver.specs.declared.Version.{Version}
-use Rattle.wit_values.specs.declared.release.Release.{Release}
-use Rattle.wit_values.specs.ReleaseText.{release_parts}
-use Rattle.wit_tree.specs.declared.tree.NestedPackage.{NestedPackage}
+use Rattle.wit_syntax.proofs.Common.{Fault, IsMismatch, IsSamePackage, NestedPackage, PackageFile, PackageName, Release, SourceFile, Version, at_contains, contains_at, false_from_ne_true, fault, fault_in, headers, last_header, mismatch, option_map, option_or, package_of, parts_of, release_of, release_parts, same_package, same_package-equal, same_package-from}
 use Rattle.wit_tree.specs.declared.tree.PackageName.{PackageName as Header}
-use Rattle.wit_tree.specs.declared.tree.PackageFile.{PackageFile}
-use Rattle.wit_tree.specs.declared.tree.SourceFile.{SourceFile}
-use Rattle.wit_package_names.specs.declared.package_name.PackageName.{PackageName}
-use Rattle.wit_syntax.specs.Address.{package_of, release_of, same_package}
-use Rattle.wit_syntax.specs.Broken.{IsMismatch, IsSamePackage, headers, last_header}
-use Rattle.wit_syntax.specs.Fault.{Fault, fault, fault_in}
-use Rattle.wit_syntax.specs.Words.{mismatch}
-use Rattle.wit_syntax.proofs.Addresses.{same_package-equal, same_package-from}
-use Rattle.wit_syntax.proofs.Found.{at_contains, contains_at}
-use Rattle.wit_first.specs.HeaderFaults.{nesting_fault, other_fault, push_fault, second_docs_fault}
-use Rattle.wit_first.specs.Laws.{Agrees}
-use Rattle.wit_first.proofs.Bridge.{or_none_both, or_some}
+use Rattle.wit_walk.proofs.Common.{Agrees, nesting_fault, or_none_both, or_some, other_fault, push_fault, second_docs_fault}
 use Rattle.wit_items.proofs.Documented.{docs_agree}
 use Rattle.wit_parser.specs.Stray.{IsNesting, IsStray}
 

@@ -1,27 +1,8 @@
 -- What is on the sides of a world: its ids are places of types and of interfaces.
 use Rattle.std.proofs.Common.{◌≡◌, ◌<◌, ℕ, suc, List, [], ◌∷◌, ◌++◌, length, Option, Some, None, refl, sym, subst, arith, inl, inr}
-use Rattle.std.specs.Prelude.{slice_get}
-use Rattle.std.proofs.lemmas.Bool.{cases_Bool, cond-true, cond-false}
-use Rattle.std.proofs.lemmas.Option.{slice_get_within}
-use Rattle.wit_type_tree.specs.declared.leaves.Id.{Id}
-use Rattle.wit_tree.specs.declared.tree.Include.{Include}
-use Rattle.wit_tree.specs.declared.tree.WorldSide.{WorldSide}
-use Rattle.wit_functions.specs.declared.function.Function.{Function}
-use Rattle.wit_model.specs.declared.world.WorldItem.{WorldItem}
-use Rattle.wit_model.specs.declared.world.WorldItem.TheVariants.{Type_}
-use Rattle.wit_model.specs.declared.world.WorldKey.{WorldKey}
+use Rattle.wit_syntax.proofs.Common.{Address, Id, Include, ScopeName, SideFunction, SideInline, SideItem, SideLink, TopName, WorldSide, after_one, at_split, cases_Bool, cond-false, cond-true, local_id, local_name, path_scope, role_side, same_side, slice_get, slice_get_within}
+use Rattle.wit_arena.proofs.Common.{AreSideItems, Function, Type_, UnresolvedPackage, WorldItem, WorldKey, function_item, inline_entry, link_item, link_key, put_on, settled, settled_at, type_imports}
 use Rattle.wit_model.specs.declared.world.WorldKey.TheVariants as key
-use Rattle.wit_model.specs.declared.unresolved.UnresolvedPackage.{UnresolvedPackage}
-use Rattle.wit_syntax.specs.Address.{Address}
-use Rattle.wit_syntax.specs.ExternPart.{same_side}
-use Rattle.wit_syntax.specs.Sides.{role_side, SideItem, SideFunction, SideLink, SideInline}
-use Rattle.wit_syntax.specs.Source.{TopName, ScopeName, local_name, local_id, path_scope}
-use Rattle.wit_arena.specs.SourceFunctions.{function_item}
-use Rattle.wit_arena.specs.SideItems.{link_key, link_item, inline_entry, put_on, settled, AreSideItems}
-use Rattle.wit_arena.proofs.Settled.{settled_at}
-use Rattle.wit_arena.specs.Whole.{type_imports}
-use Rattle.wit_syntax.proofs.Kept.{after_one}
-use Rattle.wit_syntax.proofs.Lists.{at_split}
 use Rattle.wit_parser.specs.Ids.{AreNamesWithin, IsFunctionWithin, IsKeyWithin, IsItemWithin, AreItemsWithin}
 
 abbrev Entry : Type 0

@@ -1,30 +1,13 @@
 -- Types, functions and names over the keys that occurred: their ids are places of types.
 use Rattle.std.proofs.Common.{◌≡◌, ◌<◌, ℕ, zero, suc, List, [], ◌∷◌, length, Option, Some, None, refl, sym, ap, ◌∙◌, subst, arith}
-use Rattle.std.specs.Prelude.{slice_get}
-use Rattle.std.specs.List.{filter_map}
-use Rattle.std.proofs.lemmas.Option.{slice_get_within}
-use Rattle.wit_values.specs.declared.span.Span.{Span}
-use Rattle.wit_type_tree.specs.declared.types.FuncForm.{FuncForm}
+use Rattle.wit_syntax.proofs.Common.{Address, Constructor, Freestanding, FuncForm, Id, Method, OnSide, PackageFile, Role, SourceFunction, Span, Static, at_within, filter_map, signature, slice_get, slice_get_within}
 use Rattle.wit_type_tree.specs.declared.types.FuncForm.TheVariants as form
-use Rattle.wit_type_tree.specs.declared.leaves.Id.{Id}
-use Rattle.wit_tree.specs.declared.tree.PackageFile.{PackageFile}
 use Rattle.wit_types.specs.declared.types.«Type».{«Type» as Ty}
 use Rattle.wit_functions.specs.FunctionKinds.{resource_of}
-use Rattle.wit_functions.specs.declared.function.Function.{Function}
-use Rattle.wit_functions.specs.declared.function.FunctionKind.{FunctionKind}
-use Rattle.wit_model.specs.declared.unresolved.UnresolvedPackage.{UnresolvedPackage}
-use Rattle.wit_syntax.specs.Address.{Address}
-use Rattle.wit_syntax.specs.Function.{Role, Freestanding, Method, Static, Constructor, OnSide, SourceFunction, signature}
-use Rattle.wit_arena.specs.Expr.{Expr, Prim, Use, Of, Exprs, End, More, expr_of}
-use Rattle.wit_arena.specs.SourceFunctions.{IsKind, IsFunction, AreFunctions}
-use Rattle.wit_arena.specs.Occurrences.{Key, Def, Whole, IsAt, AreAt}
-use Rattle.wit_arena.specs.UnfoldedTypes.{IsBelow, function_types}
-use Rattle.wit_arena.specs.Whole.{Turned, HasTypes, AreRequired}
-use Rattle.wit_syntax.proofs.Lists.{at_within}
+use Rattle.wit_arena.proofs.Common.{AreAt, AreFunctions, AreRequired, Def, End, Expr, Exprs, Function, FunctionKind, HasTypes, IsAt, IsBelow, IsFunction, IsKind, Key, More, Of, Prim, Turned, UnresolvedPackage, Use, Whole, expr_of, freestanding_kind, function_types, method_kind, static_kind}
 use Rattle.wit_arena.proofs.Primitives.{primitive_below}
 use Rattle.wit_arena.proofs.Signatures.{function_typed}
 use Rattle.wit_parser.specs.Ids.{AreTypesWithin, AreNamesWithin, IsFunctionWithin}
-use Rattle.wit_arena.proofs.Turns.{freestanding_kind, method_kind, static_kind}
 
 -- the resource of a kind, by its form
 free_resource : (f : FuncForm) (id : ℕ) → resource_of (freestanding_kind f) ≡ Some id → ⊥

@@ -1,28 +1,11 @@
 -- A written function has the mark of its role in its name.
 use Rattle.std.proofs.Common.{◌≡◌, ℕ, zero, suc, ◌==◌, List, ◌++◌, Option, Some, refl, sym, ◌∙◌, subst}
-use Rattle.std.specs.Prelude.{slice_get, codes}
-use Rattle.std.specs.List.{list_any}
-use Rattle.std.proofs.lemmas.Bool.{or_left, or_right}
-use Rattle.std.proofs.lemmas.List.Folds.{list_any-append}
-use Rattle.wit_type_tree.specs.declared.types.FuncForm.{FuncForm}
+use Rattle.wit_syntax.proofs.Common.{Attribute, DefinitionPart, ExternPart, Func, FuncForm, FunctionPart, Id, IncludePart, Item, NamedFunc, Part, ResourceFunc, SourceFunction, TypeBody, UsePart, WorldSide, accessor, codes, definition_functions, dotted, extern_at, flat_map_at, free_function, functions, list_any, list_any-append, map_at, or_left, or_right, part_functions, parts, resource_function, side_function, slice_get}
 use Rattle.wit_type_tree.specs.declared.types.FuncForm.TheVariants as form
-use Rattle.wit_type_tree.specs.declared.leaves.Id.{Id}
-use Rattle.wit_type_tree.specs.declared.types.TypeBody.{TypeBody}
 use Rattle.wit_type_tree.specs.declared.types.TypeBody.TheVariants as body
-use Rattle.wit_type_tree.specs.declared.types.NamedFunc.{NamedFunc}
-use Rattle.wit_type_tree.specs.declared.types.ResourceFunc.{ResourceFunc}
 use Rattle.wit_type_tree.specs.declared.types.ResourceFunc.TheVariants as resource
-use Rattle.wit_functions.specs.FunctionNames.{mark_of, HasMark, HasMarkOf}
-use Rattle.wit_syntax.specs.Source.{Item, Part, DefinitionPart, UsePart, IncludePart, FunctionPart, ExternPart, parts}
-use Rattle.wit_syntax.specs.Function.{SourceFunction, accessor, dotted, free_function, resource_function, definition_functions, part_functions, functions, side_function}
-use Rattle.wit_arena.specs.Made.{role_kind}
-use Rattle.wit_syntax.proofs.Lists.{map_at, flat_map_at}
-use Rattle.wit_type_tree.specs.declared.types.Func.{Func}
+use Rattle.wit_arena.proofs.Common.{HasMark, HasMarkOf, freestanding_kind, mark_of, method_kind, role_kind, static_kind}
 use Rattle.wit_type_tree.specs.declared.leaves.Docs.{Docs}
-use Rattle.wit_type_tree.specs.declared.leaves.Attribute.{Attribute}
-use Rattle.wit_tree.specs.declared.tree.WorldSide.{WorldSide}
-use Rattle.wit_syntax.proofs.Externs.{extern_at}
-use Rattle.wit_arena.proofs.Turns.{freestanding_kind, method_kind, static_kind}
 
 -- a mark in one of two texts is in both together
 mark_before : (mark : ℕ) (text more : List ℕ) → HasMark mark text → HasMark mark (text ++ more)

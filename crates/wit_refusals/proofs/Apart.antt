@@ -1,15 +1,6 @@
 -- Texts whose hashes differ.
 use Rattle.std.proofs.Common.{◌≡◌, ℕ, ◌<◌, ◌==◌, true, false, List, Some, get_or, inl, inr, sym, ap, ◌∙◌, arith}
-use Rattle.std.specs.Prelude.{slice_get, map}
-use Rattle.std.specs.List.{IsDistinct}
-use Rattle.std.specs.List.Sorted.{IsPermutation, IsStrictlyIncreasing}
-use Rattle.std.proofs.lemmas.Bool.{cases_Bool, eqb-true, eq-eqb, ne_eqb}
-use Rattle.std.proofs.lemmas.List.{length-map}
-use Rattle.std.proofs.lemmas.List.Sorted.{IsPermutation-sym}
-use Rattle.std.proofs.lemmas.Map.Keys.{IsDistinct-from_apart, IsDistinct-IsPermutation, apart_from_distinct, sorted_from_strictly_increasing, below_from_sorted}
-use Rattle.std.proofs.lemmas.Option.{slice_get-map, slice_get_within, get_or_from_slice_get}
-use Rattle.std.specs.Option.{option_map}
-use Rattle.wit_syntax.specs.Repeats.{AllDiffer}
+use Rattle.wit_syntax.proofs.Common.{AllDiffer, IsDistinct, IsDistinct-IsPermutation, IsDistinct-from_apart, IsPermutation, IsPermutation-sym, IsStrictlyIncreasing, apart_from_distinct, below_from_sorted, cases_Bool, eq-eqb, eqb-true, get_or_from_slice_get, length-map, map, ne_eqb, option_map, slice_get, slice_get-map, slice_get_within, sorted_from_strictly_increasing}
 use Rattle.wit_refusals.specs.KeyHashes.{key_hash_of}
 
 same_turned : (x y : ℕ) → (x == y) ≡ (y == x)

@@ -1,13 +1,7 @@
 -- Texts without a letter in upper case, and the keys of names.
 use Rattle.std.proofs.Common.{◌≡◌, ℕ, ◌||◌, Bool, true, false, List, [], ◌∷◌, refl, sym, ap, ◌∙◌, arith}
-use Rattle.std.specs.Prelude.{map}
-use Rattle.std.specs.Char.{is_ascii_uppercase, to_ascii_lowercase}
-use Rattle.std.specs.List.{list_any}
-use Rattle.std.proofs.lemmas.Bool.Decides.{nat_tests}
+use Rattle.wit_syntax.proofs.Common.{Id, folded, is_ascii_uppercase, list_any, map, map_map, nat_tests, to_ascii_lowercase}
 use denote.Ref.{Bor}
-use Rattle.wit_type_tree.specs.declared.leaves.Id.{Id}
-use Rattle.wit_syntax.specs.Bodies.{folded}
-use Rattle.wit_syntax.proofs.Lists.{map_map}
 
 none_of : (a b : Bool) → (a || b) ≡ false → (a ≡ false) × (b ≡ false)
 none_of false b h = (refl, h)

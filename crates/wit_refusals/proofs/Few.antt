@@ -1,14 +1,7 @@
 -- Texts that are compared in pairs.
 use Rattle.std.proofs.Common.{◌≡◌, ℕ, ◌<◌, ◌+◌, true, false, List, Some, nat_eq, take, length, get_or, inl, inr, sym, ap, ◌∙◌, subst, arith}
-use Rattle.std.specs.Prelude.{slice_get}
-use Rattle.std.specs.Cmp.Lexicographic.{pointwise}
-use Rattle.std.proofs.lemmas.Bool.{cases_lt}
-use Rattle.std.proofs.lemmas.Option.{same_Some}
+use Rattle.wit_syntax.proofs.Common.{AllDiffer, IsRepeatAt, at_take, cases_lt, name_equal, name_itself, pointwise, same_Some, slice_get, slice_get-take}
 use denote.Ref.{Bor}
-use Rattle.wit_syntax.specs.Repeats.{IsRepeatAt, AllDiffer}
-use Rattle.wit_syntax.proofs.Lists.{at_take}
-use Rattle.wit_syntax.proofs.Names.{name_equal, name_itself}
-use Rattle.wit_graph.proofs.Tables.{slice_get-take}
 use Rattle.wit_refusals.proofs.Seeing.{texts_of, text-at}
 
 -- two places with one text

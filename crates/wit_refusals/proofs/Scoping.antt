@@ -1,31 +1,11 @@
 -- Scopes: what a key finds among their names, and setters with their getters.
 use Rattle.std.proofs.Common.{◌≡◌, ℕ, ◌<◌, Bool, true, false, List, [], ◌∷◌, ◌++◌, length, take, drop, Some, None, Option, nat_eq, inl, inr, IfNone, IfSome, refl, subst, sym, ap, ◌∙◌}
-use Rattle.std.specs.Prelude.{slice_get, map, find, codes, position}
-use Rattle.std.specs.Cmp.Lexicographic.{pointwise}
-use Rattle.std.specs.Map.{keys_of, lookup}
-use Rattle.std.specs.List.{starts_with}
-use Rattle.std.specs.Option.{option_map}
-use Rattle.std.proofs.lemmas.Bool.{cases_Bool}
-use Rattle.std.proofs.lemmas.List.{map-append, take-append-drop}
-use Rattle.std.proofs.lemmas.Option.{slice_get-map}
-use Rattle.wit_names.specs.Folded.{folded_key}
-use Rattle.wit_names.specs.Prefix.{rest_after, passes, is_after}
-use Rattle.wit_names.specs.Label.{is_label}
-use Rattle.wit_names.specs.Mangled.{is_dotted, is_mangled}
-use Rattle.wit_names.specs.Setter.{getter_of, is_setter}
+use Rattle.wit_syntax.proofs.Common.{ParseError, Refused, at_either, at_within, cases_Bool, codes, differ_at, differ_more, fault_in, find, find_passes, folded_key, getter_of, is_after, is_dotted, is_label, is_mangled, is_setter, keys_of, lookup, map, map-append, map_at, name_equal, option_map, passes, pointwise, position, rest_after, setter_words, slice_get, slice_get-map, starts_with, take-append-drop}
 use Rattle.wit_names.proofs.MadeNames.{is_mangled-get, is_mangled-method_get, is_mangled-static_get}
 use Rattle.indexmap.proofs.MapLemmas.{Found-position}
 use Rattle.wit_maps.proofs.Indexed.{lookup_nowhere}
-use Rattle.wit_syntax.proofs.Lists.{at_either, at_within, map_at}
 use Rattle.std.proofs.lemmas.List.Folds.{find_at}
-use Rattle.wit_syntax.proofs.Found.{find_passes}
-use Rattle.wit_syntax.proofs.Names.{name_equal}
-use Rattle.wit_syntax.proofs.Repeated.{differ_at, differ_more}
 use Rattle.wit_refusals.specs.declared.name_scope.DefinedName.{DefinedName}
-use Rattle.wit_type_tree.specs.declared.error.ParseError.{ParseError}
-use Rattle.wit_syntax.specs.Fault.{fault_in}
-use Rattle.wit_syntax.specs.Words.{setter_words}
-use Rattle.wit_syntax.specs.Broken.{Refused}
 use Rattle.wit_refusals.specs.NameScopes.{Name, AreUsed, IsLoneSetter, IsFirstLoneSetter}
 use Rattle.wit_refusals.specs.KeyedNames.{Entry, spelled, name_of, names_of, IsKeyed, HasName}
 use Rattle.wit_refusals.proofs.Tables.{lookup-at, lookup-none}

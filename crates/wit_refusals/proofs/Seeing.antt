@@ -1,16 +1,7 @@
 -- Lent texts that are seen one by one, each with its place.
 use Rattle.std.proofs.Common.{◌≡◌, ℕ, ◌<◌, ◌+◌, cond, false, List, [], ◌∷◌, ◌++◌, length, take, Option, Some, None, nat_eq, get_or, inl, inr, sym, ap, ◌∙◌, arith, length-take}
-use Rattle.std.specs.Prelude.{slice_get, map}
-use Rattle.std.specs.Cmp.Lexicographic.{pointwise}
-use Rattle.std.specs.Map.{update}
-use Rattle.std.specs.Option.{option_map}
-use Rattle.std.specs.Str.{bytes_eq}
-use Rattle.std.proofs.lemmas.List.{take_more}
-use Rattle.std.proofs.lemmas.Option.{slice_get-map, slice_get-get_or, slice_get_within, get_or_from_slice_get}
+use Rattle.wit_syntax.proofs.Common.{AllDiffer, IsRepeatAt, at_either, at_prefix, at_seam, at_take, bytes_eq, get_or_from_slice_get, map, name_cases, name_itself, option_map, pointwise, slice_get, slice_get-get_or, slice_get-map, slice_get_within, take_more, update}
 use denote.Ref.{Bor}
-use Rattle.wit_syntax.specs.Repeats.{IsRepeatAt, AllDiffer}
-use Rattle.wit_syntax.proofs.Lists.{at_either, at_seam, at_prefix, at_take}
-use Rattle.wit_syntax.proofs.Names.{name_cases, name_itself}
 
 -- exactly these texts have a place, each its own
 pub record ArePlaced (texts : List (List ℕ)) (place : List ℕ → Option ℕ) : Type 0 where

@@ -1,9 +1,6 @@
 -- Maps from texts, as contracts see their entries.
 use Rattle.std.proofs.Common.{◌≡◌, ◌≢◌, ℕ, zero, suc, List, [], ◌∷◌, true, Some, None, nat_eq, inl, inr, sym, ap, ◌∙◌}
-use Rattle.std.specs.Prelude.{slice_get}
-use Rattle.std.specs.Cmp.Lexicographic.{pointwise}
-use Rattle.std.specs.Map.{lookup}
-use Rattle.wit_syntax.proofs.Names.{name_cases, name_itself}
+use Rattle.wit_syntax.proofs.Common.{lookup, name_cases, name_itself, pointwise, slice_get}
 
 -- where a value that is found is
 pub lookup-at : {V : Type 0} (es : List (List ℕ × V)) (key : List ℕ) (v : V) → lookup (pointwise nat_eq key) es ≡ Some v → (i : ℕ) × (slice_get es i ≡ Some (key, v))

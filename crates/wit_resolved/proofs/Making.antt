@@ -1,12 +1,8 @@
 -- Legal files make each package of a group.
 use Rattle.std.proofs.Common.{◌≡◌, ℕ, List, [], ◌∷◌, Some, slice_get, refl, ap, ◌∙◌, subst, sym, inl, inr, zero, suc}
-use Rattle.std.specs.List.{AllZip}
-use Rattle.wit_tree.specs.declared.tree.NestedPackage.{NestedPackage}
-use Rattle.wit_tree.specs.declared.tree.PackageFile.{PackageFile}
+use Rattle.wit_syntax.proofs.Common.{AllZip, NestedPackage, PackageFile, at_split}
 use Rattle.wit_lex.specs.declared.source.Source.{Source}
-use Rattle.wit_model.specs.declared.unresolved.UnresolvedPackage.{UnresolvedPackage}
-use Rattle.wit_syntax.proofs.Lists.{at_split}
-use Rattle.wit_arena.specs.Faithful.{IsMadeOf}
+use Rattle.wit_arena.proofs.Common.{IsMadeOf, UnresolvedPackage}
 use Rattle.wit_nested.specs.Nested.{GrowByNested, IsMadeByNested, file_of}
 use Rattle.wit_groups.specs.Groups.{AreUsed, IsGroup}
 use Rattle.wit_groups.specs.Groups.AreUsed.{None, More}

@@ -1,10 +1,7 @@
 -- Lists that are gone through from the prefix.
 use Rattle.std.proofs.Common.{◌≡◌, ◌+◌, ◌<◌, ℕ, List, ◌∷◌, Option, Some, None, drop, length, map, refl, ap, sym, ◌∙◌, add-one, drop-cons}
-use Rattle.std.specs.Prelude.{slice_get}
-use Rattle.std.specs.Option.{option_or}
-use Rattle.std.proofs.lemmas.Option.{get_or_from_slice_get, slice_get_within}
-use Rattle.wit_functions.specs.declared.function.Function.{Function}
-use Rattle.wit_model.specs.declared.unresolved.UnresolvedPackage.{UnresolvedPackage}
+use Rattle.wit_syntax.proofs.Common.{get_or_from_slice_get, option_or, slice_get, slice_get_within}
+use Rattle.wit_arena.proofs.Common.{Function, UnresolvedPackage}
 use Rattle.wit_resolved.specs.Left.{entries_from, functions_from}
 use Rattle.wit_resolved.specs.Lookups.{first_of}
 

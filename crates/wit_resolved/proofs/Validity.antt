@@ -1,26 +1,11 @@
 -- What is known of the entries of a valid package.
 use Rattle.std.proofs.Common.{◌≡◌, ◌<◌, ◌+◌, ℕ, List, [], length, map, Option, Some, refl, ap, ◌∙◌, subst}
-use Rattle.std.specs.Prelude.{slice_get}
-use Rattle.std.specs.List.{flat_map}
-use Rattle.std.specs.Option.{option_map, option_map_or}
-use Rattle.std.proofs.Math.Logic.{∥∥₁_elim, ∥∥₁_map}
+use Rattle.wit_syntax.proofs.Common.{Exported, FunctionKey, Imported, IsBackward, at_back, at_prefix, flat_map, flat_map_has, option_map, option_map_or, slice_get, slice_get-map, ∥∥₁_elim, ∥∥₁_map}
 use Rattle.std.proofs.Props.{props}
-use Rattle.std.proofs.lemmas.Option.{slice_get-map}
-use Rattle.wit_tree.specs.declared.tree.WorldSide.TheVariants.{Imported, Exported}
-use Rattle.wit_types.specs.InnerTypes.{IsBackward}
 use Rattle.wit_types.specs.declared.types.TypeOwner.TheVariants as owner
-use Rattle.wit_functions.specs.FunctionNames.{mark_of, HasMarkOf}
-use Rattle.wit_functions.specs.declared.function.Function.{Function}
-use Rattle.wit_model.specs.declared.interface.Interface.{Interface}
-use Rattle.wit_model.specs.declared.unresolved.UnresolvedPackage.{UnresolvedPackage}
-use Rattle.wit_model.specs.declared.world.World.{World}
-use Rattle.wit_model.specs.declared.world.WorldItem.{WorldItem}
+use Rattle.wit_arena.proofs.Common.{Function, HasMarkOf, Interface, UnresolvedPackage, World, WorldItem, WorldKey, functions_of, interface_functions, item_functions, keyed, mark_of, world_functions}
 use Rattle.wit_model.specs.declared.world.WorldItem.TheVariants as item
-use Rattle.wit_model.specs.declared.world.WorldKey.{WorldKey}
 use Rattle.wit_model.specs.declared.world.WorldKey.TheVariants as key
-use Rattle.wit_syntax.specs.Sides.{FunctionKey}
-use Rattle.wit_syntax.proofs.Lists.{at_back, at_prefix, flat_map_has}
-use Rattle.wit_arena.specs.UnfoldedTypes.{functions_of, interface_functions, item_functions, keyed, world_functions}
 use Rattle.wit_parser.specs.Ids.{AreNamesWithin, IsItemWithin}
 use Rattle.wit_resolved.specs.Valid.{AreFunctionsValid, AreItemsValid, IsFunctionValid, IsItemValid, IsValid, named_function}
 

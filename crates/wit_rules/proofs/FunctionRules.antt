@@ -1,21 +1,9 @@
 -- Rules of functions: their parameters by name, and setters among them.
 use Rattle.std.proofs.Common.{◌≡◌, ℕ, ◌<◌, List, [], ◌∷◌, ◌++◌, Option, Some, None, length, arith, refl, sym, ap, ◌∙◌}
-use Rattle.std.specs.Prelude.{map, slice_get}
-use Rattle.std.proofs.lemmas.List.{length-map, map-append}
-use Rattle.std.specs.Option.{option_copied}
+use Rattle.wit_syntax.proofs.Common.{AllDiffer, FuncForm, Param, SourceFunction, SourceParam, Span, fault, folded, length-map, ltb-false, ltb-true, map, map-append, map_map, option_copied, slice_get, slice_get_past, slice_get_read, slice_get_within, written_param}
 use Rattle.std.specs.Slice.{IsItemAt}
-use Rattle.std.proofs.lemmas.Bool.{ltb-true, ltb-false}
-use Rattle.std.proofs.lemmas.Option.{slice_get_past, slice_get_read, slice_get_within}
 use denote.Ref.{Bor}
-use Rattle.wit_values.specs.declared.span.Span.{Span}
-use Rattle.wit_type_tree.specs.declared.types.FuncForm.{FuncForm}
 use Rattle.wit_type_tree.specs.declared.types.FuncForm.TheVariants as form
-use Rattle.wit_type_tree.specs.declared.types.Param.{Param}
-use Rattle.wit_syntax.specs.Bodies.{folded}
-use Rattle.wit_syntax.specs.Fault.{fault}
-use Rattle.wit_syntax.specs.Function.{SourceFunction, SourceParam, written_param}
-use Rattle.wit_syntax.specs.Repeats.{AllDiffer}
-use Rattle.wit_syntax.proofs.Lists.{map_map}
 use Rattle.wit_first.specs.FunctionFaults.{given_fault, params_fault}
 
 -- the names of parameters, of which some are written

@@ -1,9 +1,6 @@
 -- Lists of what is borrowed, one more, and one by one.
 use Rattle.std.proofs.Common.{◌≡◌, ℕ, List, [], ◌∷◌, ◌++◌, Some, map, sym, ap, ◌∙◌, append_assoc}
-use Rattle.std.specs.Prelude.{slice_get}
-use Rattle.std.specs.Option.{option_map}
-use Rattle.std.proofs.lemmas.List.{map-append}
-use Rattle.std.proofs.lemmas.Option.{slice_get-map}
+use Rattle.wit_syntax.proofs.Common.{map-append, option_map, slice_get, slice_get-map}
 
 -- what comes after a list that grew by one
 pub one_more : {X Y : Type 0} (f : X → Y) (old : List Y) (out new : List X) (x : X) (ys all : List Y) (y : Y) → new ≡ out ++ x ∷ [] → map f out ≡ old ++ ys → f x ≡ y → all ≡ ys ++ y ∷ [] → map f new ≡ old ++ all

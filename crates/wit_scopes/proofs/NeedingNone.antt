@@ -1,20 +1,7 @@
 -- Scopes whose names need none: their order is that in which they are written.
 use Rattle.std.proofs.Common.{◌≡◌, ℕ, zero, suc, ◌+◌, ◌<◌, ◌≤◌, List, [], ◌∷◌, ◌++◌, length, take, map, Some, inl, inr, refl, sym, ap, subst, ◌∙◌, arith, length-append}
-use Rattle.std.specs.Prelude.{slice_get}
-use Rattle.std.specs.List.{cons_option}
-use Rattle.std.proofs.lemmas.List.{length-map, take_all}
-use Rattle.std.proofs.lemmas.Bool.{cases_lt}
-use Rattle.std.proofs.lemmas.Option.{same_Some, get_or_from_slice_get}
-use Rattle.wit_type_tree.specs.declared.leaves.Id.{Id}
-use Rattle.wit_graph.specs.Table.{Row, IsEdge, Leads, IsOrder}
-use Rattle.wit_graph.proofs.Greedy.{own_greedy, greedy_sorted, greedy_least}
-use Rattle.wit_graph.proofs.Tables.{slice_get-take}
-use Rattle.wit_syntax.specs.Source.{ScopeName, local_id}
-use Rattle.wit_syntax.specs.ScopeTables.{needed_ids, rows_of, in_order, used, defined}
-use Rattle.wit_syntax.proofs.Lists.{at_prefix, at_seam, at_take, at_within, map_at}
-use Rattle.wit_syntax.proofs.Orders.{take_next, in_order-append}
+use Rattle.wit_syntax.proofs.Common.{Id, IsEdge, IsOrder, Leads, Row, ScopeName, at_prefix, at_seam, at_take, at_within, cases_lt, cons_option, defined, get_or_from_slice_get, greedy_least, greedy_sorted, in_order, in_order-append, length-map, local_id, map_at, needed_ids, own_greedy, row_of, rows_of, same_Some, slice_get, slice_get-take, take_all, take_next, used}
 use Rattle.wit_scopes.specs.DefinitionOrder.{AreOrdered, IsTurnOf, IsWritten, NeedNone}
-use Rattle.wit_syntax.proofs.Rows.{row_of}
 
 -- the first n places in their own order
 abbrev own : ℕ → List ℕ

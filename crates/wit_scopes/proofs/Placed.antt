@@ -1,9 +1,6 @@
 -- Names of scopes, and the interfaces of other packages at their places.
 use Rattle.std.proofs.Common.{◌≡◌, ℕ, zero, suc, List, [], ◌∷◌, ◌++◌, Some, inl, inr, sym, subst}
-use Rattle.std.specs.Prelude.{slice_get}
-use Rattle.std.specs.List.{flat_map}
-use Rattle.wit_syntax.specs.Address.{Address}
-use Rattle.wit_syntax.proofs.Lists.{at_either, flat_map_at}
+use Rattle.wit_syntax.proofs.Common.{Address, at_either, flat_map, flat_map_at, slice_get}
 use Rattle.wit_scopes.specs.declared.scope_name.UsedName.{UsedName}
 use Rattle.wit_scopes.specs.declared.scope_name.Named.TheVariants as borrowed
 use Rattle.wit_scopes.specs.BorrowedNames.{Borrowed, own_use, IsPlaced, ArePlaced}

@@ -1,22 +1,9 @@
 -- Definitions of a scope in their order: what each needs comes before it.
 use Rattle.std.proofs.Common.{◌≡◌, ◌<◌, ℕ, zero, suc, Bool, true, List, [], ◌∷◌, ◌++◌, length, take, Option, Some, None, IsSome, inl, inr, refl, sym, ap, ◌∙◌, subst}
-use Rattle.std.specs.Prelude.{slice_get, map}
-use Rattle.std.specs.List.{filter, cons_option}
-use Rattle.std.specs.Option.{option_map}
-use Rattle.std.proofs.lemmas.Option.{slice_get-map}
-use Rattle.std.proofs.lemmas.List.{map-append}
-use Rattle.std.proofs.lemmas.Bool.{cases_Bool, cond-true, cond-false}
-use Rattle.wit_syntax.specs.Source.{ScopeName, Used, Defined, ForeignName, local_id, local_name}
-use Rattle.wit_type_tree.specs.declared.leaves.Id.{Id}
+use Rattle.wit_syntax.proofs.Common.{AllDiffer, AreDistinct, AreOwn, Defined, Fault, ForeignName, Id, ScopeName, Used, all_words, at_take, at_within, body_of, cases_Bool, cond-false, cond-true, cons_option, defined, either_at, filter, in_order, in_order_among, in_order_at, in_turn_distinct, is_defined, local_id, local_name, local_names, map, map-append, map_at, map_map, names_within, option_map, slice_get, slice_get-map, used, used_has, used_is}
 use Rattle.wit_type_tree.specs.declared.types.TypeDef.{TypeDef as Definition}
-use Rattle.wit_syntax.specs.Shape.{all_words, body_of}
-use Rattle.wit_syntax.specs.ScopeTables.{in_order, is_defined, used, defined, AreDistinct, local_names}
-use Rattle.wit_syntax.specs.Fault.{Fault}
-use Rattle.wit_syntax.specs.Repeats.{AllDiffer}
-use Rattle.wit_arena.specs.Resolving.{Env, HasNames, IsUnknown}
-use Rattle.wit_syntax.proofs.Lists.{at_within, at_take, map_at, map_map}
-use Rattle.wit_syntax.proofs.Orders.{in_order_at}
-use Rattle.wit_syntax.proofs.Turns.{AreOwn, used_is, used_has, either_at, names_within, in_order_among, in_turn_distinct}
+use Rattle.wit_arena.proofs.Common.{Env, HasNames}
+use Rattle.wit_arena.specs.Resolving.{IsUnknown}
 use Rattle.wit_arena.proofs.Scoping.{needed_earlier}
 use Rattle.wit_scopes.specs.BorrowedNames.{Borrowed, name_view}
 use Rattle.wit_scopes.specs.declared.scope_name.Named.TheVariants as borrowed

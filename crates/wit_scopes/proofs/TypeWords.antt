@@ -1,16 +1,8 @@
 -- Names written in types, by their parts.
 use Rattle.std.proofs.Common.{◌≡◌, List, [], ◌∷◌, ◌++◌, Some, None, Vec, sym, ap, ◌∙◌, append_assoc}
-use Rattle.std.specs.declared.alloc.Global.{Global}
-use Rattle.std.proofs.lemmas.List.{append-nil}
-use Rattle.std.specs.Option.{option_to_list}
-use Rattle.wit_values.specs.declared.span.Span.{Span}
-use Rattle.wit_type_tree.specs.declared.leaves.Id.{Id}
-use Rattle.wit_type_tree.specs.declared.types.Case.{Case}
-use Rattle.wit_type_tree.specs.declared.types.«Type».{«Type» as Written, Tuple}
-use Rattle.wit_type_tree.specs.TypeParts.{case_types}
-use Rattle.wit_syntax.specs.Shape.{shape_of, all_shapes, words, all_words}
-use Rattle.wit_syntax.proofs.Lists.{filter_map_more}
-use Rattle.wit_arena.proofs.Written.{tuple_inner, all_words-append}
+use Rattle.wit_syntax.proofs.Common.{Case, Global, Id, Span, Tuple, all_shapes, all_words, append-nil, case_types, filter_map_more, option_to_list, shape_of, words}
+use Rattle.wit_type_tree.specs.declared.types.«Type».{«Type» as Written}
+use Rattle.wit_arena.proofs.Common.{all_words-append, tuple_inner}
 
 -- of types in turn
 abbrev pub type_words : List Written → List Id

@@ -1,14 +1,8 @@
 -- Used names that are among those of a scope.
 use Rattle.std.proofs.Common.{◌≡◌, ◌++◌, ◌+◌, ◌∷◌, [], ℕ, List, take, Some, refl, ap, ◌∙◌}
-use Rattle.std.specs.Prelude.{slice_get, map}
-use Rattle.std.specs.List.{flat_map}
-use Rattle.std.proofs.lemmas.Grind.{flat_map-append}
-use Rattle.std.proofs.lemmas.List.{append-nil, map-append}
-use Rattle.std.proofs.lemmas.List.Elements.{filter-append}
-use Rattle.wit_syntax.specs.ScopeTables.{is_defined, used, defined}
+use Rattle.wit_syntax.proofs.Common.{append-nil, defined, filter-append, flat_map, flat_map-append, is_defined, map, map-append, slice_get, take_next, used}
 use Rattle.wit_scopes.specs.BorrowedNames.{Borrowed, name_view, own_use, use_view}
 use Rattle.wit_scopes.specs.declared.scope_name.Named.TheVariants as borrowed
-use Rattle.wit_syntax.proofs.Orders.{take_next}
 
 -- the used ones of some names, as they are borrowed
 pub uses_viewed : (xs : List Borrowed) → map use_view (flat_map own_use xs) ≡ used (map name_view xs)

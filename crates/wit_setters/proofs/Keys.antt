@@ -1,11 +1,8 @@
 -- Keys that differ still do once setters are placed.
 use Rattle.std.proofs.Common.{◌≡◌, zero, suc, Bool, List, [], ◌∷◌, refl, ap, ◌∙◌}
-use Rattle.std.specs.Prelude.{map}
+use Rattle.wit_syntax.proofs.Common.{AllDiffer, HasNot, differ_cons, differ_head, differ_none, differ_tail, map}
 use Rattle.wit_functions.proofs.InTurn.{in_turn}
 use Rattle.wit_functions.proofs.Keys.{Differ, Lacks, differ-in_turn}
-use Rattle.wit_syntax.specs.Repeats.{AllDiffer}
-use Rattle.wit_syntax.proofs.Kept.{HasNot, differ_cons, differ_head, differ_tail}
-use Rattle.wit_syntax.proofs.Repeated.{differ_none}
 
 module _ {X K : Type 0} (key : X → K) where
   lacks_from : (k : K) (xs : List X) → HasNot key k xs → Lacks key k xs

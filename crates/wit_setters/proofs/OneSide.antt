@@ -1,7 +1,6 @@
 -- A side of a world: its keys and the names of its functions.
 use Rattle.std.proofs.Common.{◌≡◌, true, List, Option, Some, inl, inr, ap, ◌∙◌, subst, arith}
-use Rattle.std.specs.Prelude.{map}
-use Rattle.std.proofs.lemmas.Bool.{cases_Bool}
+use Rattle.wit_syntax.proofs.Common.{AllDiffer, cases_Bool, map, name_equal}
 use Rattle.wit_maps.specs.Indexed.{AreApart}
 use Rattle.wit_functions.specs.declared.function.Function.{Function}
 use Rattle.wit_model.specs.declared.world.WorldItem.{WorldItem}
@@ -11,8 +10,6 @@ use Rattle.wit_model.specs.contracts.world.WorldKeyPartialEq.TheImpl.{eq-value a
 use Rattle.wit_functions.specs.SettersPlaced.{pairs, placed}
 use Rattle.wit_model.specs.ItemsOfWorlds.{function_of}
 use Rattle.wit_functions.proofs.Pairs.{in_turn-placed}
-use Rattle.wit_syntax.specs.Repeats.{AllDiffer}
-use Rattle.wit_syntax.proofs.Names.{name_equal}
 use Rattle.wit_functions.specs.MaybeFunction.{HaveOwnNames}
 use Rattle.wit_setters.proofs.Keys.{in_turn_differ}
 use Rattle.wit_setters.proofs.OwnNames.{AtNames, own_names}

@@ -1,12 +1,10 @@
 -- No two functions have one name, where each is at its name.
 use Rattle.std.proofs.Common.{◌≡◌, ℕ, suc, ◌∷◌, List, [], Option, Some, refl, sym, ap, ◌∙◌}
-use Rattle.std.specs.Prelude.{map, slice_get}
+use Rattle.wit_syntax.proofs.Common.{AllDiffer, HasNot, differ_head, differ_tail, map, slice_get}
 use Rattle.std.specs.List.{IsDistinct}
 use Rattle.wit_functions.specs.declared.function.Function.{Function}
 use Rattle.wit_functions.specs.MaybeFunction.{HaveOwnNames}
 use Rattle.wit_functions.proofs.OwnNames.{Differs, differs_more, names, own_more}
-use Rattle.wit_syntax.specs.Repeats.{AllDiffer}
-use Rattle.wit_syntax.proofs.Kept.{HasNot, differ_head, differ_tail}
 
 module _ {X K : Type 0} (function_at : X → Option Function) (key : X → K) (as_key : List ℕ → K) where
   -- each function is at its name

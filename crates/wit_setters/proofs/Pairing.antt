@@ -1,14 +1,8 @@
 -- Where each setter comes after its getter, all stay where they are.
 use Rattle.std.proofs.Common.{◌≡◌, ℕ, suc, ◌<◌, Bool, true, false, List, [], ◌∷◌, Option, Some, None, inl, inr, refl, sym, ap, ◌∙◌, arith}
-use Rattle.std.specs.Prelude.{map, slice_get, if◌then◌else◌}
-use Rattle.std.specs.List.{flat_map, list_any}
-use Rattle.std.specs.Option.{option_map}
-use Rattle.std.proofs.lemmas.Bool.{cases_Bool}
-use Rattle.std.proofs.lemmas.Option.{slice_get-map, slice_get_within}
+use Rattle.wit_syntax.proofs.Common.{AllDiffer, cases_Bool, flat_map, if◌then◌else◌, list_any, map, name_equal, option_map, slice_get, slice_get-map, slice_get_within}
 use Rattle.wit_functions.specs.SettersPlaced.{early, is_getter, is_getter_of, is_same_text, others, setters_placed, with_setters}
 use Rattle.wit_functions.specs.declared.function.Function.{Function}
-use Rattle.wit_syntax.specs.Repeats.{AllDiffer}
-use Rattle.wit_syntax.proofs.Names.{name_equal}
 use Rattle.wit_setters.specs.Paired.{ArePaired}
 use Rattle.wit_functions.specs.MaybeFunction.{is_setter, offered, wanted}
 use Rattle.wit_functions.proofs.GetterNames.{goes_wanted, same_as_none, wants_none}

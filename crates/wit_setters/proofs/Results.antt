@@ -1,9 +1,6 @@
 -- What a name finds in a map once something was put at a name.
 use Rattle.std.proofs.Common.{◌≡◌, ℕ, true, false, cond, List, [], ◌∷◌, Some, inl, inr, nat_eq, refl, sym, ap, ◌∙◌}
-use Rattle.std.specs.Cmp.Lexicographic.{pointwise}
-use Rattle.std.specs.Map.{lookup}
-use Rattle.indexmap.specs.IndexMap.{insert_entry}
-use Rattle.wit_syntax.proofs.Names.{name_cases, name_itself}
+use Rattle.wit_syntax.proofs.Common.{insert_entry, lookup, name_cases, name_itself, pointwise}
 
 -- what a name finds once something was put at a name
 pub lookup-inserted : {V : Type 0} (es : List (List ℕ × V)) (k q : List ℕ) (v : V) → lookup (pointwise nat_eq q) (insert_entry (pointwise nat_eq) es k v) ≡ cond (pointwise nat_eq q k) (Some v) (lookup (pointwise nat_eq q) es)

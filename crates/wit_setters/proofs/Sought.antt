@@ -1,6 +1,6 @@
 -- An entry that passes is sought from the prefix of a list.
 use Rattle.std.proofs.Common.{◌≡◌, ℕ, zero, suc, ◌<◌, ◌≤◌, Bool, true, false, ◌||◌, List, [], ◌∷◌, length, slice_get, Some, refl, ap, ◌∙◌, arith, unwrap_or}
-use Rattle.std.specs.List.{list_any}
+use Rattle.wit_syntax.proofs.Common.{list_any}
 
 same_entry : {A : Type 0} {x y : A} → Some x ≡ Some y → x ≡ y
 same_entry {A} {x} e = ap (λ r. unwrap_or r x) e

@@ -1,23 +1,11 @@
 -- The parameters of a function without a fault, one more and in an arena that grows.
 use Rattle.std.proofs.Common.{◌≡◌, ◌≤◌, ◌+◌, ℕ, List, [], ◌++◌, length, take, Option, Some, None, inl, inr, ap, ◌∙◌, subst, arith}
-use Rattle.std.specs.Prelude.{slice_get, map}
-use Rattle.std.specs.Option.{option_map}
-use Rattle.std.proofs.Math.Seq.{take-append-add}
-use Rattle.std.proofs.lemmas.Bool.{cases_lt}
-use Rattle.std.proofs.lemmas.List.{take-map}
-use Rattle.std.proofs.lemmas.Option.{slice_get-map}
-use Rattle.wit_type_tree.specs.declared.types.Param.{Param}
-use Rattle.wit_types.specs.declared.types.TypeDef.{TypeDef}
-use Rattle.wit_syntax.specs.Bodies.{folded}
-use Rattle.wit_syntax.specs.Fault.{Fault, param_twice}
-use Rattle.wit_syntax.specs.Function.{SourceParam, SourceFunction, written_param}
-use Rattle.wit_syntax.specs.Source.{ScopeName}
-use Rattle.wit_syntax.proofs.Lists.{at_back}
+use Rattle.wit_syntax.proofs.Common.{Fault, Param, ScopeName, SourceFunction, SourceParam, TypeDef, at_back, cases_lt, folded, map, option_map, param_twice, slice_get, slice_get-map, take-append-add, take-map, written_param}
 use Rattle.wit_first.specs.First.{repeat_of, IsFirstRepeat}
 use Rattle.wit_first.proofs.Bridge.{or_none_both}
 use Rattle.wit_first.proofs.First.{none_both}
 use Rattle.wit_first.proofs.Repeats.{after_kept, repeat_after, repeat_found, unrepeated}
-use Rattle.wit_arena.specs.Resolving.{Env}
+use Rattle.wit_arena.proofs.Common.{Env}
 use Rattle.wit_entries.specs.Requiring.{IsExtended}
 use Rattle.wit_entries.proofs.Faults.{named_extended}
 use Rattle.wit_rules.specs.declared.borrowed.BorrowedFunction.{BorrowedFunction}

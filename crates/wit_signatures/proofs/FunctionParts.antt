@@ -1,27 +1,14 @@
 -- Parameters and results over their types, one after the other.
 use Rattle.std.proofs.Common.{◌≡◌, ◌≤◌, ℕ, zero, suc, List, [], ◌∷◌, ◌++◌, length, map, Option, Some, None, inl, inr, refl, sym, ap, ◌∙◌, subst, arith, append_assoc, length-append}
-use Rattle.std.specs.Prelude.{slice_get}
-use Rattle.std.proofs.lemmas.List.{map-append}
-use Rattle.std.proofs.lemmas.Option.{slice_get_within}
-use Rattle.wit_values.specs.declared.span.Span.{Span}
-use Rattle.wit_type_tree.specs.declared.leaves.Id.{Id}
-use Rattle.wit_type_tree.specs.declared.types.Param.{Param as WrittenParam}
-use Rattle.wit_type_tree.specs.declared.types.ResourceFunc.{ResourceFunc}
+use Rattle.wit_syntax.proofs.Common.{Id, Param as WrittenParam, ResourceFunc, Shape, SourceParam, Span, TypeDef, Unknown, Word, at_split, map-append, resource_function, self_param, shape_of, slice_get, slice_get_within, written_param}
 use Rattle.wit_type_tree.specs.declared.types.ResourceFunc.TheVariants as resource
 use Rattle.wit_type_tree.specs.declared.types.«Type».{«Type» as Written}
 use Rattle.wit_types.specs.declared.types.«Type».{«Type» as Ty}
 use Rattle.wit_types.specs.declared.types.«Type».TheVariants as type
-use Rattle.wit_types.specs.declared.stability.Stability.TheVariants.{Unknown}
-use Rattle.wit_types.specs.declared.types.TypeDef.{TypeDef}
 use Rattle.wit_types.specs.declared.types.TypeDefKind.TheVariants as kind
 use Rattle.wit_types.specs.declared.types.Handle.TheVariants as handle
-use Rattle.wit_functions.specs.declared.function.Param.{Param}
-use Rattle.wit_syntax.specs.Shape.{Shape, Word, shape_of}
-use Rattle.wit_syntax.specs.Function.{SourceParam, self_param, written_param, resource_function}
+use Rattle.wit_arena.proofs.Common.{Env, IsInterned, Param, shapes_append, shapes_none, shapes_one}
 use Rattle.wit_arena.specs.Adding.{AreShapes, SaysParam}
-use Rattle.wit_arena.specs.Resolving.{Env, IsInterned}
-use Rattle.wit_arena.proofs.AddingFunctions.{shapes_none, shapes_one, shapes_append}
-use Rattle.wit_syntax.proofs.Lists.{at_split}
 use Rattle.wit_rules.specs.declared.borrowed.BorrowedFunction.{BorrowedFunction}
 use Rattle.wit_rules.specs.declared.borrowed.BorrowedFunction.TheVariants as borrowed
 use Rattle.wit_rules.specs.BorrowedFunctions.{function_view, given_of}

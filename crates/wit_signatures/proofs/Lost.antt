@@ -1,9 +1,6 @@
 -- Names in signatures that mean nothing: those of functions, and others.
 use Rattle.std.proofs.Common.{◌≡◌, ◌<◌, ◌≤◌, ◌+◌, ℕ, List, Some, inl, inr, refl, sym, ap, ◌∙◌, subst, arith}
-use Rattle.std.specs.Prelude.{slice_get}
-use Rattle.std.proofs.lemmas.Bool.{cases_lt}
-use Rattle.wit_syntax.specs.Function.{Role, Freestanding, Method, Static, Constructor, OnSide, SourceFunction}
-use Rattle.wit_syntax.specs.SignatureRules.{IsEntered}
+use Rattle.wit_syntax.proofs.Common.{Constructor, Freestanding, IsEntered, Method, OnSide, Role, SourceFunction, Static, cases_lt, slice_get}
 use Rattle.wit_rules.specs.Signatures.{IsFree}
 
 -- none of the functions before a place is one by itself of this name

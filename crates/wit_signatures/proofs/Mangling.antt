@@ -1,21 +1,10 @@
 -- The names of functions: each is mangled, and it is a setter's exactly where the function is one.
 use Rattle.std.proofs.Common.{◌≡◌, ℕ, ◌==◌, ◌++◌, ◌||◌, Bool, List, [], ◌∷◌, Some, None, true, false, refl, sym, ap, ◌∙◌, subst, append_assoc}
-use Rattle.std.specs.Prelude.{codes, Option, IsTrue}
-use Rattle.std.specs.Char.{is_ascii_alphabetic}
-use Rattle.std.specs.List.{list_all}
-use Rattle.std.proofs.lemmas.Bool.{and_parts, ne_eqb}
-use Rattle.wit_type_tree.specs.declared.leaves.Id.{Id}
-use Rattle.wit_type_tree.specs.declared.types.FuncForm.{FuncForm}
+use Rattle.wit_syntax.proofs.Common.{FuncForm, Id, IsTrue, Option, ResourceFunc, accessor, and_parts, codes, dotted, fragments, getter_of, is_ascii_alphabetic, is_dotted, is_fragment, is_label, is_mangled, is_setter, list_all, ne_eqb, passes, resource_function, rest_after, starts_with_letter, with_prefix}
 use Rattle.wit_type_tree.specs.declared.types.FuncForm.TheVariants.{Plain, Async, Getter, Setter}
-use Rattle.wit_type_tree.specs.declared.types.ResourceFunc.{ResourceFunc}
 use Rattle.wit_type_tree.specs.declared.types.ResourceFunc.TheVariants as resource
-use Rattle.wit_names.specs.Prefix.{rest_after, passes}
-use Rattle.wit_names.specs.Label.{fragments, is_fragment, is_label, starts_with_letter}
-use Rattle.wit_names.specs.Mangled.{is_dotted, is_mangled}
-use Rattle.wit_names.specs.Setter.{getter_of, is_setter, with_prefix}
 use Rattle.wit_names.proofs.Labels.{is_mangled-label}
 use Rattle.wit_names.proofs.MadeNames.{is_dotted-labels, is_mangled-get, is_mangled-set, is_mangled-constructor, is_mangled-method, is_mangled-method_get, is_mangled-method_set, is_mangled-static, is_mangled-static_get, is_mangled-static_set, is_setter-set, is_setter-method, is_setter-static}
-use Rattle.wit_syntax.specs.Function.{accessor, dotted, resource_function}
 use Rattle.wit_rules.specs.declared.borrowed.BorrowedFunction.{BorrowedFunction}
 use Rattle.wit_rules.specs.declared.borrowed.BorrowedFunction.TheVariants.{Free, Of, Across}
 use Rattle.wit_rules.specs.BorrowedFunctions.{function_view}

@@ -1,12 +1,8 @@
 -- The types that are written in a function, as the types in its signature.
 use Rattle.std.proofs.Common.{◌≡◌, Option, Some, ap}
-use Rattle.std.specs.Option.{option_map, option_map_or}
-use Rattle.wit_type_tree.specs.declared.leaves.Id.{Id}
-use Rattle.wit_type_tree.specs.declared.types.ResourceFunc.{ResourceFunc}
+use Rattle.wit_syntax.proofs.Common.{Id, ResourceFunc, SourceFunction, Word, option_map, option_map_or, resource_function, shape_of}
 use Rattle.wit_type_tree.specs.declared.types.ResourceFunc.TheVariants as resource
 use Rattle.wit_type_tree.specs.declared.types.«Type».{«Type» as Written}
-use Rattle.wit_syntax.specs.Shape.{Word, shape_of}
-use Rattle.wit_syntax.specs.Function.{SourceFunction, resource_function}
 use Rattle.wit_rules.specs.declared.borrowed.BorrowedFunction.{BorrowedFunction}
 use Rattle.wit_rules.specs.declared.borrowed.BorrowedFunction.TheVariants as borrowed
 use Rattle.wit_rules.specs.BorrowedFunctions.{function_view}

@@ -1,33 +1,14 @@
 -- Types in signatures: which fault a name there is that means nothing, and that all others are those of types.
 use Rattle.std.proofs.Common.{◌≡◌, ◌⊎◌, ℕ, suc, Bool, true, false, List, [], ◌∷◌, take, Option, Some, None, inl, inr, refl, sym, ap, ◌∙◌, subst, arith}
-use Rattle.std.specs.declared.alloc.Global.{Global}
-use Rattle.std.specs.Prelude.{String, if◌then◌else◌}
-use Rattle.std.specs.Option.{option_or}
-use Rattle.std.specs.Str.{bytes_eq}
-use Rattle.std.proofs.lemmas.Bool.{false≢true}
-use Rattle.std.proofs.lemmas.Option.{none-some, same_Some}
-use Rattle.wit_values.specs.declared.span.Span.{Span}
-use Rattle.wit_type_tree.specs.declared.error.ParseError.{ParseError}
-use Rattle.wit_type_tree.specs.declared.error.ParseErrorKind.{ParseErrorKind}
-use Rattle.wit_type_tree.specs.declared.error.ParseErrorKind.TheVariants.{Syntax, ItemNotFound, TypeCycle, OutOfMemory}
-use Rattle.wit_type_tree.specs.declared.leaves.Id.{Id}
+use Rattle.wit_syntax.proofs.Common.{Constructor, Fault, Freestanding, Global, Id, IsEntered, ItemNotFound, Method, OnSide, OutOfMemory, ParseError, ParseErrorKind, Refused, Role, SourceFunction, Span, Static, String, Syntax, TypeCycle, TypeDef, as_stated, at_take, bytes_eq, false≢true, fault_of, function_as_type, if◌then◌else◌, missing_at, missing_type_at, name_equal, name_itself, name_word, no_resource, none-some, option_or, part_types, row_types, same_Some}
 use Rattle.wit_type_tree.specs.declared.types.«Type».{«Type» as Written}
 use Rattle.wit_type_tree.specs.declared.types.«Type».TheVariants as written
-use Rattle.wit_type_tree.specs.TypeParts.{row_types, part_types}
-use Rattle.wit_types.specs.declared.types.TypeDef.{TypeDef}
-use Rattle.wit_syntax.specs.Broken.{Refused}
-use Rattle.wit_syntax.specs.Fault.{Fault, fault_of, as_stated, missing_at, missing_type_at, name_word, function_as_type, no_resource}
-use Rattle.wit_syntax.specs.Function.{Role, Freestanding, Method, Static, Constructor, OnSide, SourceFunction}
-use Rattle.wit_syntax.specs.SignatureRules.{IsEntered}
-use Rattle.wit_syntax.proofs.Lists.{at_take}
-use Rattle.wit_syntax.proofs.Names.{name_equal, name_itself}
 use Rattle.wit_first.specs.First.{first_in, Reports}
 use Rattle.wit_first.specs.TypeFaults.{type_fault, prefix_fault, back_fault}
 use Rattle.wit_first.proofs.Bridge.{any_found, empty_agrees, key_agrees}
 use Rattle.wit_first.proofs.First.{any_used, reports_same}
 use Rattle.wit_first.proofs.TypeFaults.{AllTypes, by_parts, fault_parts}
-use Rattle.wit_arena.specs.EntryEnds.{EntryEnd, IsResource, IsUnknown, IsOther}
-use Rattle.wit_arena.specs.Resolving.{Env}
+use Rattle.wit_arena.proofs.Common.{EntryEnd, Env, IsOther, IsResource, IsUnknown}
 use Rattle.wit_entries.specs.EntryFaults.{end_in, unless_found, name_fault, end_fault, handled_fault, handle_fault, named_fault, written_fault}
 use Rattle.wit_rules.specs.Signatures.{IsFree, IsLostAt, AtFunction, AtNothing}
 use Rattle.wit_signatures.specs.SignatureFaults.{is_free, is_among, lost_at}

@@ -1,21 +1,12 @@
 -- A function over its types, from its parameters and its result.
 use Rattle.std.proofs.Common.{◌≡◌, ◌<◌, ℕ, List, [], ◌∷◌, length, map, Some, sym, ap, ◌∙◌, subst}
-use Rattle.std.specs.Prelude.{slice_get, get_or}
-use Rattle.std.specs.Option.{option_map, option_to_list}
-use Rattle.std.proofs.lemmas.Option.{same_Some, slice_get-map, slice_get-get_or}
-use Rattle.wit_types.specs.declared.types.TypeDef.{TypeDef}
-use Rattle.wit_functions.specs.declared.function.Function.{Function}
-use Rattle.wit_functions.specs.declared.function.Param.{Param}
-use Rattle.wit_syntax.specs.Address.{Address}
-use Rattle.wit_syntax.specs.Function.{SourceParam, SourceFunction, all_params}
+use Rattle.wit_syntax.proofs.Common.{Address, AreMetadata, SourceFunction, SourceParam, TypeDef, all_params, docs_of, get_or, metadata, option_map, option_to_list, same_Some, slice_get, slice_get-get_or, slice_get-map}
+use Rattle.wit_arena.proofs.Common.{AddsFunctions, Function, Names, Param, env_of, function_one, shapes_append}
 use Rattle.wit_arena.specs.Adding.{IsKindIn}
-use Rattle.wit_arena.specs.Resolving.{Names, env_of, AddsFunctions}
-use Rattle.wit_arena.proofs.AddingFunctions.{function_one, shapes_append}
 use Rattle.wit_signatures.specs.Over.{IsSignatureOver}
 use Rattle.wit_rules.specs.declared.borrowed.BorrowedFunction.{BorrowedFunction}
 use Rattle.wit_rules.specs.BorrowedFunctions.{function_view}
 use Rattle.wit_rules.specs.Signatures.{AreParamsOver, IsResultOver}
-use Rattle.wit_syntax.specs.Metadata.{AreMetadata, metadata, docs_of}
 
 -- the function at a place is the one that is borrowed there
 pub borrowed_here : (hs : List BorrowedFunction) (place : ℕ) (d : BorrowedFunction) → place < length hs → slice_get (map function_view hs) place ≡ Some (function_view (get_or hs place d))

@@ -31,3 +31,4 @@ pub mod JoinedNames
 pub mod JoinedUses
 pub mod JoinedLegal
 pub mod Joined
+pub mod Common

@@ -1,14 +1,9 @@
 -- The line of a refusal is that of its fault.
 use Rattle.std.proofs.Common.{◌≡◌, ℕ, ◌<◌, false, List, [], Option, Some, None, refl, sym, ap, ◌∙◌, true≢false, arith}
-use Rattle.std.specs.Prelude.{codes}
-use Rattle.wit_type_tree.specs.declared.error.ParseError.{ParseError}
-use Rattle.wit_type_tree.specs.declared.error.ParseErrorKind.{ParseErrorKind}
-use Rattle.wit_type_tree.specs.declared.error.ParseErrorKind.TheVariants.{Syntax, ItemNotFound, TypeCycle, OutOfMemory}
-use Rattle.wit_type_tree.specs.RefusalText.{IsAllocationFailure, kind_text, span_of}
+use Rattle.wit_syntax.proofs.Common.{IsAllocationFailure, ItemNotFound, OutOfMemory, ParseError, ParseErrorKind, Syntax, TypeCycle, as_stated, codes, fault_of, kind_text, span_of}
 use Rattle.wit_lex.specs.declared.source.Source.{Source}
 use Rattle.wit_lex.specs.Sources.{IsTooLarge, ReportsTooLarge}
 use Rattle.wit_listing.specs.ErrorLine.{IsErrorLine, IsPlaceAt, IsPlaceOf, Place, error_text, has_place, line_text}
-use Rattle.wit_syntax.specs.Fault.{as_stated, fault_of}
 use Rattle.wit_tool.specs.FaultLine.{IsFaultLine, fault_text}
 use Rattle.wit_tool.specs.Output.{memory_line, size_line}
 

@@ -1,18 +1,11 @@
 -- What calls write is the output of their sources or their text.
 use Rattle.std.proofs.Common.{◌≡◌, ◌⊎◌, inl, inr, ℕ, ◌≤◌, List, [], ◌∷◌, ◌++◌, map, Option, Some, None, Result, Ok, Err, refl, ap, sym, subst}
-use Rattle.std.specs.List.{AllZip}
-use Rattle.wit_tree.specs.declared.tree.NestedPackage.{NestedPackage}
-use Rattle.wit_tree.specs.declared.tree.PackageFile.{PackageFile}
-use Rattle.wit_tree.specs.declared.tree.SourceFile.{SourceFile}
-use Rattle.wit_type_tree.specs.RefusalText.{IsAllocationFailure}
-use Rattle.wit_type_tree.specs.declared.error.ParseError.{ParseError}
+use Rattle.wit_syntax.proofs.Common.{AllZip, IsAllocationFailure, NestedPackage, PackageFile, ParseError, SourceFile, fault_of}
 use Rattle.wit_lex.specs.declared.source.Source.{Source}
 use Rattle.wit_lex.specs.Sources.{IsTooLarge}
 use Rattle.wit_bundle.specs.Bundle.{sources_of}
 use Rattle.wit_bundle.specs.Laid.{AreLaid, room}
-use Rattle.wit_model.specs.declared.unresolved.UnresolvedPackage.{UnresolvedPackage}
-use Rattle.wit_syntax.specs.Fault.{fault_of}
-use Rattle.wit_arena.specs.Made.{Makes}
+use Rattle.wit_arena.proofs.Common.{Makes, UnresolvedPackage}
 use Rattle.wit_nested.specs.Nested.{IsMadeByNested, file_of}
 use Rattle.wit_nested.specs.PushFaults.{nested_of}
 use Rattle.wit_nested.proofs.Pushes.{a_walk}

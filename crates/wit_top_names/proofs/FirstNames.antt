@@ -1,26 +1,8 @@
 -- Tables of names with what they mean, one name more, and what is found in them.
 use Rattle.std.proofs.Common.{◌≡◌, ℕ, zero, suc, Bool, true, false, cond, List, [], ◌∷◌, ◌++◌, map, Option, Some, None, inl, inr, refl, sym, ap, ◌∙◌, subst, Vec, Global, Bor}
-use Rattle.std.specs.Prelude.{slice_get, find}
-use Rattle.std.specs.Map.{lookup}
-use Rattle.std.specs.Option.{option_map, option_map_or, option_or, option_copied, is_some}
-use Rattle.std.specs.List.{list_any}
-use Rattle.std.specs.Str.{bytes_eq}
-use Rattle.std.proofs.lemmas.Bool.{cases_Bool, cond-true, cond-false}
-use Rattle.std.proofs.lemmas.List.Folds.{find-append}
-use Rattle.std.proofs.lemmas.List.{map-append}
-use Rattle.std.proofs.lemmas.Option.{none-some}
-use Rattle.indexmap.specs.IndexMap.{insert_entry}
+use Rattle.wit_syntax.proofs.Common.{AllDiffer, Id, Item, Local, Row, TopName, bytes_eq, cases_Bool, cond-false, cond-true, differ_more, entry_row, find, find-append, find_at, find_passes, insert_entry, is_some, item_name, item_named, item_row, leads, list_any, lookup, map-append, map_at, map_map, name_cases, name_equal, name_itself, none-some, option_copied, option_map, option_map_or, option_or, slice_get, top_text}
 use Rattle.wit_graph.proofs.Rows.{key_eq}
-use Rattle.wit_type_tree.specs.declared.leaves.Id.{Id}
 use Rattle.wit_tree.specs.declared.tree.UsePath.TheVariants as path
-use Rattle.wit_syntax.specs.Source.{TopName, Local, top_text, leads, Item, item_name, item_named}
-use Rattle.wit_syntax.specs.Repeats.{AllDiffer}
-use Rattle.wit_syntax.proofs.Lists.{map_at, map_map}
-use Rattle.wit_syntax.proofs.Names.{name_equal, name_cases, name_itself}
-use Rattle.wit_syntax.proofs.Repeated.{differ_more}
-use Rattle.wit_syntax.proofs.Found.{find_passes, find_at}
-use Rattle.wit_graph.specs.Table.{Row, entry_row}
-use Rattle.wit_syntax.specs.ScopeTables.{item_row}
 use Rattle.wit_top_names.specs.declared.top_name.Target.{Target as Borrowed}
 use Rattle.wit_first.specs.FileFaults.{lost_fault, unless_named, unnamed_fault}
 use Rattle.wit_top_names.specs.Tops.{target_view, item_top, Named}

@@ -1,23 +1,6 @@
 -- What is wrong with a file by itself is wrong with the files, and the edges of a part more.
 use Rattle.std.proofs.Common.{◌≡◌, ℕ, zero, suc, ◌+◌, ◌<◌, List, [], ◌∷◌, ◌++◌, length, get_or, map, take, Some, None, inl, inr, sym, ap, ◌∙◌}
-use Rattle.std.specs.Prelude.{slice_get}
-use Rattle.std.specs.List.{flat_map}
-use Rattle.std.specs.Str.{bytes_eq}
-use Rattle.std.proofs.lemmas.Grind.{flat_map-append}
-use Rattle.std.proofs.lemmas.List.{append-nil, map-append, take_more}
-use Rattle.wit_type_tree.specs.declared.leaves.Id.{Id}
-use Rattle.wit_tree.specs.declared.tree.UsePath.{UsePath}
-use Rattle.wit_tree.specs.declared.tree.PackageFile.{PackageFile}
-use Rattle.wit_graph.specs.Table.{place_of}
-use Rattle.wit_syntax.specs.Source.{TopName, Target, leads, Item, file_items, all_items, item_name, item_named}
-use Rattle.wit_syntax.specs.ScopeTables.{local_target, item_row, needed_paths}
-use Rattle.wit_syntax.specs.Fault.{Fault}
-use Rattle.wit_syntax.specs.Broken.{IsBrokenItems, DuplicateTopName, MissingItem}
-use Rattle.wit_syntax.proofs.Lists.{at_prefix, at_back, map_at}
-use Rattle.wit_syntax.proofs.Names.{name_itself}
-use Rattle.wit_syntax.proofs.Tables.{place_of-Some, none_if}
-use Rattle.wit_syntax.proofs.Found.{contains_at}
-use Rattle.wit_syntax.proofs.Rows.{item_row_at}
+use Rattle.wit_syntax.proofs.Common.{DuplicateTopName, Fault, Id, IsBrokenItems, Item, MissingItem, PackageFile, Target, TopName, UsePath, all_items, append-nil, at_back, at_prefix, bytes_eq, contains_at, file_items, flat_map, flat_map-append, item_name, item_named, item_row, item_row_at, leads, local_target, map-append, map_at, name_itself, needed_paths, none_if, place_of, place_of-Some, slice_get, take_more}
 use Rattle.wit_first.specs.FileFaults.{file_fault, files_fault, paths_fault, unnamed_fault}
 use Rattle.wit_first.specs.First.{first_in}
 use Rattle.wit_first.specs.NameFaults.{top_names_fault}

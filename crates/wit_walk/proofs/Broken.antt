@@ -1,30 +1,8 @@
 -- The first fault of files is that of a broken rule.
 use Rattle.std.proofs.Common.{◌≡◌, ◌<◌, ℕ, suc, Bool, false, not, List, [], ◌++◌, Option, Some, None, inl, inr, refl, sym, ap, ◌∙◌, subst, arith}
-use Rattle.std.specs.Prelude.{slice_get, map}
-use Rattle.std.specs.List.{filter}
-use Rattle.std.specs.Option.{option_map_or, option_or}
-use Rattle.std.proofs.lemmas.List.{length-map}
-use Rattle.wit_type_tree.specs.declared.leaves.Attribute.{Attribute}
+use Rattle.wit_syntax.proofs.Common.{AllDiffer, Attribute, CyclicItem, CyclicType, Declared, DuplicateItem, Fault, ForeignStability, Headerless, InterfaceMetadata, IsBroken, IsBrokenStability, IsOrder, Item, ItemStability, Items, MissingItem, MissingType, Names, PackageFile, Scope, ScopeName, Setter, SideInline, Sides, TheInline, TheInterface, TheWorld, TopUse, about, address, all_declared, all_items, all_scopes, at_contains, contains_at, cyclic_at, defined, defined_at, fault, filter, foreign_visits, in_order, in_order_among, in_order_at, in_turn, includes, inline_items, inline_items_at, interfaces_of, is_world, item_at, item_name, item_row, item_rows, item_word, kept_at, last_header, length-map, map, missing_at, missing_type_at, name_called, option_map_or, option_or, order_within, rows_of, scope, scope_item_at, scope_names, scopes_declared, scopes_inline, side_items, slice_get, type_word, used, with_inline, worlds_of}
 use Rattle.wit_tree.specs.declared.tree.PackageName.{PackageName as Header}
-use Rattle.wit_tree.specs.declared.tree.PackageFile.{PackageFile}
-use Rattle.wit_graph.specs.Table.{IsOrder}
-use Rattle.wit_syntax.specs.Broken.{last_header, MissingType, CyclicType, DuplicateItem, MissingItem, CyclicItem, Items, ForeignStability, TopUse, IsBroken, Headerless, Names, ItemStability, Scope, Sides, Setter}
-use Rattle.wit_syntax.specs.Fault.{Fault, fault, missing_at, missing_type_at, cyclic_at, item_word, type_word}
-use Rattle.wit_syntax.specs.Foreign.{foreign_visits}
-use Rattle.wit_syntax.specs.Metadata.{IsBrokenStability}
-use Rattle.wit_syntax.specs.Repeats.{AllDiffer}
-use Rattle.wit_syntax.specs.ScopeTables.{item_row, item_rows, rows_of, in_order, in_turn, used, defined, includes, interfaces_of, worlds_of}
-use Rattle.wit_syntax.specs.ScopesOfTrees.{scope}
-use Rattle.wit_syntax.specs.Sides.{all_scopes, with_inline, inline_items, side_items, InterfaceMetadata, SideInline}
-use Rattle.wit_syntax.specs.SignatureRules.{name_called}
-use Rattle.wit_syntax.specs.Source.{Declared, TheInterface, TheWorld, TheInline, Item, about, address, all_items, is_world, item_at, item_name, ScopeName, scope_names}
-use Rattle.wit_syntax.proofs.Found.{at_contains, contains_at}
-use Rattle.wit_syntax.proofs.Inline.{inline_items_at}
-use Rattle.wit_syntax.proofs.Kept.{kept_at}
-use Rattle.wit_syntax.proofs.Orders.{in_order_at, order_within}
-use Rattle.wit_syntax.proofs.Scopes.{all_declared, scope_item_at, scopes_declared, scopes_inline}
 use Rattle.wit_syntax.proofs.Setters.{includes_none}
-use Rattle.wit_syntax.proofs.Turns.{defined_at, in_order_among}
 use Rattle.wit_first.specs.AttributeFaults.{stability_fault}
 use Rattle.wit_first.specs.FileFaults.{files_fault, tops_fault, visits_fault}
 use Rattle.wit_first.specs.First.{first_in, first_after}

@@ -1,19 +1,7 @@
 -- Files are legal, or they have a first fault.
 use Rattle.std.proofs.Common.{◌≡◌, ◌⊎◌, ℕ, List, [], ◌∷◌, ◌++◌, Option, Some, None, inl, inr, refl, sym, ap, ◌∙◌}
-use Rattle.std.specs.List.{flat_map}
-use Rattle.std.specs.Option.{option_or}
+use Rattle.wit_syntax.proofs.Common.{Address, Fault, Id, IsLegal, Item, PackageFile, Row, Shape, SideFunction, SideInline, SideItem, SideLink, Word, address, all_items, defined, flat_map, in_order, interfaces_of, item_function, item_rows, item_side, items_on, option_or, rows_of, scope_names, shape_end, side_items, worlds_of}
 use mathlib.Core.Path.{fun_ext}
-use Rattle.wit_type_tree.specs.declared.leaves.Id.{Id}
-use Rattle.wit_tree.specs.declared.tree.PackageFile.{PackageFile}
-use Rattle.wit_graph.specs.Table.{Row}
-use Rattle.wit_syntax.specs.Address.{Address}
-use Rattle.wit_syntax.specs.Broken.{IsLegal}
-use Rattle.wit_syntax.specs.Fault.{Fault}
-use Rattle.wit_syntax.specs.NameEnds.{shape_end}
-use Rattle.wit_syntax.specs.ScopeTables.{item_rows, rows_of, in_order, defined, interfaces_of, worlds_of}
-use Rattle.wit_syntax.specs.Shape.{Shape, Word}
-use Rattle.wit_syntax.specs.Sides.{SideItem, SideFunction, SideLink, SideInline, item_function, item_side, items_on, side_items}
-use Rattle.wit_syntax.specs.Source.{Item, address, all_items, scope_names}
 use Rattle.wit_first.specs.First.{first_in, first_after}
 use Rattle.wit_walk.specs.Definitions.{definition_fault, end_fault, handle_fault}
 use Rattle.wit_walk.specs.Functions.{function_fault, signed_fault}

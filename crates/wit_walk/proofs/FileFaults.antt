@@ -1,29 +1,7 @@
 -- What the first fault of the names of files breaks, and that of the uses of their items.
 use Rattle.std.proofs.Common.{◌≡◌, ℕ, zero, suc, Bool, true, false, List, [], ◌∷◌, ◌++◌, Option, Some, None, inl, inr, refl, sym, ap, ◌∙◌, Contains}
-use Rattle.std.specs.Prelude.{slice_get, map, if◌then◌else◌}
-use Rattle.std.specs.List.{flat_map}
-use Rattle.std.specs.Option.{option_map}
-use Rattle.std.specs.Str.{bytes_eq}
-use Rattle.std.proofs.lemmas.List.Elements.{Contains-append_cases}
-use Rattle.std.proofs.lemmas.Option.{none-some, slice_get-map}
-use Rattle.wit_type_tree.specs.declared.leaves.Id.{Id}
-use Rattle.wit_tree.specs.declared.tree.Extern.{Extern}
-use Rattle.wit_tree.specs.declared.tree.Use.{Use as WrittenUse}
-use Rattle.wit_tree.specs.declared.tree.UsePath.{UsePath}
-use Rattle.wit_tree.specs.declared.tree.PackageFile.{PackageFile}
-use Rattle.wit_tree.specs.declared.tree.WorldSide.{WorldSide}
-use Rattle.wit_tree.specs.declared.tree.WorldSide.TheVariants.{Imported, Exported}
-use Rattle.wit_graph.specs.Table.{place_of}
-use Rattle.wit_syntax.specs.Broken.{is_world_at, IsBrokenItems, DuplicateTopName, MissingItem, IsBrokenUse, MissingUse, WorldUsed, IsBroken, UseMetadata, Use}
-use Rattle.wit_syntax.specs.ExternPart.{inline_uses, extern_paths, same_side}
-use Rattle.wit_syntax.specs.Fault.{Fault, world_there}
-use Rattle.wit_syntax.specs.ScopeTables.{local_target, item_row, needed_paths, part_uses, use_path, use_paths, uses}
-use Rattle.wit_syntax.specs.Source.{Target, leads, path_id, Part, DefinitionPart, UsePart, IncludePart, FunctionPart, ExternPart, Item, parts, file_items, all_items, item_name, item_named, at_side, walk}
-use Rattle.wit_syntax.proofs.Found.{at_contains, contains_at, find_some}
-use Rattle.wit_syntax.proofs.Lists.{at_prefix, flat_map_at, flat_map_has, map_at}
-use Rattle.wit_syntax.proofs.Names.{name_itself}
-use Rattle.wit_syntax.proofs.Rows.{item_row_at}
-use Rattle.wit_syntax.proofs.Tables.{place_of-Some, none_if}
+use Rattle.wit_syntax.proofs.Common.{Contains-append_cases, DefinitionPart, DuplicateTopName, Exported, Extern, ExternPart, Fault, FunctionPart, Id, Imported, IncludePart, IsBroken, IsBrokenItems, IsBrokenUse, Item, MissingItem, MissingUse, PackageFile, Part, Target, Use as WrittenUse, UseMetadata, UsePart, UsePath, WorldSide, WorldUsed, all_items, at_contains, at_prefix, at_side, bytes_eq, contains_at, extern_paths, file_items, find_some, flat_map, flat_map_at, flat_map_has, if◌then◌else◌, inline_uses, is_world_at, item_name, item_named, item_row, item_row_at, leads, local_target, map, map_at, name_itself, needed_paths, none-some, none_if, option_map, part_uses, parts, path_id, place_of, place_of-Some, same_side, slice_get, slice_get-map, use_path, use_paths, uses, walk, world_there}
+use Rattle.wit_syntax.specs.Broken.{Use}
 use Rattle.wit_first.specs.AttributeFaults.{metadata_fault}
 use Rattle.wit_first.specs.FileFaults.{file_fault, files_fault, lost_fault, paths_fault, unnamed_fault}
 use Rattle.wit_first.specs.First.{first_in}

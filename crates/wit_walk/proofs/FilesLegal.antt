@@ -1,29 +1,7 @@
 -- Where the walk finds nothing in the names of files, no rule about them is broken; nor in the uses of items, and in where paths lead.
 use Rattle.std.proofs.Common.{◌≡◌, ◌⊎◌, ℕ, zero, suc, Bool, true, false, List, [], ◌∷◌, ◌++◌, Option, Some, None, inl, inr, refl, sym, ap, ◌∙◌, subst, Contains}
-use Rattle.std.specs.Prelude.{slice_get, map, if◌then◌else◌}
-use Rattle.std.specs.List.{flat_map}
-use Rattle.std.specs.Option.{option_map}
-use Rattle.std.proofs.lemmas.List.Elements.{Contains-append_left, Contains-append_right}
-use Rattle.wit_type_tree.specs.declared.leaves.Id.{Id}
-use Rattle.wit_tree.specs.declared.tree.Extern.{Extern}
-use Rattle.wit_tree.specs.declared.tree.ExternKind.{ExternKind}
+use Rattle.wit_syntax.proofs.Common.{Contains-append_left, Contains-append_right, DefinitionPart, Exported, Extern, ExternKind, ExternPart, Fault, FunctionPart, Id, Imported, Include, IncludePart, IsBrokenMetadata, IsBrokenStability, IsBrokenUse, IsSecond, Item, Link, Local, MissingUse, PackageFile, Part, SideItem, SideLink, TopName, Use as WrittenUse, UsePart, UsePath, WorldSide, WorldUsed, all_items, at_contains, at_split, contains_at, extern_items, extern_link, extern_paths, file_items, flat_map, flat_map_at, flat_map_has, if◌then◌else◌, include_path, include_paths, includes, inline_uses, interface_there, is_world, is_world_at, item_named, item_word, leads, map, map_at, missing_at, option_map, part_includes, part_items, part_uses, parts, path_id, same_side, side_items, slice_get, top_names, top_text, top_twice, use_path, use_paths, uses, walk, world_there}
 use Rattle.wit_tree.specs.declared.tree.ExternKind.TheVariants as extern
-use Rattle.wit_tree.specs.declared.tree.Include.{Include}
-use Rattle.wit_tree.specs.declared.tree.Use.{Use as WrittenUse}
-use Rattle.wit_tree.specs.declared.tree.UsePath.{UsePath}
-use Rattle.wit_tree.specs.declared.tree.PackageFile.{PackageFile}
-use Rattle.wit_tree.specs.declared.tree.WorldSide.{WorldSide}
-use Rattle.wit_tree.specs.declared.tree.WorldSide.TheVariants.{Imported, Exported}
-use Rattle.wit_syntax.specs.Bodies.{IsSecond}
-use Rattle.wit_syntax.specs.Broken.{is_world_at, IsBrokenUse, MissingUse, WorldUsed}
-use Rattle.wit_syntax.specs.ExternPart.{inline_uses, extern_paths, same_side}
-use Rattle.wit_syntax.specs.Fault.{Fault, missing_at, item_word, interface_there, world_there, top_twice}
-use Rattle.wit_syntax.specs.Metadata.{IsBrokenMetadata, IsBrokenStability}
-use Rattle.wit_syntax.specs.ScopeTables.{include_path, include_paths, includes, part_includes, part_uses, use_path, use_paths, uses}
-use Rattle.wit_syntax.specs.Sides.{Link, SideItem, SideLink, extern_items, extern_link, part_items, side_items}
-use Rattle.wit_syntax.specs.Source.{TopName, top_names, top_text, Local, leads, path_id, Part, DefinitionPart, UsePart, IncludePart, FunctionPart, ExternPart, Item, parts, file_items, all_items, item_named, is_world, walk}
-use Rattle.wit_syntax.proofs.Found.{at_contains, contains_at}
-use Rattle.wit_syntax.proofs.Lists.{at_split, flat_map_at, flat_map_has, map_at}
 use Rattle.wit_first.specs.AttributeFaults.{metadata_fault, stability_fault}
 use Rattle.wit_first.specs.FileFaults.{file_fault, files_fault, lost_fault, paths_fault}
 use Rattle.wit_first.specs.First.{first_in}

@@ -1,44 +1,12 @@
 -- What the first fault of a function of an item breaks.
 use Rattle.std.proofs.Common.{◌≡◌, ◌⊎◌, ◌+◌, ℕ, zero, suc, true, false, List, [], ◌∷◌, ◌++◌, length, take, Option, Some, None, inl, inr, refl, sym, ap, ◌∙◌, subst, append_assoc, length-append, Contains, arith}
-use Rattle.std.specs.Prelude.{slice_get, map}
-use Rattle.std.specs.List.{flat_map, list_any}
-use Rattle.std.specs.Option.{option_map, option_map_or, option_or, option_to_list}
-use Rattle.std.specs.Str.{bytes_eq}
-use Rattle.std.proofs.Math.Seq.{take-append-add}
-use Rattle.std.proofs.lemmas.Bool.{cases_Bool}
-use Rattle.std.proofs.lemmas.List.{take-map}
-use Rattle.std.proofs.lemmas.List.Elements.{Contains-append_left, Contains-append_right}
-use Rattle.std.proofs.lemmas.Option.{slice_get-map, slice_get_within}
-use Rattle.wit_type_tree.specs.declared.leaves.Id.{Id}
-use Rattle.wit_type_tree.specs.declared.leaves.Attribute.{Attribute}
+use Rattle.wit_syntax.proofs.Common.{Attribute, BrokenMetadata, BrokenTypes, Constructor, ConstructorOfOther, ConstructorWithoutResult, Contains-append_left, Contains-append_right, DefinitionPart, DuplicateParam, Extern, ExternKind, ExternPart, Fault, Freestanding, Func, FuncForm, Function, FunctionPart, GetterGiven, GetterWithoutResult, Id, IncludePart, IsBroken, IsBrokenFunction, IsConstructorOfOther, IsConstructorWithoutResult, IsEntered, IsGetterGiven, IsNoType, IsSetterGiven, IsSetterWithResult, Item, Method, MissingInSignature, NamedFunc, OfFunction, OfNothing, OnSide, PackageFile, Param, Part, ResourceFunc, Role, Scope, SetterGiven, SetterWithResult, SourceFunction, SourceParam, Static, TypeBody, UsePart, Word, WorldSide, address, all_params, all_scopes, at_back, at_contains, at_prefix, at_split, bytes_eq, cases_Bool, contains_at, definition_functions, extern_functions, flat_map, flat_map_at, flat_map_has, folded, free_function, function_as_type, functions, item_types, list_any, map, map_at, meaning, missing_at, name_equal, name_itself, name_types, name_word, option_map, option_map_or, option_or, option_to_list, param_twice, part_functions, parts, resource_function, scope, scope_names, shape_of, side_function, signature, slice_get, slice_get-map, slice_get_within, take-append-add, take-map, words, written_param, written_types}
 use Rattle.wit_type_tree.specs.declared.leaves.Docs.{Docs as Comments}
-use Rattle.wit_type_tree.specs.declared.types.Func.{Func}
-use Rattle.wit_type_tree.specs.declared.types.FuncForm.{FuncForm}
 use Rattle.wit_type_tree.specs.declared.types.FuncForm.TheVariants as form
-use Rattle.wit_type_tree.specs.declared.types.NamedFunc.{NamedFunc}
-use Rattle.wit_type_tree.specs.declared.types.Param.{Param}
-use Rattle.wit_type_tree.specs.declared.types.ResourceFunc.{ResourceFunc}
 use Rattle.wit_type_tree.specs.declared.types.ResourceFunc.TheVariants as resource
-use Rattle.wit_type_tree.specs.declared.types.TypeBody.{TypeBody}
 use Rattle.wit_type_tree.specs.declared.types.TypeBody.TheVariants as body
 use Rattle.wit_type_tree.specs.declared.types.«Type».{«Type» as Written}
-use Rattle.wit_tree.specs.declared.tree.Extern.{Extern}
-use Rattle.wit_tree.specs.declared.tree.ExternKind.{ExternKind}
 use Rattle.wit_tree.specs.declared.tree.ExternKind.TheVariants as extern
-use Rattle.wit_tree.specs.declared.tree.PackageFile.{PackageFile}
-use Rattle.wit_tree.specs.declared.tree.WorldSide.{WorldSide}
-use Rattle.wit_syntax.specs.Bodies.{folded}
-use Rattle.wit_syntax.specs.Broken.{IsBroken, Function, Scope}
-use Rattle.wit_syntax.specs.Fault.{Fault, missing_at, name_word, function_as_type, param_twice}
-use Rattle.wit_syntax.specs.Function.{Role, Freestanding, Method, Static, Constructor, OnSide, SourceParam, SourceFunction, written_param, all_params, written_types, free_function, side_function, extern_functions, resource_function, definition_functions, part_functions, functions, item_types, name_types, signature}
-use Rattle.wit_syntax.specs.Shape.{Word, shape_of, words}
-use Rattle.wit_syntax.specs.ScopesOfTrees.{scope}
-use Rattle.wit_syntax.specs.Sides.{all_scopes}
-use Rattle.wit_syntax.specs.SignatureRules.{IsEntered, IsNoType, OfFunction, OfNothing, IsBrokenFunction, BrokenMetadata, BrokenTypes, MissingInSignature, GetterGiven, SetterGiven, DuplicateParam, GetterWithoutResult, SetterWithResult, ConstructorWithoutResult, ConstructorOfOther, IsGetterGiven, IsSetterGiven, IsSetterWithResult, IsConstructorWithoutResult, IsConstructorOfOther}
-use Rattle.wit_syntax.specs.Source.{Part, DefinitionPart, UsePart, IncludePart, FunctionPart, ExternPart, Item, address, parts, meaning, scope_names}
-use Rattle.wit_syntax.proofs.Found.{at_contains, contains_at}
-use Rattle.wit_syntax.proofs.Lists.{at_back, at_prefix, at_split, flat_map_at, flat_map_has, map_at}
-use Rattle.wit_syntax.proofs.Names.{name_equal, name_itself}
 use Rattle.wit_first.specs.AttributeFaults.{metadata_fault}
 use Rattle.wit_first.specs.First.{first_after, repeat_of}
 use Rattle.wit_first.specs.FunctionFaults.{given_fault, gives_fault}

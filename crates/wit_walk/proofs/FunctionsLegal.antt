@@ -1,34 +1,11 @@
 -- A function in which the walk finds nothing breaks no rule.
 use Rattle.std.proofs.Common.{◌≡◌, ◌⊎◌, ◌≤◌, ◌<◌, ℕ, zero, suc, List, [], ◌∷◌, ◌++◌, length, take, Option, Some, None, inl, inr, refl, sym, ap, ◌∙◌, subst, Contains, arith}
-use Rattle.std.specs.Prelude.{slice_get, map}
-use Rattle.std.specs.List.{flat_map}
-use Rattle.std.specs.Option.{option_map, option_map_or, option_or, option_to_list}
-use Rattle.std.specs.Str.{bytes_eq}
-use Rattle.std.proofs.lemmas.Option.{none-some, slice_get_within}
-use Rattle.wit_values.specs.declared.span.Span.{Span}
-use Rattle.wit_type_tree.specs.declared.leaves.Id.{Id}
-use Rattle.wit_type_tree.specs.declared.leaves.Attribute.{Attribute}
+use Rattle.wit_syntax.proofs.Common.{Attribute, BrokenMetadata, BrokenTypes, ConstructorOfOther, ConstructorWithoutResult, Defined, DefinitionPart, DuplicateParam, ExternPart, Fault, Func, FunctionPart, GetterGiven, GetterWithoutResult, Id, IncludePart, IsBrokenFunction, IsConstructorOfOther, IsConstructorWithoutResult, IsGetterWithoutResult, IsSecond, IsSetterWithResult, Item, MissingInSignature, NamedFunc, Param, Part, ResourceFunc, ScopeName, SetterGiven, SetterWithResult, Shape, SourceFunction, SourceParam, Span, TypeBody, UsePart, Word, WorldSide, all_params, at_contains, at_split, bytes_eq, contains_at, definition_functions, extern_at, find_some, flat_map, flat_map_at, flat_map_has, folded, free_function, functions, local_name, map, map_at, meaning, name_itself, none-some, option_map, option_map_or, option_or, option_to_list, param_twice, part_functions, part_names, parts, resource_function, scope_names, self_param, shape_of, side_function, signature, slice_get, slice_get_within, words, written_param, written_types}
 use Rattle.wit_type_tree.specs.declared.leaves.Docs.{Docs as Comments}
-use Rattle.wit_type_tree.specs.declared.types.Func.{Func}
-use Rattle.wit_type_tree.specs.declared.types.NamedFunc.{NamedFunc}
-use Rattle.wit_type_tree.specs.declared.types.Param.{Param}
-use Rattle.wit_type_tree.specs.declared.types.ResourceFunc.{ResourceFunc}
 use Rattle.wit_type_tree.specs.declared.types.ResourceFunc.TheVariants as resource
-use Rattle.wit_type_tree.specs.declared.types.TypeBody.{TypeBody}
 use Rattle.wit_type_tree.specs.declared.types.TypeBody.TheVariants as body
 use Rattle.wit_type_tree.specs.declared.types.TypeDef.{TypeDef}
 use Rattle.wit_type_tree.specs.declared.types.«Type».{«Type» as Written}
-use Rattle.wit_tree.specs.declared.tree.WorldSide.{WorldSide}
-use Rattle.wit_syntax.specs.Bodies.{folded, IsSecond}
-use Rattle.wit_syntax.specs.Fault.{Fault, param_twice}
-use Rattle.wit_syntax.specs.Function.{SourceParam, SourceFunction, written_param, all_params, written_types, free_function, side_function, resource_function, definition_functions, part_functions, functions, self_param, signature}
-use Rattle.wit_syntax.specs.Shape.{Shape, Word, shape_of, words}
-use Rattle.wit_syntax.specs.SignatureRules.{IsBrokenFunction, BrokenMetadata, BrokenTypes, MissingInSignature, GetterGiven, SetterGiven, DuplicateParam, GetterWithoutResult, SetterWithResult, ConstructorWithoutResult, ConstructorOfOther, IsGetterWithoutResult, IsSetterWithResult, IsConstructorWithoutResult, IsConstructorOfOther}
-use Rattle.wit_syntax.specs.Source.{Part, DefinitionPart, UsePart, IncludePart, FunctionPart, ExternPart, Item, parts, part_names, ScopeName, Defined, local_name, meaning, scope_names}
-use Rattle.wit_syntax.proofs.Externs.{extern_at}
-use Rattle.wit_syntax.proofs.Found.{at_contains, contains_at, find_some}
-use Rattle.wit_syntax.proofs.Lists.{at_split, flat_map_at, flat_map_has, map_at}
-use Rattle.wit_syntax.proofs.Names.{name_itself}
 use Rattle.wit_first.specs.AttributeFaults.{metadata_fault}
 use Rattle.wit_first.specs.First.{first_after, repeat_of}
 use Rattle.wit_first.specs.FunctionFaults.{given_fault, gives_fault}

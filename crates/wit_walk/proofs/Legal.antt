@@ -1,33 +1,8 @@
 -- Files in which the walk finds nothing break no rule; and in files that break none it finds nothing.
 use Rattle.std.proofs.Common.{◌≡◌, ◌+◌, ◌≤◌, ℕ, false, not, List, [], ◌∷◌, ◌++◌, length, take, Option, Some, None, inl, inr, refl, sym, ap, ◌∙◌, Contains, arith}
-use Rattle.std.specs.Prelude.{slice_get, map}
-use Rattle.std.proofs.lemmas.Bool.{cases_Bool, not_from_false}
-use Rattle.std.proofs.lemmas.List.{length-map}
-use Rattle.std.proofs.lemmas.Option.{slice_get_within}
-use Rattle.wit_type_tree.specs.declared.leaves.Id.{Id}
-use Rattle.wit_tree.specs.declared.tree.Extern.{Extern}
-use Rattle.wit_tree.specs.declared.tree.InterfaceItem.{InterfaceItem}
+use Rattle.wit_syntax.proofs.Common.{AllDiffer, Body, CyclicItem, CyclicType, DefinedTwice, DuplicateItem, DuplicateTopName, Extern, Fault, ForeignStability, Function, Handle, Headerless, Id, IncludeStability, InterfaceIncluded, InterfaceItem, IsBrokenItems, IsBrokenNames, IsBrokenScope, IsLegal, IsNoResource, IsOrder, Item, ItemStability, Items, LinkedTwice, MissingItem, MissingName, MissingType, Names, PackageFile, Row, Scope, Setter, SideFunction, SideInline, SideItem, Sides, TopUse, UseMetadata, about, address, all_items, all_scopes, at_contains, cases_Bool, cyclic_at, defined, foreign_visits, functions, in_order, in_order_has, in_turn, includes, index_of, inline_interface, inline_items, inline_items_at, inlined, interfaces_of, interfaces_on, is_world, item_name, item_row, item_rows, item_types, item_word, kept_has, last_header, length-map, map, map_at, missing_at, missing_type_at, name_called, no_cyclic_edge, no_missing_edge, not_from_false, rows_of, scope_names, scopes_either, side_items, side_items_functions, slice_get, slice_get_within, type_word, used, worlds_of}
 use Rattle.wit_tree.specs.declared.tree.PackageName.{PackageName as Header}
-use Rattle.wit_tree.specs.declared.tree.PackageFile.{PackageFile}
-use Rattle.wit_graph.specs.Table.{Row, IsOrder}
-use Rattle.wit_syntax.specs.Broken.{last_header, DefinedTwice, MissingType, CyclicType, Metadata, Body, Function, IsBrokenScope, IsBrokenItems, DuplicateItem, DuplicateTopName, MissingItem, CyclicItem, IsBrokenNames, Items, ForeignStability, TopUse, IsLegal, Headerless, Names, ItemStability, UseMetadata, IncludeStability, Use, InterfaceIncluded, MissingName, Scope, Sides, LinkedTwice, Handle, Setter}
-use Rattle.wit_syntax.specs.Fault.{Fault, missing_at, missing_type_at, cyclic_at, item_word, type_word}
-use Rattle.wit_syntax.specs.Foreign.{foreign_visits}
-use Rattle.wit_syntax.specs.Function.{functions, item_types}
-use Rattle.wit_syntax.specs.NameEnds.{IsNoResource}
-use Rattle.wit_syntax.specs.Repeats.{AllDiffer}
-use Rattle.wit_syntax.specs.ScopeTables.{item_row, item_rows, rows_of, in_order, in_turn, used, defined, includes, interfaces_of, worlds_of}
-use Rattle.wit_syntax.specs.Sides.{all_scopes, SideItem, SideFunction, SideInline, side_items, inline_items}
-use Rattle.wit_syntax.specs.SignatureRules.{name_called}
-use Rattle.wit_syntax.specs.Source.{Item, about, address, all_items, is_world, item_name, scope_names}
-use Rattle.wit_syntax.proofs.Found.{at_contains}
-use Rattle.wit_syntax.proofs.Inline.{inline_items_at, inline_interface, inlined, interfaces_on}
-use Rattle.wit_syntax.proofs.Kept.{kept_has}
-use Rattle.wit_syntax.proofs.Legal.{no_cyclic_edge, no_missing_edge}
-use Rattle.wit_syntax.proofs.Lists.{map_at}
-use Rattle.wit_syntax.proofs.Orders.{in_order_has, index_of}
-use Rattle.wit_syntax.proofs.Scopes.{scopes_either}
-use Rattle.wit_syntax.proofs.Sides.{side_items_functions}
+use Rattle.wit_syntax.specs.Broken.{Metadata, Use}
 use Rattle.wit_first.specs.AttributeFaults.{external_fault, stability_fault}
 use Rattle.wit_first.specs.First.{first_in, first_after}
 use Rattle.wit_first.proofs.Bridge.{in_only, item_names_agree, item_names_differ, or_none_both, stability_agrees}

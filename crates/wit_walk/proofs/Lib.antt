@@ -18,3 +18,4 @@ pub mod Legal
 pub mod Steps
 pub mod Decided
 pub mod Rows
+pub mod Common

@@ -1,43 +1,8 @@
 -- What the first fault of what is on the sides of an item breaks.
 use Rattle.std.proofs.Common.{◌≡◌, ◌⊎◌, ◌+◌, ℕ, zero, suc, Bool, true, false, ◌&&◌, List, [], ◌∷◌, ◌++◌, length, take, Option, Some, None, inl, inr, refl, sym, ap, ◌∙◌, subst, append_assoc, Contains}
-use Rattle.std.specs.Prelude.{codes, slice_get, map, is_none, if◌then◌else◌}
-use Rattle.std.specs.List.{filter, flat_map, list_any}
-use Rattle.std.specs.Option.{option_map_or}
-use Rattle.std.specs.Str.{bytes_eq}
-use Rattle.std.proofs.lemmas.Bool.{and_parts, cond-true}
-use Rattle.std.proofs.lemmas.Grind.{flat_map-append}
-use Rattle.std.proofs.lemmas.List.Elements.{filter-append}
-use Rattle.wit_names.specs.Folded.{folded_key}
-use Rattle.wit_type_tree.specs.declared.leaves.Id.{Id}
-use Rattle.wit_type_tree.specs.declared.types.FuncForm.{FuncForm}
-use Rattle.wit_tree.specs.declared.tree.Extern.{Extern}
-use Rattle.wit_tree.specs.declared.tree.ExternKind.{ExternKind}
+use Rattle.wit_syntax.proofs.Common.{Called, Constructor, CrossedTwice, DefinitionPart, Extern, ExternKind, ExternPart, Fault, FoldedTwice, Freestanding, FuncForm, FunctionPart, Id, Imported, IncludePart, InterfaceItem, InterfaceMetadata, IsBroken, IsExternPart, IsLinkedTwice, IsOrder, IsSecond, Item, Link, LinkedTwice, Method, MissingUse, OnSide, PackageFile, Part, Role, ScopeName, SideFunction, SideInline, SideItem, SideLink, Sides, SourceFunction, Static, Use as WrittenUse, UsePart, WorldSide, WorldUsed, address, all_items, all_scopes, and_parts, at_back, at_contains, at_prefix, bytes_eq, clash, codes, cond-true, conflict, contains_at, definition_functions, extern_items, extern_link, extern_paths, fault_in, filter, filter-append, flat_map, flat_map-append, flat_map_at, flat_map_has, folded_key, functions, functions_items, if◌then◌else◌, in_turn, inline_after, inline_after-append, inline_item, inline_items, inline_uses, is_interface, is_none, is_world, is_world_at, item_called, item_function, item_link, item_side, items_on, leads, linked_twice, links_none, list_any, map, map_at, name_called, name_equal, names_on, option_map_or, part_items, parts, path_id, path_scope, rows_of, same_address, same_address-equal, same_side, scope, scope_names, side_called, side_items, side_itself, slice_get, take_seam, use_path, use_paths, world_there}
 use Rattle.wit_tree.specs.declared.tree.ExternKind.TheVariants as extern
-use Rattle.wit_tree.specs.declared.tree.InterfaceItem.{InterfaceItem}
-use Rattle.wit_tree.specs.declared.tree.Use.{Use as WrittenUse}
-use Rattle.wit_tree.specs.declared.tree.PackageFile.{PackageFile}
-use Rattle.wit_tree.specs.declared.tree.WorldSide.{WorldSide}
-use Rattle.wit_tree.specs.declared.tree.WorldSide.TheVariants.{Imported}
-use Rattle.wit_graph.specs.Table.{IsOrder}
-use Rattle.wit_syntax.specs.Address.{same_address}
-use Rattle.wit_syntax.specs.Bodies.{IsSecond}
-use Rattle.wit_syntax.specs.Broken.{is_world_at, IsBroken, MissingUse, WorldUsed, Use, Sides, LinkedTwice, IsLinkedTwice}
-use Rattle.wit_syntax.specs.ExternPart.{inline_uses, extern_paths, same_side}
-use Rattle.wit_syntax.specs.Words.{clash, conflict}
-use Rattle.wit_syntax.specs.Fault.{Fault, fault_in, world_there, linked_twice}
-use Rattle.wit_syntax.specs.Function.{Role, Freestanding, Method, Static, Constructor, OnSide, SourceFunction, definition_functions, functions}
-use Rattle.wit_syntax.specs.ScopeTables.{rows_of, use_path, use_paths, in_turn}
-use Rattle.wit_syntax.specs.ScopesOfTrees.{scope}
-use Rattle.wit_syntax.specs.Sides.{Link, SideItem, SideFunction, SideLink, SideInline, part_items, extern_items, extern_link, side_items, item_function, item_link, item_side, items_on, names_on, is_interface, inline_item, inline_after, inline_items, all_scopes, item_called, side_called, IsExternPart, FoldedTwice, CrossedTwice, InterfaceMetadata}
-use Rattle.wit_syntax.specs.SignatureRules.{Called, name_called}
-use Rattle.wit_syntax.specs.Source.{leads, path_id, path_scope, Part, DefinitionPart, UsePart, IncludePart, FunctionPart, ExternPart, Item, all_items, address, is_world, parts, ScopeName, scope_names}
-use Rattle.wit_syntax.proofs.Addresses.{same_address-equal, side_itself}
-use Rattle.wit_syntax.proofs.Found.{at_contains, contains_at}
-use Rattle.wit_syntax.proofs.Inline.{inline_after-append}
-use Rattle.wit_syntax.proofs.Legal.{functions_items}
-use Rattle.wit_syntax.proofs.Lists.{at_back, at_prefix, flat_map_at, flat_map_has, map_at, take_seam}
-use Rattle.wit_syntax.proofs.Names.{name_equal}
-use Rattle.wit_syntax.proofs.Sides.{links_none}
+use Rattle.wit_syntax.specs.Broken.{Use}
 use Rattle.wit_first.specs.AttributeFaults.{external_fault, metadata_fault}
 use Rattle.wit_first.specs.FileFaults.{lost_fault}
 use Rattle.wit_first.specs.First.{first_in, first_after, repeat_of}

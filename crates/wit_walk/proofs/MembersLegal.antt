@@ -1,38 +1,7 @@
 -- Where the walk finds nothing in what is on the sides of an item, no rule about it is broken.
 use Rattle.std.proofs.Common.{◌≡◌, ◌≤◌, ℕ, zero, suc, Bool, true, false, ◌&&◌, List, [], ◌∷◌, ◌++◌, length, take, Option, Some, None, inl, inr, refl, sym, ap, ◌∙◌, subst, append_assoc, Contains, arith}
-use Rattle.std.specs.Prelude.{slice_get, map, is_none, if◌then◌else◌}
-use Rattle.std.specs.List.{filter, flat_map, list_any}
-use Rattle.std.specs.Option.{option_or}
-use Rattle.std.proofs.lemmas.Bool.{and_from, cases_Bool, cond-false, cond-true}
-use Rattle.std.proofs.lemmas.Grind.{flat_map-append}
-use Rattle.std.proofs.lemmas.List.{append-nil}
-use Rattle.std.proofs.lemmas.List.Elements.{filter-append}
-use Rattle.wit_names.specs.Folded.{folded_key}
-use Rattle.wit_values.specs.declared.span.Span.{Span}
-use Rattle.wit_type_tree.specs.declared.leaves.Id.{Id}
+use Rattle.wit_syntax.proofs.Common.{AllDiffer, Called, CrossedTwice, Exported, Extern, Fault, FoldedTwice, Id, Imported, InterfaceItem, InterfaceMetadata, IsBrokenFunction, IsBrokenMetadata, IsBrokenSides, IsLinkedTwice, IsOrder, Item, Link, PackageFile, ScopeName, SideFunction, SideInline, SideItem, SideLink, SourceFunction, Span, WorldSide, address, all_items, and_from, append-nil, at_contains, cases_Bool, cond-false, cond-true, contains_at, filter, filter-append, flat_map, flat_map-append, flat_map_at, flat_map_has, folded_key, functions, functions_items, handles, if◌then◌else◌, in_turn, inline_item, interface_attributes, is_interface, is_none, is_world_at, item_called, item_function, item_link, item_side, items_on, leads, linked_twice, list_any, map, name_called, names_on, no_crossed, no_fold, option_or, path_id, path_scope, rows_of, same_address, same_address-from, same_side, same_side-equal, scope_names, side_called, side_items, slice_get, written_types}
 use Rattle.wit_type_tree.specs.declared.types.«Type».{«Type» as Written}
-use Rattle.wit_tree.specs.declared.tree.Extern.{Extern}
-use Rattle.wit_tree.specs.declared.tree.InterfaceItem.{InterfaceItem}
-use Rattle.wit_tree.specs.declared.tree.PackageFile.{PackageFile}
-use Rattle.wit_tree.specs.declared.tree.WorldSide.{WorldSide}
-use Rattle.wit_tree.specs.declared.tree.WorldSide.TheVariants.{Imported, Exported}
-use Rattle.wit_graph.specs.Table.{IsOrder}
-use Rattle.wit_syntax.specs.Address.{same_address}
-use Rattle.wit_syntax.specs.Broken.{is_world_at, IsLinkedTwice}
-use Rattle.wit_syntax.specs.ExternPart.{same_side}
-use Rattle.wit_syntax.specs.Fault.{Fault, linked_twice}
-use Rattle.wit_syntax.specs.Function.{SourceFunction, functions, written_types}
-use Rattle.wit_syntax.specs.Metadata.{IsBrokenMetadata}
-use Rattle.wit_syntax.specs.Repeats.{AllDiffer}
-use Rattle.wit_syntax.specs.ScopeTables.{rows_of, in_turn}
-use Rattle.wit_syntax.specs.Shape.{handles}
-use Rattle.wit_syntax.specs.Sides.{Link, SideItem, SideFunction, SideLink, SideInline, side_items, item_called, item_function, item_link, item_side, items_on, names_on, side_called, is_interface, inline_item, interface_attributes, IsBrokenSides, FoldedTwice, CrossedTwice, InterfaceMetadata}
-use Rattle.wit_syntax.specs.SignatureRules.{Called, IsBrokenFunction, name_called}
-use Rattle.wit_syntax.specs.Source.{leads, path_id, path_scope, Item, address, all_items, ScopeName, scope_names}
-use Rattle.wit_syntax.proofs.Addresses.{same_address-from, same_side-equal}
-use Rattle.wit_syntax.proofs.Found.{at_contains, contains_at}
-use Rattle.wit_syntax.proofs.Legal.{functions_items, no_crossed, no_fold}
-use Rattle.wit_syntax.proofs.Lists.{flat_map_at, flat_map_has}
 use Rattle.wit_first.specs.AttributeFaults.{external_fault, metadata_fault, stability_fault}
 use Rattle.wit_first.specs.FileFaults.{lost_fault}
 use Rattle.wit_first.specs.First.{first_in, first_after, repeat_of}

@@ -1,17 +1,8 @@
 -- What the walk of files comes to is one: each table has one outcome.
 use Rattle.std.proofs.Common.{◌≡◌, ◌⊎◌, ◌+◌, ℕ, List, Option, Some, inl, inr, sym, ap, ◌∙◌, arith}
-use Rattle.std.specs.Prelude.{slice_get}
-use Rattle.std.proofs.lemmas.Bool.{cases_lt}
+use Rattle.wit_syntax.proofs.Common.{AreRefused, Fault, Id, IsCyclic, IsEarlier, IsEdge, IsFirstEdge, IsMissing, PackageFile, Row, cases_lt, not_missing, one_answer, slice_get, target}
 use mathlib.Core.Path.{fun_ext}
-use Rattle.wit_type_tree.specs.declared.leaves.Id.{Id}
-use Rattle.wit_tree.specs.declared.tree.PackageFile.{PackageFile}
-use Rattle.wit_graph.specs.Edges.{IsEarlier, IsFirstEdge}
 use Rattle.wit_graph.specs.TableFaults.{IsFirstMissing, IsFirstCyclic}
-use Rattle.wit_graph.specs.Laws.{AreRefused}
-use Rattle.wit_graph.specs.Table.{Row, target, IsEdge, IsMissing, IsCyclic}
-use Rattle.wit_graph.proofs.SameEdges.{one_answer}
-use Rattle.wit_graph.proofs.Tables.{not_missing}
-use Rattle.wit_syntax.specs.Fault.{Fault}
 use Rattle.wit_walk.specs.Orders.{Outcome, InOrder, AtMissing, AtCycle, IsOutcome}
 use Rattle.wit_walk.specs.Walk.{ComesTo, first_fault}
 

@@ -1,20 +1,9 @@
 -- Each table has an outcome.
 use Rattle.std.proofs.Common.{◌≡◌, ◌⊎◌, ◌+◌, ◌<◌, ℕ, zero, suc, List, [], ◌∷◌, ◌++◌, length, Option, Some, None, inl, inr, refl, sym, ◌∙◌, subst, arith}
-use Rattle.std.specs.Prelude.{slice_get}
-use Rattle.std.proofs.lemmas.Bool.{cases_lt}
-use Rattle.std.proofs.lemmas.List.{length_push}
-use Rattle.std.proofs.lemmas.Option.{none-some, same_Some, slice_get_within}
-use Rattle.wit_type_tree.specs.declared.leaves.Id.{Id}
-use Rattle.wit_graph.specs.Edges.{IsFirstEdge}
-use Rattle.wit_graph.specs.Laws.{AreAccepted, AreRefused}
-use Rattle.wit_graph.specs.Order.{ReachesCycle, IsBefore}
-use Rattle.wit_graph.specs.Table.{Row, target, IsEdge, IsMissing, IsCyclic, IsComplete, Leads}
+use Rattle.wit_syntax.proofs.Common.{AreAccepted, AreRefused, Id, IsBefore, IsComplete, IsCyclic, IsEdge, IsFirstEdge, IsGreedy, IsMissing, Leads, ReachesCycle, Row, cases_lt, greedy_nil, greedy_push, greedy_sorted, known, length_push, none-some, one_answer, placed_no_cycle, same_Some, slice_get, slice_get_within, target}
 use Rattle.wit_graph.proofs.Cycle.{before_or_not, stuck_cycle}
 use Rattle.wit_graph.proofs.Faults.{edge_index, edge_need}
-use Rattle.wit_graph.proofs.Greedy.{IsGreedy, greedy_nil, greedy_push, greedy_sorted, placed_no_cycle}
 use Rattle.wit_graph.proofs.Outcome.{place_below}
-use Rattle.wit_graph.proofs.SameEdges.{one_answer}
-use Rattle.wit_graph.proofs.Tables.{known}
 use Rattle.wit_walk.specs.Orders.{Outcome, InOrder, AtMissing, AtCycle, IsOutcome}
 
 none_or_some : {X : Type 0} (o : Option X) → (o ≡ None) ⊎ ((x : X) × (o ≡ Some x))

@@ -1,35 +1,21 @@
 -- Small files that break two rules, and the first fault of each, computed.
 use Rattle.std.proofs.Common.{◌≡◌, ◌<◌, ◌^◌, ℕ, suc, true, List, [], ◌∷◌, length, Option, Some, None, refl, lit<, arith}
-use Rattle.std.specs.Prelude.{codes, Vec, Box}
-use Rattle.std.specs.declared.alloc.Global.{Global}
+use Rattle.wit_syntax.proofs.Common.{AstItem, Attribute, Box, Func, FuncForm, Global, Id, Imported, PackageFile, Param, Row, Span, Tuple, TypeBody, Vec, codes, fault, fault_in, is_label, item_word, missing_at, missing_type_at}
 use denote.RawPtr.{Ptr}
-use Rattle.wit_names.specs.Label.{is_label}
-use Rattle.wit_values.specs.declared.span.Span.{Span}
-use Rattle.wit_type_tree.specs.declared.leaves.Id.{Id}
 use Rattle.wit_type_tree.specs.declared.leaves.Docs.{Docs as Comments}
-use Rattle.wit_type_tree.specs.declared.leaves.Attribute.{Attribute}
 use Rattle.wit_type_tree.specs.declared.leaves.Attribute.TheVariants as attribute
-use Rattle.wit_type_tree.specs.declared.types.Func.{Func}
-use Rattle.wit_type_tree.specs.declared.types.FuncForm.{FuncForm}
 use Rattle.wit_type_tree.specs.declared.types.FuncForm.TheVariants as form
-use Rattle.wit_type_tree.specs.declared.types.Param.{Param}
 use Rattle.wit_type_tree.specs.declared.types.Primitive.TheVariants as primitive
-use Rattle.wit_type_tree.specs.declared.types.«Type».{«Type» as Written, Tuple}
+use Rattle.wit_type_tree.specs.declared.types.«Type».{«Type» as Written}
 use Rattle.wit_type_tree.specs.declared.types.«Type».TheVariants as written
-use Rattle.wit_type_tree.specs.declared.types.TypeBody.{TypeBody}
 use Rattle.wit_type_tree.specs.declared.types.TypeBody.TheVariants as body
 use Rattle.wit_type_tree.specs.declared.types.TypeDef.{TypeDef}
-use Rattle.wit_tree.specs.declared.tree.AstItem.{AstItem}
 use Rattle.wit_tree.specs.declared.tree.AstItem.TheVariants as ast
 use Rattle.wit_tree.specs.declared.tree.ExternKind.TheVariants as extern
 use Rattle.wit_tree.specs.declared.tree.InterfaceItem.TheVariants as interface_item
-use Rattle.wit_tree.specs.declared.tree.PackageFile.{PackageFile}
 use Rattle.wit_tree.specs.declared.tree.PackageName.{PackageName as Header}
 use Rattle.wit_tree.specs.declared.tree.UsePath.TheVariants as path
 use Rattle.wit_tree.specs.declared.tree.WorldItem.TheVariants as world_item
-use Rattle.wit_tree.specs.declared.tree.WorldSide.TheVariants.{Imported}
-use Rattle.wit_graph.specs.Table.{Row}
-use Rattle.wit_syntax.specs.Fault.{fault, missing_at, missing_type_at, item_word, fault_in}
 use Rattle.wit_walk.specs.Orders.{Outcome, InOrder, AtMissing}
 use Rattle.wit_walk.specs.Walk.{first_fault}
 

@@ -1,13 +1,8 @@
 -- Tests of names that agree on the names in a written type find one fault in it.
 use Rattle.std.proofs.Common.{◌≡◌, List, [], ◌∷◌, Option, refl, sym, ap, ◌∙◌, Contains, arith}
-use Rattle.std.specs.Option.{option_or}
-use Rattle.std.proofs.lemmas.List.Elements.{Contains-append_left, Contains-append_right}
-use Rattle.wit_type_tree.specs.declared.leaves.Id.{Id}
+use Rattle.wit_syntax.proofs.Common.{Contains-append_left, Contains-append_right, Fault, Id, all_shapes, all_words, option_or, part_types, shape_of, words}
 use Rattle.wit_type_tree.specs.declared.types.«Type».{«Type» as Written}
 use Rattle.wit_type_tree.specs.declared.types.«Type».TheVariants as written
-use Rattle.wit_type_tree.specs.TypeParts.{part_types}
-use Rattle.wit_syntax.specs.Fault.{Fault}
-use Rattle.wit_syntax.specs.Shape.{shape_of, words, all_shapes, all_words}
 use Rattle.wit_first.specs.First.{first_in}
 use Rattle.wit_first.specs.TypeFaults.{type_fault, prefix_fault, back_fault}
 use Rattle.wit_first.proofs.TypeFaults.{AllTypes, by_parts, fault_parts}

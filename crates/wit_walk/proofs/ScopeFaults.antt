@@ -1,38 +1,9 @@
 -- What the first fault of the names of a scope breaks, of the order of its definitions, of a definition, and of an include.
 use Rattle.std.proofs.Common.{◌≡◌, ◌⊎◌, ℕ, Bool, true, false, List, [], ◌++◌, take, Option, Some, None, inl, inr, refl, sym, ap, ◌∙◌, Contains}
-use Rattle.std.specs.Prelude.{slice_get, map, if◌then◌else◌}
-use Rattle.std.specs.List.{flat_map, list_any}
-use Rattle.std.specs.Option.{option_map, option_map_or, option_or}
-use Rattle.std.specs.Str.{bytes_eq}
-use Rattle.std.proofs.lemmas.Bool.{cases_Bool}
-use Rattle.std.proofs.lemmas.List.Elements.{Contains-append_left}
-use Rattle.std.proofs.lemmas.Option.{slice_get-map}
-use Rattle.wit_type_tree.specs.declared.leaves.Id.{Id}
+use Rattle.wit_syntax.proofs.Common.{Address, AllDiffer, AtForeign, AtResource, Body, Contains-append_left, Defined, DefinedTwice, Elsewhere, End, Fault, ForeignName, Handle, Id, Include, IncludeStability, InterfaceIncluded, IsBroken, IsCyclicEdge, IsMissingEdge, IsNoType, IsOrder, Item, MissingName, OfFunction, OfNothing, PackageFile, Part, Row, Scope, ScopeName, SourceFunction, UseName, Used, Word, address, all_items, all_scopes, at_contains, at_part, body_types, bytes_eq, cases_Bool, contains_at, cyclic_at, defined, defined_at, differ_at, find_at, find_passes, find_some, flat_map, flat_map_at, flat_map_has, function_used, functions, handles, if◌then◌else◌, include_path, includes, interface_there, is_world_at, item_at, item_name, item_named, item_types, leads, list_any, local_id, local_name, map, meaning, missing_at, name_equal, name_itself, name_twice, name_types, name_word, no_resource, option_map, option_map_or, option_or, part_includes, parts, path_id, role_names, same_address, same_address-equal, scope, scope_names, shape_end, shape_of, slice_get, slice_get-map, used, used_at, words, written_types}
 use Rattle.wit_type_tree.specs.declared.types.TypeDef.{TypeDef}
 use Rattle.wit_type_tree.specs.declared.types.«Type».{«Type» as Written}
-use Rattle.wit_type_tree.specs.TypeParts.{body_types}
-use Rattle.wit_tree.specs.declared.tree.Include.{Include}
-use Rattle.wit_tree.specs.declared.tree.UseName.{UseName}
-use Rattle.wit_tree.specs.declared.tree.PackageFile.{PackageFile}
-use Rattle.wit_graph.specs.Table.{Row, IsOrder}
-use Rattle.wit_syntax.specs.Address.{Address, same_address}
-use Rattle.wit_syntax.specs.Broken.{is_world_at, IsMissingEdge, IsCyclicEdge, DefinedTwice, Metadata, Body, IsBroken, IncludeStability, InterfaceIncluded, MissingName, Scope, Handle}
-use Rattle.wit_syntax.specs.NameEnds.{End, AtResource, Elsewhere, AtForeign, shape_end}
-use Rattle.wit_syntax.specs.Fault.{Fault, interface_there, missing_at, cyclic_at, name_word, function_used, name_twice, no_resource}
-use Rattle.wit_syntax.specs.Function.{SourceFunction, functions, item_types, name_types, role_names, written_types}
-use Rattle.wit_syntax.specs.Repeats.{AllDiffer}
-use Rattle.wit_syntax.specs.ScopeTables.{used, defined, part_includes, include_path, includes}
-use Rattle.wit_syntax.specs.ScopesOfTrees.{scope}
-use Rattle.wit_syntax.specs.Shape.{shape_of, words, handles, Word}
-use Rattle.wit_syntax.specs.Sides.{all_scopes}
-use Rattle.wit_syntax.specs.SignatureRules.{IsNoType, OfFunction, OfNothing}
-use Rattle.wit_syntax.specs.Source.{leads, path_id, Part, Item, item_name, item_named, item_at, all_items, address, parts, ScopeName, Used, Defined, ForeignName, local_id, local_name, meaning, scope_names}
-use Rattle.wit_syntax.proofs.Addresses.{same_address-equal}
-use Rattle.wit_syntax.proofs.Found.{at_contains, contains_at, find_at, find_passes, find_some}
-use Rattle.wit_syntax.proofs.Lists.{flat_map_at, flat_map_has}
-use Rattle.wit_syntax.proofs.Names.{name_equal, name_itself}
-use Rattle.wit_syntax.proofs.Repeated.{differ_at}
-use Rattle.wit_syntax.proofs.Turns.{at_part, used_at, defined_at}
+use Rattle.wit_syntax.specs.Broken.{Metadata}
 use Rattle.wit_first.specs.AttributeFaults.{metadata_fault, stability_fault}
 use Rattle.wit_first.specs.First.{first_in, first_after, repeat_of}
 use Rattle.wit_first.specs.ListFaults.{list_fault}

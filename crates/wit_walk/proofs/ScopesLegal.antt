@@ -1,34 +1,9 @@
 -- Where the walk finds nothing in the names and definitions of an item, no rule about them is broken.
 use Rattle.std.proofs.Common.{◌≡◌, ◌≤◌, ℕ, zero, suc, List, [], ◌++◌, take, Option, Some, None, inl, inr, ap, ◌∙◌, subst, Contains, arith}
-use Rattle.std.specs.Prelude.{slice_get, map}
-use Rattle.std.specs.List.{flat_map}
-use Rattle.std.specs.Option.{option_map_or, option_or, unwrap_or}
-use Rattle.std.proofs.lemmas.List.Elements.{Contains-append_cases}
-use Rattle.wit_type_tree.specs.declared.leaves.Id.{Id}
-use Rattle.wit_type_tree.specs.declared.leaves.Attribute.{Attribute}
+use Rattle.wit_syntax.proofs.Common.{Address, AliasForm, AllDiffer, Attribute, Contains-append_cases, Defined, Elsewhere, End, Fault, ForeignName, Form, Id, IsBrokenBody, IsBrokenMetadata, IsNoResource, IsOrder, IsSecond, Item, More, Of, PackageFile, Prim, ScopeName, Shape, Shapes, UseName, Used, Word, about_name, address, all_declared, all_items, at_contains, at_prefix, body_types, contains_at, defined, defined_has, first_named, flat_map, functions, handles, in_order, in_order_all, item_at, item_name, item_named, item_types, local_id, local_name, map, meaning, meant_end, name_twice, name_types, named_end, no_resource, option_map_or, option_or, rows_of, scope, scope_names, shape_end, slice_get, unwrap_or, used, used_has, written_types}
 use Rattle.wit_type_tree.specs.declared.types.TypeDef.{TypeDef}
 use Rattle.wit_type_tree.specs.declared.types.«Type».{«Type» as Written}
-use Rattle.wit_type_tree.specs.TypeParts.{body_types}
-use Rattle.wit_tree.specs.declared.tree.UseName.{UseName}
-use Rattle.wit_tree.specs.declared.tree.PackageFile.{PackageFile}
-use Rattle.wit_graph.specs.Table.{IsOrder}
-use Rattle.wit_syntax.specs.Address.{Address}
-use Rattle.wit_syntax.specs.Bodies.{IsSecond, IsBrokenBody}
-use Rattle.wit_syntax.specs.Fault.{Fault, name_twice, no_resource}
-use Rattle.wit_syntax.specs.Form.{Form, AliasForm}
-use Rattle.wit_syntax.specs.Function.{functions, item_types, name_types, written_types}
-use Rattle.wit_syntax.specs.Metadata.{IsBrokenMetadata}
-use Rattle.wit_syntax.specs.NameEnds.{End, Elsewhere, named_end, shape_end, IsNoResource}
-use Rattle.wit_syntax.specs.Repeats.{AllDiffer}
-use Rattle.wit_syntax.specs.ScopesOfTrees.{scope}
-use Rattle.wit_syntax.specs.ScopeTables.{rows_of, in_order, used, defined}
-use Rattle.wit_syntax.specs.Shape.{Shape, Shapes, Prim, Word, Of, End as NoShape, More, handles}
-use Rattle.wit_syntax.specs.Source.{Item, item_name, item_named, item_at, all_items, address, ScopeName, Used, Defined, ForeignName, about_name, local_id, local_name, meaning, scope_names}
-use Rattle.wit_syntax.proofs.Found.{at_contains, contains_at}
-use Rattle.wit_syntax.proofs.Lists.{at_prefix}
-use Rattle.wit_syntax.proofs.Ends.{meant_end}
-use Rattle.wit_syntax.proofs.Scopes.{all_declared, first_named}
-use Rattle.wit_syntax.proofs.Turns.{defined_has, in_order_all, used_has}
+use Rattle.wit_syntax.specs.Shape.{End as NoShape}
 use Rattle.wit_first.specs.AttributeFaults.{metadata_fault}
 use Rattle.wit_first.specs.First.{first_in, first_after, repeat_of}
 use Rattle.wit_first.specs.ListFaults.{list_fault}

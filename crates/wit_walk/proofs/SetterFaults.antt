@@ -1,24 +1,7 @@
 -- What the first setter without its getter breaks.
 use Rattle.std.proofs.Common.{◌≡◌, ℕ, Bool, true, false, ◌&&◌, not, List, [], ◌∷◌, Some, None, inl, inr, refl, sym, ap, ◌∙◌, Contains}
-use Rattle.std.specs.Prelude.{if◌then◌else◌, slice_get}
-use Rattle.std.specs.List.{list_any}
-use Rattle.std.specs.Str.{bytes_eq}
-use Rattle.std.proofs.lemmas.Bool.{and_parts, false_from_ne_true, not-true}
-use Rattle.wit_names.specs.Setter.{getter_of}
-use Rattle.wit_type_tree.specs.declared.types.FuncForm.{FuncForm}
+use Rattle.wit_syntax.proofs.Common.{Exported, Fault, FuncForm, Imported, Include, IsSetterAlone, IsUnpairedSetter, Item, SourceFunction, WorldSide, and_parts, at_contains, bytes_eq, contains_at, false_from_ne_true, functions, getter_of, if◌then◌else◌, includes, list_any, lone_setter, name_equal, name_itself, not-true, on_side, slice_get}
 use Rattle.wit_type_tree.specs.declared.types.FuncForm.TheVariants as form
-use Rattle.wit_tree.specs.declared.tree.Include.{Include}
-use Rattle.wit_tree.specs.declared.tree.WorldSide.{WorldSide}
-use Rattle.wit_tree.specs.declared.tree.WorldSide.TheVariants.{Imported, Exported}
-use Rattle.wit_syntax.specs.Broken.{IsSetterAlone}
-use Rattle.wit_syntax.specs.Fault.{Fault, lone_setter}
-use Rattle.wit_syntax.specs.Function.{SourceFunction, functions}
-use Rattle.wit_syntax.specs.ScopeTables.{includes}
-use Rattle.wit_syntax.specs.Sides.{on_side}
-use Rattle.wit_syntax.specs.SignatureRules.{IsUnpairedSetter}
-use Rattle.wit_syntax.specs.Source.{Item}
-use Rattle.wit_syntax.proofs.Found.{at_contains, contains_at}
-use Rattle.wit_syntax.proofs.Names.{name_equal, name_itself}
 use Rattle.wit_first.proofs.Bridge.{any_found, in_some, or_some}
 use Rattle.wit_first.proofs.First.{any_some}
 use Rattle.wit_walk.specs.Setters.{is_setter, setter_fault, setters_beside, setters_fault, side_setters_fault}

@@ -1,19 +1,6 @@
 -- Where the walk finds no setter without its getter, each has one.
 use Rattle.std.proofs.Common.{◌≡◌, ◌&&◌, not, List, [], None, inl, inr, ap, subst}
-use Rattle.std.specs.List.{list_any}
-use Rattle.std.specs.Str.{bytes_eq}
-use Rattle.std.proofs.lemmas.Bool.{and_from, cases_Bool, not_from_false}
-use Rattle.wit_names.specs.Setter.{getter_of}
-use Rattle.wit_tree.specs.declared.tree.Include.{Include}
-use Rattle.wit_tree.specs.declared.tree.WorldSide.{WorldSide}
-use Rattle.wit_tree.specs.declared.tree.WorldSide.TheVariants.{Imported, Exported}
-use Rattle.wit_syntax.specs.Broken.{IsSetterAlone}
-use Rattle.wit_syntax.specs.Fault.{Fault, lone_setter}
-use Rattle.wit_syntax.specs.Function.{SourceFunction, functions}
-use Rattle.wit_syntax.specs.Sides.{on_side}
-use Rattle.wit_syntax.specs.Source.{Item}
-use Rattle.wit_syntax.proofs.Found.{at_contains, contains_at}
-use Rattle.wit_syntax.proofs.Names.{name_equal}
+use Rattle.wit_syntax.proofs.Common.{Exported, Fault, Imported, Include, IsSetterAlone, Item, SourceFunction, WorldSide, and_from, at_contains, bytes_eq, cases_Bool, contains_at, functions, getter_of, list_any, lone_setter, name_equal, not_from_false, on_side}
 use Rattle.wit_first.proofs.Bridge.{any_found, in_only, or_none_both}
 use Rattle.wit_walk.specs.Setters.{is_setter, setter_fault, setters_beside, setters_fault, side_setters_fault}
 use Rattle.wit_walk.proofs.ScopeFaults.{if_none}

@@ -1,25 +1,7 @@
 -- All names of files that end somewhere end there in one number of steps.
 use Rattle.std.proofs.Common.{◌≡◌, ◌⊎◌, ◌+◌, ◌≤◌, ◌<◌, ℕ, zero, suc, Bool, true, false, List, [], ◌∷◌, length, Option, Some, None, inl, inr, refl, sym, ap, ◌∙◌, subst, Contains, arith}
-use Rattle.std.specs.Prelude.{slice_get, is_some, map}
-use Rattle.std.specs.List.{filter, flat_map}
-use Rattle.std.specs.Option.{option_map, option_map_or, unwrap_or}
-use Rattle.std.specs.Str.{bytes_eq}
-use Rattle.std.proofs.lemmas.Bool.{cases_Bool, cases_lt, cond-false, cond-true}
-use Rattle.std.proofs.lemmas.Option.{slice_get-map}
-use Rattle.wit_type_tree.specs.declared.leaves.Id.{Id}
-use Rattle.wit_type_tree.specs.declared.leaves.Attribute.{Attribute}
-use Rattle.wit_tree.specs.declared.tree.PackageFile.{PackageFile}
-use Rattle.wit_syntax.specs.Address.{Address, InterfaceNamed, WorldNamed, InlineAt, ForeignNamed, same_address}
-use Rattle.wit_syntax.specs.Form.{Form, AliasForm}
-use Rattle.wit_syntax.specs.NameEnds.{End, named_end, shape_end}
-use Rattle.wit_syntax.specs.ScopesOfTrees.{scope}
-use Rattle.wit_syntax.specs.Shape.{Shape, Shapes, Prim, Word, Of, More}
-use Rattle.wit_syntax.specs.Sides.{all_scopes}
-use Rattle.wit_syntax.specs.Source.{Item, item_at, address, ForeignUse, first_foreign_uses, ScopeName, ForeignName, about_name, local_name, meaning, scope_names}
-use Rattle.wit_syntax.proofs.Addresses.{same_address-equal}
-use Rattle.wit_syntax.proofs.Ends.{meant_end}
-use Rattle.wit_syntax.proofs.Found.{at_contains, contains_at, find_among, find_at, find_passes}
-use Rattle.wit_syntax.proofs.Lists.{flat_map_has, map_at}
+use Rattle.wit_syntax.proofs.Common.{Address, AliasForm, Attribute, End, ForeignName, ForeignNamed, ForeignUse, Form, Id, InlineAt, InterfaceNamed, Item, More, Of, PackageFile, Prim, ScopeName, Shape, Shapes, Word, WorldNamed, about_name, address, all_scopes, at_contains, bytes_eq, cases_Bool, cases_lt, cond-false, cond-true, contains_at, filter, find_among, find_at, find_passes, first_foreign_uses, flat_map, flat_map_has, item_at, local_name, map, map_at, meaning, meant_end, named_end, option_map, option_map_or, same_address, same_address-equal, scope, scope_names, shape_end, slice_get, slice_get-map, unwrap_or}
+use Rattle.std.specs.Prelude.{is_some}
 use Rattle.wit_walk.proofs.ScopesLegal.{meant_more, steps_more}
 
 -- what two tests keep of a list, where each that passes the one passes the other

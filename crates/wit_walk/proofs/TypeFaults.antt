@@ -1,18 +1,8 @@
 -- What the first fault of a written type is: something that is wrong with it, or the fault of a name in it.
 use Rattle.std.proofs.Common.{◌≡◌, ◌⊎◌, ℕ, zero, suc, List, [], ◌∷◌, ◌++◌, Option, Some, inl, inr, refl, sym, ap, ◌∙◌, subst, Contains, arith}
-use Rattle.std.specs.Prelude.{slice_get}
-use Rattle.std.specs.Option.{option_or}
-use Rattle.std.proofs.lemmas.List.{append-nil}
-use Rattle.std.proofs.lemmas.List.Elements.{Contains-append_left, Contains-append_right}
-use Rattle.wit_type_tree.specs.declared.leaves.Id.{Id}
-use Rattle.wit_type_tree.specs.declared.types.«Type».{«Type» as Written, None', Some', Row_of-Type, end_of-Type, more_of-Type}
+use Rattle.wit_syntax.proofs.Common.{Both', Contains-append_left, Contains-append_right, Err', Fault, Id, Inside, IsBrokenForm, IsBrokenType, Itself, Neither, None', Ok', Row_of-Type, Some', all_handles, all_shapes, all_words, append-nil, contains_at, end_of-Type, handles, more_of-Type, option_or, part_types, row_handles, row_shapes, row_types, shape_of, slice_get, words}
+use Rattle.wit_type_tree.specs.declared.types.«Type».{«Type» as Written}
 use Rattle.wit_type_tree.specs.declared.types.«Type».TheVariants as written
-use Rattle.wit_type_tree.specs.declared.types.ResultTypes.{Neither, Ok', Err', Both'}
-use Rattle.wit_type_tree.specs.TypeParts.{row_types, part_types}
-use Rattle.wit_syntax.specs.Bodies.{IsBrokenForm, IsBrokenType, Itself, Inside}
-use Rattle.wit_syntax.specs.Fault.{Fault}
-use Rattle.wit_syntax.specs.Shape.{shape_of, words, handles, all_shapes, all_words, all_handles, row_shapes, row_handles}
-use Rattle.wit_syntax.proofs.Found.{contains_at}
 use Rattle.wit_first.specs.First.{first_in}
 use Rattle.wit_first.specs.TypeFaults.{type_fault, prefix_fault, back_fault}
 use Rattle.wit_first.proofs.Bridge.{empty_agrees, in_some, key_agrees, or_some}

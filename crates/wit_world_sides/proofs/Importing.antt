@@ -1,20 +1,9 @@
 -- Names of a scope as imports of a world, one more.
 use Rattle.std.proofs.Common.{◌≡◌, ℕ, zero, suc, ◌+◌, ◌<◌, false, List, [], ◌∷◌, ◌++◌, take, Some, None, nat_eq, inl, inr, refl, sym, ap, ◌∙◌, subst, arith}
-use Rattle.std.specs.Prelude.{slice_get, map}
-use Rattle.std.specs.Cmp.Lexicographic.{pointwise}
-use Rattle.indexmap.specs.IndexMap.{insert_entry}
-use Rattle.wit_type_tree.specs.declared.leaves.Id.{Id}
+use Rattle.wit_syntax.proofs.Common.{AllDiffer, Id, ScopeName, at_take, insert_entry, key_at, local_id, local_name, map, map_map, name_cases, pointwise, slice_get}
 use Rattle.wit_model.specs.declared.world.WorldKey.TheVariants as key
-use Rattle.wit_model.specs.declared.world.WorldItem.{WorldItem}
-use Rattle.wit_model.specs.declared.world.WorldItem.TheVariants.{Type_}
+use Rattle.wit_arena.proofs.Common.{Names, Type_, WorldItem, type_imports}
 use Rattle.wit_model.specs.contracts.world.WorldKeyPartialEq.TheImpl.{eq-value as key_test}
-use Rattle.wit_syntax.specs.Source.{ScopeName, local_id, local_name}
-use Rattle.wit_arena.specs.Whole.{type_imports}
-use Rattle.wit_arena.specs.Resolving.{Names}
-use Rattle.wit_syntax.specs.Repeats.{AllDiffer}
-use Rattle.wit_syntax.proofs.Lists.{at_take, map_map}
-use Rattle.wit_syntax.proofs.Names.{name_cases}
-use Rattle.wit_syntax.proofs.Repeated.{key_at}
 
 -- one name more, where it means something
 imports_next : (xs : List ScopeName) (types : Names) (k : ℕ) (x : ScopeName) (t : List ℕ × ℕ) → slice_get xs k ≡ Some x → slice_get types k ≡ Some t → type_imports (take (suc k) xs) types ≡ type_imports (take k xs) types ++ (key.Name (local_name x), Type_ t.1 (local_id x).span) ∷ []

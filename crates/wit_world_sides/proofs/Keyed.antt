@@ -1,21 +1,9 @@
 -- What is put on a side of a world, one entry more: where keys differ it comes last.
 use Rattle.std.proofs.Common.{◌≡◌, ◌⊎◌, ℕ, ◌<◌, ◌+◌, Bool, true, false, List, [], ◌∷◌, ◌++◌, length, Some, map, nat_eq, if◌then◌else◌, inl, inr, refl, sym, ap, ◌∙◌, arith, append_assoc}
-use Rattle.std.specs.Prelude.{slice_get}
-use Rattle.std.proofs.lemmas.Bool.{cases_Bool}
-use Rattle.std.proofs.lemmas.List.{append-nil}
-use Rattle.std.proofs.lemmas.Option.{slice_get_within}
-use Rattle.indexmap.specs.IndexMap.{insert_entry}
-use Rattle.wit_model.specs.declared.world.WorldKey.{WorldKey}
+use Rattle.wit_syntax.proofs.Common.{AllDiffer, WorldSide, append-nil, at_back, at_prefix, cases_Bool, differ_at, insert_entry, insert_entry-new, name_cases, same_side, slice_get, slice_get_within}
+use Rattle.wit_arena.proofs.Common.{WorldKey, put_on}
 use Rattle.wit_model.specs.declared.world.WorldKey.TheVariants as key
 use Rattle.wit_model.specs.contracts.world.WorldKeyPartialEq.TheImpl.{eq-value as key_test}
-use Rattle.wit_tree.specs.declared.tree.WorldSide.{WorldSide}
-use Rattle.wit_syntax.specs.ExternPart.{same_side}
-use Rattle.wit_syntax.specs.Repeats.{AllDiffer}
-use Rattle.wit_arena.specs.SideItems.{put_on}
-use Rattle.wit_syntax.proofs.Lists.{at_prefix, at_back}
-use Rattle.wit_syntax.proofs.Names.{name_cases}
-use Rattle.wit_syntax.proofs.Repeated.{differ_at}
-use Rattle.wit_syntax.proofs.Inserting.{insert_entry-new}
 use Rattle.wit_world_sides.specs.Members.{Entry}
 use Rattle.wit_world_sides.specs.FilledSides.{inserted_on}
 

@@ -1,26 +1,7 @@
 -- What is found of a name, a link and setters that come onto a side of a world.
 use Rattle.std.proofs.Common.{◌≡◌, ◌⊎◌, ◌&&◌, ℕ, Bool, true, false, List, [], ◌∷◌, Option, Some, None, Contains, nat_eq, is_none, inl, inr, refl, sym, ap, ◌∙◌, eq-eqb, eqb-true}
-use Rattle.std.specs.Prelude.{if◌then◌else◌}
-use Rattle.std.specs.List.{list_any}
-use Rattle.std.specs.Option.{option_or}
-use Rattle.std.specs.Str.{bytes_eq}
-use Rattle.std.proofs.lemmas.Bool.{false_from_ne_true}
-use Rattle.wit_values.specs.declared.span.Span.{Span}
-use Rattle.wit_type_tree.specs.RefusalText.{IsAllocationFailure}
-use Rattle.wit_type_tree.specs.declared.error.ParseError.{ParseError}
-use Rattle.wit_type_tree.specs.declared.leaves.Id.{Id}
-use Rattle.wit_tree.specs.declared.tree.WorldSide.{WorldSide}
-use Rattle.wit_syntax.specs.Broken.{Refused}
-use Rattle.wit_syntax.specs.Fault.{Fault, fault_of, linked_twice}
-use Rattle.wit_syntax.specs.Function.{Role, Freestanding, Method, Static, Constructor, OnSide}
-use Rattle.wit_syntax.specs.Sides.{Link, SideItem, SideLink, item_side}
-use Rattle.wit_syntax.specs.Source.{path_id}
-use Rattle.wit_syntax.proofs.Found.{at_contains, contains_at}
-use Rattle.wit_syntax.proofs.Names.{name_equal, name_itself}
-use Rattle.wit_first.specs.First.{Reports, first_in}
-use Rattle.wit_first.proofs.Bridge.{any_found}
-use Rattle.wit_first.proofs.First.{any_some, none_both, or_none, reports_back}
-use Rattle.wit_walk.specs.Members.{is_extern, is_on_side}
+use Rattle.wit_syntax.proofs.Common.{Constructor, Fault, Freestanding, Id, IsAllocationFailure, Link, Method, OnSide, ParseError, Refused, Role, SideItem, SideLink, Span, Static, WorldSide, at_contains, bytes_eq, contains_at, false_from_ne_true, fault_of, if◌then◌else◌, item_side, linked_twice, list_any, name_equal, name_itself, option_or, path_id}
+use Rattle.wit_walk.proofs.Common.{Reports, any_found, any_some, first_in, is_extern, is_on_side, none_both, or_none, reports_back}
 use Rattle.wit_refusals.specs.KeyedNames.{HasName}
 use Rattle.wit_refusals.specs.NameScopes.{Name, AreUsed, IsDefinedAgain}
 use Rattle.wit_rules.specs.BorrowedFunctions.{across_of}

@@ -1,25 +1,9 @@
 -- One more on a side of a world: where its name, or the place that it is, was not in use there, it comes last.
 use Rattle.std.proofs.Common.{◌≡◌, ◌++◌, ℕ, List, [], ◌∷◌, Option, Some, None, map, if◌then◌else◌, sym, ap, ◌∙◌, subst}
-use Rattle.std.specs.Prelude.{codes}
-use Rattle.std.specs.Option.{option_map_or}
-use Rattle.std.proofs.lemmas.List.{map-append}
-use Rattle.wit_type_tree.specs.declared.leaves.Id.{Id}
-use Rattle.wit_tree.specs.declared.tree.WorldSide.{WorldSide}
-use Rattle.wit_tree.specs.declared.tree.WorldSide.TheVariants.{Imported, Exported}
-use Rattle.wit_model.specs.declared.world.WorldItem.{WorldItem}
+use Rattle.wit_syntax.proofs.Common.{AllDiffer, Called, Exported, Id, Imported, Link, ScopeName, SideItem, SideLink, WorldSide, codes, differ_none, item_side, items_on, local_id, local_names, map-append, map_map, names_on, option_map_or, same_side}
+use Rattle.wit_arena.proofs.Common.{Names, WorldItem, link_item, link_key, names_in, put_on, type_imports}
 use Rattle.wit_model.specs.declared.world.WorldKey.TheVariants as key
-use Rattle.wit_syntax.specs.ExternPart.{same_side}
-use Rattle.wit_syntax.specs.Repeats.{AllDiffer}
-use Rattle.wit_syntax.specs.ScopeTables.{local_names}
-use Rattle.wit_syntax.specs.Sides.{Link, SideItem, SideLink, item_side, items_on, names_on}
-use Rattle.wit_syntax.specs.SignatureRules.{Called}
-use Rattle.wit_syntax.specs.Source.{ScopeName, local_id}
-use Rattle.wit_syntax.proofs.Lists.{map_map}
-use Rattle.wit_syntax.proofs.Repeated.{differ_none}
-use Rattle.wit_walk.specs.Members.{item_sorted}
-use Rattle.wit_arena.specs.Resolving.{Names, names_in}
-use Rattle.wit_arena.specs.SideItems.{link_item, link_key, put_on}
-use Rattle.wit_arena.specs.Whole.{type_imports}
+use Rattle.wit_walk.proofs.Common.{item_sorted}
 use Rattle.wit_sides.specs.SideNames.{defined_on}
 use Rattle.wit_signatures.specs.ForeignName.{name_key, name_of_id}
 use Rattle.wit_externs.specs.Clash.{item_names, names_of_items}

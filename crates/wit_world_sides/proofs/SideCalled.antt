@@ -1,22 +1,9 @@
 -- The functions that a world has on a side are at their names.
 use Rattle.std.proofs.Common.{◌≡◌, List, [], ◌∷◌, ◌++◌, length, refl, Some, None, inl, inr, sym, ap, ◌∙◌, subst}
-use Rattle.std.specs.Prelude.{codes}
-use Rattle.std.proofs.lemmas.Bool.{cases_Bool, cond-true, cond-false}
-use Rattle.wit_tree.specs.declared.tree.WorldSide.{WorldSide}
-use Rattle.wit_model.specs.ItemsOfWorlds.{function_of}
-use Rattle.wit_functions.specs.declared.function.Function.{Function}
-use Rattle.wit_model.specs.declared.world.WorldItem.{WorldItem}
+use Rattle.wit_syntax.proofs.Common.{ScopeName, WorldSide, after_one, at_split, cases_Bool, codes, cond-false, cond-true, same_side}
+use Rattle.wit_arena.proofs.Common.{Function, Names, WorldItem, function_item, function_of, put_on, type_imports, types_stated}
 use Rattle.wit_model.specs.declared.world.WorldItem.TheVariants as item
 use Rattle.wit_model.specs.declared.world.WorldKey.TheVariants as key
-use Rattle.wit_syntax.specs.ExternPart.{same_side}
-use Rattle.wit_syntax.specs.Source.{ScopeName}
-use Rattle.wit_syntax.proofs.Kept.{after_one}
-use Rattle.wit_syntax.proofs.Lists.{at_split}
-use Rattle.wit_arena.specs.SourceFunctions.{function_item}
-use Rattle.wit_arena.specs.Resolving.{Names}
-use Rattle.wit_arena.specs.SideItems.{put_on}
-use Rattle.wit_arena.specs.Whole.{type_imports}
-use Rattle.wit_arena.proofs.Settled.{types_stated}
 use Rattle.wit_world_sides.specs.Settled.{AreCalled}
 use Rattle.wit_world_sides.specs.Members.{Entry, item_word}
 

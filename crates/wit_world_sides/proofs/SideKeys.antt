@@ -1,24 +1,11 @@
 -- The keys of what a world has on a side differ, where its names do, and the places of interfaces without one.
 use Rattle.std.proofs.Common.{◌≡◌, ℕ, ◌+◌, zero, suc, Bool, true, false, List, [], ◌∷◌, ◌++◌, Some, map, if◌then◌else◌, refl, sym, ap, ◌∙◌}
-use Rattle.std.specs.Prelude.{slice_get}
-use Rattle.std.specs.List.{flat_map}
-use Rattle.std.proofs.lemmas.Grind.{flat_map-append}
-use Rattle.std.proofs.lemmas.List.{append-nil, map-append}
-use Rattle.wit_names.specs.Folded.{folded_key}
-use Rattle.wit_type_tree.specs.declared.leaves.Id.{Id}
-use Rattle.wit_model.specs.declared.world.WorldKey.{WorldKey}
+use Rattle.wit_syntax.proofs.Common.{AllDiffer, ForeignName, Id, ScopeName, SideItem, append-nil, differ_at, differ_by, differ_none, flat_map, flat_map-append, flat_map_has, folded_key, local_id, local_name, local_names, map-append, slice_get}
+use Rattle.wit_arena.proofs.Common.{Names, WorldKey, names_in, type_imports}
 use Rattle.wit_model.specs.declared.world.WorldKey.TheVariants as key
-use Rattle.wit_syntax.specs.Repeats.{AllDiffer}
-use Rattle.wit_syntax.specs.ScopeTables.{local_names}
-use Rattle.wit_syntax.specs.Sides.{SideItem}
-use Rattle.wit_syntax.specs.Source.{ScopeName, ForeignName, local_id, local_name}
-use Rattle.wit_arena.specs.Resolving.{Names, names_in}
-use Rattle.wit_arena.specs.Whole.{type_imports}
 use Rattle.wit_refusals.specs.NameScopes.{Name}
 use Rattle.wit_signatures.specs.ForeignName.{name_of_id, name_key}
 use Rattle.wit_externs.specs.Clash.{item_names, names_of_items}
-use Rattle.wit_syntax.proofs.Lists.{flat_map_has}
-use Rattle.wit_syntax.proofs.Repeated.{differ_at, differ_by, differ_none}
 use Rattle.wit_world_sides.specs.Members.{Entry, key_names, key_places, names_among, places_among, text}
 use Rattle.wit_world_sides.proofs.Keyed.{key_of}
 

@@ -1,14 +1,9 @@
 -- The word for what has a name on a side of a world.
 use Rattle.std.proofs.Common.{◌≡◌, ℕ, true, false, List, [], ◌∷◌, nat_eq, inl, inr, refl, sym, ap, ◌∙◌}
-use Rattle.std.specs.Prelude.{codes}
-use Rattle.std.specs.Cmp.Lexicographic.{pointwise}
-use Rattle.std.specs.List.{flat_map}
-use Rattle.std.specs.Map.{lookup}
-use Rattle.std.specs.Option.{option_map_or}
-use Rattle.wit_model.specs.ItemsOfWorlds.{is_name}
+use Rattle.wit_syntax.proofs.Common.{codes, flat_map, lookup, name_cases, name_itself, option_map_or, pointwise}
+use Rattle.wit_arena.proofs.Common.{is_name}
 use Rattle.wit_model.specs.declared.world.WorldKey.TheVariants as key
-use Rattle.wit_syntax.proofs.Names.{name_cases, name_itself}
-use Rattle.wit_walk.specs.Members.{sort_among}
+use Rattle.wit_walk.proofs.Common.{sort_among}
 use Rattle.wit_world_sides.specs.Members.{Entry, entry_sorted, item_word}
 
 -- two names are not one, from either

@@ -1,10 +1,6 @@
 use Rattle.std.proofs.Common.{◌≡◌, List, ◌++◌, length, map, inl, refl, sym, ap, ◌∙◌, subst, []}
-use Rattle.std.proofs.lemmas.Result.{err_from_is_err_and}
-use Rattle.wit_syntax.specs.Address.{Address}
-use Rattle.wit_syntax.specs.Source.{all_items}
-use Rattle.wit_syntax.specs.ScopeTables.{in_order, interfaces_of, worlds_of}
-use Rattle.wit_arena.specs.Resolving.{Required}
-use Rattle.wit_arena.specs.ResolvedArenas.{prefix_worlds, AddsInterfaces, AddsWorlds}
+use Rattle.wit_syntax.proofs.Common.{Address, all_items, err_from_is_err_and, in_order, interfaces_of, worlds_of}
+use Rattle.wit_arena.proofs.Common.{AddsInterfaces, AddsWorlds, Required, prefix_worlds}
 use Rattle.wit_items.specs.BorrowedItems.{item_view, others_of}
 use Rattle.wit_items.proofs.Usable.{uses_sound}
 use Rattle.wit_items.specs.Found.{interface_name}

@@ -1,6 +1,5 @@
 use Rattle.std.proofs.Common.{List, inl, inr, sym}
-use Rattle.std.proofs.lemmas.Result.{err_from_is_err_and}
-use Rattle.wit_tree.specs.declared.tree.PackageFile.{PackageFile}
+use Rattle.wit_syntax.proofs.Common.{PackageFile, err_from_is_err_and}
 use Rattle.wit_files.proofs.Gathering.{names_agree}
 use Rattle.wit_contents.proofs.FileFaults.{finds_same, names_first, names_none}
 use Rattle.wit_contents.proofs.contents.resolve_gathered.Goals as goal

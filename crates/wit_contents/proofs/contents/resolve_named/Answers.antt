@@ -1,4 +1,4 @@
-use Rattle.std.proofs.lemmas.Result.{err_from_is_err_and}
+use Rattle.wit_syntax.proofs.Common.{err_from_is_err_and}
 use Rattle.wit_contents.proofs.FileFaults.{finds_memory}
 use Rattle.wit_contents.specs.FileFaults.{fault_after}
 use Rattle.wit_contents.proofs.contents.resolve_named.Goals as goal

@@ -1,5 +1,5 @@
 use Rattle.std.proofs.Common.{[], ◌∷◌, length}
-use Rattle.wit_arena.proofs.Indexing.{index_interface}
+use Rattle.wit_arena.proofs.Common.{index_interface}
 use Rattle.wit_items.specs.ForeignAddresses.{prefix_of}
 use Rattle.wit_items.specs.Found.{interface_name}
 use Rattle.wit_items.proofs.Found.{found_put, found_wider, prefix_wider}

@@ -1,8 +1,6 @@
 use Rattle.std.proofs.Common.{Some, length, inl, refl, sym, ap, ◌∙◌}
-use Rattle.std.proofs.lemmas.Result.{err_from_is_err_and}
-use Rattle.wit_type_tree.specs.declared.leaves.Id.{Id}
-use Rattle.wit_syntax.specs.Source.{Item, is_world, scope_names, about}
-use Rattle.wit_arena.specs.ResolvedArenas.{AddsInterface}
+use Rattle.wit_syntax.proofs.Common.{Id, Item, about, err_from_is_err_and, is_world, scope_names}
+use Rattle.wit_arena.proofs.Common.{AddsInterface}
 use Rattle.wit_items.specs.BorrowedItems.{item_view}
 use Rattle.wit_items.specs.ResolvedInterfaces.{resolved_scopes_of}
 use Rattle.wit_item_entries.specs.NewRequirements.{Appends}

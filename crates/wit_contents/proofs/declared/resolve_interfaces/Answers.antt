@@ -1,15 +1,9 @@
 use Rattle.std.proofs.Common.{◌≡◌, ◌+◌, ◌++◌, ◌∷◌, List, ℕ, [], take, false, not, Some, refl, ap, sym, ◌∙◌, subst, arith}
-use Rattle.std.specs.Prelude.{map}
-use Rattle.std.proofs.lemmas.List.{take_all}
-use Rattle.std.proofs.lemmas.Result.{err_from_is_err_and}
-use Rattle.wit_syntax.specs.Source.{is_world, about}
-use Rattle.wit_syntax.specs.ScopeTables.{in_order, interfaces_of}
-use Rattle.wit_first.specs.First.{first_in}
-use Rattle.wit_first.proofs.First.{in-more}
-use Rattle.wit_arena.specs.ResolvedArenas.{AddsDeclared}
+use Rattle.wit_syntax.proofs.Common.{about, err_from_is_err_and, in_order, interfaces_of, is_world, kept_next, kept_past, map, take_all}
+use Rattle.wit_walk.proofs.Common.{first_in, in-more}
+use Rattle.wit_arena.proofs.Common.{AddsDeclared}
 use Rattle.wit_items.specs.ForeignAddresses.{prefix_of}
 use Rattle.wit_item_entries.specs.NewRequirements.{Appends}
-use Rattle.wit_syntax.proofs.Kept.{kept_next, kept_past}
 use Rattle.wit_item_entries.proofs.Emitting.{appends_more}
 use Rattle.wit_items.specs.declared.items.Declared.{Declared as BorrowedDeclared}
 use Rattle.wit_items.specs.BorrowedItems.{declared_view, item_view}

@@ -1,10 +1,7 @@
 use Rattle.std.proofs.Common.{◌≡◌, None, Option, map, take}
-use Rattle.wit_syntax.specs.Fault.{Fault}
-use Rattle.wit_syntax.specs.ScopeTables.{in_order, interfaces_of}
-use Rattle.wit_syntax.specs.Source.{Item}
-use Rattle.wit_first.specs.First.{first_in}
-use Rattle.wit_arena.specs.Resolving.{resolved_scopes, IsIndex}
-use Rattle.wit_arena.specs.ResolvedArenas.{AddsInterfaces}
+use Rattle.wit_syntax.proofs.Common.{Fault, Item, in_order, interfaces_of}
+use Rattle.wit_walk.proofs.Common.{first_in}
+use Rattle.wit_arena.proofs.Common.{AddsInterfaces, IsIndex, resolved_scopes}
 use Rattle.wit_items.specs.ForeignAddresses.{prefix_of}
 use Rattle.wit_items.specs.BorrowedItems.{item_view}
 use Rattle.wit_item_entries.specs.NewRequirements.{Appends}

@@ -1,14 +1,7 @@
 use Rattle.std.proofs.Common.{◌≡◌, List, ◌++◌, Option, map, refl, sym, ap, ◌∙◌, subst}
-use Rattle.std.specs.Option.{option_or}
-use Rattle.std.proofs.lemmas.Result.{err_from_is_err_and}
-use Rattle.wit_tree.specs.declared.tree.WorldSide.TheVariants.{Imported}
-use Rattle.wit_syntax.specs.Fault.{Fault}
-use Rattle.wit_syntax.specs.Source.{ScopeName}
-use Rattle.wit_syntax.specs.Function.{SourceFunction, functions}
-use Rattle.wit_syntax.specs.Sides.{SideFunction}
-use Rattle.wit_syntax.proofs.Sides.{side_items_functions}
-use Rattle.wit_first.proofs.First.{none_both}
-use Rattle.wit_arena.specs.Resolving.{env_of}
+use Rattle.wit_syntax.proofs.Common.{Fault, Imported, ScopeName, SideFunction, SourceFunction, err_from_is_err_and, functions, option_or, side_items_functions}
+use Rattle.wit_walk.proofs.Common.{none_both}
+use Rattle.wit_arena.proofs.Common.{env_of}
 use Rattle.wit_rules.specs.BorrowedFunctions.{function_view}
 use Rattle.wit_signatures.specs.ForeignName.{name_of_id, name_of_function}
 use Rattle.wit_externs.specs.AloneFaults.{lone_setters}

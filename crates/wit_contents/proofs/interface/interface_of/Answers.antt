@@ -1,9 +1,7 @@
 use Rattle.std.proofs.Common.{List, ◌++◌, refl, sym, ap, ◌∙◌, subst}
-use Rattle.std.proofs.lemmas.Result.{err_from_is_err_and}
-use Rattle.wit_type_tree.specs.declared.leaves.Id.{Id}
+use Rattle.wit_syntax.proofs.Common.{Id, err_from_is_err_and, functions}
 use Rattle.wit_types.specs.declared.types.TypeOwner.TheVariants.{Interface as OfInterface}
-use Rattle.wit_syntax.specs.Function.{functions}
-use Rattle.wit_arena.specs.Resolving.{Names, Required}
+use Rattle.wit_arena.proofs.Common.{Names, Required}
 use Rattle.wit_entries.proofs.Requiring.{extended_then}
 use Rattle.wit_items.specs.BorrowedItems.{scope_item}
 use Rattle.wit_items.specs.ResolvedInterfaces.{resolved_scopes_of}

@@ -1,11 +1,6 @@
 use Rattle.std.proofs.Common.{◌++◌, [], List, sym, ap, ◌∙◌}
-use Rattle.std.specs.Option.{option_or}
-use Rattle.std.proofs.lemmas.Result.{err_from_is_err_and}
-use Rattle.wit_syntax.specs.Sides.{items_on, side_items}
-use Rattle.wit_syntax.proofs.Legal.{functions_items}
-use Rattle.wit_first.specs.First.{first_after}
-use Rattle.wit_first.proofs.First.{none_both, reports_back, reports_prefix, reports_same}
-use Rattle.wit_walk.specs.Setters.{setters_fault}
+use Rattle.wit_syntax.proofs.Common.{err_from_is_err_and, functions_items, items_on, option_or, side_items}
+use Rattle.wit_walk.proofs.Common.{first_after, none_both, reports_back, reports_prefix, reports_same, setters_fault}
 use Rattle.wit_refusals.specs.NameScopes.{Name}
 use Rattle.wit_externs.specs.Clash.{names_of_items}
 use Rattle.wit_contents.specs.declared.walk.Walked.{Walked}

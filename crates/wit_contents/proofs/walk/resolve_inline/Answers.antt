@@ -1,7 +1,6 @@
 use Rattle.std.proofs.Common.{ℕ, List, subst}
-use Rattle.std.proofs.lemmas.Result.{err_from_is_err_and}
-use Rattle.wit_arena.specs.Resolving.{Required}
-use Rattle.wit_arena.specs.ResolvedArenas.{AddsInterface}
+use Rattle.wit_syntax.proofs.Common.{err_from_is_err_and}
+use Rattle.wit_arena.proofs.Common.{AddsInterface, Required}
 use Rattle.wit_items.specs.BorrowedItems.{scope_item}
 use Rattle.wit_item_entries.specs.NewRequirements.{Appends}
 use Rattle.wit_items.specs.ResolvedInterfaces.{resolved_scopes_of}

@@ -1,11 +1,5 @@
 use Rattle.std.proofs.Common.{◌≡◌, ◌+◌, ◌∷◌, [], Some, take, drop, refl, sym, ap, ◌∙◌}
-use Rattle.std.specs.Prelude.{slice_get}
-use Rattle.std.proofs.lemmas.List.{take_all}
-use Rattle.std.proofs.lemmas.Option.{slice_get_read}
-use Rattle.std.proofs.lemmas.Result.{err_from_is_err_and}
-use Rattle.wit_syntax.specs.Function.{resource_function}
-use Rattle.wit_syntax.specs.Sides.{SideFunction, part_items}
-use Rattle.wit_syntax.specs.Source.{DefinitionPart}
+use Rattle.wit_syntax.proofs.Common.{DefinitionPart, SideFunction, err_from_is_err_and, part_items, resource_function, slice_get, slice_get_read, take_all}
 use Rattle.wit_contents.specs.Walk.{resource_items, stage, walk_of}
 use Rattle.wit_contents.proofs.MemberFaults.{done_later, first_later, next_of, nothing_done, resource_more, resource_split}
 use Rattle.wit_contents.proofs.walk.walk_definition.Goals as goal

@@ -1,7 +1,6 @@
 use Rattle.std.proofs.Common.{List, take}
-use Rattle.wit_model.specs.declared.interface.Interface.{Interface}
-use Rattle.wit_syntax.specs.Sides.{part_items}
-use Rattle.wit_syntax.specs.Source.{DefinitionPart}
+use Rattle.wit_arena.proofs.Common.{Interface}
+use Rattle.wit_syntax.proofs.Common.{DefinitionPart, part_items}
 use Rattle.wit_contents.specs.Walk.{resource_items, stage, walk_of}
 use Rattle.wit_contents.proofs.MemberFaults.{AreDone}
 use Rattle.wit_contents.proofs.walk.walk_definition.Given as goal

@@ -1,8 +1,5 @@
 use Rattle.std.proofs.Common.{sym, ap, ◌≡◌, ◌∙◌}
-use Rattle.std.proofs.lemmas.Result.{on_ok_weaker}
-use Rattle.wit_tree.specs.declared.tree.WorldSide.{WorldSide}
-use Rattle.wit_syntax.specs.Sides.{item_side}
-use Rattle.wit_syntax.specs.Source.{Declared, about}
+use Rattle.wit_syntax.proofs.Common.{Declared, WorldSide, about, item_side, on_ok_weaker}
 use Rattle.wit_links.specs.declared.inside.Counts.{Counts}
 use Rattle.wit_links.specs.SideCounts.{seen_on}
 use Rattle.wit_contents.proofs.walk.walk_extern.Goals as goal

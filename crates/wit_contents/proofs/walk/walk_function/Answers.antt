@@ -1,5 +1,4 @@
-use Rattle.std.proofs.lemmas.Result.{err_from_is_err_and}
-use Rattle.wit_syntax.specs.Sides.{SideFunction}
+use Rattle.wit_syntax.proofs.Common.{SideFunction, err_from_is_err_and}
 use Rattle.wit_rules.specs.BorrowedFunctions.{function_view}
 use Rattle.wit_externs.proofs.DoneFunctions.{place_within, same_name}
 use Rattle.wit_contents.specs.Walk.{stage, walk_of}

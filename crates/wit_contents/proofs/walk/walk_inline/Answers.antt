@@ -1,12 +1,6 @@
 use Rattle.std.proofs.Common.{◌≡◌, ◌∷◌, [], None, Option, length, inl, inr, refl, ap, ◌∙◌, subst}
-use Rattle.std.specs.List.{flat_map}
-use Rattle.std.specs.Option.{option_or}
-use Rattle.std.proofs.lemmas.Result.{err_from_is_err_and}
-use Rattle.wit_syntax.specs.Fault.{Fault}
-use Rattle.wit_syntax.specs.Sides.{inline_after, item_inline, items_on}
-use Rattle.wit_syntax.specs.Source.{is_world}
-use Rattle.wit_first.specs.AttributeFaults.{metadata_fault}
-use Rattle.wit_first.proofs.First.{none_both}
+use Rattle.wit_syntax.proofs.Common.{Fault, err_from_is_err_and, flat_map, inline_after, is_world, item_inline, items_on, option_or}
+use Rattle.wit_walk.proofs.Common.{metadata_fault, none_both}
 use Rattle.wit_items.specs.ForeignAddresses.{prefix_of}
 use Rattle.wit_items.specs.InlineNames.{inside_view}
 use Rattle.wit_world_sides.specs.PutFaults.{put_fault}

@@ -1,11 +1,7 @@
 use Rattle.std.proofs.Common.{◌≡◌, ◌<◌, ℕ, List, None, Some, length, refl, ap, ◌∙◌, subst}
-use Rattle.std.specs.Prelude.{slice_get}
-use Rattle.std.proofs.lemmas.Option.{slice_get_within}
-use Rattle.std.proofs.lemmas.Result.{err_from_is_err_and}
-use Rattle.wit_syntax.specs.Sides.{SideItem, SideLink, side_items}
-use Rattle.wit_syntax.specs.Source.{path_scope}
-use Rattle.wit_first.specs.AttributeFaults.{metadata_fault}
-use Rattle.wit_arena.specs.ResolvedArenas.{interfaces_at}
+use Rattle.wit_syntax.proofs.Common.{SideItem, SideLink, err_from_is_err_and, path_scope, side_items, slice_get, slice_get_within}
+use Rattle.wit_walk.proofs.Common.{metadata_fault}
+use Rattle.wit_arena.proofs.Common.{interfaces_at}
 use Rattle.wit_externs.proofs.Steps.{at_middle}
 use Rattle.wit_items.specs.ForeignAddresses.{prefix_of}
 use Rattle.wit_items.specs.BorrowedItems.{declared_view}

@@ -1,7 +1,5 @@
 use Rattle.std.proofs.Common.{refl, sym, ap, ◌∙◌, subst, List}
-use Rattle.std.proofs.lemmas.List.{take_all}
-use Rattle.std.proofs.lemmas.Result.{err_from_is_err_and}
-use Rattle.wit_syntax.specs.Sides.{SideItem, side_items}
+use Rattle.wit_syntax.proofs.Common.{SideItem, err_from_is_err_and, side_items, take_all}
 use Rattle.wit_contents.specs.Walk.{stage_of, walk_item, walk_of}
 use Rattle.wit_contents.proofs.MemberFaults.{AreDone, all_sides, nothing_done, part_done, part_first, part_kept, part_next, world_sides}
 use Rattle.wit_contents.proofs.walk.walk_parts.Goals.{in-TypeDef+in_ok-walk_definition-in-TypeDef, in-Use, in-Include, in-Extern+in_ok-walk_extern-in-Extern}

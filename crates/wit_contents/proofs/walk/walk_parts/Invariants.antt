@@ -1,5 +1,5 @@
 use Rattle.std.proofs.Common.{take}
-use Rattle.wit_syntax.specs.Sides.{side_items}
+use Rattle.wit_syntax.proofs.Common.{side_items}
 use Rattle.wit_contents.specs.Walk.{stage, walk_item, walk_of}
 use Rattle.wit_contents.proofs.MemberFaults.{AreDone, world_sides}
 use Rattle.wit_contents.proofs.walk.walk_parts.Given as goal

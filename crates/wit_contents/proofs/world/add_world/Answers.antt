@@ -1,5 +1,5 @@
 use Rattle.std.proofs.Common.{[], ◌∷◌, length, Some, ap}
-use Rattle.wit_arena.proofs.Indexing.{index_world}
+use Rattle.wit_arena.proofs.Common.{index_world}
 use Rattle.wit_items.specs.BorrowedItems.{others_of}
 use Rattle.wit_items.specs.Found.{world_name}
 use Rattle.wit_items.proofs.Found.{found_put, found_wider, prefix_wider}

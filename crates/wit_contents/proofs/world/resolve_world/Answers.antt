@@ -1,8 +1,6 @@
 use Rattle.std.proofs.Common.{inl, sym, ap, ◌∙◌, subst}
-use Rattle.std.proofs.lemmas.Result.{err_from_is_err_and}
-use Rattle.wit_type_tree.specs.declared.leaves.Id.{Id}
-use Rattle.wit_model.specs.declared.world.World.{World}
-use Rattle.std.specs.Prelude.{List}
+use Rattle.wit_syntax.proofs.Common.{Id, List, err_from_is_err_and}
+use Rattle.wit_arena.proofs.Common.{World}
 use Rattle.wit_contents.specs.AddedWorlds.{AddsTo}
 use Rattle.wit_contents.proofs.world.resolve_world.Goals as goal
 

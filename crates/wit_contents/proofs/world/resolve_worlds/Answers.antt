@@ -1,13 +1,7 @@
 use Rattle.std.proofs.Common.{◌≡◌, ◌+◌, ◌++◌, ◌∷◌, List, ℕ, [], take, true, refl, ap, sym, ◌∙◌, subst}
-use Rattle.std.specs.Prelude.{length, map}
-use Rattle.std.proofs.lemmas.List.{take_all}
-use Rattle.std.proofs.lemmas.Result.{err_from_is_err_and}
+use Rattle.wit_syntax.proofs.Common.{about, err_from_is_err_and, in_order, is_world, kept_next, kept_past, length, map, take_all, worlds_of}
 use Rattle.wit_items.specs.ForeignAddresses.{prefix_of}
-use Rattle.wit_syntax.specs.Source.{is_world, about}
-use Rattle.wit_syntax.specs.ScopeTables.{in_order, worlds_of}
-use Rattle.wit_first.specs.First.{first_in}
-use Rattle.wit_first.proofs.First.{in-more}
-use Rattle.wit_syntax.proofs.Kept.{kept_next, kept_past}
+use Rattle.wit_walk.proofs.Common.{first_in, in-more}
 use Rattle.wit_items.specs.declared.items.Declared.{Declared as BorrowedDeclared}
 use Rattle.wit_items.specs.BorrowedItems.{declared_view, item_view, others_of}
 use Rattle.wit_items.specs.Found.{world_name}

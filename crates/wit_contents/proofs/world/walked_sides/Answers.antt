@@ -1,7 +1,6 @@
 use Rattle.std.proofs.Common.{List, sym, ap, ◌∙◌}
-use Rattle.std.proofs.lemmas.Result.{err_from_is_err_and}
-use Rattle.wit_type_tree.specs.declared.leaves.Id.{Id}
-use Rattle.wit_first.proofs.First.{reports_same}
+use Rattle.wit_syntax.proofs.Common.{Id, err_from_is_err_and}
+use Rattle.wit_walk.proofs.Common.{reports_same}
 use Rattle.wit_items.specs.BorrowedItems.{item_view}
 use Rattle.wit_contents.specs.WorldFaults.{sides_fault}
 use Rattle.wit_contents.specs.declared.walk.Walk.{Walk}

@@ -1,16 +1,7 @@
 use Rattle.std.proofs.Common.{◌++◌, Bool, List, length, map, sym, ap, ◌∙◌, subst, append_assoc}
-use Rattle.std.proofs.lemmas.Result.{err_from_is_err_and}
-use Rattle.std.specs.Char.{is_ascii_uppercase}
-use Rattle.std.specs.List.{flat_map, list_any}
-use Rattle.wit_type_tree.specs.declared.leaves.Id.{Id}
-use Rattle.wit_tree.specs.declared.tree.WorldSide.{WorldSide}
-use Rattle.wit_tree.specs.declared.tree.WorldSide.TheVariants.{Imported, Exported}
+use Rattle.wit_syntax.proofs.Common.{AllDiffer, Declared, Exported, Id, Imported, WorldSide, about, err_from_is_err_and, flat_map, in_turn, includes as written_includes, is_ascii_uppercase, list_any, local_name, part_functions, scope_names}
 use Rattle.wit_types.specs.declared.types.TypeOwner.TheVariants.{World as OfWorld}
-use Rattle.wit_syntax.specs.Function.{part_functions}
-use Rattle.wit_syntax.specs.ScopeTables.{in_turn, includes as written_includes}
-use Rattle.wit_syntax.specs.Repeats.{AllDiffer}
-use Rattle.wit_syntax.specs.Source.{Declared, about, local_name, scope_names}
-use Rattle.wit_arena.specs.Resolving.{Required}
+use Rattle.wit_arena.proofs.Common.{Required}
 use Rattle.wit_rules.specs.Signatures.{AreResults}
 use Rattle.wit_files.specs.FileNames.{names_at_top}
 use Rattle.wit_items.specs.BorrowedItems.{item_view, others_of}

@@ -1,5 +1,5 @@
 use Rattle.std.proofs.Common.{◌≡◌, map, sym, ap, ◌∙◌, subst, refl}
-use Rattle.wit_syntax.specs.Source.{scope_names}
+use Rattle.wit_syntax.proofs.Common.{scope_names}
 use Rattle.wit_scopes.specs.BorrowedNames.{name_view}
 use Rattle.wit_scopes.specs.PlacedNames.{AreNamesPlaced}
 use Rattle.wit_items.specs.ForeignAddresses.{prefix_of}

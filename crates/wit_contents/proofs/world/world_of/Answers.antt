@@ -1,10 +1,8 @@
 use Rattle.std.proofs.Common.{ap, ◌∙◌}
-use Rattle.std.proofs.lemmas.Result.{err_from_is_err_and}
-use Rattle.wit_type_tree.specs.declared.leaves.Id.{Id}
-use Rattle.wit_syntax.specs.Source.{about, declared_metadata}
+use Rattle.wit_syntax.proofs.Common.{Id, about, declared_metadata, err_from_is_err_and}
 use Rattle.wit_items.specs.BorrowedItems.{item_view}
 use Rattle.wit_item_entries.proofs.Telling.{world_stated}
-use Rattle.wit_arena.specs.UnfoldedTypes.{IsWorld}
+use Rattle.wit_arena.proofs.Common.{IsWorld}
 use Rattle.wit_items.specs.SourceItems.{metadata_view}
 use Rattle.wit_contents.specs.AddedWorlds.{HasContent}
 use Rattle.wit_contents.proofs.WorldFaults.{head_fault, unstable_first}

@@ -1,4 +1,4 @@
-use Rattle.wit_arena.specs.Resolving.{env_of}
+use Rattle.wit_arena.proofs.Common.{env_of}
 use Rattle.wit_entries.proofs.Requiring.{requires_one}
 use Rattle.wit_definitions.proofs.bodies.resolve_case.Goals as goal
 

@@ -1,16 +1,8 @@
 use Rattle.std.proofs.Common.{◌≡◌, [], ◌∷◌, ◌++◌, ◌+◌, Some, take, sym, ap, ◌∙◌}
-use Rattle.std.specs.Prelude.{is_some, map, slice_get}
-use Rattle.std.specs.Option.{option_to_list}
-use Rattle.std.proofs.lemmas.List.{map-append, take_more, take_all}
-use Rattle.std.proofs.lemmas.Option.{slice_get-get_or}
-use Rattle.std.proofs.lemmas.Result.{err_from_is_err_and}
-use Rattle.wit_type_tree.specs.declared.types.Case.{Case as WrittenCase}
-use Rattle.wit_type_tree.specs.TypeParts.{case_types}
+use Rattle.wit_syntax.proofs.Common.{Case as WrittenCase, case_types, err_from_is_err_and, filter_map_more, map, map-append, member, option_to_list, slice_get, slice_get-get_or, take_all, take_more}
+use Rattle.std.specs.Prelude.{is_some}
 use Rattle.wit_types.specs.declared.types.Case.{Case}
-use Rattle.wit_arena.specs.Kind.{case_member, payloads}
-use Rattle.wit_syntax.specs.Shape.{member}
-use Rattle.wit_arena.specs.Resolving.{env_of}
-use Rattle.wit_syntax.proofs.Lists.{filter_map_more}
+use Rattle.wit_arena.proofs.Common.{case_member, env_of, payloads}
 use Rattle.wit_first.proofs.First.{in-append, none_both, reports-in, reports_same}
 use Rattle.wit_entries.specs.EntryFaults.{types_fault, written_fault}
 use Rattle.wit_entries.proofs.Faults.{types_extended}

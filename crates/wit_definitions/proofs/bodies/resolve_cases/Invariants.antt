@@ -1,9 +1,6 @@
 use Rattle.std.proofs.Common.{◌≡◌, None, is_some, map, take}
-use Rattle.wit_type_tree.specs.TypeParts.{case_types}
-use Rattle.wit_type_tree.specs.declared.types.Case.{Case as WrittenCase}
-use Rattle.wit_arena.specs.Kind.{case_member, payloads}
-use Rattle.wit_syntax.specs.Shape.{member, all_handles}
-use Rattle.wit_arena.specs.Resolving.{env_of}
+use Rattle.wit_syntax.proofs.Common.{Case as WrittenCase, all_handles, case_types, member}
+use Rattle.wit_arena.proofs.Common.{case_member, env_of, payloads}
 use Rattle.wit_entries.specs.EntryFaults.{types_fault}
 use Rattle.wit_entries.specs.ResolvedForms.{AreTypes}
 use Rattle.wit_entries.specs.Requiring.{IsExtended, Requires}

@@ -1,15 +1,7 @@
 use Rattle.std.proofs.Common.{◌≡◌, [], ◌∷◌, ◌++◌, ◌+◌, Some, None, take, sym, ap, ◌∙◌}
-use Rattle.std.specs.Prelude.{map, slice_get}
-use Rattle.std.specs.Option.{option_map}
-use Rattle.std.proofs.lemmas.List.{map-append, take_more, take_all, take-map}
-use Rattle.std.proofs.lemmas.Option.{slice_get-map, slice_get-get_or}
-use Rattle.std.proofs.lemmas.Result.{err_from_is_err_and}
+use Rattle.wit_syntax.proofs.Common.{Field, err_from_is_err_and, field_types, map, map-append, member, option_map, slice_get, slice_get-get_or, slice_get-map, take-map, take_all, take_more}
 use Rattle.wit_type_tree.specs.declared.types.Field.{Field as WrittenField}
-use Rattle.wit_type_tree.specs.TypeParts.{field_types}
-use Rattle.wit_types.specs.declared.types.Field.{Field}
-use Rattle.wit_arena.specs.Kind.{field_member}
-use Rattle.wit_syntax.specs.Shape.{member}
-use Rattle.wit_arena.specs.Resolving.{env_of}
+use Rattle.wit_arena.proofs.Common.{env_of, field_member}
 use Rattle.wit_first.proofs.First.{in-more, reports-in}
 use Rattle.wit_entries.specs.EntryFaults.{types_fault, written_fault}
 use Rattle.wit_entries.proofs.Faults.{types_extended}

@@ -1,9 +1,7 @@
 use Rattle.std.proofs.Common.{◌≡◌, None, map, take}
-use Rattle.wit_type_tree.specs.TypeParts.{field_types}
+use Rattle.wit_syntax.proofs.Common.{all_handles, field_types, member}
 use Rattle.wit_type_tree.specs.declared.types.Field.{Field as WrittenField}
-use Rattle.wit_arena.specs.Kind.{field_member}
-use Rattle.wit_syntax.specs.Shape.{member, all_handles}
-use Rattle.wit_arena.specs.Resolving.{env_of}
+use Rattle.wit_arena.proofs.Common.{env_of, field_member}
 use Rattle.wit_entries.specs.EntryFaults.{types_fault}
 use Rattle.wit_entries.specs.ResolvedForms.{AreTypes}
 use Rattle.wit_entries.specs.Requiring.{IsExtended, Requires}

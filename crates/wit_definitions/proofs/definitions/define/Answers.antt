@@ -1,10 +1,8 @@
 use Rattle.std.proofs.Common.{◌≡◌, List, None, subst}
-use Rattle.wit_type_tree.specs.declared.leaves.Attribute.{Attribute}
-use Rattle.wit_type_tree.specs.TypeParts.{body_types}
-use Rattle.wit_syntax.specs.Shape.{all_handles}
+use Rattle.wit_syntax.proofs.Common.{Attribute, all_handles, body_types}
 use Rattle.wit_first.specs.AttributeFaults.{metadata_fault}
 use Rattle.wit_first.proofs.First.{none_both}
-use Rattle.wit_arena.specs.Resolving.{env_of}
+use Rattle.wit_arena.proofs.Common.{env_of}
 use Rattle.wit_entries.proofs.Faults.{body_extended}
 use Rattle.wit_entries.proofs.Noted.{defines_noted}
 use Rattle.wit_entries.proofs.Requiring.{requires_extended}

@@ -1,7 +1,6 @@
 use Rattle.std.proofs.Common.{ℕ, ◌<◌}
-use Rattle.wit_types.specs.declared.types.TypeDef.{TypeDef}
-use Rattle.wit_arena.specs.UnfoldedTypes.{At}
-use Rattle.wit_arena.specs.Resolving.{IsUnnamedOf}
+use Rattle.wit_syntax.proofs.Common.{TypeDef}
+use Rattle.wit_arena.proofs.Common.{At, IsUnnamedOf}
 use Rattle.wit_entries.proofs.entries.find_unnamed.Given as goal
 
 abbrev pub invariant-loop-place : goal.invariant-loop-place

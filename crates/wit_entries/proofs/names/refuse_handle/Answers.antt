@@ -1,4 +1,4 @@
-use Rattle.wit_syntax.specs.Words.{handle_words}
+use Rattle.wit_syntax.proofs.Common.{handle_words}
 use Rattle.wit_entries.proofs.names.refuse_handle.Goals as goal
 
 pub returns : goal.returns

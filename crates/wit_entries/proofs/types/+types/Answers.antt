@@ -1,13 +1,7 @@
 use Rattle.std.proofs.Common.{◌≡◌, [], ◌∷◌, ◌++◌, ◌+◌, Some, None, take, refl, sym, ap, ◌∙◌, subst}
-use Rattle.std.specs.Prelude.{slice_get}
-use Rattle.std.proofs.lemmas.List.{take_more, take_all}
-use Rattle.std.proofs.lemmas.Option.{slice_get-get_or}
-use Rattle.std.proofs.lemmas.Result.{err_from_is_err_and}
+use Rattle.wit_syntax.proofs.Common.{boxed_types, err_from_is_err_and, handles, result_types, shape_of, slice_get, slice_get-get_or, take_all, take_more, tuple_types, types_of_borrowed}
 use Rattle.wit_type_tree.specs.declared.types.«Type».TheVariants as written
-use Rattle.wit_type_tree.specs.TypeParts.{result_types, boxed_types}
-use Rattle.wit_type_tree.proofs.Rows.{tuple_types, types_of_borrowed}
-use Rattle.wit_arena.specs.Resolving.{env_of}
-use Rattle.wit_syntax.specs.Shape.{shape_of, handles}
+use Rattle.wit_arena.proofs.Common.{env_of}
 use Rattle.wit_first.specs.KeyFaults.{key_fault}
 use Rattle.wit_first.proofs.First.{in-all, in-next, none_both, reports-in, reports_back, reports_prefix, reports_same}
 use Rattle.wit_entries.specs.EntryFaults.{types_fault, written_fault}

@@ -1,6 +1,6 @@
 use Rattle.std.proofs.Common.{◌≡◌, None, take}
-use Rattle.wit_arena.specs.Resolving.{env_of}
-use Rattle.wit_syntax.specs.Shape.{all_handles}
+use Rattle.wit_arena.proofs.Common.{env_of}
+use Rattle.wit_syntax.proofs.Common.{all_handles}
 use Rattle.wit_entries.specs.EntryFaults.{types_fault}
 use Rattle.wit_entries.specs.ResolvedForms.{AreTypes}
 use Rattle.wit_entries.specs.Requiring.{IsExtended, Requires}

@@ -1,7 +1,6 @@
 use Rattle.std.proofs.Common.{◌≡◌, ◌∷◌, [], List, ℕ, ap, sym, ◌∙◌, subst}
-use Rattle.wit_tree.specs.declared.tree.WorldSide.{WorldSide}
-use Rattle.wit_syntax.specs.Sides.{SideFunction, role_side}
-use Rattle.wit_first.specs.First.{Finds}
+use Rattle.wit_syntax.proofs.Common.{SideFunction, WorldSide, role_side}
+use Rattle.wit_walk.proofs.Common.{Finds}
 use Rattle.wit_refusals.specs.NameScopes.{Name}
 use Rattle.wit_sides.specs.SideNames.{defined_on}
 use Rattle.wit_rules.specs.BorrowedFunctions.{function_view}

@@ -1,18 +1,9 @@
 use Rattle.std.proofs.Common.{◌≡◌, ℕ, List, Result, Ok, Err, map, subst, sym, ◌∙◌}
-use Rattle.std.specs.Prelude.{IfErr, OnOk}
-use Rattle.std.specs.List.{flat_map}
-use Rattle.wit_type_tree.specs.declared.error.ParseError.{ParseError}
-use Rattle.wit_type_tree.specs.declared.leaves.Id.{Id}
-use Rattle.wit_syntax.specs.Broken.{Refused}
-use Rattle.wit_first.specs.First.{Finds}
-use Rattle.wit_first.proofs.First.{none_both, reports_back, reports_prefix}
+use Rattle.wit_syntax.proofs.Common.{Exported, Id, IfErr, Imported, OnOk, ParseError, Refused, SideItem, WorldSide, err_from_is_err_and, flat_map, item_function, on_side}
+use Rattle.wit_walk.proofs.Common.{Finds, none_both, reports_back, reports_prefix}
 use Rattle.wit_rules.specs.declared.borrowed.BorrowedFunction.{BorrowedFunction}
 use Rattle.wit_externs.specs.AloneFaults.{lone_setters}
 use Rattle.wit_externs.proofs.FirstSetters.{AreMerged, lone_by, merged_side, none_lone}
-use Rattle.std.proofs.lemmas.Result.{err_from_is_err_and}
-use Rattle.wit_tree.specs.declared.tree.WorldSide.{WorldSide}
-use Rattle.wit_tree.specs.declared.tree.WorldSide.TheVariants.{Imported, Exported}
-use Rattle.wit_syntax.specs.Sides.{SideItem, item_function, on_side}
 use Rattle.wit_refusals.specs.NameScopes.{Name, IsFirstLoneSetter, IsLoneSetter}
 use Rattle.wit_rules.specs.BorrowedFunctions.{function_view}
 use Rattle.wit_externs.specs.Clash.{all_on}

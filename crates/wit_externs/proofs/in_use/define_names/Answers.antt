@@ -1,12 +1,6 @@
 use Rattle.std.proofs.Common.{◌≡◌, ◌∷◌, [], ◌++◌, List, length, ◌+◌, ◌<◌, Some, map, take, ap, sym, ◌∙◌, arith}
-use Rattle.std.specs.Prelude.{slice_get}
-use Rattle.std.proofs.lemmas.List.{length-map, map-append, take-map, take_all, take_more}
-use Rattle.std.proofs.lemmas.Result.{err_from_is_err_and}
-use Rattle.wit_type_tree.specs.declared.leaves.Id.{Id}
-use Rattle.wit_tree.specs.declared.tree.WorldSide.TheVariants.{Imported}
-use Rattle.wit_syntax.proofs.Lists.{read_map}
-use Rattle.wit_syntax.proofs.Orders.{take_next}
-use Rattle.wit_first.proofs.First.{after-more, reports-after, reports_same}
+use Rattle.wit_syntax.proofs.Common.{Id, Imported, err_from_is_err_and, length-map, map-append, read_map, slice_get, take-map, take_all, take_more, take_next}
+use Rattle.wit_walk.proofs.Common.{after-more, reports-after, reports_same}
 use Rattle.wit_sides.specs.SideNames.{defined_on}
 use Rattle.wit_refusals.specs.NameScopes.{Name}
 use Rattle.wit_signatures.specs.ForeignName.{name_of_id}

@@ -1,9 +1,5 @@
-use Rattle.std.proofs.lemmas.Bool.{eq-eqb, eqb-true}
-use Rattle.std.proofs.lemmas.Map.Made.{is_some-lookup}
+use Rattle.wit_syntax.proofs.Common.{eq-eqb, eqb-true, is_some, is_some-lookup, keys-insert_entry, keys_of}
 use Rattle.std.proofs.Common.{◌==◌, not, refl, ap, ◌∙◌}
-use Rattle.std.specs.Map.{keys_of}
-use Rattle.std.specs.Option.{is_some}
-use Rattle.wit_syntax.proofs.Inserting.{keys-insert_entry}
 use Rattle.wit_externs.proofs.Linked.{inserted, turned}
 use Rattle.wit_externs.proofs.links.insert.Goals as goal
 

@@ -1,20 +1,11 @@
 use Rattle.std.proofs.Common.{◌≡◌, ◌∷◌, ◌++◌, ◌+◌, [], List, ℕ, Option, Some, inl, inr, refl, sym, ap, ◌∙◌, map, take, arith}
-use Rattle.std.specs.Prelude.{slice_get}
-use Rattle.std.specs.Option.{option_or}
-use Rattle.std.proofs.lemmas.List.{length-map, take-map, take_all}
-use Rattle.std.proofs.lemmas.Option.{slice_get_read}
-use Rattle.std.proofs.lemmas.Result.{err_from_is_err_and}
-use Rattle.wit_tree.specs.declared.tree.WorldSide.{WorldSide}
+use Rattle.wit_syntax.proofs.Common.{Fault, SideFunction, SideItem, SourceFunction, WorldSide, err_from_is_err_and, items_on, length-map, option_or, role_side, slice_get, slice_get_read, take-map, take_all}
 use Rattle.wit_refusals.specs.NameScopes.{Name}
-use Rattle.wit_syntax.specs.Fault.{Fault}
-use Rattle.wit_syntax.specs.Sides.{SideItem, SideFunction, items_on, role_side}
-use Rattle.wit_arena.specs.Resolving.{env_of}
+use Rattle.wit_arena.proofs.Common.{env_of}
 use Rattle.wit_sides.specs.SideNames.{defined_on}
 use Rattle.wit_rules.specs.BorrowedFunctions.{function_view}
 use Rattle.wit_rules.specs.Signatures.{functions_view}
-use Rattle.wit_syntax.specs.Function.{SourceFunction}
-use Rattle.wit_first.proofs.First.{after-at, after-more, none_both}
-use Rattle.wit_walk.specs.Functions.{function_fault}
+use Rattle.wit_walk.proofs.Common.{after-at, after-more, function_fault, none_both}
 use Rattle.wit_signatures.specs.ForeignName.{name_of_function}
 use Rattle.wit_entries.proofs.Requiring.{extended_then}
 use Rattle.wit_externs.specs.AloneFaults.{again_fault, alone_fault, alone_faults, signed_by, words_in}

@@ -1,11 +1,6 @@
 use Rattle.std.proofs.Common.{◌≡◌, ◌++◌, List, Option, None, map, take}
-use Rattle.wit_type_tree.specs.declared.leaves.Id.{Id}
-use Rattle.wit_tree.specs.declared.tree.WorldSide.{WorldSide}
-use Rattle.wit_syntax.specs.Fault.{Fault}
-use Rattle.wit_syntax.specs.Repeats.{AllDiffer}
-use Rattle.wit_syntax.specs.Source.{ScopeName}
-use Rattle.wit_arena.specs.Resolving.{env_of}
-use Rattle.wit_syntax.specs.Sides.{SideFunction, items_on}
+use Rattle.wit_syntax.proofs.Common.{AllDiffer, Fault, Id, ScopeName, SideFunction, WorldSide, items_on}
+use Rattle.wit_arena.proofs.Common.{env_of}
 use Rattle.wit_sides.specs.SideNames.{defined_on}
 use Rattle.wit_rules.specs.Signatures.{IsScopeOf, functions_view}
 use Rattle.wit_signatures.specs.ForeignName.{name_key}

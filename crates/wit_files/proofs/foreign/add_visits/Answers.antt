@@ -1,6 +1,5 @@
 use Rattle.std.proofs.Common.{◌++◌, map, ap, ◌∙◌}
-use Rattle.std.specs.List.{flat_map}
-use Rattle.std.proofs.lemmas.List.{take_all}
+use Rattle.wit_syntax.proofs.Common.{flat_map, take_all}
 use Rattle.wit_files.specs.Visits.{visit_view}
 use Rattle.wit_files.specs.ForeignPaths.{foreign_view}
 use Rattle.wit_files.proofs.Others.{foreign_of, of_file}

@@ -1,9 +1,5 @@
 use Rattle.std.proofs.Common.{◌≡◌, Option, Some, sym, ap, ◌∙◌}
-use Rattle.std.specs.Prelude.{slice_get}
-use Rattle.std.proofs.lemmas.Option.{slice_get-get_or}
-use Rattle.std.proofs.lemmas.Result.{err_from_is_err_and}
-use Rattle.wit_syntax.specs.Fault.{Fault}
-use Rattle.wit_syntax.specs.Foreign.{ForeignVisit}
+use Rattle.wit_syntax.proofs.Common.{Fault, ForeignVisit, err_from_is_err_and, slice_get, slice_get-get_or}
 use Rattle.wit_first.specs.AttributeFaults.{stability_fault}
 use Rattle.wit_first.proofs.First.{in-all, in-map, in-next, reports-in, reports_same}
 use Rattle.wit_files.specs.ForeignPaths.{foreign_view}

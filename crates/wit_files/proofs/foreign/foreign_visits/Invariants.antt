@@ -1,5 +1,5 @@
 use Rattle.std.proofs.Common.{◌≡◌, map, take}
-use Rattle.wit_syntax.specs.Foreign.{foreign_visits}
+use Rattle.wit_syntax.proofs.Common.{foreign_visits}
 use Rattle.wit_files.specs.ForeignPaths.{foreign_view}
 use Rattle.wit_files.proofs.foreign.foreign_visits.Given as goal
 

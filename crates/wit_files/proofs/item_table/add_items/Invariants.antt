@@ -1,9 +1,5 @@
 use Rattle.std.proofs.Common.{◌≡◌, ◌++◌, List, None, map, take}
-use Rattle.std.specs.List.{flat_map}
-use Rattle.wit_graph.specs.Table.{rows}
-use Rattle.wit_tree.specs.declared.tree.AstItem.{AstItem}
-use Rattle.wit_syntax.specs.Source.{Item, top_names, declared_items}
-use Rattle.wit_syntax.specs.ScopeTables.{item_row}
+use Rattle.wit_syntax.proofs.Common.{AstItem, Item, declared_items, flat_map, item_row, rows, top_names}
 use Rattle.wit_first.specs.FileFaults.{paths_fault}
 use Rattle.wit_first.specs.First.{first_in}
 use Rattle.wit_top_names.specs.Tops.{AreDeclared}

@@ -1,6 +1,5 @@
 use Rattle.std.proofs.Common.{◌≡◌, ◌++◌, map, take}
-use Rattle.std.specs.List.{flat_map}
-use Rattle.wit_syntax.specs.Source.{declared_items, top_names, is_world}
+use Rattle.wit_syntax.proofs.Common.{declared_items, flat_map, is_world, top_names}
 use Rattle.wit_files.proofs.item_table.add_kinds.Given as goal
 
 abbrev pub invariant-loop-item : goal.invariant-loop-item

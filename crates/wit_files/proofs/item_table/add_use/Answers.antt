@@ -1,8 +1,5 @@
 use Rattle.std.proofs.Common.{◌≡◌, [], ◌∷◌, sym, ap, ◌∙◌}
-use Rattle.std.proofs.lemmas.Result.{err_from_is_err_and}
-use Rattle.wit_tree.specs.declared.tree.UsePath.{UsePath}
-use Rattle.wit_syntax.specs.Source.{interface_part}
-use Rattle.wit_syntax.specs.ScopeTables.{use_path}
+use Rattle.wit_syntax.proofs.Common.{UsePath, err_from_is_err_and, interface_part, use_path}
 use Rattle.wit_first.specs.FileFaults.{unnamed_fault}
 use Rattle.wit_first.specs.First.{first_in}
 use Rattle.wit_first.proofs.First.{or_none, reports_same}

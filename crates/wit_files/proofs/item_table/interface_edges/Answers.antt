@@ -1,13 +1,5 @@
 use Rattle.std.proofs.Common.{◌≡◌, List, ◌++◌, Option, Some, map, sym, ap, ◌∙◌}
-use Rattle.std.specs.Prelude.{slice_get}
-use Rattle.std.specs.List.{flat_map}
-use Rattle.std.proofs.lemmas.Option.{slice_get-get_or}
-use Rattle.std.proofs.lemmas.Result.{err_from_is_err_and}
-use Rattle.wit_type_tree.specs.declared.leaves.Id.{Id}
-use Rattle.wit_tree.specs.declared.tree.InterfaceItem.{InterfaceItem}
-use Rattle.wit_syntax.specs.Fault.{Fault}
-use Rattle.wit_syntax.specs.Source.{TopName, Item, interface_part}
-use Rattle.wit_syntax.specs.ScopeTables.{use_path}
+use Rattle.wit_syntax.proofs.Common.{Fault, Id, InterfaceItem, Item, TopName, err_from_is_err_and, flat_map, interface_part, slice_get, slice_get-get_or, use_path}
 use Rattle.wit_first.specs.FileFaults.{unnamed_fault}
 use Rattle.wit_first.specs.First.{first_in}
 use Rattle.wit_first.proofs.First.{in-all, in-next, in-parts, reports-in, reports_same}

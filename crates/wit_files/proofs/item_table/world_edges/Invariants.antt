@@ -1,8 +1,5 @@
 use Rattle.std.proofs.Common.{◌≡◌, List, None, map, take}
-use Rattle.std.specs.List.{flat_map}
-use Rattle.wit_tree.specs.declared.tree.WorldItem.{WorldItem}
-use Rattle.wit_syntax.specs.Source.{TopName, Item, world_part}
-use Rattle.wit_syntax.specs.ScopeTables.{include_path}
+use Rattle.wit_syntax.proofs.Common.{Item, TopName, WorldItem, flat_map, include_path, world_part}
 use Rattle.wit_first.specs.FileFaults.{unnamed_fault}
 use Rattle.wit_first.specs.First.{first_in}
 use Rattle.wit_top_names.specs.Tops.{AreNamed, AreDeclared}

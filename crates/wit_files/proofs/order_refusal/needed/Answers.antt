@@ -1,7 +1,5 @@
 use Rattle.std.proofs.Common.{◌<◌, length, refl, arith}
-use Rattle.std.proofs.lemmas.Option.{slice_get_read}
-use Rattle.wit_graph.specs.Table.{rows}
-use Rattle.wit_graph.proofs.Tables.{row_at_place}
+use Rattle.wit_syntax.proofs.Common.{row_at_place, rows, slice_get_read}
 use Rattle.wit_graph.proofs.Faults.{edge_index}
 use Rattle.wit_files.proofs.order_refusal.needed.Goals as goal
 

@@ -1,5 +1,4 @@
-use Rattle.wit_graph.specs.Table.{rows}
-use Rattle.wit_syntax.specs.Fault.{cyclic_at, missing_type_at, type_word}
+use Rattle.wit_syntax.proofs.Common.{cyclic_at, missing_type_at, rows, type_word}
 use Rattle.wit_files.proofs.Refusals.{missing_edge, cyclic_edge}
 use Rattle.wit_files.proofs.order_refusal.refuse_type_order.Goals as goal
 

@@ -1,5 +1,5 @@
 use Rattle.std.proofs.Common.{◌≡◌, ◌++◌, None, map, take}
-use Rattle.std.specs.List.{flat_map}
+use Rattle.wit_syntax.proofs.Common.{flat_map}
 use Rattle.wit_files.specs.Visits.{visit_view, part_visits}
 use Rattle.wit_files.proofs.visit.add_inline_visits.Given as goal
 

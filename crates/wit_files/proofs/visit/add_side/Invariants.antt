@@ -1,5 +1,5 @@
 use Rattle.std.proofs.Common.{◌≡◌, ◌++◌, map, take}
-use Rattle.std.specs.List.{flat_map}
+use Rattle.wit_syntax.proofs.Common.{flat_map}
 use Rattle.wit_files.specs.Visits.{visit_view, side_part_visits}
 use Rattle.wit_files.proofs.visit.add_side.Given as goal
 

@@ -1,9 +1,5 @@
 use Rattle.std.proofs.Common.{◌∙◌, ap, sym, not, nat_eq}
-use Rattle.std.specs.Cmp.Lexicographic.{pointwise}
-use Rattle.std.specs.Map.{lookup}
-use Rattle.std.specs.Option.{is_some}
-use Rattle.indexmap.specs.IndexMap.{insert_entry}
-use Rattle.indexmap.specs.Layout.{set_value_at}
+use Rattle.wit_syntax.proofs.Common.{insert_entry, is_some, lookup, pointwise, set_value_at}
 use Rattle.wit_foreign.specs.Kept.{item_more}
 use Rattle.wit_foreign.proofs.Places.{lookup-position, set_value_at-position, lookup-nowhere}
 use Rattle.wit_foreign.proofs.package_items.add_visit_of.Goals as goal

@@ -1,10 +1,5 @@
 use Rattle.std.proofs.Common.{◌∙◌, ap, sym, not, nat_eq, []}
-use Rattle.std.specs.Cmp.Lexicographic.{pointwise}
-use Rattle.std.specs.Map.{lookup}
-use Rattle.std.specs.Option.{is_some, unwrap_or}
-use Rattle.indexmap.specs.IndexMap.{insert_entry}
-use Rattle.indexmap.specs.Layout.{set_value_at}
-use Rattle.wit_syntax.specs.Address.{same_package}
+use Rattle.wit_syntax.proofs.Common.{insert_entry, is_some, lookup, pointwise, same_package, set_value_at, unwrap_or}
 use Rattle.wit_foreign.specs.Kept.{row_more}
 use Rattle.wit_foreign.proofs.Places.{lookup-position, set_value_at-position, lookup-nowhere}
 use Rattle.wit_foreign.proofs.packages.add_visit_in.Goals as goal

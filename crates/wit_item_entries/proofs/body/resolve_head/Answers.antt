@@ -1,5 +1,5 @@
 use Rattle.std.proofs.Common.{None, inl, inr}
-use Rattle.std.proofs.lemmas.Result.{err_from_is_err_and}
+use Rattle.wit_syntax.proofs.Common.{err_from_is_err_and}
 use Rattle.wit_items.specs.BorrowedItems.{scope_item}
 use Rattle.wit_item_entries.specs.ReachedFaults.{IsNamesFault, item_stability}
 use Rattle.wit_item_entries.proofs.ReachedFaults.{after_first, after_none, before_first, by_weaker}

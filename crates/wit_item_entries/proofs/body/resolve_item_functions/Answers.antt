@@ -1,10 +1,6 @@
 use Rattle.std.proofs.Common.{◌≡◌, List, map, inl, inr, sym, ap, ◌∙◌, subst}
-use Rattle.std.proofs.lemmas.Result.{err_from_is_err_and}
-use Rattle.wit_syntax.specs.Source.{ScopeName, scope_names}
-use Rattle.wit_syntax.specs.Function.{functions}
-use Rattle.wit_syntax.specs.Sides.{SideFunction, side_items}
-use Rattle.wit_syntax.proofs.Sides.{side_items_functions}
-use Rattle.wit_arena.specs.Resolving.{env_of}
+use Rattle.wit_syntax.proofs.Common.{ScopeName, SideFunction, err_from_is_err_and, functions, scope_names, side_items, side_items_functions}
+use Rattle.wit_arena.proofs.Common.{env_of}
 use Rattle.wit_item_entries.proofs.ReachedFaults.{extended_same}
 use Rattle.wit_rules.specs.BorrowedFunctions.{function_view}
 use Rattle.wit_rules.specs.Signatures.{HaveOwners}

@@ -1,9 +1,5 @@
 use Rattle.std.proofs.Common.{◌≡◌, ◌+◌, ◌++◌, ◌∷◌, [], List, map, take, refl, sym, ap, ◌∙◌}
-use Rattle.std.specs.List.{flat_map}
-use Rattle.std.proofs.lemmas.List.{map-append, take_more, append-nil}
-use Rattle.wit_tree.specs.declared.tree.InterfaceItem.{InterfaceItem}
-use Rattle.wit_syntax.specs.Source.{interface_part}
-use Rattle.wit_syntax.specs.Function.{SourceFunction, definition_functions, free_function, part_functions}
+use Rattle.wit_syntax.proofs.Common.{InterfaceItem, SourceFunction, append-nil, definition_functions, flat_map, free_function, interface_part, map-append, part_functions, take_more}
 use Rattle.wit_rules.specs.BorrowedFunctions.{function_view}
 use Rattle.wit_items.proofs.UsableNames.{parts_more}
 use Rattle.wit_item_entries.proofs.functions.items_functions.Goals.{in-TypeDef+in_ok-add_definition-in-TypeDef, in-Func+in_ok-push-in-Func, in-Use}

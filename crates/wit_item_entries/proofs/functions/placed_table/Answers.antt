@@ -1,11 +1,6 @@
 use Rattle.std.proofs.Common.{rules, ◌≡◌, ◌++◌, ◌∷◌, [], ap, ◌∙◌, sym, append_assoc}
-use Rattle.std.specs.Prelude.{map}
-use Rattle.std.specs.Vec.Iter.{into_iter_items}
-use Rattle.std.proofs.lemmas.List.{append-nil, nil_from_length}
-use Rattle.wit_functions.specs.SettersPlaced.{is_getter_of, setters_placed}
-use Rattle.wit_arena.specs.SourceFunctions.{by_name}
-use Rattle.wit_syntax.specs.Repeats.{AllDiffer}
-use Rattle.wit_arena.proofs.FunctionNames.{made_name}
+use Rattle.wit_syntax.proofs.Common.{AllDiffer, append-nil, into_iter_items, map, nil_from_length}
+use Rattle.wit_arena.proofs.Common.{by_name, is_getter_of, made_name, setters_placed}
 use Rattle.wit_item_entries.proofs.FunctionTables.{function_next}
 use Rattle.wit_item_entries.proofs.PlacedNames.{placed_differ, table_placed}
 use Rattle.wit_item_entries.proofs.functions.placed_table.Goals as goal

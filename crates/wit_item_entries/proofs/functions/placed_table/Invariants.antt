@@ -1,7 +1,6 @@
 use Rattle.std.proofs.Common.{◌≡◌, ◌++◌, map}
-use Rattle.std.specs.Vec.Iter.{into_iter_items}
-use Rattle.wit_functions.specs.SettersPlaced.{is_getter_of, setters_placed}
-use Rattle.wit_arena.specs.SourceFunctions.{by_name}
+use Rattle.wit_syntax.proofs.Common.{into_iter_items}
+use Rattle.wit_arena.proofs.Common.{by_name, is_getter_of, setters_placed}
 use Rattle.wit_item_entries.proofs.functions.placed_table.Given as goal
 
 abbrev pub invariant-loop-function : goal.invariant-loop-function

@@ -1,9 +1,5 @@
 use Rattle.std.proofs.Common.{◌≡◌, ◌+◌, ◌++◌, ◌∷◌, [], List, map, take, refl, sym, ap, ◌∙◌}
-use Rattle.std.specs.List.{flat_map}
-use Rattle.std.proofs.lemmas.List.{take_more, append-nil}
-use Rattle.wit_tree.specs.declared.tree.WorldItem.{WorldItem}
-use Rattle.wit_syntax.specs.Source.{world_part}
-use Rattle.wit_syntax.specs.Function.{SourceFunction, definition_functions, extern_functions, part_functions}
+use Rattle.wit_syntax.proofs.Common.{SourceFunction, WorldItem, append-nil, definition_functions, extern_functions, flat_map, part_functions, take_more, world_part}
 use Rattle.wit_items.proofs.UsableNames.{parts_more}
 use Rattle.wit_item_entries.proofs.functions.world_functions.Goals.{in-TypeDef+in_ok-add_definition-in-TypeDef, in-Use, in-Include, in-Extern+in_ok-add_extern_part-in-Extern}
 use Rattle.wit_item_entries.proofs.functions.world_functions.Goals as goal

@@ -1,7 +1,5 @@
 use Rattle.std.proofs.Common.{◌≡◌, map, take}
-use Rattle.std.specs.List.{flat_map}
-use Rattle.wit_syntax.specs.Source.{world_part}
-use Rattle.wit_syntax.specs.Function.{part_functions}
+use Rattle.wit_syntax.proofs.Common.{flat_map, part_functions, world_part}
 use Rattle.wit_rules.specs.BorrowedFunctions.{function_view}
 use Rattle.wit_item_entries.proofs.functions.world_functions.Given as goal
 

@@ -1,11 +1,5 @@
 use Rattle.std.proofs.Common.{◌≡◌, ◌+◌, ◌++◌, ◌∷◌, [], None, Some, map, take, refl, sym, ap, ◌∙◌}
-use Rattle.std.specs.Prelude.{slice_get}
-use Rattle.std.specs.Option.{option_map}
-use Rattle.std.proofs.lemmas.List.{map-append, take-map}
-use Rattle.std.proofs.lemmas.Option.{slice_get_read, slice_get-map}
-use Rattle.wit_syntax.specs.Source.{Defined, local_name, meaning}
-use Rattle.wit_syntax.proofs.Orders.{take_next}
-use Rattle.wit_syntax.specs.SignatureRules.{body_ok, meant_ok}
+use Rattle.wit_syntax.proofs.Common.{Defined, body_ok, local_name, map-append, meaning, meant_ok, option_map, slice_get, slice_get-map, slice_get_read, take-map, take_next}
 use Rattle.wit_rules.specs.Signatures.{stated_ok}
 use Rattle.wit_scopes.specs.BorrowedNames.{name_view}
 use Rattle.wit_item_entries.proofs.Results.{unmeant_before, results_same, results_more}

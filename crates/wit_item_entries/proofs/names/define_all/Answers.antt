@@ -1,17 +1,8 @@
 use Rattle.std.proofs.Common.{◌≡◌, ◌+◌, ◌++◌, ◌∷◌, List, [], take, Some, None, inl, inr, refl, sym, ◌∙◌, subst, arith}
-use Rattle.std.specs.Prelude.{slice_get, map}
-use Rattle.std.proofs.lemmas.List.{append-nil, length-map}
-use Rattle.std.proofs.lemmas.Result.{err_from_is_err_and}
-use Rattle.wit_types.specs.declared.types.TypeDef.{TypeDef}
-use Rattle.wit_types.specs.declared.types.TypeOwner.{TypeOwner}
-use Rattle.wit_syntax.specs.Source.{Defined}
-use Rattle.wit_arena.specs.Resolving.{env_of, Defines, names_in}
-use Rattle.wit_syntax.proofs.Lists.{read_map}
-use Rattle.wit_syntax.proofs.Orders.{take_next}
-use Rattle.wit_arena.proofs.DefinitionPart.{defines_none, defines_more}
+use Rattle.wit_syntax.proofs.Common.{Defined, TypeDef, TypeOwner, append-nil, err_from_is_err_and, length-map, map, read_map, slice_get, take_next}
+use Rattle.wit_arena.proofs.Common.{Defines, defines_more, defines_none, env_of, names_in}
 use Rattle.wit_arena.proofs.Scoping.{names_none, names_kept, names_more}
-use Rattle.wit_first.proofs.First.{in-all, in-at, in-following}
-use Rattle.wit_walk.specs.Definitions.{definition_fault}
+use Rattle.wit_walk.proofs.Common.{definition_fault, in-all, in-at, in-following}
 use Rattle.wit_entries.proofs.Requiring.{extended_then}
 use Rattle.wit_scopes.specs.BorrowedNames.{definition_view}
 use Rattle.wit_externs.specs.AloneFaults.{EndsIn}

@@ -1,13 +1,6 @@
 use Rattle.std.proofs.Common.{◌≡◌, ◌++◌, List, Option, None, map, take}
-use Rattle.std.specs.List.{flat_map}
-use Rattle.wit_type_tree.specs.declared.leaves.Id.{Id}
-use Rattle.wit_syntax.specs.Address.{Address}
-use Rattle.wit_syntax.specs.Fault.{Fault}
-use Rattle.wit_syntax.specs.Source.{ScopeName}
-use Rattle.wit_syntax.specs.Shape.{all_handles}
-use Rattle.wit_syntax.specs.Function.{name_types}
-use Rattle.wit_arena.specs.Resolving.{ResolvedScope, env_of, Defines, HasNames, names_in}
-use Rattle.wit_syntax.specs.ScopeTables.{local_names}
+use Rattle.wit_syntax.proofs.Common.{Address, Fault, Id, ScopeName, all_handles, flat_map, local_names, name_types}
+use Rattle.wit_arena.proofs.Common.{Defines, HasNames, ResolvedScope, env_of, names_in}
 use Rattle.wit_entries.specs.Requiring.{IsExtended, Requires}
 use Rattle.wit_externs.specs.AloneFaults.{IsSafe}
 use Rattle.wit_scopes.specs.BorrowedNames.{definition_view}

@@ -1,15 +1,7 @@
 use Rattle.std.proofs.Common.{◌≡◌, ◌++◌, List, [], None, map, inl, inr, sym, ap, ◌∙◌, subst}
-use Rattle.std.specs.List.{flat_map}
-use Rattle.std.proofs.lemmas.List.{map-append}
-use Rattle.std.proofs.lemmas.Result.{err_from_is_err_and}
+use Rattle.wit_syntax.proofs.Common.{Address, all_handles, defined, err_from_is_err_and, flat_map, in_order, local_name, local_names, map-append, name_types, used}
 use Rattle.wit_type_tree.specs.declared.types.«Type».{«Type» as Written}
-use Rattle.wit_syntax.specs.Address.{Address}
-use Rattle.wit_syntax.specs.ScopeTables.{in_order, used, defined, local_names}
-use Rattle.wit_syntax.specs.Shape.{all_handles}
-use Rattle.wit_syntax.specs.Source.{local_name}
-use Rattle.wit_syntax.specs.Function.{name_types}
-use Rattle.wit_arena.specs.Resolving.{Required, env_of, Defines, names_in}
-use Rattle.wit_arena.proofs.DefinitionPart.{defines_more}
+use Rattle.wit_arena.proofs.Common.{Defines, Required, defines_more, env_of, names_in}
 use Rattle.wit_entries.specs.Requiring.{Requires}
 use Rattle.wit_entries.proofs.Requiring.{extended_then}
 use Rattle.wit_scopes.specs.BorrowedNames.{name_view, own_use, use_view}

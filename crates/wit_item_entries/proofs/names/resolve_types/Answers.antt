@@ -1,13 +1,7 @@
 use Rattle.std.proofs.Common.{◌≡◌, ◌++◌, List, Some, map, inl, inr, ap, sym, ◌∙◌, subst}
-use Rattle.std.proofs.lemmas.Result.{err_from_is_err_and}
-use Rattle.wit_type_tree.specs.declared.leaves.Id.{Id}
-use Rattle.wit_syntax.specs.Source.{local_id}
-use Rattle.wit_syntax.specs.ScopeTables.{used, defined, AreDistinct}
-use Rattle.wit_arena.specs.Resolving.{env_of, names_in}
-use Rattle.wit_syntax.proofs.Turns.{distinct_names}
-use Rattle.wit_first.specs.NameFaults.{local_names_fault}
-use Rattle.wit_first.specs.OrderFaults.{IsTypeOrderFault}
-use Rattle.wit_first.proofs.Bridge.{local_names_differ}
+use Rattle.wit_syntax.proofs.Common.{AreDistinct, Id, defined, distinct_names, err_from_is_err_and, local_id, used}
+use Rattle.wit_arena.proofs.Common.{env_of, names_in}
+use Rattle.wit_walk.proofs.Common.{IsTypeOrderFault, local_names_differ, local_names_fault}
 use Rattle.wit_scopes.specs.BorrowedNames.{name_view, definition_view}
 use Rattle.wit_scopes.specs.DefinitionOrder.{AreOrdered}
 use Rattle.wit_item_entries.specs.ReachedFaults.{IsDefinitionsFault, IsOrderedFault}

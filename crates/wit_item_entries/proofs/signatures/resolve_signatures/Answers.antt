@@ -1,24 +1,9 @@
 use Rattle.std.proofs.Common.{◌≡◌, ◌++◌, List, [], Option, map, inl, inr, sym, ap, ◌∙◌, subst, arith, false}
-use Rattle.std.specs.Char.{is_ascii_uppercase}
-use Rattle.std.specs.List.{list_any}
-use Rattle.std.specs.Option.{option_or}
-use Rattle.std.proofs.lemmas.List.{append-nil}
-use Rattle.std.proofs.lemmas.Result.{err_from_is_err_and}
+use Rattle.wit_syntax.proofs.Common.{AllDiffer, Fault, Id, Imported, ScopeName, SideFunction, SourceFunction, WorldSide, append-nil, differ_none, err_from_is_err_and, is_ascii_uppercase, items_on, list_any, names_on, option_or}
 use mathlib.Core.Path.{fun_ext}
-use Rattle.wit_type_tree.specs.declared.leaves.Id.{Id}
-use Rattle.wit_tree.specs.declared.tree.WorldSide.{WorldSide}
-use Rattle.wit_tree.specs.declared.tree.WorldSide.TheVariants.{Imported}
-use Rattle.wit_syntax.specs.Fault.{Fault}
-use Rattle.wit_syntax.specs.Function.{SourceFunction}
-use Rattle.wit_syntax.specs.Source.{ScopeName}
-use Rattle.wit_first.proofs.Clashes.{no_clashes}
-use Rattle.wit_first.proofs.First.{none_both}
-use Rattle.wit_walk.specs.Functions.{word_fault}
-use Rattle.wit_syntax.specs.Repeats.{AllDiffer}
-use Rattle.wit_syntax.specs.Sides.{SideFunction, items_on, names_on}
-use Rattle.wit_syntax.proofs.Repeated.{differ_none}
+use Rattle.wit_walk.proofs.Common.{no_clashes, none_both, word_fault}
 use Rattle.wit_sides.specs.SideNames.{defined_on}
-use Rattle.wit_arena.specs.Resolving.{Names, env_of, names_in}
+use Rattle.wit_arena.proofs.Common.{Names, env_of, names_in}
 use Rattle.wit_refusals.specs.NameScopes.{Name}
 use Rattle.wit_rules.specs.BorrowedFunctions.{function_view}
 use Rattle.wit_signatures.specs.ForeignName.{name_key, name_of_id}

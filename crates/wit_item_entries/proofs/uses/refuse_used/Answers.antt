@@ -1,7 +1,6 @@
 use Rattle.std.proofs.Common.{Some, inl, inr, sym, ap, ◌∙◌}
-use Rattle.std.proofs.lemmas.Bool.{false≢true}
-use Rattle.wit_syntax.specs.Words.{used_words}
-use Rattle.wit_arena.specs.Resolving.{free_functions}
+use Rattle.wit_syntax.proofs.Common.{false≢true, used_words}
+use Rattle.wit_arena.proofs.Common.{free_functions}
 use Rattle.wit_item_entries.proofs.UseFaults.{of_function, of_nothing}
 use Rattle.wit_item_entries.proofs.uses.refuse_used.Goals as goal
 

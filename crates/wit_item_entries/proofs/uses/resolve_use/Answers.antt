@@ -1,12 +1,8 @@
 use Rattle.std.proofs.Common.{◌≡◌, true, None, Some, inl, inr, refl, sym, ap, ◌∙◌, rules}
-use Rattle.std.specs.Prelude.{codes, is_some}
-use Rattle.std.specs.Option.{option_map_or}
-use Rattle.std.proofs.lemmas.Result.{err_from_is_err_and}
-use Rattle.wit_syntax.specs.Fault.{name_twice}
-use Rattle.wit_syntax.specs.Source.{local_id}
-use Rattle.wit_syntax.specs.Words.{defined_twice}
-use Rattle.wit_first.proofs.First.{reports_back, reports_prefix, reports_same}
-use Rattle.wit_arena.specs.Resolving.{env_of, free_functions}
+use Rattle.wit_syntax.proofs.Common.{codes, defined_twice, err_from_is_err_and, local_id, name_twice, option_map_or}
+use Rattle.std.specs.Prelude.{is_some}
+use Rattle.wit_walk.proofs.Common.{reports_back, reports_prefix, reports_same}
+use Rattle.wit_arena.proofs.Common.{env_of, free_functions}
 use Rattle.wit_entries.specs.EntryFaults.{unless_found}
 use Rattle.wit_scopes.specs.BorrowedNames.{use_view}
 use Rattle.wit_item_entries.specs.UseFaults.{interface_of, asked_fault, lost_name, used_fault, spelled_fault}

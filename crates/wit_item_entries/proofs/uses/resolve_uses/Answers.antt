@@ -1,17 +1,7 @@
 use Rattle.std.proofs.Common.{◌≡◌, ◌+◌, ◌++◌, ◌∷◌, [], take, Some, refl, ap, sym, ◌∙◌, subst, arith}
-use Rattle.std.specs.Prelude.{slice_get, map}
-use Rattle.std.proofs.lemmas.List.{take_all, take-map, length-map}
-use Rattle.std.proofs.lemmas.Option.{slice_get_read}
-use Rattle.std.proofs.lemmas.Result.{err_from_is_err_and}
-use Rattle.wit_types.specs.declared.types.TypeOwner.{TypeOwner}
-use Rattle.wit_syntax.specs.Source.{Used}
-use Rattle.wit_arena.specs.Resolving.{Defines}
-use Rattle.wit_syntax.specs.ScopeTables.{local_names}
-use Rattle.wit_syntax.proofs.Lists.{read_map}
-use Rattle.wit_syntax.proofs.Orders.{take_next}
-use Rattle.wit_arena.proofs.DefinitionPart.{defines_used, defines_more}
-use Rattle.wit_first.specs.First.{first_after}
-use Rattle.wit_first.proofs.First.{after-next, reports-after, reports_same}
+use Rattle.wit_syntax.proofs.Common.{TypeOwner, Used, err_from_is_err_and, length-map, local_names, map, read_map, slice_get, slice_get_read, take-map, take_all, take_next}
+use Rattle.wit_arena.proofs.Common.{Defines, defines_more, defines_used}
+use Rattle.wit_walk.proofs.Common.{after-next, first_after, reports-after, reports_same}
 use Rattle.wit_arena.proofs.UsePart.{listed_has, listed_more}
 use Rattle.wit_entries.proofs.Requiring.{extended_then}
 use Rattle.wit_scopes.specs.BorrowedNames.{source_view, use_view}

@@ -1,8 +1,7 @@
 use Rattle.std.proofs.Common.{◌≡◌, [], None, map, take}
-use Rattle.wit_syntax.specs.Address.{Address}
-use Rattle.wit_first.specs.First.{first_after}
-use Rattle.wit_arena.specs.Resolving.{Defines}
-use Rattle.wit_syntax.specs.ScopeTables.{local_names}
+use Rattle.wit_syntax.proofs.Common.{Address, local_names}
+use Rattle.wit_walk.proofs.Common.{first_after}
+use Rattle.wit_arena.proofs.Common.{Defines}
 use Rattle.wit_entries.specs.Requiring.{IsExtended}
 use Rattle.wit_scopes.specs.BorrowedNames.{use_view}
 use Rattle.wit_items.specs.ResolvedInterfaces.{resolved_scopes_of}

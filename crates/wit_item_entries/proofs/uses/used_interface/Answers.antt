@@ -1,8 +1,6 @@
 use Rattle.std.proofs.Common.{rules, ◌≡◌, Some, None, length, inl, inr, sym, ap, ◌∙◌, subst}
-use Rattle.std.specs.Prelude.{slice_get}
-use Rattle.std.specs.Option.{option_and_then}
-use Rattle.wit_syntax.specs.Fault.{missing_at, item_word}
-use Rattle.wit_arena.specs.Resolving.{env_of}
+use Rattle.wit_syntax.proofs.Common.{item_word, missing_at, option_and_then, slice_get}
+use Rattle.wit_arena.proofs.Common.{env_of}
 use Rattle.wit_entries.specs.EntryFaults.{unless_found}
 use Rattle.wit_scopes.specs.BorrowedNames.{IsPlaced}
 use Rattle.wit_items.specs.ForeignAddresses.{prefix_of}

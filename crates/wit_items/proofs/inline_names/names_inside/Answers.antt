@@ -1,18 +1,5 @@
 use Rattle.std.proofs.Common.{◌≡◌, ◌+◌, ◌++◌, List, [], ◌∷◌, Option, Some, Bor, map, take, refl, sym, ap, ◌∙◌}
-use Rattle.std.specs.List.{flat_map}
-use Rattle.std.specs.Option.{option_copied, option_map, option_to_list}
-use Rattle.std.specs.Prelude.{slice_get}
-use Rattle.std.proofs.lemmas.List.{map-append, append-nil, take_more, take_all}
-use Rattle.std.proofs.lemmas.Option.{slice_get_read, slice_get-map}
-use Rattle.std.proofs.lemmas.Result.{err_from_is_err_and}
-use Rattle.wit_tree.specs.declared.tree.InterfaceItem.{InterfaceItem}
-use Rattle.wit_tree.specs.declared.tree.WorldItem.{WorldItem}
-use Rattle.wit_tree.specs.declared.tree.WorldSide.{WorldSide}
-use Rattle.wit_tree.specs.declared.tree.PackageFile.{PackageFile}
-use Rattle.wit_syntax.specs.Fault.{Fault}
-use Rattle.wit_syntax.specs.Foreign.{visited, foreign_interfaces}
-use Rattle.wit_syntax.specs.ScopeTables.{part_uses}
-use Rattle.wit_syntax.specs.Source.{TopName, TheWorld, world_part}
+use Rattle.wit_syntax.proofs.Common.{Fault, InterfaceItem, PackageFile, TheWorld, TopName, WorldItem, WorldSide, append-nil, err_from_is_err_and, flat_map, foreign_interfaces, map-append, option_copied, option_map, option_to_list, part_uses, slice_get, slice_get-map, slice_get_read, take_all, take_more, visited, world_part}
 use Rattle.wit_first.specs.UseFaults.{use_fault, uses_fault}
 use Rattle.wit_first.proofs.First.{in-all, in-following, in-parts, reports-in, reports_same}
 use Rattle.wit_scopes.specs.BorrowedNames.{name_view}

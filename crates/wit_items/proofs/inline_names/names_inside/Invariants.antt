@@ -1,9 +1,5 @@
 use Rattle.std.proofs.Common.{◌≡◌, None, map, take}
-use Rattle.std.specs.Prelude.{All}
-use Rattle.std.specs.List.{flat_map}
-use Rattle.wit_tree.specs.declared.tree.WorldItem.{WorldItem}
-use Rattle.wit_syntax.specs.Source.{world_part}
-use Rattle.wit_syntax.specs.Foreign.{visited, foreign_interfaces}
+use Rattle.wit_syntax.proofs.Common.{All, WorldItem, flat_map, foreign_interfaces, visited, world_part}
 use Rattle.wit_first.specs.First.{first_in}
 use Rattle.wit_first.specs.UseFaults.{uses_fault}
 use Rattle.wit_scopes.specs.PlacedNames.{AreNamesPlaced}

@@ -1,17 +1,9 @@
 use Rattle.std.proofs.Common.{◌≡◌, ℕ, ◌+◌, ◌≤◌, List, length, ◌++◌, ◌∷◌, [], Option, Some, map, take, refl, sym, ap, ◌∙◌, subst}
-use Rattle.std.specs.Prelude.{slice_get}
-use Rattle.std.proofs.lemmas.List.{map-append, take_all}
-use Rattle.std.proofs.lemmas.Option.{slice_get_read}
-use Rattle.std.proofs.lemmas.Result.{err_from_is_err_and}
-use Rattle.wit_tree.specs.declared.tree.PackageFile.{PackageFile}
-use Rattle.wit_syntax.specs.Fault.{Fault}
-use Rattle.wit_syntax.specs.Source.{file_items, all_items, scope_names}
+use Rattle.wit_syntax.proofs.Common.{Fault, PackageFile, all_items, err_from_is_err_and, file_items, foreign_interfaces, map-append, scope_names, slice_get, slice_get_read, take_all, take_next, visited}
 use Rattle.wit_first.specs.First.{first_in}
 use Rattle.wit_first.specs.UseFaults.{item_uses_fault}
 use Rattle.wit_first.proofs.First.{in-flat, in-following, reports-in, reports_same}
-use Rattle.wit_syntax.proofs.Orders.{take_next}
 use Rattle.wit_top_names.proofs.Lost.{flat_more}
-use Rattle.wit_syntax.specs.Foreign.{visited, foreign_interfaces}
 use Rattle.wit_items.specs.InlineNames.{names_written}
 use Rattle.wit_items.proofs.Placed.{items_none}
 use Rattle.wit_items.proofs.Written.{inside_none}

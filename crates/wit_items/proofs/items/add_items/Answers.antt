@@ -1,17 +1,6 @@
 use Rattle.std.proofs.Common.{◌≡◌, ◌+◌, ◌++◌, List, ◌∷◌, [], Option, Some, Contains, map, take, refl, sym, ap, ◌∙◌}
-use Rattle.std.specs.List.{flat_map}
-use Rattle.std.specs.Option.{option_or}
-use Rattle.std.specs.Prelude.{slice_get}
-use Rattle.std.proofs.lemmas.List.{map-append, take_more, append-nil}
-use Rattle.std.proofs.lemmas.Option.{slice_get_read}
-use Rattle.std.proofs.lemmas.Result.{err_from_is_err_and}
-use Rattle.wit_tree.specs.declared.tree.AstItem.{AstItem}
+use Rattle.wit_syntax.proofs.Common.{AstItem, Exported, Fault, Imported, Item, PackageFile, TheInterface, TheWorld, TopName, append-nil, declared_items, err_from_is_err_and, file_items, flat_map, foreign_interfaces, map-append, option_or, parts, scope_names, slice_get, slice_get_read, take_more, top_names, visited}
 use Rattle.wit_tree.specs.declared.tree.AstItem.TheVariants as ast
-use Rattle.wit_tree.specs.declared.tree.WorldSide.TheVariants.{Imported, Exported}
-use Rattle.wit_tree.specs.declared.tree.PackageFile.{PackageFile}
-use Rattle.wit_syntax.specs.Fault.{Fault}
-use Rattle.wit_syntax.specs.Source.{TopName, TheInterface, TheWorld, Item, parts, top_names, declared_items, file_items, scope_names}
-use Rattle.wit_syntax.specs.Foreign.{visited, foreign_interfaces}
 use Rattle.wit_first.specs.First.{first_in}
 use Rattle.wit_first.specs.UseFaults.{item_uses_fault, uses_fault}
 use Rattle.wit_first.proofs.First.{in-all, in-flat, in-following, none_both, or_none, reports_back, reports_prefix, reports-in, reports_same}

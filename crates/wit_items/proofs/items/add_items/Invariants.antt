@@ -1,9 +1,5 @@
 use Rattle.std.proofs.Common.{◌≡◌, ◌++◌, None, map, take}
-use Rattle.std.specs.List.{flat_map}
-use Rattle.wit_tree.specs.declared.tree.AstItem.{AstItem}
-use Rattle.wit_tree.specs.declared.tree.WorldSide.{WorldSide}
-use Rattle.wit_syntax.specs.Source.{top_names, declared_items, scope_names}
-use Rattle.wit_syntax.specs.Foreign.{visited, foreign_interfaces}
+use Rattle.wit_syntax.proofs.Common.{AstItem, WorldSide, declared_items, flat_map, foreign_interfaces, scope_names, top_names, visited}
 use Rattle.wit_first.specs.First.{first_in}
 use Rattle.wit_first.specs.UseFaults.{item_uses_fault}
 use Rattle.wit_items.specs.PlacedItems.{AreItemsPlaced}

@@ -1,14 +1,8 @@
 use Rattle.std.proofs.Common.{◌++◌, ◌∷◌, [], map, refl, sym, ap, ◌∙◌}
-use Rattle.std.proofs.lemmas.List.{map-append, append-nil}
-use Rattle.std.proofs.lemmas.Result.{err_from_is_err_and}
-use Rattle.wit_tree.specs.declared.tree.Use.{Use}
-use Rattle.wit_syntax.specs.Address.{Address}
-use Rattle.wit_syntax.specs.Source.{Used}
-use Rattle.wit_syntax.proofs.Found.{contains_at}
+use Rattle.wit_syntax.proofs.Common.{Address, Use, Used, append-nil, contains_at, err_from_is_err_and, foreign_interfaces, map-append, visited}
 use Rattle.wit_first.specs.UseFaults.{use_fault}
 use Rattle.wit_first.proofs.First.{or_none, reports_same}
 use Rattle.wit_scopes.specs.BorrowedNames.{name_view}
-use Rattle.wit_syntax.specs.Foreign.{visited, foreign_interfaces}
 use Rattle.wit_scopes.proofs.Placed.{names_more}
 use Rattle.wit_items.proofs.part_names.add_part.Goals.{in-DefinitionPart+in_ok-push-in-DefinitionPart, in-UsePart+in_ok-from-in-UsePart+in_ok-add_used_names-in-UsePart, in-IncludePart, in-FunctionPart, in-ExternPart}
 use Rattle.wit_files.specs.FileNames.{top_at}

@@ -1,15 +1,5 @@
 use Rattle.std.proofs.Common.{◌≡◌, ◌+◌, ◌++◌, List, ◌∷◌, [], Option, Some, map, take, refl, sym, ap, ◌∙◌}
-use Rattle.std.specs.List.{flat_map}
-use Rattle.std.specs.Prelude.{slice_get}
-use Rattle.std.proofs.lemmas.List.{take_more, take_all}
-use Rattle.std.proofs.lemmas.Option.{slice_get_read}
-use Rattle.std.proofs.lemmas.Result.{err_from_is_err_and}
-use Rattle.wit_tree.specs.declared.tree.InterfaceItem.{InterfaceItem}
-use Rattle.wit_tree.specs.declared.tree.PackageFile.{PackageFile}
-use Rattle.wit_syntax.specs.ExternPart.{item_uses}
-use Rattle.wit_syntax.specs.Fault.{Fault}
-use Rattle.wit_syntax.specs.Source.{TopName, interface_part, part_names}
-use Rattle.wit_syntax.specs.Foreign.{visited, foreign_interfaces}
+use Rattle.wit_syntax.proofs.Common.{Fault, InterfaceItem, PackageFile, TopName, err_from_is_err_and, flat_map, foreign_interfaces, interface_part, item_uses, part_names, slice_get, slice_get_read, take_all, take_more, visited}
 use Rattle.wit_first.specs.UseFaults.{own_uses, use_fault, uses_fault}
 use Rattle.wit_first.proofs.First.{in-all, in-flat, in-following, reports-in, reports_same}
 use Rattle.wit_items.specs.ItemPaths.{part_view}

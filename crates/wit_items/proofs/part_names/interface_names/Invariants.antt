@@ -1,9 +1,5 @@
 use Rattle.std.proofs.Common.{◌≡◌, None, map, take}
-use Rattle.std.specs.List.{flat_map}
-use Rattle.wit_tree.specs.declared.tree.InterfaceItem.{InterfaceItem}
-use Rattle.wit_syntax.specs.Source.{interface_part, part_names}
-use Rattle.wit_syntax.specs.ExternPart.{item_uses}
-use Rattle.wit_syntax.specs.Foreign.{visited, foreign_interfaces}
+use Rattle.wit_syntax.proofs.Common.{InterfaceItem, flat_map, foreign_interfaces, interface_part, item_uses, part_names, visited}
 use Rattle.wit_first.specs.First.{first_in}
 use Rattle.wit_first.specs.UseFaults.{uses_fault}
 use Rattle.wit_scopes.specs.PlacedNames.{AreNamesPlaced}

@@ -1,19 +1,8 @@
 use Rattle.std.proofs.Common.{◌≡◌, ◌+◌, ◌++◌, List, ◌∷◌, [], Option, Some, map, take, refl, sym, ap, ◌∙◌}
-use Rattle.std.specs.List.{flat_map}
-use Rattle.std.specs.Prelude.{slice_get}
-use Rattle.std.proofs.lemmas.List.{take_more, take_all}
-use Rattle.std.proofs.lemmas.Option.{slice_get_read, slice_get-map}
-use Rattle.std.proofs.lemmas.Result.{err_from_is_err_and}
-use Rattle.std.specs.Option.{option_map}
-use Rattle.wit_tree.specs.declared.tree.WorldItem.{WorldItem}
-use Rattle.wit_tree.specs.declared.tree.PackageFile.{PackageFile}
-use Rattle.wit_syntax.specs.Fault.{Fault}
-use Rattle.wit_syntax.specs.Source.{TopName, TheWorld, world_part, part_names}
-use Rattle.wit_syntax.specs.ScopeTables.{part_uses}
+use Rattle.wit_syntax.proofs.Common.{Fault, PackageFile, TheWorld, TopName, WorldItem, err_from_is_err_and, flat_map, foreign_interfaces, option_map, part_names, part_uses, slice_get, slice_get-map, slice_get_read, take_all, take_more, visited, world_part}
 use Rattle.wit_first.specs.UseFaults.{own_uses, use_fault, uses_fault}
 use Rattle.wit_first.proofs.First.{in-all, in-following, in-parts, reports-in, reports_same}
 use Rattle.wit_items.specs.ItemPaths.{part_view}
-use Rattle.wit_syntax.specs.Foreign.{visited, foreign_interfaces}
 use Rattle.wit_items.proofs.PlacedNames.{names_none}
 use Rattle.wit_items.proofs.WrittenNames.{own_among}
 use Rattle.wit_items.proofs.UsableNames.{among_flat, parts_more, use_has_path}

@@ -1,8 +1,5 @@
 use Rattle.std.proofs.Common.{◌≡◌, None, map, take}
-use Rattle.std.specs.List.{flat_map}
-use Rattle.wit_tree.specs.declared.tree.WorldItem.{WorldItem}
-use Rattle.wit_syntax.specs.Source.{world_part, part_names}
-use Rattle.wit_syntax.specs.Foreign.{visited, foreign_interfaces}
+use Rattle.wit_syntax.proofs.Common.{WorldItem, flat_map, foreign_interfaces, part_names, visited, world_part}
 use Rattle.wit_first.specs.First.{first_in}
 use Rattle.wit_first.specs.UseFaults.{own_uses, uses_fault}
 use Rattle.wit_scopes.specs.PlacedNames.{AreNamesPlaced}

@@ -1,6 +1,5 @@
 use Rattle.std.proofs.Common.{sym, ap, ◌∙◌}
-use Rattle.std.specs.Option.{option_copied}
-use Rattle.wit_syntax.specs.Source.{Target}
+use Rattle.wit_syntax.proofs.Common.{Target, option_copied}
 use Rattle.wit_top_names.specs.Tops.{target_view}
 use Rattle.wit_items.proofs.Finding.{other_found, other_unfound, got_at}
 use Rattle.wit_items.proofs.Others.{entry_found, entry_missing}

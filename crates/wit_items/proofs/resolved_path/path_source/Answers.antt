@@ -1,9 +1,5 @@
 use Rattle.std.proofs.Common.{◌≡◌, Bool, Option, None, Some, inl, inr, sym, ap, ◌∙◌}
-use Rattle.std.specs.Option.{option_map}
-use Rattle.wit_type_tree.specs.declared.leaves.Id.{Id}
-use Rattle.wit_syntax.specs.Broken.{is_world_at}
-use Rattle.wit_syntax.specs.Fault.{world_there}
-use Rattle.wit_syntax.specs.Source.{Target, leads, path_id, all_items, is_world}
+use Rattle.wit_syntax.proofs.Common.{Id, Target, all_items, is_world, is_world_at, leads, option_map, path_id, world_there}
 use Rattle.wit_first.specs.FileFaults.{lost_fault}
 use Rattle.wit_first.specs.UseFaults.{reached_fault}
 use Rattle.wit_first.proofs.FileFaults.{lost_at}

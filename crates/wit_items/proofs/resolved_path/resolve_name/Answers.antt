@@ -1,9 +1,8 @@
 use Rattle.std.proofs.Common.{◌≡◌, Some, sym, ap, ◌∙◌}
-use Rattle.wit_syntax.specs.Source.{Target, leads, target_scope}
+use Rattle.wit_syntax.proofs.Common.{InterfaceNamed, Target, leads, target_scope}
 use Rattle.wit_files.specs.FileNames.{found_at, top_at}
 use Rattle.wit_items.proofs.Finding.{item_found, item_unfound, leads_nowhere, leads_to, leads_within}
 use Rattle.wit_items.proofs.resolved_path.resolve_name.Goals as goal
-use Rattle.wit_syntax.specs.Address.{InterfaceNamed}
 
 pub returns-in-None : goal.returns-in-None
 returns-in-None c =

@@ -1,7 +1,5 @@
 use Rattle.std.proofs.Common.{◌≡◌, Some, None, sym, ap, ◌∙◌}
-use Rattle.wit_syntax.specs.Address.{package_of, InterfaceNamed}
-use Rattle.wit_syntax.specs.Source.{Foreign, leads, target_scope}
-use Rattle.wit_syntax.specs.Broken.{is_world_at}
+use Rattle.wit_syntax.proofs.Common.{Foreign, InterfaceNamed, is_world_at, leads, package_of, target_scope}
 use Rattle.wit_top_names.specs.Tops.{target_view}
 use Rattle.wit_files.specs.FileNames.{top_at}
 use Rattle.wit_items.specs.ItemPaths.{entry_at, interface_entry}

@@ -1,6 +1,5 @@
 use Rattle.std.proofs.Common.{Some, ap, sym, ◌∙◌, subst, take_all}
-use Rattle.std.specs.Prelude.{All}
-use Rattle.std.proofs.lemmas.Option.{slice_get-get_or}
+use Rattle.wit_syntax.proofs.Common.{All, slice_get-get_or}
 use Rattle.wit_json_laws.specs.Laws.{IsPlainWhereMade}
 use Rattle.wit_json_laws.proofs.Lists.{all_next, all_none}
 use Rattle.wit_json_laws.proofs.laws.each_is_plain.Goals as goal

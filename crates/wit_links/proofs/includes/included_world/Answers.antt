@@ -1,6 +1,5 @@
 use Rattle.std.proofs.Common.{◌≡◌, sym, ap, ◌∙◌}
-use Rattle.wit_syntax.specs.Address.{package_of}
-use Rattle.wit_syntax.specs.Source.{Foreign, leads}
+use Rattle.wit_syntax.proofs.Common.{Foreign, leads, package_of}
 use Rattle.wit_top_names.specs.Tops.{target_view}
 use Rattle.wit_items.specs.ItemPaths.{entry_at, world_entry, world_at}
 use Rattle.wit_files.specs.FileNames.{top_at}

@@ -1,12 +1,8 @@
 use Rattle.std.proofs.Common.{◌≡◌, map, None, Some, inl, inr, refl, sym, ap, ◌∙◌}
-use Rattle.std.proofs.lemmas.Result.{err_from_is_err_and}
-use Rattle.wit_type_tree.specs.declared.leaves.Id.{Id}
-use Rattle.wit_syntax.specs.Source.{Target, leads}
-use Rattle.wit_syntax.specs.Fault.{interface_there}
-use Rattle.wit_syntax.specs.Words.{interface_words}
+use Rattle.wit_syntax.proofs.Common.{Id, Target, err_from_is_err_and, interface_there, interface_words, leads}
 use Rattle.wit_first.specs.AttributeFaults.{stability_fault}
 use Rattle.wit_first.proofs.First.{none_both, reports_back, reports_prefix}
-use Rattle.wit_arena.specs.Whole.{renamed}
+use Rattle.wit_arena.proofs.Common.{renamed}
 use Rattle.wit_files.specs.FileNames.{top_at}
 use Rattle.wit_items.specs.ItemPaths.{world_at}
 use Rattle.wit_items.proofs.Others.{world_found}

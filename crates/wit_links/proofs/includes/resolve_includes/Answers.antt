@@ -1,17 +1,9 @@
 use Rattle.std.proofs.Common.{◌≡◌, ◌+◌, ℕ, List, [], ◌∷◌, ◌++◌, ◌<◌, length, get_or, take, Some, refl, sym, ap, ◌∙◌, subst, arith}
-use Rattle.std.specs.Prelude.{slice_get, map}
-use Rattle.std.specs.Option.{option_map}
-use Rattle.std.proofs.lemmas.List.{take_all}
-use Rattle.std.proofs.lemmas.Option.{slice_get-get_or, slice_get-map}
-use Rattle.std.proofs.lemmas.Result.{err_from_is_err_and}
-use Rattle.wit_tree.specs.declared.tree.Include.{Include}
-use Rattle.wit_tree.specs.declared.tree.WorldItem.{WorldItem}
+use Rattle.wit_syntax.proofs.Common.{Include, IncludePart, TheWorld, TopName, WorldItem, contains_at, err_from_is_err_and, map, option_map, slice_get, slice_get-get_or, slice_get-map, take_all, world_part}
 use Rattle.wit_tree.specs.declared.tree.WorldItem.TheVariants as world_item
-use Rattle.wit_syntax.specs.Source.{TopName, TheWorld, IncludePart, world_part}
-use Rattle.wit_syntax.proofs.Found.{contains_at}
 use Rattle.wit_first.specs.First.{first_in}
 use Rattle.wit_first.proofs.First.{in-following, or_none, reports-in, reports_same}
-use Rattle.wit_arena.specs.ResolvedArenas.{worlds_at}
+use Rattle.wit_arena.proofs.Common.{worlds_at}
 use Rattle.wit_files.specs.FileNames.{top_at}
 use Rattle.wit_items.specs.BorrowedItems.{others_of}
 use Rattle.wit_links.specs.Includes.{included_fault}

@@ -1,6 +1,6 @@
 use Rattle.std.proofs.Common.{◌≡◌, None, take}
 use Rattle.wit_first.specs.First.{first_in}
-use Rattle.wit_arena.specs.ResolvedArenas.{worlds_at}
+use Rattle.wit_arena.proofs.Common.{worlds_at}
 use Rattle.wit_items.specs.BorrowedItems.{others_of}
 use Rattle.wit_files.specs.FileNames.{top_at}
 use Rattle.wit_links.proofs.IncludeFaults.{part_fault}

@@ -1,15 +1,10 @@
 use Rattle.std.proofs.Common.{◌≡◌, Bool, Option, None, Some, inl, inr, refl, sym, ap, ◌∙◌}
-use Rattle.std.specs.Option.{option_map}
-use Rattle.wit_type_tree.specs.declared.leaves.Id.{Id}
-use Rattle.wit_syntax.specs.Address.{is_foreign}
-use Rattle.wit_syntax.specs.Broken.{is_world_at}
-use Rattle.wit_syntax.specs.Fault.{missing_at, item_word, world_there}
-use Rattle.wit_syntax.specs.Source.{Target, Local, leads, path_id, all_items, is_world}
+use Rattle.wit_syntax.proofs.Common.{Id, Local, Target, all_items, is_foreign, is_world, is_world_at, item_word, leads, missing_at, option_map, path_id, world_there}
 use Rattle.wit_first.specs.FileFaults.{lost_fault}
 use Rattle.wit_first.specs.UseFaults.{reached_fault}
 use Rattle.wit_first.proofs.FileFaults.{lost_at}
 use Rattle.wit_first.proofs.First.{none_both, reports_back, reports_prefix}
-use Rattle.wit_arena.specs.Resolving.{env_of}
+use Rattle.wit_arena.proofs.Common.{env_of}
 use Rattle.wit_files.specs.FileNames.{top_at}
 use Rattle.wit_items.specs.ForeignAddresses.{prefix_of}
 use Rattle.wit_links.specs.Links.{interface_place, unresolved_fault}

@@ -1,6 +1,5 @@
 use Rattle.std.proofs.Common.{◌≡◌, false, true, sym, ap, ◌∙◌}
-use Rattle.wit_syntax.specs.Address.{is_foreign, InterfaceNamed}
-use Rattle.wit_syntax.specs.Source.{Target, target_scope}
+use Rattle.wit_syntax.proofs.Common.{InterfaceNamed, Target, is_foreign, target_scope}
 use Rattle.wit_top_names.specs.Tops.{target_view}
 use Rattle.wit_links.proofs.links.local_name.Goals as goal
 

@@ -1,11 +1,7 @@
 use Rattle.std.proofs.Common.{rules, ◌≡◌, ◌++◌, ◌∷◌, [], ap, ◌∙◌, sym, subst, append_assoc}
-use Rattle.std.specs.List.{AllZip}
-use Rattle.std.specs.Vec.Iter.{into_iter_items}
-use Rattle.std.proofs.lemmas.List.{append-nil, nil_from_length}
-use Rattle.std.proofs.lemmas.Result.{err_from_is_err_and}
+use Rattle.wit_syntax.proofs.Common.{AllZip, append-nil, err_from_is_err_and, into_iter_items, nil_from_length}
 use Rattle.wit_nested.specs.Nested.{IsMadeByNested}
-use Rattle.wit_first.specs.First.{first_in}
-use Rattle.wit_first.proofs.First.{in-more}
+use Rattle.wit_walk.proofs.Common.{first_in, in-more}
 use Rattle.wit_nested.specs.PushFaults.{nested_fault}
 use Rattle.wit_nested.proofs.FirstFaults.{in_stops}
 use Rattle.wit_nested.proofs.Making.{broken_at, zip_more}

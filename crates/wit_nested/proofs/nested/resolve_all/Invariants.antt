@@ -1,9 +1,6 @@
 use Rattle.std.proofs.Common.{◌≡◌, ◌++◌, List, Option, None}
-use Rattle.std.specs.List.{AllZip}
-use Rattle.std.specs.Vec.Iter.{into_iter_items}
-use Rattle.wit_tree.specs.declared.tree.PackageFile.{PackageFile}
-use Rattle.wit_syntax.specs.Fault.{Fault}
-use Rattle.wit_first.specs.First.{first_in}
+use Rattle.wit_syntax.proofs.Common.{AllZip, Fault, PackageFile, into_iter_items}
+use Rattle.wit_walk.proofs.Common.{first_in}
 use Rattle.wit_nested.specs.Nested.{IsMadeByNested}
 use Rattle.wit_nested.specs.PushFaults.{IsWalk, nested_fault}
 use Rattle.wit_nested.proofs.nested.resolve_all.Given as goal

@@ -1,5 +1,5 @@
-use Rattle.std.proofs.lemmas.Result.{err_from_is_err_and}
-use Rattle.wit_first.proofs.Bridge.{refused_by}
+use Rattle.wit_syntax.proofs.Common.{err_from_is_err_and}
+use Rattle.wit_walk.proofs.Common.{refused_by}
 use Rattle.wit_parser.proofs.Pushing.{push_agrees}
 use Rattle.wit_nested.proofs.FirstFaults.{one_finds, one_stops}
 use Rattle.wit_nested.proofs.Making.{inner_broken, one_broken, one_made}

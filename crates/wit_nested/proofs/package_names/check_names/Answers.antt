@@ -1,7 +1,5 @@
 use Rattle.std.proofs.Common.{inl, inr, ap, ◌∙◌}
-use Rattle.wit_values.specs.declared.span.Span.{Span}
-use Rattle.wit_syntax.specs.Fault.{fault_in}
-use Rattle.wit_syntax.specs.Words.{package_words}
+use Rattle.wit_syntax.proofs.Common.{Span, fault_in, package_words}
 use Rattle.wit_nested.proofs.package_names.check_names.Goals as goal
 
 pub returns-in-Some-clause-refused : goal.returns-in-Some-clause-refused

@@ -1,12 +1,6 @@
 use denote.Ref.{Bor}
 use Rattle.std.proofs.Common.{not, ap, ◌∙◌}
-use Rattle.std.specs.Map.{keys_of}
-use Rattle.std.specs.Option.{is_some}
-use Rattle.std.proofs.lemmas.Map.Made.{is_some-lookup}
-use Rattle.wit_package_names.specs.declared.package_name.PackageName.{PackageName}
-use Rattle.wit_syntax.specs.Address.{same_package}
-use Rattle.wit_syntax.proofs.Addresses.{same_package-equal, same_package-from}
-use Rattle.wit_syntax.proofs.Inserting.{keys-insert_entry}
+use Rattle.wit_syntax.proofs.Common.{PackageName, is_some, is_some-lookup, keys-insert_entry, keys_of, same_package, same_package-equal, same_package-from}
 use Rattle.wit_nested.proofs.Naming.{inserted, turned}
 use Rattle.wit_nested.proofs.package_names.insert.Goals as goal
 

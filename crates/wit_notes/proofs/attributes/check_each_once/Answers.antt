@@ -1,9 +1,5 @@
 use Rattle.std.proofs.Common.{rules, ◌≡◌, ◌<◌, take, length, true, false, Some, None, refl, sym, ap, ◌∙◌, arith}
-use Rattle.std.specs.Prelude.{slice_get, not}
-use Rattle.std.proofs.lemmas.Option.{slice_get-get_or}
-use Rattle.std.proofs.lemmas.Result.{err_from_is_err_and}
-use Rattle.wit_type_tree.specs.declared.attribute_kind.AttributeKind.TheVariants.{ExternalId}
-use Rattle.wit_type_tree.specs.Attributes.{is_of}
+use Rattle.wit_syntax.proofs.Common.{ExternalId, err_from_is_err_and, is_of, not, slice_get, slice_get-get_or}
 use Rattle.wit_first.specs.AttributeFaults.{counted_fault}
 use Rattle.wit_first.proofs.First.{reports-after, after-next}
 use Rattle.wit_notes.proofs.attributes.check_each_once.Goals.{then-not-is_of+in_ok-check_new, else-not-is_of}

@@ -1,5 +1,5 @@
 use Rattle.std.proofs.Common.{refl, arith}
-use Rattle.std.proofs.lemmas.List.{nil_from_length}
+use Rattle.wit_syntax.proofs.Common.{nil_from_length}
 use Rattle.wit_notes.proofs.attributes.stated_stability.Goals as goal
 
 pub returns-then-attributes-eq0 : goal.returns-then-attributes-eq0

@@ -1,6 +1,6 @@
 use Rattle.std.proofs.Common.{◌≡◌, ◌∙◌, sym, None, lit<}
 use Rattle.std.proofs.lemmas.Str.Pattern.{strip_prefix_char}
-use Rattle.wit_syntax.specs.Docs.{after_spaces}
+use Rattle.wit_syntax.proofs.Common.{after_spaces}
 use Rattle.wit_notes.proofs.Texts.{spaces-none}
 use Rattle.wit_notes.proofs.comments.after_spaces.Goals as goal
 

@@ -1,7 +1,7 @@
 use Rattle.std.proofs.Common.{◌≡◌}
 use denote.Text.{Utf8}
 use denote.Shadow.{shadow}
-use Rattle.wit_syntax.specs.Docs.{after_spaces}
+use Rattle.wit_syntax.proofs.Common.{after_spaces}
 use Rattle.wit_notes.proofs.comments.after_spaces.Given as goal
 
 abbrev pub invariant-loop-left : goal.invariant-loop-left

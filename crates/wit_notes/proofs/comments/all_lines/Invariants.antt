@@ -1,6 +1,5 @@
 use Rattle.std.proofs.Common.{◌≡◌, map, take, string_bytes}
-use Rattle.std.specs.List.{flat_map}
-use Rattle.wit_syntax.specs.Docs.{ended_lines, said, without_spaces}
+use Rattle.wit_syntax.proofs.Common.{ended_lines, flat_map, said, without_spaces}
 use Rattle.wit_notes.proofs.comments.all_lines.Given as goal
 
 abbrev pub invariant-loop-comment : goal.invariant-loop-comment

@@ -1,12 +1,11 @@
 use Rattle.std.proofs.Common.{rules, ℕ, List, ◌∙◌, ap, sym, min}
 use Rattle.std.specs.Prelude.{unwrap_or}
-use Rattle.std.specs.List.{reduce}
+use Rattle.wit_syntax.proofs.Common.{reduce, said}
 use Rattle.std.proofs.lemmas.Iterator.{YieldsList-from_slice}
 use Rattle.std.proofs.lemmas.Iterator.Consumers.{YieldsList-from_filter_map, min_from_yields_List}
 use Rattle.std.proofs.lemmas.Iterator.Adapters.{option_map_id}
 use denote.Ref.{Bor}
 use Rattle.wit_notes.specs.Indents.{written_indent}
-use Rattle.wit_syntax.specs.Docs.{said}
 use Rattle.wit_notes.proofs.Texts.{indents-found}
 use Rattle.wit_notes.proofs.comments.common_indent.Goals as goal
 

@@ -1,7 +1,7 @@
 use Rattle.std.proofs.Common.{◌≡◌, ◌∙◌, ℕ, List, ap, not, false, is_some, map, string_bytes}
 use denote.Ref.{Bor}
 use Rattle.memchr.specs.Find.{IsFirstByte, is_byte}
-use Rattle.wit_syntax.specs.Docs.{said}
+use Rattle.wit_syntax.proofs.Common.{said}
 use Rattle.wit_notes.specs.PlainComments.{all_lines}
 use Rattle.wit_notes.proofs.PlainComments.{first-common, no_return-found}
 use Rattle.wit_notes.proofs.comments.common_lines.Goals as goal

@@ -1,8 +1,6 @@
 use Rattle.std.proofs.Common.{◌≡◌, ℕ, List, ◌∙◌, ◌==◌, ap, sym, false, length, Option, Some}
-use Rattle.std.specs.Prelude.{map}
+use Rattle.wit_syntax.proofs.Common.{Docs, docs_text, joined, map, said}
 use denote.Ref.{Bor}
-use Rattle.wit_types.specs.declared.docs.Docs.{Docs}
-use Rattle.wit_syntax.specs.Docs.{docs_text, joined, said}
 use Rattle.wit_notes.proofs.Texts.{docs-joined}
 use Rattle.wit_notes.proofs.comments.docs.Goals as goal
 

@@ -1,6 +1,5 @@
 use Rattle.std.proofs.Common.{◌≡◌, ◌≤◌, ◌∙◌, ap, sym, subst, length, take, string_bytes}
-use Rattle.std.specs.Str.{IsUtf8}
-use Rattle.std.proofs.lemmas.Str.{IsCharBoundary-from_take, IsUtf8-string_bytes}
+use Rattle.wit_syntax.proofs.Common.{IsCharBoundary-from_take, IsUtf8, IsUtf8-string_bytes}
 use Rattle.wit_notes.proofs.Texts.{last_lines-trimmed}
 use Rattle.wit_notes.proofs.comments.drop_last_lines.Goals as goal
 

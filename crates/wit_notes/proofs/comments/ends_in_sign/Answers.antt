@@ -1,5 +1,5 @@
 use Rattle.std.proofs.Common.{◌≡◌, ◌-◌, ◌<◌, true, ◌∙◌, sym, arith, length, slice_index}
-use Rattle.std.specs.Char.{is_ascii_graphic}
+use Rattle.wit_syntax.proofs.Common.{is_ascii_graphic}
 use Rattle.wit_notes.proofs.Trimmed.{sign-trimmed}
 use Rattle.wit_notes.proofs.comments.ends_in_sign.Goals as goal
 

@@ -1,5 +1,5 @@
 use Rattle.std.proofs.Common.{◌≡◌, map, drop}
-use Rattle.wit_syntax.specs.Docs.{said}
+use Rattle.wit_syntax.proofs.Common.{said}
 use Rattle.wit_notes.specs.PlainComments.{first_indent}
 use Rattle.wit_notes.proofs.comments.first_indent.Given as goal
 

@@ -1,10 +1,8 @@
 use Rattle.std.proofs.Common.{rules, ◌≡◌, ◌++◌, ◌∙◌, ◌==◌, OnOk, ap, sym, subst, refl, true, false, not, map, length, string_bytes, is_some}
-use Rattle.std.specs.List.{flat_map}
-use Rattle.std.specs.Str.Lines.{lines}
+use Rattle.wit_syntax.proofs.Common.{ended, flat_map, lines}
 use Rattle.std.proofs.lemmas.Iterator.Splits.{YieldsList-from_lines}
 use Rattle.std.proofs.lemmas.Iterator.Consumers.{YieldsList-end}
 use Rattle.memchr.specs.Find.{IsFirstByte, is_byte}
-use Rattle.wit_syntax.specs.Docs.{ended}
 use Rattle.wit_notes.proofs.Texts.{lines-one, lines-many}
 use Rattle.wit_notes.proofs.comments.push_lines.Goals as goal
 

@@ -1,6 +1,5 @@
 use Rattle.std.proofs.Common.{◌≡◌, ◌++◌, map, string_bytes}
-use Rattle.std.specs.List.{flat_map}
-use Rattle.wit_syntax.specs.Docs.{ended}
+use Rattle.wit_syntax.proofs.Common.{ended, flat_map}
 use Rattle.wit_notes.proofs.comments.push_lines.Given as goal
 
 abbrev pub invariant-loop-line : goal.invariant-loop-line

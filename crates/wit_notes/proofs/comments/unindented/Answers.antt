@@ -1,5 +1,5 @@
 use Rattle.std.proofs.Common.{◌∙◌, sym, ap}
-use Rattle.std.specs.Option.{option_copied}
+use Rattle.wit_syntax.proofs.Common.{option_copied}
 use Rattle.wit_notes.proofs.PlainComments.{spaces-indent}
 use Rattle.wit_notes.proofs.comments.unindented.Goals as goal
 

@@ -1,7 +1,5 @@
 use Rattle.std.proofs.Common.{◌≡◌, ◌∙◌, ap, sym, Some}
-use Rattle.std.specs.Prelude.{codes}
-use Rattle.std.specs.Option.{option_copied}
-use Rattle.wit_names.specs.Prefix.{rest_after}
+use Rattle.wit_syntax.proofs.Common.{codes, option_copied, rest_after}
 use Rattle.wit_notes.proofs.Texts.{unmarked-slashes}
 use Rattle.wit_notes.proofs.comments.unmarked.Goals as goal
 

@@ -1,13 +1,10 @@
 use Rattle.std.proofs.Common.{◌∙◌, ap, sym}
-use Rattle.std.specs.List.{flat_map}
-use Rattle.std.proofs.lemmas.List.{append-nil}
+use Rattle.wit_syntax.proofs.Common.{append-nil, file_declarations, flat_map, flat_map-flat_map}
 use Rattle.wit_files.specs.Visits.{item_visits, visits}
-use Rattle.wit_syntax.specs.Splitting.{file_declarations}
-use Rattle.wit_syntax.proofs.JoinedLists.{flat_map-flat_map}
 use Rattle.wit_syntax.proofs.Joined.{joined_split}
 use Rattle.wit_arena.proofs.JoinedOccurrences.{joined_occurrences}
 use Rattle.wit_arena.proofs.JoinedMade.{joined_packages}
-use Rattle.wit_arena.proofs.OneMade.{one_made}
+use Rattle.wit_arena.proofs.Common.{one_made}
 use Rattle.wit_parser.proofs.laws.splitting.Goals as goal
 
 pub returns-clause-visits : goal.returns-clause-visits

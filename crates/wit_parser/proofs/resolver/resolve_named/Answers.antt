@@ -1,10 +1,7 @@
 use Rattle.std.proofs.Common.{inl, ap, ◌∙◌}
-use Rattle.std.specs.Option.{option_map}
-use Rattle.std.proofs.lemmas.Result.{err_from_is_err_and}
-use Rattle.wit_values.specs.ReleaseText.{release_parts}
-use Rattle.wit_package_names.specs.declared.package_name.PackageName.{PackageName}
-use Rattle.wit_arena.proofs.ByParts.{NamesOthers}
-use Rattle.wit_walk.proofs.Legal.{legal}
+use Rattle.wit_syntax.proofs.Common.{PackageName, err_from_is_err_and, option_map, release_parts}
+use Rattle.wit_arena.proofs.Common.{NamesOthers}
+use Rattle.wit_walk.proofs.Common.{legal}
 use Rattle.wit_arena.proofs.MadePackage.{made_of_package}
 use Rattle.wit_contents.specs.AddedFiles.{MakeContents}
 use Rattle.wit_contents.proofs.Files.{files_package}

@@ -1,6 +1,5 @@
 use Rattle.std.proofs.Common.{◌≡◌, ◌++◌, Some, ◌∙◌, sym, ap}
-use Rattle.wit_names.specs.Prefix.{rest_after}
-use Rattle.wit_syntax.proofs.Names.{name_equal}
+use Rattle.wit_syntax.proofs.Common.{name_equal, rest_after}
 use Rattle.wit_refusals.proofs.Scoping.{rest_after-some}
 use Rattle.wit_refusals.proofs.getters.is_joined.Goals as goal
 

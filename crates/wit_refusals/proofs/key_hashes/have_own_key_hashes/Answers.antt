@@ -1,6 +1,5 @@
 use Rattle.std.proofs.Common.{◌≡◌, map, subst, sym, ◌∙◌}
-use Rattle.std.specs.List.Sorted.{IsPermutation, IsStrictlyIncreasing}
-use Rattle.wit_syntax.proofs.Lists.{map_map}
+use Rattle.wit_syntax.proofs.Common.{IsPermutation, IsStrictlyIncreasing, map_map}
 use Rattle.wit_refusals.specs.KeyHashes.{key_hash_of}
 use Rattle.wit_refusals.proofs.Apart.{differ_by_key_hashes}
 use Rattle.wit_refusals.proofs.key_hashes.have_own_key_hashes.Goals as goal

@@ -1,5 +1,5 @@
 use Rattle.std.proofs.Common.{ℕ, ◌+◌, ◌<◌}
-use Rattle.std.specs.Prelude.{slice_index}
+use Rattle.wit_syntax.proofs.Common.{slice_index}
 use Rattle.wit_refusals.proofs.key_hashes.rise.Given as goal
 
 abbrev pub invariant-loop-place : goal.invariant-loop-place

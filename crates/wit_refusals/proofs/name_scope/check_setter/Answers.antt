@@ -1,6 +1,5 @@
 use Rattle.std.proofs.Common.{◌≡◌, List, rules, true, false, inl, inr, sym, subst, ◌∙◌}
-use Rattle.wit_names.specs.Setter.{getter_of, is_setter}
-use Rattle.wit_syntax.specs.Words.{setter_words}
+use Rattle.wit_syntax.proofs.Common.{getter_of, is_setter, setter_words}
 use Rattle.wit_refusals.specs.KeyedNames.{HasName, names_of}
 use Rattle.wit_refusals.proofs.Scoping.{is_mangled-getter}
 use Rattle.wit_refusals.proofs.name_scope.check_setter.Goals as goal

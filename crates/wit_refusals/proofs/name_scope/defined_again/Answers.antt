@@ -1,6 +1,5 @@
 use Rattle.std.proofs.Common.{◌≡◌, ℕ, List, Some, None, sym, ap, subst, ◌∙◌}
-use Rattle.std.specs.Prelude.{IfOk, codes, slice_get, string_bytes}
-use Rattle.wit_syntax.specs.Words.{clash}
+use Rattle.wit_syntax.proofs.Common.{IfOk, clash, codes, slice_get, string_bytes}
 use Rattle.wit_refusals.specs.KeyedNames.{Entry, spelled}
 use Rattle.wit_refusals.proofs.name_scope.defined_again.Goals as goal
 use Rattle.wit_refusals.proofs.name_scope.defined_again.Goals.{in-Some, in-None}

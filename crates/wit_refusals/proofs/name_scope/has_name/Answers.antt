@@ -1,7 +1,5 @@
 use Rattle.std.proofs.Common.{◌≡◌, rules, nat_eq, Some, None, sym, ap, ◌∙◌}
-use Rattle.std.specs.Cmp.Lexicographic.{pointwise}
-use Rattle.std.specs.Map.{lookup}
-use Rattle.wit_syntax.proofs.Names.{name_equal, name_itself}
+use Rattle.wit_syntax.proofs.Common.{lookup, name_equal, name_itself, pointwise}
 use Rattle.wit_refusals.specs.KeyedNames.{spelled}
 use Rattle.wit_refusals.proofs.Scoping.{has-found, found-has, none-has}
 use Rattle.wit_refusals.proofs.name_scope.has_name.Goals as goal

@@ -1,7 +1,5 @@
 use Rattle.std.proofs.Common.{◌≡◌, ℕ, List, Some, ◌∙◌, sym, ap}
-use Rattle.std.specs.Prelude.{slice_get}
-use Rattle.std.specs.Option.{option_map}
-use Rattle.std.proofs.lemmas.Option.{slice_get-map}
+use Rattle.wit_syntax.proofs.Common.{option_map, slice_get, slice_get-map}
 use Rattle.wit_refusals.specs.KeyedNames.{spelled, name_of, names_of}
 use Rattle.wit_refusals.proofs.name_scope.is_getter_at.Goals as goal
 

@@ -1,4 +1,4 @@
-use Rattle.wit_syntax.specs.Words.{world_words}
+use Rattle.wit_syntax.proofs.Common.{world_words}
 use Rattle.wit_refusals.proofs.refusal.refuse_world.Goals as goal
 
 pub returns : goal.returns

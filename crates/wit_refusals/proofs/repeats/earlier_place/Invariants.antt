@@ -1,5 +1,5 @@
 use Rattle.std.proofs.Common.{ℕ, ◌<◌, map}
-use Rattle.wit_syntax.specs.Repeats.{IsRepeatAt}
+use Rattle.wit_syntax.proofs.Common.{IsRepeatAt}
 use Rattle.wit_refusals.proofs.repeats.earlier_place.Given as goal
 
 abbrev pub invariant-loop-earlier : goal.invariant-loop-earlier

@@ -1,6 +1,5 @@
 use Rattle.std.proofs.Common.{◌≡◌, map, take, subst, sym, ◌∙◌, arith}
-use Rattle.std.proofs.lemmas.List.{length-map, take_all}
-use Rattle.wit_syntax.specs.Repeats.{AllDiffer}
+use Rattle.wit_syntax.proofs.Common.{AllDiffer, length-map, take_all}
 use Rattle.wit_refusals.proofs.Seeing.{placed_differ, seen-again, seen-next}
 use Rattle.wit_refusals.proofs.repeats.first_repeat_by_map.Goals as goal
 

@@ -1,5 +1,5 @@
 use Rattle.std.proofs.Common.{◌≡◌, map, take}
-use Rattle.wit_syntax.specs.Bodies.{folded}
+use Rattle.wit_syntax.proofs.Common.{folded}
 use Rattle.wit_refusals.proofs.repeats.in_lower_case.Given as goal
 
 abbrev pub invariant-loop-text : goal.invariant-loop-text

@@ -1,14 +1,8 @@
 use Rattle.std.proofs.Common.{◌≡◌, ℕ, List, Some, inl, inr, ap, sym, subst, ◌∙◌, take}
-use Rattle.std.specs.Prelude.{map, slice_get}
+use Rattle.wit_syntax.proofs.Common.{AllDiffer, Id, IsRepeatAt, clash, folded, map, map_at, slice_get, slice_get-get_or, slice_get_within}
 use Rattle.std.specs.Borrow.{Bor}
-use Rattle.std.proofs.lemmas.Option.{slice_get-get_or, slice_get_within}
-use Rattle.wit_type_tree.specs.declared.leaves.Id.{Id}
 use Rattle.wit_first.proofs.Clashes.{no_clashes, clash_first}
 use Rattle.wit_first.specs.ListFaults.{clash_fault}
-use Rattle.wit_syntax.proofs.Lists.{map_at}
-use Rattle.wit_syntax.specs.Bodies.{folded}
-use Rattle.wit_syntax.specs.Words.{clash}
-use Rattle.wit_syntax.specs.Repeats.{IsRepeatAt, AllDiffer}
 use Rattle.wit_refusals.proofs.Cases.{names-folded}
 use Rattle.wit_refusals.proofs.unique_names.check_unique_names.Goals as goal
 

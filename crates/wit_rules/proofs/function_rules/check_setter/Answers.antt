@@ -1,9 +1,5 @@
 use Rattle.std.proofs.Common.{◌≡◌, List, None, Some, length, inl, inr, sym, ap, ◌∙◌}
-use Rattle.std.specs.Prelude.{slice_get}
-use Rattle.std.specs.Option.{option_copied}
-use Rattle.wit_type_tree.specs.declared.types.Param.{Param}
-use Rattle.wit_values.specs.declared.span.Span.{Span}
-use Rattle.wit_syntax.specs.Fault.{fault}
+use Rattle.wit_syntax.proofs.Common.{Param, Span, fault, option_copied, slice_get}
 use Rattle.wit_rules.specs.BorrowedFunctions.{function_view}
 use Rattle.wit_rules.proofs.FunctionRules.{got_at, setter_alone, setter_second}
 use Rattle.wit_rules.proofs.function_rules.check_setter.Goals as goal

@@ -1,7 +1,5 @@
 use Rattle.std.proofs.Common.{List, ◌++◌, map, ap, sym, ◌∙◌, arith}
-use Rattle.std.proofs.lemmas.List.{take_all}
-use Rattle.wit_type_tree.specs.declared.types.Param.{Param}
-use Rattle.wit_syntax.specs.Function.{written_param}
+use Rattle.wit_syntax.proofs.Common.{Param, take_all, written_param}
 use Rattle.wit_rules.specs.BorrowedFunctions.{function_view}
 use Rattle.wit_rules.proofs.FunctionRules.{names-append}
 use Rattle.wit_rules.proofs.function_rules.param_names.Goals as goal

@@ -1,5 +1,4 @@
-use Rattle.std.specs.Prelude.{codes}
-use Rattle.wit_syntax.specs.Words.{defined_twice}
+use Rattle.wit_syntax.proofs.Common.{codes, defined_twice}
 use Rattle.wit_rules.proofs.function_rules.refuse_param.Goals as goal
 
 pub returns : goal.returns

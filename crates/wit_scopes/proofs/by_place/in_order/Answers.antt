@@ -1,7 +1,5 @@
 use Rattle.std.proofs.Common.{◌≡◌, ◌<◌, ◌++◌, ◌∷◌, [], Some, length, get_or, ap, sym, ◌∙◌}
-use Rattle.std.specs.Prelude.{slice_get}
-use Rattle.std.proofs.lemmas.Option.{slice_get-get_or}
-use Rattle.wit_syntax.proofs.Orders.{in_order-more}
+use Rattle.wit_syntax.proofs.Common.{in_order-more, slice_get, slice_get-get_or}
 use Rattle.wit_scopes.proofs.by_place.in_order.Goals as goal
 
 pub loop-place-preserved : goal.loop-place-preserved

@@ -1,6 +1,5 @@
 use Rattle.std.proofs.Common.{map}
-use Rattle.std.proofs.lemmas.Bool.{MatchBool-at_true}
-use Rattle.std.proofs.lemmas.Result.{err_from_is_err_and}
+use Rattle.wit_syntax.proofs.Common.{MatchBool-at_true, err_from_is_err_and}
 use Rattle.wit_scopes.specs.BorrowedNames.{name_view, definition_view}
 use Rattle.wit_scopes.specs.DefinitionOrder.{NeedNone}
 use Rattle.wit_scopes.proofs.NeedingNone.{written_in_turn}

@@ -1,11 +1,6 @@
 use Rattle.std.proofs.Common.{◌≡◌, ◌+◌, Some, ap, sym, ◌∙◌}
-use Rattle.std.specs.Prelude.{slice_get, map}
-use Rattle.std.proofs.lemmas.List.{take-map}
-use Rattle.wit_type_tree.specs.declared.leaves.Id.{Id}
-use Rattle.wit_syntax.specs.ScopeTables.{rows_of}
+use Rattle.wit_syntax.proofs.Common.{Id, fresh_row, map, read_map, row_of, rows_more, rows_of, slice_get, take-map}
 use Rattle.wit_scopes.specs.BorrowedNames.{name_view}
-use Rattle.wit_syntax.proofs.Lists.{read_map}
-use Rattle.wit_syntax.proofs.Rows.{rows_more, fresh_row, row_of}
 use Rattle.wit_scopes.proofs.definition_order.scope_table.Goals as goal
 
 pub loop-name-preserved : goal.loop-name-preserved

@@ -1,10 +1,5 @@
 use Rattle.std.proofs.Common.{◌≡◌, get_or, map, ap, sym, ◌∙◌, subst, arith}
-use Rattle.std.proofs.lemmas.List.{length-map}
-use Rattle.std.proofs.lemmas.Option.{slice_get-get_or}
-use Rattle.std.proofs.lemmas.Result.{err_from_is_err_and}
-use Rattle.wit_graph.specs.Table.{IsOrder}
-use Rattle.wit_syntax.specs.ScopeTables.{rows_of, in_order, defined}
-use Rattle.wit_syntax.proofs.Turns.{names_within}
+use Rattle.wit_syntax.proofs.Common.{IsOrder, defined, err_from_is_err_and, in_order, length-map, names_within, rows_of, slice_get-get_or}
 use Rattle.wit_scopes.specs.BorrowedNames.{name_view}
 use Rattle.wit_scopes.proofs.Turning.{map-in_order}
 use Rattle.wit_scopes.proofs.definition_order.sorted_definitions.Goals as goal

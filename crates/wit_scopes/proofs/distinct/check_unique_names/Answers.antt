@@ -1,11 +1,5 @@
 use Rattle.std.proofs.Common.{◌≡◌, ℕ, List, Some, inl, inr, map, take, ap, sym, ◌∙◌, subst}
-use Rattle.std.specs.Prelude.{codes, slice_get}
-use Rattle.std.proofs.lemmas.Option.{slice_get-get_or, slice_get_within}
-use Rattle.wit_type_tree.specs.declared.leaves.Id.{Id}
-use Rattle.wit_syntax.specs.Fault.{name_twice}
-use Rattle.wit_syntax.specs.Repeats.{IsRepeatAt, AllDiffer}
-use Rattle.wit_syntax.specs.Words.{defined_twice}
-use Rattle.wit_syntax.proofs.Lists.{map_at}
+use Rattle.wit_syntax.proofs.Common.{AllDiffer, Id, IsRepeatAt, codes, defined_twice, map_at, name_twice, slice_get, slice_get-get_or, slice_get_within}
 use Rattle.wit_first.proofs.First.{no_repeats, repeat_first}
 use Rattle.wit_scopes.proofs.Repeating.{few_differ}
 use Rattle.wit_scopes.proofs.distinct.check_unique_names.Goals as goal

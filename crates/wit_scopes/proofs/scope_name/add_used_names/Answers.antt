@@ -1,8 +1,5 @@
 use Rattle.std.proofs.Common.{◌+◌, ◌∷◌, [], map, take, refl, ap, ◌∙◌}
-use Rattle.std.proofs.lemmas.List.{map-append}
-use Rattle.std.proofs.lemmas.Option.{slice_get_read}
-use Rattle.wit_syntax.specs.Source.{Used}
-use Rattle.wit_syntax.proofs.Orders.{take_next}
+use Rattle.wit_syntax.proofs.Common.{Used, map-append, slice_get_read, take_next}
 use Rattle.wit_scopes.specs.BorrowedNames.{source_view, name_view}
 use Rattle.wit_scopes.proofs.Declaring.{one_more}
 use Rattle.wit_scopes.proofs.Placed.{names_more}

@@ -1,5 +1,5 @@
 use Rattle.std.proofs.Common.{◌≡◌, ◌+◌, ◌++◌, ◌∷◌, [], take, sym, ap, ◌∙◌}
-use Rattle.std.proofs.lemmas.List.{take_more}
+use Rattle.wit_syntax.proofs.Common.{take_more}
 use Rattle.wit_scopes.proofs.TypeWords.{type_words, words_more, tuple_words}
 use Rattle.wit_scopes.proofs.written_names.+deps.Goals as goal
 

@@ -1,6 +1,5 @@
 use Rattle.std.proofs.Common.{◌≡◌, ◌+◌, ◌++◌, ◌∷◌, [], take, sym, ap, ◌∙◌}
-use Rattle.std.proofs.lemmas.List.{take_more}
-use Rattle.wit_type_tree.specs.TypeParts.{case_types}
+use Rattle.wit_syntax.proofs.Common.{case_types, take_more}
 use Rattle.wit_scopes.proofs.TypeWords.{type_words, words_more, cases_more, cases_same}
 use Rattle.wit_scopes.proofs.written_names.collect_case_deps.Goals.{in-Some+in_ok-collect_deps, in_default}
 use Rattle.wit_scopes.proofs.written_names.collect_case_deps.Goals as goal

@@ -1,6 +1,5 @@
 use Rattle.std.proofs.Common.{◌≡◌, ◌+◌, ◌++◌, ◌∷◌, [], take, sym, ap, ◌∙◌}
-use Rattle.std.proofs.lemmas.List.{take_more, map-append}
-use Rattle.wit_type_tree.specs.TypeParts.{field_types}
+use Rattle.wit_syntax.proofs.Common.{field_types, map-append, take_more}
 use Rattle.wit_scopes.proofs.TypeWords.{words_more}
 use Rattle.wit_scopes.proofs.written_names.collect_field_deps.Goals as goal
 

@@ -1,5 +1,5 @@
 use Rattle.std.proofs.Common.{inl, inr, arith, sym, subst}
-use Rattle.wit_syntax.proofs.Legal.{three_ways}
+use Rattle.wit_syntax.proofs.Common.{three_ways}
 use Rattle.wit_setters.specs.Paired.{IsPaired}
 use Rattle.wit_setters.proofs.paired.are_paired.Goals as goal
 

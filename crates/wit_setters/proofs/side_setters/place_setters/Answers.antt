@@ -1,8 +1,7 @@
 use Rattle.std.proofs.Common.{List, sym, ap, ◌∙◌, subst}
-use Rattle.std.specs.Prelude.{map}
+use Rattle.wit_syntax.proofs.Common.{AllDiffer, map}
 use Rattle.wit_functions.specs.SettersPlaced.{placed}
 use Rattle.wit_model.specs.ItemsOfWorlds.{function_of}
-use Rattle.wit_syntax.specs.Repeats.{AllDiffer}
 use Rattle.wit_functions.specs.MaybeFunction.{HaveOwnNames}
 use Rattle.wit_functions.proofs.NoSetters.{no_setters}
 use Rattle.wit_setters.proofs.OneSide.{Entry, apart_keys, item_function, key_of, own_on_side, placed_differ}

@@ -1,12 +1,8 @@
 use Rattle.std.proofs.Common.{List, ◌++◌, map, sym, ap, subst}
-use Rattle.std.proofs.lemmas.Result.{err_from_is_err_and}
-use Rattle.wit_type_tree.specs.declared.types.Param.{Param}
+use Rattle.wit_syntax.proofs.Common.{Param, SourceParam, all_handles, err_from_is_err_and, folded, written_param}
 use Rattle.wit_type_tree.specs.declared.types.«Type».{«Type» as Written}
-use Rattle.wit_syntax.specs.Bodies.{folded}
-use Rattle.wit_syntax.specs.Shape.{all_handles}
-use Rattle.wit_syntax.specs.Function.{SourceParam, written_param}
 use Rattle.wit_first.specs.First.{IsFirstRepeat}
-use Rattle.wit_arena.specs.Resolving.{env_of}
+use Rattle.wit_arena.proofs.Common.{env_of}
 use Rattle.wit_entries.specs.Requiring.{Requires}
 use Rattle.wit_rules.specs.BorrowedFunctions.{function_view}
 use Rattle.wit_rules.specs.Signatures.{AreParamsOver}

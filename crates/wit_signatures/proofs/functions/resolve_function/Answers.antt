@@ -1,11 +1,8 @@
 use Rattle.std.proofs.Common.{sym, ap, ◌∙◌, subst, IsTrue, get_or}
-use Rattle.std.proofs.lemmas.Result.{err_from_is_err_and}
-use Rattle.wit_names.specs.Mangled.{is_mangled}
-use Rattle.wit_syntax.specs.Function.{SourceFunction, written_types}
-use Rattle.wit_syntax.specs.Shape.{all_handles}
+use Rattle.wit_syntax.proofs.Common.{SourceFunction, all_handles, err_from_is_err_and, is_mangled, written_types}
 use Rattle.wit_first.specs.AttributeFaults.{metadata_fault}
 use Rattle.wit_first.proofs.First.{none_both, reports_back, reports_prefix, reports_same}
-use Rattle.wit_arena.specs.Resolving.{env_of}
+use Rattle.wit_arena.proofs.Common.{env_of}
 use Rattle.wit_rules.specs.BorrowedFunctions.{function_view}
 use Rattle.wit_rules.specs.Signatures.{functions_view}
 use Rattle.wit_entries.specs.Requiring.{Requires}

@@ -1,18 +1,8 @@
 use Rattle.std.proofs.Common.{◌≡◌, ◌+◌, ◌≤◌, ℕ, List, [], ◌∷◌, ◌++◌, Option, Some, None, length, map, take, inl, inr, sym, ap, ◌∙◌, subst, arith, rules, length-append}
-use Rattle.std.specs.Prelude.{slice_get}
-use Rattle.std.specs.Option.{option_or}
-use Rattle.std.proofs.lemmas.Bool.{cases_lt}
-use Rattle.std.proofs.lemmas.List.{map-append, take_more, take_all}
-use Rattle.std.proofs.lemmas.Option.{slice_get-get_or}
-use Rattle.std.proofs.lemmas.Result.{err_from_is_err_and}
-use Rattle.wit_type_tree.specs.declared.types.Param.{Param as WrittenParam}
+use Rattle.wit_syntax.proofs.Common.{Fault, Param as WrittenParam, all_handles, cases_lt, err_from_is_err_and, map-append, option_or, slice_get, slice_get-get_or, take_all, take_more, written_param}
 use Rattle.wit_type_tree.specs.declared.types.«Type».{«Type» as Written}
-use Rattle.wit_functions.specs.declared.function.Param.{Param}
-use Rattle.wit_syntax.specs.Fault.{Fault}
-use Rattle.wit_syntax.specs.Shape.{all_handles}
-use Rattle.wit_syntax.specs.Function.{written_param}
+use Rattle.wit_arena.proofs.Common.{Param, env_of}
 use Rattle.wit_first.proofs.First.{after-at, after-next, none_both, reports-after, reports_back}
-use Rattle.wit_arena.specs.Resolving.{env_of}
 use Rattle.wit_entries.specs.Requiring.{Requires}
 use Rattle.wit_entries.proofs.Requiring.{extended_then, requires_types, requires_one}
 use Rattle.wit_rules.specs.Signatures.{functions_view, AreParamsOver}

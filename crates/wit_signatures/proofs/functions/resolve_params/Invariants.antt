@@ -1,11 +1,7 @@
 use Rattle.std.proofs.Common.{◌≡◌, ◌≤◌, ◌+◌, ℕ, List, ◌++◌, Some, None, length, map, take}
-use Rattle.wit_type_tree.specs.declared.types.Param.{Param as Written}
-use Rattle.wit_types.specs.declared.types.TypeDef.{TypeDef}
-use Rattle.wit_syntax.specs.Bodies.{folded}
-use Rattle.wit_syntax.specs.Shape.{all_handles}
-use Rattle.wit_syntax.specs.Function.{SourceParam, written_param}
+use Rattle.wit_syntax.proofs.Common.{Param as Written, SourceParam, TypeDef, all_handles, folded, written_param}
 use Rattle.wit_first.specs.First.{IsFirstRepeat}
-use Rattle.wit_arena.specs.Resolving.{env_of}
+use Rattle.wit_arena.proofs.Common.{env_of}
 use Rattle.wit_entries.specs.Requiring.{IsExtended, Requires}
 use Rattle.wit_rules.specs.Signatures.{functions_view, AreParamsOver}
 use Rattle.wit_signatures.specs.SignatureFaults.{params_fault, signed_fault}

@@ -1,10 +1,9 @@
 use Rattle.std.proofs.Common.{Option, sym, ap, ◌∙◌, subst}
-use Rattle.std.proofs.lemmas.Result.{err_from_is_err_and}
-use Rattle.wit_syntax.specs.Fault.{Fault}
+use Rattle.wit_syntax.proofs.Common.{Fault, err_from_is_err_and}
 use Rattle.wit_first.specs.First.{Finds}
 use Rattle.wit_first.specs.FunctionFaults.{gives_fault}
 use Rattle.wit_first.proofs.First.{none_both, reports_back, reports_prefix, reports_same}
-use Rattle.wit_arena.specs.Resolving.{env_of}
+use Rattle.wit_arena.proofs.Common.{env_of}
 use Rattle.wit_rules.specs.BorrowedFunctions.{function_view}
 use Rattle.wit_rules.specs.Signatures.{functions_view}
 use Rattle.wit_signatures.specs.SignatureFaults.{return_fault, signed_fault}

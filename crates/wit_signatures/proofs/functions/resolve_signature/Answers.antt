@@ -1,9 +1,7 @@
 use Rattle.std.proofs.Common.{map, sym, subst}
-use Rattle.std.specs.Option.{option_or, option_to_list}
-use Rattle.std.proofs.lemmas.Result.{err_from_is_err_and}
-use Rattle.wit_syntax.specs.Function.{all_params}
+use Rattle.wit_syntax.proofs.Common.{all_params, err_from_is_err_and, option_or, option_to_list}
 use Rattle.wit_first.proofs.First.{none_both, reports_back, reports_prefix}
-use Rattle.wit_arena.specs.Resolving.{env_of}
+use Rattle.wit_arena.proofs.Common.{env_of}
 use Rattle.wit_rules.specs.BorrowedFunctions.{function_view}
 use Rattle.wit_rules.specs.Signatures.{functions_view, AreParamsOver}
 use Rattle.wit_entries.proofs.Requiring.{requires_types}

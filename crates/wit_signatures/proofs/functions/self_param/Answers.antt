@@ -1,4 +1,4 @@
-use Rattle.wit_arena.specs.Resolving.{env_of}
+use Rattle.wit_arena.proofs.Common.{env_of}
 use Rattle.wit_signatures.proofs.FunctionParts.{self_present}
 use Rattle.wit_signatures.proofs.functions.self_param.Goals as goal
 

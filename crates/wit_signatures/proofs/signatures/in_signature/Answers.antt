@@ -1,8 +1,5 @@
 use Rattle.std.proofs.Common.{◌≡◌, ℕ, List, Some, sym, ap, ◌∙◌, map, subst}
-use Rattle.wit_values.specs.declared.span.Span.{Span}
-use Rattle.wit_type_tree.specs.declared.error.ParseErrorKind.{ParseErrorKind}
-use Rattle.wit_syntax.specs.Broken.{Refused}
-use Rattle.wit_syntax.specs.Fault.{Fault, as_stated}
+use Rattle.wit_syntax.proofs.Common.{Fault, ParseErrorKind, Refused, Span, as_stated}
 use Rattle.wit_rules.specs.BorrowedFunctions.{function_view}
 use Rattle.wit_rules.specs.Signatures.{IsLostAt}
 use Rattle.wit_signatures.specs.SignatureFaults.{lost_at}

@@ -1,6 +1,5 @@
 use Rattle.std.proofs.Common.{◌+◌, map, refl, sym, ◌∙◌, arith}
-use Rattle.std.proofs.lemmas.Bool.{false≢true}
-use Rattle.wit_syntax.proofs.Lists.{read_map}
+use Rattle.wit_syntax.proofs.Common.{false≢true, read_map}
 use Rattle.wit_rules.specs.BorrowedFunctions.{function_view}
 use Rattle.wit_signatures.proofs.Lost.{entered_at, none_entered, none_free-more}
 use Rattle.wit_signatures.proofs.signatures.is_entered.Goals as goal

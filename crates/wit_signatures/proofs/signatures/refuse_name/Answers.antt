@@ -1,5 +1,5 @@
 use Rattle.std.proofs.Common.{inl, inr}
-use Rattle.wit_syntax.specs.Words.{function_words}
+use Rattle.wit_syntax.proofs.Common.{function_words}
 use Rattle.wit_rules.specs.Signatures.{AtFunction}
 use Rattle.wit_signatures.proofs.signatures.refuse_name.Goals as goal
 

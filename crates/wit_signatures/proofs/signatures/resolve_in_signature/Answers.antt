@@ -1,4 +1,4 @@
-use Rattle.wit_arena.specs.Resolving.{env_of}
+use Rattle.wit_arena.proofs.Common.{env_of}
 use Rattle.wit_rules.specs.Signatures.{functions_view}
 use Rattle.wit_signatures.specs.SignatureFaults.{lost_at}
 use Rattle.wit_signatures.proofs.Signed.{none_turned}

@@ -1,6 +1,5 @@
 use Rattle.std.proofs.Common.{◌≡◌, ◌++◌, map, take}
-use Rattle.std.specs.List.{flat_map}
-use Rattle.wit_syntax.specs.Source.{declared_items, top_names}
+use Rattle.wit_syntax.proofs.Common.{declared_items, flat_map, top_names}
 use Rattle.wit_top_names.specs.Tops.{top_view, item_top}
 use Rattle.wit_top_names.proofs.top_name.add_declared.Given as goal
 

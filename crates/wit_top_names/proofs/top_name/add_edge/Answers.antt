@@ -1,10 +1,5 @@
 use Rattle.std.proofs.Common.{◌++◌, List, sym, ap, ◌∙◌, Vec, Global}
-use Rattle.std.specs.Option.{option_copied}
-use Rattle.std.proofs.lemmas.Result.{err_from_is_err_and}
-use Rattle.std.proofs.lemmas.List.{append-nil}
-use Rattle.wit_type_tree.specs.declared.leaves.Id.{Id}
-use Rattle.wit_syntax.specs.Source.{Target, leads}
-use Rattle.wit_syntax.specs.ScopeTables.{local_target}
+use Rattle.wit_syntax.proofs.Common.{Id, Target, append-nil, err_from_is_err_and, leads, local_target, option_copied}
 use Rattle.wit_first.specs.FileFaults.{unnamed_fault}
 use Rattle.wit_first.proofs.First.{reports_same}
 use Rattle.wit_top_names.proofs.FirstNames.{leads_some, leads_none, named_later, named_nowhere}

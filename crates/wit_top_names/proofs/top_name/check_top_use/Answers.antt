@@ -1,9 +1,5 @@
 use Rattle.std.proofs.Common.{rules, ◌≡◌, List, [], ◌∷◌, Option, Some, inl, inr, refl, sym, ap, ◌∙◌}
-use Rattle.std.specs.Option.{option_or}
-use Rattle.wit_values.specs.declared.span.Span.{Span}
-use Rattle.wit_type_tree.specs.declared.leaves.Attribute.{Attribute}
-use Rattle.wit_syntax.specs.Fault.{Fault, fault}
-use Rattle.wit_syntax.specs.Source.{leads}
+use Rattle.wit_syntax.proofs.Common.{Attribute, Fault, Span, fault, leads, option_or}
 use Rattle.wit_first.specs.FileFaults.{attributed_fault, lost_fault}
 use Rattle.wit_top_names.proofs.top_name.check_top_use.Goals as goal
 

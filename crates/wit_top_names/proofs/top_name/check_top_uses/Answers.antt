@@ -1,11 +1,6 @@
 use Rattle.std.proofs.Common.{◌≡◌, List, Some, None, refl, sym, ap, ◌∙◌}
-use Rattle.std.specs.Prelude.{slice_get}
-use Rattle.std.proofs.lemmas.Option.{slice_get-get_or}
-use Rattle.std.proofs.lemmas.Result.{err_from_is_err_and}
-use Rattle.wit_tree.specs.declared.tree.AstItem.{AstItem}
+use Rattle.wit_syntax.proofs.Common.{AstItem, Item, ToplevelUse, err_from_is_err_and, slice_get, slice_get-get_or}
 use Rattle.wit_tree.specs.declared.tree.AstItem.TheVariants as ast
-use Rattle.wit_tree.specs.declared.tree.ToplevelUse.{ToplevelUse}
-use Rattle.wit_syntax.specs.Source.{Item}
 use Rattle.wit_first.specs.FileFaults.{top_fault}
 use Rattle.wit_first.proofs.First.{in-all, in-next, reports-in}
 use Rattle.wit_top_names.proofs.top_name.check_top_uses.Goals.{in-Use+in_ok-check_top_use, in_default}

@@ -1,5 +1,5 @@
 use Rattle.std.proofs.Common.{◌≡◌, List, None, take}
-use Rattle.wit_syntax.specs.Source.{Item}
+use Rattle.wit_syntax.proofs.Common.{Item}
 use Rattle.wit_first.specs.FileFaults.{top_fault}
 use Rattle.wit_first.specs.First.{first_in}
 use Rattle.wit_top_names.specs.Tops.{AreDeclared}

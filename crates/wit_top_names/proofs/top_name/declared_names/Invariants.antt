@@ -1,5 +1,5 @@
 use Rattle.std.proofs.Common.{◌≡◌, map, take}
-use Rattle.wit_syntax.specs.Source.{all_items}
+use Rattle.wit_syntax.proofs.Common.{all_items}
 use Rattle.wit_top_names.specs.Tops.{top_view, item_top}
 use Rattle.wit_top_names.proofs.top_name.declared_names.Given as goal
 

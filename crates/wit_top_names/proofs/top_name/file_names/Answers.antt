@@ -1,7 +1,5 @@
 use Rattle.std.proofs.Common.{◌≡◌, Option, List, map, sym, ap, ◌∙◌}
-use Rattle.std.proofs.lemmas.Result.{err_from_is_err_and}
-use Rattle.wit_syntax.specs.Fault.{Fault, top_twice}
-use Rattle.wit_syntax.specs.Source.{TopName, top_text, top_name, top_names}
+use Rattle.wit_syntax.proofs.Common.{Fault, TopName, err_from_is_err_and, top_name, top_names, top_text, top_twice}
 use Rattle.wit_first.specs.First.{first_repeat}
 use Rattle.wit_first.proofs.First.{reports_same}
 use Rattle.wit_top_names.specs.Tops.{top_view}

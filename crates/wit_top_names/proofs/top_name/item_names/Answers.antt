@@ -1,7 +1,5 @@
 use Rattle.std.proofs.Common.{◌≡◌, List, map, sym, ap, ◌∙◌, subst}
-use Rattle.std.proofs.lemmas.Result.{err_from_is_err_and}
-use Rattle.wit_syntax.specs.Fault.{Fault, item_twice}
-use Rattle.wit_syntax.specs.Source.{TopName, top_text, all_items}
+use Rattle.wit_syntax.proofs.Common.{Fault, TopName, all_items, err_from_is_err_and, item_twice, top_text}
 use Rattle.wit_first.specs.First.{first_repeat}
 use Rattle.wit_first.proofs.First.{repeat-map, reports_same}
 use Rattle.wit_top_names.specs.Tops.{top_view, item_top, AreNamed}

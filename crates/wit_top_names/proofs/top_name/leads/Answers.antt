@@ -1,6 +1,5 @@
 use Rattle.std.proofs.Common.{sym, ap, ◌∙◌}
-use Rattle.std.specs.Option.{option_copied}
-use Rattle.wit_syntax.specs.Source.{leads}
+use Rattle.wit_syntax.proofs.Common.{leads, option_copied}
 use Rattle.wit_top_names.proofs.FirstNames.{leads_some, leads_none}
 use Rattle.wit_top_names.proofs.top_name.leads.Goals as goal
 

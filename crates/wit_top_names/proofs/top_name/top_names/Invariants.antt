@@ -1,5 +1,5 @@
 use Rattle.std.proofs.Common.{◌≡◌, map, take}
-use Rattle.wit_syntax.specs.Source.{top_name}
+use Rattle.wit_syntax.proofs.Common.{top_name}
 use Rattle.wit_top_names.specs.Tops.{top_view}
 use Rattle.wit_top_names.proofs.top_name.top_names.Given as goal
 

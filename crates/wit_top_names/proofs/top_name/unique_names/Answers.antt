@@ -1,12 +1,5 @@
 use Rattle.std.proofs.Common.{◌≡◌, refl, List, ◌+◌, ◌++◌, ◌∷◌, [], Some, map, take, inl, inr, sym, ap, ◌∙◌, subst}
-use Rattle.std.specs.Prelude.{slice_get}
-use Rattle.std.proofs.lemmas.List.{map-append, take-map, take_more, take_all}
-use Rattle.wit_syntax.specs.Fault.{fault_in}
-use Rattle.wit_syntax.specs.Words.{around}
-use Rattle.wit_syntax.specs.Repeats.{IsRepeatAt, AllDiffer}
-use Rattle.wit_syntax.specs.Source.{TopName, top_text}
-use Rattle.wit_syntax.proofs.Lists.{read_map, at_take}
-use Rattle.wit_syntax.proofs.Repeated.{key_at}
+use Rattle.wit_syntax.proofs.Common.{AllDiffer, IsRepeatAt, TopName, around, at_take, fault_in, key_at, map-append, read_map, slice_get, take-map, take_all, take_more, top_text}
 use Rattle.wit_first.proofs.First.{no_repeats, repeat_first}
 use Rattle.wit_top_names.specs.Tops.{top_view}
 use Rattle.wit_top_names.proofs.FirstNames.{copied_none, copied_some, present, finds_more, differ_top}

@@ -1,6 +1,5 @@
 use Rattle.std.proofs.Common.{map, take}
-use Rattle.wit_syntax.specs.Source.{top_text}
-use Rattle.wit_syntax.specs.Repeats.{AllDiffer}
+use Rattle.wit_syntax.proofs.Common.{AllDiffer, top_text}
 use Rattle.wit_top_names.specs.Tops.{top_view, AreNamed}
 use Rattle.wit_top_names.proofs.top_name.unique_names.Given as goal
 

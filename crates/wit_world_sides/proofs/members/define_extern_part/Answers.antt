@@ -1,7 +1,6 @@
 use Rattle.std.proofs.Common.{◌≡◌, ℕ, true, false, List, sym, ◌∙◌, subst}
-use Rattle.std.specs.Prelude.{IfOk, string_bytes}
-use Rattle.wit_syntax.specs.Words.{conflict}
-use Rattle.wit_walk.specs.Members.{crossed, sort_among}
+use Rattle.wit_syntax.proofs.Common.{IfOk, conflict, string_bytes}
+use Rattle.wit_walk.proofs.Common.{crossed, sort_among}
 use Rattle.wit_refusals.specs.KeyedNames.{HasName}
 use Rattle.wit_refusals.specs.NameScopes.{Name}
 use Rattle.wit_sides.specs.SideNames.{defined_on}

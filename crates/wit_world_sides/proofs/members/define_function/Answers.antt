@@ -1,14 +1,11 @@
 use Rattle.std.proofs.Common.{◌≡◌, ◌∷◌, [], List, ℕ, ap, sym, ◌∙◌, Option, true, false, subst}
-use Rattle.wit_tree.specs.declared.tree.WorldSide.TheVariants.{Imported}
-use Rattle.wit_syntax.specs.Fault.{Fault}
-use Rattle.wit_syntax.specs.Sides.{role_side, SideFunction}
+use Rattle.wit_syntax.proofs.Common.{Fault, Imported, SideFunction, role_side}
 use Rattle.wit_refusals.specs.NameScopes.{Name}
 use Rattle.wit_sides.specs.SideNames.{defined_on}
 use Rattle.wit_rules.specs.BorrowedFunctions.{function_view}
 use Rattle.wit_externs.specs.Clash.{item_names}
 use Rattle.wit_externs.proofs.Clashing.{side_imported, side_across, item_defined, name_differs}
-use Rattle.wit_first.specs.First.{Finds}
-use Rattle.wit_walk.specs.Members.{is_on_side}
+use Rattle.wit_walk.proofs.Common.{Finds, is_on_side}
 use Rattle.wit_externs.proofs.AloneFaults.{again_by}
 use Rattle.wit_world_sides.proofs.PutFaults.{clash_one, extern_none}
 use Rattle.wit_world_sides.proofs.members.define_function.Goals as goal

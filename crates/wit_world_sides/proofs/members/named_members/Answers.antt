@@ -1,14 +1,9 @@
 use Rattle.std.proofs.Common.{◌++◌, List, map, sym, ap, ◌∙◌, subst}
-use Rattle.std.proofs.lemmas.Result.{err_from_is_err_and}
-use Rattle.wit_tree.specs.declared.tree.WorldSide.{WorldSide}
-use Rattle.wit_tree.specs.declared.tree.WorldSide.TheVariants.{Imported}
-use Rattle.wit_syntax.specs.Repeats.{AllDiffer}
-use Rattle.wit_syntax.specs.Sides.{names_on}
-use Rattle.wit_syntax.proofs.Repeated.{differ_none}
+use Rattle.wit_syntax.proofs.Common.{AllDiffer, Imported, WorldSide, differ_none, err_from_is_err_and, names_on}
 use Rattle.wit_refusals.specs.NameScopes.{Name}
 use Rattle.wit_signatures.specs.ForeignName.{name_key, name_of_id}
 use Rattle.wit_world_sides.proofs.Putting.{begun_with}
-use Rattle.wit_first.proofs.First.{reports_same}
+use Rattle.wit_walk.proofs.Common.{reports_same}
 use Rattle.wit_externs.specs.AloneFaults.{defined_fault}
 use Rattle.wit_world_sides.proofs.members.named_members.Goals as goal
 

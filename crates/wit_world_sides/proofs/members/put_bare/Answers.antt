@@ -1,14 +1,7 @@
 use Rattle.std.proofs.Common.{◌≡◌, ◌++◌, ◌∷◌, [], List, ℕ, Contains, map, refl, sym, ap, ◌∙◌, subst}
-use Rattle.std.proofs.lemmas.List.{append-nil}
-use Rattle.std.proofs.lemmas.Result.{err_from_is_err_and}
-use Rattle.wit_type_tree.specs.declared.leaves.Id.{Id}
-use Rattle.wit_tree.specs.declared.tree.WorldSide.{WorldSide}
-use Rattle.wit_model.specs.ItemsOfWorlds.{function_of}
+use Rattle.wit_syntax.proofs.Common.{Id, SideLink, WorldSide, append-nil, err_from_is_err_and, item_side, path_id, refused_weaker, same_side}
+use Rattle.wit_arena.proofs.Common.{function_of}
 use Rattle.wit_model.specs.declared.world.WorldKey.TheVariants as key
-use Rattle.wit_syntax.specs.ExternPart.{same_side}
-use Rattle.wit_syntax.specs.Sides.{SideLink, item_side}
-use Rattle.wit_syntax.specs.Source.{path_id}
-use Rattle.wit_syntax.proofs.Refusing.{refused_weaker}
 use Rattle.wit_refusals.specs.NameScopes.{Name}
 use Rattle.wit_sides.specs.SideNames.{defined_on}
 use Rattle.wit_externs.specs.Clash.{item_names}

@@ -1,9 +1,6 @@
 use Rattle.std.proofs.Common.{◌∷◌, [], refl, ap, ◌∙◌}
-use Rattle.std.specs.Prelude.{codes}
-use Rattle.wit_tree.specs.declared.tree.WorldSide.{WorldSide}
-use Rattle.wit_syntax.specs.ExternPart.{same_side}
-use Rattle.wit_syntax.specs.Sides.{SideFunction, role_side}
-use Rattle.wit_arena.specs.SourceFunctions.{function_item}
+use Rattle.wit_syntax.proofs.Common.{SideFunction, WorldSide, codes, role_side, same_side}
+use Rattle.wit_arena.proofs.Common.{function_item}
 use Rattle.wit_refusals.specs.NameScopes.{Name}
 use Rattle.wit_rules.specs.BorrowedFunctions.{function_view}
 use Rattle.wit_externs.specs.Next.{linked_on}

@@ -1,11 +1,9 @@
 use Rattle.std.proofs.Common.{[], refl, ap, subst, inl, Option, sym, true}
-use Rattle.std.proofs.lemmas.Result.{err_from_is_err_and, on_ok_weaker}
-use Rattle.wit_model.specs.declared.world.WorldItem.{WorldItem}
+use Rattle.wit_syntax.proofs.Common.{Fault, SideInline, err_from_is_err_and, on_ok_weaker}
+use Rattle.wit_arena.proofs.Common.{WorldItem}
 use Rattle.wit_model.specs.declared.world.WorldKey.TheVariants as key
-use Rattle.wit_syntax.specs.Sides.{SideInline}
 use Rattle.wit_world_sides.specs.Members.{Puts, item_word}
-use Rattle.wit_syntax.specs.Fault.{Fault}
-use Rattle.wit_first.specs.First.{Finds}
+use Rattle.wit_walk.proofs.Common.{Finds}
 use Rattle.wit_signatures.specs.ForeignName.{name_of_id}
 use Rattle.wit_world_sides.proofs.PutFaults.{clash_one}
 use Rattle.wit_world_sides.proofs.members.put_inline.Goals as goal

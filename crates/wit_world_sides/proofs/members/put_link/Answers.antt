@@ -1,10 +1,8 @@
 use Rattle.std.proofs.Common.{refl, ap, Option, subst, sym}
-use Rattle.std.proofs.lemmas.Result.{on_ok_weaker}
-use Rattle.wit_syntax.specs.Sides.{SideLink}
+use Rattle.wit_syntax.proofs.Common.{Fault, SideLink, on_ok_weaker}
 use Rattle.wit_world_sides.specs.Members.{item_word, path_link}
 use Rattle.wit_world_sides.proofs.Putting.{names_under, put_under, sorted_under}
-use Rattle.wit_syntax.specs.Fault.{Fault}
-use Rattle.wit_first.specs.First.{Finds}
+use Rattle.wit_walk.proofs.Common.{Finds}
 use Rattle.wit_world_sides.proofs.PutFaults.{put_link_named}
 use Rattle.wit_world_sides.proofs.members.put_link.Goals as goal
 

@@ -1,4 +1,4 @@
-use Rattle.wit_tree.specs.declared.tree.WorldSide.TheVariants.{Imported, Exported}
+use Rattle.wit_syntax.proofs.Common.{Exported, Imported}
 use Rattle.wit_world_sides.proofs.sides_setters.settle.Goals as goal
 
 pub place_setters-requires-clause-distinct : goal.place_setters-requires-clause-distinct

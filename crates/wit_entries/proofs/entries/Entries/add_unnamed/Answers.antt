@@ -1,5 +1,5 @@
 use Rattle.std.proofs.Common.{◌≡◌, ◌++◌, ◌∷◌, [], rules, subst}
-use Rattle.wit_arena.specs.Resolving.{unnamed}
+use Rattle.wit_arena.proofs.Common.{unnamed}
 use Rattle.wit_entries.proofs.Known.{IsMissing, known_kept, known_set, known_unnamed}
 use Rattle.wit_entries.proofs.entries.Entries.add_unnamed.Goals as goal
 

@@ -1,6 +1,5 @@
 use Rattle.std.proofs.Common.{refl, sym, ap, ◌∙◌}
-use Rattle.std.specs.Option.{option_map}
-use Rattle.wit_syntax.specs.Foreign.{foreign_visits}
+use Rattle.wit_syntax.proofs.Common.{foreign_visits, option_map}
 use Rattle.wit_top_names.specs.Tops.{target_view}
 use Rattle.wit_files.specs.FileNames.{found_at}
 use Rattle.wit_files.specs.declared.file_names.Found.TheVariants.{Item as ItemAt, Foreign as ForeignAt}

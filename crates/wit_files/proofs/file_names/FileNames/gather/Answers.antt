@@ -1,4 +1,4 @@
-use Rattle.std.proofs.lemmas.Result.{err_from_is_err_and}
+use Rattle.wit_syntax.proofs.Common.{err_from_is_err_and}
 use Rattle.wit_files.proofs.file_names.FileNames.gather.Goals as goal
 
 pub returns-in_err-tables-clause-first : goal.returns-in_err-tables-clause-first

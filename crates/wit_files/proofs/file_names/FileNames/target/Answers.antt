@@ -1,6 +1,5 @@
 use Rattle.std.proofs.Common.{◌<◌, length, sym, ap, subst, ◌∙◌}
-use Rattle.std.proofs.lemmas.Option.{slice_get_read}
-use Rattle.wit_syntax.specs.Source.{leads}
+use Rattle.wit_syntax.proofs.Common.{leads, slice_get_read}
 use Rattle.wit_files.specs.FileNames.{top_at}
 use Rattle.wit_files.proofs.Gathering.{top_at_place}
 use Rattle.wit_files.proofs.file_names.FileNames.target.Goals as goal

@@ -1,8 +1,5 @@
 use Rattle.std.proofs.Common.{not, sym, ap, ◌∙◌}
-use Rattle.std.specs.Option.{is_some}
-use Rattle.std.specs.Map.{keys_of}
-use Rattle.std.proofs.lemmas.Map.Made.{is_some-lookup}
-use Rattle.wit_syntax.proofs.Inserting.{keys-insert_entry}
+use Rattle.wit_syntax.proofs.Common.{is_some, is_some-lookup, keys-insert_entry, keys_of}
 use Rattle.wit_files.specs.ForeignPaths.{foreign_view}
 use Rattle.wit_files.specs.contracts.foreign.ForeignKeyPartialEq.TheImpl.{eq-value as key_test}
 use Rattle.wit_files.proofs.Others.{items_kept, items_more}

@@ -1,5 +1,5 @@
 use Rattle.std.proofs.Common.{◌∙◌}
-use Rattle.wit_syntax.specs.Address.{ForeignNamed, package_of}
+use Rattle.wit_syntax.proofs.Common.{ForeignNamed, package_of}
 use Rattle.wit_files.proofs.Others.{key_place}
 use Rattle.wit_files.proofs.foreign.ForeignItems.place.Goals as goal
 

@@ -1,7 +1,5 @@
 use Rattle.std.proofs.Common.{None, subst}
-use Rattle.std.proofs.lemmas.Result.{err_from_is_err_and}
-use Rattle.wit_graph.specs.Table.{IsOrder}
-use Rattle.wit_syntax.specs.ScopeTables.{item_rows}
+use Rattle.wit_syntax.proofs.Common.{IsOrder, err_from_is_err_and, item_rows}
 use Rattle.wit_first.specs.FileFaults.{files_fault}
 use Rattle.wit_first.specs.OrderFaults.{IsItemOrderFault, items_prefix}
 use Rattle.wit_first.proofs.Bridge.{item_names_differ}

@@ -1,5 +1,4 @@
-use Rattle.std.proofs.lemmas.Result.{err_from_is_err_and}
-use Rattle.wit_syntax.specs.Source.{file_items}
+use Rattle.wit_syntax.proofs.Common.{err_from_is_err_and, file_items}
 use Rattle.wit_first.specs.FileFaults.{paths_fault}
 use Rattle.wit_first.specs.First.{first_in}
 use Rattle.wit_first.proofs.First.{none_both, reports_back, reports_prefix}

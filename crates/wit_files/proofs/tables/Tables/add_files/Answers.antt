@@ -1,11 +1,5 @@
 use Rattle.std.proofs.Common.{◌≡◌, ◌+◌, ◌++◌, ◌∷◌, [], Some, map, take, sym, ap, ◌∙◌}
-use Rattle.std.specs.Prelude.{slice_get}
-use Rattle.std.proofs.lemmas.List.{map-append, take_more}
-use Rattle.std.proofs.lemmas.Option.{slice_get-get_or}
-use Rattle.std.proofs.lemmas.Result.{err_from_is_err_and}
-use Rattle.wit_graph.specs.Table.{rows}
-use Rattle.wit_syntax.specs.Source.{file_items, all_items, is_world}
-use Rattle.wit_syntax.specs.ScopeTables.{item_row}
+use Rattle.wit_syntax.proofs.Common.{all_items, err_from_is_err_and, file_items, is_world, item_row, map-append, rows, slice_get, slice_get-get_or, take_more}
 use Rattle.wit_first.specs.FileFaults.{file_fault}
 use Rattle.wit_first.proofs.First.{in-all, in-next, reports-in}
 use Rattle.wit_top_names.proofs.Lost.{flat_more}

@@ -1,7 +1,5 @@
 use Rattle.std.proofs.Common.{◌≡◌, None, map, take}
-use Rattle.wit_syntax.specs.Source.{all_items, is_world}
-use Rattle.wit_graph.specs.Table.{rows}
-use Rattle.wit_syntax.specs.ScopeTables.{item_rows}
+use Rattle.wit_syntax.proofs.Common.{all_items, is_world, item_rows, rows}
 use Rattle.wit_first.specs.FileFaults.{file_fault}
 use Rattle.wit_first.specs.First.{first_in}
 use Rattle.wit_files.specs.FileNames.{AreTopsOf}

@@ -1,5 +1,4 @@
-use Rattle.std.proofs.lemmas.Result.{err_from_is_err_and}
-use Rattle.wit_syntax.specs.Source.{all_items}
+use Rattle.wit_syntax.proofs.Common.{all_items, err_from_is_err_and}
 use Rattle.wit_files.proofs.Gathering.{names_declared}
 use Rattle.wit_files.proofs.tables.Tables.check_top.Goals as goal
 

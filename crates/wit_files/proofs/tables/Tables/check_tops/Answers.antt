@@ -1,8 +1,5 @@
 use Rattle.std.proofs.Common.{◌≡◌, Some, sym, ap, ◌∙◌}
-use Rattle.std.specs.Prelude.{slice_get}
-use Rattle.std.proofs.lemmas.Option.{slice_get-get_or}
-use Rattle.std.proofs.lemmas.Result.{err_from_is_err_and}
-use Rattle.wit_syntax.specs.Source.{all_items}
+use Rattle.wit_syntax.proofs.Common.{all_items, err_from_is_err_and, slice_get, slice_get-get_or}
 use Rattle.wit_first.specs.FileFaults.{file_tops_fault}
 use Rattle.wit_first.proofs.First.{in-all, in-next, reports-in}
 use Rattle.wit_files.proofs.tables.Tables.check_tops.Goals as goal

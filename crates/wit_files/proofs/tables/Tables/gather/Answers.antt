@@ -1,5 +1,5 @@
 use Rattle.std.proofs.Common.{None, inl, inr}
-use Rattle.std.proofs.lemmas.Result.{err_from_is_err_and}
+use Rattle.wit_syntax.proofs.Common.{err_from_is_err_and}
 use Rattle.wit_files.proofs.Gathering.{items_first, tops_first}
 use Rattle.wit_files.proofs.tables.Tables.gather.Goals as goal
 

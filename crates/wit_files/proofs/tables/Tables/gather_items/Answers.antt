@@ -1,5 +1,5 @@
 use Rattle.std.proofs.Common.{None, inl, inr}
-use Rattle.std.proofs.lemmas.Result.{err_from_is_err_and}
+use Rattle.wit_syntax.proofs.Common.{err_from_is_err_and}
 use Rattle.wit_first.specs.OrderFaults.{IsItemOrderFault, items_prefix, names_prefix}
 use Rattle.wit_first.proofs.First.{reports_prefix}
 use Rattle.wit_first.proofs.OrderFaults.{reports_or}

@@ -1,10 +1,5 @@
 use Rattle.std.proofs.Common.{◌∙◌, ◌++◌, List, [], ◌∷◌, ap, sym, not, nat_lt, nat_eq, cond, length, true, false}
-use Rattle.std.specs.Cmp.Lexicographic.{pointwise}
-use Rattle.std.specs.Map.{lookup}
-use Rattle.std.specs.Option.{is_some, unwrap_or}
-use Rattle.std.proofs.lemmas.List.{append-nil}
-use Rattle.wit_package_names.specs.declared.package_name.PackageName.{PackageName}
-use Rattle.wit_syntax.specs.Address.{same_package}
+use Rattle.wit_syntax.proofs.Common.{PackageName, append-nil, is_some, lookup, pointwise, same_package, unwrap_or}
 use Rattle.wit_foreign.specs.Kept.{Items, table_more}
 use Rattle.wit_files.specs.ForeignPaths.{foreign_view}
 use Rattle.wit_foreign.proofs.Growth.{deps_more}

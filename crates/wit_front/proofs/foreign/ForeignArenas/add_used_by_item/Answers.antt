@@ -1,7 +1,5 @@
 use Rattle.std.proofs.Common.{◌++◌, List, refl, ◌∙◌, subst, append_assoc}
-use Rattle.std.specs.List.{flat_map}
-use Rattle.wit_tree.specs.declared.tree.WorldSide.TheVariants.{Imported, Exported}
-use Rattle.wit_syntax.specs.Source.{ForeignUse}
+use Rattle.wit_syntax.proofs.Common.{Exported, ForeignUse, Imported, flat_map}
 use Rattle.wit_items.specs.BorrowedItems.{names_view}
 use Rattle.wit_items.specs.InlineNames.{inside_view}
 use Rattle.wit_front.specs.ForeignPrefix.{AreAdded, names_foreign_uses}

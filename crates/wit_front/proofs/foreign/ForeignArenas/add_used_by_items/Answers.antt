@@ -1,11 +1,6 @@
 use Rattle.std.proofs.Common.{◌≡◌, ◌+◌, ◌++◌, List, [], ◌∷◌, Some, take, sym, ap, ◌∙◌, subst, arith, append_assoc}
-use Rattle.std.specs.Prelude.{slice_get}
-use Rattle.std.specs.List.{flat_map}
-use Rattle.std.proofs.lemmas.List.{take_more, take_all}
-use Rattle.std.proofs.lemmas.Option.{slice_get-get_or}
-use Rattle.wit_syntax.specs.Source.{ForeignUse}
-use Rattle.wit_syntax.specs.Foreign.{foreign_items}
-use Rattle.wit_arena.proofs.Visits.{interfaces_differ}
+use Rattle.wit_syntax.proofs.Common.{ForeignUse, flat_map, foreign_items, slice_get, slice_get-get_or, take_all, take_more}
+use Rattle.wit_arena.proofs.Common.{interfaces_differ}
 use Rattle.wit_top_names.proofs.Lost.{flat_more}
 use Rattle.wit_items.specs.declared.items.Item.{Item}
 use Rattle.wit_front.specs.ForeignPrefix.{AreAdded, addresses_among, borrowed_foreign_uses}

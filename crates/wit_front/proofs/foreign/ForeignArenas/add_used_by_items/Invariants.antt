@@ -1,7 +1,5 @@
 use Rattle.std.proofs.Common.{◌++◌, List, take}
-use Rattle.std.specs.List.{flat_map}
-use Rattle.wit_syntax.specs.Source.{ForeignUse}
-use Rattle.wit_syntax.specs.Foreign.{ForeignVisit}
+use Rattle.wit_syntax.proofs.Common.{ForeignUse, ForeignVisit, flat_map}
 use Rattle.wit_items.specs.PlacedItems.{AreItemsPlaced}
 use Rattle.wit_front.specs.ForeignPrefix.{AreAdded, AreApart, addresses_among, borrowed_foreign_uses}
 use Rattle.wit_front.proofs.foreign.ForeignArenas.add_used_by_items.Given as goal

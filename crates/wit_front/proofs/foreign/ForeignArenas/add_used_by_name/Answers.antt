@@ -1,7 +1,5 @@
 use Rattle.std.proofs.Common.{◌≡◌, [], ◌∷◌, ap, ◌∙◌, subst}
-use Rattle.std.proofs.lemmas.List.{append-nil}
-use Rattle.wit_syntax.specs.Address.{ForeignNamed, package_of}
-use Rattle.wit_syntax.specs.Source.{Used, use_of_foreign}
+use Rattle.wit_syntax.proofs.Common.{ForeignNamed, Used, append-nil, package_of, use_of_foreign}
 use Rattle.wit_scopes.specs.BorrowedNames.{Borrowed as ScopeName, source_view, name_view, IsPlaced}
 use Rattle.wit_scopes.specs.declared.scope_name.Source.{Source}
 use Rattle.wit_scopes.specs.PlacedNames.{IsNamePlaced}

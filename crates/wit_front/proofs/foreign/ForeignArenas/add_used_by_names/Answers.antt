@@ -1,8 +1,5 @@
 use Rattle.std.proofs.Common.{◌≡◌, ◌+◌, ◌++◌, List, [], ◌∷◌, Some, map, take, sym, ap, ◌∙◌, subst}
-use Rattle.std.specs.Prelude.{slice_get}
-use Rattle.std.proofs.lemmas.List.{take_more}
-use Rattle.std.proofs.lemmas.Option.{slice_get-get_or}
-use Rattle.wit_syntax.specs.Source.{ForeignUse}
+use Rattle.wit_syntax.proofs.Common.{ForeignUse, slice_get, slice_get-get_or, take_more}
 use Rattle.wit_scopes.specs.BorrowedNames.{Borrowed as ScopeName, name_view}
 use Rattle.wit_front.specs.ForeignPrefix.{AreAdded, name_foreign_uses, names_foreign_uses}
 use Rattle.wit_front.proofs.ForeignName.{foreign_uses-next}

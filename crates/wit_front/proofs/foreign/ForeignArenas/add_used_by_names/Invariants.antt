@@ -1,6 +1,5 @@
 use Rattle.std.proofs.Common.{◌++◌, List, map, take}
-use Rattle.wit_syntax.specs.Source.{ForeignUse}
-use Rattle.wit_syntax.specs.Foreign.{ForeignVisit}
+use Rattle.wit_syntax.proofs.Common.{ForeignUse, ForeignVisit}
 use Rattle.wit_scopes.specs.BorrowedNames.{name_view}
 use Rattle.wit_scopes.specs.PlacedNames.{AreNamesPlaced}
 use Rattle.wit_front.specs.ForeignPrefix.{AreAdded, AreApart, addresses_among, names_foreign_uses}

@@ -1,8 +1,5 @@
 use Rattle.std.proofs.Common.{◌++◌, map, take}
-use Rattle.std.specs.Prelude.{All, List}
-use Rattle.std.specs.List.{flat_map}
-use Rattle.wit_syntax.specs.Source.{ForeignUse}
-use Rattle.wit_syntax.specs.Foreign.{ForeignVisit}
+use Rattle.wit_syntax.proofs.Common.{All, ForeignUse, ForeignVisit, List, flat_map}
 use Rattle.wit_scopes.specs.BorrowedNames.{name_view}
 use Rattle.wit_scopes.specs.PlacedNames.{AreNamesPlaced}
 use Rattle.wit_front.specs.ForeignPrefix.{AreAdded, AreApart, addresses_among, names_foreign_uses}

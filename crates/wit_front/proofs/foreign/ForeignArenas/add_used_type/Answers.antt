@@ -1,13 +1,9 @@
 use Rattle.std.proofs.Common.{◌≡◌, ℕ, List, [], ◌∷◌, ◌++◌, Some, None, nat_eq, refl, sym, ap, ◌∙◌, subst}
-use Rattle.std.specs.Prelude.{is_some, slice_get, slice_set}
-use Rattle.std.specs.Map.{lookup}
-use Rattle.std.specs.Cmp.Lexicographic.{pointwise}
-use Rattle.indexmap.specs.IndexMap.{insert_entry}
+use Rattle.wit_syntax.proofs.Common.{Metadata, insert_entry, lookup, pointwise, slice_get, slice_set}
+use Rattle.std.specs.Prelude.{is_some}
 use Rattle.wit_types.specs.declared.types.TypeDefKind.TheVariants.{Unknown}
 use Rattle.wit_types.specs.declared.types.TypeOwner.TheVariants as owner
-use Rattle.wit_model.specs.declared.interface.Interface.{Interface}
-use Rattle.wit_syntax.specs.Metadata.{Metadata}
-use Rattle.wit_arena.specs.Resolving.{named}
+use Rattle.wit_arena.proofs.Common.{Interface, named}
 use Rattle.wit_notes.specs.BorrowedMetadata.{metadata_view}
 use Rattle.wit_front.specs.ForeignPrefix.{with_types, addresses_among}
 use Rattle.wit_front.proofs.ForeignName.{in_use-known, in_use-fresh, is_some-copied, none_copied}

@@ -1,7 +1,6 @@
 use Rattle.std.proofs.Common.{List, map, ap, ◌∙◌, arith}
-use Rattle.std.proofs.lemmas.List.{take_all}
-use Rattle.wit_syntax.specs.Foreign.{foreign_items}
-use Rattle.wit_arena.proofs.Visits.{visits_differ}
+use Rattle.wit_syntax.proofs.Common.{foreign_items, take_all}
+use Rattle.wit_arena.proofs.Common.{visits_differ}
 use Rattle.wit_files.specs.declared.foreign.ForeignVisit.{ForeignVisit as Borrowed}
 use Rattle.wit_files.specs.ForeignPaths.{foreign_view}
 use Rattle.wit_front.specs.ForeignPrefix.{entries_after}

@@ -1,5 +1,5 @@
 use Rattle.std.proofs.Common.{◌∙◌, sym, ap}
-use Rattle.wit_syntax.specs.ExternPart.{same_side}
+use Rattle.wit_syntax.proofs.Common.{same_side}
 use Rattle.wit_links.proofs.Counted.{kept_exports, kept_imports}
 use Rattle.wit_links.proofs.inside.Seen.set.Goals as goal
 

@@ -1,9 +1,8 @@
 use Rattle.std.proofs.Common.{◌++◌, ◌∷◌, [], ap, refl, ◌∙◌}
-use Rattle.std.proofs.lemmas.Result.{err_from_is_err_and}
-use Rattle.wit_first.proofs.Bridge.{refused_by}
+use Rattle.wit_syntax.proofs.Common.{err_from_is_err_and}
+use Rattle.wit_walk.proofs.Common.{first_in, refused_by}
 use Rattle.wit_parser.proofs.Pushing.{push_agrees}
 use Rattle.wit_nested.proofs.Fitting.{not_unfit}
-use Rattle.wit_first.specs.First.{first_in}
 use Rattle.wit_nested.specs.PushFaults.{file_fault, nested_fault}
 use Rattle.wit_nested.proofs.FirstFaults.{reports_first, source_none, source_stops}
 use Rattle.wit_nested.proofs.Making.{among_unfit, nested_extended, rest_unfit}

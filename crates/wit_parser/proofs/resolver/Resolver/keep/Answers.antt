@@ -1,5 +1,5 @@
 use Rattle.std.proofs.Common.{◌≡◌, sym, subst, ◌∙◌}
-use Rattle.wit_syntax.specs.Broken.{headers, last_header}
+use Rattle.wit_syntax.proofs.Common.{headers, last_header}
 use Rattle.wit_items.specs.FileHeaders.{header_at}
 use Rattle.wit_parser.proofs.LastHeader.{some_is, none_is, header_more, header_kept}
 use Rattle.wit_items.proofs.Documented.{headers-append}

@@ -1,8 +1,5 @@
-use Rattle.std.specs.Option.{option_or}
-use Rattle.std.proofs.lemmas.Result.{err_from_is_err_and}
-use Rattle.wit_syntax.specs.Broken.{headers}
-use Rattle.wit_first.specs.HeaderFaults.{nesting_fault, second_docs_fault}
-use Rattle.wit_first.proofs.First.{none_both, reports_back, reports_prefix}
+use Rattle.wit_syntax.proofs.Common.{err_from_is_err_and, headers, option_or}
+use Rattle.wit_walk.proofs.Common.{nesting_fault, none_both, reports_back, reports_prefix, second_docs_fault}
 use Rattle.wit_parser.proofs.resolver.Resolver.push.Goals as goal
 
 pub returns-in_err-check_header-clause-first : goal.returns-in_err-check_header-clause-first

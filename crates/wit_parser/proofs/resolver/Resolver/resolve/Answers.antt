@@ -1,6 +1,5 @@
-use Rattle.std.proofs.lemmas.Result.{IfOk-weaker}
-use Rattle.wit_arena.specs.Faithful.{IsFaithful, HasArena, IsMadeOf}
-use Rattle.wit_arena.specs.Made.{Makes}
+use Rattle.wit_syntax.proofs.Common.{IfOk-weaker}
+use Rattle.wit_arena.proofs.Common.{HasArena, IsFaithful, IsMadeOf, Makes}
 use Rattle.wit_parser.proofs.FirstFault.{found_broken, found_legal}
 use Rattle.wit_parser.proofs.PartsMade.{arena_of_made, faithful_of_made}
 use Rattle.wit_parser.proofs.resolver.Resolver.resolve.Goals as goal

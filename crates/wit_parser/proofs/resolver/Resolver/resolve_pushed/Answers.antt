@@ -1,10 +1,6 @@
 use Rattle.std.proofs.Common.{◌≡◌, List, None, inl, inr, sym, ap, ◌∙◌, subst}
-use Rattle.std.specs.Option.{option_copied}
-use Rattle.wit_tree.specs.declared.tree.PackageFile.{PackageFile}
-use Rattle.wit_syntax.specs.Fault.{Fault, fault}
-use Rattle.wit_syntax.specs.Broken.{last_header}
-use Rattle.wit_syntax.proofs.Headers.{span_of_ends}
-use Rattle.wit_walk.specs.Walk.{IsFirst}
+use Rattle.wit_syntax.proofs.Common.{Fault, PackageFile, fault, last_header, option_copied, span_of_ends}
+use Rattle.wit_walk.proofs.Common.{IsFirst}
 use Rattle.wit_parser.proofs.FirstFault.{headerless}
 use Rattle.wit_parser.proofs.resolver.Resolver.resolve_pushed.Goals as goal
 

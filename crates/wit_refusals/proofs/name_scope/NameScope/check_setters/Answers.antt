@@ -1,10 +1,5 @@
 use Rattle.std.proofs.Common.{◌≡◌, ℕ, ◌<◌, ◌⊎◌, Some, None, ◌∙◌, sym, ap, inl, inr, arith, subst}
-use Rattle.std.specs.Prelude.{slice_get}
-use Rattle.std.specs.Option.{option_map}
-use Rattle.std.proofs.lemmas.Option.{slice_get-map, slice_get_within}
-use Rattle.std.proofs.lemmas.Result.{err_from_is_err_and}
-use Rattle.wit_syntax.specs.Broken.{Refused}
-use Rattle.wit_syntax.proofs.Lists.{at_within, map_at}
+use Rattle.wit_syntax.proofs.Common.{Refused, at_within, err_from_is_err_and, map_at, option_map, slice_get, slice_get-map, slice_get_within}
 use Rattle.wit_refusals.specs.NameScopes.{IsLoneSetter, IsFirstLoneSetter}
 use Rattle.wit_refusals.specs.KeyedNames.{spelled, name_of, names_of}
 use Rattle.wit_refusals.proofs.Scoping.{paired-more, first-lone}

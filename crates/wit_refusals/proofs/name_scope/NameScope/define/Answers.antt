@@ -1,8 +1,5 @@
 use Rattle.std.proofs.Common.{◌≡◌, List, nat_eq, Some, inl, inr, sym, ap, subst, ◌∙◌}
-use Rattle.std.specs.Prelude.{slice_get}
-use Rattle.std.specs.Option.{option_map}
-use Rattle.std.proofs.lemmas.Option.{slice_get-map}
-use Rattle.std.specs.Cmp.Lexicographic.{pointwise}
+use Rattle.wit_syntax.proofs.Common.{option_map, pointwise, slice_get, slice_get-map}
 use Rattle.wit_maps.proofs.Indexed.{lookup_nowhere}
 use Rattle.wit_refusals.specs.KeyedNames.{Entry, name_of, names_of}
 use Rattle.wit_refusals.specs.NameScopes.{AreUsed}
