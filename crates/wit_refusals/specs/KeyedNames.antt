@@ -1,9 +1,11 @@
 -- What a scope keeps: its names in order, each by its key.
-use Rattle.std.specs.Prelude.{◌≡◌, ℕ, IsTrue, List, Option, Some, None, codes, map, slice_get}
+use Rattle.std.specs.Prelude.{◌≡◌, ◌⊎◌, ℕ, IsTrue, List, Option, Some, None, codes, map, slice_get}
 use Rattle.wit_names.specs.Folded.{folded_key}
 use Rattle.wit_names.specs.Setter.{getter_of, is_setter}
 use Rattle.wit_values.specs.declared.span.Span.{Span}
-use Rattle.wit_syntax.specs.Fault.{Fault, fault_in}
+use Rattle.wit_type_tree.specs.RefusalText.{IsAllocationFailure}
+use Rattle.wit_type_tree.specs.declared.error.ParseError.{ParseError}
+use Rattle.wit_syntax.specs.Fault.{Fault, fault_in, fault_of}
 use Rattle.wit_syntax.specs.Words.{clash, setter_words}
 use Rattle.wit_syntax.specs.Repeats.{AllDiffer}
 use Rattle.wit_refusals.specs.declared.name_scope.DefinedName.{DefinedName}
@@ -45,3 +47,7 @@ IsWithoutGetter names name span f = IsTrue (is_setter name) × (HasName names (g
 -- the fault of a name whose key an entry has
 abbrev pub defined_again_fault : Entry → List ℕ → Span → Fault
 defined_again_fault e name span = fault_in 17 span (clash (codes "name") (spelled e.0 e.1) name)
+
+-- so a refusal says of the entry at a place, or an allocation failed
+abbrev pub IsDefinedAgainAt : List Entry → ℕ → List ℕ → Span → ParseError → Type 0
+IsDefinedAgainAt es place name span e = (earlier : Entry) → slice_get es place ≡ Some earlier → IsAllocationFailure e ⊎ (fault_of e ≡ defined_again_fault earlier name span)

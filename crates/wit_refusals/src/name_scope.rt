@@ -1,14 +1,11 @@
 //! The names of a scope, which differ once folded.
-ghost use Rattle.std.specs.Prelude.{◌≡◌, ◌⊎◌, ◌++◌, ◌∷◌, [], ◌↔◌, ℕ, IfErr, IfOk, IsTrue, OnErr, OnOk, Some, string_bytes};
+ghost use Rattle.std.specs.Prelude.{◌≡◌, ◌++◌, ◌∷◌, [], ◌↔◌, ℕ, IfErr, IfOk, IsTrue, OnErr, OnOk, Some, string_bytes};
 ghost use Rattle.wit_names.specs.Mangled.{is_mangled};
 ghost use Rattle.wit_names.specs.Setter.{getter_of, is_setter};
 ghost use Rattle.wit_syntax.specs.Broken.{Refused};
-ghost use Rattle.wit_type_tree.specs.RefusalText.{IsAllocationFailure};
-ghost use Rattle.wit_syntax.specs.Fault.{fault_of};
 ghost use Rattle.wit_syntax.specs.Words.{setter_words};
-ghost use Rattle.std.specs.Prelude.{slice_get};
 ghost use Rattle.wit_refusals.specs.NameScopes.{IsDefinedAgain, IsFirstLoneSetter, IsLoneSetter, AreUsed};
-ghost use Rattle.wit_refusals.specs.KeyedNames.{Entry, HasName, IsKeyed, IsWithoutGetter, defined_again_fault, names_of, spelled, spelling};
+ghost use Rattle.wit_refusals.specs.KeyedNames.{HasName, IsDefinedAgainAt, IsKeyed, IsWithoutGetter, names_of, spelled, spelling};
 
 use crate::getters::is_getter_name;
 use crate::refusal::refuse_in;
@@ -85,7 +82,7 @@ fn defined_again(
     name: &str,
     span: Span,
 ) -> ParseError
-    ensures { (earlier : Entry) → slice_get names.now place ≡ Some earlier → IsAllocationFailure result ⊎ (fault_of result ≡ defined_again_fault earlier name.now span) }
+    ensures { IsDefinedAgainAt names.now place name.now span result }
 {
     let words = match names.get_index(place) {
         Some((key, earlier)) => clash(alloc, "name", earlier.spelled(key), name),
