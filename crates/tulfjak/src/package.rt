@@ -14,7 +14,7 @@ pub use wit_functions::{
 pub use wit_intern::{InternKey, InternReply, InternStep, InternTable, intern_run};
 /// Interfaces, worlds and packages.
 pub use wit_model::{
-    AstItem, ForeignItems, IncludeName, Interface, UnresolvedPackage, World, WorldInclude,
+    Arenas, AstItem, ForeignItems, IncludeName, Interface, UnresolvedPackage, World, WorldInclude,
     WorldItem, WorldKey, get_name, world_item_func,
 };
 /// Names of packages.

@@ -4,7 +4,7 @@ use std::alloc::{AllocError, Global};
 use std::test::Fail;
 use tulfjak::UnresolvedPackage;
 use tulfjak::package::{
-    Arena, Docs, ForeignItems, InterfacePlace, PackageName, Span, Text, WorldKey,
+    Arena, Arenas, Docs, ForeignItems, InterfacePlace, PackageName, Span, Text, WorldKey,
 };
 use tulfjak::resolve::laws;
 
@@ -23,9 +23,11 @@ fn name(alloc: Global) -> Result<PackageName, AllocError> {
 fn bare(alloc: Global, name: PackageName) -> UnresolvedPackage {
     UnresolvedPackage::new(
         name,
-        Arena::new(alloc),
-        Arena::new(alloc),
-        Arena::new(alloc),
+        Arenas {
+            types: Arena::new(alloc),
+            interfaces: Arena::new(alloc),
+            worlds: Arena::new(alloc),
+        },
         Docs::default(),
         SPAN,
         ForeignItems::none(alloc),

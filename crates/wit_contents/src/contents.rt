@@ -21,10 +21,10 @@ use wit_items::files::Files;
 use wit_items::interfaces::Interfaces;
 use wit_items::items::{Item, declared_items};
 use wit_maps::TextTable;
-use wit_model::{ForeignItems, Interface, World};
+use wit_model::{Arenas, ForeignItems, Interface, World};
 use wit_tree::tree::PackageFile;
 use wit_tree::{ParseResult, Span};
-use wit_types::{Arena, InterfacePlace, TypeDef, TypePlace, WorldPlace};
+use wit_types::{Arena, InterfacePlace, WorldPlace};
 use wit_values::{Row, pair_with};
 
 /// The interfaces and the worlds of files, where types of other packages are first used, and which of
@@ -164,14 +164,6 @@ fn resolve_gathered<'f, 'a>(
 {
     let names = FileNames::gather(alloc, files)?;
     resolve_named(alloc, &names, files, types)
-}
-
-/// What files make in the arenas.
-#[derive(Drop)]
-pub struct Arenas {
-    pub types: Arena<TypeDef, TypePlace>,
-    pub interfaces: Arena<Interface, InterfacePlace>,
-    pub worlds: Arena<World, WorldPlace>,
 }
 
 /// What files make in the arenas, and what they name of other packages.

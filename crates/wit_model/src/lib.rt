@@ -17,7 +17,7 @@ pub mod world;
 pub use ast_item::AstItem;
 pub use foreign::ForeignItems;
 pub use interface::Interface;
-pub use unresolved::UnresolvedPackage;
+pub use unresolved::{Arenas, UnresolvedPackage};
 pub use wit_functions::{
     AbiVariant, Function, FunctionKind, FunctionMap, LiftLowerAbi, Mangling, ManglingAndAbi,
     ManglingFault, Param, ParamResultTypes, abi, function, function_kind, function_name, futures,

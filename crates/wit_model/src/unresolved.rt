@@ -15,6 +15,14 @@ use wit_types::laws::copies::copy_docs;
 use wit_types::{Arena, Docs, InterfacePlace, Stability, TypeDef, TypeId, TypePlace, WorldPlace};
 use wit_values::{Row, Span};
 
+/// The arenas of a package.
+#[derive(Drop)]
+pub struct Arenas {
+    pub types: Arena<TypeDef, TypePlace>,
+    pub interfaces: Arena<Interface, InterfacePlace>,
+    pub worlds: Arena<World, WorldPlace>,
+}
+
 /// A package whose names are resolved, but not those of other packages.
 ///
 /// Two are equal if their names, docs, spans, arenas, items of other packages and types that handles
@@ -48,17 +56,15 @@ impl UnresolvedPackage {
     /// `name_span`, and with what it names of other packages.
     pub fn new(
         name: PackageName,
-        worlds: Arena<World, WorldPlace>,
-        interfaces: Arena<Interface, InterfacePlace>,
-        types: Arena<TypeDef, TypePlace>,
+        arenas: Arenas,
         docs: Docs,
         name_span: Span,
         foreign: ForeignItems,
     ) -> Self
         ensures name { result.name ≡ name }
-        ensures worlds { result.worlds ≡ worlds }
-        ensures interfaces { result.interfaces ≡ interfaces }
-        ensures types { result.types ≡ types }
+        ensures worlds { result.worlds ≡ arenas.worlds }
+        ensures interfaces { result.interfaces ≡ arenas.interfaces }
+        ensures types { result.types ≡ arenas.types }
         ensures docs { result.docs ≡ docs }
         ensures name_span { result.name_span ≡ name_span }
         ensures foreign_deps { result.foreign_deps ≡ foreign.deps }
@@ -68,9 +74,9 @@ impl UnresolvedPackage {
     {
         UnresolvedPackage {
             name,
-            worlds,
-            interfaces,
-            types,
+            worlds: arenas.worlds,
+            interfaces: arenas.interfaces,
+            types: arenas.types,
             foreign_deps: foreign.deps,
             docs,
             name_span,

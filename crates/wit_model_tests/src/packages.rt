@@ -12,7 +12,7 @@ use wit_model::laws::equality::{
     is_same_docs, is_same_package, is_same_package_name, is_same_stability,
 };
 use wit_model::laws::order::{compare_package_names, compare_stabilities};
-use wit_model::{AstItem, ForeignItems, UnresolvedPackage};
+use wit_model::{Arenas, AstItem, ForeignItems, UnresolvedPackage};
 use wit_package_names::PackageName;
 use wit_types::{Arena, Docs, HasSpans, Stability};
 use wit_values::{Rare, Release, Row, Span, Text};
@@ -74,9 +74,11 @@ fn fill_foreign(alloc: Global, foreign: &mut ForeignItems, span: Span) -> Result
 fn bare(alloc: Global, name: PackageName, span: Span, foreign: ForeignItems) -> UnresolvedPackage {
     UnresolvedPackage::new(
         name,
-        Arena::new(alloc),
-        Arena::new(alloc),
-        Arena::new(alloc),
+        Arenas {
+            types: Arena::new(alloc),
+            interfaces: Arena::new(alloc),
+            worlds: Arena::new(alloc),
+        },
         Docs::default(),
         span,
         foreign,

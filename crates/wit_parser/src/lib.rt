@@ -9,7 +9,7 @@ pub mod resolver;
 pub use resolver::Resolver;
 pub use wit_files::{FileNames, Found, Visit, Wanted, visits};
 pub use wit_model::{
-    AbiVariant, Arena, AstItem, Case, Docs, Enum, EnumCase, Field, Flag, Flags, FlagsRepr,
+    AbiVariant, Arena, Arenas, AstItem, Case, Docs, Enum, EnumCase, Field, Flag, Flags, FlagsRepr,
     ForeignItems, Function, FunctionKind, FunctionMap, Handle, HasSpans, Id, IncludeName, Int,
     Interface, InterfaceId, LiftLowerAbi, Mangling, ManglingAndAbi, ManglingFault, PackageId,
     PackageName, Param, ParamResultTypes, Record, Result_, Stability, Tuple, Type, TypeDef,

@@ -114,9 +114,7 @@ fn resolve_named(
     let (contents, heading) = pair_with(made, package_heading(alloc, header, files))?;
     Ok(UnresolvedPackage::new(
         heading.0,
-        contents.arenas.worlds,
-        contents.arenas.interfaces,
-        contents.arenas.types,
+        contents.arenas,
         heading.1,
         header.span,
         contents.foreign,
