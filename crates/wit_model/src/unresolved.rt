@@ -15,11 +15,14 @@ use wit_types::laws::copies::copy_docs;
 use wit_types::{Arena, Docs, InterfacePlace, Stability, TypeDef, TypeId, TypePlace, WorldPlace};
 use wit_values::{Row, Span};
 
-/// The arenas of a package.
+/// The arenas of a package, of which `UnresolvedPackage::new` makes it.
 #[derive(Drop)]
 pub struct Arenas {
+    /// The types, each after those that it refers to.
     pub types: Arena<TypeDef, TypePlace>,
+    /// The interfaces, each after those that it uses.
     pub interfaces: Arena<Interface, InterfacePlace>,
+    /// The worlds, each after those that it includes.
     pub worlds: Arena<World, WorldPlace>,
 }
 
