@@ -10,9 +10,13 @@ use Rattle.wit_functions.specs.declared.function.Function.{Function}
 use Rattle.wit_arena.specs.SourceFunctions.{IsFunction, placed_functions}
 use Rattle.wit_arena.specs.SideItems.{AreSideItems, settled}
 use Rattle.wit_arena.specs.Occurrences.{Key, Occurrence, keys, IsOccurrence}
-use Rattle.wit_arena.specs.OneByOne.{OneByOne, BothParts}
+use Rattle.wit_arena.specs.OneByOne.{OneByOne}
 use Rattle.wit_arena.specs.UnfoldedTypes.{IsInterface, IsWorld, IsForeignWorld, world_types}
 use Rattle.wit_arena.specs.Whole.{Ordered, ordered_names, turned, OrderedWorld, all_turns, all_inside, declarations, addresses, HasTypes, type_imports, AreIncludes, turn_handles, AreRequired, interface_addresses, world_addresses, IsForeignInterface, dep, first_docs, AreFirstOccurrences}
+
+-- a prefix of these belongs to some, one by one, and the rest to others
+abbrev pub BothParts : {X Y Z : Type 0} → (X → Z → Type 0) → (Y → Z → Type 0) → List X → List Y → List Z → Type 0
+BothParts {X} {Y} {Z} First Then xs ys zs = (prefix : List Z) × (rest : List Z) × (zs ≡ prefix ++ rest) × OneByOne First xs prefix × OneByOne Then ys rest
 
 -- an interface of files, with its names in turn, and its functions
 pub record IsResolvedInterface (ks : List Key) (o : Ordered) (i : Interface) : Type 0 where

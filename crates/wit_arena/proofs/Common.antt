@@ -46,7 +46,7 @@ pub use Rattle.wit_arena.specs.Faithful.{HasArena, IsAnonymousForm, IsFaithful, 
 pub use Rattle.wit_arena.specs.Kind.{Kind, case_member, enum_case_member, field_member, flag_member, kind_of, payloads}
 pub use Rattle.wit_arena.specs.Made.{AreInOrder, AreNamesInOrder, IsEntryOf, Makes, entries_on, entry, foreign_interface, foreign_world, function_in, include_in, interface, interface_scopes, interface_turn, item_turns, name_imports, name_places, names_in_turn, own_interface, own_interfaces, own_world, role_kind, scope_place, side_entries, turns_of_world, turns_on_sides, type_of, types_of, world, world_entries, world_scopes}
 pub use Rattle.wit_arena.specs.Occurrences.{AreAt, Collects, Decls, Def, IsAt, IsEntry, IsKeyed, IsOccurrence, IsSeen, Key, Occurrence, Whole, all_function_occurrences, keys, name_occurrences, shape_occurrences, shapes_occurrences, stability_at}
-pub use Rattle.wit_arena.specs.OneByOne.{BothParts, OneByOne}
+pub use Rattle.wit_arena.specs.OneByOne.{OneByOne}
 pub use Rattle.wit_arena.specs.ResolvedArenas.{AddsAfter, AddsDeclared, AddsEach, AddsForeign, AddsFunction, AddsInterface, AddsInterfaces, AddsScope, AddsSides, AddsWorld, AddsWorlds, AreUsableUses, IsNext, WorldArenas, foreign_type, interfaces_at, prefix_worlds, worlds_at}
 pub use Rattle.wit_arena.specs.Resolving.{AddsFunctions, AreEnded, AreKnown, AreNames, AreOwned, AreResolved, Defines, Env, HasNames, IsAdded, IsDefined, IsFound, IsIndex, IsInterned, IsNoWorld, IsStored, IsUnnamedOf, IsWorldIndex, Names, Required, ResolvedScope, env_of, free_functions, named, names_in, resolved_scope, resolved_scope_at, resolved_scopes, unnamed}
 pub use Rattle.wit_arena.specs.SideItems.{AreSideItems, inline_entry, link_item, link_key, link_span, put_on, settled}

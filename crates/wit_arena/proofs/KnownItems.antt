@@ -1,10 +1,10 @@
--- The items of a package in their orders: each is at its address, and no two are at one.
+-- The items of a package in their orders: each is at its address.
 use Rattle.std.proofs.Common.{◌≡◌, ℕ, suc, ◌+◌, List, [], ◌∷◌, ◌++◌, length, Option, Some, refl, sym, ap, ◌∙◌, subst, Contains}
-use Rattle.wit_syntax.proofs.Common.{Address, AllDiffer, FoldedTwice, IsLegal, IsOrder, Item, Names, PackageFile, ScopeName, Sides, SourceFunction, address, all_items, all_scopes, at_back, at_prefix, foreign_interfaces, foreign_worlds, function_key, functions, functions_differ, functions_items, in_order, inline_items, interfaces_of, is_world, item_at, map, map-append, map_map, not, option_map, option_map_or, rows_of, scope, scope_names, side_items, slice_get, slice_get-map, visited, worlds_of}
+use Rattle.wit_syntax.proofs.Common.{AllDiffer, FoldedTwice, IsLegal, IsOrder, Item, Names, PackageFile, ScopeName, Sides, SourceFunction, address, all_items, all_scopes, at_back, at_prefix, foreign_interfaces, foreign_worlds, function_key, functions, functions_differ, functions_items, in_order, inline_items, interfaces_of, is_world, item_at, map, map-append, map_map, not, option_map, option_map_or, rows_of, scope, scope_names, side_items, slice_get, slice_get-map, visited, worlds_of}
 use Rattle.wit_arena.specs.Whole.{Ordered, OrderedWorld, AreOrdered, all_inside, functions_at, interface_addresses, ordered_names, world_addresses}
-use Rattle.wit_arena.proofs.Added.{inside_of, interface_list, world_list, all_addresses}
+use Rattle.wit_arena.proofs.Added.{inside_of, interface_list, world_list}
 use Rattle.wit_arena.proofs.DoneWorlds.{own_order}
-use Rattle.wit_arena.proofs.Interfaces.{AreAddresses, AreItems, interfaces_sort, worlds_sort, items_kept, item_scopes, inline_scopes, scope_at}
+use Rattle.wit_arena.proofs.Interfaces.{AreItems, items_kept, item_scopes, inline_scopes, scope_at}
 use Rattle.wit_arena.proofs.Itemizing.{are_items}
 use Rattle.wit_arena.proofs.ScopesInTurn.{ordered_addresses, in_turn_is}
 use Rattle.wit_arena.proofs.LegalScopes.{distinct_items, names_differ, scope_among}
@@ -63,18 +63,14 @@ module _ (files : List PackageFile) (legal : IsLegal files) where
     pub worlds_are : world_list files (worlds_of all) ≡ world_addresses files ws
     worlds_are = ap (λ l. map visited (foreign_worlds files) ++ l) (ap (map address) (sym ordered.all_worlds) ∙ map_map address own_item ws)
 
-    -- no two addresses of interfaces and of worlds are one
-    pub addresses_are : AreAddresses (interface_addresses files (os ++ all_inside ws)) (world_addresses files ws)
-    addresses_are = subst (λ (l : List Address). AreAddresses l (world_addresses files ws)) interfaces_are (subst (λ (l : List Address). AreAddresses (interface_list files (interfaces_of all) (inside_of (worlds_of all))) l) worlds_are (all_addresses files (interfaces_of all) (worlds_of all) (interfaces_sort all) (worlds_sort all) are_interfaces are_worlds))
-
     -- where the item of an order is
-    pub interface_place : (t : ℕ) (o : Ordered) → slice_get os t ≡ Some o → slice_get (interfaces_of all) t ≡ Some o.item
+    interface_place : (t : ℕ) (o : Ordered) → slice_get os t ≡ Some o → slice_get (interfaces_of all) t ≡ Some o.item
     interface_place t o at = ap (λ (l : List Item). slice_get l t) (sym ordered.all_interfaces) ∙ slice_get-map item_of os t ∙ ap (option_map item_of) at
 
-    pub world_place : (t : ℕ) (w : OrderedWorld) → slice_get ws t ≡ Some w → slice_get (worlds_of all) t ≡ Some w.own.item
+    world_place : (t : ℕ) (w : OrderedWorld) → slice_get ws t ≡ Some w → slice_get (worlds_of all) t ≡ Some w.own.item
     world_place t w at = ap (λ (l : List Item). slice_get l t) (sym ordered.all_worlds) ∙ slice_get-map own_item ws t ∙ ap (option_map own_item) at
 
-    pub inside_place : (t : ℕ) (o : Ordered) → slice_get (all_inside ws) t ≡ Some o → slice_get (inside_of (worlds_of all)) t ≡ Some o.item
+    inside_place : (t : ℕ) (o : Ordered) → slice_get (all_inside ws) t ≡ Some o → slice_get (inside_of (worlds_of all)) t ≡ Some o.item
     inside_place t o at = ap (λ (l : List Item). slice_get l t) (sym inside_are) ∙ slice_get-map item_of (all_inside ws) t ∙ ap (option_map item_of) at
 
     -- each of them is an item

@@ -61,12 +61,6 @@ pub mod PackageIfDone
 pub mod Resolved
 pub mod LegalScopes
 pub mod KnownItems
-pub mod KnownInline
-pub mod KnownScopes
-pub mod KnownOwners
-pub mod KnownTurns
-pub mod KnownMembers
-pub mod OfPackage
 pub mod JoinedTurns
 pub mod JoinedWorlds
 pub mod JoinedOnce

@@ -5,10 +5,10 @@ use Rattle.wit_model.specs.declared.interface.Interface.{Interface}
 use Rattle.wit_model.specs.declared.world.World.{World}
 use Rattle.wit_arena.specs.Made.{names_in_turn, foreign_interface, own_interface, foreign_world, own_world}
 use Rattle.wit_arena.specs.Occurrences.{Key}
-use Rattle.wit_arena.specs.OneByOne.{OneByOne, BothParts}
+use Rattle.wit_arena.specs.OneByOne.{OneByOne}
 use Rattle.wit_arena.specs.UnfoldedTypes.{IsForeignWorld}
 use Rattle.wit_arena.specs.Whole.{Ordered, OrderedWorld, ordered_names, IsForeignInterface}
-use Rattle.wit_arena.proofs.ByParts.{IsResolvedInterface, IsResolvedWorld}
+use Rattle.wit_arena.proofs.ByParts.{BothParts, IsResolvedInterface, IsResolvedWorld}
 use Rattle.wit_arena.proofs.MadeInterfaces.{foreign_interface-as_stated, own_interface-as_stated}
 use Rattle.wit_arena.proofs.MadeSides.{ArePlaced}
 use Rattle.wit_arena.proofs.MadeWorlds.{foreign_world-as_stated, own_world-as_stated}

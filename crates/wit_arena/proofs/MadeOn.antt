@@ -49,6 +49,3 @@ made_on_pair side (x ∷ fns) (g ∷ fs) k f at = elim (cases_Bool (members_on s
   ]
   | inr miss ↦ (let it = made_on_pair side fns fs k f (sym (ap (λ l. slice_get l k) (made_on-past side x fns g fs miss)) ∙ at) in (suc it.0, it.1, it.2, it.3, it.4))
 ]
-
-pub made_on_from : (side : WorldSide) (fns : List SourceFunction) (fs : List Function) (k : ℕ) (f : Function) → slice_get (made_on side fns fs) k ≡ Some f → (j : ℕ) × (slice_get fs j ≡ Some f)
-made_on_from side fns fs k f at = let it = made_on_pair side fns fs k f at in (it.0, it.3)

@@ -1,5 +1,5 @@
 -- What holds of a resolved package: each written type has one at its position, with its tree, and nothing else is there.
-use Rattle.std.specs.Prelude.{◌≡◌, ◌↔◌, ◌<◌, ℕ, All, List, [], ◌∷◌, ◌++◌, length, Some, None, slice_get, Contains}
+use Rattle.std.specs.Prelude.{◌≡◌, ◌↔◌, ◌<◌, ℕ, All, List, [], ◌∷◌, length, Some, None, slice_get, Contains}
 use Rattle.wit_tree.specs.declared.tree.PackageFile.{PackageFile}
 use Rattle.wit_functions.specs.declared.function.Function.{Function}
 use Rattle.wit_types.specs.declared.types.«Type».{«Type» as Ty}
@@ -18,10 +18,10 @@ use Rattle.wit_syntax.specs.Sides.{function_key}
 use Rattle.wit_arena.specs.Kind.{kind_of}
 use Rattle.wit_arena.specs.Expr.{expr_of}
 use Rattle.wit_arena.specs.UnfoldedTypes.{owner_of, names_of, functions_of, function_types, package_node, package_tree, IsBelow}
-use Rattle.wit_arena.specs.Occurrences.{Def, Occurrence, keys, IsAt, IsOccurrence}
+use Rattle.wit_arena.specs.Occurrences.{Def, keys}
 use Rattle.wit_syntax.specs.Broken.{IsLegal}
-use Rattle.wit_arena.specs.Whole.{functions_at, all_inside, interface_addresses, world_addresses, declarations, AreFirstOccurrences}
-use Rattle.wit_arena.specs.Made.{Makes}
+use Rattle.wit_arena.specs.Whole.{functions_at}
+use Rattle.wit_arena.specs.Made.{Makes, type_of}
 
 -- the parts of one level
 abbrev pub node_parts : {X : Type 0} → Node X → List X
@@ -83,15 +83,12 @@ pub record IsFaithful (files : List PackageFile) (p : UnresolvedPackage) : Type 
   -- and the tree of each, at every depth, is that of its type
   pub trees : (x : Place) (t : Ty) (n : ℕ) → HasType files p x t → package_tree p n t ≡ source_tree files n x
 
--- The arena of types is what is first seen in files, where their scopes are resolved in their orders, in the order in which it occurs: an
--- entry is that of its key, and has the span of its first occurrence, and an unnamed one the stability that follows from it. Each name of an
--- owner means the place where it is first seen, and at the position of each written type is that of its expression.
+-- The arena of types is that of the package that files make: each name of an owner means the place where it is first seen, and at the position
+-- of each written type is that of its expression, which is there.
 pub record HasArena (files : List PackageFile) (p : UnresolvedPackage) : Type 0 where
-  pub seen : List Occurrence
-  pub first : AreFirstOccurrences files seen
-  pub entries : IsOccurrence (declarations files (interface_addresses files (first.interfaces ++ all_inside first.worlds)) (world_addresses files first.worlds)) seen p.types
-  pub names : (o : TypeOwner) (s : Address) (k : ℕ) (name : List ℕ) (id : ℕ) → owner_of p o ≡ Some s → slice_get (names_of p o) k ≡ Some (name, id) → slice_get (keys seen) id ≡ Some (Def s name)
-  pub positions : (x : Place) (ty : Ty) → HasType files p x ty → IsAt (keys seen) (expr_of x.0 x.1) ty
+  pub made : Makes files p
+  pub names : (o : TypeOwner) (s : Address) (k : ℕ) (name : List ℕ) (id : ℕ) → owner_of p o ≡ Some s → slice_get (names_of p o) k ≡ Some (name, id) → slice_get (keys made.seen) id ≡ Some (Def s name)
+  pub positions : (x : Place) (ty : Ty) → HasType files p x ty → (ty ≡ type_of made.id (expr_of x.0 x.1)) × IsBelow (length p.types) ty
 
 -- files break no rule, and this is the package that they make
 pub record IsMadeOf (files : List PackageFile) (p : UnresolvedPackage) : Type 0 where

@@ -1,14 +1,21 @@
--- The ids of a package are places of entries of its arenas.
+-- The ids of a package that legal files make are places of entries of its arenas.
 use Rattle.std.proofs.Common.{◌≡◌, ◌<◌, ◌≤◌, ℕ, ◌+◌, List, ◌++◌, length, map, take, Option, Some, None, refl, sym, ap, ◌∙◌, subst, arith, inl, inr, length-append}
-use Rattle.wit_syntax.proofs.Common.{Address, Exported, ForeignVisit, Imported, Item, PackageFile, PackageName, Stability, TypeDef, WorldNamed, address, at_split, at_within, filter, flat_map, foreign_interfaces, foreign_items, foreign_packages, foreign_worlds, functions, includes, kept_at, leads, length-map, map_at, option_map, option_or, package_of, position-Some, same_address, same_package, side_items, slice_get, slice_get_within, target_scope, unwrap_or, visited}
+use Rattle.wit_syntax.proofs.Common.{Address, Extern, ForeignVisit, Id, IsLegal, Item, Link, PackageFile, PackageName, SourceFunction, Stability, TypeDef, WorldNamed, address, at_split, filter, flat_map, foreign_interfaces, foreign_items, foreign_packages, foreign_worlds, functions, includes, inline_items, item_link, kept_at, leads, length-map, local_name, map_at, option_map, option_or, package_of, path_scope, position-Some, same_address, same_package, side_items, slice_get, slice_get_within, target_scope, unwrap_or, visited, worlds_of}
 use Rattle.wit_types.specs.declared.types.TypeOwner.TheVariants as owner
-use Rattle.wit_arena.proofs.Common.{AreIncludes, AstItem, Def, Function, Interface, IsEntry, IsForeignInterface, IsForeignWorld, IsKeyed, IsPackage, IsResolvedInterface, IsResolvedWorld, Key, OneByOne, Ordered, OrderedWorld, UnresolvedPackage, Whole, World, WorldInclude, addresses, all_inside, all_turns, declarations, dep, dep_item, foreign_entry, foreign_turned, function_from, interface_addresses, keys, kind_of, name_exprs, ordered_names, owner_at, place_at, turn_handles, turned, type_imports, world_addresses, world_types}
+use Rattle.wit_arena.proofs.Common.{AstItem, Def, GivesPlaces, Interface, IsEntry, IsKeyed, IsSeen, Key, Makes, Occurrence, UnresolvedPackage, Whole, World, WorldInclude, declarations, dep, dep_item, foreign_entry, foreign_interface, foreign_turned, foreign_world, function_in, include_in, inline_entry, interface_scopes, interface_turn, item_turns, keys, kind_of, link_item, link_key, name_exprs, names_in_turn, own_interface, own_interfaces, own_world, owner_at, place_at, scope_place, turn_handles, world_scopes}
+use Rattle.wit_model.specs.declared.world.WorldItem.TheVariants as item
+use Rattle.wit_model.specs.declared.world.WorldKey.TheVariants as key
 use Rattle.wit_arena.proofs.Deps.{entry_of_interface, entry_of_world, item_sort}
 use Rattle.wit_arena.proofs.Places.{all_at_untaken}
 use Rattle.wit_arena.proofs.Shape.{key_of}
-use Rattle.wit_parser.proofs.TypeIds.{parts_within, names_within, functions_within, required_within}
-use Rattle.wit_parser.proofs.SideIds.{none_within, both_within, settled_within, type_imports_within, side_within}
-use Rattle.wit_parser.specs.Ids.{IsOwnerWithin, IsTypeWithin, IsInterfaceWithin, IsWorldWithin, IsForeignWithin, AreIdsWithin}
+use Rattle.wit_parser.proofs.EachMade.{Entry, exports_each, imports_each, members_each}
+use Rattle.wit_parser.proofs.PartsSeen.{entries_made, made_places}
+use Rattle.wit_parser.proofs.PartsKeys.{ItemPresent, interface_seen, world_seen, foreign_seen}
+use Rattle.wit_parser.proofs.PartsPlaces.{function_in-is, name_places-are, seen_at}
+use Rattle.wit_parser.proofs.PartsScopes.{has_places}
+use Rattle.wit_parser.proofs.PartsSides.{HasPlace, HasPlaces}
+use Rattle.wit_parser.proofs.TypeIds.{key_within, parts_within, names_within, function_within, required_within}
+use Rattle.wit_parser.specs.Ids.{IsFunctionWithin, IsKeyWithin, IsItemWithin, IsOwnerWithin, IsTypeWithin, IsInterfaceWithin, IsWorldWithin, IsForeignWithin, AreIdsWithin}
 
 -- what is found among addresses is among them
 place_within : (ss : List Address) (s : Address) (k : ℕ) → place_at ss s ≡ Some k → k < length ss
@@ -40,77 +47,6 @@ module _ (p : UnresolvedPackage) (ks : List Key) (types : length p.types ≡ len
   entries_within : (files : List PackageFile) → IsKeyed (declarations files is ws) ks p.types → (i : ℕ) (e : TypeDef) → slice_get p.types i ≡ Some e → IsTypeWithin p e
   entries_within files keyed i e at = let k = key_of (declarations files is ws) ks p.types keyed i e at in entry_within files i k.0 e (keyed.each i k.0 e k.1 at)
 
-  -- the interfaces of the package, and those of other packages
-  own_interface : (os : List Ordered) (own : List Interface) → OneByOne (IsResolvedInterface ks) os own → (k : ℕ) (i : Interface) → slice_get own k ≡ Some i → IsInterfaceWithin p i
-  own_interface os own are k i at =
-      let within = slice_get_within own k i at in
-      let count = are.count in
-      let o = at_within os k (omega arith) in
-      let it = are.each k o.0 i o.1 at in
-      let has = it.functions in
-      record {
-        types = names_within p ks types (turned o.0) i.types it.types;
-        functions = λ j name f there. (
-            let from = function_from has.0 j name f (ap (λ (l : List (List ℕ × Function)). slice_get l j) (sym has.2) ∙ there) in
-            functions_within p ks types (address o.0.item) (functions o.0.item) has.0 has.1 from.0 f from.1);
-        no_package = it.says.4;
-        no_source = it.says.5;
-      }
-
-  foreign_interface : (files : List PackageFile) (vs : List ForeignVisit) (prefix : List Interface) → OneByOne (IsForeignInterface files ks) vs prefix → (k : ℕ) (i : Interface) → slice_get prefix k ≡ Some i → IsInterfaceWithin p i
-  foreign_interface files vs prefix are k i at =
-      let within = slice_get_within prefix k i at in
-      let count = are.count in
-      let v = at_within vs k (omega arith) in
-      let says = are.each k v.0 i v.1 at in
-      record {
-        types = names_within p ks types (foreign_turned files v.0) i.types says.1;
-        functions = λ j name f there. absurd (let none = says.2 in let f : ⊥ = cc in f);
-        no_package = says.0.4;
-        no_source = says.0.5;
-      }
-
-  -- the includes of a world
-  include_within : (item : Item) (xs : List WorldInclude) → AreIncludes ws item xs → (k : ℕ) (i : WorldInclude) → slice_get xs k ≡ Some i → i.id < length p.worlds
-  include_within item xs are k i at =
-      let within = slice_get_within xs k i at in
-      let count = are.count in
-      let written = at_within (includes item) k (omega arith) in
-      let is_one = are.each k written.0 i written.1 at in
-      let placed = slice_get_within ws i.id (target_scope WorldNamed (leads item.top written.0.from)) is_one.1 in
-      omega (arith, placed, worlds)
-
-  -- the worlds of the package, and those of other packages
-  own_world : (os : List OrderedWorld) (own : List World) → OneByOne (IsResolvedWorld ks is ws) os own → (k : ℕ) (w : World) → slice_get own k ≡ Some w → IsWorldWithin p w
-  own_world os own are k w at =
-      let within = slice_get_within own k w at in
-      let count = are.count in
-      let o = at_within os k (omega arith) in
-      let item = o.0.own.item in
-      let it = are.each k o.0 w o.1 at in
-      let has = it.sides in
-      let each = functions_within p ks types (address item) (functions item) has.functions has.are in
-      let names = names_within p ks types (turned o.0.own) (world_types w) it.types in
-      record {
-        imports = settled_within p (includes item) (type_imports (ordered_names o.0.own) (world_types w) ++ has.imports.0) w.imports has.imports.2 (both_within p (type_imports (ordered_names o.0.own) (world_types w)) has.imports.0 (type_imports_within p (ordered_names o.0.own) (world_types w) names) (side_within p is interfaces item.top Imported (side_items item) has.functions (addresses o.0.inside) has.imports.0 each has.imports.1));
-        exports = settled_within p (includes item) has.exports.0 w.exports has.exports.2 (side_within p is interfaces item.top Exported (side_items item) has.functions (addresses o.0.inside) has.exports.0 each has.exports.1);
-        includes = include_within item w.includes it.includes;
-        no_package = it.says.4;
-      }
-
-  foreign_world : (vs : List ForeignVisit) (prefix : List World) → OneByOne IsForeignWorld vs prefix → (k : ℕ) (w : World) → slice_get prefix k ≡ Some w → IsWorldWithin p w
-  foreign_world vs prefix are k w at =
-      let within = slice_get_within prefix k w at in
-      let count = are.count in
-      let v = at_within vs k (omega arith) in
-      let says = are.each k v.0 w v.1 at in
-      record {
-        imports = none_within p w.imports says.1;
-        exports = none_within p w.exports says.2;
-        includes = λ j i there. absurd (let none = says.3 in let f : ⊥ = cc in f);
-        no_package = says.0.4;
-      }
-
 -- the items of other packages, where the arenas have as many
 module _ (files : List PackageFile) (p : UnresolvedPackage) (interfaces : length (foreign_interfaces files) ≤ length p.interfaces) (worlds : length (foreign_worlds files) ≤ length p.worlds) where
   item_within : (q : ℕ) (v : ForeignVisit) → slice_get (foreign_items files) q ≡ Some v → IsForeignWithin p (foreign_entry files v)
@@ -129,56 +65,129 @@ module _ (files : List PackageFile) (p : UnresolvedPackage) (interfaces : length
 length_joined : {X Y Z : Type 0} (f : X → Z) (g : Y → Z) (xs : List X) (ys : List Y) → length (map f xs ++ map g ys) ≡ length xs + length ys
 length_joined f g xs ys = length-append (map f xs) (map g ys) ∙ ap (λ n. n + length (map g ys)) (length-map xs f) ∙ ap (λ n. length xs + n) (length-map ys g)
 
-module _ (files : List PackageFile) (p : UnresolvedPackage) (is : IsPackage files p) where
-  abbrev interface_list : List Address
-  interface_list = interface_addresses files (is.first.interfaces ++ all_inside is.first.worlds)
+link_within : (p : UnresolvedPackage) (name : Option Id) (place : ℕ) → place < length p.interfaces → IsKeyWithin p (link_key name place)
+link_within p None place within = within
+link_within p (Some id) place within = tt
 
-  abbrev world_list : List Address
-  world_list = world_addresses files is.first.worlds
+module _ (files : List PackageFile) (p : UnresolvedPackage) (legal : IsLegal files) (m : Makes files p) where
+  abbrev ks : List Key
+  ks = keys m.seen
 
-  types : length p.types ≡ length (keys is.seen)
-  types = is.occurrence.keyed.count
+  abbrev ss : List Address
+  ss = interface_scopes files m.items
 
-  interface_count : length p.interfaces ≡ length is.interfaces.0 + length is.interfaces.1
-  interface_count = ap length is.interfaces.2 ∙ length-append is.interfaces.0 is.interfaces.1
+  abbrev ws : List Address
+  ws = world_scopes files m.items
 
-  world_count : length p.worlds ≡ length is.worlds.0 + length is.worlds.1
-  world_count = ap length is.worlds.2 ∙ length-append is.worlds.0 is.worlds.1
+  pub as_many_types : length p.types ≡ length ks
+  as_many_types = m.count ∙ sym (length-map m.seen (λ (o : Occurrence). o.key))
 
-  interfaces : length p.interfaces ≡ length interface_list
-  interfaces =
-      let all = length_joined visited (λ (o : Ordered). address o.item) (foreign_interfaces files) (is.first.interfaces ++ all_inside is.first.worlds) in
-      omega (arith, all, interface_count, is.interfaces.3.count, is.interfaces.4.count)
+  interface_count : length p.interfaces ≡ length (foreign_interfaces files) + length (own_interfaces m.items)
+  interface_count = ap length m.interfaces ∙ length_joined (foreign_interface files m.id) (own_interface m.id m.order) (foreign_interfaces files) (own_interfaces m.items)
 
-  worlds : length p.worlds ≡ length world_list
-  worlds =
-      let all = length_joined visited (λ (w : OrderedWorld). address w.own.item) (foreign_worlds files) is.first.worlds in
-      omega (arith, all, world_count, is.worlds.3.count, is.worlds.4.count)
+  world_count : length p.worlds ≡ length (foreign_worlds files) + length (worlds_of m.items)
+  world_count = ap length m.worlds ∙ length_joined foreign_world (own_world m.id m.order ss ws) (foreign_worlds files) (worlds_of m.items)
+
+  pub as_many_interfaces : length p.interfaces ≡ length ss
+  as_many_interfaces = interface_count ∙ sym (length_joined visited address (foreign_interfaces files) (own_interfaces m.items))
+
+  pub as_many_worlds : length p.worlds ≡ length ws
+  as_many_worlds = world_count ∙ sym (length_joined visited address (foreign_worlds files) (worlds_of m.items))
+
+  places : GivesPlaces m.id ks
+  places = made_places files p legal m
+
+  -- what occurs has its place, and so have scopes
+  seen_within : (k : Key) → IsSeen ks k → m.id k < length p.types
+  seen_within k h = key_within p ks as_many_types (m.id k) k (seen_at m.id ks places k h)
+
+  interface_there : (s : Address) → HasPlace ss s → scope_place ss s < length p.interfaces
+  interface_there s h = let within = slice_get_within ss (scope_place ss s) s h in omega (arith, as_many_interfaces, within)
+
+  world_there : (s : Address) → HasPlace ws s → scope_place ws s < length p.worlds
+  world_there s h = let within = slice_get_within ws (scope_place ws s) s h in omega (arith, as_many_worlds, within)
+
+  -- the functions of an item, all of whose types occur
+  module _ (i : Item) (h : ItemPresent (IsSeen ks) m.order i) where
+    made_within : (k : ℕ) (fn : SourceFunction) → slice_get (functions i) k ≡ Some fn → IsFunctionWithin p (function_in m.id (address i) fn)
+    made_within k fn at = function_within p ks as_many_types (address i) fn (function_in m.id (address i) fn) (function_in-is m.id ks places (address i) fn (h.functions k fn at))
+
+    own_interface_within : IsInterfaceWithin p (own_interface m.id m.order i)
+    own_interface_within = record {
+      types = names_within p ks as_many_types (interface_turn m.order i) (own_interface m.id m.order i).types (name_places-are m.id ks places (interface_turn m.order i) h.names);
+      functions = members_each (function_in m.id (address i)) (IsFunctionWithin p) (functions i) made_within;
+      no_package = refl;
+      no_source = refl;
+    }
+
+    abbrev IsEntryWithin : Entry → Type 0
+    IsEntryWithin e = IsKeyWithin p e.0 × IsItemWithin p e.1
+
+    module _ (there : HasPlaces ss ws i) where
+      fns_within : (k : ℕ) (fn : SourceFunction) → slice_get (functions i) k ≡ Some fn → IsEntryWithin (key.Name fn.name, item.Function (function_in m.id (address i) fn))
+      fns_within k fn at = (tt, made_within k fn at)
+
+      links_within : (k : ℕ) (link : Link) → slice_get (flat_map item_link (side_items i)) k ≡ Some link → IsEntryWithin (link_item link (scope_place ss (path_scope i.top link.path)))
+      links_within k link at =
+          let s = path_scope i.top link.path in
+          let within = interface_there s (there.links k link at) in
+          (link_within p link.name (scope_place ss s) within, within)
+
+      inside_within : (k : ℕ) (v : Item) → slice_get (inline_items i) k ≡ Some v → (x : Extern) (name : Id) → IsEntryWithin (inline_entry x name (scope_place ss (address v)))
+      inside_within k v at x name = (tt, interface_there (address v) (there.inside k v at))
+
+      own_world_within : IsWorldWithin p (own_world m.id m.order ss ws i)
+      own_world_within = record {
+        imports = imports_each IsEntryWithin m.id ss i fns_within links_within inside_within (names_in_turn m.order i) (λ k x at. (tt, seen_within (Def (address i) (local_name x)) (h.names k x at)));
+        exports = exports_each IsEntryWithin m.id ss i fns_within links_within inside_within;
+        includes = λ k n at. (
+            let x = map_at (include_in ws i.top) (includes i) k n at in
+            subst (λ (y : WorldInclude). y.id < length p.worlds) x.2 (world_there (target_scope WorldNamed (leads i.top x.0.from)) (there.included k x.0 x.1)));
+        no_package = refl;
+      }
+
+  foreign_interface_within : (v : ForeignVisit) → IsInterfaceWithin p (foreign_interface files m.id v)
+  foreign_interface_within v = record {
+    types = names_within p ks as_many_types (foreign_turned files v) (foreign_interface files m.id v).types (name_places-are m.id ks places (foreign_turned files v) (foreign_seen files p legal m v));
+    functions = λ k name f at. absurd (let f : ⊥ = cc in f);
+    no_package = refl;
+    no_source = refl;
+  }
+
+  foreign_world_within : (v : ForeignVisit) → IsWorldWithin p (foreign_world v)
+  foreign_world_within v = record {
+    imports = λ k e at. absurd (let f : ⊥ = cc in f);
+    exports = λ k e at. absurd (let f : ⊥ = cc in f);
+    includes = λ k n at. absurd (let f : ⊥ = cc in f);
+    no_package = refl;
+  }
 
   interface_within : (k : ℕ) (i : Interface) → slice_get p.interfaces k ≡ Some i → IsInterfaceWithin p i
-  interface_within k i at = elim (at_split is.interfaces.0 is.interfaces.1 k i (ap (λ (l : List Interface). slice_get l k) (sym is.interfaces.2) ∙ at)) [
-    | inl prefix ↦ foreign_interface p (keys is.seen) types interface_list world_list interfaces worlds files (foreign_interfaces files) is.interfaces.0 is.interfaces.3 k i prefix
-    | inr own ↦ own_interface p (keys is.seen) types interface_list world_list interfaces worlds (is.first.interfaces ++ all_inside is.first.worlds) is.interfaces.1 is.interfaces.4 own.0 i own.2
+  interface_within k i at = elim (at_split (map (foreign_interface files m.id) (foreign_interfaces files)) (map (own_interface m.id m.order) (own_interfaces m.items)) k i (ap (λ (l : List Interface). slice_get l k) (sym m.interfaces) ∙ at)) [
+    | inl prefix ↦ (let v = map_at (foreign_interface files m.id) (foreign_interfaces files) k i prefix in subst (IsInterfaceWithin p) v.2 (foreign_interface_within v.0))
+    | inr own ↦ (let o = map_at (own_interface m.id m.order) (own_interfaces m.items) own.0 i own.2 in subst (IsInterfaceWithin p) o.2 (own_interface_within o.0 (interface_seen files p legal m own.0 o.0 o.1)))
   ]
 
   world_within : (k : ℕ) (w : World) → slice_get p.worlds k ≡ Some w → IsWorldWithin p w
-  world_within k w at = elim (at_split is.worlds.0 is.worlds.1 k w (ap (λ (l : List World). slice_get l k) (sym is.worlds.2) ∙ at)) [
-    | inl prefix ↦ foreign_world p (keys is.seen) types interface_list world_list interfaces worlds (foreign_worlds files) is.worlds.0 is.worlds.3 k w prefix
-    | inr own ↦ own_world p (keys is.seen) types interface_list world_list interfaces worlds is.first.worlds is.worlds.1 is.worlds.4 own.0 w own.2
+  world_within k w at = elim (at_split (map foreign_world (foreign_worlds files)) (map (own_world m.id m.order ss ws) (worlds_of m.items)) k w (ap (λ (l : List World). slice_get l k) (sym m.worlds) ∙ at)) [
+    | inl prefix ↦ (let v = map_at foreign_world (foreign_worlds files) k w prefix in subst (IsWorldWithin p) v.2 (foreign_world_within v.0))
+    | inr own ↦ (
+        let o = map_at (own_world m.id m.order ss ws) (worlds_of m.items) own.0 w own.2 in
+        subst (IsWorldWithin p) o.2 (own_world_within o.0 (world_seen files p legal m own.0 o.0 o.1) (has_places files legal m.items m.in_order own.0 o.0 o.1)))
   ]
 
   foreign_within : (k : ℕ) (d : PackageName × List (List ℕ × (AstItem × List Stability))) → slice_get p.foreign_deps k ≡ Some d → (j : ℕ) (x : List ℕ × (AstItem × List Stability)) → slice_get d.1 j ≡ Some x → IsForeignWithin p x.1.0
   foreign_within k d at j x there =
-      let v = map_at (dep files) (foreign_packages files) k d (ap (λ l. slice_get l k) (sym is.others.0) ∙ at) in
-      let is_prefix : length (foreign_interfaces files) ≤ length p.interfaces = omega (arith, interface_count, is.interfaces.3.count) in
-      let ws_prefix : length (foreign_worlds files) ≤ length p.worlds = omega (arith, world_count, is.worlds.3.count) in
+      let v = map_at (dep files) (foreign_packages files) k d (ap (λ l. slice_get l k) (sym m.deps) ∙ at) in
+      let is_prefix : length (foreign_interfaces files) ≤ length p.interfaces = omega (arith, interface_count) in
+      let ws_prefix : length (foreign_worlds files) ≤ length p.worlds = omega (arith, world_count) in
       dep_within files p is_prefix ws_prefix v.0 j x (ap (λ (y : PackageName × List (List ℕ × (AstItem × List Stability))). slice_get y.1 j) v.2 ∙ there)
 
   pub ids_within : AreIdsWithin p
   ids_within = record {
-    types = entries_within p (keys is.seen) types interface_list world_list interfaces worlds files is.occurrence.keyed;
+    types = entries_within p ks as_many_types ss ws as_many_interfaces as_many_worlds files (entries_made files p legal m).keyed;
     interfaces = interface_within;
     worlds = world_within;
     foreign = foreign_within;
-    required = required_within p (keys is.seen) types files (flat_map turn_handles (all_turns is.first.interfaces is.first.worlds)) p.required_resource_types is.required;
+    required = required_within p ks as_many_types files (flat_map turn_handles (item_turns m.order m.items)) p.required_resource_types m.required;
   }

@@ -1,9 +1,8 @@
 mod LastHeader
 mod WrittenMarks
+mod EachMade
 mod FunctionMarks
 mod TypeIds
-mod SideIds
-mod Ids
 mod PartsPlaces
 pub mod PartsSides
 pub mod PartsScopes
@@ -15,10 +14,13 @@ mod PartsSeen
 mod PartsFunctions
 mod PartsInterfaces
 mod PartsWorlds
-mod PartsHeads
 mod PartsKeys
-mod PartsBoth
-mod PartsPackage
+mod KnownScopes
+mod KnownInline
+mod KnownOwners
+mod KnownTurns
+mod KnownMembers
 mod PartsMade
+mod Ids
 pub mod Pushing
 mod FirstFault

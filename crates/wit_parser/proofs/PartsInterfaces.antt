@@ -1,19 +1,23 @@
--- An interface that is given by places is the written one, where all that it names occurs.
+-- An interface of the package that files make is the written one.
 use Rattle.std.proofs.Common.{◌≡◌, ℕ, List, Some, refl, sym, ap}
-use Rattle.wit_syntax.proofs.Common.{Address, ForeignVisit, Item, PackageFile, ScopeName, SourceFunction, address, functions, local_name, map, map_map, scope, slice_get, visited}
-use Rattle.wit_arena.proofs.Common.{Def, GivesPlaces, IsForeignInterface, IsResolvedInterface, IsSeen, Key, Ordered, by_name, foreign_interface, foreign_turned, function_in, names_in_turn, own_interface, placed, turned}
-use Rattle.wit_parser.proofs.PartsPlaces.{FunctionPresent, functions_in-are, name_places-are}
+use Rattle.wit_syntax.proofs.Common.{ForeignVisit, IsLegal, Item, PackageFile, address, functions, map, map_map, slice_get}
+use Rattle.wit_arena.proofs.Common.{IsForeignInterface, IsResolvedInterface, Makes, UnresolvedPackage, by_name, foreign_interface, foreign_turned, function_in, keys, own_interface, own_interfaces, placed, turned}
+use Rattle.wit_parser.proofs.PartsKeys.{foreign_seen, interface_seen}
+use Rattle.wit_parser.proofs.PartsOrders.{ord}
+use Rattle.wit_parser.proofs.PartsPlaces.{functions_in-are, name_places-are}
+use Rattle.wit_parser.proofs.PartsSeen.{made_places}
 
-module _ (id : Key → ℕ) (ks : List Key) (gives : GivesPlaces id ks) where
-  pub foreign_interface-is : (files : List PackageFile) (v : ForeignVisit) → ((k : ℕ) (x : ScopeName) → slice_get (scope files (visited v)) k ≡ Some x → IsSeen ks (Def (visited v) (local_name x))) → IsForeignInterface files ks v (foreign_interface files id v)
-  foreign_interface-is files v seen = ((refl, refl, refl, refl, refl, refl), name_places-are id ks gives (foreign_turned files v) seen, refl)
+module _ (files : List PackageFile) (p : UnresolvedPackage) (legal : IsLegal files) (m : Makes files p) where
+  pub foreign_interface-is : (v : ForeignVisit) → IsForeignInterface files (keys m.seen) v (foreign_interface files m.id v)
+  foreign_interface-is v = ((refl, refl, refl, refl, refl, refl), name_places-are m.id (keys m.seen) (made_places files p legal m) (foreign_turned files v) (foreign_seen files p legal m v), refl)
 
-  abbrev own : (Address → List ℕ) → Item → Ordered
-  own order i = record { item = i; order = order (address i) }
-
-  pub own_interface-is : (order : Address → List ℕ) (i : Item) → ((k : ℕ) (x : ScopeName) → slice_get (names_in_turn order i) k ≡ Some x → IsSeen ks (Def (address i) (local_name x))) → ((k : ℕ) (fn : SourceFunction) → slice_get (functions i) k ≡ Some fn → FunctionPresent (IsSeen ks) (address i) fn) → IsResolvedInterface ks (own order i) (own_interface id order i)
-  own_interface-is order i seen are_present = record {
-    says = (refl, refl, refl, refl, refl, refl);
-    types = name_places-are id ks gives (turned (own order i)) seen;
-    functions = (map (function_in id (address i)) (functions i), functions_in-are id ks gives (address i) (functions i) are_present, ap (placed Some) (sym (map_map by_name (function_in id (address i)) (functions i))));
-  }
+  pub own_interface-is : (k : ℕ) (i : Item) → slice_get (own_interfaces m.items) k ≡ Some i → IsResolvedInterface (keys m.seen) (ord files p legal m i) (own_interface m.id m.order i)
+  own_interface-is k i at =
+      let places = made_places files p legal m in
+      let it = interface_seen files p legal m k i at in
+      let fns = functions i in
+      record {
+        says = (refl, refl, refl, refl, refl, refl);
+        types = name_places-are m.id (keys m.seen) places (turned (ord files p legal m i)) it.names;
+        functions = (map (function_in m.id (address i)) fns, functions_in-are m.id (keys m.seen) places (address i) fns it.functions, ap (placed Some) (sym (map_map by_name (function_in m.id (address i)) fns)));
+      }

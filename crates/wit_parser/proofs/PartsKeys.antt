@@ -1,11 +1,12 @@
 -- All that an item names occurs, and all that is taken from another package.
 use Rattle.std.proofs.Common.{◌≡◌, ℕ, zero, suc, ◌+◌, List, [], ◌∷◌, length, Some, inl, inr, refl, sym, ap, ◌∙◌, subst, arith}
-use Rattle.wit_syntax.proofs.Common.{Address, ForeignVisit, IsLegal, IsOrder, Item, PackageFile, ScopeName, SideFunction, SideInline, SideItem, SideLink, SourceFunction, Unknown, address, all_items, at_back, at_part, at_prefix, firsts_at, flat_map, flat_map_at, flat_map_has, foreign_uses, functions, functions_items, in_order, inline_items, interfaces_of, item_function, item_inline, item_rows, length-inline_after, local_name, map, option_map, same_foreign_use, scope, side_items, signature, slice_get, slice_get-map, visited, worlds_of}
-use Rattle.wit_arena.proofs.Common.{AreNamesInOrder, Collects, Def, Has, IsItem, IsSeen, Key, Makes, Ordered, Turned, UnresolvedPackage, all_function_occurrences, all_occurrences, firsts-collects, foreign_use_occurrence, interface_turn, item_turns, keys, name_occurrences, names_in_turn, own_interfaces, shape_occurrences, turn_occurrences, turns_of_world, turns_on_sides, used_name_at}
+use Rattle.wit_syntax.proofs.Common.{Address, ForeignVisit, IsLegal, Item, PackageFile, ScopeName, SideFunction, SideInline, SideItem, SideLink, SourceFunction, Unknown, address, at_back, at_part, at_prefix, firsts_at, flat_map, flat_map_at, flat_map_has, foreign_uses, functions, functions_items, inline_items, interfaces_of, item_function, item_inline, length-inline_after, local_name, map, option_map, same_foreign_use, scope, side_items, signature, slice_get, slice_get-map, visited, worlds_of}
+use Rattle.wit_arena.proofs.Common.{Def, Has, IsItem, IsSeen, Key, Makes, Occurrence, Turned, UnresolvedPackage, all_function_occurrences, all_occurrences, foreign_use_occurrence, interface_turn, item_turns, keys, name_occurrences, names_in_turn, names_turn, own_interfaces, shape_occurrences, turn_occurrences, turns_of_world, turns_on_sides, used_name_at}
+use Rattle.wit_arena.proofs.Turns.{function_turn as turn_of_function}
 use Rattle.wit_parser.proofs.PartsFunctions.{role_present, signature_present}
 use Rattle.wit_parser.proofs.PartsItems.{has_at}
-use Rattle.wit_parser.proofs.PartsSeen.{collects_has}
-use Rattle.wit_parser.proofs.PartsOrders.{interface_in, inline_in, world_in}
+use Rattle.wit_parser.proofs.PartsSeen.{collects, collects_has}
+use Rattle.wit_parser.proofs.PartsOrders.{ord, declared_item, inline_item, world_item}
 use Rattle.wit_parser.proofs.PartsPlaces.{FunctionPresent}
 use Rattle.wit_parser.proofs.PartsReady.{has_back, has_prefix, has_of}
 use Rattle.wit_parser.proofs.PartsTurns.{NamesPresent, name_has, names_seen, signature_known}
@@ -47,94 +48,82 @@ used_present files a first v k x at =
     let called : t.id.name.now ≡ local_name x = sym (ap local_name it.4) in
     subst a (from ∙ ap (Def s) called) (first (Def t.from t.id.name.now) has)
 
-module _ (files : List PackageFile) (legal : IsLegal files) (order : Address → List ℕ) (orders : AreNamesInOrder files order) (places : List ℕ) (least : IsOrder (item_rows files) places) where
-  abbrev items : List Item
-  items = in_order (all_items files) places
+-- so all occurs that an item of the package that files make names
+module _ (files : List PackageFile) (p : UnresolvedPackage) (legal : IsLegal files) (m : Makes files p) where
+  abbrev ks : List Key
+  ks = keys m.seen
 
   abbrev turns : List Turned
-  turns = item_turns order items
+  turns = item_turns m.order m.items
 
-  abbrev ord : Item → Ordered
-  ord i = record { item = i; order = order (address i) }
+  abbrev in_use : List Occurrence
+  in_use = map foreign_use_occurrence (foreign_uses files)
 
-  module _ (a : Key → Type 0) (all : (k : Key) → Has (keys (all_occurrences files turns)) k → a k) where
-    -- what occurs in a turn is among them
-    turn_present : (j : ℕ) (t : Turned) → slice_get turns j ≡ Some t → (k : Key) → Has (keys (turn_occurrences t)) k → a k
-    turn_present j t at k has = all k (has_back (map foreign_use_occurrence (foreign_uses files)) (flat_map turn_occurrences turns) k (has_of turn_occurrences turns j t k at has))
+  made_has : (k : Key) → Has (keys (all_occurrences files turns)) k → IsSeen ks k
+  made_has k has = collects_has (all_occurrences files turns) [] m.seen (collects files p legal m) k has
 
-    -- an item is, where its names and the types of its functions occur
-    item_present : (i : Item) → IsItem files (ord i) → ((k : Key) → Has (keys (flat_map (name_occurrences (address i)) (names_in_turn order i))) k → a k)
-        → ((j : ℕ) (fn : SourceFunction) → slice_get (functions i) j ≡ Some fn → (k : Key) → Has (keys (flat_map (shape_occurrences (address i) Unknown) (signature fn))) k → a k) → ItemPresent a order i
-    item_present i it own types =
-        let known : NamesPresent files legal (ord i) it a = λ p x at. own (Def (address i) (local_name x)) (names_seen files legal (ord i) it p x at) in
-        record {
-          names = λ k x at. own (Def (address i) (local_name x)) (name_has (address i) (names_in_turn order i) k x at);
-          functions = λ k fn at. record {
-            role = role_present i (address i) a known k fn at;
-            types = signature_present (address i) fn a (λ j x there. signature_known files legal (ord i) it a known k fn at j x there) (types k fn at);
-          };
-        }
+  -- what occurs in a turn
+  turn_seen : (j : ℕ) (t : Turned) → slice_get turns j ≡ Some t → (k : Key) → Has (keys (turn_occurrences t)) k → IsSeen ks k
+  turn_seen j t at k has = made_has k (has_back in_use (flat_map turn_occurrences turns) k (has_of turn_occurrences turns j t k at has))
 
-    -- so does an interface, whose turn is whole
-    whole_present : (i : Item) → IsItem files (ord i) → (j : ℕ) → slice_get turns j ≡ Some (interface_turn order i) → ItemPresent a order i
-    whole_present i it j at =
-        let s = address i in
-        let names = flat_map (name_occurrences s) (names_in_turn order i) in
-        let types = all_function_occurrences s (functions i) in
-        let seen = turn_present j (interface_turn order i) at in
-        item_present i it (λ k has. seen k (has_prefix names types k has)) (λ n fn there k has. seen k (has_back names types k (has_of (λ (g : SourceFunction). flat_map (shape_occurrences s Unknown) (signature g)) (functions i) n fn k there has)))
+  -- an item is, where its names and the types of its functions occur
+  item_seen : (i : Item) → IsItem files (ord files p legal m i) → ((k : Key) → Has (keys (flat_map (name_occurrences (address i)) (names_in_turn m.order i))) k → IsSeen ks k)
+      → ((j : ℕ) (fn : SourceFunction) → slice_get (functions i) j ≡ Some fn → (k : Key) → Has (keys (flat_map (shape_occurrences (address i) Unknown) (signature fn))) k → IsSeen ks k) → ItemPresent (IsSeen ks) m.order i
+  item_seen i it own types =
+      let o = ord files p legal m i in
+      let known : NamesPresent files legal o it (IsSeen ks) = λ p x at. own (Def (address i) (local_name x)) (names_seen files legal o it p x at) in
+      record {
+        names = λ k x at. own (Def (address i) (local_name x)) (name_has (address i) (names_in_turn m.order i) k x at);
+        functions = λ k fn at. record {
+          role = role_present i (address i) (IsSeen ks) known k fn at;
+          types = signature_present (address i) fn (IsSeen ks) (λ j x there. signature_known files legal o it (IsSeen ks) known k fn at j x there) (types k fn at);
+        };
+      }
 
-    abbrev declared : List Turned
-    declared = map (interface_turn order) (interfaces_of items)
+  -- so does an interface, whose turn is whole
+  whole_seen : (i : Item) → IsItem files (ord files p legal m i) → (j : ℕ) → slice_get turns j ≡ Some (interface_turn m.order i) → ItemPresent (IsSeen ks) m.order i
+  whole_seen i it j at =
+      let s = address i in
+      let names = flat_map (name_occurrences s) (names_in_turn m.order i) in
+      let types = all_function_occurrences s (functions i) in
+      let seen = turn_seen j (interface_turn m.order i) at in
+      item_seen i it (λ k has. seen k (has_prefix names types k has)) (λ n fn there k has. seen k (has_back names types k (has_of (λ (g : SourceFunction). flat_map (shape_occurrences s Unknown) (signature g)) (functions i) n fn k there has)))
 
-    -- where a turn of a world is among all
-    world_turn : (n j : ℕ) (w : Item) (t : Turned) → slice_get (worlds_of items) n ≡ Some w → slice_get (turns_of_world order w) j ≡ Some t → (k : ℕ) × (slice_get turns k ≡ Some t)
-    world_turn n j w t at there =
-        let rest = flat_map (turns_of_world order) (worlds_of items) in
-        let it = flat_map_has (turns_of_world order) (worlds_of items) n j w t at there in
-        (length declared + it.0, at_back declared rest it.0 t it.1)
+  abbrev declared : List Turned
+  declared = map (interface_turn m.order) (interfaces_of m.items)
 
-    declared_present : (n : ℕ) (i : Item) → slice_get (interfaces_of items) n ≡ Some i → ItemPresent a order i
-    declared_present n i at =
-        let rest = flat_map (turns_of_world order) (worlds_of items) in
-        whole_present i (interface_in order files legal orders places least n i at) n (at_prefix declared rest n (interface_turn order i) (slice_get-map (interface_turn order) (interfaces_of items) n ∙ ap (option_map (interface_turn order)) at))
+  abbrev rest : List Turned
+  rest = flat_map (turns_of_world m.order) (worlds_of m.items)
 
-    inline_present : (n : ℕ) (i : Item) → slice_get (flat_map inline_items (worlds_of items)) n ≡ Some i → ItemPresent a order i
-    inline_present n i at =
-        let w = flat_map_at inline_items (worlds_of items) n i at in
-        let j = inline_turn order (address w.1) (side_items w.1) (inline_items w.1) (sym (length-inline_after w.1 [] (side_items w.1))) w.3.0 i w.3.1 in
-        let k = world_turn w.0 (suc j.0) w.1 (interface_turn order i) w.2 j.1 in
-        whole_present i (inline_in order files legal orders places least n i at) k.0 k.1
+  -- where a turn of a world is among all
+  world_turn : (n j : ℕ) (w : Item) (t : Turned) → slice_get (worlds_of m.items) n ≡ Some w → slice_get (turns_of_world m.order w) j ≡ Some t → (k : ℕ) × (slice_get turns k ≡ Some t)
+  world_turn n j w t at there =
+      let it = flat_map_has (turns_of_world m.order) (worlds_of m.items) n j w t at there in
+      (length declared + it.0, at_back declared rest it.0 t it.1)
 
-    -- so all interfaces are, and all worlds
-    pub interfaces_present : (n : ℕ) (i : Item) → slice_get (own_interfaces items) n ≡ Some i → ItemPresent a order i
-    interfaces_present n i at = elim (at_part (interfaces_of items) (flat_map inline_items (worlds_of items)) n i at) [ inl h ↦ declared_present h.0 i h.1 | inr h ↦ inline_present h.0 i h.1 ]
+  declared_seen : (n : ℕ) (i : Item) → slice_get (interfaces_of m.items) n ≡ Some i → ItemPresent (IsSeen ks) m.order i
+  declared_seen n i at = whole_seen i (declared_item files p legal m n i at) n (at_prefix declared rest n (interface_turn m.order i) (slice_get-map (interface_turn m.order) (interfaces_of m.items) n ∙ ap (option_map (interface_turn m.order)) at))
 
-    pub worlds_present : (n : ℕ) (w : Item) → slice_get (worlds_of items) n ≡ Some w → ItemPresent a order w
-    worlds_present n w at =
-        let s = address w in
-        let names = flat_map (name_occurrences s) (names_in_turn order w) in
-        let first = world_turn n 0 w (record { address = s; names = names_in_turn order w; functions = [] }) at refl in
-        item_present w (world_in order files legal orders places least n w at) (λ k has. turn_present first.0 (record { address = s; names = names_in_turn order w; functions = [] }) first.1 k (has_prefix names [] k has)) (λ m fn there k has. (
-        let j = function_turn order s (side_items w) (inline_items w) m fn (ap (λ (l : List SourceFunction). slice_get l m) (sym (functions_items w)) ∙ there) in
-        let one = world_turn n (suc j.0) w (record { address = s; names = []; functions = fn ∷ [] }) at j.1 in
-        turn_present one.0 (record { address = s; names = []; functions = fn ∷ [] }) one.1 k (has_prefix (flat_map (shape_occurrences s Unknown) (signature fn)) [] k has)))
+  inline_seen : (n : ℕ) (i : Item) → slice_get (flat_map inline_items (worlds_of m.items)) n ≡ Some i → ItemPresent (IsSeen ks) m.order i
+  inline_seen n i at =
+      let w = flat_map_at inline_items (worlds_of m.items) n i at in
+      let j = inline_turn m.order (address w.1) (side_items w.1) (inline_items w.1) (sym (length-inline_after w.1 [] (side_items w.1))) w.3.0 i w.3.1 in
+      let k = world_turn w.0 (suc j.0) w.1 (interface_turn m.order i) w.2 j.1 in
+      whole_seen i (inline_item files p legal m n i at) k.0 k.1
 
--- so they occur in the package that files make
-module _ (files : List PackageFile) (p : UnresolvedPackage) (legal : IsLegal files) (m : Makes files p) where
-  pub made_has : (k : Key) → Has (keys (all_occurrences files (item_turns m.order m.items))) k → IsSeen (keys m.seen) k
-  made_has k has =
-      let all = all_occurrences files (item_turns m.order m.items) in
-      collects_has all [] m.seen (subst (Collects [] all) (sym m.first) (firsts-collects m.same m.gives all)) k has
+  -- so all interfaces are, all worlds, and what is taken from other packages
+  pub interface_seen : (n : ℕ) (i : Item) → slice_get (own_interfaces m.items) n ≡ Some i → ItemPresent (IsSeen ks) m.order i
+  interface_seen n i at = elim (at_part (interfaces_of m.items) (flat_map inline_items (worlds_of m.items)) n i at) [ inl h ↦ declared_seen h.0 i h.1 | inr h ↦ inline_seen h.0 i h.1 ]
 
-  ordered_has : (k : Key) → Has (keys (all_occurrences files (item_turns m.order (in_order (all_items files) m.in_order.0)))) k → IsSeen (keys m.seen) k
-  ordered_has k has = made_has k (subst (λ (l : List Item). Has (keys (all_occurrences files (item_turns m.order l))) k) (sym m.in_order.2) has)
+  pub world_seen : (n : ℕ) (w : Item) → slice_get (worlds_of m.items) n ≡ Some w → ItemPresent (IsSeen ks) m.order w
+  world_seen n w at =
+      let s = address w in
+      let names = names_turn s (names_in_turn m.order w) in
+      let first = world_turn n 0 w names at refl in
+      item_seen w (world_item files p legal m n w at) (λ k has. turn_seen first.0 names first.1 k (has_prefix (flat_map (name_occurrences s) (names_in_turn m.order w)) [] k has)) (λ j fn there k has. (
+      let it = function_turn m.order s (side_items w) (inline_items w) j fn (ap (λ (l : List SourceFunction). slice_get l j) (sym (functions_items w)) ∙ there) in
+      let one = world_turn n (suc it.0) w (turn_of_function s fn) at it.1 in
+      turn_seen one.0 (turn_of_function s fn) one.1 k (has_prefix (flat_map (shape_occurrences s Unknown) (signature fn)) [] k has)))
 
-  pub interface_seen : (n : ℕ) (i : Item) → slice_get (own_interfaces m.items) n ≡ Some i → ItemPresent (IsSeen (keys m.seen)) m.order i
-  interface_seen n i at = interfaces_present files legal m.order m.names_in_order m.in_order.0 m.in_order.1 (IsSeen (keys m.seen)) ordered_has n i (ap (λ (l : List Item). slice_get (own_interfaces l) n) (sym m.in_order.2) ∙ at)
-
-  pub world_seen : (n : ℕ) (w : Item) → slice_get (worlds_of m.items) n ≡ Some w → ItemPresent (IsSeen (keys m.seen)) m.order w
-  world_seen n w at = worlds_present files legal m.order m.names_in_order m.in_order.0 m.in_order.1 (IsSeen (keys m.seen)) ordered_has n w (ap (λ (l : List Item). slice_get (worlds_of l) n) (sym m.in_order.2) ∙ at)
-
-  pub foreign_seen : (v : ForeignVisit) (k : ℕ) (x : ScopeName) → slice_get (scope files (visited v)) k ≡ Some x → IsSeen (keys m.seen) (Def (visited v) (local_name x))
-  foreign_seen v = used_present files (IsSeen (keys m.seen)) (λ k has. made_has k (has_prefix (map foreign_use_occurrence (foreign_uses files)) (flat_map turn_occurrences (item_turns m.order m.items)) k has)) v
+  pub foreign_seen : (v : ForeignVisit) (k : ℕ) (x : ScopeName) → slice_get (scope files (visited v)) k ≡ Some x → IsSeen ks (Def (visited v) (local_name x))
+  foreign_seen v = used_present files (IsSeen ks) (λ k has. made_has k (has_prefix in_use (flat_map turn_occurrences turns) k has)) v

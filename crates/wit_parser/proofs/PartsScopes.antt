@@ -6,7 +6,7 @@ use Rattle.wit_tree.specs.declared.tree.ExternKind.TheVariants as extern
 use Rattle.wit_syntax.specs.Broken.{Use}
 use Rattle.wit_arena.proofs.Common.{AreInOrder, IsVisited, distinct_items, foreign_at-visited, interface_scopes, item_index, items_within, named_at, needed_before, option_cases, own_interface_address, own_interfaces, path_among, path_visited, side_has, visit_listed, world_address, world_scopes}
 use Rattle.wit_arena.proofs.MadeScopes.{scope_place-found, interface_scopes-differ, world_scopes-differ}
-use Rattle.wit_parser.proofs.PartsSides.{HasPlace}
+use Rattle.wit_parser.proofs.PartsSides.{HasPlace, HasPlaces}
 
 -- what is among such as differ has its place
 present_placed : (ss : List Address) (i : ℕ) (s : Address) → AllDiffer ss → slice_get ss i ≡ Some s → HasPlace ss s
@@ -185,7 +185,7 @@ module _ (files : List PackageFile) (legal : IsLegal files) (items : List Item) 
     among = contains_at all spot.1 w spot.3
 
     -- each interface that is written in it has its place
-    pub inside_placed : (k : ℕ) (v : Item) → slice_get (inline_items w) k ≡ Some v → HasPlace (interface_scopes files items) (address v)
+    inside_placed : (k : ℕ) (v : Item) → slice_get (inline_items w) k ≡ Some v → HasPlace (interface_scopes files items) (address v)
     inside_placed k v inside =
         let n = flat_map_has inline_items (worlds_of items) t k w v at inside in
         own_placed (length (interfaces_of items) + n.0) v (at_back (interfaces_of items) (flat_map inline_items (worlds_of items)) n.0 v n.1)
@@ -201,11 +201,11 @@ module _ (files : List PackageFile) (legal : IsLegal files) (items : List Item) 
         (λ world. legal (world_there (path_id path)) (Use w among (WorldUsed path listed world refl)))
         (λ p id lead. path_among files spot.1 w c.x.attributes.items false path p id spot.3 (crossed_visit w path c) lead)
 
-    pub links_placed : (k : ℕ) (link : Link) → slice_get (flat_map item_link (side_items w)) k ≡ Some link → HasPlace (interface_scopes files items) (path_scope w.top link.path)
+    links_placed : (k : ℕ) (link : Link) → slice_get (flat_map item_link (side_items w)) k ≡ Some link → HasPlace (interface_scopes files items) (path_scope w.top link.path)
     links_placed k link there = (let it = link_written w k link there in (link_leads it.0 link it.1).0)
 
     -- and each world that it includes, among worlds
-    pub includes_placed : (k : ℕ) (n : Include) → slice_get (includes w) k ≡ Some n → HasPlace (world_scopes files items) (target_scope WorldNamed (leads w.top n.from))
+    includes_placed : (k : ℕ) (n : Include) → slice_get (includes w) k ≡ Some n → HasPlace (world_scopes files items) (target_scope WorldNamed (leads w.top n.from))
     includes_placed k n there =
         let i = include_part w k n there in
         let listed = included_path w n i in
@@ -218,3 +218,6 @@ module _ (files : List PackageFile) (legal : IsLegal files) (items : List Item) 
         f))
         (λ interface. legal (interface_there (path_id n.from)) (InterfaceIncluded w among n.from listed interface refl))
         (λ p id lead. path_visited files spot.1 w i.place (IncludePart n) n.attributes.items true n.from p id spot.3 i.part refl lead)).0
+
+    pub has_places : HasPlaces (interface_scopes files items) (world_scopes files items) w
+    has_places = record { links = links_placed; inside = inside_placed; included = includes_placed }

@@ -1,8 +1,8 @@
 -- The arena of types that is given by places is the list of first occurrences.
-use Rattle.std.proofs.Common.{◌≡◌, ◌↔◌, ℕ, suc, Bool, true, List, [], ◌∷◌, ◌++◌, length, take, Some, None, inl, inr, refl, sym, ap, ◌∙◌, subst, arith}
-use Rattle.wit_syntax.proofs.Common.{Address, AllDiffer, Contains, ForeignNamed, ForeignUse, InlineAt, InterfaceNamed, IsLegal, IsOrder, Item, PackageFile, ScopeName, Span, Stability, TypeDef, WorldNamed, about_name, all_items, at_contains, at_prefix, at_seam, at_within, differ_at, first_foreign_uses, first_known, firsts, firsts_at, flat_map, foreign_uses, in_order, is_foreign, item_rows, length-map, local_name, map, map_at, option_map, position_or_len, same_foreign_use, scope, slice_get, slice_get-map, three_ways}
+use Rattle.std.proofs.Common.{◌≡◌, ℕ, suc, List, [], ◌∷◌, ◌++◌, length, take, Some, None, inl, inr, refl, sym, ap, ◌∙◌, subst, arith}
+use Rattle.wit_syntax.proofs.Common.{Address, AllDiffer, Contains, ForeignNamed, ForeignUse, InlineAt, InterfaceNamed, IsLegal, Item, PackageFile, ScopeName, Span, Stability, TypeDef, WorldNamed, about_name, at_contains, at_prefix, at_seam, at_within, differ_at, first_foreign_uses, first_known, firsts_at, flat_map, foreign_uses, is_foreign, length-map, local_name, map, map_at, option_map, same_foreign_use, scope, slice_get, slice_get-map, three_ways}
 use Rattle.wit_types.specs.declared.types.«Type».{«Type» as Ty}
-use Rattle.wit_arena.proofs.Common.{AreAt, AreNamesInOrder, Collects, Def, Exprs, GivesPlaces, Has, IsEntry, IsEntryOf, IsOccurrence, IsSeen, Key, Occurrence, Whole, all_occurrences, collects_extended, declarations, firsts-collects, firsts-differ, foreign_use_key, foreign_use_occurrence, foreign_uses_differ, foreign_uses_seen, gives_places, gives_used, item_turns, keys, kind_of, name_exprs, owner_at, stability_at, turn_occurrences, types_of, used_at, used_name_at}
+use Rattle.wit_arena.proofs.Common.{AreAt, Collects, Def, Exprs, GivesPlaces, Has, IsEntry, IsEntryOf, IsOccurrence, IsSeen, Key, Makes, Occurrence, UnresolvedPackage, Whole, all_occurrences, collects_extended, declarations, firsts-collects, firsts-differ, foreign_use_key, foreign_use_occurrence, foreign_uses_differ, foreign_uses_seen, gives_places, gives_used, interface_scopes, item_turns, keys, kind_of, name_exprs, owner_at, stability_at, turn_occurrences, types_of, used_at, used_name_at, world_scopes}
 use Rattle.wit_arena.specs.Occurrences.{settled}
 use Rattle.wit_parser.proofs.PartsItems.{all_ready, no_parts}
 use Rattle.wit_parser.proofs.PartsPlaces.{AllPresent, types_of-at}
@@ -61,108 +61,114 @@ foreign_use_stated files (InlineAt world side place) foreign j t at from x among
 first_foreign : (files : List PackageFile) (j : ℕ) (t : ForeignUse) → slice_get (first_foreign_uses files) j ≡ Some t → is_foreign t.from ≡ true
 first_foreign files j t at = let k = firsts_at same_foreign_use (foreign_uses files) j t at in (used_at files k.0 t k.1).foreign
 
-module _ (files : List PackageFile) (legal : IsLegal files) (order : Address → List ℕ) (orders : AreNamesInOrder files order) (places : List ℕ) (least : IsOrder (item_rows files) places)
-    (same : Key → Key → Bool) (gives : (a b : Key) → (same a b ≡ true) ↔ (a ≡ b)) (seen : List Occurrence) (first : seen ≡ firsts (λ a b. same a.key b.key) (all_occurrences files (item_turns order (in_order (all_items files) places))))
-    (id : Key → ℕ) (id_places : (k : Key) → id k ≡ position_or_len (λ (m : Occurrence). same k m.key) seen) where
-  abbrev pub items : List Item
-  items = in_order (all_items files) places
+module _ (files : List PackageFile) (p : UnresolvedPackage) (legal : IsLegal files) (m : Makes files p) where
+  abbrev written : List Occurrence
+  written = all_occurrences files (item_turns m.order m.items)
 
-  abbrev pub written : List Occurrence
-  written = all_occurrences files (item_turns order items)
+  abbrev ks : List Key
+  ks = keys m.seen
 
-  abbrev pub ks : List Key
-  ks = keys seen
+  pub collects : Collects [] written m.seen
+  collects = subst (λ (l : List Occurrence). Collects [] written l) (sym m.first) (firsts-collects m.same m.gives written)
 
-  pub collects : Collects [] written seen
-  collects = subst (λ (l : List Occurrence). Collects [] written l) (sym first) (firsts-collects same gives written)
+  once : AllDiffer ks
+  once = subst (λ (l : List Occurrence). AllDiffer (keys l)) (sym m.first) (firsts-differ m.same m.gives written)
 
-  pub once : AllDiffer ks
-  once = subst (λ (l : List Occurrence). AllDiffer (keys l)) (sym first) (firsts-differ same gives written)
-
-  pub as_stated : GivesPlaces id ks
-  as_stated = gives_places same gives seen id id_places once
+  pub made_places : GivesPlaces m.id ks
+  made_places = gives_places m.same m.gives m.seen m.id m.places once
 
   abbrev prefix : List Occurrence
   prefix = map foreign_use_occurrence (first_foreign_uses files)
 
-  abbrev rest : List Occurrence
-  rest = flat_map turn_occurrences (item_turns order items)
+  abbrev in_use : List Occurrence
+  in_use = map foreign_use_occurrence (foreign_uses files)
 
-  rest_after : Collects prefix rest seen
-  rest_after = collects_after (map foreign_use_occurrence (foreign_uses files)) rest [] prefix seen collects (foreign_uses_seen files)
+  abbrev rest : List Occurrence
+  rest = flat_map turn_occurrences (item_turns m.order m.items)
+
+  rest_after : Collects prefix rest m.seen
+  rest_after = collects_after in_use rest [] prefix m.seen collects (foreign_uses_seen files)
 
   ready : Ready (scope files) (IsSeen (keys prefix)) rest
-  ready = ready_wider (scope files) rest (Has (keys (map foreign_use_occurrence (foreign_uses files)))) (IsSeen (keys prefix)) (λ k has. collects_has (map foreign_use_occurrence (foreign_uses files)) [] prefix (foreign_uses_seen files) k has) (all_ready files legal order orders places least)
+  ready =
+      let all = all_ready files legal m.order m.names_in_order m.in_order.0 m.in_order.1 in
+      let here : Ready (scope files) (Has (keys in_use)) rest = subst (λ (l : List Item). Ready (scope files) (Has (keys in_use)) (flat_map turn_occurrences (item_turns m.order l))) (sym m.in_order.2) all in
+      ready_wider (scope files) rest (Has (keys in_use)) (IsSeen (keys prefix)) (λ k has. collects_has in_use [] prefix (foreign_uses_seen files) k has) here
 
   abbrev Parts : ℕ → Occurrence → Type 0
-  Parts n m = PartsPresent (scope files) (IsSeen (take n ks)) m.span m.key
+  Parts n o = PartsPresent (scope files) (IsSeen (take n ks)) o.span o.key
 
-  used_parts : (n : ℕ) (m : Occurrence) → slice_get prefix n ≡ Some m → Parts n m
-  used_parts n m at =
-      let t = map_at foreign_use_occurrence (first_foreign_uses files) n m at in
+  used_parts : (n : ℕ) (o : Occurrence) → slice_get prefix n ≡ Some o → Parts n o
+  used_parts n o at =
+      let t = map_at foreign_use_occurrence (first_foreign_uses files) n o at in
       let foreign = first_foreign files n t.0 t.1 in
       let own : Parts n (foreign_use_occurrence t.0) = λ x among called. (foreign_use_stated files t.0.from foreign n t.0 t.1 refl x among called, no_parts files t.0.from x (IsSeen (take n ks)) foreign among) in
       subst (Parts n) t.2 own
 
   -- the parts of what occurs come before it
-  pub parts_before : (n : ℕ) (m : Occurrence) → slice_get seen n ≡ Some m → Parts n m
-  parts_before n m at = elim (three_ways n (length prefix)) [
+  parts_before : (n : ℕ) (o : Occurrence) → slice_get m.seen n ≡ Some o → Parts n o
+  parts_before n o at = elim (three_ways n (length prefix)) [
     | inl lt ↦ (
-        let it = collects_prefix (scope files) rest prefix seen rest_after in
+        let it = collects_prefix (scope files) rest prefix m.seen rest_after in
         let x = at_within prefix n lt in
-        let both : Some x.0 ≡ Some m = sym (at_prefix prefix it.0 n x.0 x.1) ∙ ap (λ (l : List Occurrence). slice_get l n) (sym it.1) ∙ at in
-        used_parts n m (x.1 ∙ both))
-    | inr other ↦ seen_ready (scope files) rest prefix seen rest_after ready n m at (elim other [ inl one ↦ omega (arith, one) | inr gt ↦ omega (arith, gt) ])
+        let both : Some x.0 ≡ Some o = sym (at_prefix prefix it.0 n x.0 x.1) ∙ ap (λ (l : List Occurrence). slice_get l n) (sym it.1) ∙ at in
+        used_parts n o (x.1 ∙ both))
+    | inr other ↦ seen_ready (scope files) rest prefix m.seen rest_after ready n o at (elim other [ inl one ↦ omega (arith, one) | inr gt ↦ omega (arith, gt) ])
   ]
 
-  module _ (is ws : List Address) (es : List TypeDef) (count : length es ≡ length seen) (entries : (n : ℕ) (m : Occurrence) (e : TypeDef) → slice_get seen n ≡ Some m → slice_get es n ≡ Some e → IsEntryOf (scope files) (owner_at is ws) id (take n es) m.key m.span m.given e) where
-    abbrev Stated : ℕ → Key → Span → Stability → TypeDef → Type 0
-    Stated n k span given e = IsEntryOf (scope files) (owner_at is ws) id (take n es) k span given e
+  abbrev is : List Address
+  is = interface_scopes files m.items
 
-    types_at : (n : ℕ) (parts : Exprs) (ts : List Ty) → AllPresent (IsSeen (take n ks)) parts → ts ≡ types_of id parts → AreAt (take n ks) parts ts
-    types_at n parts ts are_present are = subst (AreAt (take n ks) parts) (sym are) (types_of-at id (take n ks) (gives_used id ks as_stated n) parts are_present)
+  abbrev ws : List Address
+  ws = world_scopes files m.items
 
-    entry_is : (n : ℕ) (k : Key) (span : Span) (given : Stability) (e : TypeDef) → PartsPresent (scope files) (IsSeen (take n ks)) span k → Stated n k span given e → IsEntry (declarations files is ws) (take n ks) k e
-    entry_is n (Def s name) span given e are_present h =
-        let x = h.0 in
-        let p = at_contains (scope files s) x h.2 in
-        let it = are_present x h.2 h.3 in
-        let kind = ap (λ (y : TypeDef). kind_of y.kind) h.5 ∙ h.4 in (
-          p.0,
-          x,
-          p.1,
-          h.3,
-          ap (λ (y : TypeDef). y.name) h.5,
-          ap (λ (y : TypeDef). y.span) h.5 ∙ it.0,
-          ap (λ (y : TypeDef). y.owner) h.5,
-          ap (λ k. k.form) kind,
-          types_at n (name_exprs s x) (kind_of e.kind).parts it.1 (ap (λ k. k.parts) kind),
-          record { docs = ap (λ (y : TypeDef). y.docs) h.5; stability = ap (λ (y : TypeDef). y.stability) h.5; external_id = ap (λ (y : TypeDef). y.external_id) h.5 },
-        )
-    entry_is n (Whole form parts) span given e are_present h =
-        let kind = ap (λ (y : TypeDef). kind_of y.kind) h.2 ∙ h.1 in
-        (ap (λ (y : TypeDef). y.name) h.2, ap (λ (y : TypeDef). y.owner) h.2, ap (λ k. k.form) kind, types_at n parts (kind_of e.kind).parts are_present (ap (λ k. k.parts) kind), ap (λ (y : TypeDef). y.docs) h.2, ap (λ (y : TypeDef). y.external_id) h.2)
+  abbrev Stated : ℕ → Key → Span → Stability → TypeDef → Type 0
+  Stated n k span given e = IsEntryOf (scope files) (owner_at is ws) m.id (take n p.types) k span given e
 
-    span_is : (n : ℕ) (k : Key) (span : Span) (given : Stability) (e : TypeDef) → Stated n k span given e → e.span ≡ span
-    span_is n (Def s name) span given e h = ap (λ (y : TypeDef). y.span) h.5
-    span_is n (Whole form parts) span given e h = ap (λ (y : TypeDef). y.span) h.2
+  types_at : (n : ℕ) (parts : Exprs) (ts : List Ty) → AllPresent (IsSeen (take n ks)) parts → ts ≡ types_of m.id parts → AreAt (take n ks) parts ts
+  types_at n parts ts are_present are = subst (AreAt (take n ks) parts) (sym are) (types_of-at m.id (take n ks) (gives_used m.id ks made_places n) parts are_present)
 
-    settled_is : (n : ℕ) (k : Key) (span : Span) (given : Stability) (e : TypeDef) → Stated n k span given e → e.name ≡ None → e.stability ≡ settled (take n es) given e.kind
-    settled_is n (Def s name) span given e h none = absurd (let named = ap (λ (y : TypeDef). y.name) h.5 in let both : Some name ≡ None = sym named ∙ none in let f : ⊥ = cc in f)
-    settled_is n (Whole form parts) span given e h none =
-        let kind = ap (λ (y : TypeDef). kind_of y.kind) h.2 ∙ h.1 in
-        ap (λ (y : TypeDef). y.stability) h.2 ∙ ap (λ (ts : List Ty). first_known (given ∷ map (stability_at (take n es)) ts)) (sym (ap (λ k. k.parts) kind))
+  entry_is : (n : ℕ) (k : Key) (span : Span) (given : Stability) (e : TypeDef) → PartsPresent (scope files) (IsSeen (take n ks)) span k → Stated n k span given e → IsEntry (declarations files is ws) (take n ks) k e
+  entry_is n (Def s name) span given e are_present h =
+      let x = h.0 in
+      let q = at_contains (scope files s) x h.2 in
+      let it = are_present x h.2 h.3 in
+      let kind = ap (λ (y : TypeDef). kind_of y.kind) h.5 ∙ h.4 in (
+        q.0,
+        x,
+        q.1,
+        h.3,
+        ap (λ (y : TypeDef). y.name) h.5,
+        ap (λ (y : TypeDef). y.span) h.5 ∙ it.0,
+        ap (λ (y : TypeDef). y.owner) h.5,
+        ap (λ k. k.form) kind,
+        types_at n (name_exprs s x) (kind_of e.kind).parts it.1 (ap (λ k. k.parts) kind),
+        record { docs = ap (λ (y : TypeDef). y.docs) h.5; stability = ap (λ (y : TypeDef). y.stability) h.5; external_id = ap (λ (y : TypeDef). y.external_id) h.5 },
+      )
+  entry_is n (Whole form parts) span given e are_present h =
+      let kind = ap (λ (y : TypeDef). kind_of y.kind) h.2 ∙ h.1 in
+      (ap (λ (y : TypeDef). y.name) h.2, ap (λ (y : TypeDef). y.owner) h.2, ap (λ k. k.form) kind, types_at n parts (kind_of e.kind).parts are_present (ap (λ k. k.parts) kind), ap (λ (y : TypeDef). y.docs) h.2, ap (λ (y : TypeDef). y.external_id) h.2)
 
-    -- so it is the list of first occurrences
-    pub occurrence_is : IsOccurrence (declarations files is ws) seen es
-    occurrence_is = record {
-      keyed = record {
-        count = count ∙ sym (length-map seen (λ (m : Occurrence). m.key));
-        once = once;
-        each = λ n k e at_k at_e. (
-            let m = map_at (λ (m : Occurrence). m.key) seen n k at_k in
-            subst (λ (q : Key). IsEntry (declarations files is ws) (take n ks) q e) m.2 (entry_is n m.0.key m.0.span m.0.given e (parts_before n m.0 m.1) (entries n m.0 e m.1 at_e)));
-      };
-      spans = mapped_alike (λ (e : TypeDef). e.span) (λ (m : Occurrence). m.span) es seen count (λ n e m at_e at_m. span_is n m.key m.span m.given e (entries n m e at_m at_e));
-      settled = λ n m e at_m at_e. settled_is n m.key m.span m.given e (entries n m e at_m at_e);
-    }
+  span_is : (n : ℕ) (k : Key) (span : Span) (given : Stability) (e : TypeDef) → Stated n k span given e → e.span ≡ span
+  span_is n (Def s name) span given e h = ap (λ (y : TypeDef). y.span) h.5
+  span_is n (Whole form parts) span given e h = ap (λ (y : TypeDef). y.span) h.2
+
+  settled_is : (n : ℕ) (k : Key) (span : Span) (given : Stability) (e : TypeDef) → Stated n k span given e → e.name ≡ None → e.stability ≡ settled (take n p.types) given e.kind
+  settled_is n (Def s name) span given e h none = absurd (let named = ap (λ (y : TypeDef). y.name) h.5 in let both : Some name ≡ None = sym named ∙ none in let f : ⊥ = cc in f)
+  settled_is n (Whole form parts) span given e h none =
+      let kind = ap (λ (y : TypeDef). kind_of y.kind) h.2 ∙ h.1 in
+      ap (λ (y : TypeDef). y.stability) h.2 ∙ ap (λ (ts : List Ty). first_known (given ∷ map (stability_at (take n p.types)) ts)) (sym (ap (λ k. k.parts) kind))
+
+  -- so it is the list of first occurrences
+  pub entries_made : IsOccurrence (declarations files is ws) m.seen p.types
+  entries_made = record {
+    keyed = record {
+      count = m.count ∙ sym (length-map m.seen (λ (o : Occurrence). o.key));
+      once = once;
+      each = λ n k e at_k at_e. (
+          let o = map_at (λ (o : Occurrence). o.key) m.seen n k at_k in
+          subst (λ (q : Key). IsEntry (declarations files is ws) (take n ks) q e) o.2 (entry_is n o.0.key o.0.span o.0.given e (parts_before n o.0 o.1) (m.types n o.0 e o.1 at_e)));
+    };
+    spans = mapped_alike (λ (e : TypeDef). e.span) (λ (o : Occurrence). o.span) p.types m.seen m.count (λ n e o at_e at_o. span_is n o.key o.span o.given e (m.types n o e at_o at_e));
+    settled = λ n o e at_o at_e. settled_is n o.key o.span o.given e (m.types n o e at_o at_e);
+  }

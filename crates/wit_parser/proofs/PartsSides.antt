@@ -1,10 +1,9 @@
 -- What is stated of a side of a world is there, where each interface that is named there has a place.
 use Rattle.std.proofs.Common.{◌≡◌, ℕ, suc, Bool, true, false, cond, List, [], ◌∷◌, length, Some, None, refl, sym, ap, ◌∙◌, arith}
-use Rattle.wit_syntax.proofs.Common.{Address, Include, Item, Link, SideFunction, SideInline, SideItem, SideLink, SourceFunction, TopName, WorldNamed, WorldSide, address, cons_option, flat_map, item_function, item_inline, item_link, leads, map, path_scope, role_side, same_side, slice_get, target_scope}
-use Rattle.wit_arena.proofs.Common.{AreSideItems, Function, IsInclude, OneByOne, WorldItem, WorldKey, entries_on, include_in, inline_entry, link_item, put_on, scope_place, side_entries}
+use Rattle.wit_syntax.proofs.Common.{Address, Include, Item, Link, SideFunction, SideInline, SideItem, SideLink, SourceFunction, TopName, WorldNamed, WorldSide, address, cons_option, flat_map, includes, inline_items, item_function, item_inline, item_link, leads, map, path_scope, role_side, same_side, side_items, slice_get, target_scope}
+use Rattle.wit_arena.proofs.Common.{AreSideItems, Function, WorldItem, WorldKey, entries_on, inline_entry, link_item, put_on, scope_place, side_entries}
 use Rattle.wit_model.specs.declared.world.WorldKey.TheVariants as key
 use Rattle.wit_model.specs.declared.world.WorldItem.TheVariants as item
-use Rattle.wit_parser.proofs.PartsPlaces.{one_by_one-mapped}
 
 abbrev Entry : Type 0
 Entry = WorldKey × WorldItem
@@ -20,6 +19,12 @@ kept_put side own x xs = kept (same_side side own)
 -- a scope is where it is stated to
 abbrev pub HasPlace : List Address → Address → Type 0
 HasPlace ss s = slice_get ss (scope_place ss s) ≡ Some s
+
+-- each scope that a world names has its place, where the interfaces have these scopes and the worlds those
+pub record HasPlaces (ss ws : List Address) (w : Item) : Type 0 where
+  pub links : (k : ℕ) (link : Link) → slice_get (flat_map item_link (side_items w)) k ≡ Some link → HasPlace ss (path_scope w.top link.path)
+  pub inside : (k : ℕ) (v : Item) → slice_get (inline_items w) k ≡ Some v → HasPlace ss (address v)
+  pub included : (k : ℕ) (n : Include) → slice_get (includes w) k ≡ Some n → HasPlace ws (target_scope WorldNamed (leads w.top n.from))
 
 module _ (ss : List Address) (function : SourceFunction → Function) (named : (fn : SourceFunction) → (function fn).name ≡ fn.name) (top : List TopName) (side : WorldSide) where
   pub side_entries-are : (written : List SideItem) (is : List Item) → length (flat_map item_inline written) ≡ length is → ((k : ℕ) (link : Link) → slice_get (flat_map item_link written) k ≡ Some link → HasPlace ss (path_scope top link.path)) → ((k : ℕ) (i : Item) → slice_get is k ≡ Some i → HasPlace ss (address i))
@@ -40,7 +45,3 @@ module _ (ss : List Address) (function : SourceFunction → Function) (named : (
       let rest = entries_on side (side_entries function ss top written is) in
       let place = scope_place ss (address i) in
       (place, rest, inside 0 i refl, kept_put side x.side (inline_entry x name place) rest, side_entries-are written is (omega (arith, count)) links (λ k. inside (suc k)))
-
--- includes that are stated are the written ones, where each world that they name has a place
-pub includes_in-are : (ws : List Address) (top : List TopName) (xs : List Include) → ((k : ℕ) (x : Include) → slice_get xs k ≡ Some x → HasPlace ws (target_scope WorldNamed (leads top x.from))) → OneByOne (IsInclude ws top) xs (map (include_in ws top) xs)
-includes_in-are ws top xs placed = one_by_one-mapped (IsInclude ws top) (include_in ws top) xs (λ k x at. (refl, placed k x at, refl, refl))

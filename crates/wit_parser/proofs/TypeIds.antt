@@ -4,7 +4,7 @@ use Rattle.wit_syntax.proofs.Common.{Address, Constructor, Freestanding, FuncFor
 use Rattle.wit_type_tree.specs.declared.types.FuncForm.TheVariants as form
 use Rattle.wit_types.specs.declared.types.«Type».{«Type» as Ty}
 use Rattle.wit_functions.specs.FunctionKinds.{resource_of}
-use Rattle.wit_arena.proofs.Common.{AreAt, AreFunctions, AreRequired, Def, End, Expr, Exprs, Function, FunctionKind, HasTypes, IsAt, IsBelow, IsFunction, IsKind, Key, More, Of, Prim, Turned, UnresolvedPackage, Use, Whole, expr_of, freestanding_kind, function_types, method_kind, static_kind}
+use Rattle.wit_arena.proofs.Common.{AreAt, AreRequired, Def, End, Expr, Exprs, Function, FunctionKind, HasTypes, IsAt, IsBelow, IsFunction, IsKind, Key, More, Of, Prim, Turned, UnresolvedPackage, Use, Whole, expr_of, freestanding_kind, function_types, method_kind, static_kind}
 use Rattle.wit_arena.proofs.Primitives.{primitive_below}
 use Rattle.wit_arena.proofs.Signatures.{function_typed}
 use Rattle.wit_parser.specs.Ids.{AreTypesWithin, AreNamesWithin, IsFunctionWithin}
@@ -37,10 +37,10 @@ kept_from (Some y ∷ each) (suc k) x at = (let it = kept_from each k x at in (s
 
 -- each key that occurred is that of a type
 module _ (p : UnresolvedPackage) (ks : List Key) (count : length p.types ≡ length ks) where
-  key_within : (id : ℕ) (k : Key) → slice_get ks id ≡ Some k → id < length p.types
+  pub key_within : (id : ℕ) (k : Key) → slice_get ks id ≡ Some k → id < length p.types
   key_within id k at = let within = slice_get_within ks id k at in omega (arith, count, within)
 
-  type_within : (x : Expr) (ty : Ty) → IsAt ks x ty → IsBelow (length p.types) ty
+  pub type_within : (x : Expr) (ty : Ty) → IsAt ks x ty → IsBelow (length p.types) ty
   type_within (Prim q) ty h = subst (IsBelow (length p.types)) (sym h) (primitive_below (length p.types) q)
   type_within (Use s name) ty h = rw h.1 (key_within h.0 (Def s name) h.2)
   type_within (Of form parts) ty h = rw h.1 (key_within h.0 (Whole form parts) h.2)
@@ -67,7 +67,7 @@ module _ (p : UnresolvedPackage) (ks : List Key) (count : length p.types ≡ len
   resource_within s (Constructor of) k is id has = one_resource s of is.0 id k (ap resource_of is.1) is.2 has
   resource_within s (OnSide side of f) k is id has = absurd (free_resource f id (sym (ap resource_of is) ∙ has))
 
-  function_within : (s : Address) (fn : SourceFunction) (f : Function) → IsFunction ks s fn f → IsFunctionWithin p f
+  pub function_within : (s : Address) (fn : SourceFunction) (f : Function) → IsFunction ks s fn f → IsFunctionWithin p f
   function_within s fn f is = record {
     resource = resource_within s fn.role f.kind is.kind;
     types = λ k ty at. (
@@ -77,13 +77,6 @@ module _ (p : UnresolvedPackage) (ks : List Key) (count : length p.types ≡ len
         let x = at_within (signature fn) k (omega arith) in
         type_within (expr_of s x.0) ty (typed.each k x.0 ty x.1 at));
   }
-
-  pub functions_within : (s : Address) (fns : List SourceFunction) (fs : List Function) → AreFunctions ks s fns fs → (k : ℕ) (f : Function) → slice_get fs k ≡ Some f → IsFunctionWithin p f
-  functions_within s fns fs are k f at =
-      let within = slice_get_within fs k f at in
-      let as_many = are.count in
-      let fn = at_within fns k (omega arith) in
-      function_within s fn.0 f (are.each k fn.0 f fn.1 at)
 
   -- what handles require
   pub required_within : (files : List PackageFile) (hs : List (Address × Id)) (rs : List (ℕ × Span)) → AreRequired files ks hs rs → (k : ℕ) (r : ℕ × Span) → slice_get rs k ≡ Some r → r.0 < length p.types

@@ -1,24 +1,17 @@
 -- The scopes of a package are: all that occurs in files occurs in them, and each name of them means its place.
-use Rattle.std.proofs.Common.{◌≡◌, ℕ, suc, List, [], ◌∷◌, ◌++◌, Some, ◌⊎◌, inl, inr, refl, sym, ap, ◌∙◌, subst}
-use Rattle.wit_syntax.proofs.Common.{Address, ForeignName, ForeignUse, Form, IsLegal, PackageFile, ScopeName, TypeOwner, at_prefix, firsts_has, foreign_interfaces, foreign_uses, local_name, lookup-place, map, option_map, same_foreign_use, scope, slice_get, slice_get-map, some_of, visited}
-use Rattle.wit_model.specs.declared.unresolved.UnresolvedPackage.{UnresolvedPackage}
-use Rattle.wit_arena.specs.Expr.{Exprs, expr_of, name_exprs}
-use Rattle.wit_arena.specs.Occurrences.{Key, Def, Whole, Occurrence, keys, Collects, Decls}
-use Rattle.wit_arena.specs.UnfoldedTypes.{names_of}
-use Rattle.wit_arena.specs.Resolving.{Names, AreNames, all_seen, env_of, seen}
-use Rattle.wit_arena.specs.Whole.{Ordered, OrderedWorld, Turned, addresses, all_inside, all_occurrences, all_turns, declarations, interface_addresses, owner_at, foreign_use_occurrence, turn_occurrences, world_addresses}
-use Rattle.wit_arena.proofs.ByParts.{IsPackage}
-use Rattle.wit_arena.proofs.DefinitionPart.{name_seen_in}
+use Rattle.std.proofs.Common.{◌≡◌, ℕ, suc, List, [], ◌∷◌, Some, ◌⊎◌, inl, inr, refl, sym, ap, ◌∙◌, subst}
+use Rattle.wit_syntax.proofs.Common.{Address, ForeignName, ForeignUse, Form, IsLegal, PackageFile, ScopeName, TypeOwner, address, at_prefix, firsts_has, foreign_interfaces, foreign_uses, local_name, lookup-place, map, option_map, same_foreign_use, scope, slice_get, slice_get-map, some_of, visited}
+use Rattle.wit_arena.proofs.Common.{AreNames, Decls, Def, Exprs, Has, Key, Makes, Names, Occurrence, Turned, UnresolvedPackage, Whole, all_occurrences, collects_from, declarations, env_of, expr_of, foreign_use_key, foreign_use_occurrence, interface_scopes, item_turns, keys, keys-append, name_exprs, name_seen_in, names_of, occurrences, own_interfaces, owner_at, turn_occurrences, use_of_foreign-equal, use_of_foreign-from, uses_lead, world_scopes}
+use Rattle.wit_arena.specs.Resolving.{all_seen, seen}
 use Rattle.wit_arena.proofs.DoneScopes.{seen_in_turn}
-use Rattle.wit_arena.proofs.KnownScopes.{IsKnown}
-use Rattle.wit_arena.proofs.KnownTurns.{scopes, known_at, interface_resolved_scope, turn_part}
-use Rattle.wit_arena.proofs.LegalScopes.{uses_lead}
-use Rattle.wit_arena.proofs.Occurrence.{Has, has_either, keys-append, collects_from}
+use Rattle.wit_parser.proofs.KnownScopes.{IsKnown}
+use Rattle.wit_parser.proofs.KnownTurns.{scopes, known_at, interface_resolved_scope, turn_part}
+use Rattle.wit_arena.proofs.Occurrence.{has_either}
 use Rattle.wit_arena.proofs.Members.{DoneScope, IsNameOf, IsInSignatureOf, IsWholeOf, IsPresent}
-use Rattle.wit_arena.proofs.ForeignUses.{foreign_use_key, use_of_foreign-from, use_of_foreign-equal, used_from, in_use_has}
+use Rattle.wit_arena.proofs.ForeignUses.{used_from, in_use_has}
 use Rattle.wit_arena.proofs.UsePart.{lookup-listed}
 use Rattle.wit_arena.proofs.Wholes.{whole_in_names, whole_in_turn}
-use Rattle.wit_arena.proofs.Turns.{occurrences}
+use Rattle.wit_parser.proofs.PartsSeen.{collects, entries_made}
 
 -- a name that occurs in what is taken is taken
 foreign_use_of : (ts : List ForeignUse) (s : Address) (name : List ℕ) → Has (keys (map foreign_use_occurrence ts)) (Def s name) → (j : ℕ) × (t : ForeignUse) × (slice_get ts j ≡ Some t) × (foreign_use_key t ≡ Def s name)
@@ -38,43 +31,37 @@ turn_of_occurrence (t ∷ ts) k h = elim (has_either (keys (turn_occurrences t))
   | inr rest ↦ (let it = turn_of_occurrence ts k rest in (suc it.0, it.1, it.2, it.3))
 ]
 
-module _ (files : List PackageFile) (legal : IsLegal files) (p : UnresolvedPackage) (h : IsPackage files p) where
-  abbrev os : List Ordered
-  os = h.first.interfaces
-
-  abbrev ws : List OrderedWorld
-  ws = h.first.worlds
+module _ (files : List PackageFile) (p : UnresolvedPackage) (legal : IsLegal files) (m : Makes files p) where
+  abbrev turns : List Turned
+  turns = item_turns m.order m.items
 
   abbrev ks : List Key
-  ks = keys h.seen
+  ks = keys m.seen
 
   abbrev interfaces : List Address
-  interfaces = interface_addresses files (os ++ all_inside ws)
+  interfaces = interface_scopes files m.items
 
   abbrev worlds : List Address
-  worlds = world_addresses files ws
+  worlds = world_scopes files m.items
 
   abbrev pub decls : Decls
   decls = declarations files interfaces worlds
 
   abbrev cs : List DoneScope
-  cs = scopes files legal p h
+  cs = scopes files p legal m
 
   abbrev pub written : List Occurrence
-  written = all_occurrences files (all_turns os ws)
+  written = all_occurrences files (turns)
 
   abbrev Known : DoneScope → Type 0
   Known c = IsKnown files p ks interfaces worlds c
 
   pub known : (t : ℕ) (c : DoneScope) → slice_get cs t ≡ Some c → Known c
-  known = known_at files legal p h
-
-  pub collects : Collects [] written h.seen
-  collects = h.first.first
+  known = known_at files p legal m
 
   -- what is written is taken, or is in a scope
-  written_either : (k : Key) → Has (keys written) k → Has (keys (map foreign_use_occurrence (foreign_uses files))) k ⊎ Has (keys (occurrences (all_turns os ws))) k
-  written_either k has = has_either (keys (map foreign_use_occurrence (foreign_uses files))) (keys (occurrences (all_turns os ws))) k (subst (λ (l : List Key). Has l k) (keys-append (map foreign_use_occurrence (foreign_uses files)) (occurrences (all_turns os ws))) has)
+  written_either : (k : Key) → Has (keys written) k → Has (keys (map foreign_use_occurrence (foreign_uses files))) k ⊎ Has (keys (occurrences (turns))) k
+  written_either k has = has_either (keys (map foreign_use_occurrence (foreign_uses files))) (keys (occurrences (turns))) k (subst (λ (l : List Key). Has l k) (keys-append (map foreign_use_occurrence (foreign_uses files)) (occurrences (turns))) has)
 
   -- a name that is taken is one of the scope that it is taken from
   used_name : (s : Address) (name : List ℕ) → Has (keys (map foreign_use_occurrence (foreign_uses files))) (Def s name) → IsNameOf cs s name
@@ -87,31 +74,31 @@ module _ (files : List PackageFile) (legal : IsLegal files) (p : UnresolvedPacka
       let there : u.1.from ≡ s = cc in
       let called : u.1.id.name.now ≡ name = cc in
       let k = in_use_has files (visited v.1) u.0 u.1 u.2 (there ∙ sym from ∙ sym v.3) in
-      let c = interface_resolved_scope files legal p h v.0 (visited v.1) (at_prefix (map visited (foreign_interfaces files)) (addresses (os ++ all_inside ws)) v.0 (visited v.1) (slice_get-map visited (foreign_interfaces files) v.0 ∙ ap (option_map visited) v.2)) in
+      let c = interface_resolved_scope files p legal m v.0 (visited v.1) (at_prefix (map visited (foreign_interfaces files)) (map address (own_interfaces m.items)) v.0 (visited v.1) (slice_get-map visited (foreign_interfaces files) v.0 ∙ ap (option_map visited) v.2)) in
       let x : ScopeName = ForeignName u.1.attributes u.1.id in
       let q = (known c.place c.resolved_scope c.at).done.turn.has k.0 x (ap (λ (a : Address). slice_get (scope files a) k.0) c.scope ∙ k.1) in
       record { place = c.place; resolved_scope = c.resolved_scope; at = c.at; scope = c.scope ∙ v.3 ∙ from; index = q.0; x = x; among = q.1; called = called }
 
   -- a name that is in a scope is one of it
-  own_name : (s : Address) (name : List ℕ) → Has (keys (occurrences (all_turns os ws))) (Def s name) → IsNameOf cs s name
+  own_name : (s : Address) (name : List ℕ) → Has (keys (occurrences (turns))) (Def s name) → IsNameOf cs s name
   own_name s name has =
-      let t = turn_of_occurrence (all_turns os ws) (Def s name) has in
+      let t = turn_of_occurrence (turns) (Def s name) has in
       let it = name_seen_in t.1.address t.1.names s name (seen_in_turn t.1.address t.1.names t.1.functions s name t.3) in
-      let c = turn_part files legal p h t.0 t.1 t.2 in
+      let c = turn_part files p legal m t.0 t.1 t.2 in
       let q = c.names it.1.0 it.1.1 it.1.2 in
       record { place = c.place; resolved_scope = c.resolved_scope; at = c.at; scope = c.scope ∙ sym it.0; index = q.0; x = it.1.1; among = q.1; called = it.1.3 }
 
   pub before : (j : ℕ) (s : Address) (name : List ℕ) → slice_get ks j ≡ Some (Def s name) → IsNameOf cs s name
-  before j s name at = elim (collects_from written [] h.seen collects j (Def s name) at) [
+  before j s name at = elim (collects_from written [] m.seen (collects files p legal m) j (Def s name) at) [
     | inl none ↦ absurd (let wrong = none.1 in let f : ⊥ = cc in f)
     | inr has ↦ elim (written_either (Def s name) has) [ inl in_use ↦ used_name s name in_use | inr own ↦ own_name s name own ]
   ]
 
   -- an unnamed type is written in a name of a scope, or in one of its functions
-  own_whole : (form : Form) (parts : Exprs) → Has (keys (occurrences (all_turns os ws))) (Whole form parts) → IsWholeOf cs form parts ⊎ IsInSignatureOf cs form parts
+  own_whole : (form : Form) (parts : Exprs) → Has (keys (occurrences (turns))) (Whole form parts) → IsWholeOf cs form parts ⊎ IsInSignatureOf cs form parts
   own_whole form parts has =
-      let t = turn_of_occurrence (all_turns os ws) (Whole form parts) has in
-      let c = turn_part files legal p h t.0 t.1 t.2 in
+      let t = turn_of_occurrence (turns) (Whole form parts) has in
+      let c = turn_part files p legal m t.0 t.1 t.2 in
       elim (whole_in_turn t.1.address t.1.names t.1.functions form parts t.3) [
         | inl named ↦ (
             let it = whole_in_names t.1.address t.1.names form parts named in
@@ -153,9 +140,9 @@ module _ (files : List PackageFile) (legal : IsLegal files) (p : UnresolvedPacka
 
   abbrev pub present : IsPresent files decls written cs p.types
   present = record {
-    seen = h.seen;
-    collects = collects;
-    occurrence = h.occurrence;
+    seen = m.seen;
+    collects = collects files p legal m;
+    occurrence = entries_made files p legal m;
     each = λ t c at. (known t c at).done;
     own = λ t c at. ap (λ (o : TypeOwner). (scope files c.address, o)) (known t c at).whose;
     are_present = are_present;

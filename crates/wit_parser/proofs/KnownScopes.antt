@@ -1,0 +1,161 @@
+-- The scopes of a package: each has its names in turn and its functions, and the package knows it by an owner.
+use Rattle.std.proofs.Common.{◌≡◌, ℕ, ◌+◌, true, false, List, [], ◌∷◌, length, Option, Some, None, refl, sym, ap, ◌∙◌}
+use Rattle.wit_syntax.proofs.Common.{Address, AllDiffer, ForeignVisit, IsLegal, Item, PackageFile, TypeOwner, WorldNamed, address, at_back, at_prefix, differ_none, foreign_interfaces, foreign_worlds, function_key, functions, functions_imported, is_label, is_world, length-map, map, option_and_then, option_map, option_map_or, option_or, slice_get, slice_get-map, visited, worlds_of}
+use Rattle.wit_arena.proofs.Common.{AreFunctions, HasTypes, Interface, Key, Makes, UnresolvedPackage, World, foreign_interface, foreign_world, functions_of, interface_functions, interface_scopes, keys, names_of, own_interface, own_interfaces, own_world, owner_at, owner_of, uses_lead, world_functions, world_scopes, world_types}
+use Rattle.wit_types.specs.declared.types.TypeOwner.TheVariants as owner
+use Rattle.wit_arena.specs.UnfoldedTypes.{inline_owner, named_interface, named_world}
+use Rattle.wit_arena.proofs.Deps.{foreign_interface_owner, foreign_world_owner}
+use Rattle.wit_arena.proofs.Prefix.{interface_scope, world_scope, prefix_interface_done, prefix_world_done, no_functions}
+use Rattle.wit_arena.proofs.Interfaces.{interface_owner_at, world_owner_at}
+use Rattle.wit_arena.proofs.KnownItems.{functions_apart, functions_are, turn_is}
+use Rattle.wit_arena.proofs.ScopesInTurn.{laid_scope}
+use Rattle.wit_arena.proofs.Members.{DoneScope, turn_of, IsDoneScope}
+use Rattle.wit_arena.proofs.Stating.{stated_placed}
+use Rattle.wit_parser.proofs.PartsInterfaces.{foreign_interface-is, own_interface-is}
+use Rattle.wit_parser.proofs.PartsOrders.{interface_item, interface_listed, no_two, ord}
+
+-- a scope that is done, and that the package knows by its owner, where the interfaces have these addresses and the worlds those
+pub record IsKnown (files : List PackageFile) (p : UnresolvedPackage) (ks : List Key) (interfaces worlds : List Address) (c : DoneScope) : Type 0 where
+  pub done : IsDoneScope files c
+  pub whose : owner_at interfaces worlds c.address ≡ c.owner
+  pub types : HasTypes ks (turn_of c) c.types
+  pub made : AreFunctions ks c.address c.functions c.made
+  pub apart : AllDiffer (map function_key c.functions)
+  pub called : owner_of p c.owner ≡ Some c.address
+  pub names : names_of p c.owner ≡ c.types
+  pub stated : functions_of p c.owner ≡ c.stated
+
+-- the scope at an address, which the package knows by this owner
+pub record HasScope (files : List PackageFile) (p : UnresolvedPackage) (ks : List Key) (interfaces worlds : List Address) (o : TypeOwner) (s : Address) : Type 0 where
+  pub scope : DoneScope
+  pub address : scope.address ≡ s
+  pub owner : scope.owner ≡ o
+  pub known : IsKnown files p ks interfaces worlds scope
+
+-- a name that is a label is a world's own
+pub named_world-label : (p : UnresolvedPackage) (place : ℕ) (name : List ℕ) → is_label name ≡ true → named_world p place name ≡ Some (WorldNamed name)
+named_world-label p place [] h = absurd (let f : ⊥ = cc in f)
+named_world-label p place (c ∷ cs) h = refl
+
+-- an interface of a package, and a world, by its place
+module _ (p : UnresolvedPackage) (t : ℕ) where
+  pub interface_owner : (i : Interface) (name : Option (List ℕ)) → slice_get p.interfaces t ≡ Some i → i.name ≡ name → owner_of p (owner.Interface t) ≡ named_interface p t name
+  interface_owner i name at is = ap (λ (o : Option Interface). option_and_then (λ (x : Interface). named_interface p t x.name) o) at ∙ ap (named_interface p t) is
+
+  interface_names : (i : Interface) → slice_get p.interfaces t ≡ Some i → names_of p (owner.Interface t) ≡ i.types
+  interface_names i at = ap (λ (o : Option Interface). option_map_or (λ (x : Interface). x.types) o []) at
+
+  interface_states : (i : Interface) → slice_get p.interfaces t ≡ Some i → functions_of p (owner.Interface t) ≡ interface_functions i
+  interface_states i at = ap (λ (o : Option Interface). option_map_or interface_functions o []) at
+
+  pub world_owner : (w : World) (name : List ℕ) → slice_get p.worlds t ≡ Some w → w.name ≡ name → owner_of p (owner.World t) ≡ named_world p t name
+  world_owner w name at is = ap (λ (o : Option World). option_and_then (λ (x : World). named_world p t x.name) o) at ∙ ap (named_world p t) is
+
+  pub world_names : (w : World) → slice_get p.worlds t ≡ Some w → names_of p (owner.World t) ≡ world_types w
+  world_names w at = ap (λ (o : Option World). option_map_or world_types o []) at
+
+  pub world_states : (w : World) → slice_get p.worlds t ≡ Some w → functions_of p (owner.World t) ≡ world_functions w
+  world_states w at = ap (λ (o : Option World). option_map_or world_functions o []) at
+
+module _ (files : List PackageFile) (p : UnresolvedPackage) (legal : IsLegal files) (m : Makes files p) where
+  abbrev ks : List Key
+  ks = keys m.seen
+
+  abbrev interfaces : List Address
+  interfaces = interface_scopes files m.items
+
+  abbrev worlds : List Address
+  worlds = world_scopes files m.items
+
+  abbrev ss : List Address
+  ss = map visited (foreign_interfaces files)
+
+  abbrev others : List Address
+  others = map visited (foreign_worlds files)
+
+  abbrev Known : DoneScope → Type 0
+  Known c = IsKnown files p ks interfaces worlds c
+
+  abbrev Has : TypeOwner → Address → Type 0
+  Has o s = HasScope files p ks interfaces worlds o s
+
+  -- the entries of other packages, and after them those of the files
+  abbrev of_foreign : List Interface
+  of_foreign = map (foreign_interface files m.id) (foreign_interfaces files)
+
+  abbrev of_own : List Interface
+  of_own = map (own_interface m.id m.order) (own_interfaces m.items)
+
+  abbrev made_world : Item → World
+  made_world w = own_world m.id m.order interfaces worlds w
+
+  pub own_interface_at : (k : ℕ) (i : Item) → slice_get (own_interfaces m.items) k ≡ Some i → slice_get p.interfaces (length ss + k) ≡ Some (own_interface m.id m.order i)
+  own_interface_at k i at =
+      let long : length ss ≡ length of_foreign = length-map (foreign_interfaces files) visited ∙ sym (length-map (foreign_interfaces files) (foreign_interface files m.id)) in
+      let here = slice_get-map (own_interface m.id m.order) (own_interfaces m.items) k ∙ ap (option_map (own_interface m.id m.order)) at in
+      ap (λ (n : ℕ). slice_get p.interfaces (n + k)) long ∙ ap (λ (l : List Interface). slice_get l (length of_foreign + k)) m.interfaces ∙ at_back of_foreign of_own k (own_interface m.id m.order i) here
+
+  pub own_world_at : (k : ℕ) (w : Item) → slice_get (worlds_of m.items) k ≡ Some w → slice_get p.worlds (length others + k) ≡ Some (made_world w)
+  own_world_at k w at =
+      let prefix = map foreign_world (foreign_worlds files) in
+      let long : length others ≡ length prefix = length-map (foreign_worlds files) visited ∙ sym (length-map (foreign_worlds files) foreign_world) in
+      let here = slice_get-map made_world (worlds_of m.items) k ∙ ap (option_map made_world) at in
+      ap (λ (n : ℕ). slice_get p.worlds (n + k)) long ∙ ap (λ (l : List World). slice_get l (length prefix + k)) m.worlds ∙ at_back prefix (map made_world (worlds_of m.items)) k (made_world w) here
+
+  -- the scope of an interface of another package, and of a world
+  pub foreign_interface_known : (t : ℕ) (v : ForeignVisit) → slice_get (foreign_interfaces files) t ≡ Some v → Known (interface_scope files t v (foreign_interface files m.id v))
+  foreign_interface_known t v at =
+      let i = foreign_interface files m.id v in
+      let is = foreign_interface-is files p legal m v in
+      let present = at_prefix ss (map address (own_interfaces m.items)) t (visited v) (slice_get-map visited (foreign_interfaces files) t ∙ ap (option_map visited) at) in
+      let here : slice_get p.interfaces t ≡ Some i = ap (λ (l : List Interface). slice_get l t) m.interfaces ∙ at_prefix of_foreign of_own t i (slice_get-map (foreign_interface files m.id) (foreign_interfaces files) t ∙ ap (option_map (foreign_interface files m.id)) at) in
+      record {
+        done = prefix_interface_done files ks t v i is;
+        whose = interface_owner_at interfaces worlds (no_two files p legal m) t (visited v) present;
+        types = is.1;
+        made = no_functions ks (visited v);
+        apart = differ_none;
+        called = interface_owner p t i None here refl ∙ ap (λ (x : Option Address). option_or x (inline_owner p t)) (foreign_interface_owner files p m.deps t v at);
+        names = interface_names p t i here;
+        stated = interface_states p t i here;
+      }
+
+  pub foreign_world_known : (t : ℕ) (v : ForeignVisit) → slice_get (foreign_worlds files) t ≡ Some v → Known (world_scope t v)
+  foreign_world_known t v at =
+      let w = foreign_world v in
+      let present = at_prefix others (map address (worlds_of m.items)) t (visited v) (slice_get-map visited (foreign_worlds files) t ∙ ap (option_map visited) at) in
+      let here : slice_get p.worlds t ≡ Some w = ap (λ (l : List World). slice_get l t) m.worlds ∙ at_prefix (map foreign_world (foreign_worlds files)) (map made_world (worlds_of m.items)) t w (slice_get-map foreign_world (foreign_worlds files) t ∙ ap (option_map foreign_world) at) in
+      record {
+        done = prefix_world_done files (uses_lead files legal) t v at;
+        whose = world_owner_at interfaces worlds (no_two files p legal m) t (visited v) present;
+        types = record { names = refl; places = λ k name id k_at. absurd (let f : ⊥ = cc in f) };
+        made = no_functions ks (visited v);
+        apart = differ_none;
+        called = world_owner p t w [] here refl ∙ foreign_world_owner files p m.deps t v at;
+        names = world_names p t w here;
+        stated = world_states p t w here;
+      }
+
+  -- the scope of an interface of the files, where the package calls it by its address
+  pub own_interface_known : (k : ℕ) (i : Item) → slice_get (own_interfaces m.items) k ≡ Some i → is_world i ≡ false → owner_of p (owner.Interface (length ss + k)) ≡ Some (address i) → Has (owner.Interface (length ss + k)) (address i)
+  own_interface_known k i at sort called =
+      let o = ord files p legal m i in
+      let x = own_interface m.id m.order i in
+      let is = own_interface-is files p legal m k i at in
+      let here = own_interface_at k i at in
+      let it = interface_item files p legal m k i at in
+      record {
+        scope = laid_scope (owner.Interface (length ss + k)) o x.types is.functions.0 (interface_functions x) [];
+        address = refl;
+        owner = refl;
+        known = record {
+          done = record { turn = turn_is files legal o it; listed = is.types.names; functions = sym (functions_are files legal o it); stated = stated_placed (functions i) is.functions.0 x (functions_imported i sort) is.functions.2 };
+          whose = interface_owner_at interfaces worlds (no_two files p legal m) (length ss + k) (address i) (interface_listed files p legal m k i at);
+          types = is.types;
+          made = is.functions.1;
+          apart = functions_apart files legal o it;
+          called = called;
+          names = interface_names p (length ss + k) x here;
+          stated = interface_states p (length ss + k) x here;
+        };
+      }
