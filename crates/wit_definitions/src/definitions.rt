@@ -41,7 +41,6 @@ pub fn define(
         &metadata.stability,
         &definition.body,
     )?;
-    let id = definition.name;
-    scope.declare(alloc, types, id.name, metadata, id.span, kind)?;
+    scope.declare(alloc, types, definition.name, metadata, kind)?;
     Ok(())
 }

@@ -1,10 +1,17 @@
 -- What definitions add to a scope.
 use Rattle.std.specs.Prelude.{List}
+use Rattle.wit_type_tree.specs.declared.leaves.Id.{Id}
 use Rattle.wit_types.specs.declared.types.TypeDef.{TypeDef}
+use Rattle.wit_types.specs.declared.types.TypeDefKind.{TypeDefKind}
 use Rattle.wit_syntax.specs.Address.{Address}
+use Rattle.wit_syntax.specs.Metadata.{Metadata}
 use Rattle.wit_syntax.specs.Source.{ScopeName}
-use Rattle.wit_arena.specs.Resolving.{Defines, ResolvedScope}
+use Rattle.wit_arena.specs.Resolving.{Defines, IsAdded, ResolvedScope}
 use Rattle.wit_entries.specs.declared.scope.Scope.{Scope}
+
+-- an entry was added, and its name to a scope
+abbrev pub Declares : Scope → Scope → List TypeDef → List TypeDef → Id → Metadata → TypeDefKind → Type 0
+Declares a b old new id n kind = IsAdded old new a.owner a.names b.names id.name.now n id.span kind
 
 -- definitions were added to a scope, which are these
 abbrev pub DefinesAfter : Scope → Scope → List TypeDef → List TypeDef → List ScopeName → Type 0

@@ -21,6 +21,7 @@ use std::alloc::{AllocError, Global};
 use std::marker::Model;
 use wit_intern::InternKey;
 use wit_notes::Metadata;
+use wit_tree::tree::Id;
 use wit_tree::{ParseResult, Span};
 use wit_types::{
     Arena, Docs, Stability, Type, TypeDef, TypeDefKind, TypeId, TypeOwner, TypePlace, is_same_kind,
@@ -160,29 +161,30 @@ impl Entries {
         arena
     }
 
-    /// Adds a named entry, with its metadata, after the others.
+    /// Adds the named entry of an owner, with its metadata, after the others.
     ///
     /// The error is a failed allocation.
     pub fn add_named(
         &mut self,
+        alloc: Global,
         owner: TypeOwner,
-        name: Text,
-        kind: TypeDefKind,
+        name: Id<'_>,
         metadata: Metadata,
-        span: Span,
+        kind: TypeDefKind,
     ) -> ParseResult<TypeId>
         ensures id { IfOk result (λ id. id ≡ length self.old) }
-        ensures added { OnOk result (self.new ≡ self.old ++ named owner name kind (metadata_view metadata) span ∷ []) }
+        ensures added { OnOk result (self.new ≡ self.old ++ named owner name.entry.name.now kind (metadata_view metadata) name.entry.span ∷ []) }
         ensures extended { IsExtended self.old self.new }
         ensures refused { IfErr result IsAllocationFailure }
     {
+        let text = Text::from_str(alloc, name.name)?;
         let entry = TypeDef {
-            name: Some(name),
+            name: Some(text),
             kind,
             owner,
             docs: metadata.docs,
             stability: metadata.stability,
-            span,
+            span: name.span,
             external_id: metadata.external_id,
         };
         let id = add_entry(&mut self.arena, &mut self.ends, entry)?;

@@ -1,17 +1,17 @@
 //! The names of a scope, while it is resolved.
 ghost use Rattle.std.specs.Prelude.{◌≡◌, OnOk, IfErr};
 ghost use Rattle.wit_type_tree.specs.RefusalText.{IsAllocationFailure};
-ghost use Rattle.wit_arena.specs.Resolving.{IsAdded};
 ghost use Rattle.wit_notes.specs.BorrowedMetadata.{metadata_view};
+ghost use Rattle.wit_entries.specs.Defining.{Declares};
 ghost use Rattle.wit_entries.specs.Requiring.{IsExtended};
 
 use crate::entries::Entries;
 use std::alloc::Global;
 use wit_maps::TextTable;
 use wit_notes::Metadata;
+use wit_tree::tree::Id;
 use wit_tree::{ParseResult, Span};
 use wit_types::{TypeDefKind, TypeId, TypeOwner};
-use wit_values::Text;
 
 /// A type of another package that has to be a resource, and where a handle names it.
 pub type Required = (TypeId, Span);
@@ -35,20 +35,18 @@ impl Scope {
         &mut self,
         alloc: Global,
         types: &mut Entries,
-        name: &str,
+        name: Id<'_>,
         metadata: Metadata,
-        span: Span,
         kind: TypeDefKind,
     ) -> ParseResult<()>
-        ensures added { OnOk result (IsAdded types.old types.new self.old.owner self.old.names self.new.names name.now (metadata_view metadata) span kind) }
+        ensures added { OnOk result (Declares self.old self.new types.old types.new name.entry (metadata_view metadata) kind) }
         ensures owner { OnOk result (self.new.owner ≡ self.old.owner) }
         ensures required { self.new.required ≡ self.old.required }
         ensures extended { IsExtended types.old types.new }
         ensures refused { IfErr result IsAllocationFailure }
     {
-        let text = Text::from_str(alloc, name)?;
-        let id = types.add_named(self.owner, text, kind, metadata, span)?;
-        self.names.put(String::from_str(alloc, name)?, id)?;
+        let id = types.add_named(alloc, self.owner, name, metadata, kind)?;
+        self.names.put(String::from_str(alloc, name.name)?, id)?;
         Ok(())
     }
 }

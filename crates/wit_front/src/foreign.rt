@@ -175,10 +175,9 @@ impl ForeignArenas {
         if self.interfaces.get(id).types.get(used.name).is_some() {
             return Ok(());
         }
-        let text = Text::from_str(alloc, used.name)?;
         let metadata = stated_metadata(alloc, attributes)?;
         let owner = TypeOwner::Interface(id);
-        let ty = types.add_named(owner, text, TypeDefKind::Unknown, metadata, used.span)?;
+        let ty = types.add_named(alloc, owner, used, metadata, TypeDefKind::Unknown)?;
         add_type(alloc, self.interfaces.get_mut(id), used.name, ty)?;
         self.spans.push(used.span)?;
         Ok(())

@@ -137,7 +137,11 @@ fn resolve_use<'f, 'a>(
     }
     let metadata = stated_metadata(alloc, used.attributes)?;
     let kind = TypeDefKind::Type_(Type::Id(original));
-    scope.declare(alloc, types, local.name, metadata, name.name.span, kind)?;
+    let own = Id {
+        name: local.name,
+        span: name.name.span,
+    };
+    scope.declare(alloc, types, own, metadata, kind)?;
     Ok(())
 }
 

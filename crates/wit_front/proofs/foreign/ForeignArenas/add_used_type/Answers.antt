@@ -1,10 +1,9 @@
-use Rattle.std.proofs.Common.{◌≡◌, ℕ, List, [], ◌∷◌, ◌++◌, Some, None, nat_eq, refl, sym, ap, ◌∙◌, subst}
+use Rattle.std.proofs.Common.{◌≡◌, ℕ, [], ◌∷◌, ◌++◌, Some, None, nat_eq, refl, sym, ap, ◌∙◌, subst}
 use Rattle.wit_syntax.proofs.Common.{Metadata, insert_entry, lookup, pointwise, slice_get, slice_set}
 use Rattle.std.specs.Prelude.{is_some}
 use Rattle.wit_types.specs.declared.types.TypeDefKind.TheVariants.{Unknown}
 use Rattle.wit_types.specs.declared.types.TypeOwner.TheVariants as owner
 use Rattle.wit_arena.proofs.Common.{Interface, named}
-use Rattle.wit_notes.specs.BorrowedMetadata.{metadata_view}
 use Rattle.wit_front.specs.ForeignPrefix.{with_types, addresses_among}
 use Rattle.wit_front.proofs.ForeignName.{in_use-known, in_use-fresh, is_some-copied, none_copied}
 use Rattle.wit_front.proofs.foreign.ForeignArenas.add_used_type.Goals as goal
@@ -24,6 +23,6 @@ returns-clause-in_use c = λ s vs ts apart at_place before. (
     let q = c.args.name.now.name.name.now in
     let es = c.args.types.now in
     let none : lookup (pointwise nat_eq q) i.types ≡ None = ap (λ (x : Interface). lookup (pointwise nat_eq q) x.types) (sym same) ∙ sym c.get-2.ensures ∙ none_copied c.get-2.result (sym c.is_some.ensures ∙ c.if-is_some.false) in
-    let types = c.in_ok-ty.ensures.added ∙ ap (λ (x : List ℕ). es ++ named (owner.Interface c.id_at-id.result) x Unknown (metadata_view c.in_ok-metadata.metadata) c.args.name.now.name.span ∷ []) c.in_ok-text.ensures ∙ ap (λ (m : Metadata). es ++ named (owner.Interface c.id_at-id.result) q Unknown m c.args.name.now.name.span ∷ []) c.in_ok-metadata.ensures in
+    let types = c.in_ok-ty.ensures.added ∙ ap (λ (m : Metadata). es ++ named (owner.Interface c.id_at-id.result) q Unknown m c.args.name.now.name.span ∷ []) c.in_ok-metadata.ensures in
     let interfaces = ap (slice_set c.args.self.now.interfaces c.id_at-id.result) (c.in_ok-add_type.ensures ∙ ap (λ (k : ℕ). with_types i (insert_entry (pointwise nat_eq) i.types q k)) c.in_ok-ty.ensures.id) in
     in_use-fresh vs ts s c.args.attributes.now c.args.name.now c.id_at-id.result i es c.args.self.now place c.get_mut.ensures.value before apart none c.add_named.new.self _ types interfaces refl refl c.in_ok-push.ensures.items)
