@@ -5,14 +5,11 @@ ghost use Rattle.wit_type_tree.specs.TypeParts.{field_types, case_types, body_ty
 ghost use Rattle.wit_syntax.specs.Form.{RecordForm, FlagsForm, VariantForm, EnumForm};
 ghost use Rattle.wit_arena.specs.Kind.{kind_of, field_member, flag_member, case_member, enum_case_member, payloads};
 ghost use Rattle.wit_syntax.specs.Shape.{member, written_body, body_of, handles, all_handles};
-ghost use Rattle.wit_syntax.specs.Address.{Address};
-ghost use Rattle.wit_arena.specs.Expr.{exprs_of};
-ghost use Rattle.wit_arena.specs.Occurrences.{shapes_occurrences};
 ghost use Rattle.wit_first.specs.First.{Finds};
 ghost use Rattle.wit_first.specs.ListFaults.{flags_fault, members_fault};
-ghost use Rattle.wit_arena.specs.Resolving.{env_of, AreResolved};
+ghost use Rattle.wit_arena.specs.Resolving.{env_of};
 ghost use Rattle.wit_entries.specs.EntryFaults.{body_fault, types_fault, written_fault};
-ghost use Rattle.wit_entries.specs.ResolvedForms.{AreTypes, IsOwn};
+ghost use Rattle.wit_entries.specs.ResolvedForms.{AreParts, AreTypes, IsOwn};
 ghost use Rattle.wit_entries.specs.Requiring.{IsExtended, Requires};
 
 use std::alloc::{AllocError, Global};
@@ -244,8 +241,7 @@ fn resolve_word(
     ty: &tree::Type<'_>,
 ) -> ParseResult<TypeDefKind>
     requires { IsOwn ty.now → ⊥ }
-    ensures parts { IfOk result (λ r. (s : Address) → AreResolved types.old types.new s (env_of names.now)
-        (shapes_occurrences s given.now (written_body ty.now).parts) (exprs_of s (written_body ty.now).parts) (kind_of r).parts) }
+    ensures parts { IfOk result (λ r. AreParts types.old types.new (env_of names.now) given.now (written_body ty.now).parts (kind_of r).parts) }
     ensures form { IfOk result (λ r. (kind_of r).form ≡ (written_body ty.now).form) }
     ensures handled { OnOk result (Requires (env_of names.now) types.new (handles ty.now) required.old.items required.new.items) }
     ensures extended { IsExtended types.old types.new }
@@ -264,8 +260,7 @@ fn resolve_plain(
     given: &Stability,
     ty: &tree::Type<'_>,
 ) -> ParseResult<TypeDefKind>
-    ensures parts { IfOk result (λ r. (s : Address) → AreResolved types.old types.new s (env_of names.now)
-        (shapes_occurrences s given.now (written_body ty.now).parts) (exprs_of s (written_body ty.now).parts) (kind_of r).parts) }
+    ensures parts { IfOk result (λ r. AreParts types.old types.new (env_of names.now) given.now (written_body ty.now).parts (kind_of r).parts) }
     ensures form { IfOk result (λ r. (kind_of r).form ≡ (written_body ty.now).form) }
     ensures handled { OnOk result (Requires (env_of names.now) types.new (handles ty.now) required.old.items required.new.items) }
     ensures extended { IsExtended types.old types.new }
@@ -289,8 +284,7 @@ pub fn resolve_body(
     given: &Stability,
     body: &tree::TypeBody<'_>,
 ) -> ParseResult<TypeDefKind>
-    ensures parts { IfOk result (λ r. (s : Address) → AreResolved types.old types.new s (env_of names.now)
-        (shapes_occurrences s given.now (body_of body.now).parts) (exprs_of s (body_of body.now).parts) (kind_of r).parts) }
+    ensures parts { IfOk result (λ r. AreParts types.old types.new (env_of names.now) given.now (body_of body.now).parts (kind_of r).parts) }
     ensures form { IfOk result (λ r. (kind_of r).form ≡ (body_of body.now).form) }
     ensures handled { OnOk result (Requires (env_of names.now) types.new (all_handles (body_types body.now)) required.old.items required.new.items) }
     ensures extended { IsExtended types.old types.new }

@@ -1,13 +1,11 @@
 //! Definitions, as named entries of the arena.
 ghost use Rattle.std.specs.Prelude.{◌≡◌, [], ◌∷◌, OnOk};
-ghost use Rattle.wit_type_tree.specs.TypeParts.{body_types};
-ghost use Rattle.wit_syntax.specs.Shape.{all_handles};
 ghost use Rattle.wit_syntax.specs.Source.{Defined};
 ghost use Rattle.wit_first.specs.First.{Finds};
 ghost use Rattle.wit_arena.specs.Resolving.{env_of, IsStored};
-ghost use Rattle.wit_entries.specs.Defining.{DefinesAfter};
+ghost use Rattle.wit_entries.specs.Defining.{DefinesAfter, RequiresMore};
 ghost use Rattle.wit_entries.specs.EntryFaults.{definition_fault};
-ghost use Rattle.wit_entries.specs.Requiring.{IsExtended, Requires};
+ghost use Rattle.wit_entries.specs.Requiring.{IsExtended};
 
 use crate::bodies::resolve_body;
 use std::alloc::Global;
@@ -28,7 +26,7 @@ pub fn define(
     ensures defines { OnOk result (DefinesAfter scope.old scope.new types.old types.new (Defined definition.now ∷ [])) }
     ensures owner { OnOk result (scope.new.owner ≡ scope.old.owner) }
     ensures stored { OnOk result (IsStored scope.old.names scope.new.names definition.now.name.name.now) }
-    ensures handled { OnOk result (Requires (env_of scope.old.names) types.new (all_handles (body_types definition.now.body)) scope.old.required.items scope.new.required.items) }
+    ensures handled { OnOk result (RequiresMore scope.old scope.new types.new definition.now) }
     ensures extended { IsExtended types.old types.new }
     ensures first { Finds (definition_fault (env_of scope.old.names) types.new definition.now) result }
 {

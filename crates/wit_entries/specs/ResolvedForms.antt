@@ -1,16 +1,18 @@
 -- What a written type is once its parts are resolved.
-use Rattle.std.specs.Prelude.{◌≡◌, ℕ, List, [], ◌∷◌}
+use Rattle.std.specs.Prelude.{◌≡◌, ◌++◌, ℕ, List, [], ◌∷◌}
+use Rattle.std.specs.Option.{option_to_list}
 use Rattle.wit_values.specs.declared.span.Span.{Span}
 use Rattle.wit_type_tree.specs.declared.types.«Type».{«Type» as Written}
 use Rattle.wit_type_tree.specs.declared.types.«Type».TheVariants as written
 use Rattle.wit_types.specs.declared.stability.Stability.{Stability}
 use Rattle.wit_types.specs.declared.types.«Type».{«Type» as Ty}
 use Rattle.wit_types.specs.declared.types.«Type».TheVariants.{Id}
+use Rattle.wit_types.specs.declared.types.Result_.{Result_}
 use Rattle.wit_types.specs.declared.types.TypeDef.{TypeDef}
 use Rattle.wit_types.specs.declared.types.TypeDefKind.{TypeDefKind}
 use Rattle.wit_types.specs.declared.types.TypeDefKind.TheVariants.{Type_}
 use Rattle.wit_arena.specs.Kind.{kind_of}
-use Rattle.wit_syntax.specs.Shape.{Shape, Prim, Word, Of, all_shapes}
+use Rattle.wit_syntax.specs.Shape.{Shape, Shapes, Prim, Word, Of, all_shapes}
 use Rattle.wit_syntax.specs.Address.{Address}
 use Rattle.wit_arena.specs.Expr.{one, expr_of, exprs_of}
 use Rattle.wit_arena.specs.Occurrences.{shape_occurrences, shapes_occurrences}
@@ -23,9 +25,16 @@ use Rattle.wit_entries.specs.declared.types.Reading.TheVariants as reading
 abbrev pub IsResolved : List TypeDef → List TypeDef → Env → Stability → Shape → Ty → Type 0
 IsResolved old new env given x ty = (s : Address) → AreResolved old new s env (shape_occurrences s given x) (one (expr_of s x)) (ty ∷ [])
 
--- the same of types, one after another
+-- the same of the parts of a form, and of types, one after another
+abbrev pub AreParts : List TypeDef → List TypeDef → Env → Stability → Shapes → List Ty → Type 0
+AreParts old new env given xs tys = (s : Address) → AreResolved old new s env (shapes_occurrences s given xs) (exprs_of s xs) tys
+
 abbrev pub AreTypes : List TypeDef → List TypeDef → Env → Stability → List Written → List Ty → Type 0
-AreTypes old new env given ts tys = (s : Address) → AreResolved old new s env (shapes_occurrences s given (all_shapes ts)) (exprs_of s (all_shapes ts)) tys
+AreTypes old new env given ts tys = AreParts old new env given (all_shapes ts) tys
+
+-- the types of a result: that of its value, and that of its error
+abbrev pub result_parts : Result_ → List Ty
+result_parts r = option_to_list r.ok ++ option_to_list r.err
 
 -- a primitive or a name
 abbrev pub IsLeaf : Shape → Type 0
@@ -47,7 +56,7 @@ IsList t = ⊥
 abbrev pub IsForm : List TypeDef → List TypeDef → Env → Stability → Shape → TypeDefKind → Span → Type 0
 IsForm old new env given (Prim p) kind span = ⊥
 IsForm old new env given (Word id) kind span = ⊥
-IsForm old new env given (Of at form parts) kind span = (at ≡ span) × ((kind_of kind).form ≡ form) × IsAnonymousForm form × ((s : Address) → AreResolved old new s env (shapes_occurrences s given parts) (exprs_of s parts) (kind_of kind).parts)
+IsForm old new env given (Of at form parts) kind span = (at ≡ span) × ((kind_of kind).form ≡ form) × IsAnonymousForm form × AreParts old new env given parts (kind_of kind).parts
 
 -- a primitive or a name is a type by now, and a form is a kind
 abbrev pub IsRead : List TypeDef → List TypeDef → Env → Stability → Shape → Reading → Type 0

@@ -1,5 +1,5 @@
 //! Written types, as types of the arena.
-ghost use Rattle.std.specs.Prelude.{◌≡◌, ◌++◌, IfOk, IfErr, OnOk, is_some};
+ghost use Rattle.std.specs.Prelude.{◌≡◌, IfOk, IfErr, OnOk, is_some};
 ghost use Rattle.std.specs.Option.{option_to_list};
 ghost use Rattle.wit_type_tree.specs.RefusalText.{IsAllocationFailure};
 ghost use Rattle.wit_type_tree.specs.TypeParts.{ok_type, err_type, result_types, boxed_types};
@@ -8,7 +8,7 @@ ghost use Rattle.wit_syntax.specs.Shape.{shape_of, handles, all_handles};
 ghost use Rattle.wit_first.specs.First.{Finds};
 ghost use Rattle.wit_arena.specs.Resolving.{env_of};
 ghost use Rattle.wit_entries.specs.EntryFaults.{either_fault, types_fault, written_fault};
-ghost use Rattle.wit_entries.specs.ResolvedForms.{IsResolved, AreTypes, IsLeaf, IsList, IsRead, Denotes, named_kind as the_named_kind};
+ghost use Rattle.wit_entries.specs.ResolvedForms.{IsResolved, AreTypes, IsLeaf, IsList, IsRead, Denotes, named_kind as the_named_kind, result_parts};
 ghost use Rattle.wit_entries.specs.Requiring.{IsExtended, Requires};
 
 use crate::entries::Entries;
@@ -172,7 +172,7 @@ fn resolve_result(
 ) -> ParseResult<Result_>
     ensures ok { IfOk result (λ r. is_some r.ok ≡ is_some (ok_type parts.now)) }
     ensures err { IfOk result (λ r. is_some r.err ≡ is_some (err_type parts.now)) }
-    ensures resolved { IfOk result (λ r. AreTypes types.old types.new (env_of names.now) given.now (result_types parts.now) (option_to_list r.ok ++ option_to_list r.err)) }
+    ensures resolved { IfOk result (λ r. AreTypes types.old types.new (env_of names.now) given.now (result_types parts.now) (result_parts r)) }
     ensures handled { OnOk result (Requires (env_of names.now) types.new (all_handles (result_types parts.now)) required.old.items required.new.items) }
     ensures extended { IsExtended types.old types.new }
     ensures first { Finds (either_fault (env_of names.now) types.new parts.now) result }
