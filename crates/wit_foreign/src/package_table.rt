@@ -1,11 +1,9 @@
 //! The table of other packages' items.
-ghost use Rattle.std.specs.Prelude.{◌≡◌, ◌++◌, ◌∷◌, [], IfOk, OnOk, List, length, map, cond, nat_lt, if◌then◌else◌};
-ghost use Rattle.wit_tree.specs.declared.tree.PackageFile.{PackageFile};
+ghost use Rattle.std.specs.Prelude.{◌≡◌, ◌++◌, ◌∷◌, [], IfOk, OnOk, List, length, cond, nat_lt, if◌then◌else◌};
 ghost use Rattle.wit_model.specs.declared.ast_item.AstItem.TheVariants as entry;
-ghost use Rattle.wit_syntax.specs.Foreign.{ForeignVisit as Visit, foreign_visits, foreign_packages};
-ghost use Rattle.wit_arena.specs.Whole.{dep};
+ghost use Rattle.wit_syntax.specs.Foreign.{ForeignVisit as Visit};
 ghost use Rattle.wit_files.specs.ForeignPaths.{foreign_view};
-ghost use Rattle.wit_foreign.specs.Growing.{AreDeps};
+ghost use Rattle.wit_foreign.specs.Growing.{AreDepSpansOf, AreDeps, AreDepsOf};
 
 use crate::packages::{Packages, add_visit_in};
 use std::alloc::{AllocError, Global};
@@ -109,8 +107,8 @@ pub fn foreign_deps(
     alloc: Global,
     visits: &[ForeignVisit<'_, '_>],
 ) -> Result<(Packages, Row<Span>), AllocError>
-    ensures deps { IfOk result (λ found. (files : List PackageFile) → map foreign_view visits.now ≡ foreign_visits files → found.0 ≡ map (dep files) (foreign_packages files)) }
-    ensures spans { IfOk result (λ found. (files : List PackageFile) → map foreign_view visits.now ≡ foreign_visits files → found.1 ≡ map (λ v. v.of.span) (foreign_packages files)) }
+    ensures deps { IfOk result (λ found. AreDepsOf visits.now found.0) }
+    ensures spans { IfOk result (λ found. AreDepSpansOf visits.now found.1) }
 {
     let mut deps = Deps::new(alloc);
     for visit in visits {
