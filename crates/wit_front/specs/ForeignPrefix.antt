@@ -1,9 +1,11 @@
 -- What comes before the arenas, while it is made.
-use Rattle.std.specs.Prelude.{◌≡◌, ℕ, suc, List, [], ◌∷◌, ◌++◌, not, None, All, Vec, map, if◌then◌else◌}
+use Rattle.std.specs.Prelude.{◌≡◌, ℕ, suc, List, [], ◌∷◌, ◌++◌, not, None, All, Some, Vec, map, slice_get, if◌then◌else◌}
 use Rattle.std.specs.declared.alloc.Global.{Global}
 use Rattle.std.specs.List.{filter, flat_map}
 use Rattle.wit_values.specs.declared.span.Span.{Span}
+use Rattle.wit_type_tree.specs.declared.leaves.Attribute.{Attribute}
 use Rattle.wit_tree.specs.declared.tree.PackageFile.{PackageFile}
+use Rattle.wit_tree.specs.declared.tree.UseName.{UseName}
 use Rattle.wit_types.specs.declared.stability.Stability.TheVariants.{Unknown}
 use Rattle.wit_types.specs.declared.types.TypeDef.{TypeDef}
 use Rattle.wit_types.specs.declared.types.TypeDefKind.TheVariants as kind
@@ -117,6 +119,10 @@ inside_uses inside = flat_map names_foreign_uses (map (λ ns. map name_view ns.i
 -- these names are added to those that were used from some items, which are apart, where what is at hand is placed
 abbrev pub AddsUsed : (old : List TypeDef) (before : ForeignArenas) (new : List TypeDef) (after : ForeignArenas) → (List Address → Type 0) → List ForeignUse → Type 0
 AddsUsed old before new after Placed uses = (vs : List ForeignVisit) (ts : List ForeignUse) → AreApart vs → Placed (addresses_among vs) → AreAdded vs ts old before → AreAdded vs (ts ++ uses) new after
+
+-- a type is used from the interface at a place, by a `use` with these attributes
+abbrev pub AddsUsedAt : (old : List TypeDef) (before : ForeignArenas) (new : List TypeDef) (after : ForeignArenas) → ℕ → List Attribute → UseName → Type 0
+AddsUsedAt old before new after place attributes n = (s : Address) → AddsUsed old before new after (λ p. slice_get p place ≡ Some s) (use_of_foreign s attributes n ∷ [])
 
 -- what files name of other packages comes before the arenas
 pub record IsPrefix (files : List PackageFile) (types : List TypeDef) (a : ForeignArenas) : Type 0 where

@@ -1,16 +1,14 @@
 //! What other packages' items put before the arenas.
-ghost use Rattle.std.specs.Prelude.{◌≡◌, ◌++◌, ◌∷◌, ◌<◌, List, [], Some, true, false, length, map, nat_eq, slice_get, IfOk, IfErr, OnOk};
+ghost use Rattle.std.specs.Prelude.{◌≡◌, ◌++◌, ◌∷◌, ◌<◌, List, [], true, false, length, map, nat_eq, IfOk, IfErr, OnOk};
 ghost use Rattle.std.specs.Cmp.Lexicographic.{pointwise};
 ghost use Rattle.indexmap.specs.IndexMap.{insert_entry};
 ghost use Rattle.wit_type_tree.specs.RefusalText.{IsAllocationFailure};
-ghost use Rattle.wit_syntax.specs.Address.{Address};
-ghost use Rattle.wit_syntax.specs.Source.{use_of_foreign};
 ghost use Rattle.wit_syntax.specs.Foreign.{ForeignVisit as TheVisit};
 ghost use Rattle.wit_files.specs.ForeignPaths.{foreign_view};
 ghost use Rattle.wit_scopes.specs.BorrowedNames.{name_view};
 ghost use Rattle.wit_scopes.specs.PlacedNames.{IsNamePlaced, AreNamesPlaced};
 ghost use Rattle.wit_items.specs.PlacedItems.{AreItemsPlaced};
-ghost use Rattle.wit_front.specs.ForeignPrefix.{AddsPrefix, AreEntriesOf, AddsUsed, ArePlacedInside, inside_uses, interface_with, with_types, bare_world, AreAdded, HasUsed, name_foreign_uses, names_foreign_uses, borrowed_foreign_uses};
+ghost use Rattle.wit_front.specs.ForeignPrefix.{AddsPrefix, AreEntriesOf, AddsUsed, AddsUsedAt, ArePlacedInside, inside_uses, interface_with, with_types, bare_world, AreAdded, HasUsed, name_foreign_uses, names_foreign_uses, borrowed_foreign_uses};
 
 use std::alloc::{AllocError, Global};
 use wit_entries::entries::Entries;
@@ -167,7 +165,7 @@ impl ForeignArenas {
         name: &UseName<'_>,
     ) -> ParseResult<()>
         requires within { place < length self.old.interfaces }
-        ensures in_use { OnOk result ((s : Address) → AddsUsed types.old self.old types.new self.new (λ p. slice_get p place ≡ Some s) (use_of_foreign s attributes.now name.now ∷ [])) }
+        ensures in_use { OnOk result (AddsUsedAt types.old self.old types.new self.new place attributes.now name.now) }
         ensures refused { IfErr result IsAllocationFailure }
     {
         let used = name.name;
