@@ -1,5 +1,5 @@
 -- What a writer holds after a text was written.
-use Rattle.std.specs.Prelude.{◌≡◌, ℕ, ◌<◌, List, Option, Result, Ok, Err, codes, length, take}
+use Rattle.std.specs.Prelude.{◌≡◌, ℕ, ◌<◌, List, MatchResult, Option, Result, Ok, Err, codes, length, take}
 use Rattle.std.specs.Io.KnownBytes.{Appends, Keeps}
 use Rattle.std.specs.declared.io.ErrorKind.{ErrorKind}
 use Rattle.std.specs.declared.io.ErrorKind.TheVariants as kind
@@ -35,3 +35,7 @@ IsWrittenAs as_stated IsText old new (Err Memory) = Keeps old new
 -- the fault after a failed write
 abbrev pub IsFailedWrite : Option (List ℕ) → Option (List ℕ) → List ℕ → RunFault → Type 0
 IsFailedWrite old new text fault = (fault ≡ Output) × IsCutShort old new text
+
+-- a text went out; after a failed write a beginning of it and not the whole
+abbrev pub Puts : Option (List ℕ) → Option (List ℕ) → List ℕ → Result (Unit {0}) RunFault → Type 0
+Puts old new text r = MatchResult r (λ _. Appends old new text) (IsFailedWrite old new text)

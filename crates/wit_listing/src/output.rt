@@ -1,14 +1,12 @@
 //! Writing a text out.
-ghost use Rattle.std.specs.Prelude.{◌<◌, MatchResult};
-ghost use Rattle.std.specs.Io.KnownBytes.{Appends};
-ghost use Rattle.wit_listing.specs.Output.{IsFailedWrite};
+ghost use Rattle.wit_listing.specs.Output.{Puts};
 
 use crate::fault::RunFault;
 use std::io::Write;
 
 /// Writes a text; where a write fails or takes no byte, a beginning of it and not the whole.
 pub fn put<W: Write>(out: &mut W, text: &[u8]) -> Result<(), RunFault>
-    ensures { MatchResult result (λ _. Appends (W.contents out.old) (W.contents out.new) text.now) (IsFailedWrite (W.contents out.old) (W.contents out.new) text.now) }
+    ensures { Puts (W.contents out.old) (W.contents out.new) text.now result }
 {
     let len = text.len();
     let mut at = 0;
