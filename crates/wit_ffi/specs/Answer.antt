@@ -31,3 +31,7 @@ pub data IsPartsAnswer (bytes lens : List ℕ) (status : ℕ) (json : List ℕ) 
   Parts : (parts : List (List ℕ × List ℕ)) → AreParts bytes lens parts → IsAnswer parts status json → IsPartsAnswer bytes lens status json
   NoParts : ((parts : List (List ℕ × List ℕ)) → AreParts bytes lens parts → ⊥) → status ≡ 2 → json ≡ [] → IsPartsAnswer bytes lens status json
   NoMemoryForParts : status ≡ 3 → json ≡ [] → IsPartsAnswer bytes lens status json
+
+-- the answer to each bytes and lengths that are so
+abbrev pub AnswersEach : (List ℕ → List ℕ → Type 0) → ℕ → List ℕ → Type 0
+AnswersEach Are status json = (bytes lens : List ℕ) → Are bytes lens → IsPartsAnswer bytes lens status json

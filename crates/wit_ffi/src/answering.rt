@@ -3,7 +3,7 @@ ghost use Rattle.std.specs.Prelude.{◌≡◌, ℕ, List, [], map};
 ghost use Rattle.wit_bundle.specs.Apart.{AreFound, ArePieces, pairs_of};
 ghost use Rattle.wit_bundle.specs.Bundle.{sources_of};
 ghost use Rattle.wit_outcome.specs.Outcome.{IsOutcome};
-ghost use Rattle.wit_ffi.specs.Answer.{IsAnswer, IsPartsAnswer, IsTextAnswer, outcome_status};
+ghost use Rattle.wit_ffi.specs.Answer.{AnswersEach, IsAnswer, IsPartsAnswer, IsTextAnswer, outcome_status};
 
 use crate::status::{MADE, NO_MEMORY, NO_TEXT, REFUSED};
 use std::alloc::Global;
@@ -84,7 +84,7 @@ fn answer_pieces(alloc: Global, pieces: &[&str]) -> Answer
 
 /// The answer to pieces that bytes are.
 fn answer_even(alloc: Global, pieces: &[&str]) -> Answer
-    ensures { (bytes lens : List ℕ) → ArePieces bytes lens (map (λ p. p.now) pieces.now) → IsPartsAnswer bytes lens result.status result.json.items }
+    ensures { AnswersEach (λ bytes lens. ArePieces bytes lens (map (λ p. p.now) pieces.now)) result.status result.json.items }
 {
     if pieces.len() % 2 == 0 {
         answer_pieces(alloc, pieces)
@@ -95,7 +95,7 @@ fn answer_even(alloc: Global, pieces: &[&str]) -> Answer
 
 /// The answer to the pieces, if the bytes can be split so.
 fn answer_found(alloc: Global, found: Option<Vec<&str>>) -> Answer
-    ensures { (bytes lens : List ℕ) → AreFound found.entry (λ pieces. map (λ p. p.now) pieces.items) bytes lens → IsPartsAnswer bytes lens result.status result.json.items }
+    ensures { AnswersEach (AreFound found.entry (λ pieces. map (λ p. p.now) pieces.items)) result.status result.json.items }
 {
     match found {
         Some(pieces) => answer_even(alloc, pieces.as_slice()),
