@@ -13,6 +13,7 @@ use Rattle.wit_model.specs.declared.world.WorldKey.TheVariants as key
 use Rattle.wit_model.specs.declared.world.WorldItem.{WorldItem}
 use Rattle.wit_model.specs.declared.world.WorldItem.TheVariants as item
 use Rattle.wit_json.specs.declared.member_words.Word.TheVariants as w
+use Rattle.wit_json.specs.declared.worlds.Import.{Import}
 use Rattle.wit_json.specs.Values.{at, fields, list, number_json, optional_number, tagged}
 use Rattle.wit_json.specs.Metadata.{docs_members, external_members, metadata_members, span_json, stability_members}
 use Rattle.wit_json.specs.Functions.{function_json}
@@ -23,6 +24,10 @@ import_members id stability external docs span = at w.Id (number_json id) ∷ (s
 
 abbrev pub import_json : ℕ → Stability → Option (List ℕ) → Docs → Span → Json
 import_json id stability external docs span = fields (import_members id stability external docs.contents span)
+
+-- so of what is borrowed
+abbrev pub borrowed_members : Import → List (List ℕ × Json)
+borrowed_members i = import_members i.id i.stability.now i.external_id.now i.docs.now.contents i.span
 
 -- a type that a world uses or defines: its id, and the span of its name there
 abbrev pub type_members : ℕ → Span → List (List ℕ × Json)

@@ -3,7 +3,7 @@ ghost use Rattle.std.specs.Prelude.{◌≡◌, ◌++◌, ◌∷◌, [], IfOk, On
 ghost use Rattle.json.specs.Token as token;
 ghost use Rattle.wit_json.specs.ValueTokens.{Adds, AddsMembers};
 ghost use Rattle.wit_json.specs.Values.{fields};
-ghost use Rattle.wit_json.specs.Worlds.{extern_member, extern_members, externs_json, import_json, import_members, include_json, include_members, interface_key, item_json, rename_json, rename_members, type_members, world_back, world_prefix, world_json, world_key, world_members};
+ghost use Rattle.wit_json.specs.Worlds.{borrowed_members, extern_member, extern_members, externs_json, include_json, include_members, interface_key, item_json, rename_json, rename_members, type_members, world_back, world_prefix, world_json, world_key, world_members};
 
 use crate::lists::{AsJson, write_list};
 use crate::member_words::Word;
@@ -16,36 +16,32 @@ use wit_model::{IncludeName, World, WorldInclude, WorldItem, WorldKey};
 use wit_types::{Docs, InterfaceId, Stability, TypeId};
 use wit_values::{Rare, Span, Text};
 
-fn push_import(
-    out: &mut Output,
+/// An interface that a world imports or exports.
+#[derive(Clone, Copy)]
+struct Import<'a> {
     id: InterfaceId,
-    stability: &Stability,
-    external_id: &Rare<Text>,
-    docs: &Docs,
+    stability: &'a Stability,
+    external_id: &'a Rare<Text>,
+    docs: &'a Docs,
     span: Span,
-) -> Result<(), AllocError>
-    ensures { OnOk result (AddsMembers out.old out.new (import_members id stability.now external_id.now docs.now.contents span)) }
+}
+
+fn push_import(out: &mut Output, import: Import<'_>) -> Result<(), AllocError>
+    ensures { OnOk result (AddsMembers out.old out.new (borrowed_members import.entry)) }
 {
-    push_number(out, Word::Id, id.index())?;
-    push_stability(out, stability)?;
-    push_external(out, external_id)?;
-    push_docs(out, docs)?;
-    push_span(out, Word::Span, span)
+    push_number(out, Word::Id, import.id.index())?;
+    push_stability(out, import.stability)?;
+    push_external(out, import.external_id)?;
+    push_docs(out, import.docs)?;
+    push_span(out, Word::Span, import.span)
 }
 
 #[tactic(auto, using(crate::proofs::Closing::fields_closed))]
-fn write_import(
-    out: &mut Output,
-    id: InterfaceId,
-    stability: &Stability,
-    external_id: &Rare<Text>,
-    docs: &Docs,
-    span: Span,
-) -> Result<(), AllocError>
-    ensures { OnOk result (Adds out.old out.new (import_json id stability.now external_id.now docs.now span)) }
+fn write_import(out: &mut Output, import: Import<'_>) -> Result<(), AllocError>
+    ensures { OnOk result (Adds out.old out.new (fields (borrowed_members import.entry))) }
 {
     out.begin_object()?;
-    push_import(out, id, stability, external_id, docs, span)?;
+    push_import(out, import)?;
     out.end_object()
 }
 
@@ -79,7 +75,14 @@ impl AsJson for WorldItem {
                 span,
             } => {
                 open(out, Word::Interface)?;
-                write_import(out, *id, stability, external_id, docs, *span)?;
+                let import = Import {
+                    id: *id,
+                    stability,
+                    external_id,
+                    docs,
+                    span: *span,
+                };
+                write_import(out, import)?;
                 out.end_object()
             }
             WorldItem::Function(function) => {
