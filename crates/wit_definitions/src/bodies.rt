@@ -2,15 +2,16 @@
 ghost use Rattle.std.specs.Prelude.{◌≡◌, [], codes, is_some, map, IfOk, OnOk};
 ghost use Rattle.std.specs.Option.{option_to_list};
 ghost use Rattle.wit_type_tree.specs.TypeParts.{field_types, case_types, body_types};
-ghost use Rattle.wit_syntax.specs.Form.{RecordForm, FlagsForm, VariantForm, EnumForm};
+ghost use Rattle.wit_syntax.specs.Form.{FlagsForm, EnumForm};
 ghost use Rattle.wit_arena.specs.Kind.{kind_of, field_member, flag_member, case_member, enum_case_member, payloads};
 ghost use Rattle.wit_syntax.specs.Shape.{member, written_body, body_of, handles, all_handles};
 ghost use Rattle.wit_first.specs.First.{Finds};
 ghost use Rattle.wit_first.specs.ListFaults.{flags_fault, members_fault};
 ghost use Rattle.wit_arena.specs.Resolving.{env_of};
 ghost use Rattle.wit_entries.specs.EntryFaults.{body_fault, types_fault, written_fault};
-ghost use Rattle.wit_entries.specs.ResolvedForms.{AreParts, AreTypes, IsOwn};
+ghost use Rattle.wit_entries.specs.ResolvedForms.{AreTypes, IsKindOf, IsOwn};
 ghost use Rattle.wit_entries.specs.Requiring.{IsExtended, Requires};
+ghost use Rattle.wit_definitions.specs.Bodies.{record_body, variant_body};
 
 use std::alloc::{AllocError, Global};
 use wit_entries::entries::Entries;
@@ -72,8 +73,7 @@ fn resolve_record(
     given: &Stability,
     fields: &[tree::Field<'_>],
 ) -> ParseResult<TypeDefKind>
-    ensures types { IfOk result (λ r. AreTypes types.old types.new (env_of names.now) given.now (field_types fields.now) (kind_of r).parts) }
-    ensures form { IfOk result (λ r. (kind_of r).form ≡ RecordForm (map (λ x. member x.docs x.name) fields.now)) }
+    ensures kind { IfOk result (IsKindOf types.old types.new (env_of names.now) given.now (record_body fields.now)) }
     ensures handled { OnOk result (Requires (env_of names.now) types.new (all_handles (field_types fields.now)) required.old.items required.new.items) }
     ensures extended { IsExtended types.old types.new }
     ensures first { Finds (types_fault (env_of names.now) types.new (field_types fields.now)) result }
@@ -184,8 +184,7 @@ fn resolve_variant(
     given: &Stability,
     cases: &[tree::Case<'_>],
 ) -> ParseResult<TypeDefKind>
-    ensures types { IfOk result (λ r. AreTypes types.old types.new (env_of names.now) given.now (case_types cases.now) (kind_of r).parts) }
-    ensures form { IfOk result (λ r. (kind_of r).form ≡ VariantForm (map (λ c. (member c.docs c.name, is_some c.ty)) cases.now)) }
+    ensures kind { IfOk result (IsKindOf types.old types.new (env_of names.now) given.now (variant_body cases.now)) }
     ensures handled { OnOk result (Requires (env_of names.now) types.new (all_handles (case_types cases.now)) required.old.items required.new.items) }
     ensures extended { IsExtended types.old types.new }
     ensures first { Finds (types_fault (env_of names.now) types.new (case_types cases.now)) result }
@@ -241,8 +240,7 @@ fn resolve_word(
     ty: &tree::Type<'_>,
 ) -> ParseResult<TypeDefKind>
     requires { IsOwn ty.now → ⊥ }
-    ensures parts { IfOk result (λ r. AreParts types.old types.new (env_of names.now) given.now (written_body ty.now).parts (kind_of r).parts) }
-    ensures form { IfOk result (λ r. (kind_of r).form ≡ (written_body ty.now).form) }
+    ensures kind { IfOk result (IsKindOf types.old types.new (env_of names.now) given.now (written_body ty.now)) }
     ensures handled { OnOk result (Requires (env_of names.now) types.new (handles ty.now) required.old.items required.new.items) }
     ensures extended { IsExtended types.old types.new }
     ensures first { Finds (written_fault (env_of names.now) types.new ty.now) result }
@@ -260,8 +258,7 @@ fn resolve_plain(
     given: &Stability,
     ty: &tree::Type<'_>,
 ) -> ParseResult<TypeDefKind>
-    ensures parts { IfOk result (λ r. AreParts types.old types.new (env_of names.now) given.now (written_body ty.now).parts (kind_of r).parts) }
-    ensures form { IfOk result (λ r. (kind_of r).form ≡ (written_body ty.now).form) }
+    ensures kind { IfOk result (IsKindOf types.old types.new (env_of names.now) given.now (written_body ty.now)) }
     ensures handled { OnOk result (Requires (env_of names.now) types.new (handles ty.now) required.old.items required.new.items) }
     ensures extended { IsExtended types.old types.new }
     ensures first { Finds (written_fault (env_of names.now) types.new ty.now) result }
@@ -284,8 +281,7 @@ pub fn resolve_body(
     given: &Stability,
     body: &tree::TypeBody<'_>,
 ) -> ParseResult<TypeDefKind>
-    ensures parts { IfOk result (λ r. AreParts types.old types.new (env_of names.now) given.now (body_of body.now).parts (kind_of r).parts) }
-    ensures form { IfOk result (λ r. (kind_of r).form ≡ (body_of body.now).form) }
+    ensures kind { IfOk result (IsKindOf types.old types.new (env_of names.now) given.now (body_of body.now)) }
     ensures handled { OnOk result (Requires (env_of names.now) types.new (all_handles (body_types body.now)) required.old.items required.new.items) }
     ensures extended { IsExtended types.old types.new }
     ensures first { Finds (body_fault (env_of names.now) types.new body.now) result }

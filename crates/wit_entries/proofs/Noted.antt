@@ -3,9 +3,10 @@ use Rattle.std.proofs.Common.{◌≡◌, List, [], ◌∷◌, ap, ◌∙◌, sub
 use Rattle.wit_syntax.proofs.Common.{Address, AreMetadata, Attribute, Defined, Metadata, SourceFunction, Stability, TypeDef, TypeDefKind, TypeOwner, about_name, body_of, docs_of, metadata}
 use Rattle.wit_type_tree.specs.declared.leaves.Docs.{Docs}
 use Rattle.wit_type_tree.specs.declared.types.TypeDef.{TypeDef as Definition}
-use Rattle.wit_arena.proofs.Common.{AreResolved, Defines, IsAdded, Names, ResolvedScope, defines_one, env_of, exprs_of, kind_of, shapes_occurrences}
+use Rattle.wit_arena.proofs.Common.{Defines, IsAdded, Names, ResolvedScope, defines_one, env_of, kind_of}
 use Rattle.wit_notes.specs.BorrowedMetadata.{metadata_view}
 use Rattle.wit_notes.specs.declared.metadata.Metadata.{Metadata as Made}
+use Rattle.wit_entries.specs.ResolvedForms.{AreParts, IsKindOf}
 
 -- what docs and attributes say is stated of what has them
 stated_of : (n : Made) (docs own : Docs) (attributes of : List Attribute) → metadata_view n ≡ metadata (docs_of docs) attributes → docs ≡ own → attributes ≡ of → metadata_view n ≡ metadata (docs_of own) of
@@ -22,11 +23,11 @@ noted_as fn n docs attributes as_stated same_docs same_attributes =
     }
 
 -- a definition occurs with its metadata, and what is in its body with its stability
-pub defines_noted : (old mid new : List TypeDef) (cs : List ResolvedScope) (o : TypeOwner) (s : Address) (names names' : Names) (d : Definition) (kind : TypeDefKind) (n : Made) (attributes : List Attribute) → metadata_view n ≡ metadata (docs_of d.docs) attributes → attributes ≡ d.attributes.items → AreResolved old mid s (env_of names) (shapes_occurrences s n.stability (body_of d.body).parts) (exprs_of s (body_of d.body).parts) (kind_of kind).parts → (kind_of kind).form ≡ (body_of d.body).form → IsAdded mid new o names names' d.name.name.now (metadata_view n) d.name.span kind → Defines old new cs o s names names' (Defined d ∷ [])
-defines_noted old mid new cs o s names names' d kind n attributes as_stated same parts form added =
+pub defines_noted : (old mid new : List TypeDef) (cs : List ResolvedScope) (o : TypeOwner) (s : Address) (names names' : Names) (d : Definition) (kind : TypeDefKind) (n : Made) (attributes : List Attribute) → metadata_view n ≡ metadata (docs_of d.docs) attributes → attributes ≡ d.attributes.items → IsKindOf old mid (env_of names) n.stability (body_of d.body) kind → IsAdded mid new o names names' d.name.name.now (metadata_view n) d.name.span kind → Defines old new cs o s names names' (Defined d ∷ [])
+defines_noted old mid new cs o s names names' d kind n attributes as_stated same is added =
     let all : metadata_view n ≡ (about_name (Defined d)).metadata = as_stated ∙ ap (metadata (docs_of d.docs)) same in
     let body = body_of d.body in
     defines_one old mid new cs o s names names' d kind
-    (subst (λ (given : Stability). AreResolved old mid s (env_of names) (shapes_occurrences s given body.parts) (exprs_of s body.parts) (kind_of kind).parts) (ap (λ (m : Metadata). m.stability) all) parts)
-    form
+    (subst (λ (given : Stability). AreParts old mid (env_of names) given body.parts (kind_of kind).parts) (ap (λ (m : Metadata). m.stability) all) is.parts s)
+    is.form
     (subst (λ (m : Metadata). IsAdded mid new o names names' d.name.name.now m d.name.span kind) all added)

@@ -1,18 +1,18 @@
 -- Written types whose parts are resolved: as they are in a type, and under a name.
-use Rattle.std.proofs.Common.{◌≡◌, ℕ, List, [], ◌∷◌, ◌++◌, Some, refl, sym, ap, ◌∙◌, subst}
-use Rattle.wit_syntax.proofs.Common.{Address, AliasForm, Id as Name, Of, Prim, Shape, Span, Stability, TypeDef, TypeDefKind, Word, append-nil, head, one, shape_of, written_body}
+use Rattle.std.proofs.Common.{◌≡◌, ℕ, List, [], ◌∷◌, ◌++◌, Some, refl, sym, subst}
+use Rattle.wit_syntax.proofs.Common.{AliasForm, Id as Name, Of, Prim, Shape, Span, Stability, TypeDef, TypeDefKind, Word, append-nil, head, one, shape_of, written_body}
 use Rattle.wit_types.specs.declared.types.«Type».{«Type» as Ty}
 use Rattle.wit_types.specs.declared.types.«Type».TheVariants.{Id}
 use Rattle.wit_type_tree.specs.declared.types.«Type».{«Type» as Written}
 use Rattle.wit_type_tree.specs.declared.types.«Type».TheVariants as written
-use Rattle.wit_arena.proofs.Common.{AreResolved, Env, IsAnonymousForm, IsInterned, all_exprs-append, all_occurrences-append, expr_of, exprs_of, kind_of, shape_occurrences, shapes_occurrences}
+use Rattle.wit_arena.proofs.Common.{AreResolved, Env, IsAnonymousForm, IsInterned, all_exprs-append, all_occurrences-append, expr_of, shape_occurrences}
 use Rattle.wit_syntax.specs.Shape.{Body}
 use Rattle.wit_arena.specs.Expr as exprs
 use Rattle.wit_arena.proofs.UnnamedKinds.{only_anonymous}
 use Rattle.wit_arena.proofs.Resolving.{resolved_more, resolved_whole}
 use Rattle.wit_entries.specs.declared.types.Reading.{Reading}
 use Rattle.wit_entries.specs.declared.types.Reading.TheVariants as reading
-use Rattle.wit_entries.specs.ResolvedForms.{IsResolved, AreTypes, IsLeaf, IsOwn, IsForm, IsRead, Denotes, named_kind}
+use Rattle.wit_entries.specs.ResolvedForms.{IsResolved, AreParts, AreTypes, IsKindOf, IsLeaf, IsOwn, IsForm, IsRead, Denotes, named_kind}
 
 -- the type of a name
 pub resolved_word : (es : List TypeDef) (env : Env) (given : Stability) (id : Name) (i : ℕ) → env id.name.now ≡ Some i → IsResolved es es env given (Word id) (Id i)
@@ -31,7 +31,7 @@ read_present old mid new env given x (reading.Leaf t) ty read present = rw (pres
 read_present old mid new env given x (reading.Form k span) ty read present = rw present.1 (whole_present old mid new env given x k span present.0 read present.2)
 
 -- a type by itself as one part
-pub alone : {old new : List TypeDef} {env : Env} {ty : Ty} (given : Stability) (x : Shape) → IsResolved old new env given x ty → (s : Address) → AreResolved old new s env (shapes_occurrences s given (one x)) (exprs_of s (one x)) (ty ∷ [])
+pub alone : {old new : List TypeDef} {env : Env} {ty : Ty} (given : Stability) (x : Shape) → IsResolved old new env given x ty → AreParts old new env given (one x) (ty ∷ [])
 alone {old} {new} {env} {ty} given x is s = subst (λ ms. AreResolved old new s env ms (exprs.one (expr_of s x)) (ty ∷ [])) (sym (append-nil (shape_occurrences s given x))) (is s)
 
 pub types_one : {old new : List TypeDef} {env : Env} {ty : Ty} (given : Stability) (t : Written) → IsResolved old new env given (shape_of t) ty → AreTypes old new env given (t ∷ []) (ty ∷ [])
@@ -45,27 +45,17 @@ leaf_head (Prim p) leaf = refl
 leaf_head (Word id) leaf = refl
 leaf_head (Of span form parts) leaf = absurd leaf
 
--- under a name it has the form of the head
-pub read_form : (old new : List TypeDef) (env : Env) (given : Stability) (x : Shape) (r : Reading) → IsRead old new env given x r → (kind_of (named_kind r)).form ≡ (head x).form
-read_form old new env given x (reading.Leaf t) read = ap (λ (b : Body). b.form) (sym (leaf_head x read.0))
-read_form old new env given (Prim p) (reading.Form k span) read = absurd read
-read_form old new env given (Word id) (reading.Form k span) read = absurd read
-read_form old new env given (Of at form parts) (reading.Form k span) read = read.1
-
--- and its parts are those of the head
-pub read_parts : (old new : List TypeDef) (env : Env) (given : Stability) (x : Shape) (r : Reading) → IsRead old new env given x r → (s : Address) → AreResolved old new s env (shapes_occurrences s given (head x).parts) (exprs_of s (head x).parts) (kind_of (named_kind r)).parts
-read_parts old new env given x (reading.Leaf t) read s = rw (leaf_head x read.0) (alone given x read.1 s)
-read_parts old new env given (Prim p) (reading.Form k span) read s = absurd read
-read_parts old new env given (Word id) (reading.Form k span) read s = absurd read
-read_parts old new env given (Of at form parts) (reading.Form k span) read s = read.3 s
+-- under a name it is the kind of the head
+pub read_kind : (old new : List TypeDef) (env : Env) (given : Stability) (x : Shape) (r : Reading) → IsRead old new env given x r → IsKindOf old new env given (head x) (named_kind r)
+read_kind old new env given x (reading.Leaf t) read = rw (leaf_head x read.0) (record { form = refl; parts = alone given x read.1 })
+read_kind old new env given (Prim p) (reading.Form k span) read = absurd read
+read_kind old new env given (Word id) (reading.Form k span) read = absurd read
+read_kind old new env given (Of at form parts) (reading.Form k span) read = record { form = read.1; parts = read.3 }
 
 -- every other type than one that is handed over is under a name as it does by itself
 plain_body : (t : Written) → (IsOwn t → ⊥) → written_body t ≡ head (shape_of t)
 plain_body (written.Own span id) other = absurd (other tt)
 plain_body t other = refl
 
-pub plain_form : (old new : List TypeDef) (env : Env) (given : Stability) (t : Written) (r : Reading) → (IsOwn t → ⊥) → IsRead old new env given (shape_of t) r → (kind_of (named_kind r)).form ≡ (written_body t).form
-plain_form old new env given t r other read = read_form old new env given (shape_of t) r read ∙ ap (λ (b : Body). b.form) (sym (plain_body t other))
-
-pub plain_parts : (old new : List TypeDef) (env : Env) (given : Stability) (t : Written) (r : Reading) → (IsOwn t → ⊥) → IsRead old new env given (shape_of t) r → (s : Address) → AreResolved old new s env (shapes_occurrences s given (written_body t).parts) (exprs_of s (written_body t).parts) (kind_of (named_kind r)).parts
-plain_parts old new env given t r other read s = subst (λ (b : Body). AreResolved old new s env (shapes_occurrences s given b.parts) (exprs_of s b.parts) (kind_of (named_kind r)).parts) (sym (plain_body t other)) (read_parts old new env given (shape_of t) r read s)
+pub plain_kind : (old new : List TypeDef) (env : Env) (given : Stability) (t : Written) (r : Reading) → (IsOwn t → ⊥) → IsRead old new env given (shape_of t) r → IsKindOf old new env given (written_body t) (named_kind r)
+plain_kind old new env given t r other read = subst (λ (b : Body). IsKindOf old new env given b (named_kind r)) (sym (plain_body t other)) (read_kind old new env given (shape_of t) r read)

@@ -12,7 +12,7 @@ use Rattle.wit_types.specs.declared.types.TypeDef.{TypeDef}
 use Rattle.wit_types.specs.declared.types.TypeDefKind.{TypeDefKind}
 use Rattle.wit_types.specs.declared.types.TypeDefKind.TheVariants.{Type_}
 use Rattle.wit_arena.specs.Kind.{kind_of}
-use Rattle.wit_syntax.specs.Shape.{Shape, Shapes, Prim, Word, Of, all_shapes}
+use Rattle.wit_syntax.specs.Shape.{Body, Shape, Shapes, Prim, Word, Of, all_shapes}
 use Rattle.wit_syntax.specs.Address.{Address}
 use Rattle.wit_arena.specs.Expr.{one, expr_of, exprs_of}
 use Rattle.wit_arena.specs.Occurrences.{shape_occurrences, shapes_occurrences}
@@ -31,6 +31,11 @@ AreParts old new env given xs tys = (s : Address) → AreResolved old new s env 
 
 abbrev pub AreTypes : List TypeDef → List TypeDef → Env → Stability → List Written → List Ty → Type 0
 AreTypes old new env given ts tys = AreParts old new env given (all_shapes ts) tys
+
+-- a kind is the form of a body over its resolved parts
+pub record IsKindOf (old new : List TypeDef) (env : Env) (given : Stability) (body : Body) (kind : TypeDefKind) : Type 0 where
+  pub form : (kind_of kind).form ≡ body.form
+  pub parts : AreParts old new env given body.parts (kind_of kind).parts
 
 -- the types of a result: that of its value, and that of its error
 abbrev pub result_parts : Result_ → List Ty
