@@ -1,17 +1,17 @@
 //! Bodies of definitions, as kinds of entries.
-ghost use Rattle.std.specs.Prelude.{◌≡◌, [], codes, is_some, map, IfOk, OnOk};
+ghost use Rattle.std.specs.Prelude.{◌≡◌, [], codes, map, IfOk, OnOk};
 ghost use Rattle.std.specs.Option.{option_to_list};
 ghost use Rattle.wit_type_tree.specs.TypeParts.{field_types, case_types, body_types};
 ghost use Rattle.wit_syntax.specs.Form.{FlagsForm, EnumForm};
-ghost use Rattle.wit_arena.specs.Kind.{kind_of, field_member, flag_member, case_member, enum_case_member, payloads};
+ghost use Rattle.wit_arena.specs.Kind.{kind_of, field_member, flag_member, case_member, enum_case_member};
 ghost use Rattle.wit_syntax.specs.Shape.{member, written_body, body_of, handles, all_handles};
 ghost use Rattle.wit_first.specs.First.{Finds};
 ghost use Rattle.wit_first.specs.ListFaults.{flags_fault, members_fault};
 ghost use Rattle.wit_arena.specs.Resolving.{env_of};
 ghost use Rattle.wit_entries.specs.EntryFaults.{body_fault, types_fault, written_fault};
-ghost use Rattle.wit_entries.specs.ResolvedForms.{AreTypes, IsKindOf, IsOwn};
+ghost use Rattle.wit_entries.specs.ResolvedForms.{IsKindOf, IsOwn};
 ghost use Rattle.wit_entries.specs.Requiring.{IsExtended, Requires};
-ghost use Rattle.wit_definitions.specs.Bodies.{record_body, variant_body};
+ghost use Rattle.wit_definitions.specs.Bodies.{AreCasesOf, AreFieldsOf, IsCaseOf, record_body, variant_body};
 
 use std::alloc::{AllocError, Global};
 use wit_entries::entries::Entries;
@@ -50,8 +50,7 @@ fn resolve_fields(
     given: &Stability,
     fields: &[tree::Field<'_>],
 ) -> ParseResult<Row<Field>>
-    ensures types { IfOk result (λ r. AreTypes types.old types.new (env_of names.now) given.now (field_types fields.now) (map (λ f. f.ty) r)) }
-    ensures members { IfOk result (λ r. map field_member r ≡ map (λ x. member x.docs x.name) fields.now) }
+    ensures made { IfOk result (AreFieldsOf types.old types.new (env_of names.now) given.now fields.now) }
     ensures handled { OnOk result (Requires (env_of names.now) types.new (all_handles (field_types fields.now)) required.old.items required.new.items) }
     ensures extended { IsExtended types.old types.new }
     ensures first { Finds (types_fault (env_of names.now) types.new (field_types fields.now)) result }
@@ -137,8 +136,7 @@ fn resolve_case(
     given: &Stability,
     written: &tree::Case<'_>,
 ) -> ParseResult<Case>
-    ensures types { IfOk result (λ r. AreTypes types.old types.new (env_of names.now) given.now (option_to_list written.now.ty) (option_to_list r.ty)) }
-    ensures member { IfOk result (λ r. case_member r ≡ (member written.now.docs written.now.name, is_some written.now.ty)) }
+    ensures made { IfOk result (IsCaseOf types.old types.new (env_of names.now) given.now written.now) }
     ensures handled { OnOk result (Requires (env_of names.now) types.new (all_handles (option_to_list written.now.ty)) required.old.items required.new.items) }
     ensures extended { IsExtended types.old types.new }
     ensures first { Finds (types_fault (env_of names.now) types.new (option_to_list written.now.ty)) result }
@@ -161,8 +159,7 @@ fn resolve_cases(
     given: &Stability,
     cases: &[tree::Case<'_>],
 ) -> ParseResult<Row<Case>>
-    ensures types { IfOk result (λ r. AreTypes types.old types.new (env_of names.now) given.now (case_types cases.now) (payloads r)) }
-    ensures members { IfOk result (λ r. map case_member r ≡ map (λ c. (member c.docs c.name, is_some c.ty)) cases.now) }
+    ensures made { IfOk result (AreCasesOf types.old types.new (env_of names.now) given.now cases.now) }
     ensures handled { OnOk result (Requires (env_of names.now) types.new (all_handles (case_types cases.now)) required.old.items required.new.items) }
     ensures extended { IsExtended types.old types.new }
     ensures first { Finds (types_fault (env_of names.now) types.new (case_types cases.now)) result }

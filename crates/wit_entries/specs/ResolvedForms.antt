@@ -1,7 +1,10 @@
 -- What a written type is once its parts are resolved.
-use Rattle.std.specs.Prelude.{◌≡◌, ◌++◌, ℕ, List, [], ◌∷◌}
+use Rattle.std.specs.Prelude.{◌≡◌, ◌++◌, ℕ, Box, List, [], ◌∷◌, Option, is_some}
+use Rattle.std.specs.declared.alloc.Global.{Global}
 use Rattle.std.specs.Option.{option_to_list}
 use Rattle.wit_values.specs.declared.span.Span.{Span}
+use Rattle.wit_type_tree.specs.TypeParts.{boxed_types, err_type, ok_type, result_types}
+use Rattle.wit_type_tree.specs.declared.types.ResultTypes.{ResultTypes}
 use Rattle.wit_type_tree.specs.declared.types.«Type».{«Type» as Written}
 use Rattle.wit_type_tree.specs.declared.types.«Type».TheVariants as written
 use Rattle.wit_types.specs.declared.stability.Stability.{Stability}
@@ -37,9 +40,16 @@ pub record IsKindOf (old new : List TypeDef) (env : Env) (given : Stability) (bo
   pub form : (kind_of kind).form ≡ body.form
   pub parts : AreParts old new env given body.parts (kind_of kind).parts
 
--- the types of a result: that of its value, and that of its error
-abbrev pub result_parts : Result_ → List Ty
-result_parts r = option_to_list r.ok ++ option_to_list r.err
+-- a result is of the types of a written one
+pub record IsResultOf (old new : List TypeDef) (env : Env) (given : Stability) (of : ResultTypes) (r : Result_) : Type 0 where
+  pub ok : is_some r.ok ≡ is_some (ok_type of)
+  pub err : is_some r.err ≡ is_some (err_type of)
+  pub types : AreTypes old new env given (result_types of) (option_to_list r.ok ++ option_to_list r.err)
+
+-- there is a type where one is written, and it is that
+pub record IsOptionalOf (old new : List TypeDef) (env : Env) (given : Stability) (t : Option (Box Written Global)) (o : Option Ty) : Type 0 where
+  pub there : is_some o ≡ is_some t
+  pub types : AreTypes old new env given (boxed_types t) (option_to_list o)
 
 -- a primitive or a name
 abbrev pub IsLeaf : Shape → Type 0

@@ -1,14 +1,13 @@
 //! Written types, as types of the arena.
-ghost use Rattle.std.specs.Prelude.{◌≡◌, IfOk, IfErr, OnOk, is_some};
-ghost use Rattle.std.specs.Option.{option_to_list};
+ghost use Rattle.std.specs.Prelude.{◌≡◌, IfOk, IfErr, OnOk};
 ghost use Rattle.wit_type_tree.specs.RefusalText.{IsAllocationFailure};
-ghost use Rattle.wit_type_tree.specs.TypeParts.{ok_type, err_type, result_types, boxed_types};
+ghost use Rattle.wit_type_tree.specs.TypeParts.{result_types, boxed_types};
 ghost use Rattle.wit_syntax.specs.Node.{primitive_type as the_primitive_type};
 ghost use Rattle.wit_syntax.specs.Shape.{shape_of, handles, all_handles};
 ghost use Rattle.wit_first.specs.First.{Finds};
 ghost use Rattle.wit_arena.specs.Resolving.{env_of};
 ghost use Rattle.wit_entries.specs.EntryFaults.{either_fault, types_fault, written_fault};
-ghost use Rattle.wit_entries.specs.ResolvedForms.{IsResolved, AreTypes, IsLeaf, IsList, IsRead, Denotes, named_kind as the_named_kind, result_parts};
+ghost use Rattle.wit_entries.specs.ResolvedForms.{IsResolved, AreTypes, IsLeaf, IsList, IsOptionalOf, IsRead, IsResultOf, Denotes, named_kind as the_named_kind};
 ghost use Rattle.wit_entries.specs.Requiring.{IsExtended, Requires};
 
 use crate::entries::Entries;
@@ -170,9 +169,7 @@ fn resolve_result(
     given: &Stability,
     parts: &tree::ResultTypes<'_>,
 ) -> ParseResult<Result_>
-    ensures ok { IfOk result (λ r. is_some r.ok ≡ is_some (ok_type parts.now)) }
-    ensures err { IfOk result (λ r. is_some r.err ≡ is_some (err_type parts.now)) }
-    ensures resolved { IfOk result (λ r. AreTypes types.old types.new (env_of names.now) given.now (result_types parts.now) (result_parts r)) }
+    ensures resolved { IfOk result (IsResultOf types.old types.new (env_of names.now) given.now parts.now) }
     ensures handled { OnOk result (Requires (env_of names.now) types.new (all_handles (result_types parts.now)) required.old.items required.new.items) }
     ensures extended { IsExtended types.old types.new }
     ensures first { Finds (either_fault (env_of names.now) types.new parts.now) result }
@@ -215,8 +212,7 @@ fn resolve_optional(
     given: &Stability,
     ty: &Option<Box<tree::Type<'_>>>,
 ) -> ParseResult<Option<Type>>
-    ensures is_some { IfOk result (λ r. is_some r ≡ is_some ty.now) }
-    ensures resolved { IfOk result (λ r. AreTypes types.old types.new (env_of names.now) given.now (boxed_types ty.now) (option_to_list r)) }
+    ensures resolved { IfOk result (IsOptionalOf types.old types.new (env_of names.now) given.now ty.now) }
     ensures handled { OnOk result (Requires (env_of names.now) types.new (all_handles (boxed_types ty.now)) required.old.items required.new.items) }
     ensures extended { IsExtended types.old types.new }
     ensures first { Finds (types_fault (env_of names.now) types.new (boxed_types ty.now)) result }

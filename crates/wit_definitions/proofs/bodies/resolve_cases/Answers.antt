@@ -18,33 +18,30 @@ loop-written-preserved c =
     let cs = c.args.cases.now in
     let i = c.loop-written.written-index in
     let case = c.written-item.result in
-    let made = c.in_ok-case.case in
+    let own = c.in_ok-case.case in
     let out = c.loop-written.resolved.items in
     let in_use : take (i + 1) cs ≡ take i cs ++ case ∷ [] = take_more cs i case c.loop-written-test.true ∙ ap (λ x. take i cs ++ x ∷ []) (sym c.written-item.is) in
     let written : case_types (take (i + 1) cs) ≡ case_types (take i cs) ++ option_to_list case.ty = ap case_types in_use ∙ filter_map_more (λ (x : WrittenCase). x.ty) (take i cs) case in
-    let types : payloads c.push.new.self.items ≡ payloads out ++ option_to_list made.ty = ap payloads c.in_ok-push.ensures.items ∙ filter_map_more (λ (x : Case). x.ty) out made in
+    let types : payloads c.push.new.self.items ≡ payloads out ++ option_to_list own.ty = ap payloads c.in_ok-push.ensures.items ∙ filter_map_more (λ (x : Case). x.ty) out own in
     record {
-      types = rw (written, types) (types_then c.args.given.now (case_types (take i cs)) (option_to_list case.ty) c.loop-written.invariant.types c.in_ok-case.ensures.types);
-      members = ap (map case_member) c.in_ok-push.ensures.items ∙ map-append case_member out (made ∷ []) ∙ ap (λ ms. ms ++ case_member made ∷ []) c.loop-written.invariant.members ∙ ap (λ m. map (λ (c : WrittenCase). (member c.docs c.name, is_some c.ty)) (take i cs) ++ m ∷ []) c.in_ok-case.ensures.member ∙ sym (map-append (λ (c : WrittenCase). (member c.docs c.name, is_some c.ty)) (take i cs) (case ∷ [])) ∙ ap (map (λ (c : WrittenCase). (member c.docs c.name, is_some c.ty))) (sym in_use);
+      made = record {
+        types = rw (written, types) (types_then c.args.given.now (case_types (take i cs)) (option_to_list case.ty) c.loop-written.invariant.made.types c.in_ok-case.ensures.made.types);
+        members = ap (map case_member) c.in_ok-push.ensures.items ∙ map-append case_member out (own ∷ []) ∙ ap (λ ms. ms ++ case_member own ∷ []) c.loop-written.invariant.made.members ∙ ap (λ m. map (λ (c : WrittenCase). (member c.docs c.name, is_some c.ty)) (take i cs) ++ m ∷ []) c.in_ok-case.ensures.made.members ∙ sym (map-append (λ (c : WrittenCase). (member c.docs c.name, is_some c.ty)) (take i cs) (case ∷ [])) ∙ ap (map (λ (c : WrittenCase). (member c.docs c.name, is_some c.ty))) (sym in_use);
+      };
       none = ap (types_fault env new) written ∙ in-append (written_fault env new) (case_types (take i cs)) (option_to_list case.ty) ∙ none_both (types_extended env _ new (case_types (take i cs)) c.in_ok-case.ensures.extended c.loop-written.invariant.none) c.in_ok-case.ensures.first;
       handled = rw written (requires_types (env_of c.args.names.now) _ _ (case_types (take i cs)) (option_to_list case.ty) _ _ _ c.in_ok-case.ensures.extended c.loop-written.invariant.handled c.in_ok-case.ensures.handled);
       extended = extended_then _ _ _ c.loop-written.invariant.extended c.in_ok-case.ensures.extended;
     }
 
-pub returns-clause-types : goal.returns-clause-types
-returns-clause-types c =
+pub returns-clause-made : goal.returns-clause-made
+returns-clause-made c =
     let all = take_all c.loop-written.written-index c.args.cases.now c.loop-written-test.false in
-    rw (← all, c.from.ensures) c.loop-written.invariant.types
+    rw (← all, c.from.ensures) c.loop-written.invariant.made
 
 pub returns-clause-handled : goal.returns-clause-handled
 returns-clause-handled c =
     let all = take_all c.loop-written.written-index c.args.cases.now c.loop-written-test.false in
     rw (← all) c.loop-written.invariant.handled
-
-pub returns-clause-members : goal.returns-clause-members
-returns-clause-members c =
-    let all = take_all c.loop-written.written-index c.args.cases.now c.loop-written-test.false in
-    rw (← all, c.from.ensures) c.loop-written.invariant.members
 
 pub returns-clause-first : goal.returns-clause-first
 returns-clause-first c =

@@ -16,33 +16,30 @@ loop-written-preserved c =
     let fs = c.args.fields.now in
     let i = c.loop-written.written-index in
     let f = c.written-item.result in
-    let made = c.in_ok-field.field-0 in
+    let own = c.in_ok-field.field-0 in
     let out = c.loop-written.resolved.items in
     let in_use : take (i + 1) fs ≡ take i fs ++ f ∷ [] = take_more fs i f c.loop-written-test.true ∙ ap (λ x. take i fs ++ x ∷ []) (sym c.written-item.is) in
     let written : field_types (take (i + 1) fs) ≡ field_types (take i fs) ++ f.ty ∷ [] = ap field_types in_use ∙ map-append (λ (x : WrittenField). x.ty) (take i fs) (f ∷ []) in
-    let types : map (λ (x : Field). x.ty) c.push.new.self.items ≡ map (λ (x : Field). x.ty) out ++ c.in_ok-ty.ty ∷ [] = ap (map (λ (x : Field). x.ty)) c.in_ok-push.ensures.items ∙ map-append (λ (x : Field). x.ty) out (made ∷ []) ∙ ap (λ t. map (λ (x : Field). x.ty) out ++ t ∷ []) c.in_ok-field.ensures.ty in
+    let types : map (λ (x : Field). x.ty) c.push.new.self.items ≡ map (λ (x : Field). x.ty) out ++ c.in_ok-ty.ty ∷ [] = ap (map (λ (x : Field). x.ty)) c.in_ok-push.ensures.items ∙ map-append (λ (x : Field). x.ty) out (own ∷ []) ∙ ap (λ t. map (λ (x : Field). x.ty) out ++ t ∷ []) c.in_ok-field.ensures.ty in
     record {
-      types = rw (written, types) (types_then c.args.given.now (field_types (take i fs)) (f.ty ∷ []) c.loop-written.invariant.types (types_one c.args.given.now f.ty c.in_ok-ty.ensures.resolved));
-      members = ap (map field_member) c.in_ok-push.ensures.items ∙ map-append field_member out (made ∷ []) ∙ ap (λ ms. ms ++ field_member made ∷ []) c.loop-written.invariant.members ∙ ap (λ m. map (λ (x : WrittenField). member x.docs x.name) (take i fs) ++ m ∷ []) c.in_ok-field.ensures.member ∙ sym (map-append (λ (x : WrittenField). member x.docs x.name) (take i fs) (f ∷ [])) ∙ ap (map (λ (x : WrittenField). member x.docs x.name)) (sym in_use);
+      made = record {
+        types = rw (written, types) (types_then c.args.given.now (field_types (take i fs)) (f.ty ∷ []) c.loop-written.invariant.made.types (types_one c.args.given.now f.ty c.in_ok-ty.ensures.resolved));
+        members = ap (map field_member) c.in_ok-push.ensures.items ∙ map-append field_member out (own ∷ []) ∙ ap (λ ms. ms ++ field_member own ∷ []) c.loop-written.invariant.made.members ∙ ap (λ m. map (λ (x : WrittenField). member x.docs x.name) (take i fs) ++ m ∷ []) c.in_ok-field.ensures.member ∙ sym (map-append (λ (x : WrittenField). member x.docs x.name) (take i fs) (f ∷ [])) ∙ ap (map (λ (x : WrittenField). member x.docs x.name)) (sym in_use);
+      };
       none = ap (types_fault env new) written ∙ in-more (written_fault env new) (field_types (take i fs)) f.ty (types_extended env _ new (field_types (take i fs)) c.in_ok-ty.ensures.extended c.loop-written.invariant.none) ∙ c.in_ok-ty.ensures.first;
       handled = rw written (requires_types (env_of c.args.names.now) _ _ (field_types (take i fs)) (f.ty ∷ []) _ _ _ c.in_ok-ty.ensures.extended c.loop-written.invariant.handled (requires_one (env_of c.args.names.now) _ f.ty _ _ c.in_ok-ty.ensures.handled));
       extended = extended_then _ _ _ c.loop-written.invariant.extended c.in_ok-ty.ensures.extended;
     }
 
-pub returns-clause-types : goal.returns-clause-types
-returns-clause-types c =
+pub returns-clause-made : goal.returns-clause-made
+returns-clause-made c =
     let all = take_all c.loop-written.written-index c.args.fields.now c.loop-written-test.false in
-    rw (← all, c.from.ensures) c.loop-written.invariant.types
+    rw (← all, c.from.ensures) c.loop-written.invariant.made
 
 pub returns-clause-handled : goal.returns-clause-handled
 returns-clause-handled c =
     let all = take_all c.loop-written.written-index c.args.fields.now c.loop-written-test.false in
     rw (← all) c.loop-written.invariant.handled
-
-pub returns-clause-members : goal.returns-clause-members
-returns-clause-members c =
-    let all = take_all c.loop-written.written-index c.args.fields.now c.loop-written-test.false in
-    rw (← all, c.from.ensures) c.loop-written.invariant.members
 
 pub returns-clause-first : goal.returns-clause-first
 returns-clause-first c =

@@ -23,17 +23,16 @@ read_form-returns-in_ok-check_key-in-Map-clause-read t c = rw c.in-Map.is (map_f
     (rw (← c.deref-in-Map-2.ensures) c.in_ok-value_type-in-Map.ensures.resolved))
 
 pub read_form-returns-in_ok-outcome-in-Result-clause-read : goal.read_form-returns-in_ok-outcome-in-Result-clause-read
-read_form-returns-in_ok-outcome-in-Result-clause-read t c = rw c.in-Result.is (result_form c.args.types.now c.resolve_result.new.types (env_of c.args.names.now) c.args.given.now c.in-Result.span c.in-Result.parts c.in_ok-outcome-in-Result.outcome.ok c.in_ok-outcome-in-Result.outcome.err
-    c.in_ok-outcome-in-Result.ensures.ok c.in_ok-outcome-in-Result.ensures.err c.in_ok-outcome-in-Result.ensures.resolved)
+read_form-returns-in_ok-outcome-in-Result-clause-read t c = rw c.in-Result.is (result_form c.args.types.now c.resolve_result.new.types (env_of c.args.names.now) c.args.given.now c.in-Result.span c.in-Result.parts c.in_ok-outcome-in-Result.outcome c.in_ok-outcome-in-Result.ensures.resolved)
 
 pub read_form-returns-in_ok-types-in-Tuple-clause-read : goal.read_form-returns-in_ok-types-in-Tuple-clause-read
 read_form-returns-in_ok-types-in-Tuple-clause-read t c = rw c.in-Tuple.is (tuple_form c.args.types.now c.resolve_types.new.types (env_of c.args.names.now) c.args.given.now c.in-Tuple.span c.in-Tuple.parts c.in_ok-types-in-Tuple.types (rw (← c.deref-in-Tuple-2.ensures.value) c.in_ok-types-in-Tuple.ensures.resolved))
 
 pub read_form-returns-in_ok-value-in-Future-clause-read : goal.read_form-returns-in_ok-value-in-Future-clause-read
-read_form-returns-in_ok-value-in-Future-clause-read t c = rw c.in-Future.is (future_form c.args.types.now c.resolve_optional.new.types (env_of c.args.names.now) c.args.given.now c.in-Future.span c.in-Future.value c.in_ok-value-in-Future.value c.in_ok-value-in-Future.ensures.is_some c.in_ok-value-in-Future.ensures.resolved)
+read_form-returns-in_ok-value-in-Future-clause-read t c = rw c.in-Future.is (future_form c.args.types.now c.resolve_optional.new.types (env_of c.args.names.now) c.args.given.now c.in-Future.span c.in-Future.value c.in_ok-value-in-Future.value c.in_ok-value-in-Future.ensures.resolved)
 
 pub read_form-returns-in_ok-item-in-Stream-clause-read : goal.read_form-returns-in_ok-item-in-Stream-clause-read
-read_form-returns-in_ok-item-in-Stream-clause-read t c = rw c.in-Stream.is (stream_form c.args.types.now c.resolve_optional-in-Stream.new.types (env_of c.args.names.now) c.args.given.now c.in-Stream.span c.in-Stream.item c.in_ok-item-in-Stream.item c.in_ok-item-in-Stream.ensures.is_some c.in_ok-item-in-Stream.ensures.resolved)
+read_form-returns-in_ok-item-in-Stream-clause-read t c = rw c.in-Stream.is (stream_form c.args.types.now c.resolve_optional-in-Stream.new.types (env_of c.args.names.now) c.args.given.now c.in-Stream.span c.in-Stream.item c.in_ok-item-in-Stream.item c.in_ok-item-in-Stream.ensures.resolved)
 
 pub resolve_type-returns-clause-resolved : goal.resolve_type-returns-clause-resolved
 resolve_type-returns-clause-resolved t c = read_present c.args.types.now c.read.new.types c.type_of.new.types (env_of c.args.names.now) c.args.given.now (shape_of c.args.ty.now) c.in_ok-reading.reading c.in_ok-ty.ty c.in_ok-reading.ensures.read c.in_ok-ty.ensures.present
@@ -107,9 +106,13 @@ pub resolve_result-returns-in_ok-err-in-Err-clause-handled : goal.resolve_result
 resolve_result-returns-in_ok-err-in-Err-clause-handled t c = rw c.in-Err.is (requires_boxed (env_of c.args.names.now) _ c.deref-in-Err.result.now c.in-Err.err.value _ _ c.deref-in-Err.ensures c.in_ok-err-in-Err.ensures.handled)
 
 pub resolve_result-returns-in_ok-err-in-Both-clause-resolved : goal.resolve_result-returns-in_ok-err-in-Both-clause-resolved
-resolve_result-returns-in_ok-err-in-Both-clause-resolved t c = rw c.in-Both.is (types_two c.args.types.now c.resolve_type-in-Both.new.types c.resolve_type-in-Both-2.new.types (env_of c.args.names.now) c.args.given.now c.in-Both.ok.value c.in-Both.err.value c.in_ok-ok-in-Both.ok c.in_ok-err-in-Both.err
-    (rw (← c.deref-in-Both.ensures) c.in_ok-ok-in-Both.ensures.resolved)
-    (rw (← c.deref-in-Both-2.ensures) c.in_ok-err-in-Both.ensures.resolved))
+resolve_result-returns-in_ok-err-in-Both-clause-resolved t c = rw c.in-Both.is (record {
+  ok = refl;
+  err = refl;
+  types = types_two c.args.types.now c.resolve_type-in-Both.new.types c.resolve_type-in-Both-2.new.types (env_of c.args.names.now) c.args.given.now c.in-Both.ok.value c.in-Both.err.value c.in_ok-ok-in-Both.ok c.in_ok-err-in-Both.err
+      (rw (← c.deref-in-Both.ensures) c.in_ok-ok-in-Both.ensures.resolved)
+      (rw (← c.deref-in-Both-2.ensures) c.in_ok-err-in-Both.ensures.resolved);
+})
 
 pub resolve_result-returns-in_ok-err-in-Both-clause-handled : goal.resolve_result-returns-in_ok-err-in-Both-clause-handled
 resolve_result-returns-in_ok-err-in-Both-clause-handled t c = rw c.in-Both.is (requires_types (env_of c.args.names.now) _ _ (c.in-Both.ok.value ∷ []) (c.in-Both.err.value ∷ []) _ _ _ c.in_ok-err-in-Both.ensures.extended
