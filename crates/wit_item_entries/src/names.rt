@@ -8,7 +8,7 @@ ghost use Rattle.wit_scopes.specs.BorrowedNames.{name_view, use_view, definition
 ghost use Rattle.wit_items.specs.ForeignAddresses.{prefix_of};
 ghost use Rattle.wit_scopes.specs.PlacedNames.{AreNamesPlaced};
 ghost use Rattle.wit_scopes.specs.DefinitionOrder.{AreInTurn};
-ghost use Rattle.wit_arena.specs.Resolving.{env_of, HasNames, names_in};
+ghost use Rattle.wit_arena.specs.Resolving.{env_of, names_in};
 ghost use Rattle.wit_item_entries.specs.AddedNames.{AddsNames, DefinesIn, DefinitionsRequire};
 ghost use Rattle.wit_item_entries.specs.ReachedFaults.{FindsAt, FindsDefinitions, FindsOrdered, HaveNames, IsNamesFault};
 
@@ -70,7 +70,6 @@ fn resolve_types<'t, 'a>(
     scope: &mut Scope,
 ) -> ParseResult<Vec<Id<'a>>>
     requires uses { map use_view uses.now ≡ used (map name_view names.now) }
-    requires has { HasNames (env_of scope.old.names) (used (map name_view names.now)) }
     requires listed { names_in scope.old.names ≡ local_names (used (map name_view names.now)) }
     ensures defines { IfOk result (λ turn. DefinesIn scope.old scope.new types.old types.new (map name_view names.now) turn.items) }
     ensures extended { OnOk result (IsExtended types.old types.new) }

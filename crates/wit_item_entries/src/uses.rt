@@ -11,7 +11,7 @@ ghost use Rattle.wit_entries.specs.Requiring.{IsExtended};
 ghost use Rattle.wit_scopes.specs.BorrowedNames.{source_view, use_view, IsPlaced, ArePlaced};
 ghost use Rattle.wit_items.specs.ForeignAddresses.{prefix_of};
 ghost use Rattle.wit_items.specs.ResolvedInterfaces.{resolved_scopes_of};
-ghost use Rattle.wit_arena.specs.Resolving.{resolved_scope_at, env_of, free_functions, HasNames, IsFound, names_in};
+ghost use Rattle.wit_arena.specs.Resolving.{resolved_scope_at, free_functions, IsFound, names_in};
 ghost use Rattle.wit_item_entries.specs.UseFaults.{interface_of, local_faults, lost_name, source_fault, spelled_fault, used_fault};
 ghost use Rattle.wit_item_entries.specs.Uses.{AddsAllUsed, AddsUsed};
 
@@ -159,7 +159,6 @@ pub fn resolve_uses<'f, 'a>(
     ensures owner { OnOk result (scope.new.owner ≡ scope.old.owner) }
     ensures listed { OnOk result (names_in scope.new.names ≡ local_names (map use_view uses.now)) }
     ensures required { scope.new.required ≡ scope.old.required }
-    ensures has { OnOk result (HasNames (env_of scope.new.names) (map use_view uses.now)) }
     ensures extended { OnOk result (IsExtended types.old types.new) }
     ensures first { Finds (local_faults interfaces.now uses.now) result }
 {

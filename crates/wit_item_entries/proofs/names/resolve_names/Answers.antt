@@ -32,11 +32,6 @@ returns-in_err-resolve_uses-clause-first c =
 pub resolve_types-requires-clause-uses : goal.resolve_types-requires-clause-uses
 resolve_types-requires-clause-uses c = ap (map use_view) (c.deref-2.ensures.value ∙ c.in_ok-uses.ensures) ∙ uses_viewed c.args.names.now
 
-pub resolve_types-requires-clause-has : goal.resolve_types-requires-clause-has
-resolve_types-requires-clause-has c =
-    let names : map use_view c.deref.result.now ≡ used (map name_view c.args.names.now) = ap (map use_view) (c.deref.ensures.value ∙ c.in_ok-uses.ensures) ∙ uses_viewed c.args.names.now in
-    rw names at c.in_ok-resolve_uses.ensures.has
-
 pub resolve_types-requires-clause-listed : goal.resolve_types-requires-clause-listed
 resolve_types-requires-clause-listed c =
     let names : map use_view c.deref.result.now ≡ used (map name_view c.args.names.now) = ap (map use_view) (c.deref.ensures.value ∙ c.in_ok-uses.ensures) ∙ uses_viewed c.args.names.now in

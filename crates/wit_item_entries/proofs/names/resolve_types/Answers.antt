@@ -1,6 +1,7 @@
 use Rattle.std.proofs.Common.{◌≡◌, ◌++◌, List, Some, map, inl, inr, ap, sym, ◌∙◌, subst}
 use Rattle.wit_syntax.proofs.Common.{AreDistinct, Id, defined, distinct_names, err_from_is_err_and, local_id, used}
 use Rattle.wit_arena.proofs.Common.{env_of, names_in}
+use Rattle.wit_arena.proofs.UsePart.{listed_has}
 use Rattle.wit_walk.proofs.Common.{IsTypeOrderFault, local_names_differ, local_names_fault}
 use Rattle.wit_scopes.specs.BorrowedNames.{name_view, definition_view}
 use Rattle.wit_scopes.specs.DefinitionOrder.{AreOrdered}
@@ -25,7 +26,7 @@ define_all-requires c =
     let are : ids ≡ map local_id (used xs ++ defined xs) = c.deref.ensures.value ∙ c.in_ok-written.ensures.names in
     let distinct : AreDistinct xs = distinct_names xs (differ_names xs ids are (local_names_differ ids c.in_ok-check_unique_names.ensures)) in
     record {
-      turn = in_their_turn xs ds (env_of c.args.scope.now.names) (own_borrowed c.args.names.now) o c.requires.has;
+      turn = in_their_turn xs ds (env_of c.args.scope.now.names) (own_borrowed c.args.names.now) o (listed_has c.args.scope.now.names (used xs) c.requires.listed);
       differ = turn_differs xs ds (names_in c.args.scope.now.names) o c.requires.listed distinct;
     }
 

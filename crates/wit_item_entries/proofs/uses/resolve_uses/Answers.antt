@@ -2,7 +2,7 @@ use Rattle.std.proofs.Common.{◌≡◌, ◌+◌, ◌++◌, ◌∷◌, [], take,
 use Rattle.wit_syntax.proofs.Common.{TypeOwner, Used, err_from_is_err_and, length-map, local_names, map, read_map, slice_get, slice_get_read, take-map, take_all, take_next}
 use Rattle.wit_arena.proofs.Common.{Defines, defines_more, defines_used}
 use Rattle.wit_walk.proofs.Common.{after-next, first_after, reports-after, reports_same}
-use Rattle.wit_arena.proofs.UsePart.{listed_has, listed_more}
+use Rattle.wit_arena.proofs.UsePart.{listed_more}
 use Rattle.wit_entries.proofs.Requiring.{extended_then}
 use Rattle.wit_scopes.specs.BorrowedNames.{source_view, use_view}
 use Rattle.wit_items.specs.ResolvedInterfaces.{resolved_scopes_of}
@@ -50,11 +50,6 @@ loop-name-preserved c =
       first = after-next (local_fault c.args.interfaces.now) c.args.uses.now i c.name-item.result c.loop-name-test.true c.name-item.is c.loop-name.invariant.first (local_next c.args.interfaces.now old (take i c.args.uses.now) c.name-item.result (c.loop-name.invariant.listed ∙ ap local_names (take-map use_view i c.args.uses.now)) ∙ e.first);
       extended = extended_then c.args.types.now c.loop-name.types c.resolve_use.new.types c.loop-name.invariant.extended e.extended;
     }
-
-pub returns-clause-has : goal.returns-clause-has
-returns-clause-has c =
-    let us = map use_view c.args.uses.now in
-    listed_has c.loop-name.scope.names us (c.loop-name.invariant.listed ∙ ap local_names (take_all c.loop-name.name-index us (omega (arith, length-map c.args.uses.now use_view))))
 
 pub returns-clause-listed : goal.returns-clause-listed
 returns-clause-listed c =
