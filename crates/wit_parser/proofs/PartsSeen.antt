@@ -1,5 +1,5 @@
 -- The arena of types that is given by places is the list of first occurrences.
-use Rattle.std.proofs.Common.{◌≡◌, ℕ, suc, List, [], ◌∷◌, ◌++◌, length, take, Some, None, inl, inr, refl, sym, ap, ◌∙◌, subst, arith}
+use Rattle.std.proofs.Common.{◌≡◌, ℕ, suc, true, List, [], ◌∷◌, ◌++◌, length, take, Some, None, inl, inr, refl, sym, ap, ◌∙◌, subst, arith}
 use Rattle.wit_syntax.proofs.Common.{Address, AllDiffer, Contains, ForeignNamed, ForeignUse, InlineAt, InterfaceNamed, IsLegal, Item, PackageFile, ScopeName, Span, Stability, TypeDef, WorldNamed, about_name, at_contains, at_prefix, at_seam, at_within, differ_at, first_foreign_uses, first_known, firsts_at, flat_map, foreign_uses, is_foreign, length-map, local_name, map, map_at, option_map, same_foreign_use, scope, slice_get, slice_get-map, three_ways}
 use Rattle.wit_types.specs.declared.types.«Type».{«Type» as Ty}
 use Rattle.wit_arena.proofs.Common.{AreAt, Collects, Def, Exprs, GivesPlaces, Has, IsEntry, IsEntryOf, IsOccurrence, IsSeen, Key, Makes, Occurrence, UnresolvedPackage, Whole, all_occurrences, collects_extended, declarations, firsts-collects, firsts-differ, foreign_use_key, foreign_use_occurrence, foreign_uses_differ, foreign_uses_seen, gives_places, gives_used, interface_scopes, item_turns, keys, kind_of, name_exprs, owner_at, stability_at, turn_occurrences, types_of, used_at, used_name_at, world_scopes}
