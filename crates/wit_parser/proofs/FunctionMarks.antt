@@ -1,11 +1,12 @@
 -- The functions of a package that files make have the marks of their kinds in their names.
-use Rattle.std.proofs.Common.{◌≡◌, ℕ, zero, suc, List, [], ◌∷◌, ◌++◌, map, Option, Some, None, inl, inr, refl, sym, ap, ◌∙◌, subst}
+use Rattle.std.proofs.Common.{◌≡◌, ℕ, zero, suc, List, [], ◌∷◌, ◌++◌, map, Option, Some, None, inl, inr, refl, ap, subst}
 use Rattle.wit_syntax.proofs.Common.{Address, Docs, Exported, FunctionKey, Imported, Item, Link, PackageFile, SourceFunction, Span, Stability, TypeOwner, WorldSide, address, at_split, flat_map, flat_map_at, foreign_interfaces, foreign_worlds, functions, item_link, map_at, option_map_or, path_scope, side_items, slice_get, worlds_of}
 use Rattle.wit_types.specs.declared.types.TypeOwner.TheVariants as owner
 use Rattle.wit_arena.proofs.Common.{Def, Function, HasMarkOf, Interface, Key, Makes, UnresolvedPackage, World, WorldKey, foreign_interface, foreign_world, function_in, functions_of, interface_functions, interface_scopes, item_functions, keyed, link_item, mark_of, names_in_turn, own_interface, own_interfaces, own_world, placed, scope_place, world_functions, world_scopes}
 use Rattle.wit_model.specs.declared.world.WorldItem.TheVariants as item
 use Rattle.wit_model.specs.declared.world.WorldKey.TheVariants as key
 use Rattle.wit_parser.proofs.EachMade.{Each, Entry, exports_each, imports_each, members_each}
+use Rattle.wit_parser.proofs.Images.{images_at}
 use Rattle.wit_parser.proofs.WrittenMarks.{written_marked}
 use Rattle.wit_parser.specs.Marks.{HaveMarks}
 
@@ -81,19 +82,16 @@ module _ (id : Key → ℕ) (i : Item) where
 
 module _ (files : List PackageFile) (p : UnresolvedPackage) (m : Makes files p) where
   interface_marked : (k : ℕ) (i : Interface) → slice_get p.interfaces k ≡ Some i → AreMarked i.functions
-  interface_marked k i at = elim (at_split (map (foreign_interface files m.id) (foreign_interfaces files)) (map (own_interface m.id m.order) (own_interfaces m.items)) k i (ap (λ (l : List Interface). slice_get l k) (sym m.interfaces) ∙ at)) [
-    | inl prefix ↦ (let v = map_at (foreign_interface files m.id) (foreign_interfaces files) k i prefix in subst (λ (j : Interface). AreMarked j.functions) v.2 (none_marked [] refl))
-    | inr own ↦ (let o = map_at (own_interface m.id m.order) (own_interfaces m.items) own.0 i own.2 in subst (λ (j : Interface). AreMarked j.functions) o.2 (members_marked m.id o.0))
-  ]
+  interface_marked = images_at (foreign_interface files m.id) (own_interface m.id m.order) (foreign_interfaces files) (own_interfaces m.items) p.interfaces m.interfaces (λ k i. AreMarked i.functions) (λ k v at. none_marked [] refl) (λ k i at. members_marked m.id i)
 
-  abbrev world_made : Item → World
-  world_made = own_world m.id m.order (interface_scopes files m.items) (world_scopes files m.items)
+  abbrev ss : List Address
+  ss = interface_scopes files m.items
+
+  abbrev ws : List Address
+  ws = world_scopes files m.items
 
   world_marked : (k : ℕ) (w : World) → slice_get p.worlds k ≡ Some w → AreKeyed (world_functions w)
-  world_marked k w at = elim (at_split (map foreign_world (foreign_worlds files)) (map world_made (worlds_of m.items)) k w (ap (λ (l : List World). slice_get l k) (sym m.worlds) ∙ at)) [
-    | inl prefix ↦ (let v = map_at foreign_world (foreign_worlds files) k w prefix in subst (λ (u : World). AreKeyed (world_functions u)) v.2 (none_keyed [] refl))
-    | inr own ↦ (let o = map_at world_made (worlds_of m.items) own.0 w own.2 in subst (λ (u : World). AreKeyed (world_functions u)) o.2 (sides_marked m.id o.0 m.order (interface_scopes files m.items) (world_scopes files m.items)))
-  ]
+  world_marked = images_at foreign_world (own_world m.id m.order ss ws) (foreign_worlds files) (worlds_of m.items) p.worlds m.worlds (λ k w. AreKeyed (world_functions w)) (λ k v at. none_keyed [] refl) (λ k w at. sides_marked m.id w m.order ss ws)
 
   -- what one of these has, if there is one
   found_marked : {X : Type 0} (of : X → List (FunctionKey × Function)) (o : Option X) → ((x : X) → o ≡ Some x → AreKeyed (of x)) → AreKeyed (option_map_or of o [])

@@ -1,6 +1,6 @@
 -- The ids of a package that legal files make are places of entries of its arenas.
 use Rattle.std.proofs.Common.{◌≡◌, ◌<◌, ◌≤◌, ℕ, ◌+◌, List, ◌++◌, length, map, take, Option, Some, None, refl, sym, ap, ◌∙◌, subst, arith, inl, inr, length-append}
-use Rattle.wit_syntax.proofs.Common.{Address, Extern, ForeignVisit, Id, IsLegal, Item, Link, PackageFile, PackageName, SourceFunction, Stability, TypeDef, WorldNamed, address, at_split, filter, flat_map, foreign_interfaces, foreign_items, foreign_packages, foreign_worlds, functions, includes, inline_items, item_link, kept_at, leads, length-map, local_name, map_at, option_map, option_or, package_of, path_scope, position-Some, same_address, same_package, side_items, slice_get, slice_get_within, target_scope, unwrap_or, visited, worlds_of}
+use Rattle.wit_syntax.proofs.Common.{Address, Extern, ForeignVisit, Id, IsLegal, Item, Link, PackageFile, PackageName, SourceFunction, Stability, TypeDef, WorldNamed, address, filter, flat_map, foreign_interfaces, foreign_items, foreign_packages, foreign_worlds, functions, includes, inline_items, item_link, kept_at, leads, length-map, local_name, map_at, option_map, option_or, package_of, path_scope, position-Some, same_address, same_package, side_items, slice_get, slice_get_within, target_scope, unwrap_or, visited, worlds_of}
 use Rattle.wit_types.specs.declared.types.TypeOwner.TheVariants as owner
 use Rattle.wit_arena.proofs.Common.{AstItem, Def, GivesPlaces, Interface, IsEntry, IsKeyed, IsSeen, Key, Makes, Occurrence, UnresolvedPackage, Whole, World, WorldInclude, declarations, dep, dep_item, foreign_entry, foreign_interface, foreign_turned, foreign_world, function_in, include_in, inline_entry, interface_scopes, interface_turn, item_turns, keys, kind_of, link_item, link_key, name_exprs, names_in_turn, own_interface, own_interfaces, own_world, owner_at, place_at, scope_place, turn_handles, world_scopes}
 use Rattle.wit_model.specs.declared.world.WorldItem.TheVariants as item
@@ -9,6 +9,7 @@ use Rattle.wit_arena.proofs.Deps.{entry_of_interface, entry_of_world, item_sort}
 use Rattle.wit_arena.proofs.Places.{all_at_untaken}
 use Rattle.wit_arena.proofs.Shape.{key_of}
 use Rattle.wit_parser.proofs.EachMade.{Entry, exports_each, imports_each, members_each}
+use Rattle.wit_parser.proofs.Images.{images_at}
 use Rattle.wit_parser.proofs.PartsSeen.{entries_made, made_places}
 use Rattle.wit_parser.proofs.PartsKeys.{ItemPresent, interface_seen, world_seen, foreign_seen}
 use Rattle.wit_parser.proofs.PartsPlaces.{function_in-is, name_places-are, seen_at}
@@ -163,18 +164,10 @@ module _ (files : List PackageFile) (p : UnresolvedPackage) (legal : IsLegal fil
   }
 
   interface_within : (k : ℕ) (i : Interface) → slice_get p.interfaces k ≡ Some i → IsInterfaceWithin p i
-  interface_within k i at = elim (at_split (map (foreign_interface files m.id) (foreign_interfaces files)) (map (own_interface m.id m.order) (own_interfaces m.items)) k i (ap (λ (l : List Interface). slice_get l k) (sym m.interfaces) ∙ at)) [
-    | inl prefix ↦ (let v = map_at (foreign_interface files m.id) (foreign_interfaces files) k i prefix in subst (IsInterfaceWithin p) v.2 (foreign_interface_within v.0))
-    | inr own ↦ (let o = map_at (own_interface m.id m.order) (own_interfaces m.items) own.0 i own.2 in subst (IsInterfaceWithin p) o.2 (own_interface_within o.0 (interface_seen files p legal m own.0 o.0 o.1)))
-  ]
+  interface_within = images_at (foreign_interface files m.id) (own_interface m.id m.order) (foreign_interfaces files) (own_interfaces m.items) p.interfaces m.interfaces (λ k. IsInterfaceWithin p) (λ k v at. foreign_interface_within v) (λ k i at. own_interface_within i (interface_seen files p legal m k i at))
 
   world_within : (k : ℕ) (w : World) → slice_get p.worlds k ≡ Some w → IsWorldWithin p w
-  world_within k w at = elim (at_split (map foreign_world (foreign_worlds files)) (map (own_world m.id m.order ss ws) (worlds_of m.items)) k w (ap (λ (l : List World). slice_get l k) (sym m.worlds) ∙ at)) [
-    | inl prefix ↦ (let v = map_at foreign_world (foreign_worlds files) k w prefix in subst (IsWorldWithin p) v.2 (foreign_world_within v.0))
-    | inr own ↦ (
-        let o = map_at (own_world m.id m.order ss ws) (worlds_of m.items) own.0 w own.2 in
-        subst (IsWorldWithin p) o.2 (own_world_within o.0 (world_seen files p legal m own.0 o.0 o.1) (has_places files legal m.items m.in_order own.0 o.0 o.1)))
-  ]
+  world_within = images_at foreign_world (own_world m.id m.order ss ws) (foreign_worlds files) (worlds_of m.items) p.worlds m.worlds (λ k. IsWorldWithin p) (λ k v at. foreign_world_within v) (λ k w at. own_world_within w (world_seen files p legal m k w at) (has_places files legal m.items m.in_order k w at))
 
   foreign_within : (k : ℕ) (d : PackageName × List (List ℕ × (AstItem × List Stability))) → slice_get p.foreign_deps k ≡ Some d → (j : ℕ) (x : List ℕ × (AstItem × List Stability)) → slice_get d.1 j ≡ Some x → IsForeignWithin p x.1.0
   foreign_within k d at j x there =

@@ -1,9 +1,10 @@
 -- A package knows an interface that is written in a world by the place where it is there.
 use Rattle.std.proofs.Common.{◌≡◌, ℕ, ◌+◌, true, false, List, length, Some, None, inl, inr, refl, sym, ap, ◌∙◌, eqb-true, eq-eqb}
-use Rattle.wit_syntax.proofs.Common.{Address, InlineAt, IsLegal, Item, PackageFile, WorldSide, about, address, at_part, find_at, find_passes, find_some, flat_map, flat_map_at, flat_map_has, foreign_worlds, includes, inline_inside, inline_items, inline_items_at, interfaces_on, is_inside, item_name, map, map_at, nat_eq, option_map, side_items, slice_get, take, visited, worlds_of}
+use Rattle.wit_syntax.proofs.Common.{Address, InlineAt, IsLegal, Item, PackageFile, WorldSide, about, address, find_at, find_passes, find_some, flat_map, flat_map_at, flat_map_has, foreign_worlds, includes, inline_inside, inline_items, inline_items_at, interfaces_on, is_inside, item_name, map, nat_eq, option_map, side_items, slice_get, take, visited, worlds_of}
 use Rattle.wit_arena.proofs.Common.{Makes, UnresolvedPackage, World, foreign_world, interface_scopes, names_in_turn, own_world, world_scopes, world_types}
 use Rattle.wit_arena.specs.UnfoldedTypes.{world_interfaces, inline_owner}
 use Rattle.wit_arena.proofs.InlineOwners.{IsInlineEntry, world_entries, world_entry}
+use Rattle.wit_parser.proofs.Images.{images_at}
 use Rattle.wit_parser.proofs.KnownScopes.{own_world_at}
 use Rattle.wit_parser.proofs.PartsOrders.{no_two}
 use Rattle.wit_parser.proofs.PartsWorlds.{world_sides}
@@ -32,12 +33,6 @@ module _ (files : List PackageFile) (p : UnresolvedPackage) (legal : IsLegal fil
   abbrev made_world : Item → World
   made_world w = own_world m.id m.order interfaces (world_scopes files m.items) w
 
-  abbrev prefix : List World
-  prefix = map foreign_world (foreign_worlds files)
-
-  abbrev own : List World
-  own = map made_world (worlds_of m.items)
-
   -- what the worlds list of interfaces that are written in them, each by its place
   abbrev listed : List (ℕ × Address)
   listed = flat_map world_interfaces p.worlds
@@ -51,17 +46,10 @@ module _ (files : List PackageFile) (p : UnresolvedPackage) (legal : IsLegal fil
   all_listed : (j : ℕ) (e : ℕ × Address) → slice_get listed j ≡ Some e → IsInlineEntry interfaces e
   all_listed j e at =
       let it = flat_map_at world_interfaces p.worlds j e at in
-      elim (at_part prefix own it.0 it.1 (ap (λ (l : List World). slice_get l it.0) (sym m.worlds) ∙ it.2)) [
-        | inl h ↦ absurd (
-            let v = map_at foreign_world (foreign_worlds files) h.0 it.1 h.1 in
-            let none : slice_get (world_interfaces (foreign_world v.0)) it.3.0 ≡ None = refl in
-            let some = ap (λ (w : World). slice_get (world_interfaces w) it.3.0) v.2 ∙ it.3.1 in
-            let f : ⊥ = cc in
-            f)
-        | inr h ↦ (
-            let w = map_at made_world (worlds_of m.items) h.0 it.1 h.1 in
-            of_world h.0 w.0 w.1 it.3.0 e (ap (λ (v : World). slice_get (world_interfaces v) it.3.0) w.2 ∙ it.3.1))
-      ]
+      images_at foreign_world made_world (foreign_worlds files) (worlds_of m.items) p.worlds m.worlds (λ (k : ℕ) (w : World). slice_get (world_interfaces w) it.3.0 ≡ Some e → IsInlineEntry interfaces e) (λ k v v_at some. absurd (
+      let none : slice_get (world_interfaces (foreign_world v)) it.3.0 ≡ None = refl in
+      let f : ⊥ = cc in
+      f)) (λ k w w_at. of_world k w w_at it.3.0 e) it.0 it.1 it.2 it.3.1
 
   -- each that is written in a world has one
   has_listed : (k : ℕ) (w : Item) (n : ℕ) (i : Item) → slice_get (worlds_of m.items) k ≡ Some w → slice_get (inline_items w) n ≡ Some i → (j : ℕ) × (place : ℕ) × (slice_get listed j ≡ Some (place, address i)) × (slice_get interfaces place ≡ Some (address i))

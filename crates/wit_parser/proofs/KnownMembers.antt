@@ -1,6 +1,6 @@
 -- The scopes of a package are: all that occurs in files occurs in them, and each name of them means its place.
 use Rattle.std.proofs.Common.{◌≡◌, ℕ, suc, List, [], ◌∷◌, Some, ◌⊎◌, inl, inr, refl, sym, ap, ◌∙◌, subst}
-use Rattle.wit_syntax.proofs.Common.{Address, ForeignName, ForeignUse, Form, IsLegal, PackageFile, ScopeName, TypeOwner, address, at_prefix, firsts_has, foreign_interfaces, foreign_uses, local_name, lookup-place, map, option_map, same_foreign_use, scope, slice_get, slice_get-map, some_of, visited}
+use Rattle.wit_syntax.proofs.Common.{Address, ForeignName, ForeignUse, Form, IsLegal, PackageFile, ScopeName, TypeOwner, address, firsts_has, foreign_interfaces, foreign_uses, local_name, lookup-place, map, option_map, same_foreign_use, scope, slice_get, slice_get-map, some_of, visited}
 use Rattle.wit_arena.proofs.Common.{AreNames, Decls, Def, Exprs, Has, Key, Makes, Names, Occurrence, Turned, UnresolvedPackage, Whole, all_occurrences, collects_from, declarations, env_of, expr_of, foreign_use_key, foreign_use_occurrence, interface_scopes, item_turns, keys, keys-append, name_exprs, name_seen_in, names_of, occurrences, own_interfaces, owner_at, turn_occurrences, use_of_foreign-equal, use_of_foreign-from, uses_lead, world_scopes}
 use Rattle.wit_arena.specs.Resolving.{all_seen, seen}
 use Rattle.wit_arena.proofs.DoneScopes.{seen_in_turn}
@@ -11,6 +11,7 @@ use Rattle.wit_arena.proofs.Members.{DoneScope, IsNameOf, IsInSignatureOf, IsWho
 use Rattle.wit_arena.proofs.ForeignUses.{used_from, in_use_has}
 use Rattle.wit_arena.proofs.UsePart.{lookup-listed}
 use Rattle.wit_arena.proofs.Wholes.{whole_in_names, whole_in_turn}
+use Rattle.wit_parser.proofs.Images.{first_at}
 use Rattle.wit_parser.proofs.PartsSeen.{collects, entries_made}
 
 -- a name that occurs in what is taken is taken
@@ -74,7 +75,7 @@ module _ (files : List PackageFile) (p : UnresolvedPackage) (legal : IsLegal fil
       let there : u.1.from ≡ s = cc in
       let called : u.1.id.name.now ≡ name = cc in
       let k = in_use_has files (visited v.1) u.0 u.1 u.2 (there ∙ sym from ∙ sym v.3) in
-      let c = interface_resolved_scope files p legal m v.0 (visited v.1) (at_prefix (map visited (foreign_interfaces files)) (map address (own_interfaces m.items)) v.0 (visited v.1) (slice_get-map visited (foreign_interfaces files) v.0 ∙ ap (option_map visited) v.2)) in
+      let c = interface_resolved_scope files p legal m v.0 (visited v.1) (first_at visited address (foreign_interfaces files) (own_interfaces m.items) interfaces refl v.0 v.1 v.2) in
       let x : ScopeName = ForeignName u.1.attributes u.1.id in
       let q = (known c.place c.resolved_scope c.at).done.turn.has k.0 x (ap (λ (a : Address). slice_get (scope files a) k.0) c.scope ∙ k.1) in
       record { place = c.place; resolved_scope = c.resolved_scope; at = c.at; scope = c.scope ∙ v.3 ∙ from; index = q.0; x = x; among = q.1; called = called }

@@ -1,6 +1,6 @@
 -- At each address of a package is a scope that it knows by its place.
 use Rattle.std.proofs.Common.{◌≡◌, ℕ, ◌+◌, List, [], length, Option, Some, None, inl, inr, refl, sym, ap, ◌∙◌, subst, arith}
-use Rattle.wit_syntax.proofs.Common.{Address, IsLegal, Item, PackageFile, SourceFunction, TypeOwner, about, address, at_back, at_prefix, at_split, flat_map, flat_map_at, foreign_interfaces, foreign_worlds, functions_items, includes, inline_interface, inline_items, interfaces_of, item_name, length-map, map, map_at, option_or, side_items, slice_get, visited, worlds_of}
+use Rattle.wit_syntax.proofs.Common.{Address, IsLegal, Item, PackageFile, SourceFunction, TypeOwner, about, address, at_back, at_prefix, at_split, flat_map, flat_map_at, foreign_interfaces, foreign_worlds, functions_items, includes, inline_interface, inline_items, interfaces_of, item_name, length-map, map, option_or, side_items, slice_get, visited, worlds_of}
 use Rattle.wit_arena.proofs.Common.{Makes, UnresolvedPackage, World, foreign_interface, interface_address, interface_scopes, interfaces_sort, keys, names_in_turn, own_interface, own_interfaces, own_world, world_address, world_functions, world_scopes, world_types, worlds_sort}
 use Rattle.wit_types.specs.declared.types.TypeOwner.TheVariants as owner
 use Rattle.wit_arena.specs.UnfoldedTypes.{inline_owner}
@@ -11,6 +11,7 @@ use Rattle.wit_arena.proofs.KnownItems.{functions_apart, functions_are, turn_is}
 use Rattle.wit_arena.proofs.Prefix.{interface_scope, world_scope}
 use Rattle.wit_arena.proofs.ScopesInTurn.{laid_scope}
 use Rattle.wit_arena.proofs.Stating.{stated_settled}
+use Rattle.wit_parser.proofs.Images.{images_at}
 use Rattle.wit_parser.proofs.KnownInline.{inline_known, written_at}
 use Rattle.wit_parser.proofs.KnownScopes.{HasScope, named_world-label, interface_owner, world_owner, world_names, world_states, own_interface_at, own_world_at, foreign_interface_known, foreign_world_known, own_interface_known}
 use Rattle.wit_parser.proofs.PartsOrders.{are_interfaces, interface_listed, no_two, ord, world_item, world_listed}
@@ -63,14 +64,12 @@ module _ (files : List PackageFile) (p : UnresolvedPackage) (legal : IsLegal fil
   ]
 
   pub has_interface : (t : ℕ) (s : Address) → slice_get interfaces t ≡ Some s → Has (owner.Interface t) s
-  has_interface t s at = elim (at_split ss (map address (own_interfaces m.items)) t s at) [
-    | inl prefix ↦ (
-        let v = map_at visited (foreign_interfaces files) t s prefix in
-        record { scope = interface_scope files t v.0 (foreign_interface files m.id v.0); address = v.2; owner = refl; known = foreign_interface_known files p legal m t v.0 v.1 })
-    | inr back ↦ (
-        let i = map_at address (own_interfaces m.items) back.0 s back.2 in
-        subst (λ (n : ℕ). Has (owner.Interface n) s) (sym back.1) (subst (Has (owner.Interface (length ss + back.0))) i.2 (own_has back.0 i.0 i.1)))
-  ]
+  has_interface = images_at visited address (foreign_interfaces files) (own_interfaces m.items) interfaces refl (λ t. Has (owner.Interface t)) (λ t v at. record {
+    scope = interface_scope files t v (foreign_interface files m.id v);
+    address = refl;
+    owner = refl;
+    known = foreign_interface_known files p legal m t v at;
+  }) own_has
 
   -- and each world
   own_world_known : (k : ℕ) (w : Item) → slice_get (worlds_of m.items) k ≡ Some w → Has (owner.World (length others + k)) (address w)
@@ -102,11 +101,4 @@ module _ (files : List PackageFile) (p : UnresolvedPackage) (legal : IsLegal fil
       }
 
   pub has_world : (t : ℕ) (s : Address) → slice_get worlds t ≡ Some s → Has (owner.World t) s
-  has_world t s at = elim (at_split others (map address (worlds_of m.items)) t s at) [
-    | inl prefix ↦ (
-        let v = map_at visited (foreign_worlds files) t s prefix in
-        record { scope = world_scope t v.0; address = v.2; owner = refl; known = foreign_world_known files p legal m t v.0 v.1 })
-    | inr back ↦ (
-        let w = map_at address (worlds_of m.items) back.0 s back.2 in
-        subst (λ (n : ℕ). Has (owner.World n) s) (sym back.1) (subst (Has (owner.World (length others + back.0))) w.2 (own_world_known back.0 w.0 w.1)))
-  ]
+  has_world = images_at visited address (foreign_worlds files) (worlds_of m.items) worlds refl (λ t. Has (owner.World t)) (λ t v at. record { scope = world_scope t v; address = refl; owner = refl; known = foreign_world_known files p legal m t v at }) own_world_known

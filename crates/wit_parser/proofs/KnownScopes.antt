@@ -1,6 +1,6 @@
 -- The scopes of a package: each has its names in turn and its functions, and the package knows it by an owner.
 use Rattle.std.proofs.Common.{◌≡◌, ℕ, ◌+◌, true, false, List, [], ◌∷◌, length, Option, Some, None, refl, sym, ap, ◌∙◌}
-use Rattle.wit_syntax.proofs.Common.{Address, AllDiffer, ForeignVisit, IsLegal, Item, PackageFile, TypeOwner, WorldNamed, address, at_back, at_prefix, differ_none, foreign_interfaces, foreign_worlds, function_key, functions, functions_imported, is_label, is_world, length-map, map, option_and_then, option_map, option_map_or, option_or, slice_get, slice_get-map, visited, worlds_of}
+use Rattle.wit_syntax.proofs.Common.{Address, AllDiffer, ForeignVisit, IsLegal, Item, PackageFile, TypeOwner, WorldNamed, address, differ_none, foreign_interfaces, foreign_worlds, function_key, functions, functions_imported, is_label, is_world, map, option_and_then, option_map_or, option_or, slice_get, visited, worlds_of}
 use Rattle.wit_arena.proofs.Common.{AreFunctions, HasTypes, Interface, Key, Makes, UnresolvedPackage, World, foreign_interface, foreign_world, functions_of, interface_functions, interface_scopes, keys, names_of, own_interface, own_interfaces, own_world, owner_at, owner_of, uses_lead, world_functions, world_scopes, world_types}
 use Rattle.wit_types.specs.declared.types.TypeOwner.TheVariants as owner
 use Rattle.wit_arena.specs.UnfoldedTypes.{inline_owner, named_interface, named_world}
@@ -11,6 +11,7 @@ use Rattle.wit_arena.proofs.KnownItems.{functions_apart, functions_are, turn_is}
 use Rattle.wit_arena.proofs.ScopesInTurn.{laid_scope}
 use Rattle.wit_arena.proofs.Members.{DoneScope, turn_of, IsDoneScope}
 use Rattle.wit_arena.proofs.Stating.{stated_placed}
+use Rattle.wit_parser.proofs.Images.{first_at, second_at}
 use Rattle.wit_parser.proofs.PartsInterfaces.{foreign_interface-is, own_interface-is}
 use Rattle.wit_parser.proofs.PartsOrders.{interface_item, interface_listed, no_two, ord}
 
@@ -79,36 +80,20 @@ module _ (files : List PackageFile) (p : UnresolvedPackage) (legal : IsLegal fil
   abbrev Has : TypeOwner → Address → Type 0
   Has o s = HasScope files p ks interfaces worlds o s
 
-  -- the entries of other packages, and after them those of the files
-  abbrev of_foreign : List Interface
-  of_foreign = map (foreign_interface files m.id) (foreign_interfaces files)
-
-  abbrev of_own : List Interface
-  of_own = map (own_interface m.id m.order) (own_interfaces m.items)
-
-  abbrev made_world : Item → World
-  made_world w = own_world m.id m.order interfaces worlds w
-
+  -- the entries of the files come after those of other packages
   pub own_interface_at : (k : ℕ) (i : Item) → slice_get (own_interfaces m.items) k ≡ Some i → slice_get p.interfaces (length ss + k) ≡ Some (own_interface m.id m.order i)
-  own_interface_at k i at =
-      let long : length ss ≡ length of_foreign = length-map (foreign_interfaces files) visited ∙ sym (length-map (foreign_interfaces files) (foreign_interface files m.id)) in
-      let here = slice_get-map (own_interface m.id m.order) (own_interfaces m.items) k ∙ ap (option_map (own_interface m.id m.order)) at in
-      ap (λ (n : ℕ). slice_get p.interfaces (n + k)) long ∙ ap (λ (l : List Interface). slice_get l (length of_foreign + k)) m.interfaces ∙ at_back of_foreign of_own k (own_interface m.id m.order i) here
+  own_interface_at = second_at (foreign_interface files m.id) (own_interface m.id m.order) (foreign_interfaces files) (own_interfaces m.items) p.interfaces m.interfaces visited
 
-  pub own_world_at : (k : ℕ) (w : Item) → slice_get (worlds_of m.items) k ≡ Some w → slice_get p.worlds (length others + k) ≡ Some (made_world w)
-  own_world_at k w at =
-      let prefix = map foreign_world (foreign_worlds files) in
-      let long : length others ≡ length prefix = length-map (foreign_worlds files) visited ∙ sym (length-map (foreign_worlds files) foreign_world) in
-      let here = slice_get-map made_world (worlds_of m.items) k ∙ ap (option_map made_world) at in
-      ap (λ (n : ℕ). slice_get p.worlds (n + k)) long ∙ ap (λ (l : List World). slice_get l (length prefix + k)) m.worlds ∙ at_back prefix (map made_world (worlds_of m.items)) k (made_world w) here
+  pub own_world_at : (k : ℕ) (w : Item) → slice_get (worlds_of m.items) k ≡ Some w → slice_get p.worlds (length others + k) ≡ Some (own_world m.id m.order interfaces worlds w)
+  own_world_at = second_at foreign_world (own_world m.id m.order interfaces worlds) (foreign_worlds files) (worlds_of m.items) p.worlds m.worlds visited
 
   -- the scope of an interface of another package, and of a world
   pub foreign_interface_known : (t : ℕ) (v : ForeignVisit) → slice_get (foreign_interfaces files) t ≡ Some v → Known (interface_scope files t v (foreign_interface files m.id v))
   foreign_interface_known t v at =
       let i = foreign_interface files m.id v in
       let is = foreign_interface-is files p legal m v in
-      let present = at_prefix ss (map address (own_interfaces m.items)) t (visited v) (slice_get-map visited (foreign_interfaces files) t ∙ ap (option_map visited) at) in
-      let here : slice_get p.interfaces t ≡ Some i = ap (λ (l : List Interface). slice_get l t) m.interfaces ∙ at_prefix of_foreign of_own t i (slice_get-map (foreign_interface files m.id) (foreign_interfaces files) t ∙ ap (option_map (foreign_interface files m.id)) at) in
+      let present = first_at visited address (foreign_interfaces files) (own_interfaces m.items) interfaces refl t v at in
+      let here = first_at (foreign_interface files m.id) (own_interface m.id m.order) (foreign_interfaces files) (own_interfaces m.items) p.interfaces m.interfaces t v at in
       record {
         done = prefix_interface_done files ks t v i is;
         whose = interface_owner_at interfaces worlds (no_two files p legal m) t (visited v) present;
@@ -123,8 +108,8 @@ module _ (files : List PackageFile) (p : UnresolvedPackage) (legal : IsLegal fil
   pub foreign_world_known : (t : ℕ) (v : ForeignVisit) → slice_get (foreign_worlds files) t ≡ Some v → Known (world_scope t v)
   foreign_world_known t v at =
       let w = foreign_world v in
-      let present = at_prefix others (map address (worlds_of m.items)) t (visited v) (slice_get-map visited (foreign_worlds files) t ∙ ap (option_map visited) at) in
-      let here : slice_get p.worlds t ≡ Some w = ap (λ (l : List World). slice_get l t) m.worlds ∙ at_prefix (map foreign_world (foreign_worlds files)) (map made_world (worlds_of m.items)) t w (slice_get-map foreign_world (foreign_worlds files) t ∙ ap (option_map foreign_world) at) in
+      let present = first_at visited address (foreign_worlds files) (worlds_of m.items) worlds refl t v at in
+      let here = first_at foreign_world (own_world m.id m.order interfaces worlds) (foreign_worlds files) (worlds_of m.items) p.worlds m.worlds t v at in
       record {
         done = prefix_world_done files (uses_lead files legal) t v at;
         whose = world_owner_at interfaces worlds (no_two files p legal m) t (visited v) present;

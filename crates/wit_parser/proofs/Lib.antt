@@ -1,5 +1,6 @@
 mod LastHeader
 mod WrittenMarks
+mod Images
 mod EachMade
 mod FunctionMarks
 mod TypeIds

@@ -1,10 +1,11 @@
 -- The items of the package that files make: each is at its address, and no two are at one.
-use Rattle.std.proofs.Common.{◌≡◌, ℕ, ◌+◌, not, List, length, map, Some, inl, inr, sym, ap, ◌∙◌, subst}
-use Rattle.wit_syntax.proofs.Common.{IsLegal, Item, Names, PackageFile, address, at_back, at_part, flat_map, foreign_interfaces, foreign_worlds, inline_items, interfaces_of, is_world, option_map, slice_get, slice_get-map, visited, worlds_of}
+use Rattle.std.proofs.Common.{◌≡◌, ℕ, ◌+◌, not, List, length, map, Some, inl, inr, refl, sym, subst}
+use Rattle.wit_syntax.proofs.Common.{IsLegal, Item, Names, PackageFile, address, at_part, flat_map, foreign_interfaces, foreign_worlds, inline_items, interfaces_of, is_world, slice_get, visited, worlds_of}
 use Rattle.wit_arena.proofs.Common.{AreItems, IsItem, Makes, Ordered, UnresolvedPackage, distinct_items, interface_scopes, interfaces_sort, item_scopes, own_interfaces, world_scopes, worlds_sort}
 use Rattle.wit_arena.proofs.Added.{all_addresses}
 use Rattle.wit_arena.proofs.Interfaces.{AreAddresses, inline_scopes, items_kept}
 use Rattle.wit_arena.proofs.Itemizing.{are_items}
+use Rattle.wit_parser.proofs.Images.{second_at}
 use Rattle.wit_parser.proofs.PartsItems.{found_item}
 
 module _ (files : List PackageFile) (p : UnresolvedPackage) (legal : IsLegal files) (m : Makes files p) where
@@ -39,7 +40,7 @@ module _ (files : List PackageFile) (p : UnresolvedPackage) (legal : IsLegal fil
 
   -- their scopes come after those of other packages
   pub interface_listed : (k : ℕ) (i : Item) → slice_get (own_interfaces m.items) k ≡ Some i → slice_get (interface_scopes files m.items) (length (map visited (foreign_interfaces files)) + k) ≡ Some (address i)
-  interface_listed k i at = at_back (map visited (foreign_interfaces files)) (map address (own_interfaces m.items)) k (address i) (slice_get-map address (own_interfaces m.items) k ∙ ap (option_map address) at)
+  interface_listed = second_at visited address (foreign_interfaces files) (own_interfaces m.items) (interface_scopes files m.items) refl visited
 
   pub world_listed : (k : ℕ) (w : Item) → slice_get (worlds_of m.items) k ≡ Some w → slice_get (world_scopes files m.items) (length (map visited (foreign_worlds files)) + k) ≡ Some (address w)
-  world_listed k w at = at_back (map visited (foreign_worlds files)) (map address (worlds_of m.items)) k (address w) (slice_get-map address (worlds_of m.items) k ∙ ap (option_map address) at)
+  world_listed = second_at visited address (foreign_worlds files) (worlds_of m.items) (world_scopes files m.items) refl visited
