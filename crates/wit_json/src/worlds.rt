@@ -26,8 +26,8 @@ struct Import<'a> {
     span: Span,
 }
 
-fn push_import(out: &mut Output, import: Import<'_>) -> Result<(), AllocError>
-    ensures { OnOk result (AddsMembers out.old out.new (borrowed_members import.entry)) }
+fn push_import(out: &mut Output, import: &Import<'_>) -> Result<(), AllocError>
+    ensures { OnOk result (AddsMembers out.old out.new (borrowed_members import.now)) }
 {
     push_number(out, Word::Id, import.id.index())?;
     push_stability(out, import.stability)?;
@@ -37,8 +37,8 @@ fn push_import(out: &mut Output, import: Import<'_>) -> Result<(), AllocError>
 }
 
 #[tactic(auto, using(crate::proofs::Closing::fields_closed))]
-fn write_import(out: &mut Output, import: Import<'_>) -> Result<(), AllocError>
-    ensures { OnOk result (Adds out.old out.new (fields (borrowed_members import.entry))) }
+fn write_import(out: &mut Output, import: &Import<'_>) -> Result<(), AllocError>
+    ensures { OnOk result (Adds out.old out.new (fields (borrowed_members import.now))) }
 {
     out.begin_object()?;
     push_import(out, import)?;
@@ -82,7 +82,7 @@ impl AsJson for WorldItem {
                     docs,
                     span: *span,
                 };
-                write_import(out, import)?;
+                write_import(out, &import)?;
                 out.end_object()
             }
             WorldItem::Function(function) => {
