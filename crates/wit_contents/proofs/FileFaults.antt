@@ -88,9 +88,9 @@ finds_memory first (Ok x) none h = none
 finds_memory first (Err e) none h = inl h
 
 -- or one that failed to allocate
-pub memory_found : {T : Type 0} {first : Option Fault} (r : Result T ParseError) → IsErrAnd r IsAllocationFailure → Finds first r
-memory_found (Ok x) h = absurd h
-memory_found (Err e) h = inl h
+pub memory_found : {T : Type 0} (first : Option Fault) (r : Result T ParseError) → IsErrAnd r IsAllocationFailure → Finds first r
+memory_found first (Ok x) h = absurd h
+memory_found first (Err e) h = inl h
 
 -- or what is found of something else
 pub or_found : {A B C : Type 0} → A ⊎ B → (B → C) → A ⊎ C

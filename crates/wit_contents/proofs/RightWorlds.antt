@@ -154,7 +154,9 @@ module _ (ws : Worlds) (places : List ℕ) (es : List TypeDef) (prefix : List In
 
   -- where names of it end
   ends : (h : IsReached mid (resolved_scopes_of is) (owner.World (length ws.arena)) w) → EndsIn (env_of h.names) (h.mid ++ h.more) (handle_fault files known.steps (address w))
-  ends = rw (← made, done.1) (λ h. world_ends files declared_interfaces declared_worlds (interfaces_sort (in_order all places)) (worlds_sort (in_order all places)) (are_interfaces files places g.order g.differ) (are_worlds files places g.order g.differ) g.uses es prefix wprefix g.foreign middle done.0 rs done.2 us mid a wrs w there before h known.steps (enough (address w)))
+  ends = subst (λ (l : List World). (h : IsReached mid (resolved_scopes_of is) (owner.World (length l)) w) → EndsIn (env_of h.names) (h.mid ++ h.more) (handle_fault files known.steps (address w))) made (
+      subst (λ (cs : List ResolvedScope). (h : IsReached mid cs (owner.World (length a.worlds)) w) → EndsIn (env_of h.names) (h.mid ++ h.more) (handle_fault files known.steps (address w))) (sym scopes_are) (λ h.
+      world_ends files declared_interfaces declared_worlds (interfaces_sort (in_order all places)) (worlds_sort (in_order all places)) (are_interfaces files places g.order g.differ) (are_worlds files places g.order g.differ) g.uses es prefix wprefix g.foreign middle done.0 rs done.2 us mid a wrs w there before h known.steps (enough (address w))))
 
   module _ (types : Names) (named : List TypeDef) (scoped : AddsScope mid named (resolved_scopes_of is) (owner.World (length ws.arena)) xs types) where
     own_scoped : AddsScope mid named resolved (owner.World (length a.worlds)) xs types
@@ -191,16 +193,23 @@ module _ (ws : Worlds) (places : List ℕ) (es : List TypeDef) (prefix : List In
           omega (arith, more, long)
 
       sides : AddsSides resolved (length (prefix ++ done.0)) (address w) types named now.types a.inside now.inside members.functions members.adds.own first written
-      sides = rw (own.interfaces, done.1, own.types, same_types) at (members.adds.holds (address w))
+      sides =
+          subst (λ (ns : Names). AddsSides resolved (length (prefix ++ done.0)) (address w) ns named now.types a.inside now.inside members.functions members.adds.own first written) (own.types ∙ same_types) (
+          subst (λ (l : List Interface). AddsSides resolved (length l) (address w) walk.scope.names.now named now.types a.inside now.inside members.functions members.adds.own first written) done.1 (
+          subst (λ (cs : List ResolvedScope). AddsSides cs (length is.arena) (address w) walk.scope.names.now named now.types a.inside now.inside members.functions members.adds.own first written) scopes_are (
+          subst (λ (js : Interfaces). AddsSides (resolved_scopes_of js) (length js.arena) (address w) walk.scope.names.now named now.types a.inside now.inside members.functions members.adds.own first written) own.interfaces (members.adds.holds (address w)))))
 
       abbrev spot : ℕ
       spot = next_place is now.inside
 
       inner_ends : (h : IsReached now.types (resolved_scopes_of is) (owner.Interface spot) u) → EndsIn (env_of h.names) (h.mid ++ h.more) (handle_fault files known.steps (address u))
-      inner_ends = rw done.1 (λ h. inline_ends files declared_interfaces declared_worlds (interfaces_sort (in_order all places)) (worlds_sort (in_order all places)) (are_interfaces files places g.order g.differ) (are_worlds files places g.order g.differ) g.uses es prefix wprefix g.foreign middle done.0 rs done.2 us mid a wrs w there before types named own_scoped first written (length written) in_front u in_turn_next now.types now.inside members.functions members.adds.own sides covered h known.steps (enough (address u)))
+      inner_ends = subst (λ (l : List Interface). (h : IsReached now.types (resolved_scopes_of is) (owner.Interface (length l + length now.inside)) u) → EndsIn (env_of h.names) (h.mid ++ h.more) (handle_fault files known.steps (address u))) (sym done.1) (
+          subst (λ (cs : List ResolvedScope). (h : IsReached now.types cs (owner.Interface (length (prefix ++ done.0) + length now.inside)) u) → EndsIn (env_of h.names) (h.mid ++ h.more) (handle_fault files known.steps (address u))) (sym scopes_are) (λ h.
+          inline_ends files declared_interfaces declared_worlds (interfaces_sort (in_order all places)) (worlds_sort (in_order all places)) (are_interfaces files places g.order g.differ) (are_worlds files places g.order g.differ) g.uses es prefix wprefix g.foreign middle done.0 rs done.2 us mid a wrs w there before types named own_scoped first written (length written) in_front u in_turn_next now.types now.inside members.functions members.adds.own sides covered h known.steps (enough (address u))))
 
       inner_safe : (new : List TypeDef) (added : Interface) (required : List Required) → AddsInterface (resolved_scopes_of is) spot now.types new added required u → IsSafe (env_of added.types) new (handle_fault files known.steps (address u))
-      inner_safe new added required h = inline_safe files declared_interfaces declared_worlds (interfaces_sort (in_order all places)) (worlds_sort (in_order all places)) (are_interfaces files places g.order g.differ) (are_worlds files places g.order g.differ) g.uses es prefix wprefix g.foreign middle done.0 rs done.2 us mid a wrs w there before types named own_scoped first written (length written) in_front u in_turn_next now.types now.inside members.functions members.adds.own sides covered new added required (rw done.1 at h) known.steps (enough (address u))
+      inner_safe new added required h = inline_safe files declared_interfaces declared_worlds (interfaces_sort (in_order all places)) (worlds_sort (in_order all places)) (are_interfaces files places g.order g.differ) (are_worlds files places g.order g.differ) g.uses es prefix wprefix g.foreign middle done.0 rs done.2 us mid a wrs w there before types named own_scoped first written (length written) in_front u in_turn_next now.types now.inside members.functions members.adds.own sides covered new added required (
+          subst (λ (l : List Interface). AddsInterface resolved (length l + length now.inside) now.types new added required u) done.1 (subst (λ (cs : List ResolvedScope). AddsInterface cs spot now.types new added required u) scopes_are h)) known.steps (enough (address u))
 
       inner_walked : (s : ItemScope) → IsLent s files u → AreAsWalked files is (flat_map own_use s.names.now)
       inner_walked s its = walked u (scopes_inline files w u declared (contains_at (inline_items w) (length written) u in_turn_next)) s.names.now its.named its.placed

@@ -94,7 +94,7 @@ returns-clause-added c =
     }
 
 pub returns-in_err-prefix-clause-first : goal.returns-in_err-prefix-clause-first
-returns-in_err-prefix-clause-first c = λ known is. memory_found c.from_residual.result c.from_residual.ensures.1
+returns-in_err-prefix-clause-first c = λ known is. memory_found _ c.from_residual.result c.from_residual.ensures.1
 
 pub returns-in_err-items-clause-first : goal.returns-in_err-items-clause-first
 returns-in_err-items-clause-first c =
@@ -117,10 +117,10 @@ returns-in_err-made-clause-first c =
     rw (p.1, p.2) (λ known is. worlds_first c.args.names.now _ c.item_order-order.ensures c.requires.legal c.in_ok-items.ensures.first _ _ _ prefix.adds c.deref_mut-lent.result.now (ap (map item_view) c.deref_mut-lent.ensures.value ∙ c.in_ok-items.ensures.items) c.of-named.result c.of-named.ensures known is c.in_ok-resolve_interfaces.ensures.first c.resolve_interfaces.new.interfaces c.in_ok-resolve_interfaces.ensures.files _ _ c.in_ok-resolve_interfaces.ensures.added.holds c.in_ok-resolve_interfaces.ensures.index _ c.in_err-made.ensures.first)
 
 pub returns-in_err-append-clause-first : goal.returns-in_err-append-clause-first
-returns-in_err-append-clause-first c = λ known is. memory_found c.from_residual-in_err-append.result c.from_residual-in_err-append.ensures.1
+returns-in_err-append-clause-first c = λ known is. memory_found _ c.from_residual-in_err-append.result c.from_residual-in_err-append.ensures.1
 
 pub returns-in_err-append-2-clause-first : goal.returns-in_err-append-2-clause-first
-returns-in_err-append-2-clause-first c = λ known is. memory_found c.from_residual-in_err-append-2.result c.from_residual-in_err-append-2.ensures.1
+returns-in_err-append-2-clause-first c = λ known is. memory_found _ c.from_residual-in_err-append-2.result c.from_residual-in_err-append-2.ensures.1
 
 pub returns-clause-first : goal.returns-clause-first
 returns-clause-first c = λ known is.

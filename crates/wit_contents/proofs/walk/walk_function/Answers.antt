@@ -38,7 +38,7 @@ returns-in_err-put_function-clause-first c =
     rw (p.1, p.2) (λ inside n. one_reports (walk_of c.args.item.now c.args.walk.now) (SideFunction (function_view c.args.borrowed)) (stage c.args.types.now inside c.args.walked.now) n _ c.in_err-put_function.ensures.first (λ wrong. (new, says.extended, function_put n new _ (says.first _ n.walk.scoped _ (function_next n)) wrong)))
 
 pub returns-in_err-seen-clause-first : goal.returns-in_err-seen-clause-first
-returns-in_err-seen-clause-first c = λ inside n test right. memory_found c.from_residual-in_err-seen.result c.from_residual-in_err-seen.ensures.1
+returns-in_err-seen-clause-first c = λ inside n test right. memory_found _ c.from_residual-in_err-seen.result c.from_residual-in_err-seen.ensures.1
 
 pub returns-clause-first : goal.returns-clause-first
 returns-clause-first c = λ inside n. one_none (walk_of c.args.item.now c.args.walk.now) (SideFunction (function_view c.args.borrowed)) (stage c.args.types.now inside c.args.walked.now) n _ (returns-clause-adds c inside n) (function_none n c.resolve_function.new.types (c.in_ok-function.ensures.first _ n.walk.scoped _ (function_next n)) c.in_ok-put_function.ensures.first)

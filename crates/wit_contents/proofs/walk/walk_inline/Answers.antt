@@ -66,7 +66,7 @@ returns-in_err-put_inline-clause-first c =
     rw (p.1, p.2) (λ n. one_reports (walk_of c.args.item.now c.args.walk.now) (inline_side c.args.inline) (stage_of c.args.growing.now c.args.walked.now) n _ (c.in_err-put_inline.ensures.first c.args.inline.items.now) (λ wrong. inr (inside_none c.args.inline n c.requires.world c.requires.place c.inside_scope-scope.result c.on-counts.result.inline (ap (λ (k : Counts). k.inline) c.on-counts.ensures) c.inside_scope-scope.ensures.item c.inside_scope-scope.ensures.named c.inside_scope-scope.ensures.placed (stage_of c.args.growing.now c.args.walked.now) c.resolve_inline.new.types c.in_ok-id.ensures.first, ap (λ (o : Option Fault). option_or o put) noted ∙ wrong)))
 
 pub returns-in_err-seen-clause-first : goal.returns-in_err-seen-clause-first
-returns-in_err-seen-clause-first c = λ n test right. memory_found c.from_residual-in_err-seen.result c.from_residual-in_err-seen.ensures.1
+returns-in_err-seen-clause-first c = λ n test right. memory_found _ c.from_residual-in_err-seen.result c.from_residual-in_err-seen.ensures.1
 
 pub returns-clause-first : goal.returns-clause-first
 returns-clause-first c = λ n.

@@ -63,7 +63,7 @@ returns-in_err-put_link-clause-first c =
     rw (p.1, p.2) (λ ts inside n. one_reports (walk_of c.args.item.now c.args.walk.now) (SideLink (path_link c.args.link)) (stage ts inside c.args.walked.now) n _ c.in_err-put_link.ensures.first (link_put n c.id_at-id.result _ noted c.in_ok-place.ensures.first (link_leads n c.in_ok-place.place c.id_at-id.result c.in_ok-place.ensures.leads c.id_at-id.ensures).1))
 
 pub returns-in_err-seen-clause-first : goal.returns-in_err-seen-clause-first
-returns-in_err-seen-clause-first c = λ ts inside n test right. memory_found c.from_residual-in_err-seen.result c.from_residual-in_err-seen.ensures.1
+returns-in_err-seen-clause-first c = λ ts inside n test right. memory_found _ c.from_residual-in_err-seen.result c.from_residual-in_err-seen.ensures.1
 
 pub returns-clause-first : goal.returns-clause-first
 returns-clause-first c = λ ts inside n.

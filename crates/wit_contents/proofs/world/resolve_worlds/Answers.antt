@@ -87,7 +87,7 @@ returns-in_err-resolve_world-in-World-clause-first c =
     rw (q.1, q.2) (λ test is_right. among_kept is_world test ws places i x.place w _ x.next x.at sort (was.first test is_right) (c.in_err-resolve_world-in-World.ensures.first test (is_right.each c.loop-place.worlds c.loop-place.growing.types (arenas c.loop-place.worlds.arena c.loop-place.growing.inside (addresses_in prefix)) was.added.appends.own c.loop-place.place-index x.place c.index-items-place.result was.interfaces x.next x.own sort (c.requires.items.each x.place c.index-items-place.result x.own) was.added.appends.holds refl (rw was.interfaces was.index))))
 
 pub returns-in_err-make_room-clause-first : goal.returns-in_err-make_room-clause-first
-returns-in_err-make_room-clause-first c = λ test right. memory_found c.from_residual.result c.from_residual.ensures.1
+returns-in_err-make_room-clause-first c = λ test right. memory_found _ c.from_residual.result c.from_residual.ensures.1
 
 pub returns-clause-first : goal.returns-clause-first
 returns-clause-first c = λ test right.

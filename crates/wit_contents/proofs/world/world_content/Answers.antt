@@ -161,19 +161,19 @@ returns-clause-first c = λ stable wrong right.
 
 -- or memory failed
 pub returns-in_err-sides-clause-first : goal.returns-in_err-sides-clause-first
-returns-in_err-sides-clause-first c = λ stable wrong right. memory_found c.from_residual-in_err-sides.result c.from_residual-in_err-sides.ensures.1
+returns-in_err-sides-clause-first c = λ stable wrong right. memory_found _ c.from_residual-in_err-sides.result c.from_residual-in_err-sides.ensures.1
 
 pub returns-in_err-functions-clause-first : goal.returns-in_err-functions-clause-first
-returns-in_err-functions-clause-first c = λ stable wrong right. memory_found c.from_residual-in_err-functions.result c.from_residual-in_err-functions.ensures.1
+returns-in_err-functions-clause-first c = λ stable wrong right. memory_found _ c.from_residual-in_err-functions.result c.from_residual-in_err-functions.ensures.1
 
 pub returns-in_err-results-clause-first : goal.returns-in_err-results-clause-first
-returns-in_err-results-clause-first c = λ stable wrong right. memory_found c.from_residual-in_err-results.result c.from_residual-in_err-results.ensures.1
+returns-in_err-results-clause-first c = λ stable wrong right. memory_found _ c.from_residual-in_err-results.result c.from_residual-in_err-results.ensures.1
 
 pub returns-in_err-add_required-clause-first : goal.returns-in_err-add_required-clause-first
-returns-in_err-add_required-clause-first c = λ stable wrong right. memory_found c.from_residual-in_err-add_required.result c.from_residual-in_err-add_required.ensures.1
+returns-in_err-add_required-clause-first c = λ stable wrong right. memory_found _ c.from_residual-in_err-add_required.result c.from_residual-in_err-add_required.ensures.1
 
 pub returns-in_err-add_required-2-clause-first : goal.returns-in_err-add_required-2-clause-first
-returns-in_err-add_required-2-clause-first c = λ stable wrong right. memory_found c.from_residual-in_err-add_required-2.result c.from_residual-in_err-add_required-2.ensures.1
+returns-in_err-add_required-2-clause-first c = λ stable wrong right. memory_found _ c.from_residual-in_err-add_required-2.result c.from_residual-in_err-add_required-2.ensures.1
 
 pub returns-in_err-sides-2-clause-first : goal.returns-in_err-sides-2-clause-first
-returns-in_err-sides-2-clause-first c = λ stable wrong right. memory_found c.from_residual-in_err-sides-2.result c.from_residual-in_err-sides-2.ensures.1
+returns-in_err-sides-2-clause-first c = λ stable wrong right. memory_found _ c.from_residual-in_err-sides-2.result c.from_residual-in_err-sides-2.ensures.1

@@ -44,7 +44,7 @@ returns-in_err-metadata-clause-first c =
     rw (p.1, p.2) (first c.in_ok-as_stated.ensures.first)
 
 pub returns-in_err-world-clause-first : goal.returns-in_err-world-clause-first
-returns-in_err-world-clause-first c = λ wrong right. memory_found c.from_residual-in_err-world.result c.from_residual-in_err-world.ensures.1
+returns-in_err-world-clause-first c = λ wrong right. memory_found _ c.from_residual-in_err-world.result c.from_residual-in_err-world.ensures.1
 
 pub returns-clause-first : goal.returns-clause-first
 returns-clause-first c =
