@@ -288,8 +288,8 @@ module _ (w : ItemWalk) (prefix : List SideItem) (a : Stage) where
   }
 
   -- an inline interface
-  pub member_inline : (x : InlineInterface) (u : Item) (types : List TypeDef) (inside : List Interface) (m : Walked) → inline_after (walk_item w) prefix (inline_side x ∷ []) ≡ u ∷ [] → AddsInside w.walk.interfaces.now a.types types a.inside inside a.walked.required.items m.required.items u → IsExtended a.types types → Puts a.walked.members m.members (inline_side x) [] (inline_entry x.written.now x.name (next_place w.walk.interfaces.now a.inside)) → ((ys : List SideItem) → IsSeen ys a.walked.seen → IsSeen (ys ++ inline_side x ∷ []) m.seen) → AddsMembers w prefix (inline_side x ∷ []) a (stage types inside m)
-  member_inline x u types inside m own step extended put seen = record {
+  pub member_inline : (x : InlineInterface) (u : Item) (types : List TypeDef) (inside : List Interface) (m : Walked) → inline_after (walk_item w) prefix (inline_side x ∷ []) ≡ u ∷ [] → AddsInside w.walk.interfaces.now a.types types a.inside inside a.walked.required.items m.required.items u → Puts a.walked.members m.members (inline_side x) [] (inline_entry x.written.now x.name (next_place w.walk.interfaces.now a.inside)) → ((ys : List SideItem) → IsSeen ys a.walked.seen → IsSeen (ys ++ inline_side x ∷ []) m.seen) → AddsMembers w prefix (inline_side x ∷ []) a (stage types inside m)
+  member_inline x u types inside m own step put seen = record {
     functions = [];
     adds = record {
       own = step.appends.own;
@@ -302,7 +302,7 @@ module _ (w : ItemWalk) (prefix : List SideItem) (a : Stage) where
           subst (λ (us : List Item). AddsSides cs count s names a.types types a.inside inside [] step.appends.own (inline_side x ∷ []) us) (sym own) (
           subst (λ (l : List Interface). AddsSides cs count s names a.types types a.inside l [] step.appends.own (inline_side x ∷ []) (u ∷ [])) (sym step.last) one);
     };
-    extended = extended;
+    extended = step.extended;
     more = ap length step.last ∙ length-append a.inside (step.added ∷ []);
     named = refl;
     seen = seen;

@@ -1,10 +1,10 @@
 -- The walk of a world of the files, and what the world adds: after its names what is on its sides, or nothing.
 use Rattle.std.proofs.Common.{◌≡◌, List, map, refl, sym, ap, ◌∙◌, subst, true, ◌+◌, ℕ, ◌∷◌, [], ◌++◌, Some, length, arith, false, None}
-use Rattle.wit_syntax.proofs.Common.{Address, AllDiffer, Declared, Exported, Id, Imported, Include, Item, ScopeName, SideItem, TheWorld, TypeDef, TypeOwner, World as Written, WorldItem, WorldSide, about, address, and_parts, append-nil, at_back, at_prefix, declared_metadata, eqb-true, flat_map, functions, functions_items, in_turn, in_turn_distinct, includes, inline_after, inline_items, is_ascii_uppercase, is_world, item_function, length-inline_after, list_all, list_any, names_on, nil_from_length, part_items, scope_names, side_items, slice_get, world_part}
+use Rattle.wit_syntax.proofs.Common.{Address, AllDiffer, Declared, Exported, Id, Imported, Include, Item, ScopeName, SideItem, TheWorld, TypeDef, TypeOwner, WorldItem, WorldSide, about, address, and_parts, append-nil, at_back, at_prefix, declared_metadata, eqb-true, flat_map, functions, functions_items, in_turn, in_turn_distinct, includes, inline_after, inline_items, is_ascii_uppercase, item_function, length-inline_after, list_all, list_any, names_on, nil_from_length, part_items, scope_names, side_items, slice_get, world_part}
+use Rattle.wit_walk.proofs.Common.{first_after, no_clashes, none_both, setters_beside, setters_fault}
 use Rattle.wit_arena.proofs.Common.{AddsSides, AddsWorld, AreIncludes, AreSideItems, Interface, IsWorld, Names, Required, World, env_of, function_of, interfaces_at, names_in, settled, type_imports, worlds_at}
 use Rattle.wit_rules.specs.BorrowedFunctions.{function_view}
 use Rattle.wit_rules.specs.Signatures.{HaveOwners, functions_view}
-use Rattle.wit_items.specs.Gathered.{IsItemOf}
 use Rattle.wit_items.specs.BorrowedItems.{item_view, declared_view}
 use Rattle.wit_items.specs.ResolvedInterfaces.{resolved_scopes_of}
 use Rattle.wit_items.specs.declared.interfaces.Interfaces.{Interfaces}
@@ -15,7 +15,7 @@ use Rattle.wit_item_entries.proofs.FunctionFaults.{all_names, turn_texts}
 use Rattle.wit_item_entries.proofs.Owners.{owners, turn_has}
 use Rattle.wit_contents.specs.declared.walk.Walk.{Walk}
 use Rattle.wit_contents.specs.declared.world.WorldScope.{WorldScope}
-use Rattle.wit_contents.specs.WorldWalk.{IsScopeOfWorld, IsWalkOf}
+use Rattle.wit_contents.specs.WorldWalk.{IsFunctionScopeOf, IsScopedWorld, IsWalkOf}
 use Rattle.wit_types.specs.declared.types.TypeOwner.TheVariants as owner
 use Rattle.wit_items.specs.ForeignAddresses.{prefix_of}
 use Rattle.wit_world_sides.specs.Members.{Entry}
@@ -23,9 +23,9 @@ use Rattle.wit_links.proofs.Leading.{addresses_count}
 use Rattle.wit_contents.specs.AddedWorlds.{arenas}
 use Rattle.wit_contents.specs.declared.walk.Walked.{Walked}
 use Rattle.wit_contents.specs.Walk.{AddsAll, HavePlaces, IsWalk, ItemWalk, walk_item, puts_nothing}
+use Rattle.wit_tree.specs.declared.tree.World.{World as Written}
 use Rattle.wit_functions.specs.MaybeFunction.{is_setter}
 use Rattle.wit_functions.proofs.NoSetters.{no_setters}
-use Rattle.wit_walk.proofs.Common.{first_after, no_clashes, none_both, setters_beside, setters_fault}
 use Rattle.wit_refusals.specs.NameScopes.{Name}
 use Rattle.wit_signatures.specs.ForeignName.{name_key, name_of_id}
 use Rattle.wit_externs.specs.AloneFaults.{again, sides_setters}
@@ -37,25 +37,26 @@ use Rattle.wit_contents.proofs.Members.{sides_none}
 use Rattle.wit_contents.proofs.MemberFaults.{world_sides}
 
 -- it is that of a world of the files, whose names are resolved, in turn
-pub walk_of_scope : (w : Walk) (i : BorrowedItem) (s : WorldScope) → IsItemOf w.interfaces.now.files i → is_world (item_view i) ≡ true → IsScopeOfWorld s i → w.scope.names.now ≡ s.names.types → w.scope.results.now ≡ s.results → w.scope.functions.now ≡ s.functions.items → w.turn.now ≡ s.names.turn.items → IsWalkOf w i w.interfaces.now s.names
-walk_of_scope w i s item sort of names results fns lent =
+pub walk_of_scope : (w : Walk) (i : BorrowedItem) (s : WorldScope) → IsScopedWorld w.interfaces.now i s → IsFunctionScopeOf s w.scope → w.turn.now ≡ s.names.turn.items → IsWalkOf w i w.interfaces.now s.names
+walk_of_scope w i s is fns lent =
     let xs = scope_names (item_view i) in
     let ids = s.names.turn.items in
     let env = env_of w.scope.names.now in
-    let own : functions_view w.scope ≡ functions (item_view i) = ap (map function_view) fns ∙ of.functions in
-    let listed : names_in w.scope.names.now ≡ map (λ (id : Id). id.name.now) ids = ap names_in names ∙ s.names.listed in
+    let of = is.scope in
+    let own : functions_view w.scope ≡ functions (item_view i) = ap (map function_view) fns.functions ∙ of.functions in
+    let listed : names_in w.scope.names.now ≡ map (λ (id : Id). id.name.now) ids = ap names_in fns.names ∙ s.names.listed in
     record {
       walk = record {
-        item = item;
-        sort = sort;
+        item = is.world.item;
+        sort = is.world.sort;
         functions = own;
         owners = subst (HaveOwners env) (sym own) (owners (item_view i) env (turn_has xs ids w.scope.names.now of.turn listed));
-        scoped = record { names = all_names xs ids w.scope.names.now of.turn listed; results = rw results of.results };
+        scoped = record { names = all_names xs ids w.scope.names.now of.turn listed; results = rw fns.results of.results };
         turn = rw lent of.turn;
         listed = listed ∙ ap (map (λ (id : Id). id.name.now)) (sym lent);
       };
       interfaces = refl;
-      types = names;
+      types = fns.names;
       turn = lent;
     }
 

@@ -1,5 +1,5 @@
 -- What an interface adds to the arenas.
-use Rattle.std.specs.Prelude.{◌≡◌, ℕ, List, map}
+use Rattle.std.specs.Prelude.{◌≡◌, ◌++◌, ◌∷◌, [], ℕ, List, map}
 use Rattle.wit_types.specs.declared.types.TypeDef.{TypeDef}
 use Rattle.wit_types.specs.declared.types.TypeOwner.{TypeOwner}
 use Rattle.wit_functions.specs.declared.function.Function.{Function}
@@ -9,6 +9,7 @@ use Rattle.wit_syntax.specs.Source.{Item}
 use Rattle.wit_arena.specs.SourceFunctions.{placed_functions}
 use Rattle.wit_arena.specs.Resolving.{IsIndex, Required, ResolvedScope}
 use Rattle.wit_arena.specs.ResolvedArenas.{AddsDeclared, AddsInterface, AddsInterfaces}
+use Rattle.wit_entries.specs.Requiring.{IsExtended}
 use Rattle.wit_items.specs.ForeignAddresses.{prefix_of}
 use Rattle.wit_items.specs.ResolvedInterfaces.{resolved_scopes_of}
 use Rattle.wit_items.specs.BorrowedItems.{item_view}
@@ -22,24 +23,35 @@ use Rattle.wit_item_entries.specs.declared.names.ResolvedNames.{ResolvedNames}
 abbrev pub interfaces_in : List BorrowedItem → List ℕ → List Item
 interfaces_in items places = interfaces_of (in_order (map item_view items) places)
 
--- after the names of an item its functions were added, which are at these names
-abbrev pub AddsTable : ResolvedNames → ResolvedNames → List TypeDef → List TypeDef → Item → List (List ℕ × Function) → Type 0
-AddsTable n n' now new i table = (old : List TypeDef) (cs : List ResolvedScope) (o : TypeOwner) → HasTurn n now i old cs o → (fs : List Function) × AddsBody old new cs o i n.types n.turn.items fs n'.required.items × (table ≡ placed_functions fs)
+-- after the names of an item, which stay, its functions were added, which are at these names
+pub record AddsTable (n n' : ResolvedNames) (now new : List TypeDef) (i : Item) (table : List (List ℕ × Function)) : Type 0 where
+  pub types : n'.types ≡ n.types
+  pub functions : (old : List TypeDef) (cs : List ResolvedScope) (o : TypeOwner) → HasTurn n now i old cs o → (fs : List Function) × AddsBody old new cs o i n.types n.turn.items fs n'.required.items × (table ≡ placed_functions fs)
 
 -- an interface, at a place
-abbrev pub AddsAt : Interfaces → ℕ → List TypeDef → List TypeDef → Interface → List Required → List Required → Item → Type 0
-AddsAt is place old new added before after i = Appends before after (λ rs. AddsInterface (resolved_scopes_of is) place old new added rs i)
-
--- the arena of interfaces is now this one: a declared interface was added, or several were
-abbrev pub AddsOneTo : Interfaces → List Interface → List TypeDef → List TypeDef → List Required → List Required → Item → Type 0
-AddsOneTo is arena old new before after i = Appends before after (λ rs. AddsDeclared (prefix_of is.files) old new is.arena arena rs i)
-
-abbrev pub AddsAllTo : Interfaces → List Interface → List TypeDef → List TypeDef → List Required → List Required → List Item → Type 0
-AddsAllTo is arena old new before after items = Appends before after (λ rs. AddsInterfaces (prefix_of is.files) old new is.arena arena rs items)
-
-abbrev pub AddsAmong : Interfaces → List Interface → List TypeDef → List TypeDef → List Required → List Required → List BorrowedItem → List ℕ → Type 0
-AddsAmong is arena old new before after items places = AddsAllTo is arena old new before after (interfaces_in items places)
+pub record AddsAt (is : Interfaces) (place : ℕ) (old new : List TypeDef) (before after : List Required) (i : Item) (added : Interface) : Type 0 where
+  pub appends : Appends before after (λ rs. AddsInterface (resolved_scopes_of is) place old new added rs i)
+  pub extended : IsExtended old new
 
 -- each interface is found by its name
 abbrev pub IsIndexed : Interfaces → Type 0
 IsIndexed is = IsIndex (resolved_scopes_of is) is.by_name
+
+-- interfaces of the same files come after others, which are found, too, and this is said of what they require
+pub record AppendsInterfaces (old new : Interfaces) (before after : List Required) (adds : List Required → Type 0) : Type 0 where
+  pub files : new.files ≡ old.files
+  pub added : Appends before after adds
+  pub index : IsIndexed new
+
+-- a declared interface was added, or several were, in the order of their places
+abbrev pub AddsOne : Interfaces → Interfaces → List TypeDef → List TypeDef → List Required → List Required → BorrowedItem → Type 0
+AddsOne is now old new before after i = AppendsInterfaces is now before after (λ rs. AddsDeclared (prefix_of is.files) old new is.arena now.arena rs (item_view i))
+
+abbrev pub AddsAmong : Interfaces → Interfaces → List TypeDef → List TypeDef → List Required → List Required → List BorrowedItem → List ℕ → Type 0
+AddsAmong is now old new before after items places = AppendsInterfaces is now before after (λ rs. AddsInterfaces (prefix_of is.files) old new is.arena now.arena rs (interfaces_in items places))
+
+-- this one was added under its name
+pub record AddsNamed (old new : Interfaces) (one : Interface) : Type 0 where
+  pub files : new.files ≡ old.files
+  pub added : new.arena ≡ old.arena ++ one ∷ []
+  pub index : IsIndexed new

@@ -24,7 +24,7 @@ use Rattle.wit_items.specs.declared.interfaces.Interfaces.{Interfaces}
 use Rattle.wit_items.specs.declared.items.Item.{Item as BorrowedItem}
 use Rattle.wit_items.specs.declared.items.ItemScope.{ItemScope}
 use Rattle.wit_item_entries.specs.Body.{functions_in}
-use Rattle.wit_item_entries.specs.ReachedFaults.{IsFaultless, Reaches, item_stability, names_fault}
+use Rattle.wit_item_entries.specs.ReachedFaults.{FindsAt, IsFaultless, Reaches, item_stability, names_fault}
 use Rattle.wit_item_entries.specs.ScopeFunctionFaults.{functions_fault}
 use Rattle.wit_contents.specs.AddedInterfaces.{IsIndexed, interfaces_in}
 
@@ -49,6 +49,10 @@ HasNoFault is i es added = (outcome : Outcome) → IsOutcome (rows_of (names_of 
 
 abbrev pub IsInterfaceFault : Interfaces → ℕ → List TypeDef → ItemScope → Fault → Type 0
 IsInterfaceFault is place old i f = (outcome : Outcome) → IsOutcome (rows_of (names_of i)) outcome → Reaches (resolved_scopes_of is) (owner.Interface place) old [] (in_turn (names_of i) (order_of outcome)) (interface_fault is i outcome) f
+
+-- a call adds it, or finds one
+abbrev pub FindsInterface : Interfaces → ℕ → List TypeDef → List TypeDef → ItemScope → Result Interface ParseError → Type 0
+FindsInterface is place old new i r = FindsAt (HasNoFault is i new) (IsInterfaceFault is place old i) r
 
 -- an item as it is lent, with its names
 pub record IsLent (s : ItemScope) (files : List PackageFile) (w : Item) : Type 0 where

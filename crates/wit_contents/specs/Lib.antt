@@ -5,6 +5,7 @@ pub mod FileFaults
 pub mod InterfaceFaults
 pub mod MemberFaults
 pub mod Outer
+pub mod Ready
 pub mod Walk
 pub mod WorldFaults
 pub mod WorldWalk

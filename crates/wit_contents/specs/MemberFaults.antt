@@ -20,13 +20,16 @@ use Rattle.wit_externs.specs.AloneFaults.{EndsIn, IsSafe, signed_by}
 use Rattle.wit_items.specs.BorrowedItems.{scope_item}
 use Rattle.wit_items.specs.ResolvedInterfaces.{resolved_scopes_of}
 use Rattle.wit_items.specs.declared.interfaces.Interfaces.{Interfaces}
+use Rattle.wit_items.specs.declared.items.Item.{Item as BorrowedItem}
 use Rattle.wit_items.specs.declared.items.ItemScope.{ItemScope}
 use Rattle.wit_item_entries.specs.ReachedFaults.{FindsAt}
 use Rattle.wit_links.specs.Links.{linked_fault}
 use Rattle.wit_world_sides.specs.PutFaults.{put_fault, put_link_fault}
 use Rattle.wit_world_sides.specs.declared.members.Members.{Members}
 use Rattle.wit_contents.specs.InterfaceFaults.{HasNoFault, IsInterfaceFault, IsLent}
-use Rattle.wit_contents.specs.Walk.{AddsMembers, IsNext, ItemWalk, Stage, lead, next_place, stage, walk_item}
+use Rattle.wit_contents.specs.Walk.{AddsMembers, IsNext, ItemWalk, Stage, lead, next_place, stage, stage_of, walk_item, walk_of}
+use Rattle.wit_contents.specs.declared.walk.Growing.{Growing}
+use Rattle.wit_contents.specs.declared.walk.Walk.{Walk}
 use Rattle.wit_contents.specs.declared.walk.Walked.{Walked}
 
 -- a test of what is on the sides, after what comes before it
@@ -107,6 +110,9 @@ FindsMembers w prefix xs a r = (wrong : MemberTest) → AreRightMembers wrong w 
 abbrev pub FindsNext : {T : Type 0} → ItemWalk → List SideItem → Stage → Result T ParseError → Type 0
 FindsNext w xs a r = (n : IsNext w xs a.walked) → FindsMembers w n.prefix xs a r
 
+abbrev pub FindsItems : {T : Type 0} → BorrowedItem → Walk → List SideItem → Growing → Walked → Result T ParseError → Type 0
+FindsItems i w xs old m r = FindsNext (walk_of i w) xs (stage_of old m) r
+
 -- so without inline interfaces, whatever these are so far
-abbrev pub FindsTyped : {T : Type 0} → ItemWalk → List SideItem → List TypeDef → Walked → Result T ParseError → Type 0
-FindsTyped w xs old m r = (inside : List Interface) → FindsNext w xs (stage old inside m) r
+abbrev pub FindsTyped : {T : Type 0} → BorrowedItem → Walk → List SideItem → List TypeDef → Walked → Result T ParseError → Type 0
+FindsTyped i w xs old m r = (inside : List Interface) → FindsNext (walk_of i w) xs (stage old inside m) r

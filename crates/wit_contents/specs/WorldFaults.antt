@@ -32,6 +32,7 @@ use Rattle.wit_contents.specs.AddedWorlds.{AreIndexed, worlds_in}
 use Rattle.wit_contents.specs.MemberFaults.{AreRightMembers, MemberTest}
 use Rattle.wit_contents.specs.Walk.{IsStart, ItemWalk, stage, walk_item, walk_of}
 use Rattle.wit_contents.specs.WorldWalk.{IsWalkOf}
+use Rattle.wit_contents.specs.declared.walk.Growing.{Growing}
 use Rattle.wit_contents.specs.declared.walk.Walk.{Walk}
 use Rattle.wit_contents.specs.declared.walk.Walked.{Walked}
 
@@ -48,15 +49,15 @@ abbrev pub AreRightAfter : MemberTest → ItemWalk → List TypeDef → List Int
 AreRightAfter member w old inside start = AreRightMembers member w [] (side_items (walk_item w)) (stage old inside start)
 
 -- a call finds what each test says of the members of a world, after its names, that is right of them
-abbrev pub FindsWalk : {T : Type 0} → ItemWalk → List TypeDef → List Interface → Result T ParseError → Type 0
-FindsWalk w old inside r = (member : MemberTest) → ((start : Walked) → IsStart w start → AreRightAfter member w old inside start) → Finds (sides_fault (walk_item w) w.walk.turn.now member) r
+abbrev pub FindsWalk : {T : Type 0} → ItemWalk → Growing → Result T ParseError → Type 0
+FindsWalk w old r = (member : MemberTest) → ((start : Walked) → IsStart w start → AreRightAfter member w old.types old.inside start) → Finds (sides_fault (walk_item w) w.walk.turn.now member) r
 
 -- so of a world of the files with these names, whichever walk that is
 abbrev pub AreRightSides : MemberTest → BorrowedItem → Interfaces → ResolvedNames → List TypeDef → List Interface → Type 0
 AreRightSides member i is names old inside = (w : Walk) (start : Walked) → IsWalkOf w i is names → IsStart (walk_of i w) start → AreRightAfter member (walk_of i w) old inside start
 
-abbrev pub FindsSides : {T : Type 0} → BorrowedItem → Interfaces → ResolvedNames → List TypeDef → List Interface → Result T ParseError → Type 0
-FindsSides i is names old inside r = (member : MemberTest) → AreRightSides member i is names old inside → Finds (sides_fault (item_view i) names.turn.items member) r
+abbrev pub FindsSides : {T : Type 0} → BorrowedItem → Interfaces → ResolvedNames → Growing → Result T ParseError → Type 0
+FindsSides i is names old r = (member : MemberTest) → AreRightSides member i is names old.types old.inside → Finds (sides_fault (item_view i) names.turn.items member) r
 
 -- a call adds its names, or finds the first fault of these
 abbrev pub FindsNames : Worlds → BorrowedItem → List TypeDef → List TypeDef → Result ResolvedNames ParseError → Type 0
@@ -84,8 +85,8 @@ pub record IsRightOfWorld (wrong : Item → Option Fault) (ws : Worlds) (old : L
   pub members : (names : ResolvedNames) (es : List TypeDef) → AddsScope old es (resolved_scopes_of ws.interfaces.now) (owner.World (length ws.arena)) (scope_names (item_view i)) names.types → HasNoHeadFault ws i names.types es → AreRightSides member i ws.interfaces.now names es inside
 
 -- a call finds what it says
-abbrev pub FindsWorld : {T : Type 0} → Worlds → List TypeDef → List Interface → BorrowedItem → Result T ParseError → Type 0
-FindsWorld ws old inside i r = (wrong : Item → Option Fault) → IsRightOfWorld wrong ws old inside i → Finds (wrong (item_view i)) r
+abbrev pub FindsWorld : {T : Type 0} → Worlds → Growing → BorrowedItem → Result T ParseError → Type 0
+FindsWorld ws old i r = (wrong : Item → Option Fault) → IsRightOfWorld wrong ws old.types old.inside i → Finds (wrong (item_view i)) r
 
 -- so of each world among items, in the order of their places, once those before it are resolved
 pub record AreRightOfWorlds (wrong : Item → Option Fault) (is : Interfaces) (prefix : List World) (old : List TypeDef) (items : List BorrowedItem) (places : List ℕ) : Type 0 where

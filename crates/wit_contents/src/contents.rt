@@ -1,13 +1,9 @@
 //! What the files of a package make: its arenas, and what it names of other packages.
-ghost use Rattle.std.specs.Prelude.{◌≡◌, Ok, [], map, IfOk, IfErr};
+ghost use Rattle.std.specs.Prelude.{◌≡◌, [], IfOk, IfErr};
 ghost use Rattle.wit_type_tree.specs.RefusalText.{IsAllocationFailure};
-ghost use Rattle.wit_syntax.specs.Fault.{Fault};
-ghost use Rattle.wit_syntax.specs.Source.{first_foreign_uses};
-ghost use Rattle.wit_syntax.specs.Broken.{IsBrokenNames};
-ghost use Rattle.wit_contents.specs.AddedFiles.{AddsFiles, MakeContents};
+ghost use Rattle.wit_contents.specs.AddedFiles.{MakeContents, AddsResolved, AreForeignItems, IsMadeOf};
 ghost use Rattle.wit_contents.specs.FileFaults.{FindsAfter};
-ghost use Rattle.wit_syntax.specs.Foreign.{foreign_packages};
-ghost use Rattle.wit_arena.specs.Whole.{dep};
+ghost use Rattle.wit_contents.specs.Ready.{Begins};
 
 use crate::declared::resolve_interfaces;
 use crate::world::resolve_worlds;
@@ -44,11 +40,8 @@ fn resolve_files<'f, 'a>(
     files: &'f [PackageFile<'a>],
     types: &mut Entries,
 ) -> ParseResult<Resolved>
-    requires empty { types.old ≡ [] }
-    requires files { names.now ≡ files.now }
-    requires legal { (f : Fault) → IsBrokenNames names.now f → ⊥ }
-    ensures added { IfOk result (λ r. AddsFiles names.now types.new r.interfaces r.worlds r.required.items) }
-    ensures unknown { IfOk result (λ r. r.unknown_type_spans.items ≡ map (λ t. t.id.span) (first_foreign_uses names.now)) }
+    requires { Begins names.now files.now types.old }
+    ensures added { IfOk result (AddsResolved names.now types.new) }
     ensures first { FindsAfter 6 names.now result }
 {
     let order = names.item_order();
@@ -90,10 +83,7 @@ fn foreign_items(
     unknown_type_spans: Vec<Span>,
     required: Vec<Required>,
 ) -> Result<ForeignItems, AllocError>
-    ensures deps { IfOk result (λ foreign. foreign.deps ≡ map (dep names.now) (foreign_packages names.now)) }
-    ensures spans { IfOk result (λ foreign. foreign.dep_spans ≡ map (λ v. v.of.span) (foreign_packages names.now)) }
-    ensures unknown { IfOk result (λ foreign. foreign.unknown_type_spans ≡ unknown_type_spans.items) }
-    ensures required { IfOk result (λ foreign. foreign.required_resource_types ≡ required.items) }
+    ensures { IfOk result (AreForeignItems names.now unknown_type_spans.items required.items) }
 {
     let (deps, dep_spans) = foreign_deps(alloc, names.foreign_visits())?;
     Ok(ForeignItems {
@@ -120,9 +110,7 @@ fn with_foreign(
     worlds: Arena<World, WorldPlace>,
     named: Result<ForeignItems, AllocError>,
 ) -> ParseResult<Made>
-    ensures interfaces { IfOk result (λ made. made.interfaces ≡ interfaces) }
-    ensures worlds { IfOk result (λ made. made.worlds ≡ worlds) }
-    ensures foreign { IfOk result (λ made. named ≡ Ok made.foreign) }
+    ensures made { IfOk result (IsMadeOf interfaces worlds named) }
     ensures refused { IfErr result IsAllocationFailure }
 {
     let (arenas, foreign) = pair_with((interfaces, worlds), named)?;
@@ -141,9 +129,7 @@ fn resolve_named<'f, 'a>(
     files: &'f [PackageFile<'a>],
     types: &mut Entries,
 ) -> ParseResult<Made>
-    requires empty { types.old ≡ [] }
-    requires files { names.now ≡ files.now }
-    requires legal { (f : Fault) → IsBrokenNames names.now f → ⊥ }
+    requires { Begins names.now files.now types.old }
     ensures made { IfOk result (λ made. MakeContents names.now types.new made.interfaces made.worlds made.foreign) }
     ensures first { FindsAfter 6 names.now result }
 {

@@ -1,12 +1,10 @@
 //! Declared interfaces, one after another.
-ghost use Rattle.std.specs.Prelude.{◌≡◌, ◌<◌, ◌++◌, ◌∷◌, [], false, All, Some, length, IfErr, OnOk, map};
-ghost use Rattle.wit_syntax.specs.Source.{is_world, about};
+ghost use Rattle.std.specs.Prelude.{IfErr, OnOk};
 ghost use Rattle.wit_type_tree.specs.RefusalText.{IsAllocationFailure};
 ghost use Rattle.wit_items.specs.BorrowedItems.{item_view};
-ghost use Rattle.wit_contents.specs.Outer.{AreOuter};
-ghost use Rattle.wit_items.specs.Gathered.{AreItemsOf, IsItemOf};
-ghost use Rattle.wit_contents.specs.AddedInterfaces.{AddsAmong, AddsOneTo, IsIndexed};
+ghost use Rattle.wit_contents.specs.AddedInterfaces.{AddsAmong, AddsOne, AddsNamed};
 ghost use Rattle.wit_contents.specs.InterfaceFaults.{FindsAmong, FindsOne};
+ghost use Rattle.wit_contents.specs.Ready.{AreReady, CanAddInterface, IsNextInterface};
 
 use crate::interface::interface_of;
 use wit_entries::entries::Entries;
@@ -23,11 +21,8 @@ fn add_interface(
     name: &str,
     interface: Interface,
 ) -> ParseResult<()>
-    requires index { IsIndexed interfaces.old }
-    requires named { interface.name ≡ Some name.now }
-    ensures files { OnOk result (interfaces.new.files ≡ interfaces.old.files) }
-    ensures added { OnOk result (interfaces.new.arena ≡ interfaces.old.arena ++ interface ∷ []) }
-    ensures index { OnOk result (IsIndexed interfaces.new) }
+    requires { CanAddInterface interfaces.old name.now interface }
+    ensures adds { OnOk result (AddsNamed interfaces.old interfaces.new interface) }
     ensures refused { IfErr result IsAllocationFailure }
 {
     let alloc = *interfaces.by_name.allocator();
@@ -45,13 +40,8 @@ fn resolve_interface<'f, 'a>(
     required: &mut Vec<Required>,
     interfaces: &mut Interfaces<'_, '_, 'f, 'a>,
 ) -> ParseResult<()>
-    requires called { (about (item_view item.now).declared).called ≡ Some (about (item_view item.now).declared).id.name.now }
-    requires sort { is_world (item_view item.now) ≡ false }
-    requires item { IsItemOf interfaces.old.files item.now }
-    requires index { IsIndexed interfaces.old }
-    ensures files { OnOk result (interfaces.new.files ≡ interfaces.old.files) }
-    ensures added { OnOk result (AddsOneTo interfaces.old interfaces.new.arena types.old types.new required.old.items required.new.items (item_view item.now)) }
-    ensures index { OnOk result (IsIndexed interfaces.new) }
+    requires { IsNextInterface interfaces.old item.now }
+    ensures adds { OnOk result (AddsOne interfaces.old interfaces.new types.old types.new required.old.items required.new.items item.now) }
     ensures first { FindsOne interfaces.old types.old (item_view item.now) result }
 {
     let place = interfaces.arena.next_id();
@@ -70,13 +60,8 @@ pub fn resolve_interfaces<'f, 'a>(
     interfaces: &mut Interfaces<'_, '_, 'f, 'a>,
     places: &[usize],
 ) -> ParseResult<()>
-    requires within { All (λ place. place < length items.now) places.now }
-    requires outer { AreOuter (map item_view items.now) }
-    requires items { AreItemsOf interfaces.old.files items.now }
-    requires index { IsIndexed interfaces.old }
-    ensures files { OnOk result (interfaces.new.files ≡ interfaces.old.files) }
-    ensures added { OnOk result (AddsAmong interfaces.old interfaces.new.arena types.old types.new required.old.items required.new.items items.now places.now) }
-    ensures index { OnOk result (IsIndexed interfaces.new) }
+    requires { AreReady interfaces.old items.now places.now }
+    ensures added { OnOk result (AddsAmong interfaces.old interfaces.new types.old types.new required.old.items required.new.items items.now places.now) }
     ensures first { FindsAmong interfaces.old types.old items.now places.now result }
 {
     for place in places {

@@ -1,22 +1,16 @@
 //! An interface, whether it is declared or written in a world.
-ghost use Rattle.std.specs.Prelude.{◌≡◌, ◌<◌, ◌++◌, List, false, length, IfOk, OnOk, map};
-ghost use Rattle.wit_types.specs.declared.types.TypeDef.{TypeDef};
-ghost use Rattle.wit_types.specs.declared.types.TypeOwner.{TypeOwner as Owner};
-ghost use Rattle.wit_syntax.specs.Source.{is_world, scope_names as the_names, about};
+ghost use Rattle.std.specs.Prelude.{◌≡◌, ◌<◌, ◌++◌, length, IfOk, map};
+ghost use Rattle.wit_syntax.specs.Source.{about};
 ghost use Rattle.wit_entries.specs.Requiring.{IsExtended};
 ghost use Rattle.wit_rules.specs.BorrowedFunctions.{function_view};
 ghost use Rattle.wit_signatures.specs.ForeignName.{name_of_function, name_of_id};
 ghost use Rattle.wit_items.specs.BorrowedItems.{declared_view, scope_item};
 ghost use Rattle.wit_first.specs.First.{Finds};
-ghost use Rattle.wit_arena.specs.Resolving.{ResolvedScope, env_of};
+ghost use Rattle.wit_arena.specs.Resolving.{env_of};
 ghost use Rattle.wit_externs.specs.AloneFaults.{FindsIn, lone_setters};
-ghost use Rattle.wit_items.specs.ForeignAddresses.{prefix_of};
-ghost use Rattle.wit_scopes.specs.PlacedNames.{AreNamesPlaced};
-ghost use Rattle.wit_scopes.specs.BorrowedNames.{name_view};
-ghost use Rattle.wit_item_entries.specs.Body.{HasTurn};
-ghost use Rattle.wit_item_entries.specs.ReachedFaults.{FindsAt};
-ghost use Rattle.wit_contents.specs.InterfaceFaults.{HasNoFault, IsInterfaceFault, rest_fault};
+ghost use Rattle.wit_contents.specs.InterfaceFaults.{FindsInterface, rest_fault};
 ghost use Rattle.wit_contents.specs.AddedInterfaces.{AddsAt, AddsTable};
+ghost use Rattle.wit_contents.specs.Ready.{IsInterfaceScope, IsNamedScope};
 
 use std::alloc::{AllocError, Global};
 use wit_entries::entries::Entries;
@@ -61,10 +55,7 @@ fn functions_of<'a>(
     types: &mut Entries,
     names: &mut ResolvedNames<'a>,
 ) -> ParseResult<TextTable<Function>>
-    requires sort { is_world (scope_item item.now) ≡ false }
-    requires named { map name_view item.now.names.now ≡ the_names (scope_item item.now) }
-    requires added { (old : List TypeDef) × (cs : List ResolvedScope) × (o : Owner) × HasTurn names.old types.old (scope_item item.now) old cs o }
-    ensures types { OnOk result (names.new.types ≡ names.old.types) }
+    requires { IsNamedScope item.now names.old types.old }
     ensures adds { IfOk result (AddsTable names.old names.new types.old types.new (scope_item item.now)) }
     ensures extended { IsExtended types.old types.new }
     ensures first { FindsIn (env_of names.old.types) types.new (rest_fault item.now names.old.turn.items) result }
@@ -97,12 +88,9 @@ pub fn interface_of<'f, 'a>(
     interfaces: &Interfaces<'_, '_, 'f, 'a>,
     place: InterfaceId,
 ) -> ParseResult<Interface>
-    requires sort { is_world (scope_item item.now) ≡ false }
-    requires named { map name_view item.now.names.now ≡ the_names (scope_item item.now) }
-    requires placed { AreNamesPlaced (prefix_of interfaces.now.files) item.now.names.now }
-    ensures adds { IfOk result (λ added. AddsAt interfaces.now place types.old types.new added required.old.items required.new.items (scope_item item.now)) }
-    ensures extended { OnOk result (IsExtended types.old types.new) }
-    ensures first { FindsAt (HasNoFault interfaces.now item.now types.new) (IsInterfaceFault interfaces.now place types.old item.now) result }
+    requires { IsInterfaceScope interfaces.now.files item.now }
+    ensures adds { IfOk result (AddsAt interfaces.now place types.old types.new required.old.items required.new.items (scope_item item.now)) }
+    ensures first { FindsInterface interfaces.now place types.old types.new item.now result }
 {
     let alloc = *interfaces.by_name.allocator();
     let id = declared_name(&item.declared);

@@ -1,10 +1,7 @@
 //! What a world has on its sides: the names of its scope, and after them what it imports and exports.
 ghost use Rattle.std.specs.Prelude.{◌≡◌, IfOk};
 ghost use Rattle.std.specs.List.{list_all};
-ghost use Rattle.wit_syntax.specs.ScopeTables.{includes};
-ghost use Rattle.wit_items.specs.BorrowedItems.{item_view};
-ghost use Rattle.wit_world_sides.specs.Settled.{none_of};
-ghost use Rattle.wit_contents.specs.Walk.{AddsAll, IsWalk, puts_nothing, walk_of};
+ghost use Rattle.wit_contents.specs.Walk.{AddsAllOf, puts_nothing, walk_of, IsClosedWalk};
 ghost use Rattle.wit_contents.specs.WorldFaults.{FindsWalk};
 
 use crate::walk::{Growing, Walk, Walked, walk_parts};
@@ -85,10 +82,9 @@ pub fn walk_sides<'f, 'a>(
     growing: &mut Growing,
     closed: bool,
 ) -> ParseResult<Walked>
-    requires walk { IsWalk (walk_of item.now walk.now) }
-    requires closed { closed ≡ none_of (includes (item_view item.now)) }
-    ensures adds { IfOk result (AddsAll (walk_of item.now walk.now) growing.old.types growing.new.types growing.old.inside growing.new.inside) }
-    ensures first { FindsWalk (walk_of item.now walk.now) growing.old.types growing.old.inside result }
+    requires { IsClosedWalk (walk_of item.now walk.now) closed }
+    ensures adds { IfOk result (AddsAllOf item.now walk.now growing.old growing.new) }
+    ensures first { FindsWalk (walk_of item.now walk.now) growing.old result }
 {
     let alloc = *walk.interfaces.by_name.allocator();
     let world = declared_world(&item.declared);

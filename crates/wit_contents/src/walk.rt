@@ -1,19 +1,14 @@
 //! What a world imports and exports, in source order: each is resolved, checked and put on its side.
-ghost use Rattle.std.specs.Prelude.{◌≡◌, ◌+◌, ◌∷◌, [], IfOk, List, OnOk, false, length, map};
+ghost use Rattle.std.specs.Prelude.{◌≡◌, ◌+◌, ◌∷◌, [], IfOk, List, OnOk, length};
 ghost use Rattle.wit_types.specs.declared.types.TypeDef.{TypeDef as TheType};
 ghost use Rattle.wit_syntax.specs.Function.{side_function};
-ghost use Rattle.wit_syntax.specs.Sides.{SideFunction, SideInline, SideLink, part_items, side_items};
-ghost use Rattle.wit_syntax.specs.Source.{DefinitionPart, is_world, item_name, scope_names as the_names};
-ghost use Rattle.wit_entries.specs.Requiring.{IsExtended};
+ghost use Rattle.wit_syntax.specs.Sides.{side_items};
 ghost use Rattle.wit_rules.specs.BorrowedFunctions.{function_view};
-ghost use Rattle.wit_items.specs.ForeignAddresses.{prefix_of};
-ghost use Rattle.wit_items.specs.BorrowedItems.{item_view, scope_item};
-ghost use Rattle.wit_scopes.specs.PlacedNames.{AreNamesPlaced};
-ghost use Rattle.wit_scopes.specs.BorrowedNames.{name_view};
-ghost use Rattle.wit_world_sides.specs.Members.{path_link};
-ghost use Rattle.wit_links.specs.SideCounts.{inline_side, seen_on};
-ghost use Rattle.wit_contents.specs.MemberFaults.{FindsInside, FindsNext, FindsTyped};
-ghost use Rattle.wit_contents.specs.Walk.{AddsInside, AddsItems, AddsTyped, IsNext, items_of, next_place, resource_items, stage_of, walk_of};
+ghost use Rattle.wit_items.specs.BorrowedItems.{item_view};
+ghost use Rattle.wit_links.specs.SideCounts.{inline_side};
+ghost use Rattle.wit_contents.specs.MemberFaults.{FindsInside, FindsTyped, FindsItems};
+ghost use Rattle.wit_contents.specs.Walk.{AddsInline, AddsItems, AddsTyped, IsNext, items_of, next_place, resource_items, walk_of, IsInlineAt, IsNextInline, function_items, link_items, definition_items};
+ghost use Rattle.wit_contents.specs.Ready.{IsInterfaceScope};
 
 use crate::interface::interface_of;
 use std::alloc::AllocError;
@@ -85,12 +80,9 @@ fn resolve_inline<'f, 'a>(
     interfaces: &Interfaces<'_, '_, 'f, 'a>,
     inside: &mut Arena<Interface, InterfacePlace>,
 ) -> ParseResult<InterfaceId>
-    requires sort { is_world (scope_item scope.now) ≡ false }
-    requires named { map name_view scope.now.names.now ≡ the_names (scope_item scope.now) }
-    requires placed { AreNamesPlaced (prefix_of interfaces.now.files) scope.now.names.now }
+    requires { IsInterfaceScope interfaces.now.files scope.now }
     ensures id { IfOk result (λ id. id ≡ next_place interfaces.now inside.old) }
-    ensures adds { OnOk result (AddsInside interfaces.now types.old types.new inside.old inside.new required.old.items required.new.items (scope_item scope.now)) }
-    ensures extended { OnOk result (IsExtended types.old types.new) }
+    ensures adds { OnOk result (AddsInline interfaces.now types.old types.new inside.old inside.new required.old.items required.new.items scope.now) }
     ensures first { FindsInside interfaces.now types.old types.new inside.old scope.now result }
 {
     let id = next_inside(interfaces, inside)?;
@@ -109,9 +101,9 @@ fn walk_function<'f, 'a>(
     types: &mut Entries,
     walked: &mut Walked,
 ) -> ParseResult<()>
-    requires { IsNext (walk_of item.now walk.now) (SideFunction (function_view borrowed) ∷ []) walked.old }
-    ensures adds { OnOk result (AddsTyped item.now walk.now (SideFunction (function_view borrowed.entry) ∷ []) types.old types.new walked.old walked.new) }
-    ensures first { FindsTyped (walk_of item.now walk.now) (SideFunction (function_view borrowed.entry) ∷ []) types.old walked.old result }
+    requires { IsNext (walk_of item.now walk.now) (function_items borrowed) walked.old }
+    ensures adds { OnOk result (AddsTyped item.now walk.now (function_items borrowed.entry) types.old types.new walked.old walked.new) }
+    ensures first { FindsTyped item.now walk.now (function_items borrowed.entry) types.old walked.old result }
 {
     let alloc = *walk.interfaces.by_name.allocator();
     let place = walked.seen.functions;
@@ -131,9 +123,9 @@ fn walk_link<'f, 'a>(
     link: PathExtern<'f, 'a>,
     walked: &mut Walked,
 ) -> ParseResult<()>
-    requires { IsNext (walk_of item.now walk.now) (SideLink (path_link link) ∷ []) walked.old }
-    ensures adds { OnOk result ((ts : List TheType) → AddsTyped item.now walk.now (SideLink (path_link link.entry) ∷ []) ts ts walked.old walked.new) }
-    ensures first { (ts : List TheType) → FindsTyped (walk_of item.now walk.now) (SideLink (path_link link.entry) ∷ []) ts walked.old result }
+    requires { IsNext (walk_of item.now walk.now) (link_items link) walked.old }
+    ensures adds { OnOk result ((ts : List TheType) → AddsTyped item.now walk.now (link_items link.entry) ts ts walked.old walked.new) }
+    ensures first { (ts : List TheType) → FindsTyped item.now walk.now (link_items link.entry) ts walked.old result }
 {
     let alloc = *walk.interfaces.by_name.allocator();
     check_metadata(alloc, &link.written.attributes)?;
@@ -156,11 +148,9 @@ fn walk_inline<'f, 'a>(
     growing: &mut Growing,
     walked: &mut Walked,
 ) -> ParseResult<()>
-    requires next { IsNext (walk_of item.now walk.now) (inline_side inline ∷ []) walked.old }
-    requires world { inline.world.now ≡ item_name (item_view item.now) }
-    requires place { inline.place ≡ (seen_on inline.written.now.side walked.old.seen).interfaces }
+    requires { IsNextInline (walk_of item.now walk.now) inline walked.old }
     ensures adds { OnOk result (AddsItems item.now walk.now (inline_side inline.entry ∷ []) growing.old walked.old growing.new walked.new) }
-    ensures first { FindsNext (walk_of item.now walk.now) (inline_side inline.entry ∷ []) (stage_of growing.old walked.old) result }
+    ensures first { FindsItems item.now walk.now (inline_side inline.entry ∷ []) growing.old walked.old result }
 {
     let alloc = *walk.interfaces.by_name.allocator();
     let side = inline.written.side;
@@ -199,9 +189,7 @@ fn inline_at<'f, 'a>(
     name: Id<'a>,
     items: &'f [InterfaceItem<'a>],
 ) -> InlineInterface<'f, 'a>
-    ensures side { inline_side result ≡ SideInline written.now name.entry items.now }
-    ensures world { result.world.now ≡ world.now.name.name.now }
-    ensures place { result.place ≡ place }
+    ensures { IsInlineAt world.now place written.now name.entry items.now result }
 {
     InlineInterface {
         world: world.name.name,
@@ -222,7 +210,7 @@ fn walk_extern<'f, 'a>(
 ) -> ParseResult<()>
     requires { IsNext (walk_of item.now walk.now) (items_of written.now) walked.old }
     ensures adds { OnOk result (AddsItems item.now walk.now (items_of written.now) growing.old walked.old growing.new walked.new) }
-    ensures first { FindsNext (walk_of item.now walk.now) (items_of written.now) (stage_of growing.old walked.old) result }
+    ensures first { FindsItems item.now walk.now (items_of written.now) growing.old walked.old result }
 {
     match &written.kind {
         ExternKind::Interface(name, items) => {
@@ -258,7 +246,7 @@ fn walk_extern<'f, 'a>(
 
 /// The functions of a resource; none of another definition.
 fn resource_functions<'t, 'a>(definition: &'t TypeDef<'a>) -> &'t [ResourceFunc<'a>]
-    ensures { part_items (DefinitionPart definition.now) ≡ resource_items definition.now.name result.now }
+    ensures { definition_items definition.now ≡ resource_items definition.now.name result.now }
 {
     match &definition.body {
         TypeBody::Resource { funcs } => funcs,
@@ -274,9 +262,9 @@ fn walk_definition<'f, 'a>(
     types: &mut Entries,
     walked: &mut Walked,
 ) -> ParseResult<()>
-    requires { IsNext (walk_of item.now walk.now) (part_items (DefinitionPart definition.now)) walked.old }
-    ensures adds { OnOk result (AddsTyped item.now walk.now (part_items (DefinitionPart definition.now)) types.old types.new walked.old walked.new) }
-    ensures first { FindsTyped (walk_of item.now walk.now) (part_items (DefinitionPart definition.now)) types.old walked.old result }
+    requires { IsNext (walk_of item.now walk.now) (definition_items definition.now) walked.old }
+    ensures adds { OnOk result (AddsTyped item.now walk.now (definition_items definition.now) types.old types.new walked.old walked.new) }
+    ensures first { FindsTyped item.now walk.now (definition_items definition.now) types.old walked.old result }
 {
     for function in resource_functions(definition) {
         walk_function(
@@ -299,7 +287,7 @@ pub(crate) fn walk_parts<'f, 'a>(
 ) -> ParseResult<()>
     requires { IsNext (walk_of item.now walk.now) (side_items (item_view item.now)) walked.old }
     ensures adds { OnOk result (AddsItems item.now walk.now (side_items (item_view item.now)) growing.old walked.old growing.new walked.new) }
-    ensures first { FindsNext (walk_of item.now walk.now) (side_items (item_view item.now)) (stage_of growing.old walked.old) result }
+    ensures first { FindsItems item.now walk.now (side_items (item_view item.now)) growing.old walked.old result }
 {
     let world = declared_world(&item.declared);
     for part in world_items(world) {

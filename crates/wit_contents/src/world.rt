@@ -1,19 +1,16 @@
 //! Declared worlds.
-ghost use Rattle.std.specs.Prelude.{◌≡◌, ◌<◌, ◌≤◌, ◌+◌, ◌++◌, ◌∷◌, [], All, List, None, true, length, IfOk, IfErr, OnOk};
+ghost use Rattle.std.specs.Prelude.{◌≡◌, List, None, IfOk, IfErr, OnOk};
 ghost use Rattle.wit_type_tree.specs.RefusalText.{IsAllocationFailure};
-ghost use Rattle.wit_syntax.specs.Source.{ScopeName, about, is_world};
-ghost use Rattle.wit_syntax.specs.Sides.{inline_items};
-ghost use Rattle.wit_arena.specs.UnfoldedTypes.{IsWorld};
-ghost use Rattle.wit_arena.specs.Resolving.{IsWorldIndex};
-ghost use Rattle.wit_arena.specs.ResolvedArenas.{worlds_at};
-ghost use Rattle.wit_items.specs.BorrowedItems.{declared_view, item_view, others_of};
+ghost use Rattle.wit_syntax.specs.Source.{ScopeName};
+ghost use Rattle.wit_items.specs.BorrowedItems.{item_view};
 ghost use Rattle.wit_items.specs.SourceItems.{metadata_view};
-ghost use Rattle.wit_items.specs.Gathered.{AreItemsOf, IsItemOf};
+ghost use Rattle.wit_items.specs.Gathered.{IsItemOf};
 ghost use Rattle.wit_item_entries.specs.NameOrder.{IsTurn};
 ghost use Rattle.wit_item_entries.specs.ReachedFaults.{item_stability};
-ghost use Rattle.wit_contents.specs.AddedWorlds.{AddsContent, AddsNamesOf, AddsOne, AddsTo, AddsWorldsAmong, AreIndexed};
+ghost use Rattle.wit_contents.specs.AddedWorlds.{AddsContent, AddsNamesOf, AddsWorldsAmong, AddsNamedWorld, AddsNextWorld, AddsWorldOf, HasContent};
 ghost use Rattle.wit_contents.specs.WorldFaults.{FindsNames, FindsSides, FindsWorld, FindsWorlds};
-ghost use Rattle.wit_contents.specs.WorldWalk.{AddsSidesOf, AreNamesAlone, IsScopeOfWorld};
+ghost use Rattle.wit_contents.specs.WorldWalk.{AddsSidesOf, AddsNamesAlone, IsFunctionScopeOf, IsScopedWorld, IsWorldOf};
+ghost use Rattle.wit_contents.specs.Ready.{AreReadyWorlds, CanAddWorld, IsNextWorld};
 
 use crate::sides::{put_nothing, walk_sides};
 use crate::walk::{Growing, Walk, Walked};
@@ -58,6 +55,13 @@ pub struct ResolvedWorlds {
     pub required: Vec<Required>,
 }
 
+/// What grows while worlds are resolved, and what they require of types of other packages.
+#[derive(Drop)]
+pub struct Resolving {
+    pub growing: Growing,
+    pub required: Vec<Required>,
+}
+
 /// What the functions of a world are read in: its names, which are resolved, the definitions that are
 /// written as results, and its functions as they are written. Where it includes nothing, it is
 /// `closed`.
@@ -71,11 +75,8 @@ pub struct WorldScope<'f, 'a> {
 
 /// Adds a declared world, under its name.
 fn add_world(worlds: &mut Worlds<'_, '_, '_, '_, '_>, name: &str, world: World) -> ParseResult<()>
-    requires index { AreIndexed worlds.old }
-    requires named { world.name ≡ name.now }
-    ensures interfaces { OnOk result (worlds.new.interfaces ≡ worlds.old.interfaces) }
-    ensures added { OnOk result (worlds.new.arena ≡ worlds.old.arena ++ world ∷ []) }
-    ensures index { OnOk result (AreIndexed worlds.new) }
+    requires { CanAddWorld worlds.old name.now world }
+    ensures adds { OnOk result (AddsNamedWorld worlds.old worlds.new world) }
     ensures refused { IfErr result IsAllocationFailure }
 {
     let alloc = *worlds.by_name.allocator();
@@ -87,9 +88,7 @@ fn add_world(worlds: &mut Worlds<'_, '_, '_, '_, '_>, name: &str, world: World) 
 
 /// What its functions are read in.
 fn function_scope<'s, 'f, 'a>(scope: &'s WorldScope<'f, 'a>) -> FunctionScope<'s, 'f, 'a>
-    ensures names { result.names.now ≡ scope.now.names.types }
-    ensures results { result.results.now ≡ scope.now.results }
-    ensures functions { result.functions.now ≡ scope.now.functions.items }
+    ensures { IsFunctionScopeOf scope.now result }
 {
     FunctionScope {
         names: &scope.names.types,
@@ -105,11 +104,9 @@ fn walked_sides<'f, 'a>(
     interfaces: &Interfaces<'_, '_, 'f, 'a>,
     growing: &mut Growing,
 ) -> ParseResult<Walked>
-    requires sort { is_world (item_view item.now) ≡ true }
-    requires item { IsItemOf interfaces.now.files item.now }
-    requires scope { IsScopeOfWorld scope.now item.now }
+    requires { IsScopedWorld interfaces.now item.now scope.now }
     ensures adds { IfOk result (AddsSidesOf item.now interfaces.now scope.now.names growing.old growing.new) }
-    ensures first { FindsSides item.now interfaces.now scope.now.names growing.old.types growing.old.inside result }
+    ensures first { FindsSides item.now interfaces.now scope.now.names growing.old result }
 {
     let functions = function_scope(scope);
     let walk = Walk {
@@ -144,8 +141,7 @@ fn sides_of_names(
     required: &mut Vec<Required>,
 ) -> Result<WorldSides, AllocError>
     requires turn { (xs : List ScopeName) × IsTurn xs names.now.turn.items }
-    ensures sides { IfOk result (AreNamesAlone names.now) }
-    ensures required { OnOk result (required.new.items ≡ required.old.items ++ names.now.required.items) }
+    ensures { IfOk result (AddsNamesAlone names.now required.old.items required.new.items) }
 {
     let sides = named_sides(alloc, &names.turn, &names.types, 0, 0)?;
     add_required(required, &names.required)?;
@@ -155,23 +151,20 @@ fn sides_of_names(
 /// What a world has on its sides, after its names, and its includes.
 fn world_content<'f, 'a>(
     item: &Item<'f, 'a>,
-    growing: &mut Growing,
-    required: &mut Vec<Required>,
+    resolving: &mut Resolving,
     worlds: &Worlds<'_, '_, '_, 'f, 'a>,
 ) -> ParseResult<WorldContent>
-    requires sort { is_world (item_view item.now) ≡ true }
-    requires item { IsItemOf worlds.now.interfaces.now.files item.now }
-    ensures adds { IfOk result (AddsContent worlds.now item.now growing.old growing.new required.old.items required.new.items) }
-    ensures extended { OnOk result (length growing.new.inside ≡ length growing.old.inside + length (inline_items (item_view item.now))) }
-    ensures first { item_stability (item_view item.now) ≡ None → FindsWorld worlds.now growing.old.types growing.old.inside item.now result }
+    requires { IsWorldOf worlds.now.interfaces.now item.now }
+    ensures adds { IfOk result (AddsContent worlds.now item.now resolving.old resolving.new) }
+    ensures first { item_stability (item_view item.now) ≡ None → FindsWorld worlds.now resolving.old.growing item.now result }
 {
     let alloc = *worlds.by_name.allocator();
-    let names = world_names(item, &mut growing.types, worlds)?;
+    let names = world_names(item, &mut resolving.growing.types, worlds)?;
     let includes = declared_includes(alloc, &item.declared, worlds, item.place)?;
     let world = declared_world(&item.declared);
     if put_nothing(world_items(world)) {
         if !have_upper_case(&names.turn) {
-            let sides = sides_of_names(alloc, &names, required)?;
+            let sides = sides_of_names(alloc, &names, &mut resolving.required)?;
             return Ok(WorldContent { sides, includes });
         }
     }
@@ -184,9 +177,9 @@ fn world_content<'f, 'a>(
         functions,
         closed,
     };
-    let walked = walked_sides(item, &scope, worlds.interfaces, growing)?;
-    add_required(required, &scope.names.required)?;
-    add_required(required, &walked.required)?;
+    let walked = walked_sides(item, &scope, worlds.interfaces, &mut resolving.growing)?;
+    add_required(&mut resolving.required, &scope.names.required)?;
+    add_required(&mut resolving.required, &walked.required)?;
     let members = walked.members;
     let sides = settle(alloc, members.sides, closed)?;
     Ok(WorldContent { sides, includes })
@@ -199,10 +192,7 @@ fn world_with(
     metadata: ItemMetadata,
     content: WorldContent,
 ) -> Result<World, AllocError>
-    ensures says { IfOk result (IsWorld id.entry.name.now id.entry.span (metadata_view metadata)) }
-    ensures imports { IfOk result (λ w. w.imports ≡ content.sides.imports) }
-    ensures exports { IfOk result (λ w. w.exports ≡ content.sides.exports) }
-    ensures includes { IfOk result (λ w. w.includes ≡ content.includes) }
+    ensures { IfOk result (HasContent id.entry (metadata_view metadata) content) }
 {
     let name = Text::from_str(alloc, id.name);
     let (parts, name) = pair_with((metadata, content), name)?;
@@ -223,20 +213,16 @@ fn world_with(
 /// it imports and exports.
 fn world_of<'f, 'a>(
     item: &Item<'f, 'a>,
-    growing: &mut Growing,
-    required: &mut Vec<Required>,
+    resolving: &mut Resolving,
     worlds: &Worlds<'_, '_, '_, 'f, 'a>,
 ) -> ParseResult<World>
-    requires sort { is_world (item_view item.now) ≡ true }
-    requires item { IsItemOf worlds.now.interfaces.now.files item.now }
-    ensures named { IfOk result (λ w. w.name ≡ (about (declared_view item.now.declared)).id.name.now) }
-    ensures adds { IfOk result (λ w. AddsOne worlds.now w item.now growing.old growing.new required.old.items required.new.items) }
-    ensures extended { OnOk result (length growing.new.inside ≡ length growing.old.inside + length (inline_items (item_view item.now))) }
-    ensures first { FindsWorld worlds.now growing.old.types growing.old.inside item.now result }
+    requires { IsWorldOf worlds.now.interfaces.now item.now }
+    ensures adds { IfOk result (AddsWorldOf worlds.now item.now resolving.old resolving.new) }
+    ensures first { FindsWorld worlds.now resolving.old.growing item.now result }
 {
     let alloc = *worlds.by_name.allocator();
     let as_stated = item_metadata(alloc, &item.declared)?;
-    let content = world_content(item, growing, required, worlds);
+    let content = world_content(item, resolving, worlds);
     let (metadata, content) = pair_with(as_stated, content)?;
     let id = declared_name(&item.declared);
     let world = world_with(alloc, id, metadata, content)?;
@@ -246,20 +232,14 @@ fn world_of<'f, 'a>(
 /// Adds a world with what it has.
 fn resolve_world<'f, 'a>(
     item: &Item<'f, 'a>,
-    growing: &mut Growing,
-    required: &mut Vec<Required>,
+    resolving: &mut Resolving,
     worlds: &mut Worlds<'_, '_, '_, 'f, 'a>,
 ) -> ParseResult<()>
-    requires sort { is_world (item_view item.now) ≡ true }
-    requires item { IsItemOf worlds.old.interfaces.now.files item.now }
-    requires index { AreIndexed worlds.old }
-    ensures interfaces { OnOk result (worlds.new.interfaces ≡ worlds.old.interfaces) }
-    ensures adds { OnOk result (AddsTo worlds.old worlds.new.arena item.now growing.old growing.new required.old.items required.new.items) }
-    ensures extended { OnOk result (length growing.new.inside ≡ length growing.old.inside + length (inline_items (item_view item.now))) }
-    ensures index { OnOk result (AreIndexed worlds.new) }
-    ensures first { FindsWorld worlds.old growing.old.types growing.old.inside item.now result }
+    requires { IsNextWorld worlds.old item.now }
+    ensures adds { OnOk result (AddsNextWorld worlds.old worlds.new item.now resolving.old resolving.new) }
+    ensures first { FindsWorld worlds.old resolving.old.growing item.now result }
 {
-    let world = world_of(item, growing, required, worlds)?;
+    let world = world_of(item, resolving, worlds)?;
     let id = declared_name(&item.declared);
     add_world(worlds, id.name, world)?;
     Ok(())
@@ -310,11 +290,8 @@ pub fn resolve_worlds<'f, 'a>(
     prefix: Arena<World, WorldPlace>,
     places: &[usize],
 ) -> ParseResult<ResolvedWorlds>
-    requires within { All (λ place. place < length items.now) places.now }
-    requires items { AreItemsOf interfaces.now.files items.now }
-    requires prefix { length (others_of interfaces.now.files) ≤ length prefix }
-    requires index { IsWorldIndex (worlds_at (others_of interfaces.now.files) prefix) [] }
-    ensures added { IfOk result (λ r. AddsWorldsAmong interfaces.now prefix r types.old types.new items.now places.now) }
+    requires { AreReadyWorlds interfaces.now prefix items.now places.now }
+    ensures added { IfOk result (AddsWorldsAmong interfaces.now prefix types.old types.new items.now places.now) }
     ensures first { FindsWorlds interfaces.now prefix types.old items.now places.now result }
 {
     let alloc = *interfaces.by_name.allocator();
@@ -324,9 +301,10 @@ pub fn resolve_worlds<'f, 'a>(
         types: replace(types, none),
         inside,
     };
-    let mut required = Vec::new(alloc);
+    let required = Vec::new(alloc);
     let mut arena = prefix;
     make_room(items, &mut growing.inside, &mut arena)?;
+    let mut resolving = Resolving { growing, required };
     let mut worlds = Worlds {
         interfaces,
         arena,
@@ -336,12 +314,13 @@ pub fn resolve_worlds<'f, 'a>(
         let item = &items[*place];
         match item.declared {
             Declared::World(_) => {
-                resolve_world(item, &mut growing, &mut required, &mut worlds)?;
+                resolve_world(item, &mut resolving, &mut worlds)?;
             }
             Declared::Interface(_) => {}
             Declared::Inline(_) => {}
         }
     }
+    let Resolving { growing, required } = resolving;
     *types = growing.types;
     Ok(ResolvedWorlds {
         worlds: worlds.arena,

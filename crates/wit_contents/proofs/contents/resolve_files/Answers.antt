@@ -19,14 +19,17 @@ use Rattle.wit_contents.proofs.contents.resolve_files.Goals as goal
 pub add_used_by_items-requires : goal.add_used_by_items-requires
 add_used_by_items-requires c = prefix_started c.args.names.now c.foreign.result.now c.args.types.now c.in_ok-prefix.prefix c.in_ok-items.items.items c.deref_mut-lent.result.now c.foreign.ensures c.requires.empty c.in_ok-prefix.ensures.bare c.deref_mut-lent.ensures.value c.in_ok-items.ensures.placed
 
-pub resolve_interfaces-requires-clause-within : goal.resolve_interfaces-requires-clause-within
-resolve_interfaces-requires-clause-within c = borrowed_within c.args.names.now c.item_order-order.result.now c.deref_mut-lent.result.now c.item_order-order.ensures (ap (map item_view) c.deref_mut-lent.ensures.value ∙ c.in_ok-items.ensures.items)
-
-pub resolve_interfaces-requires-clause-outer : goal.resolve_interfaces-requires-clause-outer
-resolve_interfaces-requires-clause-outer c = subst AreOuter (sym (ap (map item_view) c.deref_mut-lent.ensures.value ∙ c.in_ok-items.ensures.items)) (all_outer c.args.names.now)
-
-pub resolve_interfaces-requires-clause-items : goal.resolve_interfaces-requires-clause-items
-resolve_interfaces-requires-clause-items c = (let e = c.in_ok-items.ensures in rw (c.of-named.ensures, c.deref_mut-lent.ensures.value) (items_of c.args.names.now c.in_ok-items.items.items e.items e.names e.inside e.filed e.placed))
+pub resolve_interfaces-requires : goal.resolve_interfaces-requires
+resolve_interfaces-requires c =
+    let prefix : IsPrefix c.args.names.now c.add_used_by_items.new.types c.add_used_by_items.new.self = prefix_used c.args.names.now c.foreign.result.now c.args.types.now c.in_ok-prefix.prefix c.in_ok-items.items.items c.deref_mut-lent.result.now c.foreign.ensures c.requires.empty c.in_ok-prefix.ensures.bare c.deref_mut-lent.ensures.value c.in_ok-items.ensures.placed c.add_used_by_items.new.types c.add_used_by_items.new.self c.in_ok-items.ensures.names c.in_ok-items.ensures.inside c.in_ok-add_used_by_items.ensures.in_use in
+    let e = c.in_ok-items.ensures in
+    let all = ap (map item_view) c.deref_mut-lent.ensures.value ∙ e.items in
+    record {
+      within = borrowed_within c.args.names.now c.item_order-order.result.now c.deref_mut-lent.result.now c.item_order-order.ensures all;
+      outer = subst AreOuter (sym all) (all_outer c.args.names.now);
+      items = rw (c.of-named.ensures, c.deref_mut-lent.ensures.value) (items_of c.args.names.now c.in_ok-items.items.items e.items e.names e.inside e.filed e.placed);
+      index = rw c.of-named.ensures (prefix_index _ _ _ _ prefix.adds c.new.result c.new.ensures);
+    }
 
 pub invariant_of-interfaces : goal.invariant_of-interfaces
 invariant_of-interfaces c =
@@ -36,26 +39,17 @@ invariant_of-interfaces c =
       found = found_none interface_name (length (prefix_of c.of-named.result)) c.add_used_by_items.new.self.interfaces c.new.result c.new.ensures;
     }
 
-pub resolve_interfaces-requires-clause-index : goal.resolve_interfaces-requires-clause-index
-resolve_interfaces-requires-clause-index c =
+pub resolve_worlds-requires : goal.resolve_worlds-requires
+resolve_worlds-requires c =
     let prefix : IsPrefix c.args.names.now c.add_used_by_items.new.types c.add_used_by_items.new.self = prefix_used c.args.names.now c.foreign.result.now c.args.types.now c.in_ok-prefix.prefix c.in_ok-items.items.items c.deref_mut-lent.result.now c.foreign.ensures c.requires.empty c.in_ok-prefix.ensures.bare c.deref_mut-lent.ensures.value c.in_ok-items.ensures.placed c.add_used_by_items.new.types c.add_used_by_items.new.self c.in_ok-items.ensures.names c.in_ok-items.ensures.inside c.in_ok-add_used_by_items.ensures.in_use in
-    rw c.of-named.ensures (prefix_index _ _ _ _ prefix.adds c.new.result c.new.ensures)
-
-pub resolve_worlds-requires-clause-within : goal.resolve_worlds-requires-clause-within
-resolve_worlds-requires-clause-within c = borrowed_within c.args.names.now c.item_order-order.result.now c.deref_mut-lent.result.now c.item_order-order.ensures (ap (map item_view) c.deref_mut-lent.ensures.value ∙ c.in_ok-items.ensures.items)
-
-pub resolve_worlds-requires-clause-items : goal.resolve_worlds-requires-clause-items
-resolve_worlds-requires-clause-items c = (let e = c.in_ok-items.ensures in rw (c.in_ok-resolve_interfaces.ensures.files, c.of-named.ensures, c.deref_mut-lent.ensures.value) (items_of c.args.names.now c.in_ok-items.items.items e.items e.names e.inside e.filed e.placed))
-
-pub resolve_worlds-requires-clause-prefix : goal.resolve_worlds-requires-clause-prefix
-resolve_worlds-requires-clause-prefix c =
-    let prefix : IsPrefix c.args.names.now c.add_used_by_items.new.types c.add_used_by_items.new.self = prefix_used c.args.names.now c.foreign.result.now c.args.types.now c.in_ok-prefix.prefix c.in_ok-items.items.items c.deref_mut-lent.result.now c.foreign.ensures c.requires.empty c.in_ok-prefix.ensures.bare c.deref_mut-lent.ensures.value c.in_ok-items.ensures.placed c.add_used_by_items.new.types c.add_used_by_items.new.self c.in_ok-items.ensures.names c.in_ok-items.ensures.inside c.in_ok-add_used_by_items.ensures.in_use in
-    rw (c.in_ok-resolve_interfaces.ensures.files, c.of-named.ensures) (worlds_enough _ _ _ _ prefix.adds)
-
-pub resolve_worlds-requires-clause-index : goal.resolve_worlds-requires-clause-index
-resolve_worlds-requires-clause-index c =
-    let prefix : IsPrefix c.args.names.now c.add_used_by_items.new.types c.add_used_by_items.new.self = prefix_used c.args.names.now c.foreign.result.now c.args.types.now c.in_ok-prefix.prefix c.in_ok-items.items.items c.deref_mut-lent.result.now c.foreign.ensures c.requires.empty c.in_ok-prefix.ensures.bare c.deref_mut-lent.ensures.value c.in_ok-items.ensures.placed c.add_used_by_items.new.types c.add_used_by_items.new.self c.in_ok-items.ensures.names c.in_ok-items.ensures.inside c.in_ok-add_used_by_items.ensures.in_use in
-    rw (c.in_ok-resolve_interfaces.ensures.files, c.of-named.ensures) (prefix_worlds_index _ _ _ _ prefix.adds)
+    let e = c.in_ok-items.ensures in
+    let files = c.in_ok-resolve_interfaces.ensures.added.files in
+    record {
+      within = borrowed_within c.args.names.now c.item_order-order.result.now c.deref_mut-lent.result.now c.item_order-order.ensures (ap (map item_view) c.deref_mut-lent.ensures.value ∙ e.items);
+      items = rw (files, c.of-named.ensures, c.deref_mut-lent.ensures.value) (items_of c.args.names.now c.in_ok-items.items.items e.items e.names e.inside e.filed e.placed);
+      prefix = rw (files, c.of-named.ensures) (worlds_enough _ _ _ _ prefix.adds);
+      index = rw (files, c.of-named.ensures) (prefix_worlds_index _ _ _ _ prefix.adds);
+    }
 
 pub returns-clause-added : goal.returns-clause-added
 returns-clause-added c =
@@ -63,34 +57,37 @@ returns-clause-added c =
     let types = c.add_used_by_items.new.types in
     let a = c.add_used_by_items.new.self in
     let prefix : IsPrefix c.args.names.now c.add_used_by_items.new.types c.add_used_by_items.new.self = prefix_used c.args.names.now c.foreign.result.now c.args.types.now c.in_ok-prefix.prefix c.in_ok-items.items.items c.deref_mut-lent.result.now c.foreign.ensures c.requires.empty c.in_ok-prefix.ensures.bare c.deref_mut-lent.ensures.value c.in_ok-items.ensures.placed c.add_used_by_items.new.types c.add_used_by_items.new.self c.in_ok-items.ensures.names c.in_ok-items.ensures.inside c.in_ok-add_used_by_items.ensures.in_use in
-    let kept : c.resolve_interfaces.new.interfaces.files ≡ c.args.names.now = c.in_ok-resolve_interfaces.ensures.files ∙ c.of-named.ensures in
+    let kept : c.resolve_interfaces.new.interfaces.files ≡ c.args.names.now = c.in_ok-resolve_interfaces.ensures.added.files ∙ c.of-named.ensures in
     let places = c.item_order-order.result.now in
     let now = c.resolve_interfaces.new.interfaces in
     let middle = c.resolve_interfaces.new.types in
     let all : map item_view c.deref_mut-lent.result.now ≡ all_items files = ap (map item_view) c.deref_mut-lent.ensures.value ∙ c.in_ok-items.ensures.items in
     let irs = c.resolve_interfaces.new.required.items in
-    let from : Appends c.new-required.result.items irs (λ rs. AddsInterfaces (prefix_of files) types middle a.interfaces now.arena rs (interfaces_of (in_order (all_items files) places))) = rw (c.of-named.ensures, all) at c.in_ok-resolve_interfaces.ensures.added in
+    let from : Appends c.new-required.result.items irs (λ rs. AddsInterfaces (prefix_of files) types middle a.interfaces now.arena rs (interfaces_of (in_order (all_items files) places))) = rw (c.of-named.ensures, all) at c.in_ok-resolve_interfaces.ensures.added.added in
     let made = c.in_ok-made.made in
     let said : Appends [] made.required.items (λ rs. (ss : List Address) × AddsWorlds (prefix_of files) (others_of files) now.arena middle c.resolve_worlds.new.types (prefix_worlds a.worlds) (arenas made.worlds made.inside ss) rs (worlds_of (in_order (all_items files) places))) = rw (kept, all) at c.in_ok-made.ensures.added in
     record {
-      places = places;
-      order = c.item_order-order.ensures;
-      names = c.requires.legal;
-      uses = uses_usable files (uses_sound files c.in_ok-items.ensures.first);
-      first = types;
-      prefix = a.interfaces;
-      worlds_prefix = a.worlds;
-      foreign = prefix.adds;
-      middle = middle;
-      is = now.arena;
-      arenas = arenas made.worlds made.inside said.holds.0;
-      interface_arena = c.in_ok-append-2.ensures.ok;
-      world_arena = refl;
-      irs = from.own;
-      wrs = said.own;
-      requires = c.in_ok-append.ensures.items ∙ ap (λ (l : List Required). irs ++ l) said.list ∙ ap (λ (l : List Required). l ++ said.own) (from.list ∙ ap (λ (l : List Required). l ++ from.own) c.new-required.ensures.items);
-      interfaces = from.holds;
-      worlds = said.holds.1;
+      added = record {
+        places = places;
+        order = c.item_order-order.ensures;
+        names = c.requires.legal;
+        uses = uses_usable files (uses_sound files c.in_ok-items.ensures.first);
+        first = types;
+        prefix = a.interfaces;
+        worlds_prefix = a.worlds;
+        foreign = prefix.adds;
+        middle = middle;
+        is = now.arena;
+        arenas = arenas made.worlds made.inside said.holds.0;
+        interface_arena = c.in_ok-append-2.ensures.ok;
+        world_arena = refl;
+        irs = from.own;
+        wrs = said.own;
+        requires = c.in_ok-append.ensures.items ∙ ap (λ (l : List Required). irs ++ l) said.list ∙ ap (λ (l : List Required). l ++ said.own) (from.list ∙ ap (λ (l : List Required). l ++ from.own) c.new-required.ensures.items);
+        interfaces = from.holds;
+        worlds = said.holds.1;
+      };
+      unknown = prefix.spans;
     }
 
 pub returns-in_err-prefix-clause-first : goal.returns-in_err-prefix-clause-first
@@ -114,7 +111,7 @@ pub returns-in_err-made-clause-first : goal.returns-in_err-made-clause-first
 returns-in_err-made-clause-first c =
     let p = err_from_is_err_and c.from_residual-in_err-made.result c.from_residual-in_err-made.ensures.1 in
     let prefix : IsPrefix c.args.names.now c.add_used_by_items.new.types c.add_used_by_items.new.self = prefix_used c.args.names.now c.foreign.result.now c.args.types.now c.in_ok-prefix.prefix c.in_ok-items.items.items c.deref_mut-lent.result.now c.foreign.ensures c.requires.empty c.in_ok-prefix.ensures.bare c.deref_mut-lent.ensures.value c.in_ok-items.ensures.placed c.add_used_by_items.new.types c.add_used_by_items.new.self c.in_ok-items.ensures.names c.in_ok-items.ensures.inside c.in_ok-add_used_by_items.ensures.in_use in
-    rw (p.1, p.2) (λ known is. worlds_first c.args.names.now _ c.item_order-order.ensures c.requires.legal c.in_ok-items.ensures.first _ _ _ prefix.adds c.deref_mut-lent.result.now (ap (map item_view) c.deref_mut-lent.ensures.value ∙ c.in_ok-items.ensures.items) c.of-named.result c.of-named.ensures known is c.in_ok-resolve_interfaces.ensures.first c.resolve_interfaces.new.interfaces c.in_ok-resolve_interfaces.ensures.files _ _ c.in_ok-resolve_interfaces.ensures.added.holds c.in_ok-resolve_interfaces.ensures.index _ c.in_err-made.ensures.first)
+    rw (p.1, p.2) (λ known is. worlds_first c.args.names.now _ c.item_order-order.ensures c.requires.legal c.in_ok-items.ensures.first _ _ _ prefix.adds c.deref_mut-lent.result.now (ap (map item_view) c.deref_mut-lent.ensures.value ∙ c.in_ok-items.ensures.items) c.of-named.result c.of-named.ensures known is c.in_ok-resolve_interfaces.ensures.first c.resolve_interfaces.new.interfaces c.in_ok-resolve_interfaces.ensures.added.files _ _ c.in_ok-resolve_interfaces.ensures.added.added.holds c.in_ok-resolve_interfaces.ensures.added.index _ c.in_err-made.ensures.first)
 
 pub returns-in_err-append-clause-first : goal.returns-in_err-append-clause-first
 returns-in_err-append-clause-first c = λ known is. memory_found _ c.from_residual-in_err-append.result c.from_residual-in_err-append.ensures.1
@@ -125,4 +122,4 @@ returns-in_err-append-2-clause-first c = λ known is. memory_found _ c.from_resi
 pub returns-clause-first : goal.returns-clause-first
 returns-clause-first c = λ known is.
     let prefix : IsPrefix c.args.names.now c.add_used_by_items.new.types c.add_used_by_items.new.self = prefix_used c.args.names.now c.foreign.result.now c.args.types.now c.in_ok-prefix.prefix c.in_ok-items.items.items c.deref_mut-lent.result.now c.foreign.ensures c.requires.empty c.in_ok-prefix.ensures.bare c.deref_mut-lent.ensures.value c.in_ok-items.ensures.placed c.add_used_by_items.new.types c.add_used_by_items.new.self c.in_ok-items.ensures.names c.in_ok-items.ensures.inside c.in_ok-add_used_by_items.ensures.in_use in
-    nothing_first c.args.names.now _ c.item_order-order.ensures c.requires.legal c.in_ok-items.ensures.first _ _ _ prefix.adds c.deref_mut-lent.result.now (ap (map item_view) c.deref_mut-lent.ensures.value ∙ c.in_ok-items.ensures.items) c.of-named.result c.of-named.ensures known is c.in_ok-resolve_interfaces.ensures.first c.resolve_interfaces.new.interfaces c.in_ok-resolve_interfaces.ensures.files _ _ c.in_ok-resolve_interfaces.ensures.added.holds c.in_ok-resolve_interfaces.ensures.index c.in_ok-made.ensures.first
+    nothing_first c.args.names.now _ c.item_order-order.ensures c.requires.legal c.in_ok-items.ensures.first _ _ _ prefix.adds c.deref_mut-lent.result.now (ap (map item_view) c.deref_mut-lent.ensures.value ∙ c.in_ok-items.ensures.items) c.of-named.result c.of-named.ensures known is c.in_ok-resolve_interfaces.ensures.first c.resolve_interfaces.new.interfaces c.in_ok-resolve_interfaces.ensures.added.files _ _ c.in_ok-resolve_interfaces.ensures.added.added.holds c.in_ok-resolve_interfaces.ensures.added.index c.in_ok-made.ensures.first

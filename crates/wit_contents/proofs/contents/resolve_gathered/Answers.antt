@@ -4,8 +4,12 @@ use Rattle.wit_files.proofs.Gathering.{names_agree}
 use Rattle.wit_contents.proofs.FileFaults.{finds_same, names_first, names_none}
 use Rattle.wit_contents.proofs.contents.resolve_gathered.Goals as goal
 
-pub resolve_named-requires-clause-legal : goal.resolve_named-requires-clause-legal
-resolve_named-requires-clause-legal c = rw c.in_ok-names.ensures.files ((names_agree c.args.files.now).unbroken c.in_ok-names.ensures.first)
+pub resolve_named-requires : goal.resolve_named-requires
+resolve_named-requires c = record {
+  empty = c.requires.empty;
+  files = c.in_ok-names.ensures.files;
+  legal = rw c.in_ok-names.ensures.files ((names_agree c.args.files.now).unbroken c.in_ok-names.ensures.first);
+}
 
 pub returns-in_err-names-clause-first : goal.returns-in_err-names-clause-first
 returns-in_err-names-clause-first c =

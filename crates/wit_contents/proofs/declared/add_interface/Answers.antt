@@ -1,4 +1,4 @@
-use Rattle.std.proofs.Common.{[], ◌∷◌, length}
+use Rattle.std.proofs.Common.{[], ◌∷◌, refl, length}
 use Rattle.wit_arena.proofs.Common.{index_interface}
 use Rattle.wit_items.specs.ForeignAddresses.{prefix_of}
 use Rattle.wit_items.specs.Found.{interface_name}
@@ -27,7 +27,11 @@ invariant_of-interfaces-2 c =
       found = found_put interface_name c.put.result (length (prefix_of is.files)) is.arena is.by_name _ c.args.interface c.args.name.now is.prefix is.found c.requires.named put c.put.ensures.err;
     })
 
-pub returns-clause-index : goal.returns-clause-index
-returns-clause-index c =
+pub returns-clause-adds : goal.returns-clause-adds
+returns-clause-adds c =
     let is = c.args.interfaces.now in
-    rw (c.in_ok-place.ensures.ok, c.in_ok-put.ensures.ok, c.in_ok-name.ensures.ok, c.in_ok-place.ensures.id) (index_interface (prefix_of is.files) is.arena is.by_name c.args.interface c.args.name.now is.prefix c.requires.index c.requires.named)
+    record {
+      files = refl;
+      added = c.in_ok-place.ensures.ok;
+      index = rw (c.in_ok-place.ensures.ok, c.in_ok-put.ensures.ok, c.in_ok-name.ensures.ok, c.in_ok-place.ensures.id) (index_interface (prefix_of is.files) is.arena is.by_name c.args.interface c.args.name.now is.prefix c.requires.index c.requires.named);
+    }

@@ -8,31 +8,33 @@ use Rattle.wit_contents.specs.InterfaceFaults.{IsLent}
 use Rattle.wit_contents.proofs.FileFaults.{or_found}
 use Rattle.wit_contents.proofs.declared.resolve_interface.Goals as goal
 
-pub interface_of-requires-clause-sort : goal.interface_of-requires-clause-sort
-interface_of-requires-clause-sort c = ap is_world c.scope-scope.ensures.item ∙ c.requires.sort
+pub interface_of-requires : goal.interface_of-requires
+interface_of-requires c = record {
+  sort = ap is_world c.scope-scope.ensures.item ∙ c.requires.sort;
+  named = c.scope-scope.ensures.names ∙ c.requires.item.named ∙ ap scope_names (sym c.scope-scope.ensures.item);
+  placed = rw c.scope-scope.ensures.borrowed (c.requires.item.placed.each 0 c.args.item.now refl);
+}
 
-pub interface_of-requires-clause-named : goal.interface_of-requires-clause-named
-interface_of-requires-clause-named c = c.scope-scope.ensures.names ∙ c.requires.item.named ∙ ap scope_names (sym c.scope-scope.ensures.item)
+pub add_interface-requires : goal.add_interface-requires
+add_interface-requires c = record {
+  index = c.requires.index;
+  named =
+      c.in_ok-interface.ensures.adds.appends.holds.says.0
+      ∙ ap (λ (i : Item). (about i.declared).called) c.scope-scope.ensures.item
+      ∙ c.requires.called
+      ∙ ap (λ (id : Id). Some id.name.now) (sym c.declared_name-id.ensures);
+}
 
-pub interface_of-requires-clause-placed : goal.interface_of-requires-clause-placed
-interface_of-requires-clause-placed c = rw c.scope-scope.ensures.borrowed (c.requires.item.placed.each 0 c.args.item.now refl)
-
-pub add_interface-requires-clause-named : goal.add_interface-requires-clause-named
-add_interface-requires-clause-named c =
-    c.in_ok-interface.ensures.adds.holds.says.0
-    ∙ ap (λ (i : Item). (about i.declared).called) c.scope-scope.ensures.item
-    ∙ c.requires.called
-    ∙ ap (λ (id : Id). Some id.name.now) (sym c.declared_name-id.ensures)
-
-pub returns-clause-added : goal.returns-clause-added
-returns-clause-added c =
+pub returns-clause-adds : goal.returns-clause-adds
+returns-clause-adds c =
     let is = c.args.interfaces.now in
     let item = item_view c.args.item.now in
-    let one : Appends c.args.required.now.items c.interface_of.new.required.items (λ rs. AddsInterface (resolved_scopes_of is) (length is.arena) c.args.types.now c.interface_of.new.types c.in_ok-interface.interface rs item) = rw (c.next_id-place.ensures, c.scope-scope.ensures.item) at c.in_ok-interface.ensures.adds in
+    let one : Appends c.args.required.now.items c.interface_of.new.required.items (λ rs. AddsInterface (resolved_scopes_of is) (length is.arena) c.args.types.now c.interface_of.new.types c.in_ok-interface.interface rs item) = rw (c.next_id-place.ensures, c.scope-scope.ensures.item) at c.in_ok-interface.ensures.adds.appends in
+    let e = c.in_ok-add_interface.ensures.adds in
     record {
-      own = one.own;
-      list = one.list;
-      holds = record { added = c.in_ok-interface.interface; last = c.in_ok-add_interface.ensures.added; adds = one.holds };
+      files = e.files;
+      added = record { own = one.own; list = one.list; holds = record { added = c.in_ok-interface.interface; last = e.added; adds = one.holds } };
+      index = e.index;
     }
 
 pub returns-in_err-interface-clause-first : goal.returns-in_err-interface-clause-first
@@ -61,5 +63,5 @@ returns-clause-first c = λ test right.
       named = c.scope-scope.ensures.names ∙ c.requires.item.named;
       placed = rw c.scope-scope.ensures.borrowed (c.requires.item.placed.each 0 c.args.item.now refl);
     } in
-    let one : Appends c.args.required.now.items c.interface_of.new.required.items (λ rs. AddsInterface (resolved_scopes_of is) (length is.arena) c.args.types.now c.interface_of.new.types c.in_ok-interface.interface rs item) = rw (c.next_id-place.ensures, c.scope-scope.ensures.item) at c.in_ok-interface.ensures.adds in
+    let one : Appends c.args.required.now.items c.interface_of.new.required.items (λ rs. AddsInterface (resolved_scopes_of is) (length is.arena) c.args.types.now c.interface_of.new.types c.in_ok-interface.interface rs item) = rw (c.next_id-place.ensures, c.scope-scope.ensures.item) at c.in_ok-interface.ensures.adds.appends in
     right.none s c.interface_of.new.types c.in_ok-interface.interface one.own lent one.holds c.in_ok-interface.ensures.first

@@ -1,7 +1,7 @@
 use Rattle.std.proofs.Common.{◌≡◌, ◌+◌, ◌++◌, ◌∷◌, List, ℕ, [], take, false, not, Some, refl, ap, sym, ◌∙◌, subst, arith}
 use Rattle.wit_syntax.proofs.Common.{about, err_from_is_err_and, in_order, interfaces_of, is_world, kept_next, kept_past, map, take_all}
 use Rattle.wit_walk.proofs.Common.{first_in, in-more}
-use Rattle.wit_arena.proofs.Common.{AddsDeclared}
+use Rattle.wit_arena.proofs.Common.{AddsDeclared, AddsInterfaces}
 use Rattle.wit_items.specs.ForeignAddresses.{prefix_of}
 use Rattle.wit_item_entries.specs.NewRequirements.{Appends}
 use Rattle.wit_item_entries.proofs.Emitting.{appends_more}
@@ -11,22 +11,25 @@ use Rattle.wit_contents.proofs.WorldFaults.{among_kept, item_at}
 use Rattle.wit_contents.proofs.declared.resolve_interfaces.Goals.{in-Interface+in_ok-resolve_interface-in-Interface, in-World, in-Inline}
 use Rattle.wit_contents.proofs.declared.resolve_interfaces.Goals as goal
 
-pub resolve_interface-requires-clause-sort : goal.resolve_interface-requires-clause-sort
-resolve_interface-requires-clause-sort c = ap (λ (d : BorrowedDeclared). (about (declared_view d)).is_world) c.in-Interface.is
-
-pub resolve_interface-requires-clause-called : goal.resolve_interface-requires-clause-called
-resolve_interface-requires-clause-called c = subst (λ (d : BorrowedDeclared). (about (declared_view d)).called ≡ Some (about (declared_view d)).id.name.now) (sym c.in-Interface.is) refl
-
-pub resolve_interface-requires-clause-item : goal.resolve_interface-requires-clause-item
-resolve_interface-requires-clause-item c =
+pub resolve_interface-requires : goal.resolve_interface-requires
+resolve_interface-requires c =
     let x = item_at c.args.items.now c.args.places.now c.loop-place.place-index c.index-items-place.result c.requires.within c.loop-place-test.true c.index-items-place.is in
-    rw c.loop-place.invariant.files (c.requires.items.each x.place c.index-items-place.result x.own)
+    record {
+      called = subst (λ (d : BorrowedDeclared). (about (declared_view d)).called ≡ Some (about (declared_view d)).id.name.now) (sym c.in-Interface.is) refl;
+      sort = ap (λ (d : BorrowedDeclared). (about (declared_view d)).is_world) c.in-Interface.is;
+      item = rw c.loop-place.invariant.files (c.requires.items.each x.place c.index-items-place.result x.own);
+      index = rw c.loop-place.invariant.files c.loop-place.invariant.index;
+    }
 
-pub resolve_interface-requires-clause-index : goal.resolve_interface-requires-clause-index
-resolve_interface-requires-clause-index c = rw c.loop-place.invariant.files c.loop-place.invariant.index
-
-pub returns-clause-index : goal.returns-clause-index
-returns-clause-index c = rw c.loop-place.invariant.files c.loop-place.invariant.index
+pub returns-clause-added : goal.returns-clause-added
+returns-clause-added c =
+    let was = c.loop-place.invariant in
+    let is = c.args.interfaces.now in
+    record {
+      files = was.files;
+      added = subst (λ (l : List ℕ). Appends c.args.required.now.items c.loop-place.required.items (λ rs. AddsInterfaces (prefix_of is.files) c.args.types.now c.loop-place.types is.arena c.loop-place.interfaces.arena rs (interfaces_of (in_order (map item_view c.args.items.now) l)))) (take_all c.loop-place.place-index c.args.places.now c.loop-place-test.false) was.added;
+      index = rw was.files was.index;
+    }
 
 pub returns-in_err-resolve_interface-in-Interface-clause-first : goal.returns-in_err-resolve_interface-in-Interface-clause-first
 returns-in_err-resolve_interface-in-Interface-clause-first c =
@@ -55,7 +58,7 @@ loop-place-preserved c =
       | in-Interface+in_ok-resolve_interface-in-Interface b ↦ (
           let sort : is_world w ≡ false = ap (λ (d : BorrowedDeclared). (about (declared_view d)).is_world) b.in-Interface.is in
           let more : interfaces_of (in_order ws (take (i + 1) places)) ≡ prefix ++ w ∷ [] = kept_next (λ v. not (is_world v)) ws places i x.place w x.next x.at (ap not sort) in
-          let e = b.in_ok-resolve_interface-in-Interface.ensures in
+          let e = b.in_ok-resolve_interface-in-Interface.ensures.adds in
           let new = b.resolve_interface.new.interfaces.arena in
           let types = b.resolve_interface.new.types in
           let foreign = prefix_of c.args.interfaces.now.files in
@@ -66,7 +69,7 @@ loop-place-preserved c =
             files = same;
             added = rw more (appends_more (AddsDeclared foreign) c.args.types.now c.loop-place.types types c.args.interfaces.now.arena before new c.args.required.now.items c.loop-place.required.items required prefix w was.added one);
             index = rw same at e.index;
-            first = λ test right. rw more (in-more test prefix w (was.first test right) ∙ e.first test (right c.loop-place.interfaces c.loop-place.types was.added.own i w was.files (record { place = x.place; next = x.next; at = x.at }) sort was.added.holds (rw was.files was.index)));
+            first = λ test right. rw more (in-more test prefix w (was.first test right) ∙ b.in_ok-resolve_interface-in-Interface.ensures.first test (right c.loop-place.interfaces c.loop-place.types was.added.own i w was.files (record { place = x.place; next = x.next; at = x.at }) sort was.added.holds (rw was.files was.index)));
           }))
       | in-World b ↦ (
           let past = kept_past (λ v. not (is_world v)) ws places i x.place w x.next x.at (ap (λ (d : BorrowedDeclared). not (about (declared_view d)).is_world) b.in-World.is) in

@@ -42,7 +42,7 @@ pub returns-clause-adds : goal.returns-clause-adds
 returns-clause-adds c =
     let item = scope_item c.args.item.now in
     let own : HasNames item (declared_view c.args.item.now.declared) c.args.item.now.names.now = record { declared = refl; names = sym c.requires.named } in
-    λ old cs o added. (c.in_ok-own.own.functions.items, c.in_ok-own.ensures.adds item own old cs o added, c.in_ok-functions.ensures)
+    record { types = c.in_ok-own.ensures.types; functions = λ old cs o added. (c.in_ok-own.own.functions.items, c.in_ok-own.ensures.adds item own old cs o added, c.in_ok-functions.ensures) }
 
 pub returns-in_err-own-clause-first : goal.returns-in_err-own-clause-first
 returns-in_err-own-clause-first c =

@@ -10,10 +10,12 @@ pub returns-clause-adds : goal.returns-clause-adds
 returns-clause-adds c =
     let cs = resolved_scopes_of c.args.interfaces.now in
     let added = c.in_ok-interface.interface in
+    let e = c.in_ok-interface.ensures.adds in
     record {
+      extended = e.extended;
       added = added;
       last = c.in_ok-alloc.ensures.ok;
-      appends = subst (λ (n : ℕ). Appends c.args.required.now.items c.interface_of.new.required.items (λ (rs : List Required). AddsInterface cs n c.args.types.now c.interface_of.new.types added rs (scope_item c.args.scope.now))) c.in_ok-id.ensures c.in_ok-interface.ensures.adds;
+      appends = subst (λ (n : ℕ). Appends c.args.required.now.items c.interface_of.new.required.items (λ (rs : List Required). AddsInterface cs n c.args.types.now c.interface_of.new.types added rs (scope_item c.args.scope.now))) c.in_ok-id.ensures e.appends;
     }
 
 pub returns-in_err-interface-clause-first : goal.returns-in_err-interface-clause-first
@@ -28,7 +30,7 @@ returns-clause-first c =
     let added = c.in_ok-interface.interface in
     record {
       added = added;
-      requires = e.adds.own;
-      adds = subst (λ (n : ℕ). AddsInterface cs n c.args.types.now c.interface_of.new.types added e.adds.own (scope_item c.args.scope.now)) c.in_ok-id.ensures e.adds.holds;
+      requires = e.adds.appends.own;
+      adds = subst (λ (n : ℕ). AddsInterface cs n c.args.types.now c.interface_of.new.types added e.adds.appends.own (scope_item c.args.scope.now)) c.in_ok-id.ensures e.adds.appends.holds;
       none = e.first;
     }

@@ -7,16 +7,15 @@ use Rattle.wit_contents.proofs.walk.walk_extern.Goals as goal
 pub declared_world-world-requires : goal.declared_world-world-requires
 declared_world-world-requires c = c.requires.walk.sort
 
-pub walk_inline-requires-clause-next : goal.walk_inline-requires-clause-next
-walk_inline-requires-clause-next c = rw (c.in-Interface.is, ← c.deref.ensures.value, ← c.inline_at-inline.ensures.side) at c.requires
-
-pub walk_inline-requires-clause-world : goal.walk_inline-requires-clause-world
-walk_inline-requires-clause-world c = c.inline_at-inline.ensures.world ∙ ap (λ (d : Declared). (about d).id.name.now) (sym c.declared_world-world.ensures)
-
-pub walk_inline-requires-clause-place : goal.walk_inline-requires-clause-place
-walk_inline-requires-clause-place c =
-    let side : c.inline_at-inline.result.written.now.side ≡ c.args.written.now.side = ap item_side c.inline_at-inline.ensures.side in
-    c.inline_at-inline.ensures.place ∙ ap (λ (k : Counts). k.interfaces) c.on-counts.ensures ∙ ap (λ (s : WorldSide). (seen_on s c.args.walked.now.seen).interfaces) (sym side)
+pub walk_inline-requires : goal.walk_inline-requires
+walk_inline-requires c =
+    let at = c.inline_at-inline.ensures in
+    let side : c.inline_at-inline.result.written.now.side ≡ c.args.written.now.side = ap item_side at.side in
+    record {
+      next = rw (c.in-Interface.is, ← c.deref.ensures.value, ← c.inline_at-inline.ensures.side) at c.requires;
+      world = at.world ∙ ap (λ (d : Declared). (about d).id.name.now) (sym c.declared_world-world.ensures);
+      place = at.place ∙ ap (λ (k : Counts). k.interfaces) c.on-counts.ensures ∙ ap (λ (s : WorldSide). (seen_on s c.args.walked.now.seen).interfaces) (sym side);
+    }
 
 pub walk_function-requires : goal.walk_function-requires
 walk_function-requires c = rw (c.in-Func.is, ← c.extern_part_function-borrowed.ensures) at c.requires

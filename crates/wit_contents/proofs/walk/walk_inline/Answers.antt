@@ -21,14 +21,12 @@ inside_scope-scope-requires c =
     let count : c.on-counts.result.inline ≡ length (flat_map item_inline (items_on side n.prefix)) = ap (λ (k : Counts). k.inline) c.on-counts.ensures ∙ n.seen.inline side in
     record { within = names_within (inside_view side c.args.item.now) (walk_item (walk_of c.args.item.now c.args.walk.now)) n.prefix n.rest x.written.now x.name x.items.now c.on-counts.result.inline (n.walk.item.written side) n.sides count }
 
-pub resolve_inline-requires-clause-sort : goal.resolve_inline-requires-clause-sort
-resolve_inline-requires-clause-sort c = ap is_world c.inside_scope-scope.ensures.item
-
-pub resolve_inline-requires-clause-named : goal.resolve_inline-requires-clause-named
-resolve_inline-requires-clause-named c = names_inside c.args.inline c.requires.next c.requires.world c.requires.place c.inside_scope-scope.result c.on-counts.result.inline (ap (λ (k : Counts). k.inline) c.on-counts.ensures) c.inside_scope-scope.ensures.item c.inside_scope-scope.ensures.named
-
-pub resolve_inline-requires-clause-placed : goal.resolve_inline-requires-clause-placed
-resolve_inline-requires-clause-placed c = c.inside_scope-scope.ensures.placed (prefix_of c.args.walk.now.interfaces.now.files) c.requires.next.walk.item.placed
+pub resolve_inline-requires : goal.resolve_inline-requires
+resolve_inline-requires c = record {
+  sort = ap is_world c.inside_scope-scope.ensures.item;
+  named = names_inside c.args.inline c.requires.next c.requires.world c.requires.place c.inside_scope-scope.result c.on-counts.result.inline (ap (λ (k : Counts). k.inline) c.on-counts.ensures) c.inside_scope-scope.ensures.item c.inside_scope-scope.ensures.named;
+  placed = c.inside_scope-scope.ensures.placed (prefix_of c.args.walk.now.interfaces.now.files) c.requires.next.walk.item.placed;
+}
 
 pub put_inline-requires : goal.put_inline-requires
 put_inline-requires c = c.requires.next.keyed
@@ -44,7 +42,7 @@ returns-clause-adds c = λ n.
     let here : inline_after (walk_item w) n.prefix (inline_side x ∷ []) ≡ u ∷ [] = inline_here (walk_item w) n.prefix x c.requires.world (c.requires.place ∙ n.seen.interfaces x.written.now.side) in
     let step = subst (AddsInside w.walk.interfaces.now c.args.growing.now.types types c.args.growing.now.inside inside c.args.walked.now.required.items c.resolve_inline.new.required.items) c.inside_scope-scope.ensures.item says.adds in
     let put = rw says.id at (c.in_ok-put_inline.ensures.puts x.items.now) in
-    member_inline w n.prefix (stage_of c.args.growing.now c.args.walked.now) x u types inside _ here step says.extended put (λ ys seen. c.in_ok-seen.ensures ys (inline_side x) (refl, refl, refl) seen)
+    member_inline w n.prefix (stage_of c.args.growing.now c.args.walked.now) x u types inside _ here step put (λ ys seen. c.in_ok-seen.ensures ys (inline_side x) (refl, refl, refl) seen)
 
 pub returns-in_err-id-clause-first : goal.returns-in_err-id-clause-first
 returns-in_err-id-clause-first c =

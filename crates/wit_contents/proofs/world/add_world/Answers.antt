@@ -1,4 +1,4 @@
-use Rattle.std.proofs.Common.{[], ◌∷◌, length, Some, ap}
+use Rattle.std.proofs.Common.{[], ◌∷◌, refl, length, Some, ap}
 use Rattle.wit_arena.proofs.Common.{index_world}
 use Rattle.wit_items.specs.BorrowedItems.{others_of}
 use Rattle.wit_items.specs.Found.{world_name}
@@ -27,7 +27,11 @@ invariant_of-worlds-2 c =
       found = found_put world_name c.put.result (length (others_of ws.interfaces.now.files)) ws.arena ws.by_name _ c.args.world c.args.name.now ws.prefix ws.found (ap Some c.requires.named) put c.put.ensures.err;
     })
 
-pub returns-clause-index : goal.returns-clause-index
-returns-clause-index c =
+pub returns-clause-adds : goal.returns-clause-adds
+returns-clause-adds c =
     let ws = c.args.worlds.now in
-    rw (c.in_ok-place.ensures.ok, c.in_ok-put.ensures.ok, c.in_ok-name.ensures.ok, c.in_ok-place.ensures.id) (index_world (others_of ws.interfaces.now.files) ws.arena ws.by_name c.args.world c.args.name.now ws.prefix c.requires.index c.requires.named)
+    record {
+      interfaces = refl;
+      added = c.in_ok-place.ensures.ok;
+      index = rw (c.in_ok-place.ensures.ok, c.in_ok-put.ensures.ok, c.in_ok-name.ensures.ok, c.in_ok-place.ensures.id) (index_world (others_of ws.interfaces.now.files) ws.arena ws.by_name c.args.world c.args.name.now ws.prefix c.requires.index c.requires.named);
+    }

@@ -4,12 +4,22 @@ use Rattle.wit_arena.proofs.Common.{World}
 use Rattle.wit_contents.specs.AddedWorlds.{AddsTo}
 use Rattle.wit_contents.proofs.world.resolve_world.Goals as goal
 
-pub add_world-requires-clause-named : goal.add_world-requires-clause-named
-add_world-requires-clause-named c = c.in_ok-world.ensures.named ∙ ap (λ (id : Id). id.name.now) (sym c.declared_name-id.ensures)
+pub world_of-requires : goal.world_of-requires
+world_of-requires c = c.requires.world
+
+pub add_world-requires : goal.add_world-requires
+add_world-requires c = record { index = c.requires.index; named = c.in_ok-world.ensures.adds.named ∙ ap (λ (id : Id). id.name.now) (sym c.declared_name-id.ensures) }
 
 pub returns-clause-adds : goal.returns-clause-adds
 returns-clause-adds c =
-    subst (λ (arena : List World). AddsTo c.args.worlds.now arena c.args.item.now c.args.growing.now c.world_of.new.growing c.args.required.now.items c.world_of.new.required.items) (sym c.in_ok-add_world.ensures.added) c.in_ok-world.ensures.adds
+    let e = c.in_ok-add_world.ensures.adds in
+    let world = c.in_ok-world.ensures.adds in
+    record {
+      interfaces = e.interfaces;
+      world = subst (λ (arena : List World). AddsTo c.args.worlds.now arena c.args.item.now c.args.resolving.now c.world_of.new.resolving) (sym e.added) world.world;
+      counted = world.counted;
+      index = e.index;
+    }
 
 pub returns-in_err-world-clause-first : goal.returns-in_err-world-clause-first
 returns-in_err-world-clause-first c =

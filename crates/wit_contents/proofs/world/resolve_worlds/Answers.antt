@@ -27,16 +27,17 @@ invariant_of-worlds c = record {
   found = found_none world_name (length (others_of c.args.interfaces.now.files)) c.make_room.new.worlds c.new.result c.new.ensures;
 }
 
-pub resolve_world-requires-clause-sort : goal.resolve_world-requires-clause-sort
-resolve_world-requires-clause-sort c = ap (λ (d : BorrowedDeclared). (about (declared_view d)).is_world) c.in-World.is
-
-pub resolve_world-requires-clause-item : goal.resolve_world-requires-clause-item
-resolve_world-requires-clause-item c =
+pub resolve_world-requires : goal.resolve_world-requires
+resolve_world-requires c =
+    let was = c.loop-place.invariant in
     let x = item_at c.args.items.now c.args.places.now c.loop-place.place-index c.index-items-place.result c.requires.within c.loop-place-test.true c.index-items-place.is in
-    rw c.loop-place.invariant.interfaces (c.requires.items.each x.place c.index-items-place.result x.own)
-
-pub resolve_world-requires-clause-index : goal.resolve_world-requires-clause-index
-resolve_world-requires-clause-index c = rw c.loop-place.invariant.interfaces c.loop-place.invariant.index
+    record {
+      world = record {
+        sort = ap (λ (d : BorrowedDeclared). (about (declared_view d)).is_world) c.in-World.is;
+        item = rw was.interfaces (c.requires.items.each x.place c.index-items-place.result x.own);
+      };
+      index = rw was.interfaces was.index;
+    }
 
 pub loop-place-preserved : goal.loop-place-preserved
 loop-place-preserved c =
@@ -51,26 +52,26 @@ loop-place-preserved c =
       | in-World+in_ok-resolve_world-in-World b ↦ (
           let sort : is_world w ≡ true = ap (λ (d : BorrowedDeclared). (about (declared_view d)).is_world) b.in-World.is in
           let more : worlds_of (in_order ws (take (i + 1) places)) ≡ prefix ++ w ∷ [] = kept_next is_world ws places i x.place w x.next x.at sort in
-          let e = b.in_ok-resolve_world-in-World.ensures in
-          rw (b.worlds-is, b.growing-is, b.required-is) (record {
+          let e = b.in_ok-resolve_world-in-World.ensures.adds in
+          rw (b.worlds-is, b.resolving-is) (record {
             interfaces = ap (λ r. r.now) e.interfaces ∙ was.interfaces;
-            added = rw more (worlds_more (prefix_of c.args.interfaces.now.files) (others_of c.args.interfaces.now.files) c.args.interfaces.now.arena c.args.types.now c.loop-place.growing.types b.resolve_world.new.growing.types c.args.prefix c.loop-place.worlds.arena b.resolve_world.new.worlds.arena c.loop-place.growing.inside b.resolve_world.new.growing.inside [] c.loop-place.required.items b.resolve_world.new.required.items prefix w was.added (rw was.interfaces at e.adds) e.extended);
+            added = rw more (worlds_more (prefix_of c.args.interfaces.now.files) (others_of c.args.interfaces.now.files) c.args.interfaces.now.arena c.args.types.now c.loop-place.resolving.growing.types b.resolve_world.new.resolving.growing.types c.args.prefix c.loop-place.worlds.arena b.resolve_world.new.worlds.arena c.loop-place.resolving.growing.inside b.resolve_world.new.resolving.growing.inside [] c.loop-place.resolving.required.items b.resolve_world.new.resolving.required.items prefix w was.added (rw was.interfaces at e.world) e.counted);
             index = rw (ap (λ r. r.now) e.interfaces ∙ was.interfaces) at e.index;
-            first = λ test is_right. rw more (in-more test prefix w (was.first test is_right) ∙ e.first test (is_right.each c.loop-place.worlds c.loop-place.growing.types (arenas c.loop-place.worlds.arena c.loop-place.growing.inside (addresses_in prefix)) was.added.appends.own c.loop-place.place-index x.place c.index-items-place.result was.interfaces x.next x.own sort (c.requires.items.each x.place c.index-items-place.result x.own) was.added.appends.holds refl (rw was.interfaces was.index)));
+            first = λ test is_right. rw more (in-more test prefix w (was.first test is_right) ∙ b.in_ok-resolve_world-in-World.ensures.first test (is_right.each c.loop-place.worlds c.loop-place.resolving.growing.types (arenas c.loop-place.worlds.arena c.loop-place.resolving.growing.inside (addresses_in prefix)) was.added.appends.own c.loop-place.place-index x.place c.index-items-place.result was.interfaces x.next x.own sort (c.requires.items.each x.place c.index-items-place.result x.own) was.added.appends.holds refl (rw was.interfaces was.index)));
           }))
       | in-Interface b ↦ (
           let past = kept_past is_world ws places i x.place w x.next x.at (ap (λ (d : BorrowedDeclared). (about (declared_view d)).is_world) b.in-Interface.is) in
-          rw (b.worlds-is, b.growing-is, b.required-is) (record { interfaces = was.interfaces; added = rw past was.added; index = was.index; first = λ test is_right. rw past (was.first test is_right) }))
+          rw (b.worlds-is, b.resolving-is) (record { interfaces = was.interfaces; added = rw past was.added; index = was.index; first = λ test is_right. rw past (was.first test is_right) }))
       | in-Inline b ↦ (
           let past = kept_past is_world ws places i x.place w x.next x.at (ap (λ (d : BorrowedDeclared). (about (declared_view d)).is_world) b.in-Inline.is) in
-          rw (b.worlds-is, b.growing-is, b.required-is) (record { interfaces = was.interfaces; added = rw past was.added; index = was.index; first = λ test is_right. rw past (was.first test is_right) }))
+          rw (b.worlds-is, b.resolving-is) (record { interfaces = was.interfaces; added = rw past was.added; index = was.index; first = λ test is_right. rw past (was.first test is_right) }))
     ]
 
 pub returns-clause-added : goal.returns-clause-added
 returns-clause-added c =
     let ws = map item_view c.args.items.now in
     let places = c.args.places.now in
-    let p = subst (λ (l : List ℕ). AreWorldsTo (prefix_of c.args.interfaces.now.files) (others_of c.args.interfaces.now.files) c.args.interfaces.now.arena c.args.types.now c.loop-place.growing.types c.args.prefix c.loop-place.worlds.arena c.loop-place.growing.inside [] c.loop-place.required.items (worlds_of (in_order ws l))) (take_all c.loop-place.place-index places c.loop-place-test.false) c.loop-place.invariant.added in
+    let p = subst (λ (l : List ℕ). AreWorldsTo (prefix_of c.args.interfaces.now.files) (others_of c.args.interfaces.now.files) c.args.interfaces.now.arena c.args.types.now c.loop-place.resolving.growing.types c.args.prefix c.loop-place.worlds.arena c.loop-place.resolving.growing.inside [] c.loop-place.resolving.required.items (worlds_of (in_order ws l))) (take_all c.loop-place.place-index places c.loop-place-test.false) c.loop-place.invariant.added in
     record { own = p.appends.own; list = p.appends.list; holds = (addresses_in (worlds_of (in_order ws places)), p.appends.holds) }
 
 pub returns-in_err-resolve_world-in-World-clause-first : goal.returns-in_err-resolve_world-in-World-clause-first
@@ -84,7 +85,7 @@ returns-in_err-resolve_world-in-World-clause-first c =
     let was = c.loop-place.invariant in
     let x = item_at c.args.items.now c.args.places.now c.loop-place.place-index c.index-items-place.result c.requires.within c.loop-place-test.true c.index-items-place.is in
     let sort : is_world w ≡ true = ap (λ (d : BorrowedDeclared). (about (declared_view d)).is_world) c.in-World.is in
-    rw (q.1, q.2) (λ test is_right. among_kept is_world test ws places i x.place w _ x.next x.at sort (was.first test is_right) (c.in_err-resolve_world-in-World.ensures.first test (is_right.each c.loop-place.worlds c.loop-place.growing.types (arenas c.loop-place.worlds.arena c.loop-place.growing.inside (addresses_in prefix)) was.added.appends.own c.loop-place.place-index x.place c.index-items-place.result was.interfaces x.next x.own sort (c.requires.items.each x.place c.index-items-place.result x.own) was.added.appends.holds refl (rw was.interfaces was.index))))
+    rw (q.1, q.2) (λ test is_right. among_kept is_world test ws places i x.place w _ x.next x.at sort (was.first test is_right) (c.in_err-resolve_world-in-World.ensures.first test (is_right.each c.loop-place.worlds c.loop-place.resolving.growing.types (arenas c.loop-place.worlds.arena c.loop-place.resolving.growing.inside (addresses_in prefix)) was.added.appends.own c.loop-place.place-index x.place c.index-items-place.result was.interfaces x.next x.own sort (c.requires.items.each x.place c.index-items-place.result x.own) was.added.appends.holds refl (rw was.interfaces was.index))))
 
 pub returns-in_err-make_room-clause-first : goal.returns-in_err-make_room-clause-first
 returns-in_err-make_room-clause-first c = λ test right. memory_found _ c.from_residual.result c.from_residual.ensures.1

@@ -10,7 +10,7 @@ use Rattle.wit_contents.proofs.world.resolve_worlds.Given as goal
 
 abbrev pub invariant-loop-place : goal.invariant-loop-place
 invariant-loop-place l = record {
-  added : AreWorldsTo (prefix_of l.interfaces.files) (others_of l.interfaces.files) l.interfaces.arena l.fn.types l.growing.types l.fn.prefix l.worlds.arena l.growing.inside [] l.required.items (worlds_of (in_order (map item_view l.items) (take l.place-index l.places)));
+  added : AreWorldsTo (prefix_of l.interfaces.files) (others_of l.interfaces.files) l.interfaces.arena l.fn.types l.resolving.growing.types l.fn.prefix l.worlds.arena l.resolving.growing.inside [] l.resolving.required.items (worlds_of (in_order (map item_view l.items) (take l.place-index l.places)));
   interfaces : l.worlds.interfaces.now ≡ l.interfaces;
   index : IsWorldIndex (worlds_at (others_of l.interfaces.files) l.worlds.arena) l.worlds.by_name;
   first : (wrong : Item → Option Fault) → AreRightOfWorlds wrong l.interfaces l.fn.prefix l.fn.types l.items l.places → first_in wrong (worlds_of (in_order (map item_view l.items) (take l.place-index l.places))) ≡ None;

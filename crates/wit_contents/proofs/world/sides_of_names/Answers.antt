@@ -8,11 +8,9 @@ pub named_sides-requires : goal.named_sides-requires
 named_sides-requires c =
     record { distinct = subst (λ (l : List Id). AllDiffer (map (λ id. id.name.now) l)) (sym c.deref.ensures.value) (texts_differ c.requires.turn.0 c.args.names.now.turn.items c.requires.turn.1) }
 
-pub returns-clause-sides : goal.returns-clause-sides
-returns-clause-sides c = record {
+pub returns : goal.returns
+returns c = record {
   imports = λ xs are. c.in_ok-sides.ensures.imports xs (c.deref.ensures.value ∙ are);
   exports = c.in_ok-sides.ensures.exports;
+  required = c.in_ok-add_required.ensures ∙ ap (λ (l : List Required). c.args.required.now.items ++ l) c.deref-2.ensures.value;
 }
-
-pub returns-clause-required : goal.returns-clause-required
-returns-clause-required c = c.in_ok-add_required.ensures ∙ ap (λ (l : List Required). c.args.required.now.items ++ l) c.deref-2.ensures.value

@@ -32,7 +32,7 @@ pub sides_of_names-requires : goal.sides_of_names-requires
 sides_of_names-requires c = record { turn = (scope_names (item_view c.args.item.now), turn_added _ _ _ _ _ _ _ _ c.in_ok-names.ensures.adds) }
 
 pub returns-then-not-have_upper_case-clause-adds : goal.returns-then-not-have_upper_case-clause-adds
-returns-then-not-have_upper_case-clause-adds c = λ world has ss known.
+returns-then-not-have_upper_case-clause-adds c =
     let ws = c.args.worlds.now in
     let is = ws.interfaces.now in
     let item = item_view c.args.item.now in
@@ -40,17 +40,15 @@ returns-then-not-have_upper_case-clause-adds c = λ world has ss known.
     let n = c.in_ok-names.ensures.adds in
     let empty = none_there c.args.item.now c.declared_world-world.result.now c.world_items.result.now c.declared_world-world.ensures c.world_items.ensures (sym c.put_nothing.ensures ∙ c.if-put_nothing.true) in
     let are = rw (ap names_at_top c.requires.item.filed.file) at c.in_ok-includes.ensures.are in
-    let alone = c.in_ok-sides.ensures.sides in
+    let alone = c.in_ok-sides.ensures in
     record {
-      own = names.required.items;
-      list = c.in_ok-sides.ensures.required;
-      holds = alone_adds item empty is (others_of is.files) ws.arena c.args.growing.now.types c.world_names.new.types c.args.growing.now.inside names.types names.turn.items names.required.items n world ss has.says (has.imports ∙ alone.imports (in_turn (scope_names item) n.adds.order) n.turn) (has.exports ∙ alone.exports) (rw has.includes are);
+      world = λ world has ss known. record {
+        own = names.required.items;
+        list = alone.required;
+        holds = alone_adds item empty is (others_of is.files) ws.arena c.args.resolving.now.growing.types c.world_names.new.types c.args.resolving.now.growing.inside names.types names.turn.items names.required.items n world ss has.says (has.imports ∙ alone.imports (in_turn (scope_names item) n.adds.order) n.turn) (has.exports ∙ alone.exports) (rw has.includes are);
+      };
+      counted = alone_extended item empty (length c.args.resolving.now.growing.inside);
     }
-
-pub returns-then-not-have_upper_case-clause-extended : goal.returns-then-not-have_upper_case-clause-extended
-returns-then-not-have_upper_case-clause-extended c =
-    let empty = none_there c.args.item.now c.declared_world-world.result.now c.world_items.result.now c.declared_world-world.ensures c.world_items.ensures (sym c.put_nothing.ensures ∙ c.if-put_nothing.true) in
-    alone_extended (item_view c.args.item.now) empty (length c.args.growing.now.inside)
 
 pub returns-then-not-have_upper_case-clause-first : goal.returns-then-not-have_upper_case-clause-first
 returns-then-not-have_upper_case-clause-first c = λ stable wrong right.
@@ -60,7 +58,7 @@ returns-then-not-have_upper_case-clause-first c = λ stable wrong right.
     let empty = none_there i c.declared_world-world.result.now c.world_items.result.now c.declared_world-world.ensures c.world_items.ensures (sym c.put_nothing.ensures ∙ c.if-put_nothing.true) in
     let lower = ap has_upper (sym c.deref.ensures.value) ∙ sym c.have_upper_case.ensures ∙ c.if-not-have_upper_case.true in
     let included = rw (ap names_at_top c.requires.item.filed.file) at c.in_ok-includes.ensures.first in
-    world_none c.args.worlds.now i c.args.growing.now.types c.requires.item.named stable names c.world_names.new.types n c.in_ok-names.ensures.first included wrong c.args.growing.now.inside right (λ member sides. alone_none (item_view i) empty names.turn.items (turn_added _ _ _ _ _ _ _ _ n) lower member)
+    world_none c.args.worlds.now i c.args.resolving.now.growing.types c.requires.item.named stable names c.world_names.new.types n c.in_ok-names.ensures.first included wrong c.args.resolving.now.growing.inside right (λ member sides. alone_none (item_view i) empty names.turn.items (turn_added _ _ _ _ _ _ _ _ n) lower member)
 
 -- or something may
 pub written_results-requires : goal.written_results-requires
@@ -68,18 +66,18 @@ written_results-requires c =
     let turn : IsTurn (scope_names (item_view c.args.item.now)) c.in_ok-names.names.turn.items = turn_added _ _ _ _ _ _ _ _ c.in_ok-names.ensures.adds in
     subst (λ l. AllDiffer (map local_name l)) (sym (ap (map name_view) c.deref-2.ensures.value ∙ c.requires.item.named)) turn.distinct
 
-pub walked_sides-requires-clause-item : goal.walked_sides-requires-clause-item
-walked_sides-requires-clause-item c = c.requires.item
-
-pub walked_sides-requires-clause-scope : goal.walked_sides-requires-clause-scope
-walked_sides-requires-clause-scope c =
+pub walked_sides-requires : goal.walked_sides-requires
+walked_sides-requires c =
     let item = item_view c.args.item.now in
     let are = rw (ap names_at_top c.requires.item.filed.file) at c.in_ok-includes.ensures.are in
     record {
-      functions = c.in_ok-functions.ensures ∙ ap (λ (d : Declared). flat_map part_functions (about d).parts) (sym c.declared_world-world.ensures);
-      results = subst (AreResults c.in_ok-results.results) (ap (map name_view) c.deref-2.ensures.value ∙ c.requires.item.named) c.in_ok-results.ensures;
-      turn = turn_added _ _ _ _ _ _ _ _ c.in_ok-names.ensures.adds;
-      closed = c.is_closed-closed.ensures (written_includes item) (ap length c.as_slice.ensures ∙ are.count);
+      world = c.requires;
+      scope = record {
+        functions = c.in_ok-functions.ensures ∙ ap (λ (d : Declared). flat_map part_functions (about d).parts) (sym c.declared_world-world.ensures);
+        results = subst (AreResults c.in_ok-results.results) (ap (map name_view) c.deref-2.ensures.value ∙ c.requires.item.named) c.in_ok-results.ensures;
+        turn = turn_added _ _ _ _ _ _ _ _ c.in_ok-names.ensures.adds;
+        closed = c.is_closed-closed.ensures (written_includes item) (ap length c.as_slice.ensures ∙ are.count);
+      };
     }
 
 pub settle-requires-clause-differ : goal.settle-requires-clause-differ
@@ -89,13 +87,13 @@ pub settle-requires-clause-called : goal.settle-requires-clause-called
 settle-requires-clause-called c = c.in_ok-walked.ensures.adds.2.adds.keyed.called
 
 pub returns-clause-adds : goal.returns-clause-adds
-returns-clause-adds c = λ world has ss known.
+returns-clause-adds c =
     let ws = c.args.worlds.now in
     let is = ws.interfaces.now in
     let item = item_view c.args.item.now in
     let names = c.in_ok-names.names in
     let o = OfWorld (length ws.arena) in
-    let old = c.args.growing.now.types in
+    let old = c.args.resolving.now.growing.types in
     let middle = c.world_names.new.types in
     let m = c.in_ok-walked.walked in
     let h = c.in_ok-walked.ensures.adds in
@@ -105,27 +103,22 @@ returns-clause-adds c = λ world has ss known.
     let are = rw (ap names_at_top c.requires.item.filed.file) at c.in_ok-includes.ensures.are in
     let closed = c.is_closed-closed.ensures (written_includes item) (ap length c.as_slice.ensures ∙ are.count) in
     let settled = λ (s : WorldSide). c.in_ok-sides-2.ensures s (written_includes item) closed in
+    let before = c.args.resolving.now.required.items in
+    let inside = c.args.resolving.now.growing.inside in
+    let new = c.walked_sides.new.growing in
     record {
-      own = names.required.items ++ m.required.items;
-      list =
-          c.in_ok-add_required-2.ensures
-          ∙ ap (λ (l : List Required). l ++ c.deref-4.result.now) c.in_ok-add_required.ensures
-          ∙ ap (λ (l : List Required). (c.args.required.now.items ++ c.deref-3.result.now) ++ l) c.deref-4.ensures.value
-          ∙ ap (λ (l : List Required). (c.args.required.now.items ++ l) ++ m.required.items) c.deref-3.ensures.value
-          ∙ append_assoc c.args.required.now.items names.required.items m.required.items;
-      holds = rw of.interfaces at (content_adds (walk_of c.args.item.now w) (others_of is.files) ws.arena old middle c.walked_sides.new.growing.types c.args.growing.now.inside c.walked_sides.new.growing.inside names.required.items m of.walk added h.2 world ss known has.says (has.imports ∙ settled Imported) (has.exports ∙ settled Exported) (rw has.includes are));
+      world = λ world has ss known. record {
+        own = names.required.items ++ m.required.items;
+        list =
+            c.in_ok-add_required-2.ensures
+            ∙ ap (λ (l : List Required). l ++ c.deref-4.result.now) c.in_ok-add_required.ensures
+            ∙ ap (λ (l : List Required). (before ++ c.deref-3.result.now) ++ l) c.deref-4.ensures.value
+            ∙ ap (λ (l : List Required). (before ++ l) ++ m.required.items) c.deref-3.ensures.value
+            ∙ append_assoc before names.required.items m.required.items;
+        holds = rw of.interfaces at (content_adds (walk_of c.args.item.now w) (others_of is.files) ws.arena old middle new.types inside new.inside names.required.items m of.walk added h.2 world ss known has.says (has.imports ∙ settled Imported) (has.exports ∙ settled Exported) (rw has.includes are));
+      };
+      counted = extended (walk_of c.args.item.now w) (others_of is.files) ws.arena old middle new.types inside new.inside names.required.items m of.walk added h.2;
     }
-
-pub returns-clause-extended : goal.returns-clause-extended
-returns-clause-extended c =
-    let ws = c.args.worlds.now in
-    let is = ws.interfaces.now in
-    let names = c.in_ok-names.names in
-    let h = c.in_ok-walked.ensures.adds in
-    let w = h.0 in
-    let of : IsWalkOf w c.args.item.now is names = h.1 in
-    let added = turn_of w c.args.item.now is names of c.args.growing.now.types c.world_names.new.types (OfWorld (length ws.arena)) c.in_ok-names.ensures.adds in
-    extended (walk_of c.args.item.now w) (others_of is.files) ws.arena c.args.growing.now.types c.world_names.new.types c.walked_sides.new.growing.types c.args.growing.now.inside c.walked_sides.new.growing.inside names.required.items c.in_ok-walked.walked of.walk added h.2
 
 -- the first fault: of its names, of its includes, or of what is on its sides
 pub returns-in_err-names-clause-first : goal.returns-in_err-names-clause-first
@@ -133,31 +126,31 @@ returns-in_err-names-clause-first c =
     let p = err_from_is_err_and c.from_residual.result c.from_residual.ensures.1 in
     let ws = c.args.worlds.now in
     let i = c.args.item.now in
-    let old = c.args.growing.now.types in
-    rw (p.1, p.2) (λ stable wrong right. or_found c.in_err-names.ensures.first (λ lost. head_fault wrong ws old c.args.growing.now.inside i right _ (names_first ws i old c.requires.item.named stable _ lost)))
+    let old = c.args.resolving.now.growing.types in
+    rw (p.1, p.2) (λ stable wrong right. or_found c.in_err-names.ensures.first (λ lost. head_fault wrong ws old c.args.resolving.now.growing.inside i right _ (names_first ws i old c.requires.item.named stable _ lost)))
 
 pub returns-in_err-includes-clause-first : goal.returns-in_err-includes-clause-first
 returns-in_err-includes-clause-first c =
     let p = err_from_is_err_and c.from_residual-in_err-includes.result c.from_residual-in_err-includes.ensures.1 in
     let ws = c.args.worlds.now in
     let i = c.args.item.now in
-    let old = c.args.growing.now.types in
+    let old = c.args.resolving.now.growing.types in
     let e = c.in_ok-names.ensures in
     let found = rw (ap names_at_top c.requires.item.filed.file) at c.in_err-includes.ensures.first in
-    rw (p.1, p.2) (λ stable wrong right. or_found found (λ lost. head_fault wrong ws old c.args.growing.now.inside i right _ (includes_first ws i old c.requires.item.named stable c.in_ok-names.names c.world_names.new.types e.adds e.first _ lost)))
+    rw (p.1, p.2) (λ stable wrong right. or_found found (λ lost. head_fault wrong ws old c.args.resolving.now.growing.inside i right _ (includes_first ws i old c.requires.item.named stable c.in_ok-names.names c.world_names.new.types e.adds e.first _ lost)))
 
 pub returns-in_err-walked-clause-first : goal.returns-in_err-walked-clause-first
 returns-in_err-walked-clause-first c =
     let p = err_from_is_err_and c.from_residual-in_err-walked.result c.from_residual-in_err-walked.ensures.1 in
     let e = c.in_ok-names.ensures in
     let included = rw (ap names_at_top c.requires.item.filed.file) at c.in_ok-includes.ensures.first in
-    rw (p.1, p.2) (λ stable wrong right. world_reported c.args.worlds.now c.args.item.now c.args.growing.now.types c.requires.item.named stable c.in_ok-names.names c.world_names.new.types e.adds e.first included wrong c.args.growing.now.inside right _ c.in_err-walked.ensures.first)
+    rw (p.1, p.2) (λ stable wrong right. world_reported c.args.worlds.now c.args.item.now c.args.resolving.now.growing.types c.requires.item.named stable c.in_ok-names.names c.world_names.new.types e.adds e.first included wrong c.args.resolving.now.growing.inside right _ c.in_err-walked.ensures.first)
 
 pub returns-clause-first : goal.returns-clause-first
 returns-clause-first c = λ stable wrong right.
     let e = c.in_ok-names.ensures in
     let included = rw (ap names_at_top c.requires.item.filed.file) at c.in_ok-includes.ensures.first in
-    world_none c.args.worlds.now c.args.item.now c.args.growing.now.types c.requires.item.named stable c.in_ok-names.names c.world_names.new.types e.adds e.first included wrong c.args.growing.now.inside right c.in_ok-walked.ensures.first
+    world_none c.args.worlds.now c.args.item.now c.args.resolving.now.growing.types c.requires.item.named stable c.in_ok-names.names c.world_names.new.types e.adds e.first included wrong c.args.resolving.now.growing.inside right c.in_ok-walked.ensures.first
 
 -- or memory failed
 pub returns-in_err-sides-clause-first : goal.returns-in_err-sides-clause-first

@@ -1,41 +1,34 @@
-use Rattle.std.proofs.Common.{ap, ◌∙◌}
-use Rattle.wit_syntax.proofs.Common.{Id, about, declared_metadata, err_from_is_err_and}
+use Rattle.wit_syntax.proofs.Common.{about, declared_metadata, err_from_is_err_and}
+use Rattle.wit_arena.proofs.Common.{IsWorld}
 use Rattle.wit_items.specs.BorrowedItems.{item_view}
 use Rattle.wit_item_entries.proofs.Telling.{world_stated}
-use Rattle.wit_arena.proofs.Common.{IsWorld}
 use Rattle.wit_items.specs.SourceItems.{metadata_view}
 use Rattle.wit_contents.specs.AddedWorlds.{HasContent}
 use Rattle.wit_contents.proofs.WorldFaults.{head_fault, unstable_first}
 use Rattle.wit_contents.proofs.FileFaults.{memory_found, or_found}
 use Rattle.wit_contents.proofs.world.world_of.Goals as goal
 
-pub returns-clause-named : goal.returns-clause-named
-returns-clause-named c = c.in_ok-world.ensures.says.0 ∙ ap (λ (id : Id). id.name.now) c.declared_name-id.ensures
-
 pub returns-clause-adds : goal.returns-clause-adds
 returns-clause-adds c =
     let item = item_view c.args.item.now in
     let world = c.in_ok-world.world in
     let e = c.in_ok-world.ensures in
-    let adds = rw c.in_ok-metadata.ensures.both.1 at c.world_content-content.ensures.adds in
+    let content = rw c.in_ok-metadata.ensures.both.1 at c.world_content-content.ensures.adds in
     let says : IsWorld (about item.declared).id.name.now (about item.declared).id.span (metadata_view c.in_ok-metadata.metadata) world = rw c.declared_name-id.ensures at e.says in
-    let own : HasContent c.args.item.now c.in_ok-metadata.content world = record {
+    let own : HasContent (about item.declared).id (declared_metadata item.declared) c.in_ok-metadata.content world = record {
       says = world_stated (about item.declared).id.name.now (about item.declared).id.span (declared_metadata item.declared) c.in_ok-metadata.metadata world (rw c.in_ok-metadata.ensures.both.0 c.in_ok-as_stated.ensures.as_stated) says;
       imports = e.imports;
       exports = e.exports;
       includes = e.includes;
     } in
-    adds world own
-
-pub returns-clause-extended : goal.returns-clause-extended
-returns-clause-extended c = rw c.in_ok-metadata.ensures.both.1 at c.world_content-content.ensures.extended
+    record { named = says.0; world = content.world world own; counted = content.counted }
 
 pub returns-in_err-as_stated-clause-first : goal.returns-in_err-as_stated-clause-first
 returns-in_err-as_stated-clause-first c =
     let p = err_from_is_err_and c.from_residual.result c.from_residual.ensures.1 in
     let ws = c.args.worlds.now in
     let i = c.args.item.now in
-    rw (p.1, p.2) (λ wrong right. or_found c.in_err-as_stated.ensures.first (λ unstable. head_fault wrong ws c.args.growing.now.types c.args.growing.now.inside i right _ (unstable_first ws i c.args.growing.now.types _ unstable)))
+    rw (p.1, p.2) (λ wrong right. or_found c.in_err-as_stated.ensures.first (λ unstable. head_fault wrong ws c.args.resolving.now.growing.types c.args.resolving.now.growing.inside i right _ (unstable_first ws i c.args.resolving.now.growing.types _ unstable)))
 
 pub returns-in_err-metadata-clause-first : goal.returns-in_err-metadata-clause-first
 returns-in_err-metadata-clause-first c =
