@@ -1,2 +1,3 @@
 pub mod TypeKeys
 pub mod SameKeys
+pub mod Steps

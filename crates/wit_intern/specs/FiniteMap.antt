@@ -1,5 +1,5 @@
 -- A finite map from keys to types, and what it replies to finds and inserts.
-use Rattle.std.specs.Prelude.{ℕ, List, [], ◌∷◌, Option, Some, if◌then◌else◌}
+use Rattle.std.specs.Prelude.{◌≡◌, ◌⊎◌, ℕ, ◌+◌, List, [], ◌∷◌, Option, Some, if◌then◌else◌, take}
 use Rattle.wit_intern.specs.declared.key.InternKey.{InternKey}
 use Rattle.wit_intern.specs.declared.run.InternStep.{InternStep}
 use Rattle.wit_intern.specs.declared.run.InternStep.TheVariants.{Find, Insert}
@@ -20,6 +20,11 @@ abbrev pub after_step : InternStep → FiniteMap → FiniteMap
 after_step (Find key) m = m
 after_step (Insert key id) m = set_at key id m
 
+-- the map after one step after the other
+abbrev pub after_steps : List InternStep → FiniteMap → FiniteMap
+after_steps [] m = m
+after_steps (s ∷ steps) m = after_steps steps (after_step s m)
+
 -- what the map replies to a step
 abbrev pub reply : InternStep → FiniteMap → InternReply
 reply (Find key) m = Found (m key)
@@ -29,3 +34,7 @@ reply (Insert key id) m = Inserted
 abbrev pub replies : List InternStep → FiniteMap → List InternReply
 replies [] m = []
 replies (s ∷ steps) m = reply s m ∷ replies steps (after_step s m)
+
+-- the map after so many of the steps, or after one more
+abbrev pub IsStopped : List InternStep → ℕ → FiniteMap → FiniteMap → Type 0
+IsStopped steps n old new = (new ≡ after_steps (take n steps) old) ⊎ (new ≡ after_steps (take (n + 1) steps) old)
