@@ -1,7 +1,7 @@
 -- The first fault of lists that grow.
-use Rattle.std.proofs.Common.{◌≡◌, ℕ, zero, suc, ◌+◌, ◌<◌, ◌≤◌, Bool, true, false, ◌||◌, List, [], ◌∷◌, ◌++◌, length, take, get_or, Option, Some, None, inl, inr, refl, sym, ap, ◌∙◌, append_assoc, arith}
-use Rattle.wit_syntax.proofs.Common.{AllDiffer, Fault, IsRepeatAt, ParseError, append-nil, at_prefix, bytes_eq, false_from_ne_true, fault_of, flat_map, if◌then◌else◌, key_at, list_any, map, map-append, map_at, name_equal, name_itself, option_or, slice_get, slice_get-take, slice_get_within, take-map, take_all, take_more, take_next}
-use Rattle.wit_first.specs.First.{first_in, first_after, Reports, repeat_of, first_repeat}
+use Rattle.std.proofs.Common.{◌≡◌, ℕ, zero, suc, ◌+◌, ◌<◌, ◌≤◌, Bool, true, false, ◌||◌, List, [], ◌∷◌, ◌++◌, length, take, get_or, Option, Some, None, inl, inr, refl, sym, ap, ◌∙◌, subst, append_assoc, arith}
+use Rattle.wit_syntax.proofs.Common.{AllDiffer, Err, Fault, IfErr, IsAllocationFailure, IsRepeatAt, Ok, ParseError, Result, append-nil, at_prefix, bytes_eq, false_from_ne_true, fault_of, flat_map, if◌then◌else◌, key_at, list_any, map, map-append, map_at, name_equal, name_itself, option_or, slice_get, slice_get-take, slice_get_within, take-map, take_all, take_more, take_next}
+use Rattle.wit_first.specs.First.{Finds, first_in, first_after, Reports, repeat_of, first_repeat}
 
 pub or_assoc : {X : Type 0} (a b c : Option X) → option_or (option_or a b) c ≡ option_or a (option_or b c)
 or_assoc None b c = refl
@@ -157,3 +157,16 @@ reports_back {first} {second} none report = reports_same (sym (ap (λ (o : Optio
 
 pub none_both : {first second : Option Fault} → first ≡ None → second ≡ None → option_or first second ≡ None
 none_both {first} {second} none both = ap (λ (o : Option Fault). option_or o second) none ∙ both
+
+-- a last call, whose result is returned as it is, finds the first fault, however that is written
+pub finds_same : {T : Type 0} {first other : Option Fault} (r : Result T ParseError) → first ≡ other → Finds first r → Finds other r
+finds_same r same h = subst (λ (o : Option Fault). Finds o r) same h
+
+-- one that finds the second of two faults finds the first of both, where what comes before it finds none
+pub finds_back : {T : Type 0} {first : Option Fault} (second : Option Fault) (r : Result T ParseError) → first ≡ None → Finds second r → Finds (option_or first second) r
+finds_back second r none h = finds_same r (sym (ap (λ (o : Option Fault). option_or o second) none)) h
+
+-- one that fails of memory alone finds none, where what comes before it finds none
+pub finds_memory : {T : Type 0} (first : Option Fault) (r : Result T ParseError) → first ≡ None → IfErr r IsAllocationFailure → Finds first r
+finds_memory first (Ok x) none h = none
+finds_memory first (Err e) none h = inl h

@@ -1,7 +1,7 @@
 -- The names that proofs of the crates above cite most, passed on from one place. Declares nothing.
 pub use Rattle.wit_first.proofs.Bridge.{after_only, after_some, any_found, in_agrees, in_some, local_names_differ, or_none_both, or_some, refused_by}
 pub use Rattle.wit_first.proofs.Clashes.{clash-made, clash-map, find-only, find_none, no_clashes}
-pub use Rattle.wit_first.proofs.First.{after-append, after-at, after-more, after-next, any_some, in-all, in-append, in-at, in-following, in-map, in-more, none_both, or_assoc, or_none, repeat-map, reports-after, reports_back, reports_prefix, reports_same}
+pub use Rattle.wit_first.proofs.First.{after-append, after-at, after-more, after-next, any_some, finds_back, finds_memory, finds_same, in-all, in-append, in-at, in-following, in-map, in-more, none_both, or_assoc, or_none, repeat-map, reports-after, reports_back, reports_prefix, reports_same}
 pub use Rattle.wit_first.specs.AttributeFaults.{counted_fault, external_fault, kinds_fault, metadata_fault, number_of, repeat_fault, stability_fault}
 pub use Rattle.wit_first.specs.FileFaults.{attributed_fault, file_fault, file_tops_fault, files_fault, lost_fault, paths_fault, top_fault, top_use_fault, tops_fault, unless_named, unnamed_fault, visits_fault}
 pub use Rattle.wit_first.specs.First.{Finds, FindsBy, IsOr, Reports, clash_of, first_after, first_in, first_repeat, repeat_of}
