@@ -66,6 +66,9 @@ in-following w xs i x at none right = ap (first_in w) (take_next xs i x at) ∙ 
 pub in-all : {X : Type 0} (w : X → Option Fault) (xs : List X) (i : ℕ) → length xs ≤ i → first_in w (take i xs) ≡ None → first_in w xs ≡ None
 in-all w xs i past none = ap (first_in w) (sym (take_all i xs past)) ∙ none
 
+pub after-all : {X : Type 0} (w : List X → X → Option Fault) (xs : List X) (i : ℕ) → length xs ≤ i → first_after w [] (take i xs) ≡ None → first_after w [] xs ≡ None
+after-all w xs i past none = ap (first_after w []) (sym (take_all i xs past)) ∙ none
+
 -- items that are made of others, and items that others bring
 pub in-map : {X Y : Type 0} (w : Y → Option Fault) (f : X → Y) (xs : List X) → first_in w (map f xs) ≡ first_in (λ (x : X). w (f x)) xs
 in-map w f [] = refl

@@ -6,3 +6,4 @@ pub mod FileFaults
 pub mod OrderFaults
 pub mod TypeFaults
 pub mod Repeats
+pub mod Pushed
