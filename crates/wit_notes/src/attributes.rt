@@ -160,8 +160,7 @@ pub fn check_stability(alloc: Global, attributes: &[Attribute<'_>]) -> ParseResu
         return Ok(());
     }
     check_each_once(alloc, attributes)?;
-    check_together(alloc, attributes)?;
-    Ok(())
+    check_together(alloc, attributes)
 }
 
 /// The stability that attributes say; other attributes are ignored.

@@ -61,8 +61,7 @@ pub fn check_metadata(alloc: Global, attributes: &[Attribute<'_>]) -> ParseResul
         return Ok(());
     }
     check_stability(alloc, attributes)?;
-    check_external_once(alloc, attributes)?;
-    Ok(())
+    check_external_once(alloc, attributes)
 }
 
 /// What attributes say of a thing that has no docs, as a used name has none: the first of each kind,
