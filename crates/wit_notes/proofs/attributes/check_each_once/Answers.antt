@@ -1,7 +1,7 @@
 use Rattle.std.proofs.Common.{rules, ◌≡◌, ◌<◌, take, length, true, false, Some, None, refl, sym, ap, ◌∙◌, arith}
 use Rattle.wit_syntax.proofs.Common.{ExternalId, err_from_is_err_and, is_of, not, slice_get, slice_get-get_or}
 use Rattle.wit_first.specs.AttributeFaults.{counted_fault}
-use Rattle.wit_first.proofs.First.{reports-after, after-next}
+use Rattle.wit_first.proofs.First.{after-all, after-next, reports-after}
 use Rattle.wit_notes.proofs.attributes.check_each_once.Goals.{then-not-is_of+in_ok-check_new, else-not-is_of}
 use Rattle.wit_notes.proofs.attributes.check_each_once.Goals as goal
 
@@ -26,3 +26,6 @@ loop-place-preserved c =
       | else-not-is_of w ↦ (let own : is_of ExternalId a ≡ true = search rules in rw own refl)
     ] in
     after-next (counted_fault (λ b. not (is_of ExternalId b))) xs i a (omega arith) c.index-attributes-place.is c.loop-place.invariant right
+
+pub returns : goal.returns
+returns c = after-all (counted_fault (λ a. not (is_of ExternalId a))) c.args.attributes.now c.loop-place.place (omega arith) c.loop-place.invariant

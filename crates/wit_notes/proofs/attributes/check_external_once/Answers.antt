@@ -1,7 +1,7 @@
 use Rattle.std.proofs.Common.{rules, ◌≡◌, ◌<◌, take, length, true, false, Some, None, refl, sym, ap, ◌∙◌, arith}
 use Rattle.wit_syntax.proofs.Common.{ExternalId, err_from_is_err_and, is_of, slice_get, slice_get-get_or}
 use Rattle.wit_first.specs.AttributeFaults.{counted_fault}
-use Rattle.wit_first.proofs.First.{reports-after, after-next}
+use Rattle.wit_first.proofs.First.{after-all, after-next, reports-after}
 use Rattle.wit_notes.proofs.attributes.check_external_once.Goals.{then-is_of+in_ok-check_new, else-is_of}
 use Rattle.wit_notes.proofs.attributes.check_external_once.Goals as goal
 
@@ -26,3 +26,6 @@ loop-place-preserved c =
       | else-is_of w ↦ (let other : is_of ExternalId a ≡ false = search rules in rw other refl)
     ] in
     after-next (counted_fault (is_of ExternalId)) xs i a (omega arith) c.index-attributes-place.is c.loop-place.invariant right
+
+pub returns : goal.returns
+returns c = after-all (counted_fault (is_of ExternalId)) c.args.attributes.now c.loop-place.place (omega arith) c.loop-place.invariant
