@@ -1,1 +1,2 @@
 pub mod FunctionRules
+pub mod ListRules

@@ -93,8 +93,7 @@ pub fn check_record(alloc: Global, span: Span, fields: &[Field<'_>]) -> ParseRes
         return Err(refuse(alloc, 19, span, "empty record"));
     }
     let names = field_names(alloc, fields)?;
-    check_unique_names(alloc, "field", &names)?;
-    Ok(())
+    check_unique_names(alloc, "field", &names)
 }
 
 /// Refuses the thirty-third flag (E21).
@@ -116,8 +115,7 @@ pub fn check_flags(alloc: Global, span: Span, flags: &[Flag<'_>]) -> ParseResult
     }
     check_count(alloc, flags)?;
     let names = flag_names(alloc, flags)?;
-    check_unique_names(alloc, "flag", &names)?;
-    Ok(())
+    check_unique_names(alloc, "flag", &names)
 }
 
 /// Refuses a variant without cases (E23), and one with two cases of one name once case is folded (E25).
@@ -128,8 +126,7 @@ pub fn check_variant(alloc: Global, span: Span, cases: &[Case<'_>]) -> ParseResu
         return Err(refuse(alloc, 23, span, "empty variant"));
     }
     let names = case_names(alloc, cases)?;
-    check_unique_names(alloc, "case", &names)?;
-    Ok(())
+    check_unique_names(alloc, "case", &names)
 }
 
 /// Refuses an enum without cases (E24), and one with two cases of one name once case is folded (E25).
@@ -140,6 +137,5 @@ pub fn check_enum(alloc: Global, span: Span, cases: &[EnumCase<'_>]) -> ParseRes
         return Err(refuse(alloc, 24, span, "empty enum"));
     }
     let names = enum_case_names(alloc, cases)?;
-    check_unique_names(alloc, "case", &names)?;
-    Ok(())
+    check_unique_names(alloc, "case", &names)
 }

@@ -1,0 +1,8 @@
+use Rattle.std.proofs.Common.{sym, ◌∙◌}
+use Rattle.wit_syntax.proofs.Common.{codes}
+use Rattle.wit_type_tree.specs.declared.types.Field.{Field}
+use Rattle.wit_rules.proofs.ListRules.{members_found}
+use Rattle.wit_rules.proofs.rules.check_record.Goals as goal
+
+pub returns : goal.returns
+returns c = members_found 19 (codes "field") (λ (x : Field). x.name) c.args.span c.args.fields.now c.deref.result.now c.check_unique_names.result (sym c.is_empty.ensures ∙ c.if-is_empty.false) (c.deref.ensures.value ∙ c.in_ok-names.ensures) c.check_unique_names.ensures
