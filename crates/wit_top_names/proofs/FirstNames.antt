@@ -1,11 +1,13 @@
 -- Tables of names with what they mean, one name more, and what is found in them.
-use Rattle.std.proofs.Common.{◌≡◌, ℕ, zero, suc, Bool, true, false, cond, List, [], ◌∷◌, ◌++◌, map, Option, Some, None, inl, inr, refl, sym, ap, ◌∙◌, subst, Vec, Global, Bor}
+use Rattle.std.proofs.Common.{◌≡◌, ℕ, zero, suc, Bool, true, false, cond, List, [], ◌∷◌, ◌++◌, map, Option, Some, None, inl, inr, refl, sym, ap, ◌∙◌, subst, Result, Ok, Err, Vec, Global, Bor}
+use Rattle.std.specs.Prelude.{IfOk}
 use Rattle.wit_syntax.proofs.Common.{AllDiffer, Id, Item, Local, Row, TopName, bytes_eq, cases_Bool, cond-false, cond-true, differ_more, entry_row, find, find-append, find_at, find_passes, insert_entry, is_some, item_name, item_named, item_row, leads, list_any, lookup, map-append, map_at, map_map, name_cases, name_equal, name_itself, none-some, option_copied, option_map, option_map_or, option_or, slice_get, top_text}
 use Rattle.wit_graph.proofs.Rows.{key_eq}
+use Rattle.wit_type_tree.specs.declared.error.ParseError.{ParseError}
 use Rattle.wit_tree.specs.declared.tree.UsePath.TheVariants as path
 use Rattle.wit_top_names.specs.declared.top_name.Target.{Target as Borrowed}
 use Rattle.wit_first.specs.FileFaults.{lost_fault, unless_named, unnamed_fault}
-use Rattle.wit_top_names.specs.Tops.{target_view, item_top, Named}
+use Rattle.wit_top_names.specs.Tops.{target_view, item_top, Named, AreNamed, AreDeclared}
 
 abbrev pub found : List ℕ → Named → Option Borrowed
 found name es = lookup (λ key. bytes_eq name key.now) es
@@ -152,8 +154,13 @@ named_as is name =
     mapped_some (λ (t : TopName). t.target) (find (λ (each : TopName). bytes_eq (top_text each) name) (map item_top is)) ∙ ap is_some first ∙ mapped_some item_top (item_named is name)
 
 -- a table of names finds the items among these names
-pub named_items : (is : List Item) (es : Named) (name : List ℕ) → Finds (map item_top is) es → is_some (found name es) ≡ is_some (item_named is name)
+named_items : (is : List Item) (es : Named) (name : List ℕ) → Finds (map item_top is) es → is_some (found name es) ≡ is_some (item_named is name)
 named_items is es name finds = sym (mapped_some target_view (found name es)) ∙ ap is_some (finds name) ∙ named_as is name
+
+-- so does one that a call gives
+pub declared_if : (is : List Item) (r : Result Named ParseError) → IfOk r (AreNamed (map item_top is)) → IfOk r (AreDeclared is)
+declared_if is (Ok es) named = record { finds = λ name. named_items is es name named.finds }
+declared_if is (Err e) named = tt
 
 found-any : {V : Type 0} (name : List ℕ) (es : List (Bor (List ℕ) × V)) → is_some (lookup (λ key. bytes_eq name key.now) es) ≡ list_any (bytes_eq name) (map (λ e. e.0.now) es)
 found-any name [] = refl

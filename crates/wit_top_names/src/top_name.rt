@@ -165,7 +165,7 @@ pub fn file_names<'f, 'a>(
     ensures first { Finds (top_names_fault file.now) result }
 {
     let names = top_names(alloc, &file.decl_list.items)?;
-    Ok(unique_names(alloc, 6, "duplicate name ", " in this file", &names)?)
+    unique_names(alloc, 6, "duplicate name ", " in this file", &names)
 }
 
 /// The names of all declared items; refuses one that occurs twice.
@@ -177,7 +177,7 @@ pub fn item_names<'f, 'a>(
     ensures first { Finds (item_names_fault files.now) result }
 {
     let names = declared_names(alloc, files)?;
-    Ok(unique_names(alloc, 5, "duplicate item named ", "", &names)?)
+    unique_names(alloc, 5, "duplicate item named ", "", &names)
 }
 
 /// Refuses a name that is no declared item's.

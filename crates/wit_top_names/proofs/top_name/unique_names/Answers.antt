@@ -1,7 +1,7 @@
 use Rattle.std.proofs.Common.{◌≡◌, refl, List, ◌+◌, ◌++◌, ◌∷◌, [], Some, map, take, inl, inr, sym, ap, ◌∙◌, subst}
 use Rattle.wit_syntax.proofs.Common.{AllDiffer, IsRepeatAt, TopName, around, at_take, fault_in, key_at, map-append, read_map, slice_get, take-map, take_all, take_more, top_text}
 use Rattle.wit_first.proofs.First.{no_repeats, repeat_first}
-use Rattle.wit_top_names.specs.Tops.{top_view}
+use Rattle.wit_top_names.specs.Tops.{top_view, AreNamed}
 use Rattle.wit_top_names.proofs.FirstNames.{copied_none, copied_some, present, finds_more, differ_top}
 use Rattle.wit_top_names.proofs.top_name.unique_names.Goals as goal
 
@@ -26,6 +26,9 @@ pub returns-clause-first : goal.returns-clause-first
 returns-clause-first c =
     let names = c.args.names.now in
     no_repeats top_text (λ (n : TopName). fault_in c.args.rule n.id.span (around c.args.prefix.now n.id.name.now c.args.back.now)) (map top_view names) (subst (λ l. AllDiffer (map top_text (map top_view l))) (take_all c.loop-name.name-index names c.loop-name-test.false) c.loop-name.invariant.distinct)
+
+pub returns-clause-named : goal.returns-clause-named
+returns-clause-named c = subst (λ l. AreNamed (map top_view l) c.loop-name.found) (take_all c.loop-name.name-index c.args.names.now c.loop-name-test.false) c.loop-name.invariant.named
 
 pub loop-name-preserved : goal.loop-name-preserved
 loop-name-preserved c =
