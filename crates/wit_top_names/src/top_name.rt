@@ -267,8 +267,7 @@ fn check_top_use<V>(
         let words = "attributes not allowed on top-level use";
         return Err(refuse(alloc, 9, used.span, words));
     }
-    check_original(alloc, declared, &used.item)?;
-    Ok(())
+    check_original(alloc, declared, &used.item)
 }
 
 /// Refuses a `use` among those at the top of a file that has attributes, or whose path is a name, but

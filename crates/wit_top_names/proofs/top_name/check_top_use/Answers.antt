@@ -1,6 +1,7 @@
-use Rattle.std.proofs.Common.{rules, ◌≡◌, List, [], ◌∷◌, Option, Some, inl, inr, refl, sym, ap, ◌∙◌}
-use Rattle.wit_syntax.proofs.Common.{Attribute, Fault, Span, fault, leads, option_or}
+use Rattle.std.proofs.Common.{rules, ◌≡◌, List, [], ◌∷◌, Option, Some, inl, inr, refl, sym, ap, ◌∙◌, eqb-true}
+use Rattle.wit_syntax.proofs.Common.{Attribute, Fault, Span, fault, leads, nil_from_length, option_or}
 use Rattle.wit_first.specs.FileFaults.{attributed_fault, lost_fault}
+use Rattle.wit_first.proofs.First.{finds_back}
 use Rattle.wit_top_names.proofs.top_name.check_top_use.Goals as goal
 
 some_attributed : (xs : List Attribute) (span : Span) (o : Option Fault) → (xs ≡ [] → ⊥) → option_or (attributed_fault xs span) o ≡ Some (fault 9 span)
@@ -12,3 +13,9 @@ returns-then-not-is_empty g c = λ is named. elim c.refuse.ensures [
   | inl want ↦ inl want
   | inr as_stated ↦ inr (some_attributed c.args.used.now.attributes.items c.args.used.now.span (lost_fault is (leads [] c.args.used.now.item)) (λ none. (let wrong : ⊥ = search rules in wrong)) ∙ ap Some (sym as_stated))
 ]
+
+pub returns : goal.returns
+returns g c = λ is named.
+    let used = c.args.used.now in
+    let none : used.attributes.items ≡ [] = nil_from_length used.attributes.items (sym used.attributes.ok.0 ∙ eqb-true used.attributes.len 0 (sym c.is_empty.ensures ∙ c.if-not-is_empty.false)) in
+    finds_back _ c.check_original.result (ap (λ (l : List Attribute). attributed_fault l used.span) none) (c.check_original.ensures is named)
