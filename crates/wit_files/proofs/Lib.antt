@@ -1,3 +1,4 @@
 pub mod Refusals
 pub mod Others
 pub mod Gathering
+pub mod Added

@@ -151,7 +151,7 @@ impl<'f, 'a> Tables<'f, 'a> {
     ) -> ParseResult<()>
         ensures { (files : List TheFile) → AreTablesOf files names.now → Finds (file_tops_fault (all_items files) file.now) result }
     {
-        Ok(check_top_uses(alloc, file, &names.items)?)
+        check_top_uses(alloc, file, &names.items)
     }
 
     /// Refuses, file by file, a `use` at its top that has attributes, or whose path is the name of no item.

@@ -197,8 +197,7 @@ fn add_world_visits<'f, 'a>(
 {
     add_world_parts(world, visits)?;
     add_side(world, WorldSide::Imported, visits)?;
-    add_side(world, WorldSide::Exported, visits)?;
-    Ok(())
+    add_side(world, WorldSide::Exported, visits)
 }
 
 /// Adds the visits of a declaration.
