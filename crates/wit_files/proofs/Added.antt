@@ -31,6 +31,15 @@ added_view g f old now new xs i x within is before own =
     ∙ append_assoc old (flat_map g (map f (take i xs))) (g (f x))
     ∙ ap (λ l. old ++ l) (sym (flat_more g (map f (take i xs)) (map f (take (i + 1) xs)) (f x) (ap (map f) more ∙ map-append f (take i xs) (x ∷ []))))
 
+-- and where what is added is seen of them
+pub added_seen : {X Y A : Type 0} (h : Y → A) (g : X → List Y) (old now new : List A) (xs : List X) (i : ℕ) (x : X) → i < length xs → x ≡ get_or xs i x → now ≡ old ++ map h (flat_map g (take i xs)) → new ≡ now ++ map h (g x) → new ≡ old ++ map h (flat_map g (take (i + 1) xs))
+added_seen h g old now new xs i x within is before own =
+    let more : take (i + 1) xs ≡ take i xs ++ x ∷ [] = take_more xs i x within ∙ ap (λ y. take i xs ++ y ∷ []) (sym is) in
+    own
+    ∙ ap (λ l. l ++ map h (g x)) before
+    ∙ append_assoc old (map h (flat_map g (take i xs))) (map h (g x))
+    ∙ ap (λ l. old ++ l) (sym (ap (map h) (flat_more g (take i xs) (take (i + 1) xs) x more) ∙ map-append h (flat_map g (take i xs)) (g x)))
+
 -- a part of an interface that is no `use` has no visit
 pub no_use : (owner : Option Id) (x : InterfaceItem) → ((u : Use) → x ≡ interface_item.Use u → ⊥) → part_visits owner x ≡ []
 no_use owner (interface_item.TypeDef d) not = refl
