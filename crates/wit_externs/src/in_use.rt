@@ -83,6 +83,5 @@ pub fn check_sides(
         return Ok(());
     }
     in_use.imports.check_setters()?;
-    in_use.exports.check_setters()?;
-    Ok(())
+    in_use.exports.check_setters()
 }

@@ -1,6 +1,6 @@
 use Rattle.std.proofs.Common.{◌≡◌, ℕ, List, Result, Ok, Err, map, subst, sym, ◌∙◌}
 use Rattle.wit_syntax.proofs.Common.{Exported, Id, IfErr, Imported, OnOk, ParseError, Refused, SideItem, WorldSide, err_from_is_err_and, flat_map, item_function, on_side}
-use Rattle.wit_walk.proofs.Common.{Finds, none_both, reports_back, reports_prefix}
+use Rattle.wit_walk.proofs.Common.{Finds, finds_back, none_both, reports_prefix}
 use Rattle.wit_rules.specs.declared.borrowed.BorrowedFunction.{BorrowedFunction}
 use Rattle.wit_externs.specs.AloneFaults.{lone_setters}
 use Rattle.wit_externs.proofs.FirstSetters.{AreMerged, lone_by, merged_side, none_lone}
@@ -31,17 +31,9 @@ returns-in_err-check_setters c =
     let own = side_finds {T = Unit {0}} Imported c.args.names.now c.requires.0 hs c.args.in_use.now.imports (Err _) c.requires.1 (c.requires.2 Imported) tt c.in_err-check_setters.ensures.refused in
     record { first = rw (p.1, p.2) (reports_prefix (lone_setters (on_side Exported (map function_view hs))) own) }
 
-pub returns-in_err-check_setters-2 : goal.returns-in_err-check_setters-2
-returns-in_err-check_setters-2 c =
-    let p = err_from_is_err_and c.from_residual-in_err-check_setters-2.result c.from_residual-in_err-check_setters-2.ensures.1 in
-    let hs = c.args.functions.now in
-    let before = side_finds {T = Unit {0}} Imported c.args.names.now c.requires.0 hs c.args.in_use.now.imports (Ok tt) c.requires.1 (c.requires.2 Imported) c.in_ok-check_setters.ensures.paired tt in
-    let own = side_finds {T = Unit {0}} Exported c.args.names.now c.requires.0 hs c.args.in_use.now.exports (Err _) c.requires.1 (c.requires.2 Exported) tt c.in_err-check_setters-2.ensures.refused in
-    record { first = rw (p.1, p.2) (reports_back before own) }
-
 pub returns : goal.returns
 returns c =
     let hs = c.args.functions.now in
-    let imports = side_finds {T = Unit {0}} Imported c.args.names.now c.requires.0 hs c.args.in_use.now.imports (Ok tt) c.requires.1 (c.requires.2 Imported) c.in_ok-check_setters.ensures.paired tt in
-    let exports = side_finds {T = Unit {0}} Exported c.args.names.now c.requires.0 hs c.args.in_use.now.exports (Ok tt) c.requires.1 (c.requires.2 Exported) c.in_ok-check_setters-2.ensures.paired tt in
-    record { first = none_both imports exports }
+    let before = side_finds {T = Unit {0}} Imported c.args.names.now c.requires.0 hs c.args.in_use.now.imports (Ok tt) c.requires.1 (c.requires.2 Imported) c.in_ok-check_setters.ensures.paired tt in
+    let own = side_finds Exported c.args.names.now c.requires.0 hs c.args.in_use.now.exports c.check_setters-2.result c.requires.1 (c.requires.2 Exported) c.check_setters-2.ensures.paired c.check_setters-2.ensures.refused in
+    record { first = finds_back _ c.check_setters-2.result before own }
