@@ -1,5 +1,5 @@
 use Rattle.std.proofs.Common.{◌≡◌, ◌<◌, ◌++◌, ◌∷◌, [], Some, length, get_or, ap, sym, ◌∙◌}
-use Rattle.wit_syntax.proofs.Common.{in_order-more, slice_get, slice_get-get_or}
+use Rattle.wit_syntax.proofs.Common.{in_order, in_order-more, slice_get, slice_get-get_or, take_all}
 use Rattle.wit_scopes.proofs.by_place.in_order.Goals as goal
 
 pub loop-place-preserved : goal.loop-place-preserved
@@ -13,3 +13,6 @@ loop-place-preserved g c =
     let within : p < length items = c.requires i 0 c.loop-place-test.true in
     let there : slice_get items p ≡ Some x = slice_get-get_or items p x within ∙ ap Some (sym c.index-items-place.is) in
     c.in_ok-push.ensures.items ∙ ap (λ l. l ++ x ∷ []) c.loop-place.invariant ∙ sym (in_order-more items places i p x at there)
+
+pub returns : goal.returns
+returns g c = c.loop-place.invariant ∙ ap (in_order c.args.items.now) (take_all c.loop-place.place-index c.args.places.now c.loop-place-test.false)

@@ -1,5 +1,5 @@
-use Rattle.std.proofs.Common.{◌+◌, ◌∷◌, [], map, take, refl, ap, ◌∙◌}
-use Rattle.wit_syntax.proofs.Common.{Used, map-append, slice_get_read, take_next}
+use Rattle.std.proofs.Common.{◌+◌, ◌++◌, ◌∷◌, [], List, map, take, refl, ap, ◌∙◌}
+use Rattle.wit_syntax.proofs.Common.{UseName, Used, map-append, slice_get_read, take_all, take_next}
 use Rattle.wit_scopes.specs.BorrowedNames.{source_view, name_view}
 use Rattle.wit_scopes.proofs.Declaring.{one_more}
 use Rattle.wit_scopes.proofs.Placed.{names_more}
@@ -20,3 +20,9 @@ loop-name-preserved c =
       names = one_more name_view (map name_view c.args.names.now.items) c.loop-name.names.items _ _ (map make (take i xs)) (map make (take (i + 1) xs)) (make n) new was.names refl more;
       placed = λ prefix one before. names_more prefix c.loop-name.names.items _ _ new (was.placed prefix one before) one;
     }
+
+pub returns-clause-names : goal.returns-clause-names
+returns-clause-names c = c.loop-name.invariant.names ∙ ap (λ (l : List UseName). map name_view c.args.names.now.items ++ map (Used (source_view c.args.from.now) c.args.attributes.now) l) (take_all c.loop-name.name-index c.args.used.now c.loop-name-test.false)
+
+pub returns-clause-placed : goal.returns-clause-placed
+returns-clause-placed c = c.loop-name.invariant.placed

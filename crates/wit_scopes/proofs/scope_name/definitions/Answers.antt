@@ -1,5 +1,5 @@
 use Rattle.std.proofs.Common.{◌≡◌, ◌++◌, ◌∷◌, [], List, Some, map, take, refl, sym, ap, ◌∙◌}
-use Rattle.wit_syntax.proofs.Common.{ScopeName, append-nil, defined, map-append, slice_get, slice_get_read}
+use Rattle.wit_syntax.proofs.Common.{ScopeName, append-nil, defined, map-append, slice_get, slice_get_read, take_all}
 use Rattle.wit_scopes.specs.BorrowedNames.{Borrowed, name_view, definition_view}
 use Rattle.wit_scopes.proofs.UsedNames.{defined_more}
 use Rattle.wit_scopes.proofs.scope_name.definitions.Goals.{in-Defined+in_ok-push, in_default}
@@ -21,3 +21,6 @@ loop-name-preserved c =
           let none = more ∙ ap (λ (y : Borrowed). prefix ++ defined (name_view y ∷ [])) w.in_default.is ∙ append-nil prefix in
           rw (w.definitions-is, none) c.loop-name.invariant)
     ]
+
+pub returns : goal.returns
+returns c = c.loop-name.invariant ∙ ap (λ (l : List Borrowed). defined (map name_view l)) (take_all c.loop-name.name-index c.args.names.now c.loop-name-test.false)

@@ -1,5 +1,5 @@
 use Rattle.std.proofs.Common.{◌≡◌, ◌++◌, ◌∷◌, [], List, Some, take, refl, sym, ap, ◌∙◌}
-use Rattle.wit_syntax.proofs.Common.{append-nil, flat_map, slice_get, slice_get_read}
+use Rattle.wit_syntax.proofs.Common.{append-nil, flat_map, slice_get, slice_get_read, take_all}
 use Rattle.wit_scopes.specs.BorrowedNames.{Borrowed, own_use}
 use Rattle.wit_scopes.specs.declared.scope_name.UsedName.{UsedName}
 use Rattle.wit_scopes.proofs.UsedNames.{uses_more}
@@ -22,3 +22,6 @@ loop-name-preserved c =
           let none = more ∙ ap (λ (y : Borrowed). before ++ own_use y) w.in_default.is ∙ append-nil before in
           rw (w.uses-is, none) c.loop-name.invariant)
     ]
+
+pub returns : goal.returns
+returns c = c.loop-name.invariant ∙ ap (flat_map own_use) (take_all c.loop-name.name-index c.args.names.now c.loop-name-test.false)

@@ -1,5 +1,5 @@
-use Rattle.std.proofs.Common.{◌≡◌, ◌+◌, ◌++◌, ◌∷◌, [], take, sym, ap, ◌∙◌}
-use Rattle.wit_syntax.proofs.Common.{take_more}
+use Rattle.std.proofs.Common.{◌≡◌, ◌+◌, ◌++◌, ◌∷◌, [], List, take, sym, ap, ◌∙◌}
+use Rattle.wit_syntax.proofs.Common.{append-nil, take_all, take_more}
 use Rattle.wit_scopes.proofs.TypeWords.{type_words, words_more, tuple_words}
 use Rattle.wit_scopes.proofs.written_names.+deps.Goals as goal
 
@@ -13,3 +13,9 @@ collect_all_deps-loop-ty-preserved t c =
 pub collect_deps-returns-in_ok-collect_all_deps-in-Tuple : goal.collect_deps-returns-in_ok-collect_all_deps-in-Tuple
 collect_deps-returns-in_ok-collect_all_deps-in-Tuple t c =
     rw c.in-Tuple.is (c.in_ok-collect_all_deps-in-Tuple.ensures ∙ ap (λ ids. c.args.deps.now.items ++ ids) (ap type_words c.deref-in-Tuple.ensures.value ∙ sym (tuple_words c.in-Tuple.field-0 c.in-Tuple.parts)))
+
+pub collect_all_deps-loop-ty-init : goal.collect_all_deps-loop-ty-init
+collect_all_deps-loop-ty-init t c = sym (append-nil c.args.deps.now.items)
+
+pub collect_all_deps-returns : goal.collect_all_deps-returns
+collect_all_deps-returns t c = c.loop-ty.invariant ∙ ap (λ ts. c.args.deps.now.items ++ type_words ts) (take_all c.loop-ty.ty-index c.args.types.now c.loop-ty-test.false)
