@@ -69,8 +69,7 @@ fn sound_source<'f, 'a>(
     ensures first { Finds (use_fault files.now (top_at files.now place) used.now) result }
 {
     check_metadata(alloc, &used.attributes)?;
-    let source = path_source(alloc, files, place, &used.from)?;
-    Ok(source)
+    path_source(alloc, files, place, &used.from)
 }
 
 /// Adds the names that a part of an item of the file at a place brings.
