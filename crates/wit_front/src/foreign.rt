@@ -256,8 +256,7 @@ impl ForeignArenas {
     {
         self.add_used_by_names(alloc, types, &item.names)?;
         self.add_used_inside(alloc, types, &item.imported)?;
-        self.add_used_inside(alloc, types, &item.exported)?;
-        Ok(())
+        self.add_used_inside(alloc, types, &item.exported)
     }
 
     /// Adds the types that items use from interfaces of other packages, in the order of their visits.

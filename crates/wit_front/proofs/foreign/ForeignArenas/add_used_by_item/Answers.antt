@@ -1,5 +1,5 @@
 use Rattle.std.proofs.Common.{◌++◌, List, refl, ◌∙◌, subst, append_assoc}
-use Rattle.wit_syntax.proofs.Common.{Exported, ForeignUse, Imported, flat_map}
+use Rattle.wit_syntax.proofs.Common.{Exported, ForeignUse, Imported, flat_map, on_ok_weaker}
 use Rattle.wit_items.specs.BorrowedItems.{names_view}
 use Rattle.wit_items.specs.InlineNames.{inside_view}
 use Rattle.wit_front.specs.ForeignPrefix.{AreAdded, names_foreign_uses}
@@ -27,12 +27,14 @@ add_used_inside-requires-2 c =
     record { vs = had.vs; ts = own ++ flat_map names_foreign_uses (inside_view Imported x); apart = had.apart; in_use = second; placed = rw c.deref-3.ensures.value (had.placed.exported 0 x refl) }
 
 pub returns-clause-in_use : goal.returns-clause-in_use
-returns-clause-in_use c = λ vs ts apart placed before. (
+returns-clause-in_use c =
     let x = c.args.item.now in
     let own = names_foreign_uses (names_view x) in
     let imported = flat_map names_foreign_uses (inside_view Imported x) in
     let exported = flat_map names_foreign_uses (inside_view Exported x) in
+    let last = rw c.deref-3.ensures.value at c.add_used_inside-2.ensures.in_use in
+    on_ok_weaker c.add_used_inside-2.result (λ in_use vs ts apart placed before. (
     let first = (rw c.deref.ensures.value at c.in_ok-add_used_by_names.ensures.in_use) vs ts apart (placed.each 0 x refl) before in
     let second = (rw c.deref-2.ensures.value at c.in_ok-add_used_inside.ensures.in_use) vs (ts ++ own) apart (placed.imported 0 x refl) first in
-    let third = (rw c.deref-3.ensures.value at c.in_ok-add_used_inside-2.ensures.in_use) vs ((ts ++ own) ++ imported) apart (placed.exported 0 x refl) second in
-    subst (λ (l : List ForeignUse). AreAdded vs l c.add_used_inside-2.new.types c.add_used_inside-2.new.self) (append_assoc (ts ++ own) imported exported ∙ append_assoc ts own (imported ++ exported)) third)
+    let third = in_use vs ((ts ++ own) ++ imported) apart (placed.exported 0 x refl) second in
+    subst (λ (l : List ForeignUse). AreAdded vs l c.add_used_inside-2.new.types c.add_used_inside-2.new.self) (append_assoc (ts ++ own) imported exported ∙ append_assoc ts own (imported ++ exported)) third)) last
