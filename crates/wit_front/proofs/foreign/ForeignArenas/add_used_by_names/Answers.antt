@@ -1,5 +1,5 @@
 use Rattle.std.proofs.Common.{◌≡◌, ◌+◌, ◌++◌, List, [], ◌∷◌, Some, map, take, sym, ap, ◌∙◌, subst}
-use Rattle.wit_syntax.proofs.Common.{ForeignUse, slice_get, slice_get-get_or, take_more}
+use Rattle.wit_syntax.proofs.Common.{ForeignUse, slice_get, slice_get-get_or, take_all, take_more}
 use Rattle.wit_scopes.specs.BorrowedNames.{Borrowed as ScopeName, name_view}
 use Rattle.wit_front.specs.ForeignPrefix.{AreAdded, name_foreign_uses, names_foreign_uses}
 use Rattle.wit_front.proofs.ForeignName.{foreign_uses-next}
@@ -15,3 +15,6 @@ loop-name-preserved c = λ vs ts apart placed before. (
     let next = c.in_ok-add_used_by_name.ensures.in_use vs (ts ++ names_foreign_uses (map name_view (take i xs))) apart (placed.each i x at) (c.loop-name.invariant vs ts apart placed before) in
     let extended : ts ++ names_foreign_uses (map name_view (take (i + 1) xs)) ≡ (ts ++ names_foreign_uses (map name_view (take i xs))) ++ name_foreign_uses (name_view x) = ap (λ (l : List ScopeName). ts ++ names_foreign_uses (map name_view l)) more ∙ foreign_uses-next name_foreign_uses name_view ts (take i xs) x in
     subst (λ (l : List ForeignUse). AreAdded vs l c.add_used_by_name.new.types c.add_used_by_name.new.self) (sym extended) next)
+
+pub returns-clause-in_use : goal.returns-clause-in_use
+returns-clause-in_use c = λ vs ts apart placed before. subst (λ (l : List ScopeName). AreAdded vs (ts ++ names_foreign_uses (map name_view l)) c.loop-name.types c.loop-name.self) (take_all c.loop-name.name-index c.args.names.now c.loop-name-test.false) (c.loop-name.invariant vs ts apart placed before)
