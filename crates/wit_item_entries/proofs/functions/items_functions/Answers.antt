@@ -1,5 +1,5 @@
 use Rattle.std.proofs.Common.{◌≡◌, ◌+◌, ◌++◌, ◌∷◌, [], List, map, take, refl, sym, ap, ◌∙◌}
-use Rattle.wit_syntax.proofs.Common.{InterfaceItem, SourceFunction, append-nil, definition_functions, flat_map, free_function, interface_part, map-append, part_functions, take_more}
+use Rattle.wit_syntax.proofs.Common.{InterfaceItem, SourceFunction, append-nil, definition_functions, flat_map, free_function, interface_part, map-append, part_functions, take_all, take_more}
 use Rattle.wit_rules.specs.BorrowedFunctions.{function_view}
 use Rattle.wit_items.proofs.UsableNames.{parts_more}
 use Rattle.wit_item_entries.proofs.functions.items_functions.Goals.{in-TypeDef+in_ok-add_definition-in-TypeDef, in-Func+in_ok-push-in-Func, in-Use}
@@ -21,3 +21,6 @@ loop-part-preserved c =
       | in-Func+in_ok-push-in-Func b ↦ rw b.functions-is (ap (map function_view) b.in_ok-push-in-Func.ensures ∙ map-append function_view c.loop-part.functions.items (_ ∷ []) ∙ ap (λ (l : List SourceFunction). l ++ free_function b.in-Func.function ∷ []) was ∙ sym (extended ∙ ap (λ (y : InterfaceItem). prefix ++ part_functions (interface_part y)) b.in-Func.is))
       | in-Use b ↦ rw b.functions-is (was ∙ sym (extended ∙ ap (λ (y : InterfaceItem). prefix ++ part_functions (interface_part y)) b.in-Use.is ∙ append-nil prefix))
     ]
+
+pub returns : goal.returns
+returns c = c.loop-part.invariant ∙ ap (λ (l : List InterfaceItem). flat_map part_functions (map interface_part l)) (take_all c.loop-part.part-index c.args.items.now c.loop-part-test.false)

@@ -1,5 +1,5 @@
 use Rattle.std.proofs.Common.{◌≡◌, ◌+◌, ◌++◌, ◌∷◌, [], List, map, take, refl, sym, ap, ◌∙◌}
-use Rattle.wit_syntax.proofs.Common.{SourceFunction, WorldItem, append-nil, definition_functions, extern_functions, flat_map, part_functions, take_more, world_part}
+use Rattle.wit_syntax.proofs.Common.{SourceFunction, WorldItem, append-nil, definition_functions, extern_functions, flat_map, part_functions, take_all, take_more, world_part}
 use Rattle.wit_items.proofs.UsableNames.{parts_more}
 use Rattle.wit_item_entries.proofs.functions.world_functions.Goals.{in-TypeDef+in_ok-add_definition-in-TypeDef, in-Use, in-Include, in-Extern+in_ok-add_extern_part-in-Extern}
 use Rattle.wit_item_entries.proofs.functions.world_functions.Goals as goal
@@ -24,3 +24,6 @@ loop-part-preserved c =
           let w = b.in-Extern.written in
           rw b.functions-is (b.in_ok-add_extern_part-in-Extern.ensures ∙ ap (λ (l : List SourceFunction). l ++ extern_functions w w.kind) was ∙ sym (extended ∙ ap part b.in-Extern.is)))
     ]
+
+pub returns : goal.returns
+returns c = c.loop-part.invariant ∙ ap (λ (l : List WorldItem). flat_map part_functions (map world_part l)) (take_all c.loop-part.part-index c.world_items-part-items.result.now c.loop-part-test.false ∙ c.world_items-part-items.ensures)

@@ -1,7 +1,7 @@
-use Rattle.std.proofs.Common.{◌≡◌, ◌+◌, ◌++◌, ◌∷◌, [], None, Some, map, take, refl, sym, ap, ◌∙◌}
-use Rattle.wit_syntax.proofs.Common.{Defined, body_ok, local_name, map-append, meaning, meant_ok, option_map, slice_get, slice_get-map, slice_get_read, take-map, take_next}
-use Rattle.wit_rules.specs.Signatures.{stated_ok}
-use Rattle.wit_scopes.specs.BorrowedNames.{name_view}
+use Rattle.std.proofs.Common.{◌≡◌, ◌+◌, ◌++◌, ◌∷◌, [], List, None, Some, map, take, refl, sym, ap, ◌∙◌, subst}
+use Rattle.wit_syntax.proofs.Common.{Defined, body_ok, local_name, map-append, meaning, meant_ok, option_map, slice_get, slice_get-map, slice_get_read, take-map, take_all, take_next}
+use Rattle.wit_rules.specs.Signatures.{AreResults, stated_ok}
+use Rattle.wit_scopes.specs.BorrowedNames.{Borrowed as ScopeName, name_view}
 use Rattle.wit_item_entries.proofs.Results.{unmeant_before, results_same, results_more}
 use Rattle.wit_item_entries.proofs.functions.written_results.Goals.{in-Defined+in-Some+in_ok-from_str+in_ok-put, in-Defined+in_default-written_result, in_default}
 use Rattle.wit_item_entries.proofs.functions.written_results.Goals as goal
@@ -32,3 +32,6 @@ loop-name-preserved c =
           rw (w.results-is, more, own) (results_same c.loop-name.results prefix _ none was))
       | in_default w ↦ rw (w.results-is, more, ap name_view w.in_default.is) (results_same c.loop-name.results prefix _ refl was)
     ]
+
+pub returns : goal.returns
+returns c = subst (λ (l : List ScopeName). AreResults c.loop-name.results (map name_view l)) (take_all c.loop-name.name-index c.args.names.now c.loop-name-test.false) c.loop-name.invariant
