@@ -64,6 +64,5 @@ pub fn resolve_signatures<'t, 'a>(
         results: &results,
         functions: written,
     };
-    let functions = resolve_functions(alloc, scope, types, &mut names.required, in_use)?;
-    Ok(functions)
+    resolve_functions(alloc, scope, types, &mut names.required, in_use)
 }

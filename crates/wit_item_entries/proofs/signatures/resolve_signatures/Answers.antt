@@ -1,5 +1,6 @@
-use Rattle.std.proofs.Common.{◌≡◌, ◌++◌, List, [], Option, map, inl, inr, sym, ap, ◌∙◌, subst, arith, false}
-use Rattle.wit_syntax.proofs.Common.{AllDiffer, Fault, Id, Imported, ScopeName, SideFunction, SourceFunction, WorldSide, append-nil, differ_none, err_from_is_err_and, is_ascii_uppercase, items_on, list_any, names_on, option_or}
+use Rattle.std.proofs.Common.{◌≡◌, ◌++◌, List, [], Option, None, Result, Ok, Err, map, inl, inr, refl, sym, ap, ◌∙◌, subst, arith, false}
+use Rattle.std.proofs.lemmas.Result.{MatchResult-weaker}
+use Rattle.wit_syntax.proofs.Common.{AllDiffer, Fault, Id, Imported, OnOk, ScopeName, SideFunction, SourceFunction, WorldSide, append-nil, differ_none, err_from_is_err_and, is_ascii_uppercase, items_on, list_any, names_on, on_ok_weaker, option_or}
 use mathlib.Core.Path.{fun_ext}
 use Rattle.wit_walk.proofs.Common.{no_clashes, none_both, word_fault}
 use Rattle.wit_sides.specs.SideNames.{defined_on}
@@ -22,20 +23,40 @@ returns-then-not-have_upper_case-clause-differ c = λ side.
     let lower : list_any (λ (id : Id). list_any is_ascii_uppercase id.name.now) ids ≡ false = ap (list_any (λ (id : Id). list_any is_ascii_uppercase id.name.now)) (sym c.deref.ensures.value) ∙ sym c.have_upper_case.ensures ∙ c.if-not-have_upper_case.true in
     names_alone side (map name_view c.args.borrowed.now) ids c.args.written.now (omega (arith, c.if-written-eq0.true)) c.requires.turn lower
 
+-- two facts of what a call returns, together
+on_both : {T E P Q R : Type 0} (r : Result T E) → (P → Q → R) → OnOk r P → OnOk r Q → OnOk r R
+on_both (Ok x) both p q = both p q
+on_both (Err e) both p q = tt
+
+pub returns-clause-types : goal.returns-clause-types
+returns-clause-types c = on_ok_weaker c.resolve_functions.result (λ _. refl) c.resolve_functions.ensures.defined
+
+pub returns-clause-turn : goal.returns-clause-turn
+returns-clause-turn c = on_ok_weaker c.resolve_functions.result (λ _. refl) c.resolve_functions.ensures.defined
+
+pub returns-clause-adds : goal.returns-clause-adds
+returns-clause-adds c = c.resolve_functions.ensures.adds
+
+pub returns-clause-named : goal.returns-clause-named
+returns-clause-named c = c.resolve_functions.ensures.named
+
+pub returns-clause-handled : goal.returns-clause-handled
+returns-clause-handled c = c.resolve_functions.ensures.handled
+
 pub returns-clause-in_use : goal.returns-clause-in_use
-returns-clause-in_use c = λ some side.
+returns-clause-in_use c = on_ok_weaker c.resolve_functions.result (λ defined some side. (
     let items = map SideFunction (map function_view c.args.written.now) in
     let before : defined_on side c.define_names.new.in_use ≡ names_on side (map name_of_id c.args.names.now.turn.items) = used_before side c.args.in_use.now c.define_names.new.in_use c.deref-2.result.now c.args.names.now.turn.items c.requires.nothing c.in_ok-define_names.ensures.defined c.deref-2.ensures.value in
-    c.in_ok-functions.ensures.defined side ∙ ap (λ (l : List Name). l ++ names_of_items (items_on side items)) before
+    defined side ∙ ap (λ (l : List Name). l ++ names_of_items (items_on side items)) before)) c.resolve_functions.ensures.defined
 
 pub returns-clause-differ : goal.returns-clause-differ
-returns-clause-differ c = λ side.
+returns-clause-differ c = on_both c.resolve_functions.result (λ defined differ side. (
     let ids = c.args.names.now.turn.items in
     let items = map SideFunction (map function_view c.args.written.now) in
     let none : AllDiffer (map name_key (defined_on side c.args.in_use.now)) = subst (λ (l : List Name). AllDiffer (map name_key l)) (sym (c.requires.nothing side)) differ_none in
     let before : defined_on side c.define_names.new.in_use ≡ names_on side (map name_of_id ids) = used_before side c.args.in_use.now c.define_names.new.in_use c.deref-2.result.now ids c.requires.nothing c.in_ok-define_names.ensures.defined c.deref-2.ensures.value in
-    let all : defined_on side c.resolve_functions.new.in_use ≡ all_on side ids items = c.in_ok-functions.ensures.defined side ∙ ap (λ (l : List Name). l ++ names_of_items (items_on side items)) before in
-    subst (λ (l : List Name). AllDiffer (map name_key l)) all (c.in_ok-functions.ensures.differ side (c.in_ok-define_names.ensures.differ side none))
+    let all : defined_on side c.resolve_functions.new.in_use ≡ all_on side ids items = defined side ∙ ap (λ (l : List Name). l ++ names_of_items (items_on side items)) before in
+    subst (λ (l : List Name). AllDiffer (map name_key l)) all (differ side (c.in_ok-define_names.ensures.differ side none)))) c.resolve_functions.ensures.defined c.resolve_functions.ensures.differ
 
 -- the faults of functions by a table of names are those by what its scope means
 by_scope : (xs : List ScopeName) (ids : List Id) (types : Names) (handle : Id → Option Fault) (a b : WorldSide → List Name) (fns : List SourceFunction) → IsTurn xs ids → names_in types ≡ map (λ (id : Id). id.name.now) ids → ((s : WorldSide) → a s ≡ b s) → alone_faults (words_in (env_of types)) handle xs a fns ≡ alone_faults (word_fault xs) handle xs b fns
@@ -68,25 +89,8 @@ returns-in_err-define_names-clause-first c =
       | inr wrong ↦ inr (λ handle ends. ap (λ (o : Option Fault). option_or o (alone_faults (word_fault xs) handle xs (λ side. names_on side (map name_of_id ids)) fns)) (sym same ∙ wrong))
     ])
 
-pub returns-in_err-functions-clause-first : goal.returns-in_err-functions-clause-first
-returns-in_err-functions-clause-first c =
-    let p = err_from_is_err_and c.from_residual-in_err-functions.result c.from_residual-in_err-functions.ensures.1 in
-    let xs = map name_view c.args.borrowed.now in
-    let fns = map function_view c.args.written.now in
-    let names = c.args.names.now in
-    let ids = names.turn.items in
-    let are = all_names xs ids names.types c.requires.turn names.listed in
-    let in_use = c.define_names.new.in_use in
-    let same = first_defined ids c.deref-2.result.now c.args.in_use.now.imports (c.requires.nothing Imported) c.deref-2.ensures.value in
-    rw (p.1, p.2) (elim (c.in_err-functions.ensures.first xs (record { names = are; results = c.in_ok-results.ensures })) [
-      | inl memory ↦ inl memory
-      | inr wrong ↦ inr (λ handle ends. (
-          let sides = by_scope xs ids names.types handle (λ s. defined_on s in_use) (λ s. names_on s (map name_of_id ids)) fns c.requires.turn names.listed (λ s. used_before s c.args.in_use.now in_use c.deref-2.result.now ids c.requires.nothing c.in_ok-define_names.ensures.defined c.deref-2.ensures.value) in
-          ap (λ (o : Option Fault). option_or o (alone_faults (word_fault xs) handle xs (λ side. names_on side (map name_of_id ids)) fns)) (sym same ∙ c.in_ok-define_names.ensures.first) ∙ sym sides ∙ wrong handle ends))
-    ])
-
 pub returns-clause-first : goal.returns-clause-first
-returns-clause-first c = λ handle safe.
+returns-clause-first c =
     let xs = map name_view c.args.borrowed.now in
     let fns = map function_view c.args.written.now in
     let names = c.args.names.now in
@@ -94,5 +98,9 @@ returns-clause-first c = λ handle safe.
     let are = all_names xs ids names.types c.requires.turn names.listed in
     let in_use = c.define_names.new.in_use in
     let same = first_defined ids c.deref-2.result.now c.args.in_use.now.imports (c.requires.nothing Imported) c.deref-2.ensures.value in
-    let sides = by_scope xs ids names.types handle (λ s. defined_on s in_use) (λ s. names_on s (map name_of_id ids)) fns c.requires.turn names.listed (λ s. used_before s c.args.in_use.now in_use c.deref-2.result.now ids c.requires.nothing c.in_ok-define_names.ensures.defined c.deref-2.ensures.value) in
-    none_both (sym same ∙ c.in_ok-define_names.ensures.first) (sym sides ∙ c.in_ok-functions.ensures.first xs (record { names = are; results = c.in_ok-results.ensures }) handle safe)
+    let none : defined_fault [] (map name_of_id ids) ≡ None = sym same ∙ c.in_ok-define_names.ensures.first in
+    let sides = λ (handle : Id → Option Fault). by_scope xs ids names.types handle (λ s. defined_on s in_use) (λ s. names_on s (map name_of_id ids)) fns c.requires.turn names.listed (λ s. used_before s c.args.in_use.now in_use c.deref-2.result.now ids c.requires.nothing c.in_ok-define_names.ensures.defined c.deref-2.ensures.value) in
+    MatchResult-weaker c.resolve_functions.result (c.resolve_functions.ensures.first xs (record { names = are; results = c.in_ok-results.ensures })) (λ fs found handle safe. none_both none (sym (sides handle) ∙ found handle safe)) (λ e found. elim found [
+      | inl memory ↦ inl memory
+      | inr wrong ↦ inr (λ handle ends. ap (λ (o : Option Fault). option_or o (alone_faults (word_fault xs) handle xs (λ side. names_on side (map name_of_id ids)) fns)) none ∙ sym (sides handle) ∙ wrong handle ends)
+    ])
