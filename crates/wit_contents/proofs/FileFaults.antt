@@ -1,6 +1,6 @@
 -- The first fault of files from a step of the walk on: of their names, of uses, and of what is in interfaces and worlds.
-use Rattle.std.proofs.Common.{◌≡◌, ◌⊎◌, ℕ, List, Option, Some, None, inl, inr, refl, sym, ap, ◌∙◌, subst}
-use Rattle.wit_syntax.proofs.Common.{Err, Fault, Id, IfErr, IsAllocationFailure, IsErrAnd, IsOrder, Ok, PackageFile, ParseError, Result, Row, all_items, cyclic_at, foreign_visits, in_order, interfaces_of, item_rows, item_word, missing_at, option_or, worlds_of}
+use Rattle.std.proofs.Common.{◌≡◌, ◌⊎◌, ℕ, List, Option, Some, None, inl, inr, refl, sym, ap, ◌∙◌}
+use Rattle.wit_syntax.proofs.Common.{Err, Fault, Id, IsAllocationFailure, IsErrAnd, IsOrder, Ok, PackageFile, ParseError, Result, Row, all_items, cyclic_at, foreign_visits, in_order, interfaces_of, item_rows, item_word, missing_at, option_or, worlds_of}
 use Rattle.wit_walk.proofs.Common.{AtCycle, AtMissing, Finds, InOrder, IsNamesFault, IsOrderFault, IsOrderedFault, IsOutcome, Known, Outcome, Reports, all_uses_fault, contents_fault, files_fault, first_in, item_names_fault, names_prefix, or_assoc, or_none, order_fault, order_of, outcome_one, reports_back, reports_prefix, reports_same, tops_fault, visits_fault}
 use Rattle.wit_first.proofs.OrderFaults.{or_is, or_neither}
 use Rattle.wit_contents.specs.FileFaults.{IsRight, fault_after}
@@ -78,16 +78,7 @@ module _ (files : List PackageFile) (known : Known) (is : IsRight files known) w
         ∙ ap (λ (o : Option Fault). option_or o of_worlds) before
         ∙ last
 
--- what is found does not change
-pub finds_same : {T : Type 0} {first other : Option Fault} (r : Result T ParseError) → first ≡ other → Finds first r → Finds other r
-finds_same r same h = subst (λ (o : Option Fault). Finds o r) same h
-
--- after a call that finds nothing, one that only wants memory
-pub finds_memory : {T : Type 0} (first : Option Fault) (r : Result T ParseError) → first ≡ None → IfErr r IsAllocationFailure → Finds first r
-finds_memory first (Ok x) none h = none
-finds_memory first (Err e) none h = inl h
-
--- or one that failed to allocate
+-- what a call finds that failed to allocate
 pub memory_found : {T : Type 0} (first : Option Fault) (r : Result T ParseError) → IsErrAnd r IsAllocationFailure → Finds first r
 memory_found first (Ok x) h = absurd h
 memory_found first (Err e) h = inl h

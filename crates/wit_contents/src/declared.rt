@@ -48,8 +48,7 @@ fn resolve_interface<'f, 'a>(
     let scope = item.scope();
     let interface = interface_of(&scope, types, required, interfaces, place)?;
     let id = declared_name(&item.declared);
-    add_interface(interfaces, id.name, interface)?;
-    Ok(())
+    add_interface(interfaces, id.name, interface)
 }
 
 /// Adds the interfaces among items, in the order of their places, after those of other packages.

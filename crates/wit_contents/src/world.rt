@@ -114,8 +114,7 @@ fn walked_sides<'f, 'a>(
         scope: functions,
         interfaces,
     };
-    let walked = walk_sides(item, &walk, growing, scope.closed)?;
-    Ok(walked)
+    walk_sides(item, &walk, growing, scope.closed)
 }
 
 /// The names of a world that comes next, and what is in them.
@@ -241,8 +240,7 @@ fn resolve_world<'f, 'a>(
 {
     let world = world_of(item, resolving, worlds)?;
     let id = declared_name(&item.declared);
-    add_world(worlds, id.name, world)?;
-    Ok(())
+    add_world(worlds, id.name, world)
 }
 
 /// How many worlds are among items.

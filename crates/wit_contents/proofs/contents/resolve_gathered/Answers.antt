@@ -1,7 +1,8 @@
 use Rattle.std.proofs.Common.{List, inl, inr, sym}
 use Rattle.wit_syntax.proofs.Common.{PackageFile, err_from_is_err_and}
+use Rattle.wit_walk.proofs.Common.{finds_same}
 use Rattle.wit_files.proofs.Gathering.{names_agree}
-use Rattle.wit_contents.proofs.FileFaults.{finds_same, names_first, names_none}
+use Rattle.wit_contents.proofs.FileFaults.{names_first, names_none}
 use Rattle.wit_contents.proofs.contents.resolve_gathered.Goals as goal
 
 pub resolve_named-requires : goal.resolve_named-requires

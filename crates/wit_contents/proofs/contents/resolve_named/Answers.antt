@@ -1,8 +1,8 @@
 use Rattle.std.proofs.Common.{◌∙◌}
 use Rattle.wit_syntax.proofs.Common.{IfOk-weaker, err_from_is_err_and}
 use Rattle.std.proofs.lemmas.Result.{IfOk-at_ok}
+use Rattle.wit_walk.proofs.Common.{finds_memory}
 use Rattle.wit_contents.specs.AddedFiles.{AreForeignItems, IsMadeOf, MakeContents}
-use Rattle.wit_contents.proofs.FileFaults.{finds_memory}
 use Rattle.wit_contents.specs.FileFaults.{fault_after}
 use Rattle.wit_contents.proofs.contents.resolve_named.Goals as goal
 

@@ -1,9 +1,11 @@
-use Rattle.std.proofs.Common.{Some, length, inl, refl, sym, ap, ◌∙◌}
-use Rattle.wit_syntax.proofs.Common.{Id, Item, about, err_from_is_err_and, is_world, scope_names}
+use Rattle.std.proofs.Common.{Some, length, refl, sym, ap, ◌∙◌}
+use Rattle.wit_syntax.proofs.Common.{Id, Item, about, err_from_is_err_and, is_world, on_ok_weaker, scope_names}
+use Rattle.wit_walk.proofs.Common.{finds_memory}
 use Rattle.wit_arena.proofs.Common.{AddsInterface}
 use Rattle.wit_items.specs.BorrowedItems.{item_view}
 use Rattle.wit_items.specs.ResolvedInterfaces.{resolved_scopes_of}
 use Rattle.wit_item_entries.specs.NewRequirements.{Appends}
+use Rattle.wit_contents.specs.AddedInterfaces.{AddsNamed, AddsOne}
 use Rattle.wit_contents.specs.InterfaceFaults.{IsLent}
 use Rattle.wit_contents.proofs.FileFaults.{or_found}
 use Rattle.wit_contents.proofs.declared.resolve_interface.Goals as goal
@@ -29,13 +31,14 @@ pub returns-clause-adds : goal.returns-clause-adds
 returns-clause-adds c =
     let is = c.args.interfaces.now in
     let item = item_view c.args.item.now in
-    let one : Appends c.args.required.now.items c.interface_of.new.required.items (λ rs. AddsInterface (resolved_scopes_of is) (length is.arena) c.args.types.now c.interface_of.new.types c.in_ok-interface.interface rs item) = rw (c.next_id-place.ensures, c.scope-scope.ensures.item) at c.in_ok-interface.ensures.adds.appends in
-    let e = c.in_ok-add_interface.ensures.adds in
-    record {
+    let made = c.in_ok-interface.interface in
+    let one : Appends c.args.required.now.items c.interface_of.new.required.items (λ rs. AddsInterface (resolved_scopes_of is) (length is.arena) c.args.types.now c.interface_of.new.types made rs item) = rw (c.next_id-place.ensures, c.scope-scope.ensures.item) at c.in_ok-interface.ensures.adds.appends in
+    let next : AddsNamed is c.add_interface.new.interfaces made → AddsOne is c.add_interface.new.interfaces c.args.types.now c.interface_of.new.types c.args.required.now.items c.interface_of.new.required.items c.args.item.now = λ e. record {
       files = e.files;
-      added = record { own = one.own; list = one.list; holds = record { added = c.in_ok-interface.interface; last = e.added; adds = one.holds } };
+      added = record { own = one.own; list = one.list; holds = record { added = made; last = e.added; adds = one.holds } };
       index = e.index;
-    }
+    } in
+    on_ok_weaker c.add_interface.result next c.add_interface.ensures.adds
 
 pub returns-in_err-interface-clause-first : goal.returns-in_err-interface-clause-first
 returns-in_err-interface-clause-first c =
@@ -48,11 +51,6 @@ returns-in_err-interface-clause-first c =
     } in
     rw (p.1, p.2) (λ test right. or_found c.in_err-interface.ensures.first (λ wrong. right.fault s _ lent (rw c.next_id-place.ensures at wrong)))
 
-pub returns-in_err-add_interface-clause-first : goal.returns-in_err-add_interface-clause-first
-returns-in_err-add_interface-clause-first c =
-    let p = err_from_is_err_and c.from_residual-in_err-add_interface.result c.from_residual-in_err-add_interface.ensures.1 in
-    rw (p.1, p.2) (λ test right. inl c.in_err-add_interface.ensures.refused)
-
 pub returns-clause-first : goal.returns-clause-first
 returns-clause-first c = λ test right.
     let is = c.args.interfaces.now in
@@ -64,4 +62,4 @@ returns-clause-first c = λ test right.
       placed = rw c.scope-scope.ensures.borrowed (c.requires.item.placed.each 0 c.args.item.now refl);
     } in
     let one : Appends c.args.required.now.items c.interface_of.new.required.items (λ rs. AddsInterface (resolved_scopes_of is) (length is.arena) c.args.types.now c.interface_of.new.types c.in_ok-interface.interface rs item) = rw (c.next_id-place.ensures, c.scope-scope.ensures.item) at c.in_ok-interface.ensures.adds.appends in
-    right.none s c.interface_of.new.types c.in_ok-interface.interface one.own lent one.holds c.in_ok-interface.ensures.first
+    finds_memory (test item) c.add_interface.result (right.none s c.interface_of.new.types c.in_ok-interface.interface one.own lent one.holds c.in_ok-interface.ensures.first) c.add_interface.ensures.refused

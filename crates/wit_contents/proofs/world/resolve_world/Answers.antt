@@ -1,7 +1,9 @@
-use Rattle.std.proofs.Common.{inl, sym, ap, ◌∙◌, subst}
-use Rattle.wit_syntax.proofs.Common.{Id, List, err_from_is_err_and}
+use Rattle.std.proofs.Common.{sym, ap, ◌∙◌, subst}
+use Rattle.wit_syntax.proofs.Common.{Id, List, err_from_is_err_and, on_ok_weaker}
+use Rattle.wit_walk.proofs.Common.{finds_memory}
 use Rattle.wit_arena.proofs.Common.{World}
-use Rattle.wit_contents.specs.AddedWorlds.{AddsTo}
+use Rattle.wit_items.specs.BorrowedItems.{item_view}
+use Rattle.wit_contents.specs.AddedWorlds.{AddsNamedWorld, AddsNextWorld, AddsTo}
 use Rattle.wit_contents.proofs.world.resolve_world.Goals as goal
 
 pub world_of-requires : goal.world_of-requires
@@ -12,24 +14,19 @@ add_world-requires c = record { index = c.requires.index; named = c.in_ok-world.
 
 pub returns-clause-adds : goal.returns-clause-adds
 returns-clause-adds c =
-    let e = c.in_ok-add_world.ensures.adds in
     let world = c.in_ok-world.ensures.adds in
-    record {
+    let next : AddsNamedWorld c.args.worlds.now c.add_world.new.worlds c.in_ok-world.world → AddsNextWorld c.args.worlds.now c.add_world.new.worlds c.args.item.now c.args.resolving.now c.world_of.new.resolving = λ e. record {
       interfaces = e.interfaces;
       world = subst (λ (arena : List World). AddsTo c.args.worlds.now arena c.args.item.now c.args.resolving.now c.world_of.new.resolving) (sym e.added) world.world;
       counted = world.counted;
       index = e.index;
-    }
+    } in
+    on_ok_weaker c.add_world.result next c.add_world.ensures.adds
 
 pub returns-in_err-world-clause-first : goal.returns-in_err-world-clause-first
 returns-in_err-world-clause-first c =
     let p = err_from_is_err_and c.from_residual.result c.from_residual.ensures.1 in
     rw (p.1, p.2) c.in_err-world.ensures.first
 
-pub returns-in_err-add_world-clause-first : goal.returns-in_err-add_world-clause-first
-returns-in_err-add_world-clause-first c =
-    let p = err_from_is_err_and c.from_residual-in_err-add_world.result c.from_residual-in_err-add_world.ensures.1 in
-    rw (p.1, p.2) (λ wrong right. inl c.in_err-add_world.ensures.refused)
-
 pub returns-clause-first : goal.returns-clause-first
-returns-clause-first c = c.in_ok-world.ensures.first
+returns-clause-first c = λ wrong right. finds_memory (wrong (item_view c.args.item.now)) c.add_world.result (c.in_ok-world.ensures.first wrong right) c.add_world.ensures.refused
