@@ -17,6 +17,7 @@ use Rattle.wit_arena.specs.Whole.{dep}
 use Rattle.wit_arena.specs.ResolvedArenas.{WorldArenas, prefix_worlds, AddsForeign, AddsInterfaces, AddsWorlds, AreUsableUses}
 use Rattle.wit_contents.specs.declared.contents.Made.{Made}
 use Rattle.wit_contents.specs.declared.contents.Resolved.{Resolved}
+use Rattle.wit_contents.specs.declared.world.ResolvedWorlds.{ResolvedWorlds}
 
 -- after what comes first, the items of files were added in the least dependency-first order of their table, all interfaces before all
 -- worlds, and after all interfaces those that are written in worlds, and this is what their handles require; nothing is wrong with the names
@@ -45,6 +46,13 @@ pub record AddsFiles (files : List PackageFile) (es : List TypeDef) (all : List 
 pub record AddsResolved (files : List PackageFile) (es : List TypeDef) (r : Resolved) : Type 0 where
   pub added : AddsFiles files es r.interfaces r.worlds r.required.items
   pub unknown : r.unknown_type_spans.items ≡ map (λ t. t.id.span) (first_foreign_uses files)
+
+-- these interfaces are there with those in worlds after them, these worlds, what both require, and these spans
+pub record IsResolvedWith (is : List Interface) (made : ResolvedWorlds) (first : List Span) (own : List Required) (r : Resolved) : Type 0 where
+  pub interfaces : r.interfaces ≡ is ++ made.inside
+  pub worlds : r.worlds ≡ made.worlds
+  pub unknown : r.unknown_type_spans.items ≡ first
+  pub required : r.required.items ≡ own ++ made.required.items
 
 -- this is what files name of other packages, whose types are first used at these spans, and this is what is required of them
 pub record AreForeignItems (files : List PackageFile) (first : List Span) (handles : List Required) (foreign : ForeignItems) : Type 0 where

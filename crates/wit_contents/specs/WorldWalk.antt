@@ -1,5 +1,6 @@
 -- The walk of a world of the files, after its names, and what it adds.
 use Rattle.std.specs.Prelude.{◌≡◌, ◌++◌, List, [], map, true}
+use Rattle.wit_model.specs.declared.world.WorldInclude.{WorldInclude}
 use Rattle.wit_syntax.specs.Function.{functions as the_functions}
 use Rattle.wit_syntax.specs.ScopeTables.{includes}
 use Rattle.wit_syntax.specs.Source.{ScopeName, is_world, local_id, scope_names}
@@ -12,6 +13,7 @@ use Rattle.wit_items.specs.BorrowedItems.{item_view}
 use Rattle.wit_items.specs.Gathered.{IsItemOf}
 use Rattle.wit_items.specs.declared.interfaces.Interfaces.{Interfaces}
 use Rattle.wit_items.specs.declared.items.Item.{Item as BorrowedItem}
+use Rattle.wit_world_sides.specs.FilledSides.{AreSettled}
 use Rattle.wit_world_sides.specs.Settled.{none_of}
 use Rattle.wit_world_sides.specs.declared.sides.WorldSides.{WorldSides}
 use Rattle.wit_item_entries.specs.NameOrder.{IsTurn}
@@ -19,6 +21,7 @@ use Rattle.wit_item_entries.specs.declared.names.ResolvedNames.{ResolvedNames}
 use Rattle.wit_contents.specs.declared.walk.Growing.{Growing}
 use Rattle.wit_contents.specs.declared.walk.Walk.{Walk}
 use Rattle.wit_contents.specs.declared.walk.Walked.{Walked}
+use Rattle.wit_contents.specs.declared.world.WorldContent.{WorldContent}
 use Rattle.wit_contents.specs.declared.world.WorldScope.{WorldScope}
 use Rattle.wit_contents.specs.Walk.{AddsAllOf, IsWalk, walk_of}
 
@@ -57,6 +60,12 @@ pub record AddsNamesAlone (n : ResolvedNames) (before after : List Required) (si
   pub imports : (xs : List ScopeName) → n.turn.items ≡ map local_id xs → sides.imports ≡ type_imports xs n.types
   pub exports : sides.exports ≡ []
   pub required : after ≡ before ++ n.required.items
+
+-- a world that was walked over has this content: its sides are settled, and it requires what its names do, and then what its handles do
+pub record IsSettled (s : WorldScope) (m : Walked) (is : List WorldInclude) (before after : List Required) (c : WorldContent) : Type 0 where
+  pub sides : AreSettled s.closed m.members.sides c.sides
+  pub included : c.includes ≡ is
+  pub required : after ≡ before ++ (s.names.required.items ++ m.required.items)
 
 -- all that is on the sides of the world was added
 abbrev pub AddsSidesOf : BorrowedItem → Interfaces → ResolvedNames → Growing → Growing → Walked → Type 0

@@ -1,12 +1,12 @@
 //! What the files of a package make: its arenas, and what it names of other packages.
 ghost use Rattle.std.specs.Prelude.{◌≡◌, [], IfOk, IfErr};
 ghost use Rattle.wit_type_tree.specs.RefusalText.{IsAllocationFailure};
-ghost use Rattle.wit_contents.specs.AddedFiles.{MakeContents, AddsResolved, AreForeignItems, IsMadeOf};
+ghost use Rattle.wit_contents.specs.AddedFiles.{MakeContents, AddsResolved, AreForeignItems, IsMadeOf, IsResolvedWith};
 ghost use Rattle.wit_contents.specs.FileFaults.{FindsAfter};
 ghost use Rattle.wit_contents.specs.Ready.{Begins};
 
 use crate::declared::resolve_interfaces;
-use crate::world::resolve_worlds;
+use crate::world::{ResolvedWorlds, resolve_worlds};
 use std::alloc::{AllocError, Global};
 use wit_entries::entries::Entries;
 use wit_entries::scope::Required;
@@ -31,6 +31,32 @@ struct Resolved {
     worlds: Arena<World, WorldPlace>,
     unknown_type_spans: Vec<Span>,
     required: Vec<Required>,
+}
+
+/// These interfaces with those that are written in worlds after them, these worlds, and what first the
+/// interfaces and then the worlds require of types of other packages, which are first used at these spans.
+///
+/// The error is a failed allocation.
+fn resolved_with(
+    interfaces: Arena<Interface, InterfacePlace>,
+    made: ResolvedWorlds,
+    unknown_type_spans: Vec<Span>,
+    required: Vec<Required>,
+) -> ParseResult<Resolved>
+    ensures parts { IfOk result (IsResolvedWith interfaces made unknown_type_spans.items required.items) }
+    ensures refused { IfErr result IsAllocationFailure }
+{
+    let mut interfaces = interfaces;
+    let mut made = made;
+    let mut required = required;
+    required.append(&mut made.required)?;
+    interfaces.append(&mut made.inside)?;
+    Ok(Resolved {
+        interfaces,
+        worlds: made.worlds,
+        unknown_type_spans,
+        required,
+    })
 }
 
 /// Adds the interfaces and worlds of files with these names, and their types, to nothing.
@@ -63,16 +89,8 @@ fn resolve_files<'f, 'a>(
     };
     let mut required = Vec::new(alloc);
     resolve_interfaces(lent, types, &mut required, &mut interfaces, order)?;
-    let mut made = resolve_worlds(lent, types, &interfaces, worlds, order)?;
-    required.append(&mut made.required)?;
-    let mut interfaces = interfaces.arena;
-    interfaces.append(&mut made.inside)?;
-    Ok(Resolved {
-        interfaces,
-        worlds: made.worlds,
-        unknown_type_spans: spans,
-        required,
-    })
+    let made = resolve_worlds(lent, types, &interfaces, worlds, order)?;
+    resolved_with(interfaces.arena, made, spans, required)
 }
 
 /// What files with these names name of other packages, whose types are first used at these spans, and

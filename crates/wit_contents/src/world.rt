@@ -7,9 +7,10 @@ ghost use Rattle.wit_items.specs.SourceItems.{metadata_view};
 ghost use Rattle.wit_items.specs.Gathered.{IsItemOf};
 ghost use Rattle.wit_item_entries.specs.NameOrder.{IsTurn};
 ghost use Rattle.wit_item_entries.specs.ReachedFaults.{item_stability};
+ghost use Rattle.wit_world_sides.specs.Members.{AreKeyed};
 ghost use Rattle.wit_contents.specs.AddedWorlds.{AddsContent, AddsNamesOf, AddsWorldsAmong, AddsNamedWorld, AddsNextWorld, AddsWorldOf, HasContent};
 ghost use Rattle.wit_contents.specs.WorldFaults.{FindsNames, FindsSides, FindsWorld, FindsWorlds};
-ghost use Rattle.wit_contents.specs.WorldWalk.{AddsSidesOf, AddsNamesAlone, IsFunctionScopeOf, IsScopedWorld, IsWorldOf};
+ghost use Rattle.wit_contents.specs.WorldWalk.{AddsSidesOf, AddsNamesAlone, IsFunctionScopeOf, IsScopedWorld, IsSettled, IsWorldOf};
 ghost use Rattle.wit_contents.specs.Ready.{AreReadyWorlds, CanAddWorld, IsNextWorld};
 
 use crate::sides::{put_nothing, walk_sides};
@@ -147,6 +148,28 @@ fn sides_of_names(
     Ok(sides)
 }
 
+/// What a world with these includes has, which was walked over; it requires what its names do, and then
+/// what its handles do.
+///
+/// The error is a failed allocation.
+fn settled_content(
+    alloc: Global,
+    scope: &WorldScope<'_, '_>,
+    walked: Walked,
+    includes: Row<WorldInclude>,
+    required: &mut Vec<Required>,
+) -> ParseResult<WorldContent>
+    requires { AreKeyed walked.members }
+    ensures settled { IfOk result (IsSettled scope.now walked includes required.old.items required.new.items) }
+    ensures refused { IfErr result IsAllocationFailure }
+{
+    add_required(required, &scope.names.required)?;
+    add_required(required, &walked.required)?;
+    let members = walked.members;
+    let sides = settle(alloc, members.sides, scope.closed)?;
+    Ok(WorldContent { sides, includes })
+}
+
 /// What a world has on its sides, after its names, and its includes.
 fn world_content<'f, 'a>(
     item: &Item<'f, 'a>,
@@ -177,11 +200,7 @@ fn world_content<'f, 'a>(
         closed,
     };
     let walked = walked_sides(item, &scope, worlds.interfaces, &mut resolving.growing)?;
-    add_required(&mut resolving.required, &scope.names.required)?;
-    add_required(&mut resolving.required, &walked.required)?;
-    let members = walked.members;
-    let sides = settle(alloc, members.sides, closed)?;
-    Ok(WorldContent { sides, includes })
+    settled_content(alloc, &scope, walked, includes, &mut resolving.required)
 }
 
 /// A world of this name, with what is stated of it and what it has.

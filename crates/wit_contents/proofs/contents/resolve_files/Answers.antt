@@ -1,5 +1,6 @@
-use Rattle.std.proofs.Common.{◌≡◌, List, ◌++◌, length, map, inl, refl, sym, ap, ◌∙◌, subst, []}
-use Rattle.wit_syntax.proofs.Common.{Address, all_items, err_from_is_err_and, in_order, interfaces_of, worlds_of}
+use Rattle.std.proofs.Common.{◌≡◌, List, ◌++◌, length, map, inl, sym, ap, ◌∙◌, subst, []}
+use Rattle.wit_syntax.proofs.Common.{Address, IfOk-weaker, all_items, err_from_is_err_and, in_order, interfaces_of, worlds_of}
+use Rattle.wit_walk.proofs.Common.{finds_memory}
 use Rattle.wit_arena.proofs.Common.{AddsInterfaces, AddsWorlds, Required, prefix_worlds}
 use Rattle.wit_items.specs.BorrowedItems.{item_view, others_of}
 use Rattle.wit_items.proofs.Usable.{uses_sound}
@@ -9,6 +10,8 @@ use Rattle.wit_items.proofs.Gathered.{items_of}
 use Rattle.wit_items.specs.ForeignAddresses.{prefix_of}
 use Rattle.wit_front.specs.ForeignPrefix.{IsPrefix}
 use Rattle.wit_item_entries.specs.NewRequirements.{Appends}
+use Rattle.wit_contents.specs.AddedFiles.{AddsResolved, IsResolvedWith}
+use Rattle.wit_contents.specs.FileFaults.{fault_after}
 use Rattle.wit_contents.specs.Outer.{AreOuter}
 use Rattle.wit_contents.proofs.Files.{all_outer, borrowed_within, interfaces_enough, prefix_index, prefix_started, prefix_used, prefix_worlds_index, uses_usable, worlds_enough}
 use Rattle.wit_contents.specs.AddedWorlds.{arenas}
@@ -66,7 +69,7 @@ returns-clause-added c =
     let from : Appends c.new-required.result.items irs (λ rs. AddsInterfaces (prefix_of files) types middle a.interfaces now.arena rs (interfaces_of (in_order (all_items files) places))) = rw (c.of-named.ensures, all) at c.in_ok-resolve_interfaces.ensures.added.added in
     let made = c.in_ok-made.made in
     let said : Appends [] made.required.items (λ rs. (ss : List Address) × AddsWorlds (prefix_of files) (others_of files) now.arena middle c.resolve_worlds.new.types (prefix_worlds a.worlds) (arenas made.worlds made.inside ss) rs (worlds_of (in_order (all_items files) places))) = rw (kept, all) at c.in_ok-made.ensures.added in
-    record {
+    IfOk-weaker c.resolved_with.result (IsResolvedWith now.arena made a.spans.items irs) (AddsResolved files c.resolve_worlds.new.types) (λ r parts. record {
       added = record {
         places = places;
         order = c.item_order-order.ensures;
@@ -79,16 +82,16 @@ returns-clause-added c =
         middle = middle;
         is = now.arena;
         arenas = arenas made.worlds made.inside said.holds.0;
-        interface_arena = c.in_ok-append-2.ensures.ok;
-        world_arena = refl;
+        interface_arena = parts.interfaces;
+        world_arena = parts.worlds;
         irs = from.own;
         wrs = said.own;
-        requires = c.in_ok-append.ensures.items ∙ ap (λ (l : List Required). irs ++ l) said.list ∙ ap (λ (l : List Required). l ++ said.own) (from.list ∙ ap (λ (l : List Required). l ++ from.own) c.new-required.ensures.items);
+        requires = parts.required ∙ ap (λ (l : List Required). irs ++ l) said.list ∙ ap (λ (l : List Required). l ++ said.own) (from.list ∙ ap (λ (l : List Required). l ++ from.own) c.new-required.ensures.items);
         interfaces = from.holds;
         worlds = said.holds.1;
       };
-      unknown = prefix.spans;
-    }
+      unknown = parts.unknown ∙ prefix.spans;
+    }) c.resolved_with.ensures.parts
 
 pub returns-in_err-prefix-clause-first : goal.returns-in_err-prefix-clause-first
 returns-in_err-prefix-clause-first c = λ known is. memory_found _ c.from_residual.result c.from_residual.ensures.1
@@ -113,13 +116,7 @@ returns-in_err-made-clause-first c =
     let prefix : IsPrefix c.args.names.now c.add_used_by_items.new.types c.add_used_by_items.new.self = prefix_used c.args.names.now c.foreign.result.now c.args.types.now c.in_ok-prefix.prefix c.in_ok-items.items.items c.deref_mut-lent.result.now c.foreign.ensures c.requires.empty c.in_ok-prefix.ensures.bare c.deref_mut-lent.ensures.value c.in_ok-items.ensures.placed c.add_used_by_items.new.types c.add_used_by_items.new.self c.in_ok-items.ensures.names c.in_ok-items.ensures.inside c.in_ok-add_used_by_items.ensures.in_use in
     rw (p.1, p.2) (λ known is. worlds_first c.args.names.now _ c.item_order-order.ensures c.requires.legal c.in_ok-items.ensures.first _ _ _ prefix.adds c.deref_mut-lent.result.now (ap (map item_view) c.deref_mut-lent.ensures.value ∙ c.in_ok-items.ensures.items) c.of-named.result c.of-named.ensures known is c.in_ok-resolve_interfaces.ensures.first c.resolve_interfaces.new.interfaces c.in_ok-resolve_interfaces.ensures.added.files _ _ c.in_ok-resolve_interfaces.ensures.added.added.holds c.in_ok-resolve_interfaces.ensures.added.index _ c.in_err-made.ensures.first)
 
-pub returns-in_err-append-clause-first : goal.returns-in_err-append-clause-first
-returns-in_err-append-clause-first c = λ known is. memory_found _ c.from_residual-in_err-append.result c.from_residual-in_err-append.ensures.1
-
-pub returns-in_err-append-2-clause-first : goal.returns-in_err-append-2-clause-first
-returns-in_err-append-2-clause-first c = λ known is. memory_found _ c.from_residual-in_err-append-2.result c.from_residual-in_err-append-2.ensures.1
-
 pub returns-clause-first : goal.returns-clause-first
 returns-clause-first c = λ known is.
     let prefix : IsPrefix c.args.names.now c.add_used_by_items.new.types c.add_used_by_items.new.self = prefix_used c.args.names.now c.foreign.result.now c.args.types.now c.in_ok-prefix.prefix c.in_ok-items.items.items c.deref_mut-lent.result.now c.foreign.ensures c.requires.empty c.in_ok-prefix.ensures.bare c.deref_mut-lent.ensures.value c.in_ok-items.ensures.placed c.add_used_by_items.new.types c.add_used_by_items.new.self c.in_ok-items.ensures.names c.in_ok-items.ensures.inside c.in_ok-add_used_by_items.ensures.in_use in
-    nothing_first c.args.names.now _ c.item_order-order.ensures c.requires.legal c.in_ok-items.ensures.first _ _ _ prefix.adds c.deref_mut-lent.result.now (ap (map item_view) c.deref_mut-lent.ensures.value ∙ c.in_ok-items.ensures.items) c.of-named.result c.of-named.ensures known is c.in_ok-resolve_interfaces.ensures.first c.resolve_interfaces.new.interfaces c.in_ok-resolve_interfaces.ensures.added.files _ _ c.in_ok-resolve_interfaces.ensures.added.added.holds c.in_ok-resolve_interfaces.ensures.added.index c.in_ok-made.ensures.first
+    finds_memory (fault_after 6 c.args.names.now known) c.resolved_with.result (nothing_first c.args.names.now _ c.item_order-order.ensures c.requires.legal c.in_ok-items.ensures.first _ _ _ prefix.adds c.deref_mut-lent.result.now (ap (map item_view) c.deref_mut-lent.ensures.value ∙ c.in_ok-items.ensures.items) c.of-named.result c.of-named.ensures known is c.in_ok-resolve_interfaces.ensures.first c.resolve_interfaces.new.interfaces c.in_ok-resolve_interfaces.ensures.added.files _ _ c.in_ok-resolve_interfaces.ensures.added.added.holds c.in_ok-resolve_interfaces.ensures.added.index c.in_ok-made.ensures.first) c.resolved_with.ensures.refused

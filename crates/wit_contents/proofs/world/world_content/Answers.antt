@@ -1,7 +1,7 @@
-use Rattle.std.proofs.Common.{◌++◌, Bool, List, length, map, sym, ap, ◌∙◌, subst, append_assoc}
-use Rattle.wit_syntax.proofs.Common.{AllDiffer, Declared, Exported, Id, Imported, WorldSide, about, err_from_is_err_and, flat_map, in_turn, includes as written_includes, is_ascii_uppercase, list_any, local_name, part_functions, scope_names}
+use Rattle.std.proofs.Common.{◌++◌, Bool, List, length, map, sym, ap, ◌∙◌, subst}
+use Rattle.wit_syntax.proofs.Common.{AllDiffer, Declared, Exported, Id, IfOk-weaker, Imported, about, err_from_is_err_and, flat_map, in_turn, includes as written_includes, is_ascii_uppercase, list_any, local_name, part_functions, scope_names}
 use Rattle.wit_types.specs.declared.types.TypeOwner.TheVariants.{World as OfWorld}
-use Rattle.wit_arena.proofs.Common.{Required}
+use Rattle.wit_walk.proofs.Common.{finds_memory}
 use Rattle.wit_rules.specs.Signatures.{AreResults}
 use Rattle.wit_files.specs.FileNames.{names_at_top}
 use Rattle.wit_items.specs.BorrowedItems.{item_view, others_of}
@@ -9,9 +9,10 @@ use Rattle.wit_items.proofs.Usable.{filed_item}
 use Rattle.wit_item_entries.proofs.ScopeFunctions.{turn_added}
 use Rattle.wit_scopes.specs.BorrowedNames.{name_view}
 use Rattle.wit_item_entries.specs.NameOrder.{IsTurn}
-use Rattle.wit_world_sides.proofs.Putting.{keyed_differ}
 use Rattle.wit_contents.specs.Walk.{walk_of}
-use Rattle.wit_contents.specs.WorldWalk.{IsWalkOf}
+use Rattle.wit_contents.specs.AddedWorlds.{AddsContent}
+use Rattle.wit_contents.specs.WorldWalk.{IsSettled, IsWalkOf}
+use Rattle.wit_contents.specs.declared.world.WorldScope.{WorldScope}
 use Rattle.wit_contents.proofs.FileFaults.{memory_found, or_found}
 use Rattle.wit_contents.proofs.WorldParts.{alone_adds, alone_extended, alone_none, content_adds, extended, none_there, turn_of}
 use Rattle.wit_contents.proofs.WorldFaults.{head_fault, includes_first, names_first, world_none, world_reported}
@@ -80,11 +81,8 @@ walked_sides-requires c =
       };
     }
 
-pub settle-requires-clause-differ : goal.settle-requires-clause-differ
-settle-requires-clause-differ c = keyed_differ c.in_ok-walked.walked.members c.in_ok-walked.ensures.adds.2.adds.keyed
-
-pub settle-requires-clause-called : goal.settle-requires-clause-called
-settle-requires-clause-called c = c.in_ok-walked.ensures.adds.2.adds.keyed.called
+pub settled_content-requires : goal.settled_content-requires
+settled_content-requires c = c.in_ok-walked.ensures.adds.2.adds.keyed
 
 pub returns-clause-adds : goal.returns-clause-adds
 returns-clause-adds c =
@@ -102,23 +100,19 @@ returns-clause-adds c =
     let added = turn_of w c.args.item.now is names of old middle o c.in_ok-names.ensures.adds in
     let are = rw (ap names_at_top c.requires.item.filed.file) at c.in_ok-includes.ensures.are in
     let closed = c.is_closed-closed.ensures (written_includes item) (ap length c.as_slice.ensures ∙ are.count) in
-    let settled = λ (s : WorldSide). c.in_ok-sides-2.ensures s (written_includes item) closed in
     let before = c.args.resolving.now.required.items in
+    let after = c.settled_content.new.required.items in
     let inside = c.args.resolving.now.growing.inside in
     let new = c.walked_sides.new.growing in
-    record {
+    let scope : WorldScope = record { names = names; results = c.in_ok-results.results; functions = c.in_ok-functions.functions; closed = c.is_closed-closed.result } in
+    IfOk-weaker c.settled_content.result (IsSettled scope m c.in_ok-includes.includes before after) (AddsContent ws c.args.item.now c.args.resolving.now (record { growing = new; required = c.settled_content.new.required })) (λ content made. record {
       world = λ world has ss known. record {
         own = names.required.items ++ m.required.items;
-        list =
-            c.in_ok-add_required-2.ensures
-            ∙ ap (λ (l : List Required). l ++ c.deref-4.result.now) c.in_ok-add_required.ensures
-            ∙ ap (λ (l : List Required). (before ++ c.deref-3.result.now) ++ l) c.deref-4.ensures.value
-            ∙ ap (λ (l : List Required). (before ++ l) ++ m.required.items) c.deref-3.ensures.value
-            ∙ append_assoc before names.required.items m.required.items;
-        holds = rw of.interfaces at (content_adds (walk_of c.args.item.now w) (others_of is.files) ws.arena old middle new.types inside new.inside names.required.items m of.walk added h.2 world ss known has.says (has.imports ∙ settled Imported) (has.exports ∙ settled Exported) (rw has.includes are));
+        list = made.required;
+        holds = rw of.interfaces at (content_adds (walk_of c.args.item.now w) (others_of is.files) ws.arena old middle new.types inside new.inside names.required.items m of.walk added h.2 world ss known has.says (has.imports ∙ made.sides Imported (written_includes item) closed) (has.exports ∙ made.sides Exported (written_includes item) closed) (rw (has.includes ∙ made.included) are));
       };
       counted = extended (walk_of c.args.item.now w) (others_of is.files) ws.arena old middle new.types inside new.inside names.required.items m of.walk added h.2;
-    }
+    }) c.settled_content.ensures.settled
 
 -- the first fault: of its names, of its includes, or of what is on its sides
 pub returns-in_err-names-clause-first : goal.returns-in_err-names-clause-first
@@ -150,7 +144,7 @@ pub returns-clause-first : goal.returns-clause-first
 returns-clause-first c = λ stable wrong right.
     let e = c.in_ok-names.ensures in
     let included = rw (ap names_at_top c.requires.item.filed.file) at c.in_ok-includes.ensures.first in
-    world_none c.args.worlds.now c.args.item.now c.args.resolving.now.growing.types c.requires.item.named stable c.in_ok-names.names c.world_names.new.types e.adds e.first included wrong c.args.resolving.now.growing.inside right c.in_ok-walked.ensures.first
+    finds_memory (wrong (item_view c.args.item.now)) c.settled_content.result (world_none c.args.worlds.now c.args.item.now c.args.resolving.now.growing.types c.requires.item.named stable c.in_ok-names.names c.world_names.new.types e.adds e.first included wrong c.args.resolving.now.growing.inside right c.in_ok-walked.ensures.first) c.settled_content.ensures.refused
 
 -- or memory failed
 pub returns-in_err-sides-clause-first : goal.returns-in_err-sides-clause-first
@@ -161,12 +155,3 @@ returns-in_err-functions-clause-first c = λ stable wrong right. memory_found _ 
 
 pub returns-in_err-results-clause-first : goal.returns-in_err-results-clause-first
 returns-in_err-results-clause-first c = λ stable wrong right. memory_found _ c.from_residual-in_err-results.result c.from_residual-in_err-results.ensures.1
-
-pub returns-in_err-add_required-clause-first : goal.returns-in_err-add_required-clause-first
-returns-in_err-add_required-clause-first c = λ stable wrong right. memory_found _ c.from_residual-in_err-add_required.result c.from_residual-in_err-add_required.ensures.1
-
-pub returns-in_err-add_required-2-clause-first : goal.returns-in_err-add_required-2-clause-first
-returns-in_err-add_required-2-clause-first c = λ stable wrong right. memory_found _ c.from_residual-in_err-add_required-2.result c.from_residual-in_err-add_required-2.ensures.1
-
-pub returns-in_err-sides-2-clause-first : goal.returns-in_err-sides-2-clause-first
-returns-in_err-sides-2-clause-first c = λ stable wrong right. memory_found _ c.from_residual-in_err-sides-2.result c.from_residual-in_err-sides-2.ensures.1

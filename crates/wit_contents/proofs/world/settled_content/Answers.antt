@@ -1,0 +1,26 @@
+use Rattle.std.proofs.Common.{◌++◌, List, refl, ap, ◌∙◌, append_assoc}
+use Rattle.wit_arena.proofs.Common.{Required}
+use Rattle.wit_world_sides.proofs.Putting.{keyed_differ}
+use Rattle.wit_contents.proofs.world.settled_content.Goals as goal
+
+pub settle-requires-clause-differ : goal.settle-requires-clause-differ
+settle-requires-clause-differ c = keyed_differ c.args.walked.members c.requires
+
+pub settle-requires-clause-called : goal.settle-requires-clause-called
+settle-requires-clause-called c = c.requires.called
+
+pub returns-clause-settled : goal.returns-clause-settled
+returns-clause-settled c =
+    let before = c.args.required.now.items in
+    let names = c.args.scope.now.names.required.items in
+    let own = c.args.walked.required.items in
+    record {
+      sides = c.in_ok-sides.ensures;
+      included = refl;
+      required =
+          c.in_ok-add_required-2.ensures
+          ∙ ap (λ (l : List Required). l ++ c.deref-2.result.now) c.in_ok-add_required.ensures
+          ∙ ap (λ (l : List Required). (before ++ c.deref.result.now) ++ l) c.deref-2.ensures.value
+          ∙ ap (λ (l : List Required). (before ++ l) ++ own) c.deref.ensures.value
+          ∙ append_assoc before names own;
+    }
