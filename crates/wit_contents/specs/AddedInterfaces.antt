@@ -1,5 +1,6 @@
 -- What an interface adds to the arenas.
-use Rattle.std.specs.Prelude.{◌≡◌, ◌++◌, ◌∷◌, [], ℕ, List, map}
+use Rattle.std.specs.Prelude.{◌≡◌, ◌++◌, ◌∷◌, [], ℕ, List, Option, None, map}
+use Rattle.wit_values.specs.declared.span.Span.{Span}
 use Rattle.wit_types.specs.declared.types.TypeDef.{TypeDef}
 use Rattle.wit_types.specs.declared.types.TypeOwner.{TypeOwner}
 use Rattle.wit_functions.specs.declared.function.Function.{Function}
@@ -17,6 +18,7 @@ use Rattle.wit_items.specs.declared.interfaces.Interfaces.{Interfaces}
 use Rattle.wit_items.specs.declared.items.Item.{Item as BorrowedItem}
 use Rattle.wit_item_entries.specs.NewRequirements.{Appends}
 use Rattle.wit_item_entries.specs.Body.{AddsBody, HasTurn}
+use Rattle.wit_item_entries.specs.declared.body.Head.{Head}
 use Rattle.wit_item_entries.specs.declared.names.ResolvedNames.{ResolvedNames}
 
 -- the interfaces among items, in the order of their places
@@ -27,6 +29,13 @@ interfaces_in items places = interfaces_of (in_order (map item_view items) place
 pub record AddsTable (n n' : ResolvedNames) (now new : List TypeDef) (i : Item) (table : List (List ℕ × Function)) : Type 0 where
   pub types : n'.types ≡ n.types
   pub functions : (old : List TypeDef) (cs : List ResolvedScope) (o : TypeOwner) → HasTurn n now i old cs o → (fs : List Function) × AddsBody old new cs o i n.types n.turn.items fs n'.required.items × (table ≡ placed_functions fs)
+
+-- an interface has this name, what is stated of it, its names and these functions, and it requires what its names do
+pub record IsInterfaceWith (name : Option (List ℕ)) (head : Head) (table : List (List ℕ × Function)) (span : Span) (before after : List Required) (i : Interface) : Type 0 where
+  pub says : (i.name ≡ name) × (i.span ≡ span) × (i.docs ≡ head.metadata.docs) × (i.stability ≡ head.metadata.stability) × (i.package ≡ None) × (i.clone_of ≡ None)
+  pub types : i.types ≡ head.names.types
+  pub functions : i.functions ≡ table
+  pub required : after ≡ before ++ head.names.required.items
 
 -- an interface, at a place
 pub record AddsAt (is : Interfaces) (place : ℕ) (old new : List TypeDef) (before after : List Required) (i : Item) (added : Interface) : Type 0 where

@@ -1,5 +1,6 @@
 //! An interface, whether it is declared or written in a world.
-ghost use Rattle.std.specs.Prelude.{◌≡◌, ◌<◌, ◌++◌, length, IfOk, map};
+ghost use Rattle.std.specs.Prelude.{◌≡◌, ◌<◌, ◌++◌, length, IfErr, IfOk, map};
+ghost use Rattle.wit_type_tree.specs.RefusalText.{IsAllocationFailure};
 ghost use Rattle.wit_syntax.specs.Source.{about};
 ghost use Rattle.wit_entries.specs.Requiring.{IsExtended};
 ghost use Rattle.wit_rules.specs.BorrowedFunctions.{function_view};
@@ -9,14 +10,14 @@ ghost use Rattle.wit_first.specs.First.{Finds};
 ghost use Rattle.wit_arena.specs.Resolving.{env_of};
 ghost use Rattle.wit_externs.specs.AloneFaults.{FindsIn, lone_setters};
 ghost use Rattle.wit_contents.specs.InterfaceFaults.{FindsInterface, rest_fault};
-ghost use Rattle.wit_contents.specs.AddedInterfaces.{AddsAt, AddsTable};
+ghost use Rattle.wit_contents.specs.AddedInterfaces.{AddsAt, AddsTable, IsInterfaceWith};
 ghost use Rattle.wit_contents.specs.Ready.{IsInterfaceScope, IsNamedScope};
 
 use std::alloc::{AllocError, Global};
 use wit_entries::entries::Entries;
 use wit_entries::scope::Required;
 use wit_externs::in_use::check_setters;
-use wit_item_entries::body::{resolve_head, resolve_item_functions};
+use wit_item_entries::body::{Head, resolve_head, resolve_item_functions};
 use wit_item_entries::functions::function_table;
 use wit_item_entries::names::ResolvedNames;
 use wit_item_entries::required::add_required;
@@ -27,8 +28,8 @@ use wit_maps::TextTable;
 use wit_model::{Function, Interface};
 use wit_refusals::NameScope;
 use wit_rules::borrowed::BorrowedFunction;
-use wit_tree::ParseResult;
 use wit_tree::tree::Id;
+use wit_tree::{ParseResult, Span};
 use wit_types::{InterfaceId, TypeOwner};
 use wit_values::Text;
 
@@ -79,6 +80,34 @@ fn called_name(alloc: Global, declared: &Declared<'_, '_>) -> Result<Option<Text
     }
 }
 
+/// The interface of this name, with what is stated of it, its names and these functions; it requires what
+/// its handles do.
+///
+/// The error is a failed allocation.
+fn interface_with(
+    name: Option<Text>,
+    head: Head<'_>,
+    functions: TextTable<Function>,
+    span: Span,
+    required: &mut Vec<Required>,
+) -> ParseResult<Interface>
+    ensures has { IfOk result (IsInterfaceWith name head.entry functions span required.old.items required.new.items) }
+    ensures refused { IfErr result IsAllocationFailure }
+{
+    let names = head.names;
+    add_required(required, &names.required)?;
+    Ok(Interface {
+        name,
+        types: names.types,
+        functions,
+        docs: head.metadata.docs,
+        stability: head.metadata.stability,
+        package: None,
+        span,
+        clone_of: None,
+    })
+}
+
 /// The interface at a place, with what is stated of it, its names, and what is in them, and then its
 /// functions.
 pub fn interface_of<'f, 'a>(
@@ -96,18 +125,7 @@ pub fn interface_of<'f, 'a>(
     let id = declared_name(&item.declared);
     let name = called_name(alloc, &item.declared)?;
     let owner = TypeOwner::Interface(place);
-    let head = resolve_head(alloc, item, types, interfaces, owner)?;
-    let mut names = head.names;
-    let functions = functions_of(alloc, item, types, &mut names)?;
-    add_required(required, &names.required)?;
-    Ok(Interface {
-        name,
-        types: names.types,
-        functions,
-        docs: head.metadata.docs,
-        stability: head.metadata.stability,
-        package: None,
-        span: id.span,
-        clone_of: None,
-    })
+    let mut head = resolve_head(alloc, item, types, interfaces, owner)?;
+    let functions = functions_of(alloc, item, types, &mut head.names)?;
+    interface_with(name, head, functions, id.span, required)
 }

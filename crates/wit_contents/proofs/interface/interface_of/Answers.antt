@@ -1,11 +1,15 @@
-use Rattle.std.proofs.Common.{List, ◌++◌, refl, sym, ap, ◌∙◌, subst}
-use Rattle.wit_syntax.proofs.Common.{Id, err_from_is_err_and, functions}
+use Rattle.std.proofs.Common.{inl, sym, ap, ◌∙◌, subst}
+use Rattle.wit_syntax.proofs.Common.{Err, Fault, Id, IfErr, IfOk, IfOk-weaker, IsAllocationFailure, Ok, ParseError, Result, err_from_is_err_and}
 use Rattle.wit_types.specs.declared.types.TypeOwner.TheVariants.{Interface as OfInterface}
-use Rattle.wit_arena.proofs.Common.{Names, Required}
+use Rattle.wit_arena.proofs.Common.{Names}
 use Rattle.wit_entries.proofs.Requiring.{extended_then}
 use Rattle.wit_items.specs.BorrowedItems.{scope_item}
 use Rattle.wit_items.specs.ResolvedInterfaces.{resolved_scopes_of}
 use Rattle.wit_item_entries.specs.Body.{AddsBody}
+use Rattle.wit_item_entries.specs.ReachedFaults.{FindsAt}
+use Rattle.wit_item_entries.specs.declared.body.Head.{Head}
+use Rattle.wit_contents.specs.AddedInterfaces.{AddsAt, IsInterfaceWith}
+use Rattle.wit_contents.specs.InterfaceFaults.{HasNoFault, IsInterfaceFault}
 use Rattle.wit_contents.proofs.InterfaceFaults.{head_first, rest_first, rest_none}
 use Rattle.wit_contents.proofs.FileFaults.{or_found}
 use Rattle.wit_contents.proofs.interface.interface_of.Goals as goal
@@ -20,30 +24,36 @@ functions_of-requires c = record {
 pub returns-clause-adds : goal.returns-clause-adds
 returns-clause-adds c =
     let old = c.args.types.now in
-    let cs = resolved_scopes_of c.args.interfaces.now in
+    let is = c.args.interfaces.now in
+    let cs = resolved_scopes_of is in
     let o = OfInterface c.args.place in
     let item = scope_item c.args.item.now in
     let ids = c.in_ok-head.head.names.turn.items in
     let e = c.in_ok-functions.ensures in
     let made = e.adds.functions old cs o c.in_ok-head.ensures.adds in
     let new = c.functions_of.new.types in
-    let all = c.functions_of.new.names.required.items in
-    let b : AddsBody old new cs o item c.functions_of.new.names.types ids made.0 all = subst (λ (t : Names). AddsBody old new cs o item t ids made.0 all) (sym e.adds.types) made.1 in
+    let names = c.functions_of.new.names in
+    let all = names.required.items in
+    let head : Head = record { metadata = c.in_ok-head.head.metadata; names = names } in
+    let before = c.args.required.now.items in
+    let after = c.interface_with.new.required.items in
+    IfOk-weaker c.interface_with.result (IsInterfaceWith c.in_ok-name.name head c.in_ok-functions.functions c.declared_name-id.result.span before after) (AddsAt is c.args.place old new before after item) (λ i has. (
+    let b : AddsBody old new cs o item i.types ids made.0 all = subst (λ (t : Names). AddsBody old new cs o item t ids made.0 all) (sym (has.types ∙ e.adds.types)) made.1 in
     record {
       appends = record {
         own = all;
-        list = c.in_ok-add_required.ensures ∙ ap (λ (l : List Required). c.args.required.now.items ++ l) c.deref.ensures.value;
+        list = has.required;
         holds = record {
-          says = (c.in_ok-name.ensures, ap (λ (id : Id). id.span) c.declared_name-id.ensures, c.in_ok-head.ensures.as_stated.docs, c.in_ok-head.ensures.as_stated.stability, refl, refl);
+          says = (has.says.0 ∙ c.in_ok-name.ensures, has.says.1 ∙ ap (λ (id : Id). id.span) c.declared_name-id.ensures, has.says.2 ∙ c.in_ok-head.ensures.as_stated.docs, has.says.3 ∙ c.in_ok-head.ensures.as_stated.stability, has.says.4, has.says.5);
           middle = b.middle;
           adds = b.adds;
           functions = made.0;
           rest_after = b.rest_after;
-          are_present = made.2;
+          are_present = has.functions ∙ made.2;
         };
       };
       extended = extended_then old c.resolve_head.new.types new c.in_ok-head.ensures.extended e.extended;
-    }
+    })) c.interface_with.ensures.has
 
 pub returns-in_err-head-clause-first : goal.returns-in_err-head-clause-first
 returns-in_err-head-clause-first c =
@@ -55,7 +65,17 @@ returns-in_err-functions-clause-first c =
     let p = err_from_is_err_and c.from_residual-in_err-functions.result c.from_residual-in_err-functions.ensures.1 in
     rw (p.1, p.2) (or_found c.in_err-functions.ensures.first (λ wrong. rest_first c.args.interfaces.now c.args.place c.args.types.now c.resolve_head.new.types c.functions_of.new.types c.args.item.now c.in_ok-head.head.names _ c.requires.named c.in_ok-head.ensures.adds c.in_ok-head.ensures.first c.in_err-functions.ensures.extended wrong))
 
+-- what is found of an interface that is made, or failed to allocate
+found_of : {T : Type 0} (r : Result T ParseError) (Made Right : T → Type 0) (IsFault : Fault → Type 0) → ((x : T) → Made x → Right x) → IfOk r Made → IfErr r IsAllocationFailure → FindsAt Right IsFault r
+found_of (Ok x) Made Right IsFault right made memory = right x made
+found_of (Err e) Made Right IsFault right made memory = inl memory
+
 pub returns-clause-first : goal.returns-clause-first
 returns-clause-first c =
+    let is = c.args.interfaces.now in
+    let item = c.args.item.now in
+    let old = c.args.types.now in
+    let new = c.functions_of.new.types in
     let e = c.in_ok-functions.ensures in
-    rest_none c.args.interfaces.now (OfInterface c.args.place) c.args.types.now c.resolve_head.new.types c.functions_of.new.types c.args.item.now c.in_ok-head.head.names _ e.adds.types c.requires.named c.in_ok-head.ensures.adds c.in_ok-head.ensures.first e.extended e.first
+    let head : Head = record { metadata = c.in_ok-head.head.metadata; names = c.functions_of.new.names } in
+    found_of c.interface_with.result (IsInterfaceWith c.in_ok-name.name head c.in_ok-functions.functions c.declared_name-id.result.span c.args.required.now.items c.interface_with.new.required.items) (HasNoFault is item new) (IsInterfaceFault is c.args.place old item) (λ i has. rest_none is (OfInterface c.args.place) old c.resolve_head.new.types new item c.in_ok-head.head.names i.types (has.types ∙ e.adds.types) c.requires.named c.in_ok-head.ensures.adds c.in_ok-head.ensures.first e.extended e.first) c.interface_with.ensures.has c.interface_with.ensures.refused
