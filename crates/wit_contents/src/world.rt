@@ -1,7 +1,13 @@
 //! Declared worlds.
-ghost use Rattle.std.specs.Prelude.{◌≡◌, List, None, IfOk, IfErr, OnOk};
+ghost use Rattle.std.specs.Prelude.{◌≡◌, List, None, IfOk, IfErr, OnOk, map};
+ghost use Rattle.std.specs.List.{flat_map};
 ghost use Rattle.wit_type_tree.specs.RefusalText.{IsAllocationFailure};
-ghost use Rattle.wit_syntax.specs.Source.{ScopeName};
+ghost use Rattle.wit_syntax.specs.Function.{part_functions};
+ghost use Rattle.wit_syntax.specs.Repeats.{AllDiffer};
+ghost use Rattle.wit_syntax.specs.Source.{ScopeName as TheName, local_name, world_part};
+ghost use Rattle.wit_rules.specs.BorrowedFunctions.{function_view};
+ghost use Rattle.wit_rules.specs.Signatures.{AreResults};
+ghost use Rattle.wit_scopes.specs.BorrowedNames.{name_view};
 ghost use Rattle.wit_items.specs.BorrowedItems.{item_view};
 ghost use Rattle.wit_items.specs.SourceItems.{metadata_view};
 ghost use Rattle.wit_items.specs.Gathered.{IsItemOf};
@@ -33,9 +39,10 @@ use wit_maps::TextTable;
 use wit_model::{Interface, World, WorldInclude};
 use wit_rules::borrowed::BorrowedFunction;
 use wit_rules::function_scope::FunctionScope;
+use wit_scopes::scope_name::ScopeName;
 use wit_top_names::declaration::world_items;
 use wit_tree::ParseResult;
-use wit_tree::tree::{Id, Type};
+use wit_tree::tree::{self, Id, Type};
 use wit_types::{Arena, InterfacePlace, TypeOwner, WorldPlace};
 use wit_values::{Row, Text, pair_with};
 use wit_world_sides::sides::{WorldSides, named_sides};
@@ -140,12 +147,35 @@ fn sides_of_names(
     names: &ResolvedNames<'_>,
     required: &mut Vec<Required>,
 ) -> Result<WorldSides, AllocError>
-    requires turn { (xs : List ScopeName) × IsTurn xs names.now.turn.items }
+    requires turn { (xs : List TheName) × IsTurn xs names.now.turn.items }
     ensures { IfOk result (AddsNamesAlone names.now required.old.items required.new.items) }
 {
     let sides = named_sides(alloc, &names.turn, &names.types, 0, 0)?;
     add_required(required, &names.required)?;
     Ok(sides)
+}
+
+/// The functions of a world as they are written, and the definitions of its scope that are written as
+/// results.
+#[derive(Drop)]
+struct WrittenFunctions<'f, 'a> {
+    functions: Vec<BorrowedFunction<'f, 'a>>,
+    results: TextTable<&'f Type<'a>>,
+}
+
+/// Those of a world with these names.
+fn written_functions<'f, 'a>(
+    alloc: Global,
+    world: &'f tree::World<'a>,
+    names: &[ScopeName<'f, 'a>],
+) -> Result<WrittenFunctions<'f, 'a>, AllocError>
+    requires { AllDiffer (map local_name (map name_view names.now)) }
+    ensures functions { IfOk result (λ w. map function_view w.functions.items ≡ flat_map part_functions (map world_part world.now.items.items)) }
+    ensures results { IfOk result (λ w. AreResults w.results (map name_view names.now)) }
+{
+    let functions = world_functions(alloc, world)?;
+    let results = written_results(alloc, names)?;
+    Ok(WrittenFunctions { functions, results })
 }
 
 /// What a world with these includes has, which was walked over; it requires what its names do, and then
@@ -191,12 +221,11 @@ fn world_content<'f, 'a>(
         }
     }
     let closed = is_closed(includes.as_slice());
-    let functions = world_functions(alloc, world)?;
-    let results = written_results(alloc, &item.names)?;
+    let written = written_functions(alloc, world, &item.names)?;
     let scope = WorldScope {
         names,
-        results,
-        functions,
+        results: written.results,
+        functions: written.functions,
         closed,
     };
     let walked = walked_sides(item, &scope, worlds.interfaces, &mut resolving.growing)?;

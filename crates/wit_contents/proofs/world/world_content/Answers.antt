@@ -62,8 +62,8 @@ returns-then-not-have_upper_case-clause-first c = λ stable wrong right.
     world_none c.args.worlds.now i c.args.resolving.now.growing.types c.requires.item.named stable names c.world_names.new.types n c.in_ok-names.ensures.first included wrong c.args.resolving.now.growing.inside right (λ member sides. alone_none (item_view i) empty names.turn.items (turn_added _ _ _ _ _ _ _ _ n) lower member)
 
 -- or something may
-pub written_results-requires : goal.written_results-requires
-written_results-requires c =
+pub written_functions-requires : goal.written_functions-requires
+written_functions-requires c =
     let turn : IsTurn (scope_names (item_view c.args.item.now)) c.in_ok-names.names.turn.items = turn_added _ _ _ _ _ _ _ _ c.in_ok-names.ensures.adds in
     subst (λ l. AllDiffer (map local_name l)) (sym (ap (map name_view) c.deref-2.ensures.value ∙ c.requires.item.named)) turn.distinct
 
@@ -74,8 +74,8 @@ walked_sides-requires c =
     record {
       world = c.requires;
       scope = record {
-        functions = c.in_ok-functions.ensures ∙ ap (λ (d : Declared). flat_map part_functions (about d).parts) (sym c.declared_world-world.ensures);
-        results = subst (AreResults c.in_ok-results.results) (ap (map name_view) c.deref-2.ensures.value ∙ c.requires.item.named) c.in_ok-results.ensures;
+        functions = c.in_ok-written.ensures.functions ∙ ap (λ (d : Declared). flat_map part_functions (about d).parts) (sym c.declared_world-world.ensures);
+        results = subst (AreResults c.in_ok-written.written.results) (ap (map name_view) c.deref-2.ensures.value ∙ c.requires.item.named) c.in_ok-written.ensures.results;
         turn = turn_added _ _ _ _ _ _ _ _ c.in_ok-names.ensures.adds;
         closed = c.is_closed-closed.ensures (written_includes item) (ap length c.as_slice.ensures ∙ are.count);
       };
@@ -104,7 +104,7 @@ returns-clause-adds c =
     let after = c.settled_content.new.required.items in
     let inside = c.args.resolving.now.growing.inside in
     let new = c.walked_sides.new.growing in
-    let scope : WorldScope = record { names = names; results = c.in_ok-results.results; functions = c.in_ok-functions.functions; closed = c.is_closed-closed.result } in
+    let scope : WorldScope = record { names = names; results = c.in_ok-written.written.results; functions = c.in_ok-written.written.functions; closed = c.is_closed-closed.result } in
     IfOk-weaker c.settled_content.result (IsSettled scope m c.in_ok-includes.includes before after) (AddsContent ws c.args.item.now c.args.resolving.now (record { growing = new; required = c.settled_content.new.required })) (λ content made. record {
       world = λ world has ss known. record {
         own = names.required.items ++ m.required.items;
@@ -150,8 +150,5 @@ returns-clause-first c = λ stable wrong right.
 pub returns-in_err-sides-clause-first : goal.returns-in_err-sides-clause-first
 returns-in_err-sides-clause-first c = λ stable wrong right. memory_found _ c.from_residual-in_err-sides.result c.from_residual-in_err-sides.ensures.1
 
-pub returns-in_err-functions-clause-first : goal.returns-in_err-functions-clause-first
-returns-in_err-functions-clause-first c = λ stable wrong right. memory_found _ c.from_residual-in_err-functions.result c.from_residual-in_err-functions.ensures.1
-
-pub returns-in_err-results-clause-first : goal.returns-in_err-results-clause-first
-returns-in_err-results-clause-first c = λ stable wrong right. memory_found _ c.from_residual-in_err-results.result c.from_residual-in_err-results.ensures.1
+pub returns-in_err-written-clause-first : goal.returns-in_err-written-clause-first
+returns-in_err-written-clause-first c = λ stable wrong right. memory_found _ c.from_residual-in_err-written.result c.from_residual-in_err-written.ensures.1
