@@ -196,8 +196,7 @@ impl<'a> Resolver<'a> {
         check_header(alloc, self.last_header(), &file.package_id)?;
         check_docs(alloc, self.documented, &file.package_id)?;
         check_nested(alloc, &nested)?;
-        self.keep(file)?;
-        Ok(())
+        self.keep(file)
     }
 
     /// The package that the files make.

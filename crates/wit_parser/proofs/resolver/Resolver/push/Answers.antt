@@ -1,5 +1,5 @@
 use Rattle.wit_syntax.proofs.Common.{err_from_is_err_and, headers, option_or}
-use Rattle.wit_walk.proofs.Common.{nesting_fault, none_both, reports_back, reports_prefix, second_docs_fault}
+use Rattle.wit_walk.proofs.Common.{finds_memory, nesting_fault, none_both, push_fault, reports_back, reports_prefix, second_docs_fault}
 use Rattle.wit_parser.proofs.resolver.Resolver.push.Goals as goal
 
 pub returns-in_err-check_header-clause-first : goal.returns-in_err-check_header-clause-first
@@ -22,4 +22,4 @@ returns-in_err-check_nested-clause-first c =
     rw (p.1, p.2) (reports_back (rw c.last_header.ensures at c.in_ok-check_header.ensures) (reports_back (c.in_ok-check_docs.ensures (headers files) c.args.self.now.docs) (rw c.deref.ensures.value at c.in_err-check_nested.ensures)))
 
 pub returns-clause-first : goal.returns-clause-first
-returns-clause-first c = none_both (rw c.last_header.ensures at c.in_ok-check_header.ensures) (none_both (c.in_ok-check_docs.ensures (headers c.args.self.now.files.items) c.args.self.now.docs) (rw c.deref.ensures.value at c.in_ok-check_nested.ensures))
+returns-clause-first c = finds_memory (push_fault c.args.self.now.files.items c.args.source) c.keep.result (none_both (rw c.last_header.ensures at c.in_ok-check_header.ensures) (none_both (c.in_ok-check_docs.ensures (headers c.args.self.now.files.items) c.args.self.now.docs) (rw c.deref.ensures.value at c.in_ok-check_nested.ensures))) c.keep.ensures.wanted
